@@ -1,0 +1,27 @@
+//! The words of the model: addresses, pages, blocks, references, services, configurations.
+#![tactic(auto)]
+
+mod access;
+mod address;
+mod config;
+mod faults;
+mod listed;
+mod names;
+mod reference;
+mod reply;
+mod ring_choice;
+mod service;
+
+pub use access::allowed;
+pub use address::split;
+pub use config::{Config, Fails, Mapping, Origin, Params, ProcSpec, Section, Task};
+pub use faults::{Failed, NoMemory};
+pub use listed::Listed;
+pub use names::{Addr, BlockId, FrameState, Page, Pfn, Proc, ProcStatus, Seat, SecId};
+pub use reference::{Mode, Op, Ref, Width};
+pub use reply::{Answer, Reply, Why};
+pub use ring_choice::Choice;
+pub use service::{Request, Service};
+
+#[cfg(test)]
+mod tests;
