@@ -1,3 +1,6 @@
 pub mod Address
 pub mod Access
 pub mod Ring
+pub mod Same
+pub mod WellFormed
+pub mod Configuration

@@ -1,0 +1,120 @@
+-- What makes a configuration well formed. This project's own: the limits of the machine, and that
+-- each thing is named once.
+use Rattle.std.specs.Prelude.{◌≡◌, ◌≢◌, ◌⊎◌, ℕ, ◌+◌, ◌*◌, ◌/◌, ◌%◌, ◌<◌, ◌≤◌, List, Some, length, sum_by, slice_get, All, AllPairs, IfSome}
+use Rattle.vm_types.specs.WellFormed.{IsRange, IsCode, IsWellFormedRequest}
+use Rattle.vm_types.specs.declared.names.BlockId.{BlockId}
+use Rattle.vm_types.specs.declared.names.BlockId.TheVariants as block
+use Rattle.vm_types.specs.declared.config.Config.{Config}
+use Rattle.vm_types.specs.declared.config.Fails.{Fails}
+use Rattle.vm_types.specs.declared.config.Mapping.{Mapping}
+use Rattle.vm_types.specs.declared.config.Origin.{Origin}
+use Rattle.vm_types.specs.declared.config.Origin.TheVariants as origin
+use Rattle.vm_types.specs.declared.config.Params.{Params}
+use Rattle.vm_types.specs.declared.config.ProcSpec.{ProcSpec}
+use Rattle.vm_types.specs.declared.config.Section.{Section}
+use Rattle.vm_types.specs.declared.config.Task.{Task}
+
+-- the pages of a section
+abbrev pub section_pages : Section → ℕ
+section_pages section = length section.bytes / 512
+
+-- the ranges of the parameters, and their order
+pub record AreParams (params : Params) : Type 0 where
+  pub pfc : (1 ≤ params.pfc) × (params.pfc ≤ 8)
+  pub hilimit : params.hilimit ≤ 16384
+  pub lolimit : params.lolimit ≤ params.hilimit
+  pub waitlimit : (1 ≤ params.waitlimit) × (params.waitlimit ≤ 16384)
+  pub wait_above : params.hilimit ≤ params.waitlimit
+  pub wrtcluster : (1 ≤ params.wrtcluster) × (params.wrtcluster ≤ 16)
+  pub freelim : params.freelim ≤ params.freegoal
+  pub freegoal : params.freegoal ≤ 4096
+  pub awstime : params.awstime ≤ 100000
+  pub pfrath : params.pfrath ≤ 100000
+  pub pfratl : params.pfratl ≤ 100000
+  pub wsinc : params.wsinc ≤ 1024
+  pub wsdec : params.wsdec ≤ 1024
+  pub awsmin : (2 ≤ params.awsmin) × (params.awsmin ≤ 1024)
+  pub borrowlim : params.borrowlim ≤ 4096
+
+-- a byte of a section's name: A to Z, or, not in the first place, 0 to 9 and _
+abbrev pub IsLetter : ℕ → Type 0
+IsLetter b = (65 ≤ b) × (b ≤ 90)
+
+abbrev pub IsNameByte : ℕ → Type 0
+IsNameByte b = IsLetter b ⊎ ((48 ≤ b) × (b ≤ 57)) ⊎ (b ≡ 95)
+
+pub record IsName (name : List ℕ) : Type 0 where
+  pub length : (2 ≤ length name) × (length name ≤ 15)
+  pub letter : IfSome (slice_get name 0) IsLetter
+  pub bytes : All IsNameByte name
+
+pub record IsSection (section : Section) : Type 0 where
+  pub name : IsName section.name
+  pub whole : length section.bytes % 512 ≡ 0
+  pub some : 512 ≤ length section.bytes
+
+pub record AreSections (sections : List Section) : Type 0 where
+  pub few : length sections ≤ 64
+  pub pages : sum_by section_pages sections ≤ 16384
+  pub each : All IsSection sections
+  pub differ : AllPairs (λ s t. s.name ≢ t.name) sections
+
+-- a process alone in memory always finds a free or a modified page, and a victim
+pub record IsProcess (frames bad : ℕ) (spec : ProcSpec) : Type 0 where
+  pub locks : spec.locks + 2 ≤ spec.limit
+  pub quota : spec.limit ≤ spec.quota
+  pub extent : spec.quota ≤ spec.extent
+  pub most : spec.extent ≤ 1024
+  pub room : spec.extent + bad + 2 ≤ frames
+
+-- the page is one of the section's
+abbrev pub IsSectionPage : List Section → ℕ → ℕ → Type 0
+IsSectionPage sections s page = (section : Section) × (slice_get sections s ≡ Some section) × (page < section_pages section)
+
+-- the origin has this many pages
+abbrev pub HasPages : List Section → Origin → ℕ → Type 0
+HasPages sections origin.Zero pages = Unit {0}
+HasPages sections (origin.Section s first) pages =
+    (section : Section) × (slice_get sections s.0 ≡ Some section) × (first + pages ≤ section_pages section)
+
+pub record IsMapping (procs : ℕ) (sections : List Section) (m : Mapping) : Type 0 where
+  pub proc : (m.proc).0 < procs
+  pub range : IsRange (m.at).0 m.pages
+  pub code : IsCode m.prot
+  pub origin : HasPages sections m.from m.pages
+
+-- no page is mapped by both
+abbrev pub AreApart : Mapping → Mapping → Type 0
+AreApart m n = ((m.proc).0 ≢ (n.proc).0) ⊎ (((m.at).0 + 512 * m.pages ≤ (n.at).0) ⊎ ((n.at).0 + 512 * n.pages ≤ (m.at).0))
+
+-- section blocks by section and page, the page file's blocks, and as many swap blocks of a process as its extent
+abbrev pub IsBlock : Config → BlockId → Type 0
+IsBlock config (block.Section s page) = IsSectionPage config.sections s.0 page
+IsBlock config (block.PageFile b) = b < config.pagefile
+IsBlock config (block.Swap p n) = (spec : ProcSpec) × (slice_get config.procs p.0 ≡ Some spec) × (n < spec.extent)
+
+pub record AreFails (config : Config) (fails : Fails) : Type 0 where
+  pub block : IsBlock config fails.block
+  pub some : (1 ≤ length fails.calls) × (length fails.calls ≤ 16)
+  pub calls : All (λ call. 1 ≤ call) fails.calls
+
+pub record IsTask (procs : ℕ) (task : Task) : Type 0 where
+  pub proc : (task.proc).0 < procs
+  pub request : IsWellFormedRequest task.request
+
+-- all that a trace's configuration keeps
+pub record IsWellFormed (config : Config) : Type 0 where
+  pub frames : (8 ≤ config.frames) × (config.frames ≤ 4096)
+  pub bad : All (λ f. f < config.frames) config.bad
+  pub bad_differ : AllPairs (λ f g. f ≢ g) config.bad
+  pub pagefile : (1 ≤ config.pagefile) × (config.pagefile ≤ 16384)
+  pub params : AreParams config.params
+  pub sections : AreSections config.sections
+  pub some_process : (1 ≤ length config.procs) × (length config.procs ≤ 16)
+  pub procs : All (IsProcess config.frames (length config.bad)) config.procs
+  pub maps : All (IsMapping (length config.procs) config.sections) config.maps
+  pub maps_apart : AllPairs AreApart config.maps
+  pub fails : All (AreFails config) config.fails
+  pub fails_differ : AllPairs (λ a b. a.block ≢ b.block) config.fails
+  pub few_tasks : length config.body ≤ 100000
+  pub body : All (IsTask (length config.procs)) config.body
