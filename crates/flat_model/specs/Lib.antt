@@ -1,0 +1,13 @@
+pub mod Maps
+pub mod Sets
+pub mod Flat
+pub mod FlatService
+pub mod Spoken
+pub mod Pager
+pub mod Flights
+pub mod Step
+pub mod Run
+pub mod Sound
+pub mod Counts
+pub mod Order
+pub mod Policy
