@@ -1,5 +1,5 @@
 -- The counts of a frame, and the report as a recount of the pager's state. This project's own.
-use Rattle.std.specs.Prelude.{ℕ, Bool, true, false, ◌+◌, List, [], ◌∷◌, Option, Some, None, length, map, count_by, nat_eq, nat_lt, if◌then◌else◌}
+use Rattle.std.specs.Prelude.{ℕ, Bool, ◌+◌, List, [], ◌∷◌, Option, length, map, count_by, nat_eq, nat_lt, if◌then◌else◌}
 use Rattle.std.specs.List.{range_with_len}
 use Rattle.vm_types.specs.Same.{same_state}
 use Rattle.vm_types.specs.Ring.{filled}
@@ -10,7 +10,7 @@ use Rattle.vm_types.specs.declared.names.ProcStatus.{ProcStatus}
 use Rattle.vm_types.specs.declared.config.Config.{Config}
 use Rattle.vm_journal.specs.declared.entry.Entry.{Entry}
 use Rattle.flat_model.specs.Flights.{Flight, open_flights}
-use Rattle.flat_model.specs.Pager.{Pager, Frame, Process, shares}
+use Rattle.flat_model.specs.Pager.{Pager, shares}
 
 -- how many transfers are open on a frame
 abbrev pub flights_on : List Flight → ℕ → ℕ

@@ -3,7 +3,6 @@
 use Rattle.std.specs.Prelude.{ℕ, Bool, true, false, ◌+◌, ◌%◌, ◌^◌, ◌&&◌, List, [], ◌++◌, Option, Some, None, length, take, drop, nat_eq, not, if◌then◌else◌}
 use Rattle.std.specs.Int.{from_le_bytes, to_le_bytes, Width, w8, w16, w32}
 use Rattle.vm_types.specs.Access.{is_allowed}
-use Rattle.vm_types.specs.WellFormed.{op_bytes}
 use Rattle.vm_types.specs.declared.names.Page.{Page}
 use Rattle.vm_types.specs.declared.names.Page.TheVariants.{Private, Shared}
 use Rattle.vm_types.specs.declared.config.Config.{Config}

@@ -1,5 +1,5 @@
 -- What a service changes in the flat machine. This project's own profile of the services.
-use Rattle.std.specs.Prelude.{ℕ, Bool, true, false, ◌+◌, ◌&&◌, List, filter, Option, Some, None, nat_le, nat_lt, nat_eq, not, if◌then◌else◌}
+use Rattle.std.specs.Prelude.{ℕ, Bool, false, ◌+◌, ◌&&◌, filter, Option, Some, None, nat_le, nat_lt, nat_eq, not, if◌then◌else◌}
 use Rattle.std.specs.Option.{option_map}
 use Rattle.vm_types.specs.declared.names.Page.{Page}
 use Rattle.vm_types.specs.declared.names.Page.TheVariants.{Private, Shared}

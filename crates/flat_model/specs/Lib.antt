@@ -11,3 +11,4 @@ pub mod Sound
 pub mod Counts
 pub mod Order
 pub mod Policy
+pub mod Laws

@@ -1,6 +1,6 @@
 -- What is behind a page of a process. This project's own: one file backs one section, which is
 -- either shared or copy on reference.
-use Rattle.std.specs.Prelude.{ℕ, Bool, true, false, ◌+◌, ◌-◌, ◌*◌, ◌/◌, ◌&&◌, List, Option, Some, None, length, find, slice_get, nat_eq, nat_le, nat_lt, replicate, take, drop, if◌then◌else◌}
+use Rattle.std.specs.Prelude.{ℕ, Bool, true, false, ◌+◌, ◌-◌, ◌*◌, ◌/◌, ◌&&◌, List, Option, Some, None, find, slice_get, nat_eq, nat_le, nat_lt, replicate, take, drop, if◌then◌else◌}
 use Rattle.std.specs.Option.{option_map}
 use Rattle.vm_types.specs.declared.names.Proc.{Proc}
 use Rattle.vm_types.specs.declared.names.Page.{Page}

@@ -1,11 +1,9 @@
 -- The pager's state, without bytes: what is counted is a list, what is looked up is a function.
 -- Source: Kenah and Bate, "VAX/VMS Internals and Data Structures", memory management data
 -- structures (PFN database, working set list, page tables).
-use Rattle.std.specs.Prelude.{ℕ, Bool, true, false, ◌+◌, ◌&&◌, ◌||◌, List, [], ◌∷◌, Option, Some, None, length, find, filter, map, count_by, replicate, slice_get, nat_eq, nat_le, nat_lt, not, if◌then◌else◌}
-use Rattle.std.specs.Option.{option_map}
-use Rattle.std.specs.List.{list_any, range_with_len}
-use Rattle.vm_types.specs.Same.{same_page, same_state}
-use Rattle.vm_types.specs.Ring.{Ring, Held}
+use Rattle.std.specs.Prelude.{ℕ, Bool, true, false, ◌&&◌, ◌||◌, List, [], Option, Some, None, find, filter, count_by, replicate, slice_get, nat_eq, nat_le, not}
+use Rattle.std.specs.List.{range_with_len}
+use Rattle.vm_types.specs.Ring.{Ring}
 use Rattle.vm_types.specs.declared.names.Page.{Page}
 use Rattle.vm_types.specs.declared.names.Page.TheVariants.{Private, Shared}
 use Rattle.vm_types.specs.declared.names.BlockId.{BlockId}

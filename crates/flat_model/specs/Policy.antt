@@ -1,9 +1,7 @@
 -- The serial policy: which entry comes next. This project's own. The kinds ZERO, DONE and DENIED
 -- stand: requests are taken in the order of the body, and each is answered before the next.
-use Rattle.std.specs.Prelude.{◌≡◌, ℕ, Bool, true, false, ◌+◌, ◌*◌, List, [], ◌∷◌, Option, Some, None, length, count_by, slice_get, is_some, nat_eq, if◌then◌else◌}
+use Rattle.std.specs.Prelude.{◌≡◌, ℕ, ◌*◌, List, [], ◌∷◌, Option, Some, None, count_by, slice_get, is_some}
 use Rattle.vm_types.specs.declared.names.Addr.{Addr}
-use Rattle.vm_types.specs.declared.names.Pfn.{Pfn}
-use Rattle.vm_types.specs.declared.names.Seat.{Seat}
 use Rattle.vm_types.specs.declared.config.Config.{Config}
 use Rattle.vm_types.specs.declared.config.Task.{Task}
 use Rattle.vm_types.specs.declared.reference.Ref.{Ref}

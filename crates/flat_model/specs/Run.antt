@@ -1,5 +1,5 @@
 -- Runs: the state that a journal leads to, and that each of its entries was legal there.
-use Rattle.std.specs.Prelude.{◌≡◌, List, [], ◌∷◌}
+use Rattle.std.specs.Prelude.{List, [], ◌∷◌}
 use Rattle.vm_types.specs.declared.config.Config.{Config}
 use Rattle.vm_journal.specs.declared.entry.Entry.{Entry}
 use Rattle.flat_model.specs.Pager.{Pager, opening}

@@ -1,10 +1,10 @@
 -- The invariants of the page database, each with its name. Source: Kenah and Bate, "VAX/VMS
 -- Internals and Data Structures", PFN database and working set list; the points on transfers,
 -- charges and swap blocks are this project's own.
-use Rattle.std.specs.Prelude.{◌≡◌, ◌⊎◌, ℕ, Bool, true, false, ◌+◌, ◌<◌, ◌≤◌, ◌&&◌, ◌||◌, List, [], ◌∷◌, Option, Some, None, length, map, find, count_by, slice_get, nat_eq, nat_lt, IsSome, IsNone}
+use Rattle.std.specs.Prelude.{◌≡◌, ◌⊎◌, ℕ, Bool, true, false, ◌+◌, ◌<◌, ◌≤◌, ◌&&◌, ◌||◌, List, Option, Some, None, length, map, find, count_by, slice_get, nat_eq, nat_lt}
 use Rattle.std.specs.List.{IsDistinct, AllByRecursion}
 use Rattle.vm_types.specs.Same.{same_page, same_block, same_state}
-use Rattle.vm_types.specs.Ring.{Ring, Held, filled, locked}
+use Rattle.vm_types.specs.Ring.{Held, filled, locked}
 use Rattle.vm_types.specs.declared.names.Page.{Page}
 use Rattle.vm_types.specs.declared.names.Page.TheVariants.{Private, Shared}
 use Rattle.vm_types.specs.declared.names.BlockId.{BlockId}
@@ -21,7 +21,7 @@ use Rattle.vm_journal.specs.declared.entry.Role.{Role}
 use Rattle.vm_journal.specs.declared.entry.Role.TheVariants as role
 use Rattle.flat_model.specs.Flights.{Flight, Direction, reading, writing, open_flights, has_flight, has_read, has_write, has_failed_read, failed_flight}
 use Rattle.flat_model.specs.Maps.{Mapped, page_number, is_private}
-use Rattle.flat_model.specs.Pager.{Pager, Frame, Process, Valid, Assigned, is_bad, is_entry, entry_of, shares}
+use Rattle.flat_model.specs.Pager.{Pager, Process, Valid, Assigned, is_bad, is_entry, entry_of, shares}
 use Rattle.flat_model.specs.Sets.{has, has_page}
 use Rattle.flat_model.specs.Step.{page_of}
 

@@ -1,9 +1,9 @@
 -- Legal steps: one row for each kind of entry, any seat next, and the state that it leads to. The
 -- rows of ZERO, DONE and DENIED stand; a kind without a row is illegal. This project's own table
 -- of the changes that the pager makes under the memory lock.
-use Rattle.std.specs.Prelude.{◌≡◌, ◌≢◌, ◌⊎◌, ℕ, Bool, true, false, ◌+◌, ◌*◌, ◌%◌, ◌^◌, ◌<◌, ◌≤◌, ◌&&◌, ◌||◌, List, [], ◌∷◌, Option, Some, None, length, slice_set, slice_get, nat_eq, nat_lt, nat_le, not, if◌then◌else◌, IsSome}
+use Rattle.std.specs.Prelude.{◌≡◌, ℕ, Bool, true, false, ◌+◌, ◌%◌, ◌^◌, ◌<◌, ◌&&◌, List, [], ◌∷◌, Option, Some, None, length, slice_set, nat_eq, nat_le, not, if◌then◌else◌}
 use Rattle.vm_types.specs.Access.{is_allowed}
-use Rattle.vm_types.specs.Ring.{Ring, Held, choose, filled}
+use Rattle.vm_types.specs.Ring.{Ring, choose, filled}
 use Rattle.vm_types.specs.WellFormed.{IsWellFormedReference}
 use Rattle.vm_types.specs.declared.names.Page.{Page}
 use Rattle.vm_types.specs.declared.names.FrameState.TheVariants as state
@@ -18,15 +18,15 @@ use Rattle.vm_types.specs.declared.reply.Reply.TheVariants as reply
 use Rattle.vm_types.specs.declared.reply.Why.{Why}
 use Rattle.vm_types.specs.declared.reply.Why.TheVariants as why
 use Rattle.vm_types.specs.declared.ring_choice.Choice.{Choice}
-use Rattle.vm_types.specs.declared.ring_choice.Choice.TheVariants.{Empty, Victim, AllLocked}
+use Rattle.vm_types.specs.declared.ring_choice.Choice.TheVariants.{Empty}
 use Rattle.vm_journal.specs.declared.entry.Entry.{Entry}
 use Rattle.vm_journal.specs.declared.entry.What.{What}
 use Rattle.vm_journal.specs.declared.entry.What.TheVariants as what
 use Rattle.flat_model.specs.Flat.{flat_refusal, is_change, touched_with}
 use Rattle.flat_model.specs.Flights.{open_flights, is_busy, awaits_reuse}
-use Rattle.flat_model.specs.Maps.{Mapped, page_behind, page_number, proc}
+use Rattle.flat_model.specs.Maps.{Mapped, page_behind, page_number}
 use Rattle.flat_model.specs.Pager.{Pager, Frame, Process, Valid, entry_of}
-use Rattle.flat_model.specs.Sets.{has_page, with_page, at_number}
+use Rattle.flat_model.specs.Sets.{has_page, at_number}
 use Rattle.flat_model.specs.Spoken.{flat_after}
 
 -- an adjustment is pending where enough references were spoken since the last one

@@ -1,17 +1,30 @@
-ghost use Rattle.std.specs.Prelude.{List, [], ◌∷◌};
-ghost use Rattle.vm_types.specs.declared.config.Config.{Config};
-ghost use Rattle.vm_types.specs.Configuration.{IsWellFormed};
-ghost use Rattle.vm_journal.specs.declared.entry.Entry.{Entry};
-ghost use Rattle.flat_model.specs.Pager.{Pager, opening};
-ghost use Rattle.flat_model.specs.Step.{IsLegal, after};
-ghost use Rattle.flat_model.specs.Sound.{IsSound};
+ghost use Rattle.flat_model.specs.Laws.{OpeningIsSound, StepsKeepSoundness, RunsAreSound, SerialIsInOrder, SerialEndsAnswered, MapsFollow, TouchedFollows};
 
 /// The opening state of a well-formed configuration is sound.
 pub fn opening_is_sound()
-    ensures { (config : Config) → IsWellFormed config → IsSound config [] (opening config) }
+    ensures { OpeningIsSound }
 {}
 
 /// A legal step of any seat leads from a sound state to a sound one.
 pub fn steps_keep_soundness()
-    ensures { (config : Config) (past : List Entry) (a : Pager) (e : Entry) → IsWellFormed config → IsSound config past a → IsLegal config past a e → IsSound config (e ∷ past) (after config a e) }
+    ensures { StepsKeepSoundness }
+{}
+
+/// Every run of a well-formed configuration is sound at each of its prefixes.
+pub fn runs_are_sound()
+    ensures { RunsAreSound }
+{}
+
+/// What the serial policy gives has each process's requests once and in order; where no request is
+/// left, all of them.
+pub fn serial_is_in_order()
+    ensures order { SerialIsInOrder }
+    ensures answered { SerialEndsAnswered }
+{}
+
+/// Along a run the pager has the flat machine's maps; where it is sound throughout, its touched
+/// pages too.
+pub fn flat_machine_follows()
+    ensures maps { MapsFollow }
+    ensures touched { TouchedFollows }
 {}

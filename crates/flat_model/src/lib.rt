@@ -4,4 +4,7 @@
 
 mod laws;
 
-pub use laws::{opening_is_sound, steps_keep_soundness};
+pub use laws::{
+    flat_machine_follows, opening_is_sound, runs_are_sound, serial_is_in_order,
+    steps_keep_soundness,
+};

@@ -1,0 +1,17 @@
+pub mod Basics
+pub mod Opening
+pub mod ZeroRing
+pub mod ZeroFacts
+pub mod ZeroFrames
+pub mod ZeroEntries
+pub mod ZeroPages
+pub mod ZeroFlights
+pub mod Zero
+pub mod BasicsDone
+pub mod Kept
+pub mod Quiet
+pub mod Denied
+pub mod Done
+pub mod Serial
+pub mod Follow
+pub mod Steps
