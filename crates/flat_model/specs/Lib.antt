@@ -12,3 +12,4 @@ pub mod Counts
 pub mod Order
 pub mod Policy
 pub mod Laws
+pub mod Text

@@ -1,0 +1,140 @@
+-- The printed text of a run: entry lines, the report, the lines after it, and the status. This
+-- project's own. Each line ends with byte 10.
+use Rattle.std.specs.Prelude.{ℕ, Bool, true, false, ◌+◌, ◌*◌, ◌&&◌, List, [], ◌∷◌, ◌++◌, Option, Some, None, length, take, drop, filter, map, reverse, slice_get, slice_index_or, codes, decimal, if◌then◌else◌}
+use Rattle.std.specs.List.{range_with_len, list_any, flat_map}
+use Rattle.vm_types.specs.Same.{same_page}
+use Rattle.vm_types.specs.Configuration.{section_pages}
+use Rattle.vm_types.specs.declared.names.Page.{Page}
+use Rattle.vm_types.specs.declared.names.Page.TheVariants.{Private, Shared}
+use Rattle.vm_types.specs.declared.names.FrameState.{FrameState}
+use Rattle.vm_types.specs.declared.names.FrameState.TheVariants as state
+use Rattle.vm_types.specs.declared.names.ProcStatus.{ProcStatus}
+use Rattle.vm_types.specs.declared.names.ProcStatus.TheVariants as status
+use Rattle.vm_types.specs.declared.config.Config.{Config}
+use Rattle.vm_types.specs.declared.config.Section.{Section}
+use Rattle.vm_journal.specs.declared.entry.Entry.{Entry}
+use Rattle.vm_journal.specs.Line.{line_text}
+use Rattle.vm_journal.specs.Words.{process_name, address_text}
+use Rattle.flat_model.specs.Counts.{FrameRow, ProcessRow, Report, report_of}
+use Rattle.flat_model.specs.Pager.{Pager}
+use Rattle.flat_model.specs.Run.{pager_after}
+
+abbrev pub ended : List ℕ → List ℕ
+ended line = line ++ 10 ∷ []
+
+-- the lines of entries, the first of which has this number
+abbrev pub entry_lines : ℕ → ℕ → List Section → List Entry → List ℕ
+entry_lines number procs names [] = []
+entry_lines number procs names (e ∷ entries) = ended (line_text number e procs names) ++ entry_lines (number + 1) procs names entries
+
+abbrev pub section_name : List Section → ℕ → List ℕ
+section_name names s = name_of (slice_get names s) where
+  name_of : Option Section → List ℕ
+  name_of None = []
+  name_of (Some section) = section.name
+
+-- a page: process and first address, or section and number
+abbrev pub page_text : List Section → Page → List ℕ
+page_text names (Private p v) = process_name p.0 ++ codes "/" ++ address_text (512 * v)
+page_text names (Shared s i) = section_name names s.0 ++ codes "/" ++ decimal i
+
+abbrev pub state_word : FrameState → List ℕ
+state_word state.Free = codes "FREE"
+state_word state.Modified = codes "MODIFIED"
+state_word state.Bad = codes "BAD"
+state_word state.ReleasePending = codes "RELEASE"
+state_word state.ReadError = codes "READERROR"
+state_word state.Writing = codes "WRITING"
+state_word state.Reading = codes "READING"
+state_word state.Active = codes "ACTIVE"
+
+abbrev pub status_word : ProcStatus → List ℕ
+status_word status.Resident = codes "RESIDENT"
+status_word status.Leaving = codes "LEAVING"
+status_word status.Gone = codes "GONE"
+status_word status.Coming = codes "COMING"
+
+abbrev pub mark_text : Bool → List ℕ
+mark_text true = codes "1"
+mark_text false = codes "0"
+
+-- the line of a frame that holds a page
+abbrev pub held_text : List Section → ℕ → FrameRow → Page → List ℕ
+held_text names f row page =
+    codes "FRAME " ++ decimal f ++ codes " " ++ state_word row.state ++ codes " " ++ page_text names page
+    ++ codes " MODIFY " ++ mark_text row.modify ++ codes " REFS " ++ decimal row.refs ++ codes " SHARES " ++ decimal row.shares
+
+-- a bad frame has a line, another one only where it holds a page
+abbrev pub empty_text : ℕ → FrameState → List ℕ
+empty_text f state.Bad = ended (codes "FRAME " ++ decimal f ++ codes " BAD")
+empty_text f other = []
+
+abbrev pub frame_line : List Section → ℕ → FrameRow → List ℕ
+frame_line names f row = line_by row.page where
+  line_by : Option Page → List ℕ
+  line_by None = empty_text f row.state
+  line_by (Some page) = ended (held_text names f row page)
+
+-- in number order, from this number on
+abbrev pub frame_lines : List Section → ℕ → List FrameRow → List ℕ
+frame_lines names f [] = []
+frame_lines names f (row ∷ rows) = frame_line names f row ++ frame_lines names (f + 1) rows
+
+-- how many frames are in each state, in the order of the states' codes
+abbrev pub states_text : List ℕ → List ℕ
+states_text counts =
+    codes "FREE " ++ decimal (slice_index_or counts 0 0) ++ codes " MODIFIED " ++ decimal (slice_index_or counts 1 0)
+    ++ codes " BAD " ++ decimal (slice_index_or counts 2 0) ++ codes " RELEASE " ++ decimal (slice_index_or counts 3 0)
+    ++ codes " READERROR " ++ decimal (slice_index_or counts 4 0) ++ codes " WRITING " ++ decimal (slice_index_or counts 5 0)
+    ++ codes " READING " ++ decimal (slice_index_or counts 6 0) ++ codes " ACTIVE " ++ decimal (slice_index_or counts 7 0)
+
+abbrev pub process_text : ℕ → ProcessRow → List ℕ
+process_text p row =
+    codes "PROCESS " ++ process_name p ++ codes " " ++ status_word row.status ++ codes " COUNT " ++ decimal row.count ++ codes " LIMIT " ++ decimal row.limit
+
+abbrev pub process_lines : ℕ → List ProcessRow → List ℕ
+process_lines p [] = []
+process_lines p (row ∷ rows) = ended (process_text p row) ++ process_lines (p + 1) rows
+
+abbrev pub page_file_text : Report → List ℕ
+page_file_text report =
+    codes "PAGEFILE " ++ decimal report.size ++ codes " CHARGED " ++ decimal report.charged ++ codes " ASSIGNED " ++ decimal report.assigned
+
+-- the report's lines
+abbrev pub report_text : List Section → Report → List ℕ
+report_text names report =
+    ended (codes "PFN AT " ++ decimal report.at) ++ ended (states_text report.states) ++ frame_lines names 0 report.frames
+    ++ ended (page_file_text report) ++ process_lines 0 report.processes
+
+-- the pages of shared sections, in order of section and page
+abbrev pub pages_from : ℕ → List Section → List Page
+pages_from s [] = []
+pages_from s (section ∷ sections) =
+    (if section.shared then map (Shared (record { 0 = s })) (range_with_len 0 (section_pages section)) else []) ++ pages_from (s + 1) sections
+
+-- whether some frame holds the page with modify set
+abbrev pub is_dirty : Config → Pager → Page → Bool
+is_dirty config a page = list_any (λ f. holds (a.frame f).page && (a.frame f).modify) (range_with_len 0 config.frames) where
+  holds : Option Page → Bool
+  holds None = false
+  holds (Some other) = same_page page other
+
+-- the shared pages that are held with modify set
+abbrev pub dirty_pages : Config → Pager → List Page
+dirty_pages config a = filter (is_dirty config a) (pages_from 0 config.sections)
+
+abbrev pub dirty_lines : List Section → List Page → List ℕ
+dirty_lines names pages = flat_map (λ page. ended (codes "DIRTY " ++ page_text names page)) pages
+
+abbrev pub status_line : ℕ → List ℕ
+status_line n = ended (codes "STATUS " ++ decimal n)
+
+-- the text of a run: the entries up to the report's place, the report there, the entries after it,
+-- a line for each dirty page, and the status
+abbrev pub run_text : Config → List Entry → ℕ → ℕ → List ℕ
+run_text config entries at n =
+    entry_lines 1 (length config.procs) config.sections (take at entries)
+    ++ report_text config.sections (report_of config (reverse (take at entries)) (pager_after config (reverse (take at entries))))
+    ++ entry_lines (at + 1) (length config.procs) config.sections (drop at entries)
+    ++ dirty_lines config.sections (dirty_pages config (pager_after config (reverse entries)))
+    ++ status_line n

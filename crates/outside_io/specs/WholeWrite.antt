@@ -1,0 +1,23 @@
+-- What the write of a whole text does to a sink, by its answer. Source: this project's own.
+use Rattle.std.specs.Prelude.{◌≡◌, ℕ, ◌<◌, List, length, take, Option, Result, Ok, Err}
+use Rattle.std.specs.Io.KnownBytes.{Appends}
+use Rattle.outside_io.specs.Causes.{raised, Rose}
+use Rattle.outside_io.specs.declared.whole.WriteFault.{WriteFault}
+use Rattle.outside_io.specs.declared.whole.WriteFault.TheVariants.{Failed, NoneTaken}
+
+-- after `Ok` the whole text was taken, after a fault a shorter prefix of it, where the sink tells
+abbrev pub TakesText : {T : Type 0} → Option (List ℕ) → Option (List ℕ) → Result T WriteFault → List ℕ → Type 0
+TakesText old new (Ok done) text = Appends old new text
+TakesText old new (Err fault) text = (n : ℕ) × (n < length text) × Appends old new (take n text)
+
+-- the count of faults rose at `Failed`, and is else unchanged
+abbrev pub FaultsBy : {T : Type 0} → ℕ → ℕ → Result T WriteFault → Type 0
+FaultsBy before now (Ok done) = now ≡ before
+FaultsBy before now (Err Failed) = Rose before now
+FaultsBy before now (Err NoneTaken) = now ≡ before
+
+-- the count of stalls rose by one at `NoneTaken`, and is else unchanged
+abbrev pub stalls_by : {T : Type 0} → ℕ → Result T WriteFault → ℕ
+stalls_by before (Ok done) = before
+stalls_by before (Err Failed) = before
+stalls_by before (Err NoneTaken) = raised before

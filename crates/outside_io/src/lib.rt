@@ -1,0 +1,23 @@
+//! Input and output: a source and a sink of bytes that count their faults, the write of a whole
+//! text, and both in memory and over std's readers and writers.
+#![tactic(auto)]
+
+mod calls;
+mod memory_sink;
+mod memory_source;
+mod sink;
+mod source;
+mod std_sink;
+mod std_source;
+mod whole;
+
+pub use memory_sink::MemorySink;
+pub use memory_source::MemorySource;
+pub use sink::Sink;
+pub use source::Source;
+pub use std_sink::StdSink;
+pub use std_source::StdSource;
+pub use whole::{WriteFault, write_whole};
+
+#[cfg(test)]
+mod tests;

@@ -1,0 +1,37 @@
+ghost use Rattle.std.specs.Prelude.{◌≡◌, ◌≤◌, is_some};
+ghost use Rattle.outside_io.specs.WholeWrite.{TakesText, FaultsBy, stalls_by};
+
+use crate::sink::Sink;
+
+/// Why a text was not written whole.
+#[derive(Clone, Copy, Debug, PartialEq, Eq)]
+pub enum WriteFault {
+    /// A call failed.
+    Failed,
+    /// A call took nothing.
+    NoneTaken,
+}
+
+/// Writes the whole text, in as many calls as the sink needs. Takes no memory.
+///
+/// # Errors
+/// `Failed` only where the sink's count of faults rose. `NoneTaken` exactly where its count of
+/// stalls rose. After either the sink has taken less than the text, a prefix of it.
+pub fn write_whole<K: Sink>(sink: &mut K, text: &[u8]) -> Result<(), WriteFault>
+    ensures bytes { TakesText (K.taken sink.old) (K.taken sink.new) result text.now }
+    ensures told { is_some (K.taken sink.new) ≡ is_some (K.taken sink.old) }
+    ensures faults { FaultsBy (K.faults sink.old) (K.faults sink.new) result }
+    ensures faults_later { K.faults sink.old ≤ K.faults sink.new }
+    ensures stalls { K.stalls sink.new ≡ stalls_by (K.stalls sink.old) result }
+    ensures stalls_later { K.stalls sink.old ≤ K.stalls sink.new }
+{
+    let mut done = 0;
+    while done < text.len() {
+        match sink.write(&text[done..]) {
+            Ok(0) => return Err(WriteFault::NoneTaken),
+            Ok(count) => done += count,
+            Err(_) => return Err(WriteFault::Failed),
+        }
+    }
+    Ok(())
+}

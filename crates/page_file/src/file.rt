@@ -1,0 +1,127 @@
+ghost use Rattle.std.specs.Prelude.{◌≡◌, ℕ, ◌+◌, ◌-◌, ◌<◌, ◌↔◌, length, replicate, slice_set, is_none, position, IsErr, IfOk, OnOk, OnErr};
+
+use crate::full::Full;
+use std::alloc::Global;
+use std::marker::Model;
+use vm_types::{NoMemory, Page};
+
+/// The blocks of a page file, of 512 bytes each, numbered from 0. Source: Kenah and Bate, "VAX/VMS
+/// Internals and Data Structures", page files.
+#[derive(Debug, Drop)]
+pub struct PageFile {
+    owners: Vec<Option<Page>>,
+    charges: u32,
+    assignments: u32,
+}
+
+impl Model for PageFile {
+    ghost use Rattle.std.specs.Prelude.{◌≡◌, count_by, is_some};
+    ghost use Rattle.page_file.specs.Blocks.{Blocks, AreBlocks};
+
+    ghost Value = { Blocks };
+
+    ghost view = { λ f. record { charged = f.charges; owners = f.owners.items } };
+
+    ghost invariant = { λ f. (f.assignments ≡ count_by is_some f.owners.items)
+        × AreBlocks (record { charged = f.charges; owners = f.owners.items }) };
+}
+
+impl PageFile {
+    ghost use Rattle.page_file.specs.Blocks.{AreBlocks, IsFreeBlock, IsAssignedBlock, assigned_blocks, owner_of};
+
+    /// A page file of so many blocks (any number): none is charged, and each is free.
+    ///
+    /// # Errors
+    /// `NoMemory` for want of memory.
+    pub fn new(alloc: Global, blocks: u32) -> Result<PageFile, NoMemory>
+        ensures { IfOk result (λ f. f ≡ record { charged = 0; owners = replicate blocks None }) }
+    {
+        Ok(PageFile {
+            owners: vec![in alloc; None; blocks as usize]?,
+            charges: 0,
+            assignments: 0,
+        })
+    }
+
+    /// Charges one block more.
+    ///
+    /// # Errors
+    /// `Full` where every block is charged; the page file is then as before.
+    pub fn charge(&mut self) -> Result<(), Full>
+        ensures full { IsErr result ↔ (self.old.charged ≡ length self.old.owners) }
+        ensures ok { OnOk result (self.new ≡ record self.old { charged = self.old.charged + 1 }) }
+        ensures err { OnErr result (self.new ≡ self.old) }
+    {
+        if self.charges as usize == self.owners.len() {
+            return Err(Full);
+        }
+        self.charges += 1;
+        Ok(())
+    }
+
+    /// Charges one block less.
+    pub fn uncharge(&mut self)
+        requires { assigned_blocks self.old < self.old.charged }
+        ensures { self.new ≡ record self.old { charged = self.old.charged - 1 } }
+    {
+        self.charges -= 1;
+    }
+
+    /// Assigns a free block to the page.
+    pub fn assign(&mut self, block: u32, page: Page)
+        requires free { IsFreeBlock self.old block }
+        requires charged { assigned_blocks self.old < self.old.charged }
+        ensures { self.new ≡ record self.old { owners = slice_set self.old.owners block (Some page) } }
+    {
+        self.owners[block as usize] = Some(page);
+        self.assignments += 1;
+    }
+
+    /// The lowest free block. Looks at each block once at most.
+    pub fn lowest(&self) -> u32
+        requires { assigned_blocks self.now < self.now.charged }
+        ensures free { IsFreeBlock self.now result }
+        ensures lowest { (k : ℕ) → k < result → ¬ IsFreeBlock self.now k }
+    {
+        first_free(&self.owners).unwrap() as u32
+    }
+
+    /// Makes an assigned block free.
+    pub fn release(&mut self, block: u32)
+        requires { IsAssignedBlock self.old block }
+        ensures { self.new ≡ record self.old { owners = slice_set self.old.owners block None } }
+    {
+        self.owners[block as usize] = None;
+        self.assignments -= 1;
+    }
+
+    /// The page that the block is assigned to: none where it is free, or there is no such block.
+    pub fn owner(&self, block: u32) -> Option<Page>
+        ensures { result ≡ owner_of self.now block }
+    {
+        self.owners.get(block as usize).copied().flatten()
+    }
+
+    /// How many blocks are charged, at most as many as there are.
+    pub fn charged(&self) -> u32
+        ensures value { result ≡ self.now.charged }
+        ensures blocks { AreBlocks self.now }
+    {
+        self.charges
+    }
+
+    /// How many blocks are assigned, at most as many as are charged.
+    pub fn assigned(&self) -> u32
+        ensures value { result ≡ assigned_blocks self.now }
+        ensures blocks { AreBlocks self.now }
+    {
+        self.assignments
+    }
+}
+
+/// The first free block, by the pages that the blocks are assigned to.
+fn first_free(owners: &[Option<Page>]) -> Option<usize>
+    ensures { result ≡ position is_none owners.now }
+{
+    owners.iter().position(|owner| owner.is_none())
+}

@@ -1,0 +1,11 @@
+//! The working set list of a process: a ring of slots, and the hand that replacement moves.
+#![tactic(auto)]
+
+mod held;
+mod ring;
+
+pub use ring::Ring;
+pub use vm_types::Choice;
+
+#[cfg(test)]
+mod tests;

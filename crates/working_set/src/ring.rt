@@ -1,0 +1,203 @@
+ghost use Rattle.std.specs.Prelude.{◌≡◌, ℕ, true, false, ◌+◌, ◌%◌, ◌<◌, ◌≤◌, ◌↔◌, ◌++◌, length, take, drop, position, replicate, slice_set, IfOk, if◌then◌else◌};
+ghost use Rattle.vm_types.specs.Ring.{is_empty_slot, is_locked_slot, is_unlocked_slot};
+
+use crate::held::Held;
+use std::alloc::Global;
+use std::marker::Model;
+use vm_types::{Choice, NoMemory};
+
+/// A working set list: slots, numbered from 0, each empty or with a page, and a hand that stands on
+/// one of them. Source: Kenah and Bate, "VAX/VMS Internals and Data Structures", paging dynamics.
+#[derive(Debug, Drop)]
+pub struct Ring {
+    slots: Vec<Option<Held>>,
+    hand: u32,
+    pages: u32,
+    locks: u32,
+}
+
+impl Model for Ring {
+    ghost use Rattle.std.specs.Prelude.{◌≡◌};
+    ghost use Rattle.vm_types.specs.Ring.{Ring as RingOfSlots, filled, locked};
+    ghost use Rattle.working_set.specs.Slots.{IsRing};
+
+    ghost Value = { RingOfSlots };
+
+    ghost view = { λ r. record { slots = r.slots.items; hand = r.hand } };
+
+    ghost invariant = { λ r. (r.pages ≡ filled r.slots.items) × (r.locks ≡ locked r.slots.items)
+        × IsRing (record { slots = r.slots.items; hand = r.hand }) };
+}
+
+impl Ring {
+    ghost use Rattle.vm_types.specs.Ring.{filled, locked, choose, slot_after};
+    ghost use Rattle.working_set.specs.Slots.{IsRing, IsEmptySlot, IsFilledSlot, slot_at, page_at, with_lock};
+    ghost use Rattle.working_set.specs.Offers.{Offers, OffersNone};
+
+    /// A ring of so many slots (1 at least): each is empty, and the hand stands on slot 0.
+    ///
+    /// # Errors
+    /// `NoMemory` for want of memory.
+    pub fn new(alloc: Global, slots: u32) -> Result<Ring, NoMemory>
+        requires { 1 ≤ slots }
+        ensures { IfOk result (λ r. r ≡ record { slots = replicate slots None; hand = 0 }) }
+    {
+        Ok(Ring {
+            slots: vec![in alloc; None; slots as usize]?,
+            hand: 0,
+            pages: 0,
+            locks: 0,
+        })
+    }
+
+    /// The slot for one more page at this limit (at most the number of slots): below the limit the
+    /// first empty one from the hand on, going round, else the first whose page is not locked, if
+    /// there is one. Looks at each slot once at most.
+    pub fn choose(&self, limit: u32) -> Choice
+        requires { limit ≤ length self.now.slots }
+        ensures chosen { result ≡ choose self.now limit }
+        ensures offered { Offers self.now limit result }
+        ensures none { (result ≡ Choice.AllLocked) ↔ OffersNone self.now limit }
+    {
+        if self.pages < limit {
+            let places = places_to_empty(&self.slots, self.hand as usize).unwrap();
+            return Choice::Empty(self.slot_after(places));
+        }
+        match places_to_unlocked(&self.slots, self.hand as usize) {
+            Some(places) => Choice::Victim(self.slot_after(places)),
+            None => Choice::AllLocked,
+        }
+    }
+
+    /// Puts a page, by its number (any), into an empty slot, not locked. With `step` the hand goes to
+    /// the slot after it, slot 0 after the last.
+    #[tactic(auto, using(crate::proofs::Counts::filled_below))]
+    pub fn place(&mut self, slot: u32, vpn: u32, step: bool)
+        requires { IsEmptySlot self.old slot }
+        ensures { self.new ≡ record {
+          slots = slice_set self.old.slots slot (Some (record { vpn = vpn; locked = false }));
+          hand = if step then (slot + 1) % length self.old.slots else self.old.hand;
+        } }
+    {
+        self.slots[slot as usize] = Some(Held::new(vpn, false));
+        self.pages += 1;
+        if step {
+            self.hand = ((slot as usize + 1) % self.slots.len()) as u32;
+        }
+    }
+
+    /// Empties the slot, with its lock, where it was empty too. With `point` the hand stands on it.
+    pub fn clear(&mut self, slot: u32, point: bool)
+        requires { slot < length self.old.slots }
+        ensures { self.new ≡ record {
+          slots = slice_set self.old.slots slot None;
+          hand = if point then slot else self.old.hand;
+        } }
+    {
+        let was = self.slots[slot as usize].take();
+        self.pages -= u32::from(was.is_some());
+        self.locks -= u32::from(is_locked(was));
+        if point {
+            self.hand = slot;
+        }
+    }
+
+    /// Locks the page in the slot. It may be locked already.
+    pub fn lock(&mut self, slot: u32)
+        requires { IsFilledSlot self.old slot }
+        ensures { self.new ≡ with_lock self.old slot true }
+    {
+        self.set_lock(slot, true);
+    }
+
+    /// Unlocks the page in the slot. It may be unlocked already.
+    pub fn unlock(&mut self, slot: u32)
+        requires { IsFilledSlot self.old slot }
+        ensures { self.new ≡ with_lock self.old slot false }
+    {
+        self.set_lock(slot, false);
+    }
+
+    /// How many slots hold a page.
+    pub fn count(&self) -> u32
+        ensures value { result ≡ filled self.now.slots }
+        ensures ring { IsRing self.now }
+    {
+        self.pages
+    }
+
+    /// How many slots hold a locked page.
+    pub fn locked(&self) -> u32
+        ensures value { result ≡ locked self.now.slots }
+        ensures ring { IsRing self.now }
+    {
+        self.locks
+    }
+
+    /// The number of the page in the slot: none where it is empty.
+    pub fn at(&self, slot: u32) -> Option<u32>
+        requires { slot < length self.now.slots }
+        ensures { result ≡ page_at self.now slot }
+    {
+        Some(self.slots[slot as usize]?.vpn())
+    }
+
+    /// The slot that is so many places after the hand.
+    fn slot_after(&self, places: usize) -> u32
+        requires { places < length self.now.slots }
+        ensures { result ≡ slot_after self.now places }
+    {
+        ((self.hand as usize + places) % self.slots.len()) as u32
+    }
+
+    /// Locks or unlocks the page in the slot.
+    fn set_lock(&mut self, slot: u32, lock: bool)
+        requires { IsFilledSlot self.old slot }
+        ensures { self.new ≡ with_lock self.old slot lock }
+    {
+        if let Some(held) = self.slots[slot as usize] {
+            self.slots[slot as usize] = Some(Held::new(held.vpn(), lock));
+            self.locks -= u32::from(held.is_locked());
+            self.locks += u32::from(lock);
+        }
+    }
+}
+
+/// Whether the slot holds no page.
+fn is_empty(slot: Option<Held>) -> bool
+    ensures { result ≡ is_empty_slot slot }
+{
+    slot.is_none()
+}
+
+/// Whether the slot holds a locked page.
+fn is_locked(slot: Option<Held>) -> bool
+    ensures { result ≡ is_locked_slot slot }
+{
+    slot.is_some_and(Held::is_locked)
+}
+
+/// Whether the slot holds a page that is not locked.
+fn is_unlocked(slot: Option<Held>) -> bool
+    ensures { result ≡ is_unlocked_slot slot }
+{
+    slot.is_some_and(|held| !held.is_locked())
+}
+
+/// How many places from the hand on the first empty slot is.
+fn places_to_empty(slots: &[Option<Held>], hand: usize) -> Option<usize>
+    requires { hand ≤ length slots.now }
+    ensures { result ≡ position is_empty_slot (drop hand slots.now ++ take hand slots.now) }
+{
+    let (front, back) = slots.split_at(hand);
+    back.iter().chain(front).position(|slot| is_empty(*slot))
+}
+
+/// How many places from the hand on the first page that is not locked is.
+fn places_to_unlocked(slots: &[Option<Held>], hand: usize) -> Option<usize>
+    requires { hand ≤ length slots.now }
+    ensures { result ≡ position is_unlocked_slot (drop hand slots.now ++ take hand slots.now) }
+{
+    let (front, back) = slots.split_at(hand);
+    back.iter().chain(front).position(|slot| is_unlocked(*slot))
+}
