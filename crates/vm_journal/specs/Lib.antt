@@ -3,3 +3,4 @@ pub mod Hex
 pub mod Words
 pub mod Line
 pub mod HasLine
+pub mod Own

@@ -4,3 +4,4 @@ pub mod Ring
 pub mod Same
 pub mod WellFormed
 pub mod Configuration
+pub mod Loan

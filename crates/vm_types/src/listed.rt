@@ -1,4 +1,5 @@
 ghost use Rattle.std.specs.Prelude.{◌≡◌, [], ◌∷◌, ◌++◌, OnOk, OnErr};
+ghost use Rattle.std.specs.Borrow.{sem};
 
 use crate::faults::NoMemory;
 use std::alloc::Global;
@@ -19,6 +20,8 @@ impl<X> Model for Listed<X> {
 }
 
 impl<X> Listed<X> {
+    ghost use Rattle.vm_types.specs.Loan.{LendsItems};
+
     /// No items. Takes no memory.
     pub fn new(alloc: Global) -> Listed<X>
         ensures { result ≡ [] }
@@ -54,6 +57,14 @@ impl<X> Listed<X> {
         ensures { result.now ≡ self.now }
     {
         self.inner.as_slice()
+    }
+
+    /// The items in order, to be written. Takes no memory.
+    pub fn items_mut(&mut self) -> &mut [X]
+        ensures* writes_back { sem 𝓛 (LendsItems X.row self.entry result) }
+        ensures value { result.now ≡ self.old }
+    {
+        self.inner.as_mut_slice()
     }
 
     /// Gives the items back. Takes no memory.

@@ -7,8 +7,10 @@ fn pushes_with_ample_memory(rt: HostRuntime) -> Result<(), Fail> {
     list.push(7u32)?;
     list.push(9)?;
     assert_eq!(rt; list.items(), [7, 9].as_slice());
+    list.items_mut()[0] = 8;
+    assert_eq!(rt; list.items(), [8, 9].as_slice());
     let back = Listed::of(list.into_items());
-    assert_eq!(rt; back.items(), [7, 9].as_slice());
+    assert_eq!(rt; back.items(), [8, 9].as_slice());
     Ok(())
 }
 

@@ -1,0 +1,5 @@
+pub mod Causes
+pub mod Told
+pub mod MemoryBlock
+pub mod MemoryDepot
+pub mod PlainBlock

@@ -1,0 +1,27 @@
+-- What a block in memory shows. Source: this project's own.
+use Rattle.std.specs.Prelude.{ℕ, ◌+◌, List, Contains}
+use Rattle.disk_trait.specs.declared.memory_block.MemoryBlock.{MemoryBlock}
+
+-- its bytes
+abbrev pub bytes_of : MemoryBlock → List ℕ
+bytes_of block = block.bytes.items
+
+-- the numbers of the calls that fail
+abbrev pub plan_of : MemoryBlock → List ℕ
+plan_of block = block.fails.items
+
+-- how often it was read
+abbrev pub reads_of : MemoryBlock → ℕ
+reads_of block = block.reads
+
+-- how often it was written
+abbrev pub writes_of : MemoryBlock → ℕ
+writes_of block = block.writes
+
+-- how often it failed
+abbrev pub faults_of : MemoryBlock → ℕ
+faults_of block = block.faults
+
+-- its next call fails
+abbrev pub IsDueToFail : MemoryBlock → Type 0
+IsDueToFail block = Contains (plan_of block) (reads_of block + writes_of block + 1)

@@ -1,0 +1,12 @@
+-- What a block may tell of itself: some types of block tell it, others don't. Source: this
+-- project's own.
+use Rattle.std.specs.Prelude.{ℕ, ◌≡◌, List, length, Bool, true, false, Option, Some, None}
+
+-- these numbers, where the type tells them
+abbrev pub told : Bool → List ℕ → Option (List ℕ)
+told true numbers = Some numbers
+told false numbers = None
+
+-- any 512 bytes, where the type tells them
+abbrev pub IsAnyContent : Bool → Option (List ℕ) → Type 0
+IsAnyContent tells content = (bytes : List ℕ) × (length bytes ≡ 512) × (content ≡ told tells bytes)

@@ -1,0 +1,168 @@
+ghost use Rattle.std.specs.Prelude.{◌≡◌, ◌+◌, ◌^◌, ◌<◌, ◌≤◌, ◌++◌, ◌↔◌, length, take, drop, Some, true, refl, IsTrue, IsErr, IfOk, OnOk, OnErr, Contains};
+
+use crate::block::Block;
+use std::alloc::Global;
+use vm_types::{Failed, NoMemory};
+
+/// A block in memory, which fails at the calls that it was made to fail at and at no other.
+#[derive(Drop)]
+pub struct MemoryBlock {
+    bytes: Vec<u8>,
+    fails: Vec<u32>,
+    reads: u64,
+    writes: u64,
+    faults: u64,
+    ghost whole: { length bytes.items ≡ 512 },
+    ghost few_calls: { reads + writes ≤ 2 ^ 48 },
+    ghost few_faults: { faults ≤ reads + writes },
+}
+
+impl MemoryBlock {
+    ghost use Rattle.disk_trait.specs.MemoryBlock.{bytes_of, plan_of, reads_of, writes_of, faults_of, IsDueToFail};
+
+    /// A block of these 512 bytes, not read or written so far, which is to fail at the calls
+    /// `fails`.
+    ///
+    /// # Errors
+    /// `NoMemory` for want of memory.
+    pub(crate) fn new(alloc: Global, bytes: &[u8], fails: &[u32]) -> Result<MemoryBlock, NoMemory>
+        requires { length bytes.now ≡ 512 }
+        ensures bytes { IfOk result (λ b. bytes_of b ≡ bytes.now) }
+        ensures plan { IfOk result (λ b. plan_of b ≡ fails.now) }
+        ensures reads { IfOk result (λ b. reads_of b ≡ 0) }
+        ensures writes { IfOk result (λ b. writes_of b ≡ 0) }
+        ensures faults { IfOk result (λ b. faults_of b ≡ 0) }
+    {
+        let bytes = Vec::from_slice(alloc, bytes)?;
+        let fails = Vec::from_slice(alloc, fails)?;
+        Ok(MemoryBlock {
+            bytes,
+            fails,
+            reads: 0,
+            writes: 0,
+            faults: 0,
+        })
+    }
+
+    /// Its 512 bytes. Takes no memory.
+    pub fn bytes(&self) -> &[u8]
+        ensures bytes { result.now ≡ bytes_of self.now }
+        ensures size { length result.now ≡ 512 }
+    {
+        &self.bytes
+    }
+
+    /// How often it was read. Takes no memory.
+    pub fn reads(&self) -> u64
+        ensures { result ≡ reads_of self.now }
+    {
+        self.reads
+    }
+
+    /// How often it was written. Takes no memory.
+    pub fn writes(&self) -> u64
+        ensures { result ≡ writes_of self.now }
+    {
+        self.writes
+    }
+
+    /// Whether its next call is to fail.
+    fn is_due_to_fail(&self) -> bool
+        requires { reads_of self.now + writes_of self.now < 2 ^ 48 }
+        ensures { IsTrue result ↔ IsDueToFail self.now }
+    {
+        is_due(&self.fails, self.reads + self.writes + 1)
+    }
+}
+
+/// Whether a call with this number is to fail.
+pub(crate) fn is_due(fails: &[u32], call: u64) -> bool
+    ensures { IsTrue result ↔ Contains fails.now call }
+{
+    fails.iter().any(|number| u64::from(*number) == call)
+}
+
+/// Writes the first 256 of the bytes, and leaves the rest of the block.
+fn write_half(block: &mut [u8], bytes: &[u8])
+    requires block_size { length block.old ≡ 512 }
+    requires size { length bytes.now ≡ 512 }
+    ensures { block.new ≡ take 256 bytes.now ++ drop 256 block.old }
+{
+    block[..256].copy_from_slice(&bytes[..256]);
+}
+
+impl Block for MemoryBlock {
+    ghost use Rattle.disk_trait.specs.MemoryBlock.{bytes_of, plan_of, reads_of, writes_of, faults_of, IsDueToFail};
+    ghost use Rattle.std.proofs.Common.{lit<};
+    ghost use Rattle.std.proofs.Math.Nat.{le_trans, lt_of_le_of_lt};
+
+    ghost tells_content = { true };
+
+    ghost tells_plan = { true };
+
+    ghost content = { λ b. Some (bytes_of b) };
+
+    ghost plan = { λ b. Some (plan_of b) };
+
+    ghost reads = { reads_of };
+
+    ghost writes = { writes_of };
+
+    ghost faults = { faults_of };
+
+    ghost any_content = { λ b. (bytes_of b, b.whole, refl) };
+
+    ghost told_plan = { λ _. refl };
+
+    ghost few_faults = { λ b. lt_of_le_of_lt (le_trans b.few_faults b.few_calls) (lit< tt) };
+
+    fn read(&mut self, buf: &mut [u8]) -> Result<(), Failed>
+        requires size { length buf.old ≡ 512 }
+        requires few_calls { reads_of self.old + writes_of self.old < 2 ^ 48 }
+        ensures fails { IsErr result ↔ IsDueToFail self.old }
+        ensures bytes { OnOk result (buf.new ≡ bytes_of self.old) }
+        ensures content { bytes_of self.new ≡ bytes_of self.old }
+        ensures plan { plan_of self.new ≡ plan_of self.old }
+        ensures reads { reads_of self.new ≡ reads_of self.old + 1 }
+        ensures writes { writes_of self.new ≡ writes_of self.old }
+        ensures ok { OnOk result (faults_of self.new ≡ faults_of self.old) }
+        ensures failed { OnErr result (faults_of self.new ≡ faults_of self.old + 1) }
+    {
+        let fails = self.is_due_to_fail();
+        self.reads += 1;
+        if fails {
+            self.faults += 1;
+            return Err(Failed);
+        }
+        buf.copy_from_slice(&self.bytes);
+        Ok(())
+    }
+
+    /// A write that fails leaves the first 256 bytes new and the rest old.
+    fn write(&mut self, bytes: &[u8]) -> Result<(), Failed>
+        requires size { length bytes.now ≡ 512 }
+        requires few_calls { reads_of self.old + writes_of self.old < 2 ^ 48 }
+        ensures fails { IsErr result ↔ IsDueToFail self.old }
+        ensures content { OnOk result (bytes_of self.new ≡ bytes.now) }
+        ensures torn { OnErr result (bytes_of self.new ≡ take 256 bytes.now ++ drop 256 (bytes_of self.old)) }
+        ensures plan { plan_of self.new ≡ plan_of self.old }
+        ensures reads { reads_of self.new ≡ reads_of self.old }
+        ensures writes { writes_of self.new ≡ writes_of self.old + 1 }
+        ensures ok { OnOk result (faults_of self.new ≡ faults_of self.old) }
+        ensures failed { OnErr result (faults_of self.new ≡ faults_of self.old + 1) }
+    {
+        let fails = self.is_due_to_fail();
+        self.writes += 1;
+        if fails {
+            self.faults += 1;
+            write_half(&mut self.bytes, bytes);
+            return Err(Failed);
+        }
+        self.bytes.copy_from_slice(bytes);
+        Ok(())
+    }
+
+    fn faults(&self) -> u64 {
+        self.faults
+    }
+}

@@ -1,0 +1,114 @@
+ghost use Rattle.std.specs.Prelude.{◌≡◌, ◌+◌, ◌-◌, ◌^◌, ◌≤◌, ◌↔◌, [], ◌∷◌, ◌++◌, length, min, map, IsSome, IfSome, IfOk, IsErrOf, OnOk, OnErr, Contains};
+
+use crate::depot::{Depot, MakeFault};
+use crate::memory_block::{MemoryBlock, is_due};
+use std::alloc::Global;
+use std::marker::Model;
+use vm_types::{BlockId, NoMemory};
+
+/// A depot in memory, which fails at the calls of `make` that it was made to fail at and at no
+/// other.
+#[derive(Drop)]
+pub struct MemoryDepot {
+    alloc: Global,
+    fail_makes: Vec<u32>,
+    makes: u64,
+    faults: u64,
+    retired: Vec<(BlockId, MemoryBlock)>,
+}
+
+impl Model for MemoryDepot {
+    ghost use Rattle.disk_trait.specs.MemoryDepot.{MemoryStore};
+
+    ghost Value = { MemoryStore };
+
+    ghost view = { λ d. record {
+      fail_makes = d.fail_makes.items;
+      makes = d.makes;
+      faults = d.faults;
+      retired = d.retired.items;
+    } };
+}
+
+impl MemoryDepot {
+    ghost use Rattle.disk_trait.specs.MemoryDepot.{names_of};
+
+    /// A depot whose calls of `make` with these numbers fail, counted from 1. Takes no memory.
+    pub fn new(alloc: Global, fail_makes: Vec<u32>) -> MemoryDepot
+        ensures fail_makes { result.fail_makes ≡ fail_makes.items }
+        ensures makes { result.makes ≡ 0 }
+        ensures faults { result.faults ≡ 0 }
+        ensures retired { result.retired ≡ [] }
+    {
+        MemoryDepot {
+            alloc,
+            fail_makes,
+            makes: 0,
+            faults: 0,
+            retired: Vec::new(alloc),
+        }
+    }
+
+    /// A block of that name that was taken back. Takes no memory.
+    pub fn retired(&self, id: BlockId) -> Option<&MemoryBlock>
+        ensures found { IsSome result ↔ Contains (names_of self.now.retired) id }
+        ensures block { IfSome result (λ b. Contains self.now.retired (id, b.now)) }
+    {
+        find_block(&self.retired, id)
+    }
+}
+
+/// A block of that name in the list.
+fn find_block(blocks: &[(BlockId, MemoryBlock)], id: BlockId) -> Option<&MemoryBlock>
+    ensures found { IsSome result ↔ Contains (map (λ p. p.0) blocks.now) id }
+    ensures block { IfSome result (λ b. Contains blocks.now (id, b.now)) }
+{
+    for (name, block) in blocks {
+        if *name == id {
+            return Some(block);
+        }
+    }
+    None
+}
+
+impl Depot for MemoryDepot {
+    ghost use Rattle.disk_trait.specs.MemoryBlock.{bytes_of, plan_of, reads_of, writes_of, faults_of};
+
+    type Block = MemoryBlock;
+
+    ghost retired = { λ d. d.retired };
+
+    ghost faults = { λ d. d.faults };
+
+    fn make(&mut self, id: BlockId, bytes: &[u8], fails: &[u32]) -> Result<MemoryBlock, MakeFault>
+        requires { length bytes.now ≡ 512 }
+        ensures fails { IsErrOf result MakeFault.Failed ↔ Contains self.old.fail_makes self.new.makes }
+        ensures content { IfOk result (λ b. bytes_of b ≡ bytes.now) }
+        ensures plan { IfOk result (λ b. plan_of b ≡ fails.now) }
+        ensures reads { IfOk result (λ b. reads_of b ≡ 0) }
+        ensures writes { IfOk result (λ b. writes_of b ≡ 0) }
+        ensures faults { IfOk result (λ b. faults_of b ≡ 0) }
+        ensures retired { self.new.retired ≡ self.old.retired }
+        ensures fail_makes { self.new.fail_makes ≡ self.old.fail_makes }
+        ensures makes { self.new.makes ≡ min (self.old.makes + 1) (2 ^ 64 - 1) }
+        ensures later { self.old.faults ≤ self.new.faults }
+        ensures ok { OnOk result (self.new.faults ≡ self.old.faults) }
+        ensures no_memory { IsErrOf result MakeFault.NoMemory → self.new.faults ≡ self.old.faults }
+        ensures failed { IsErrOf result MakeFault.Failed → self.new.faults ≡ min (self.old.faults + 1) (2 ^ 64 - 1) }
+    {
+        self.makes = self.makes.saturating_add(1);
+        if is_due(&self.fail_makes, self.makes) {
+            self.faults = self.faults.saturating_add(1);
+            return Err(MakeFault::Failed);
+        }
+        Ok(MemoryBlock::new(self.alloc, bytes, fails)?)
+    }
+
+    fn retire(&mut self, id: BlockId, block: MemoryBlock) -> Result<(), NoMemory>
+        ensures ok { OnOk result (self.new ≡ record self.old { retired = self.old.retired ++ (id, block) ∷ [] }) }
+        ensures err { OnErr result (self.new ≡ self.old) }
+    {
+        self.retired.push((id, block))?;
+        Ok(())
+    }
+}

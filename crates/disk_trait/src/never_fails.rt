@@ -1,0 +1,58 @@
+ghost use Rattle.std.specs.Prelude.{◌≡◌, [], ◌∷◌, ◌++◌, length};
+
+use crate::depot::{Depot, MakeFault};
+use crate::plain_block::PlainBlock;
+use std::alloc::Global;
+use std::marker::Model;
+use vm_types::{BlockId, NoMemory};
+
+/// A depot in memory that never fails, and makes blocks that never fail.
+#[derive(Drop)]
+pub struct NeverFails {
+    alloc: Global,
+    retired: Vec<(BlockId, PlainBlock)>,
+}
+
+impl Model for NeverFails {
+    ghost use Rattle.std.specs.Prelude.{List};
+    ghost use Rattle.vm_types.specs.declared.names.BlockId.{BlockId};
+    ghost use Rattle.disk_trait.specs.declared.plain_block.PlainBlock.{PlainBlock};
+
+    ghost Value = { List (BlockId × PlainBlock) };
+
+    ghost view = { λ d. d.retired.items };
+}
+
+impl NeverFails {
+    /// A depot that has taken nothing back. Takes no memory.
+    pub fn new(alloc: Global) -> NeverFails
+        ensures { result ≡ [] }
+    {
+        NeverFails {
+            alloc,
+            retired: Vec::new(alloc),
+        }
+    }
+}
+
+impl Depot for NeverFails {
+    type Block = PlainBlock;
+
+    ghost retired = { λ d. d };
+
+    ghost faults = { λ _. 0 };
+
+    fn make(
+        &mut self,
+        _id: BlockId,
+        bytes: &[u8],
+        _fails: &[u32],
+    ) -> Result<PlainBlock, MakeFault> {
+        Ok(PlainBlock::new(self.alloc, bytes)?)
+    }
+
+    fn retire(&mut self, id: BlockId, block: PlainBlock) -> Result<(), NoMemory> {
+        self.retired.push((id, block))?;
+        Ok(())
+    }
+}

@@ -1,0 +1,43 @@
+use super::*;
+use std::test::Fail;
+
+/// A pool and its buffers may go to another thread.
+fn is_send<T: Send>(_value: &T) {}
+
+#[test]
+fn two_buffers_and_then_none(rt: HostRuntime) -> Result<(), Fail> {
+    let mut pool = Pool::new(rt.alloc(), 2)?;
+    is_send(&pool);
+    let first = pool.take().ok_or("two are left")?;
+    is_send(&first);
+    assert_eq!(rt; first.bytes(), [0; 512].as_slice());
+    let second = pool.take().ok_or("one is left")?;
+    assert!(rt; pool.take().is_none());
+    pool.put(second);
+    pool.put(first);
+    pool.close();
+    Ok(())
+}
+
+#[test]
+fn buffers_are_apart(rt: HostRuntime) -> Result<(), Fail> {
+    let mut pool = Pool::new(rt.alloc(), 3)?;
+    let mut first = pool.take().ok_or("three are left")?;
+    let mut second = pool.take().ok_or("two are left")?;
+    let mut third = pool.take().ok_or("one is left")?;
+    first.bytes_mut().fill(1);
+    second.bytes_mut().fill(2);
+    third.bytes_mut().fill(3);
+    for (byte, buf) in [(1, &first), (2, &second), (3, &third)] {
+        assert_eq!(rt; buf.bytes()[0], byte);
+        assert_eq!(rt; buf.bytes()[511], byte);
+    }
+    assert!(rt; pool.take().is_none());
+    pool.put(second);
+    let mut again = pool.take().ok_or("one is back")?;
+    again.zero();
+    assert_eq!(rt; again.bytes(), [0; 512].as_slice());
+    assert_eq!(rt; first.bytes(), [1; 512].as_slice());
+    assert_eq!(rt; third.bytes(), [3; 512].as_slice());
+    Ok(())
+}

@@ -1,0 +1,11 @@
+use Rattle.std.proofs.Common.{ap, ◌∙◌, arith}
+use Rattle.std.proofs.lemmas.List.{take_all}
+use Rattle.std.proofs.lemmas.List.FromFn.{fill_by_all}
+use Rattle.pfn_database.specs.Rows.{bad_row}
+use Rattle.pfn_database.specs.Frames.{opening_row}
+use Rattle.pfn_database.proofs.opening.opening_rows.Goals as goal
+
+pub returns : goal.returns
+returns c =
+    let all = take_all c.loop-frame.frame-index c.args.bad.now (omega arith) in
+    fill_by_all (opening_row c.args.bad.now) _ c.args.frames bad_row c.loop-frame.invariant.long (λ k within. c.loop-frame.invariant.rows k within ∙ ap (λ bad. opening_row bad k) all)

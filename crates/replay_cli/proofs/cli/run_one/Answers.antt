@@ -1,0 +1,20 @@
+use Rattle.replay_cli.proofs.Concluding.{has_told, was_cut, faulty_write, usage_status, read_status, complete_status}
+use Rattle.replay_cli.proofs.cli.run_one.Goals as goal
+
+pub returns-clause-told : goal.returns-clause-told
+returns-clause-told g c = has_told _ _ _ _ _ _ _ _ _ _ _ _ c.conclude.ensures.outcome
+
+pub returns-clause-cut : goal.returns-clause-cut
+returns-clause-cut g c = was_cut _ _ _ _ _ _ _ _ _ _ _ _ c.conclude.ensures.outcome
+
+pub returns-clause-write_fault : goal.returns-clause-write_fault
+returns-clause-write_fault g c = faulty_write _ _ _ _ _ _ _ _ _ _ _ _ c.conclude.ensures.outcome
+
+pub returns-clause-usage : goal.returns-clause-usage
+returns-clause-usage g c = usage_status _ _ _ _ _ _ _ _ _ _ _ _ c.conclude.ensures.outcome
+
+pub returns-clause-read_fault : goal.returns-clause-read_fault
+returns-clause-read_fault g c = read_status _ _ _ _ _ _ _ _ _ _ _ _ c.conclude.ensures.outcome
+
+pub returns-clause-complete : goal.returns-clause-complete
+returns-clause-complete g c = complete_status _ _ _ _ _ _ _ _ _ _ _ _ c.conclude.ensures.outcome

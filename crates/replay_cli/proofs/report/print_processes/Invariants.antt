@@ -1,0 +1,11 @@
+use Rattle.std.proofs.Common.{drop, map}
+use Rattle.flat_model.specs.Text.{process_lines}
+use Rattle.replay_cli.specs.ReportView.{process_view}
+use Rattle.replay_cli.proofs.WritesInTurn.{Progress}
+use Rattle.replay_cli.proofs.report.print_processes.Given as goal
+
+abbrev pub invariant-loop-p : goal.invariant-loop-p
+invariant-loop-p g l =
+    Progress (g.K.Sink.taken l.initial.sink) (g.K.Sink.taken l.sink) (g.K.Sink.faults l.initial.sink) (g.K.Sink.faults l.sink)
+    (g.K.Sink.stalls l.initial.sink) (g.K.Sink.stalls l.sink)
+    (process_lines 0 (map process_view l.processes)) (process_lines l.p (map process_view (drop l.p l.processes)))

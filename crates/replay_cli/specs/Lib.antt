@@ -1,0 +1,10 @@
+pub mod Mirror
+pub mod Stands
+pub mod HasRun
+pub mod ReportView
+pub mod RunReport
+pub mod Reports
+pub mod SinkWrites
+pub mod SerialRun
+pub mod Ends
+pub mod Outcome

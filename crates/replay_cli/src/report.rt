@@ -1,0 +1,244 @@
+ghost use Rattle.std.specs.Prelude.{◌≡◌, ◌+◌, ◌<◌, ◌≤◌, ◌++◌, [], length, is_some, map, decimal, codes, All, IfSome};
+ghost use Rattle.arrayvec.specs.ArrayVec.{array_vec_len};
+ghost use Rattle.outside_io.specs.WholeWrite.{TakesText, FaultsBy, stalls_by};
+ghost use Rattle.flat_model.specs.Text.{ended, held_text, frame_line, frame_lines, states_text, page_file_text, process_text, process_lines, report_text, status_line};
+ghost use Rattle.replay_cli.specs.ReportView.{frame_view, process_view, report_view, IsNamed, IsPrintable};
+ghost use Rattle.replay_cli.specs.SinkWrites.{Writes};
+
+use crate::report_words::{
+    push_counted, push_decimal, push_mark, push_page, push_process, push_state, push_status,
+    push_word,
+};
+use crate::whole_line::write_line;
+use arrayvec::ArrayVec;
+use outside_io::{Sink, WriteFault};
+use vm_types::{FrameState, Listed, Page, ProcStatus, Section};
+
+/// A frame of the report: its state, the page that it holds, the page's modify bit, and its counts
+/// of references and of valid entries that share it.
+#[derive(Clone, Copy, Debug, PartialEq, Eq)]
+pub struct FrameRow {
+    pub state: FrameState,
+    pub page: Option<Page>,
+    pub modify: bool,
+    pub refs: u32,
+    pub shares: u32,
+}
+
+/// A process of the report: where it stands with the swapper, how many pages its working set
+/// holds, and its working set limit.
+#[derive(Clone, Copy, Debug, PartialEq, Eq)]
+pub struct ProcessRow {
+    pub status: ProcStatus,
+    pub count: u32,
+    pub limit: u32,
+}
+
+/// What a run's report says.
+#[derive(Debug, Drop)]
+pub struct Report {
+    /// How many entries were before it.
+    pub at: u64,
+    /// The frames by number.
+    pub frames: Listed<FrameRow>,
+    /// How many frames are in each of the eight states, in the order of the states' codes.
+    pub states: Listed<u32>,
+    /// Blocks of the page file.
+    pub size: u32,
+    /// Those that are charged.
+    pub charged: u32,
+    /// Those that are assigned to pages.
+    pub assigned: u32,
+    /// The processes by number, at most 16.
+    pub processes: Listed<ProcessRow>,
+}
+
+// How many entries were before it.
+fn print_at<K: Sink>(at: u64, sink: &mut K) -> Result<(), WriteFault>
+    ensures { Writes (K.taken sink.old) (K.taken sink.new) (K.faults sink.old) (K.faults sink.new)
+        (K.stalls sink.old) (K.stalls sink.new) result (ended (codes "PFN AT " ++ decimal at)) }
+{
+    let mut out = ArrayVec::new();
+    push_word(&mut out, b"PFN AT ");
+    push_decimal(&mut out, at);
+    write_line(out, sink)
+}
+
+// How many frames are in each state.
+fn print_states<K: Sink>(states: &[u32], sink: &mut K) -> Result<(), WriteFault>
+    requires { length states.now ≡ 8 }
+    ensures { Writes (K.taken sink.old) (K.taken sink.new) (K.faults sink.old) (K.faults sink.new)
+        (K.stalls sink.old) (K.stalls sink.new) result (ended (states_text states.now)) }
+{
+    let mut out = ArrayVec::new();
+    push_states(&mut out, states);
+    write_line(out, sink)
+}
+
+fn push_states(out: &mut ArrayVec<u8, 160>, states: &[u32])
+    requires eight { length states.now ≡ 8 }
+    requires empty { out.old.items ≡ [] }
+    ensures items { out.new.items ≡ states_text states.now }
+    ensures len { array_vec_len out.new ≤ 159 }
+{
+    push_counted(out, b"FREE ", states[0]);
+    push_counted(out, b" MODIFIED ", states[1]);
+    push_counted(out, b" BAD ", states[2]);
+    push_counted(out, b" RELEASE ", states[3]);
+    push_counted(out, b" READERROR ", states[4]);
+    push_counted(out, b" WRITING ", states[5]);
+    push_counted(out, b" READING ", states[6]);
+    push_counted(out, b" ACTIVE ", states[7]);
+}
+
+fn print_frames<K: Sink>(
+    frames: &[FrameRow],
+    names: &[Section],
+    sink: &mut K,
+) -> Result<(), WriteFault>
+    requires { All (λ row. IfSome row.page (IsNamed names.now)) frames.now }
+    ensures { Writes (K.taken sink.old) (K.taken sink.new) (K.faults sink.old) (K.faults sink.new)
+        (K.stalls sink.old) (K.stalls sink.new) result
+        (frame_lines names.now 0 (map frame_view frames.now)) }
+{
+    for (f, row) in frames.iter().enumerate() {
+        print_frame(f as u64, *row, names, sink)?;
+    }
+    Ok(())
+}
+
+// A bad frame has a line, another one only where it holds a page.
+fn print_frame<K: Sink>(
+    f: u64,
+    row: FrameRow,
+    names: &[Section],
+    sink: &mut K,
+) -> Result<(), WriteFault>
+    requires { IfSome row.page (IsNamed names.now) }
+    ensures { Writes (K.taken sink.old) (K.taken sink.new) (K.faults sink.old) (K.faults sink.new)
+        (K.stalls sink.old) (K.stalls sink.new) result (frame_line names.now f (frame_view row)) }
+{
+    let mut out = ArrayVec::new();
+    match row.page {
+        Some(page) => push_held(&mut out, f, row, page, names),
+        None => match row.state {
+            FrameState::Bad => push_bad(&mut out, f),
+            _ => return Ok(()),
+        },
+    }
+    write_line(out, sink)
+}
+
+fn push_held(out: &mut ArrayVec<u8, 160>, f: u64, row: FrameRow, page: Page, names: &[Section])
+    requires named { IsNamed names.now page }
+    requires empty { out.old.items ≡ [] }
+    ensures items { out.new.items ≡ held_text names.now f (frame_view row) page }
+    ensures len { array_vec_len out.new ≤ 159 }
+{
+    push_word(out, b"FRAME ");
+    push_decimal(out, f);
+    push_word(out, b" ");
+    push_state(out, row.state);
+    push_word(out, b" ");
+    push_page(out, page, names);
+    push_word(out, b" MODIFY ");
+    push_mark(out, row.modify);
+    push_counted(out, b" REFS ", row.refs);
+    push_counted(out, b" SHARES ", row.shares);
+}
+
+fn push_bad(out: &mut ArrayVec<u8, 160>, f: u64)
+    requires { out.old.items ≡ [] }
+    ensures items { out.new.items ≡ codes "FRAME " ++ decimal f ++ codes " BAD" }
+    ensures len { array_vec_len out.new ≤ 159 }
+{
+    push_word(out, b"FRAME ");
+    push_decimal(out, f);
+    push_word(out, b" BAD");
+}
+
+fn print_page_file<K: Sink>(report: &Report, sink: &mut K) -> Result<(), WriteFault>
+    ensures { Writes (K.taken sink.old) (K.taken sink.new) (K.faults sink.old) (K.faults sink.new)
+        (K.stalls sink.old) (K.stalls sink.new) result
+        (ended (page_file_text (report_view report.now))) }
+{
+    let mut out = ArrayVec::new();
+    push_counted(&mut out, b"PAGEFILE ", report.size);
+    push_counted(&mut out, b" CHARGED ", report.charged);
+    push_counted(&mut out, b" ASSIGNED ", report.assigned);
+    write_line(out, sink)
+}
+
+fn print_processes<K: Sink>(processes: &[ProcessRow], sink: &mut K) -> Result<(), WriteFault>
+    requires { length processes.now ≤ 16 }
+    ensures { Writes (K.taken sink.old) (K.taken sink.new) (K.faults sink.old) (K.faults sink.new)
+        (K.stalls sink.old) (K.stalls sink.new) result
+        (process_lines 0 (map process_view processes.now)) }
+{
+    for (p, row) in processes.iter().enumerate() {
+        print_process(p as u32, *row, sink)?;
+    }
+    Ok(())
+}
+
+fn print_process<K: Sink>(p: u32, row: ProcessRow, sink: &mut K) -> Result<(), WriteFault>
+    requires { p < 16 }
+    ensures { Writes (K.taken sink.old) (K.taken sink.new) (K.faults sink.old) (K.faults sink.new)
+        (K.stalls sink.old) (K.stalls sink.new) result (ended (process_text p (process_view row))) }
+{
+    let mut out = ArrayVec::new();
+    push_word(&mut out, b"PROCESS ");
+    push_process(&mut out, p);
+    push_word(&mut out, b" ");
+    push_status(&mut out, row.status);
+    push_counted(&mut out, b" COUNT ", row.count);
+    push_counted(&mut out, b" LIMIT ", row.limit);
+    write_line(out, sink)
+}
+
+/// Writes the report's lines, each with the byte 10 that ends it in one write of a whole text.
+/// `names` are the sections. The report has the counts of eight states and at most 16 processes;
+/// a page that a frame holds is a process's (below 16) and below 2^23, or one of a section whose
+/// name has at most 15 bytes. Takes no memory.
+///
+/// # Errors
+/// `Failed` only where the sink's count of faults rose. `NoneTaken` exactly where its count of
+/// stalls rose. After either the sink has taken less than the lines, a prefix of them.
+pub fn print_report<K: Sink>(
+    report: &Report,
+    names: &[Section],
+    sink: &mut K,
+) -> Result<(), WriteFault>
+    requires { IsPrintable names.now report.now }
+    ensures bytes { TakesText (K.taken sink.old) (K.taken sink.new) result (report_text names.now (report_view report.now)) }
+    ensures told { is_some (K.taken sink.new) ≡ is_some (K.taken sink.old) }
+    ensures faults { FaultsBy (K.faults sink.old) (K.faults sink.new) result }
+    ensures faults_later { K.faults sink.old ≤ K.faults sink.new }
+    ensures stalls { K.stalls sink.new ≡ stalls_by (K.stalls sink.old) result }
+    ensures stalls_later { K.stalls sink.old ≤ K.stalls sink.new }
+{
+    print_at(report.at, sink)?;
+    print_states(report.states.items(), sink)?;
+    print_frames(report.frames.items(), names, sink)?;
+    print_page_file(report, sink)?;
+    print_processes(report.processes.items(), sink)
+}
+
+/// Writes the line of the status, with the byte 10 that ends it in one write of a whole text.
+/// Takes no memory.
+///
+/// # Errors
+/// `Failed` only where the sink's count of faults rose. `NoneTaken` exactly where its count of
+/// stalls rose. After either the sink has taken less than the line, a prefix of it.
+pub fn print_status<K: Sink>(n: u8, sink: &mut K) -> Result<(), WriteFault>
+    ensures bytes { TakesText (K.taken sink.old) (K.taken sink.new) result (status_line n) }
+    ensures told { is_some (K.taken sink.new) ≡ is_some (K.taken sink.old) }
+    ensures faults { FaultsBy (K.faults sink.old) (K.faults sink.new) result }
+    ensures faults_later { K.faults sink.old ≤ K.faults sink.new }
+    ensures stalls { K.stalls sink.new ≡ stalls_by (K.stalls sink.old) result }
+    ensures stalls_later { K.stalls sink.old ≤ K.stalls sink.new }
+{
+    let mut out = ArrayVec::new();
+    push_counted(&mut out, b"STATUS ", u32::from(n));
+    write_line(out, sink)
+}

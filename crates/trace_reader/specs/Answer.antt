@@ -1,0 +1,30 @@
+-- What an answer of the reader says. Source: this project's own.
+use Rattle.std.specs.Prelude.{◌≡◌, ℕ, true, List, [], ◌++◌, Option, Some, Result, Ok, Err}
+use Rattle.vm_types.specs.declared.config.Config.{Config}
+use Rattle.outside_io.specs.Causes.{Rose}
+use Rattle.trace_reader.specs.declared.fault.TraceFault.{TraceFault}
+use Rattle.trace_reader.specs.declared.fault.TraceFault.TheVariants.{NoMemory, ReadFault, Line, Unfinished}
+use Rattle.trace_reader.specs.Meaning.{Configuration, Faulty, trace_of, shows_no_fault}
+use Rattle.trace_reader.specs.Meaning as meaning
+
+-- the text begins with what was taken, and this is left
+pub record IsTaken (text taken : List ℕ) (left : Option (List ℕ)) : Type 0 where
+  pub rest : List ℕ
+  pub whole : text ≡ taken ++ rest
+  pub left_over : left ≡ Some rest
+
+-- what the answer says of the whole text, and of what is left of it
+abbrev pub Answers : Result Config TraceFault → List ℕ → Option (List ℕ) → Type 0
+Answers (Ok config) text left = (trace_of text ≡ Configuration config) × (left ≡ Some [])
+Answers (Err (Line n cause)) text left = trace_of text ≡ Faulty n cause
+Answers (Err Unfinished) text left = (trace_of text ≡ meaning.Unfinished) × (left ≡ Some [])
+Answers (Err ReadFault) text left = (taken : List ℕ) × IsTaken text taken left × (shows_no_fault taken ≡ true)
+Answers (Err NoMemory) text left = Unit {0}
+
+-- the count of faults rose at `ReadFault`, and is else unchanged
+abbrev pub FaultsBy : Result Config TraceFault → ℕ → ℕ → Type 0
+FaultsBy (Err ReadFault) before now = Rose before now
+FaultsBy (Err NoMemory) before now = now ≡ before
+FaultsBy (Err (Line n cause)) before now = now ≡ before
+FaultsBy (Err Unfinished) before now = now ≡ before
+FaultsBy (Ok config) before now = now ≡ before

@@ -1,0 +1,10 @@
+pub mod Defaults
+pub mod Accepted
+pub mod Number
+pub mod Lines
+pub mod Split
+pub mod Grammar
+pub mod Steps
+pub mod Meaning
+pub mod Answer
+pub mod Stream

@@ -1,0 +1,101 @@
+ghost use Rattle.std.specs.Prelude.{◌≡◌, ◌-◌, ◌<◌, ◌≤◌, [], ◌∷◌, ◌++◌, OnOk, OnErr};
+
+use crate::entry::Entry;
+use crate::kept::Kept;
+use std::alloc::Global;
+use std::marker::Model;
+use vm_types::NoMemory;
+
+/// The list of what was done, oldest first. Contracts see its entries, and how many more can be
+/// written without memory.
+#[derive(Debug, Drop)]
+pub struct Journal {
+    entries: Vec<Entry>,
+    spare: u32,
+}
+
+impl Model for Journal {
+    ghost use Rattle.std.specs.Prelude.{◌+◌, ◌≤◌, vec_len, vec_capacity};
+    ghost use Rattle.vm_journal.specs.Journal.{Written};
+
+    ghost Value = { Written };
+
+    ghost view = { λ j. record { entries = j.entries.items; spare = j.spare } };
+
+    ghost invariant = { λ j. vec_len j.entries + j.spare ≤ vec_capacity j.entries };
+}
+
+impl Journal {
+    /// No entries, and nothing spare. Takes no memory.
+    pub fn new(alloc: Global) -> Journal
+        ensures { result ≡ record { entries = []; spare = 0 } }
+    {
+        Journal {
+            entries: Vec::new(alloc),
+            spare: 0,
+        }
+    }
+
+    /// Makes room for at least `k` more entries. Takes no memory where there is as much already;
+    /// where it takes some, the journal's memory at least doubles, so that an entry costs no more in
+    /// a long journal than in a short one.
+    ///
+    /// # Errors
+    /// `NoMemory` for want of memory, only where `spare` was below `k`; the journal is then as
+    /// before.
+    pub fn reserve(&mut self, k: u32) -> Result<(), NoMemory>
+        ensures room { OnOk result (k ≤ self.new.spare) }
+        ensures no_memory { OnErr result (self.old.spare < k) }
+        ensures err { OnErr result (self.new ≡ self.old) }
+        ensures entries { self.new.entries ≡ self.old.entries }
+        ensures no_less { self.old.spare ≤ self.new.spare }
+    {
+        if self.spare < k {
+            self.entries.try_reserve(k as usize)?;
+            self.spare = k;
+        }
+        Ok(())
+    }
+
+    /// Writes an entry. Takes no memory.
+    pub fn push(&mut self, e: Entry)
+        requires { 0 < self.old.spare }
+        ensures { self.new ≡ record { entries = self.old.entries ++ e ∷ []; spare = self.old.spare - 1 } }
+    {
+        self.entries.push_reserved(e);
+        self.spare -= 1;
+    }
+
+    /// The entries, oldest first. Takes no memory.
+    pub fn entries(&self) -> &[Entry]
+        ensures { result.now ≡ self.now.entries }
+    {
+        self.entries.as_slice()
+    }
+
+    /// How many more entries can be written without memory.
+    pub fn spare(&self) -> u32
+        ensures { result ≡ self.now.spare }
+    {
+        self.spare
+    }
+
+    /// Gives the entries, oldest first. Takes no memory.
+    pub fn into_entries(self) -> Vec<Entry>
+        ensures { result.items ≡ self.entries }
+    {
+        self.entries
+    }
+}
+
+impl Kept for Journal {
+    type Base = ();
+
+    ghost journal = { λ j. j.entries };
+
+    ghost base = { λ _. tt };
+
+    fn entries(&self) -> &[Entry] {
+        self.entries.as_slice()
+    }
+}
