@@ -139,6 +139,8 @@ module _ (config : Config) (past : List Entry) (a : Pager) (frame : ℕ → Fram
     once = sound.charges.once;
     touched_once = kept.once;
     blocks = sound.charges.blocks;
+    one_each = sound.charges.one_each;
+    shared = sound.charges.shared;
     belong = sound.charges.belong;
     lies = sound.charges.lies;
   }

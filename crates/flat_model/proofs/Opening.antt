@@ -199,6 +199,8 @@ opening_charges config =
       once = tt;
       touched_once = tt;
       blocks = tt;
+      one_each = tt;
+      shared = λ s i. refl;
       belong = tt;
       lies = λ page b e. absurd (first_in_file page b e);
     }

@@ -16,9 +16,10 @@ use Rattle.flat_model.specs.Flat.{flat_refusal, flat_reply}
 use Rattle.flat_model.specs.Maps.{page_number}
 use Rattle.flat_model.specs.Order.{answered, requests_of, spoken_by, IsInOrder, IsAnswered}
 use Rattle.flat_model.specs.Pager.{Pager, Valid, entry_of}
-use Rattle.flat_model.specs.Policy.{spoken, next_task, next_entry, next_of, next_request, next_for, fault_or_done, zero_with, by_seat, page_start, IsSerial}
+use Rattle.flat_model.specs.Policy.{spoken, next_task, next_entry, next_of, next_request, next_for, unless_pending, fault_or_done, zero_with, by_seat, page_start, IsSerial}
 use Rattle.flat_model.specs.Run.{pager_after}
 use Rattle.flat_model.specs.Spoken.{flat_after, request_of}
+use Rattle.flat_model.specs.Step.{is_pending}
 use Rattle.flat_model.proofs.Basics.{count_cons_yes, count_cons_no}
 
 -- an entry answers nothing, or this request
@@ -38,9 +39,14 @@ speaks_reference : (config : Config) (past : List Entry) (a : Pager) (p : ℕ) (
 speaks_reference config past a p r w None e = speaks_entry config past a p r w (entry_of a p (page_number (r.addr).0)) e
 speaks_reference config past a p r w (Some reason) e = let same : w ≡ what.Denied r reason = cc in inr (ap request_of same)
 
+speaks_unless : (request : Request) (w : What) (pending : Bool) (given : Option What) → (given ≡ Some w → Speaks request w) → unless_pending pending given ≡ Some w → Speaks request w
+speaks_unless request w true given speaks e = absurd (cc)
+speaks_unless request w false given speaks e = speaks e
+
 -- what the policy gives for a request answers it, or nothing
 pub speaks_request : (config : Config) (past : List Entry) (a : Pager) (p : ℕ) (request : Request) (w : What) → next_request config past a p request ≡ Some w → Speaks request w
-speaks_request config past a p (request.Reference r) w e = speaks_reference config past a p r w (flat_refusal config (flat_after config past) p r) e
+speaks_request config past a p (request.Reference r) w e =
+    speaks_unless (request.Reference r) w (is_pending config (a.process p)) _ (speaks_reference config past a p r w (flat_refusal config (flat_after config past) p r)) e
 speaks_request config past a p (request.Service s) w e = absurd (cc)
 
 -- the policy's entry is of the seat of the task that comes next, and answers its request, or nothing

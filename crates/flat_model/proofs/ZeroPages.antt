@@ -38,6 +38,8 @@ module _ (config : Config) (a : Pager) (p v f : ℕ) (process : Process) where
         once = IsDistinct-cons same_page (Private (proc p) v) a.charged (each_fails (same_page (Private (proc p) v)) a.charged absent.uncharged) charges.once;
         touched_once = charges.touched_once;
         blocks = charges.blocks;
+        one_each = charges.one_each;
+        shared = charges.shared;
         belong = each_weaker (λ (x : Assigned). has_page a.charged x.page ≡ true) (λ (x : Assigned). has_page (Private (proc p) v ∷ a.charged) x.page ≡ true)
             (λ x is. has_page_more (Private (proc p) v) a.charged x.page is) a.assigned charges.belong;
         lies = charges.lies;

@@ -1,6 +1,6 @@
 -- The serial policy: which entry comes next. This project's own. The kinds ZERO, DONE and DENIED
 -- stand: requests are taken in the order of the body, and each is answered before the next.
-use Rattle.std.specs.Prelude.{◌≡◌, ℕ, ◌*◌, List, [], ◌∷◌, Option, Some, None, count_by, slice_get, is_some}
+use Rattle.std.specs.Prelude.{◌≡◌, ℕ, ◌*◌, Bool, true, false, List, [], ◌∷◌, Option, Some, None, count_by, slice_get, is_some}
 use Rattle.vm_types.specs.declared.names.Addr.{Addr}
 use Rattle.vm_types.specs.declared.config.Config.{Config}
 use Rattle.vm_types.specs.declared.config.Task.{Task}
@@ -16,6 +16,7 @@ use Rattle.flat_model.specs.Maps.{page_number}
 use Rattle.flat_model.specs.Pager.{Pager, Valid, entry_of}
 use Rattle.flat_model.specs.Run.{pager_after}
 use Rattle.flat_model.specs.Spoken.{flat_after, request_of}
+use Rattle.flat_model.specs.Step.{is_pending}
 
 -- how many requests a past has answered
 abbrev pub spoken : List Entry → ℕ
@@ -47,8 +48,14 @@ abbrev pub next_for : Config → List Entry → Pager → ℕ → Ref → Option
 next_for config past a p r (Some reason) = Some (what.Denied r reason)
 next_for config past a p r None = fault_or_done config past a p r (entry_of a p (page_number (r.addr).0))
 
+-- where an adjustment is pending, its entry comes first; that kind has no row yet, so none is given
+abbrev pub unless_pending : Bool → Option What → Option What
+unless_pending true given = None
+unless_pending false given = given
+
 abbrev pub next_request : Config → List Entry → Pager → ℕ → Request → Option What
-next_request config past a p (request.Reference r) = next_for config past a p r (flat_refusal config (flat_after config past) p r)
+next_request config past a p (request.Reference r) =
+    unless_pending (is_pending config (a.process p)) (next_for config past a p r (flat_refusal config (flat_after config past) p r))
 next_request config past a p (request.Service s) = None
 
 abbrev pub next_of : Config → List Entry → Pager → Option Task → Option Entry

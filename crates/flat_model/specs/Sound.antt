@@ -6,6 +6,7 @@ use Rattle.std.specs.List.{IsDistinct, AllByRecursion}
 use Rattle.vm_types.specs.Same.{same_page, same_block, same_state}
 use Rattle.vm_types.specs.Ring.{Held, filled, locked}
 use Rattle.vm_types.specs.declared.names.Page.{Page}
+use Rattle.vm_types.specs.declared.names.SecId.{SecId}
 use Rattle.vm_types.specs.declared.names.Page.TheVariants.{Private, Shared}
 use Rattle.vm_types.specs.declared.names.BlockId.{BlockId}
 use Rattle.vm_types.specs.declared.names.BlockId.TheVariants as block
@@ -86,14 +87,17 @@ pub record HasFlights (past : List Entry) : Type 0 where
   pub blocks : IsDistinct same_block (map (λ (x : Flight). x.block) (open_flights past))
 
 -- touched pages are charged, the charged fit the page file; assigned blocks differ and belong to
--- charged pages, and a page that lies in a page file block has that block assigned
+-- charged pages, one at most to each; a shared page lies in its section's block, and a page that
+-- lies in a page file block has that block assigned
 pub record HasCharges (config : Config) (a : Pager) : Type 0 where
   pub touched : (page : Page) → has_page a.touched page ≡ true → has_page a.charged page ≡ true
   pub fit : length a.charged ≤ config.pagefile
   pub once : IsDistinct same_page a.charged
   pub touched_once : IsDistinct same_page a.touched
   pub blocks : IsDistinct nat_eq (map (λ (x : Assigned). x.block) a.assigned)
+  pub one_each : IsDistinct same_page (map (λ (x : Assigned). x.page) a.assigned)
   pub belong : AllByRecursion (λ (x : Assigned). has_page a.charged x.page ≡ true) a.assigned
+  pub shared : (s : SecId) (i : ℕ) → a.lies (Shared s i) ≡ Some (block.Section s i)
   pub lies : (page : Page) (b : ℕ) → a.lies page ≡ Some (block.PageFile b) → (x : Assigned) × (assigned_of a page ≡ Some x) × (x.block ≡ b)
 
 abbrev pub IsInSlot : Pager → ℕ → ℕ → Option Held → Page → Type 0

@@ -11,14 +11,13 @@ use Rattle.vm_types.specs.declared.names.ProcStatus.TheVariants as status
 use Rattle.vm_types.specs.declared.config.Config.{Config}
 use Rattle.vm_types.specs.declared.config.Origin.TheVariants as origin
 use Rattle.vm_types.specs.declared.reference.Op.{Op}
-use Rattle.vm_types.specs.declared.reference.Op.TheVariants.{Read, Write, Add}
 use Rattle.vm_types.specs.declared.reference.Ref.{Ref}
 use Rattle.vm_types.specs.declared.reply.Reply.{Reply}
-use Rattle.vm_types.specs.declared.reply.Reply.TheVariants as reply
 use Rattle.vm_types.specs.declared.reply.Why.{Why}
 use Rattle.vm_types.specs.declared.reply.Why.TheVariants as why
 use Rattle.vm_types.specs.declared.ring_choice.Choice.{Choice}
 use Rattle.vm_types.specs.declared.ring_choice.Choice.TheVariants.{Empty}
+use Rattle.vm_journal.specs.HasLine.{Answers}
 use Rattle.vm_journal.specs.declared.entry.Entry.{Entry}
 use Rattle.vm_journal.specs.declared.entry.What.{What}
 use Rattle.vm_journal.specs.declared.entry.What.TheVariants as what
@@ -42,13 +41,6 @@ page_at config a p v (Some m) = Some (page_behind config p v m.origin)
 abbrev pub page_of : Config → Pager → ℕ → ℕ → Option Page
 page_of config a p v = page_at config a p v (a.map p v)
 
--- a read shows a value that fits, a write that it was written, an add the old longword
-abbrev pub Answers : Op → Reply → Type 0
-Answers (Read width) (reply.Value n) = Unit {0}
-Answers (Write width x) reply.Written = Unit {0}
-Answers (Add x) (reply.Old n) = Unit {0}
-Answers op other = ⊥
-
 -- the mapping is there and gives the right
 abbrev pub Allows : Option Mapped → Ref → Type 0
 Allows None r = ⊥
@@ -61,8 +53,8 @@ pub record IsOwn (config : Config) (past : List Entry) (a : Pager) (p : ℕ) : T
   pub not_busy : is_busy p (open_flights past) ≡ false
   pub no_reuse_due : awaits_reuse past ≡ false
 
--- DONE: no adjustment is pending, the page is mapped, the right is there and the entry is valid.
--- The value shown is left to right values.
+-- DONE: no adjustment is pending, the page is mapped, the right is there, the entry is valid and the
+-- reply is of the operation's kind and fits it. Which value it is, is left to right values.
 pub record IsDone (config : Config) (past : List Entry) (a : Pager) (p : ℕ) (r : Ref) (answer : Reply) : Type 0 where
   pub own : IsOwn config past a p
   pub well_formed : IsWellFormedReference r

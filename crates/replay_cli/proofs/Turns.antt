@@ -10,8 +10,6 @@ use Rattle.std.proofs.lemmas.Nat.{div-add-mod'}
 use Rattle.std.proofs.Math.Nat.{mul-div_cancel_left, mul-mod_right}
 use Rattle.vm_types.specs.Access.{is_allowed}
 use Rattle.vm_types.specs.declared.reference.Mode.TheVariants.{U}
-use Rattle.vm_types.specs.declared.reference.Op.{Op}
-use Rattle.vm_types.specs.declared.reference.Op.TheVariants.{Read, Write, Add}
 use Rattle.vm_types.specs.WellFormed.{IsWellFormedReference}
 use Rattle.vm_types.specs.Configuration.{IsTask}
 use Rattle.vm_types.specs.declared.config.Config.{Config}
@@ -21,8 +19,8 @@ use Rattle.vm_types.specs.declared.reply.Why.{Why}
 use Rattle.vm_journal.specs.declared.entry.Entry.{Entry}
 use Rattle.vm_journal.specs.declared.entry.What.{What}
 use Rattle.vm_journal.specs.declared.entry.What.TheVariants as what
-use Rattle.vm_journal.specs.HasLine.{WhatHasLine, Answers as Fits}
-use Rattle.flat_model.specs.Flat.{flat_refusal, flat_reply, reply_from, is_change}
+use Rattle.vm_journal.specs.HasLine.{WhatHasLine, Answers}
+use Rattle.flat_model.specs.Flat.{flat_refusal, flat_reply, is_change}
 use Rattle.flat_model.specs.Flights.{is_busy}
 use Rattle.flat_model.specs.Maps.{page_number}
 use Rattle.flat_model.specs.Pager.{Process, Frame, Valid, entry_of, is_entry, is_bad, first_frame}
@@ -30,7 +28,7 @@ use Rattle.flat_model.specs.Policy.{by_seat, next_task, next_entry, spoken, next
 use Rattle.flat_model.specs.Run.{pager_after}
 use Rattle.flat_model.specs.Spoken.{flat_after, ShowsReply}
 use Rattle.flat_model.specs.Sets.{has_page}
-use Rattle.flat_model.specs.Step.{IsLegal, IsOwn, IsFlatWhy, is_pending, Answers}
+use Rattle.flat_model.specs.Step.{IsLegal, IsOwn, IsFlatWhy, is_pending}
 use Rattle.trace_reader.specs.Accepted.{IsAccepted, IsAcceptedTask}
 use Rattle.replay_cli.specs.Mirror.{Mirrors, own_page, frame_in, frame_with}
 use Rattle.replay_cli.specs.Stands.{IsRightSoFar, task_of, writable_zero}
@@ -69,11 +67,6 @@ start_below a h = omega (arith, div-add-mod' a 512)
 
 start_aligned : (a : ℕ) → (512 * page_number a) % 512 ≡ 0
 start_aligned a = mul-mod_right 512 (a / 512)
-
-answers_from : (op : Op) (bytes : List ℕ) (offset : ℕ) → Answers op (reply_from op bytes offset)
-answers_from (Read width) bytes offset = tt
-answers_from (Write width x) bytes offset = tt
-answers_from (Add x) bytes offset = tt
 
 pub user_writes : (change : Bool) → is_allowed 4 U change ≡ true
 user_writes true = refl
@@ -114,9 +107,9 @@ module _ (config : Config) (past : List Entry) (accepted : IsAccepted config) (t
       goes_on (what.Denied r reason) well_formed
       (record { own = own; well_formed = well_formed; flat_why = flat; not_pending = not_pending; refused = refused })
       tt
-      (policy_is config past (Some (task_of r)) next ∙ rw refused refl)
+      (policy_is config past (Some (task_of r)) next ∙ rw (not_pending, refused) refl)
 
-  pub done_goes_on : (e : Valid) → Fits r.op (flat_reply config (flat_after config past) 0 r) → flat_refusal config (flat_after config past) 0 r ≡ None → (pager_after config past).map 0 (page_number (r.addr).0) ≡ Some writable_zero
+  pub done_goes_on : (e : Valid) → Answers r.op (flat_reply config (flat_after config past) 0 r) → flat_refusal config (flat_after config past) 0 r ≡ None → (pager_after config past).map 0 (page_number (r.addr).0) ≡ Some writable_zero
       → entry_of (pager_after config past) 0 (page_number (r.addr).0) ≡ Some e
       → IsRightSoFar config (by_seat 0 (what.Done r (flat_reply config (flat_after config past) 0 r)) ∷ past)
   done_goes_on e fits none mapped valid =
@@ -127,11 +120,11 @@ module _ (config : Config) (past : List Entry) (accepted : IsAccepted config) (t
         not_pending = not_pending;
         allowed = rw (mapped, user) (user_writes (is_change r.op));
         valid = (e, valid);
-        answers = rw none (answers_from r.op _ _);
+        answers = fits;
       })
       refl
       (policy_is config past (Some (task_of r)) next
-      ∙ seated_is config past (task_of r) _ (ap (next_for config past (pager_after config past) 0 r) none ∙ ap (fault_or_done config past (pager_after config past) 0 r) valid))
+      ∙ seated_is config past (task_of r) _ (rw not_pending (ap (next_for config past (pager_after config past) 0 r) none ∙ ap (fault_or_done config past (pager_after config past) 0 r) valid)))
 
   pub zero_goes_on : flat_refusal config (flat_after config past) 0 r ≡ None → (pager_after config past).map 0 (page_number (r.addr).0) ≡ Some writable_zero
       → frame_in vs (page_number (r.addr).0) ≡ None → length vs < config.pagefile → length vs < accepted.spec.limit → length vs < config.frames
@@ -151,4 +144,4 @@ module _ (config : Config) (past : List Entry) (accepted : IsAccepted config) (t
         frame = record { rest = _; heads = free; empty = ap (λ (f : Frame). f.page) (m.frame (length vs)) ∙ fresh_frame config vs (length vs) (omega arith) };
       })
       tt
-      (policy_is config past (Some (task_of r)) next ∙ rw (none, invalid, free) refl)
+      (policy_is config past (Some (task_of r)) next ∙ rw (not_pending, none, invalid, free) refl)
