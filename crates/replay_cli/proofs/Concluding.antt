@@ -45,12 +45,12 @@ finished config run order ended sound h =
 
 -- no text goes with status 4
 pub not_four : {words : List (List ℕ)} {before after : Option (List ℕ)} {faults faults' : ℕ} (status : ℕ) (text : List ℕ) → Tells words before after faults faults' status text → status ≢ 4
-not_four status text (answered config entries at cmd reads run) e = absurd (omega arith)
-not_four status text (usage other) e = absurd (omega arith)
-not_four status text (faulty n cause cmd fault) e = absurd (omega arith)
-not_four status text (unfinished cmd short) e = absurd (omega arith)
+not_four status text (answered config entries at cmd quiet_source reads run) e = absurd (omega arith)
+not_four status text (usage other quiet_source unread_source) e = absurd (omega arith)
+not_four status text (faulty n cause cmd quiet_source fault) e = absurd (omega arith)
+not_four status text (unfinished cmd quiet_source short) e = absurd (omega arith)
 not_four status text (unread cmd rose faultless) e = absurd (omega arith)
-not_four status text (no_memory cmd) e = absurd (omega arith)
+not_four status text (no_memory cmd quiet_source) e = absurd (omega arith)
 
 module _ (words : List (List ℕ)) (before after : Option (List ℕ)) (faults faults' : ℕ) (taken taken' : Option (List ℕ)) (f f' s s' result : ℕ)
     (c : Concludes words before after faults faults' taken taken' f f' s s' result) where
@@ -75,6 +75,13 @@ module _ (words : List (List ℕ)) (before after : Option (List ℕ)) (faults fa
         | inr cut ↦ cut.2
       ]
 
+  pub no_failed_write : result ≢ 4 → (f' ≡ f) × (s' ≡ s)
+  no_failed_write no_four =
+      elim c.ends.how [
+        | inl whole ↦ (whole.2, whole.3)
+        | inr cut ↦ absurd (no_four cut.0)
+      ]
+
   either : (n : ℕ) → c.status ≡ n → (result ≡ n) ⊎ (result ≡ 4)
   either n is =
       elim c.ends.how [
@@ -84,20 +91,20 @@ module _ (words : List (List ℕ)) (before after : Option (List ℕ)) (faults fa
 
 -- what the status is, by what it tells
 told_usage : {words : List (List ℕ)} {before after : Option (List ℕ)} {faults faults' : ℕ} (status : ℕ) (text : List ℕ) → Tells words before after faults faults' status text → (IsCommand words → ⊥) → status ≡ 1
-told_usage status text (answered config entries at cmd reads run) bad = absurd (bad cmd)
-told_usage status text (usage other) bad = refl
-told_usage status text (faulty n cause cmd fault) bad = absurd (bad cmd)
-told_usage status text (unfinished cmd short) bad = absurd (bad cmd)
+told_usage status text (answered config entries at cmd quiet_source reads run) bad = absurd (bad cmd)
+told_usage status text (usage other quiet_source unread_source) bad = refl
+told_usage status text (faulty n cause cmd quiet_source fault) bad = absurd (bad cmd)
+told_usage status text (unfinished cmd quiet_source short) bad = absurd (bad cmd)
 told_usage status text (unread cmd rose faultless) bad = absurd (bad cmd)
-told_usage status text (no_memory cmd) bad = absurd (bad cmd)
+told_usage status text (no_memory cmd quiet_source) bad = absurd (bad cmd)
 
 told_read : {words : List (List ℕ)} {before after : Option (List ℕ)} {faults faults' : ℕ} (status : ℕ) (text : List ℕ) → Tells words before after faults faults' status text → status ≡ 3 → Rose faults faults'
-told_read status text (answered config entries at cmd reads run) e = absurd (omega arith)
-told_read status text (usage other) e = absurd (omega arith)
-told_read status text (faulty n cause cmd fault) e = absurd (omega arith)
-told_read status text (unfinished cmd short) e = absurd (omega arith)
+told_read status text (answered config entries at cmd quiet_source reads run) e = absurd (omega arith)
+told_read status text (usage other quiet_source unread_source) e = absurd (omega arith)
+told_read status text (faulty n cause cmd quiet_source fault) e = absurd (omega arith)
+told_read status text (unfinished cmd quiet_source short) e = absurd (omega arith)
 told_read status text (unread cmd rose faultless) e = rose
-told_read status text (no_memory cmd) e = absurd (omega arith)
+told_read status text (no_memory cmd quiet_source) e = absurd (omega arith)
 
 one_meaning : (n : ℕ) (cause : Cause) (config : Config) (trace : Trace) → trace ≡ Configuration config → trace ≡ Faulty n cause → ⊥
 one_meaning n cause config trace a b = cc
@@ -107,14 +114,14 @@ not_short config trace a b = cc
 
 told_complete : {words : List (List ℕ)} {before after : Option (List ℕ)} {faults faults' : ℕ} (status : ℕ) (text : List ℕ) → Tells words before after faults faults' status text
     → IsCommand words → IsTrace before → (Rose faults faults' → ⊥) → (status ≡ 0) ⊎ (status ≡ 7)
-told_complete status text (answered config entries at cmd reads run) ok trace quiet = inl refl
-told_complete status text (usage other) ok trace quiet = absurd (other ok)
-told_complete {before = before} status text (faulty n cause cmd fault) ok trace quiet =
+told_complete status text (answered config entries at cmd quiet_source reads run) ok trace quiet = inl refl
+told_complete status text (usage other quiet_source unread_source) ok trace quiet = absurd (other ok)
+told_complete {before = before} status text (faulty n cause cmd quiet_source fault) ok trace quiet =
     absurd (one_meaning n cause trace.1.0 _ trace.1.2 (subst (λ b. HasFault b n cause) trace.1.1 fault))
-told_complete {after = after} status text (unfinished cmd short) ok trace quiet =
+told_complete {after = after} status text (unfinished cmd quiet_source short) ok trace quiet =
     absurd (not_short trace.1.0 _ trace.1.2 (subst (λ b. IsUnfinished b after) trace.1.1 short).0)
 told_complete status text (unread cmd rose faultless) ok trace quiet = absurd (quiet rose)
-told_complete status text (no_memory cmd) ok trace quiet = inr refl
+told_complete status text (no_memory cmd quiet_source) ok trace quiet = inr refl
 
 module _ (words : List (List ℕ)) (before after : Option (List ℕ)) (faults faults' : ℕ) (taken taken' : Option (List ℕ)) (f f' s s' result : ℕ)
     (c : Concludes words before after faults faults' taken taken' f f' s s' result) where
@@ -138,7 +145,7 @@ module _ (words : List (List ℕ)) (before after : Option (List ℕ)) (faults fa
 -- what the answer of the reader tells
 pub fault_tells : (words : List (List ℕ)) (before after : Option (List ℕ)) (faults faults' : ℕ) (f : TraceFault) → IsCommand words
     → IfSome before (λ text. Answers (Err f) text after) → FaultsBy (Err f) faults faults' → Tells words before after faults faults' (fault_status f) (fault_told f)
-fault_tells words before after faults faults' (fault.Line n cause) cmd means counts = faulty n cause cmd means
-fault_tells words before after faults faults' fault.Unfinished cmd means counts = unfinished cmd means
+fault_tells words before after faults faults' (fault.Line n cause) cmd means counts = faulty n cause cmd counts means
+fault_tells words before after faults faults' fault.Unfinished cmd means counts = unfinished cmd counts means
 fault_tells words before after faults faults' fault.ReadFault cmd means counts = unread cmd counts means
-fault_tells words before after faults faults' fault.NoMemory cmd means counts = no_memory cmd
+fault_tells words before after faults faults' fault.NoMemory cmd means counts = no_memory cmd counts

@@ -59,19 +59,20 @@ abbrev pub IsFaultless : Option (List ℕ) → Option (List ℕ) → Type 0
 IsFaultless before after = IfSome before (λ text. (taken : List ℕ) × IsTaken text taken after × (shows_no_fault taken ≡ true))
 
 -- the text that goes with a status, each with its cause; by the words, by the bytes left in the
--- source before and after, and by its count of faults before and after
+-- source before and after, and by its count of faults before and after, which rises at status 3 alone
 pub data Tells (words : List (List ℕ)) (before after : Option (List ℕ)) (faults faults' : ℕ) : ℕ → List ℕ → Type 0 where
   -- the text of the one run of the configuration that was read
-  answered : (config : Config) (entries : List Entry) (at : ℕ) → IsCommand words → Reads before after config → IsSerialRun config entries at
+  answered : (config : Config) (entries : List Entry) (at : ℕ) → IsCommand words → faults' ≡ faults → Reads before after config → IsSerialRun config entries at
       → Tells words before after faults faults' 0 (run_text config entries at 0)
-  usage : (IsCommand words → ⊥) → Tells words before after faults faults' 1 (status_line 1)
-  faulty : (n : ℕ) (cause : Cause) → IsCommand words → HasFault before n cause
+  -- any other command line: nothing is read
+  usage : (IsCommand words → ⊥) → faults' ≡ faults → after ≡ before → Tells words before after faults faults' 1 (status_line 1)
+  faulty : (n : ℕ) (cause : Cause) → IsCommand words → faults' ≡ faults → HasFault before n cause
       → Tells words before after faults faults' 2 (fault_text n cause ++ status_line 2)
-  unfinished : IsCommand words → IsUnfinished before after
+  unfinished : IsCommand words → faults' ≡ faults → IsUnfinished before after
       → Tells words before after faults faults' 2 (unfinished_text ++ status_line 2)
   unread : IsCommand words → Rose faults faults' → IsFaultless before after
       → Tells words before after faults faults' 3 (status_line 3)
-  no_memory : IsCommand words → Tells words before after faults faults' 7 (status_line 7)
+  no_memory : IsCommand words → faults' ≡ faults → Tells words before after faults faults' 7 (status_line 7)
 
 -- with every status but 4 the sink has taken the text that goes with it
 abbrev pub HasTold : List (List ℕ) → Option (List ℕ) → Option (List ℕ) → ℕ → ℕ → Option (List ℕ) → Option (List ℕ) → ℕ → Type 0

@@ -199,6 +199,7 @@ pub fn run_one<S: Source, K: Sink>(
     // Status 3 comes only where a read failed, and 4 only where a write failed or took nothing.
     ensures read_fault { result.0 ≡ 3 → Rose (S.faults source.old) (S.faults source.new) }
     ensures write_fault { result.0 ≡ 4 → Rose (K.faults sink.old) (K.faults sink.new) ⊎ Rose (K.stalls sink.old) (K.stalls sink.new) }
+    ensures unfailed { result.0 ≢ 4 → (K.faults sink.new ≡ K.faults sink.old) × (K.stalls sink.new ≡ K.stalls sink.old) }
     // Where the input is a trace and no count rises, the status is 0, or memory ran out.
     ensures complete { IsCommand (map (λ word. word.now) words.now) → IsTrace (S.left source.old)
         → (Rose (S.faults source.old) (S.faults source.new) → ⊥) → (Rose (K.faults sink.old) (K.faults sink.new) → ⊥)

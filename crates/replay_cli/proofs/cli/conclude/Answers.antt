@@ -1,4 +1,4 @@
-use Rattle.std.proofs.Common.{◌≡◌, Bool, true, false, inl, inr}
+use Rattle.std.proofs.Common.{◌≡◌, Bool, true, false, inl, inr, refl}
 use Rattle.flat_model.specs.Text.{run_text, status_line}
 use Rattle.replay_cli.specs.Outcome.{fault_status, fault_told, answered, usage, no_memory}
 use Rattle.replay_cli.proofs.Concluding.{fault_tells}
@@ -9,7 +9,7 @@ differ e f = cc
 
 pub returns-then-not-is_command-clause-outcome : goal.returns-then-not-is_command-clause-outcome
 returns-then-not-is_command-clause-outcome g c =
-    record { status = 1; text = status_line 1; tells = usage (λ ok. differ c.if-not-is_command.true (c.is_command.ensures.1 ok)); ends = c.end.ensures }
+    record { status = 1; text = status_line 1; tells = usage (λ ok. differ c.if-not-is_command.true (c.is_command.ensures.1 ok)) refl refl; ends = c.end.ensures }
 
 pub returns-in-Ok-clause-outcome : goal.returns-in-Ok-clause-outcome
 returns-in-Ok-clause-outcome g c =
@@ -17,10 +17,10 @@ returns-in-Ok-clause-outcome g c =
       | inl run ↦ record {
         status = 0;
         text = run_text c.in-Ok.config run.0 run.1.0 0;
-        tells = answered c.in-Ok.config run.0 run.1.0 (c.is_command.ensures.0 c.if-not-is_command.false) c.in-Ok.ensures.text run.1.1;
+        tells = answered c.in-Ok.config run.0 run.1.0 (c.is_command.ensures.0 c.if-not-is_command.false) c.in-Ok.ensures.faults c.in-Ok.ensures.text run.1.1;
         ends = run.1.2;
       }
-      | inr none ↦ record { status = 7; text = status_line 7; tells = no_memory (c.is_command.ensures.0 c.if-not-is_command.false); ends = none }
+      | inr none ↦ record { status = 7; text = status_line 7; tells = no_memory (c.is_command.ensures.0 c.if-not-is_command.false) c.in-Ok.ensures.faults; ends = none }
     ]
 
 pub returns-in-Err-clause-outcome : goal.returns-in-Err-clause-outcome

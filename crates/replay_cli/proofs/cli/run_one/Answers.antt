@@ -1,4 +1,4 @@
-use Rattle.replay_cli.proofs.Concluding.{has_told, was_cut, faulty_write, usage_status, read_status, complete_status}
+use Rattle.replay_cli.proofs.Concluding.{has_told, was_cut, faulty_write, no_failed_write, usage_status, read_status, complete_status}
 use Rattle.replay_cli.proofs.cli.run_one.Goals as goal
 
 pub returns-clause-told : goal.returns-clause-told
@@ -18,3 +18,6 @@ returns-clause-read_fault g c = read_status _ _ _ _ _ _ _ _ _ _ _ _ c.conclude.e
 
 pub returns-clause-complete : goal.returns-clause-complete
 returns-clause-complete g c = complete_status _ _ _ _ _ _ _ _ _ _ _ _ c.conclude.ensures.outcome
+
+pub returns-clause-unfailed : goal.returns-clause-unfailed
+returns-clause-unfailed g c = no_failed_write _ _ _ _ _ _ _ _ _ _ _ _ c.conclude.ensures.outcome
