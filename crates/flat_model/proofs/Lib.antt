@@ -13,5 +13,6 @@ pub mod Quiet
 pub mod Denied
 pub mod Done
 pub mod Serial
+pub mod SerialOne
 pub mod Follow
 pub mod Steps

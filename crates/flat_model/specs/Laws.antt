@@ -5,7 +5,7 @@ use Rattle.vm_types.specs.Configuration.{IsWellFormed}
 use Rattle.vm_journal.specs.declared.entry.Entry.{Entry}
 use Rattle.flat_model.specs.Order.{IsInOrder, IsAnswered}
 use Rattle.flat_model.specs.Pager.{Pager, opening}
-use Rattle.flat_model.specs.Policy.{IsSerial, next_task}
+use Rattle.flat_model.specs.Policy.{IsSerial, next_entry, next_task}
 use Rattle.flat_model.specs.Run.{IsRun, pager_after}
 use Rattle.flat_model.specs.Sound.{IsSound}
 use Rattle.flat_model.specs.Spoken.{flat_after}
@@ -37,6 +37,12 @@ SerialIsInOrder = (config : Config) (past : List Entry) → IsSerial config past
 -- and all of them, where no request is left
 abbrev pub SerialEndsAnswered : Type 0
 SerialEndsAnswered = (config : Config) (past : List Entry) → IsSerial config past → next_task config past ≡ None → IsAnswered config past
+
+-- a configuration has one finished serial journal at most
+abbrev pub SerialIsOne : Type 0
+SerialIsOne =
+    (config : Config) (past other : List Entry) → IsSerial config past → IsSerial config other
+    → next_entry config past ≡ None → next_entry config other ≡ None → past ≡ other
 
 -- along a run the pager's maps and touched pages are those of the flat machine
 abbrev pub MapsFollow : Type 0

@@ -1,4 +1,4 @@
-ghost use Rattle.flat_model.specs.Laws.{OpeningIsSound, StepsKeepSoundness, RunsAreSound, SerialIsInOrder, SerialEndsAnswered, MapsFollow, TouchedFollows};
+ghost use Rattle.flat_model.specs.Laws.{OpeningIsSound, StepsKeepSoundness, RunsAreSound, SerialIsInOrder, SerialEndsAnswered, SerialIsOne, MapsFollow, TouchedFollows};
 
 /// The opening state of a well-formed configuration is sound.
 pub fn opening_is_sound()
@@ -16,10 +16,11 @@ pub fn runs_are_sound()
 {}
 
 /// What the serial policy gives has each process's requests once and in order; where no request is
-/// left, all of them.
+/// left, all of them. A configuration has one finished serial journal at most.
 pub fn serial_is_in_order()
     ensures order { SerialIsInOrder }
     ensures answered { SerialEndsAnswered }
+    ensures one { SerialIsOne }
 {}
 
 /// Along a run the pager has the flat machine's maps; where it is sound throughout, its touched
