@@ -16,3 +16,7 @@ pub mod Serial
 pub mod SerialOne
 pub mod Follow
 pub mod Steps
+pub mod Found
+pub mod Entries
+pub mod Told
+pub mod TestConfig

@@ -13,3 +13,5 @@ pub mod Order
 pub mod Policy
 pub mod Laws
 pub mod Text
+pub mod Usable
+pub mod FlatMachine

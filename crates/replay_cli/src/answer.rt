@@ -10,8 +10,7 @@ ghost use Rattle.replay_cli.specs.Mirror.{frame_in, own_page};
 ghost use Rattle.replay_cli.specs.Stands.{Stands, StandsWith, IsFound, IsAnswered, IsReady, IsOut, IsFaulted, is_mapped, held_pages, task_of};
 
 use crate::machine::{Found, Machine};
-use crate::page::apply;
-use flat_model::steps_keep_soundness;
+use flat_model::{apply, steps_keep_soundness};
 use vm_journal::{Entry, What};
 use vm_types::{Addr, Config, NoMemory, Pfn, Ref, Seat, Why};
 

@@ -6,7 +6,6 @@ mod answer;
 mod cli;
 mod entry_lines;
 mod machine;
-mod page;
 mod recount;
 mod report;
 mod report_words;

@@ -1,0 +1,157 @@
+-- The entries of the flat machine, and its state, with one more or one written.
+use Rattle.std.proofs.Common.{◌≡◌, ℕ, ◌+◌, ◌<◌, ◌&&◌, ◌||◌, not, Bool, true, false, cond, List, [], ◌∷◌, ◌++◌, Option, Some, None, length, count_by, refl, sym, ap, ◌∙◌, subst, arith}
+use Rattle.std.specs.Prelude.{slice_get, slice_set, slice_index_or, is_some}
+use Rattle.std.specs.Option.{option_or}
+use Rattle.std.specs.List.{position_or_len}
+use Rattle.std.proofs.lemmas.Bool.{true≢false}
+use Rattle.std.proofs.lemmas.List.Folds.{find_at, find-append, find-set, find_past}
+use Rattle.std.proofs.lemmas.List.Sums.{sum_by_push, sum_by-set}
+use Rattle.std.proofs.lemmas.Option.{slice_get-get_or}
+use Rattle.vm_types.specs.Same.{same_page}
+use Rattle.vm_types.specs.declared.names.Page.{Page}
+use Rattle.vm_types.specs.declared.config.Config.{Config}
+use Rattle.flat_model.specs.Flat.{FlatState, flat_with, touched_with, is_untouched, shared_bytes}
+use Rattle.flat_model.specs.FlatMachine.{IsFlat, AreTablesOf, entry_of, is_of, is_touch, bytes_or}
+use Rattle.flat_model.specs.Maps.{is_private}
+use Rattle.flat_model.specs.Sets.{has_page, with_page}
+use Rattle.flat_model.specs.declared.flat.Flat.{Flat}
+use Rattle.flat_model.specs.declared.flat.Stored.{Stored}
+use Rattle.flat_model.proofs.Basics.{same_page_refl, pages_equal, same_from_equal, has_page_first}
+use Rattle.flat_model.proofs.Found.{found_passes}
+
+-- ---- the entry of each page
+abbrev pub IsWith : List Stored → Stored → List Stored → Type 0
+IsWith before e after = (q : Page) → entry_of after q ≡ cond (same_page e.page q) (Some e) (entry_of before q)
+
+or_none : {X : Type 0} (o : Option X) → option_or o None ≡ o
+or_none None = refl
+or_none (Some x) = refl
+
+pub with_pushed : (es : List Stored) (e : Stored) → entry_of es e.page ≡ None → IsWith es e (es ++ e ∷ [])
+with_pushed es e absent q = find-append (is_of q) es (e ∷ []) ∙ go (same_page e.page q) refl
+  where
+    go : (b : Bool) → same_page e.page q ≡ b → option_or (entry_of es q) (cond b (Some e) None) ≡ cond b (Some e) (entry_of es q)
+    go true same = ap (λ (o : Option Stored). option_or o (Some e)) (subst (λ (x : Page). entry_of es x ≡ None) (pages_equal e.page q same) absent)
+    go false apart = or_none (entry_of es q)
+
+-- the entry at a page's place
+pub entry_at : (es : List Stored) (i : ℕ) (page : Page) (d : Stored) → i < length es → i ≡ position_or_len (is_of page) es → entry_of es page ≡ Some (slice_index_or es i d)
+entry_at es i page d within place = find_at (is_of page) es ∙ (ap (slice_get es) (sym place) ∙ slice_get-get_or es i d within)
+
+pub page_at_place : (es : List Stored) (i : ℕ) (page : Page) (d : Stored) → i < length es → i ≡ position_or_len (is_of page) es → (slice_index_or es i d).page ≡ page
+page_at_place es i page d within place = pages_equal _ page (found_passes (is_of page) es _ (entry_at es i page d within place))
+
+pub with_written : (es : List Stored) (i : ℕ) (e : Stored) → i < length es → i ≡ position_or_len (is_of e.page) es → IsWith es e (slice_set es i e)
+with_written es i e within place q = go (same_page e.page q) refl
+  where
+    go : (b : Bool) → same_page e.page q ≡ b → entry_of (slice_set es i e) q ≡ cond b (Some e) (entry_of es q)
+    go true same = subst (λ (x : Page). entry_of (slice_set es i e) x ≡ Some e) (pages_equal e.page q same) (find-set (is_of e.page) es i e place within (same_page_refl e.page))
+    go false apart = find_past (is_of q) es i e e (ap (λ (x : Page). same_page x q) (page_at_place es i e.page e within place) ∙ apart) apart
+
+-- ---- the touched pages
+touched_same : (touched : List Page) (page : Page) → is_private page ≡ true → has_page (touched_with touched page) page ≡ true
+touched_same touched page private = ap (λ (b : Bool). has_page (cond b (with_page touched page) touched) page) private ∙ go (has_page touched page) refl
+  where
+    go : (b : Bool) → has_page touched page ≡ b → has_page (cond b touched (page ∷ touched)) page ≡ true
+    go true has = has
+    go false missing = has_page_first touched page
+
+apart_back : (page q : Page) → same_page page q ≡ false → same_page q page ≡ false
+apart_back page q apart = go (same_page q page) refl
+  where
+    go : (b : Bool) → same_page q page ≡ b → b ≡ false
+    go true same = absurd (true≢false (sym (same_from_equal page q (sym (pages_equal q page same))) ∙ apart))
+    go false e = refl
+
+touched_other : (touched : List Page) (page q : Page) → same_page page q ≡ false → has_page (touched_with touched page) q ≡ has_page touched q
+touched_other touched page q apart = go (is_private page) (has_page touched page)
+  where
+    go : (b c : Bool) → has_page (cond b (cond c touched (page ∷ touched)) touched) q ≡ has_page touched q
+    go false c = refl
+    go true true = refl
+    go true false = ap (λ (b : Bool). b || has_page touched q) (apart_back page q apart)
+
+-- ---- the state
+pub and_no : (b : Bool) → (b && false) ≡ false
+and_no true = refl
+and_no false = refl
+
+-- a page that has an entry is touched if it is private
+pub untouched_some : (config : Config) (state : FlatState) (flat : Flat) (page : Page) (e : Stored) → IsFlat config state flat → entry_of flat.stored.items page ≡ Some e → is_untouched state page ≡ false
+untouched_some config state flat page e h entry = ap (λ (b : Bool). is_private page && not b) (h.touched page ∙ ap (λ (o : Option Stored). is_private page && is_some o) entry) ∙ go (is_private page)
+  where
+    go : (b : Bool) → (b && not (b && true)) ≡ false
+    go true = refl
+    go false = refl
+
+none_touched : (config : Config) (state : FlatState) (flat : Flat) (page : Page) → IsFlat config state flat → entry_of flat.stored.items page ≡ None → has_page state.touched page ≡ false
+none_touched config state flat page h entry = h.touched page ∙ (ap (λ (o : Option Stored). is_private page && is_some o) entry ∙ and_no (is_private page))
+
+pub untouched_none : (config : Config) (state : FlatState) (flat : Flat) (page : Page) → IsFlat config state flat → entry_of flat.stored.items page ≡ None → is_untouched state page ≡ is_private page
+untouched_none config state flat page h entry = ap (λ (b : Bool). is_private page && not b) (none_touched config state flat page h entry) ∙ go (is_private page)
+  where
+    go : (b : Bool) → (b && true) ≡ b
+    go true = refl
+    go false = refl
+
+pub flat_kept : (config : Config) (state : FlatState) (old new : Flat) (e : Stored) → IsFlat config state old → new.tables ≡ old.tables → IsWith old.stored.items e new.stored.items → length (touched_with state.touched e.page) ≡ count_by is_touch new.stored.items → IsFlat config (flat_with state e.page e.bytes) new
+flat_kept config state old new e h same entries counted =
+    record {
+      tables = subst (AreTablesOf config) (sym same) h.tables;
+      map = h.map;
+      touched = λ q. has q (same_page e.page q) refl ∙ ap (λ (o : Option Stored). is_private q && is_some o) (sym (entries q));
+      count = counted;
+      stored = λ q. bytes q (same_page e.page q) ∙ ap (bytes_or (shared_bytes config q)) (sym (entries q));
+    }
+  where
+    has : (q : Page) (b : Bool) → same_page e.page q ≡ b → has_page (touched_with state.touched e.page) q ≡ (is_private q && is_some (cond b (Some e) (entry_of old.stored.items q)))
+    has q false apart = touched_other state.touched e.page q apart ∙ h.touched q
+    has q true same_pages = subst (λ (x : Page). has_page (touched_with state.touched e.page) x ≡ (is_private x && true)) (pages_equal e.page q same_pages) (of_page (is_private e.page) refl)
+      where
+        of_page : (b : Bool) → is_private e.page ≡ b → has_page (touched_with state.touched e.page) e.page ≡ (is_private e.page && true)
+        of_page true private = touched_same state.touched e.page private ∙ ap (λ (b : Bool). b && true) (sym private)
+        of_page false shared = ap (λ (b : Bool). has_page (cond b (with_page state.touched e.page) state.touched) e.page) shared ∙ (h.touched e.page ∙ (ap (λ (b : Bool). b && is_some (entry_of old.stored.items e.page)) shared ∙ ap (λ (b : Bool). b && true) (sym shared)))
+
+    bytes : (q : Page) (b : Bool) → cond b e.bytes (state.stored q) ≡ bytes_or (shared_bytes config q) (cond b (Some e) (entry_of old.stored.items q))
+    bytes q true = refl
+    bytes q false = h.stored q
+
+-- one more entry
+pub flat_pushed : (config : Config) (state : FlatState) (old new : Flat) (e : Stored) → IsFlat config state old → new.tables ≡ old.tables → entry_of old.stored.items e.page ≡ None → new.stored.items ≡ old.stored.items ++ e ∷ [] → IsFlat config (flat_with state e.page e.bytes) new
+flat_pushed config state old new e h same absent items =
+    flat_kept config state old new e h same
+    (subst (IsWith old.stored.items e) (sym items) (with_pushed old.stored.items e absent))
+    (counts ∙ ap (count_by is_touch) (sym items))
+  where
+    go : (b : Bool) → length (cond b (e.page ∷ state.touched) state.touched) ≡ length state.touched + cond b 1 0
+    go true = omega arith
+    go false = omega arith
+
+    more : length (touched_with state.touched e.page) ≡ length state.touched + cond (is_private e.page) 1 0
+    more = ap (λ (b : Bool). length (cond (is_private e.page) (cond b state.touched (e.page ∷ state.touched)) state.touched)) (none_touched config state old e.page h absent) ∙ go (is_private e.page)
+
+    counts : length (touched_with state.touched e.page) ≡ count_by is_touch (old.stored.items ++ e ∷ [])
+    counts = more ∙ (ap (λ (n : ℕ). n + cond (is_private e.page) 1 0) h.count ∙ sym (sum_by_push (λ (x : Stored). cond (is_touch x) 1 0) old.stored.items e))
+
+-- one entry written
+pub flat_written : (config : Config) (state : FlatState) (old new : Flat) (i : ℕ) (e : Stored) → IsFlat config state old → new.tables ≡ old.tables → i < length old.stored.items → i ≡ position_or_len (is_of e.page) old.stored.items → new.stored.items ≡ slice_set old.stored.items i e → IsFlat config (flat_with state e.page e.bytes) new
+flat_written config state old new i e h same within place items =
+    flat_kept config state old new e h same
+    (subst (IsWith old.stored.items e) (sym items) (with_written old.stored.items i e within place))
+    (ap length (unchanged (is_private e.page) refl) ∙ (h.count ∙ (counts ∙ ap (count_by is_touch) (sym items))))
+  where
+    entry : entry_of old.stored.items e.page ≡ Some (slice_index_or old.stored.items i e)
+    entry = entry_at old.stored.items i e.page e within place
+
+    has_it : has_page state.touched e.page ≡ (is_private e.page && true)
+    has_it = h.touched e.page ∙ ap (λ (o : Option Stored). is_private e.page && is_some o) entry
+
+    unchanged : (b : Bool) → is_private e.page ≡ b → touched_with state.touched e.page ≡ state.touched
+    unchanged false shared = ap (λ (b : Bool). cond b (with_page state.touched e.page) state.touched) shared
+    unchanged true private = ap (λ (b : Bool). cond b (with_page state.touched e.page) state.touched) private ∙ ap (λ (b : Bool). cond b state.touched (e.page ∷ state.touched)) (has_it ∙ ap (λ (b : Bool). b && true) private)
+
+    counts : count_by is_touch old.stored.items ≡ count_by is_touch (slice_set old.stored.items i e)
+    counts =
+        let whole = sum_by-set (λ (x : Stored). cond (is_touch x) 1 0) old.stored.items i e e within in
+        let there : cond {A = ℕ} (is_touch (slice_index_or old.stored.items i e)) 1 0 ≡ cond (is_touch e) 1 0 = ap (λ (x : Page). cond {A = ℕ} (is_private x) 1 0) (page_at_place old.stored.items i e.page e within place) in
+        omega arith

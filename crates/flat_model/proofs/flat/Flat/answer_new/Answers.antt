@@ -1,0 +1,14 @@
+use Rattle.std.proofs.Common.{sym, ◌∙◌, refl, ap}
+use Rattle.flat_model.specs.Flat.{reply_from, bytes_after, offset_in_page}
+use Rattle.flat_model.proofs.Told.{told_pushed, full_from}
+use Rattle.flat_model.proofs.flat.Flat.answer_new.Goals as goal
+
+pub returns : goal.returns
+returns c = λ config state p h at absent.
+    let room = full_from config state c.args.self.now c.args.page h absent ∙ (sym c.is_full.ensures ∙ c.if-is_full.false) in
+    let first = c.bytes_at-bytes.ensures config (c.items.ensures ∙ h.tables.sections) in
+    told_pushed config state c.args.self.now (record { tables = c.args.self.now.tables; stored = c.push.new.self }) p c.args.r c.args.origin
+    (record { page = c.args.page; bytes = c.apply-reply.new.page }) c.apply-reply.result at h absent room
+    (c.apply-reply.ensures.reply ∙ ap (λ bytes. reply_from c.args.r.op bytes (offset_in_page c.args.r)) first)
+    (c.apply-reply.ensures.bytes ∙ ap (λ bytes. bytes_after c.args.r.op bytes (offset_in_page c.args.r)) first)
+    refl c.in_ok-push.ensures.items

@@ -1,0 +1,79 @@
+-- What the flat machine keeps, and how it answers. This project's own.
+use Rattle.std.specs.Prelude.{◌≡◌, ℕ, Bool, true, ◌&&◌, List, Option, Some, None, Result, ◌<◌, find, length, is_some, count_by, MatchResult}
+use Rattle.std.specs.List.{position_or_len}
+use Rattle.vm_types.specs.Access.{is_allowed}
+use Rattle.vm_types.specs.Configuration.{IsWellFormed}
+use Rattle.vm_types.specs.Same.{same_page}
+use Rattle.vm_types.specs.declared.names.Page.{Page}
+use Rattle.vm_types.specs.declared.config.Config.{Config}
+use Rattle.vm_types.specs.declared.config.Origin.{Origin}
+use Rattle.vm_types.specs.declared.faults.NoMemory.{NoMemory}
+use Rattle.vm_types.specs.declared.reference.Ref.{Ref}
+use Rattle.vm_types.specs.declared.reply.Reply.{Reply}
+use Rattle.flat_model.specs.Flat.{FlatState, shared_bytes, flat_reply, flat_next, mapping_of, is_change}
+use Rattle.flat_model.specs.Maps.{first_map, is_private, page_behind, page_number}
+use Rattle.flat_model.specs.Sets.{has_page}
+use Rattle.flat_model.specs.declared.tables.Tables.{Tables}
+use Rattle.flat_model.specs.declared.flat.Flat.{Flat}
+use Rattle.flat_model.specs.declared.flat.Stored.{Stored}
+
+-- whether an entry is that of the page, or of a private page
+abbrev pub is_of : Page → Stored → Bool
+is_of page entry = same_page entry.page page
+
+abbrev pub is_touch : Stored → Bool
+is_touch entry = is_private entry.page
+
+-- the entry of a page
+abbrev pub entry_of : List Stored → Page → Option Stored
+entry_of stored page = find (is_of page) stored
+
+-- the bytes of an entry, or others where there is none
+abbrev pub bytes_or : List ℕ → Option Stored → List ℕ
+bytes_or others None = others
+bytes_or others (Some entry) = entry.bytes
+
+-- the tables of a well-formed configuration
+pub record AreTablesOf (config : Config) (tables : Tables) : Type 0 where
+  pub well_formed : IsWellFormed config
+  pub pagefile : tables.pagefile ≡ config.pagefile
+  pub maps : tables.maps ≡ config.maps
+  pub sections : tables.sections ≡ config.sections
+
+-- the machine stands for a state of a well-formed configuration: it has the configuration's tables,
+-- the touched pages are the private pages that have an entry, and a page's bytes are those of its
+-- entry or, where it has none, those that the configuration gives
+pub record IsFlat (config : Config) (state : FlatState) (flat : Flat) : Type 0 where
+  pub tables : AreTablesOf config flat.tables
+  pub map : state.map ≡ first_map config
+  pub touched : (page : Page) → has_page state.touched page ≡ (is_private page && is_some (entry_of flat.stored.items page))
+  pub count : length state.touched ≡ count_by is_touch flat.stored.items
+  pub stored : (page : Page) → state.stored page ≡ bytes_or (shared_bytes config page) (entry_of flat.stored.items page)
+
+-- the reply is the flat reply, and the machine stands for the next state; without memory it stands
+-- for the same state
+abbrev pub IsAnswer : Config → FlatState → Flat → ℕ → Ref → Result Reply NoMemory → Type 0
+IsAnswer config state new p r result =
+    MatchResult result (λ reply. (reply ≡ flat_reply config state p r) × IsFlat config (flat_next config state p r) new) (λ _. IsFlat config state new)
+
+-- this holds of whichever configuration and state the machine stood for
+abbrev pub AnswersAsFlat : Flat → Flat → ℕ → Ref → Result Reply NoMemory → Type 0
+AnswersAsFlat old new p r result = (config : Config) (state : FlatState) → IsFlat config state old → IsAnswer config state new p r result
+
+-- the reference is to a mapped page and has the right to it
+pub record IsAllowedAt (config : Config) (state : FlatState) (p : ℕ) (r : Ref) (origin : Origin) (page : Page) : Type 0 where
+  pub prot : ℕ
+  pub mapped : mapping_of state p r ≡ Some (record { origin = origin; prot = prot })
+  pub right : is_allowed prot r.mode (is_change r.op) ≡ true
+  pub behind : page_behind config p (page_number (r.addr).0) origin ≡ page
+
+-- it holds where the reference has the right and its page has no entry yet
+abbrev pub AnswersNew : Flat → Flat → Page → Origin → Ref → Result Reply NoMemory → Type 0
+AnswersNew old new page origin r result =
+    (config : Config) (state : FlatState) (p : ℕ) → IsFlat config state old → IsAllowedAt config state p r origin page
+    → entry_of old.stored.items page ≡ None → IsAnswer config state new p r result
+
+-- where the page's first entry is
+abbrev pub IsPlace : List Stored → Page → Option ℕ → Type 0
+IsPlace stored page None = entry_of stored page ≡ None
+IsPlace stored page (Some place) = (place < length stored) × (place ≡ position_or_len (is_of page) stored)
