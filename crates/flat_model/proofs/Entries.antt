@@ -11,7 +11,7 @@ use Rattle.vm_types.specs.Same.{same_page}
 use Rattle.vm_types.specs.declared.names.Page.{Page}
 use Rattle.vm_types.specs.declared.config.Config.{Config}
 use Rattle.flat_model.specs.Flat.{FlatState, flat_with, touched_with, is_untouched, shared_bytes}
-use Rattle.flat_model.specs.FlatMachine.{IsFlat, AreTablesOf, entry_of, is_of, is_touch, bytes_or}
+use Rattle.flat_model.specs.FlatMachine.{IsFlat, AreTablesOf, stored_of, is_of, is_touch, bytes_or}
 use Rattle.flat_model.specs.Maps.{is_private}
 use Rattle.flat_model.specs.Sets.{has_page, with_page}
 use Rattle.flat_model.specs.declared.flat.Flat.{Flat}
@@ -21,21 +21,21 @@ use Rattle.flat_model.proofs.Found.{found_passes}
 
 -- ---- the entry of each page
 abbrev pub IsWith : List Stored → Stored → List Stored → Type 0
-IsWith before e after = (q : Page) → entry_of after q ≡ cond (same_page e.page q) (Some e) (entry_of before q)
+IsWith before e after = (q : Page) → stored_of after q ≡ cond (same_page e.page q) (Some e) (stored_of before q)
 
 or_none : {X : Type 0} (o : Option X) → option_or o None ≡ o
 or_none None = refl
 or_none (Some x) = refl
 
-pub with_pushed : (es : List Stored) (e : Stored) → entry_of es e.page ≡ None → IsWith es e (es ++ e ∷ [])
+pub with_pushed : (es : List Stored) (e : Stored) → stored_of es e.page ≡ None → IsWith es e (es ++ e ∷ [])
 with_pushed es e absent q = find-append (is_of q) es (e ∷ []) ∙ go (same_page e.page q) refl
   where
-    go : (b : Bool) → same_page e.page q ≡ b → option_or (entry_of es q) (cond b (Some e) None) ≡ cond b (Some e) (entry_of es q)
-    go true same = ap (λ (o : Option Stored). option_or o (Some e)) (subst (λ (x : Page). entry_of es x ≡ None) (pages_equal e.page q same) absent)
-    go false apart = or_none (entry_of es q)
+    go : (b : Bool) → same_page e.page q ≡ b → option_or (stored_of es q) (cond b (Some e) None) ≡ cond b (Some e) (stored_of es q)
+    go true same = ap (λ (o : Option Stored). option_or o (Some e)) (subst (λ (x : Page). stored_of es x ≡ None) (pages_equal e.page q same) absent)
+    go false apart = or_none (stored_of es q)
 
 -- the entry at a page's place
-pub entry_at : (es : List Stored) (i : ℕ) (page : Page) (d : Stored) → i < length es → i ≡ position_or_len (is_of page) es → entry_of es page ≡ Some (slice_index_or es i d)
+pub entry_at : (es : List Stored) (i : ℕ) (page : Page) (d : Stored) → i < length es → i ≡ position_or_len (is_of page) es → stored_of es page ≡ Some (slice_index_or es i d)
 entry_at es i page d within place = find_at (is_of page) es ∙ (ap (slice_get es) (sym place) ∙ slice_get-get_or es i d within)
 
 pub page_at_place : (es : List Stored) (i : ℕ) (page : Page) (d : Stored) → i < length es → i ≡ position_or_len (is_of page) es → (slice_index_or es i d).page ≡ page
@@ -44,8 +44,8 @@ page_at_place es i page d within place = pages_equal _ page (found_passes (is_of
 pub with_written : (es : List Stored) (i : ℕ) (e : Stored) → i < length es → i ≡ position_or_len (is_of e.page) es → IsWith es e (slice_set es i e)
 with_written es i e within place q = go (same_page e.page q) refl
   where
-    go : (b : Bool) → same_page e.page q ≡ b → entry_of (slice_set es i e) q ≡ cond b (Some e) (entry_of es q)
-    go true same = subst (λ (x : Page). entry_of (slice_set es i e) x ≡ Some e) (pages_equal e.page q same) (find-set (is_of e.page) es i e place within (same_page_refl e.page))
+    go : (b : Bool) → same_page e.page q ≡ b → stored_of (slice_set es i e) q ≡ cond b (Some e) (stored_of es q)
+    go true same = subst (λ (x : Page). stored_of (slice_set es i e) x ≡ Some e) (pages_equal e.page q same) (find-set (is_of e.page) es i e place within (same_page_refl e.page))
     go false apart = find_past (is_of q) es i e e (ap (λ (x : Page). same_page x q) (page_at_place es i e.page e within place) ∙ apart) apart
 
 -- ---- the touched pages
@@ -77,17 +77,17 @@ and_no true = refl
 and_no false = refl
 
 -- a page that has an entry is touched if it is private
-pub untouched_some : (config : Config) (state : FlatState) (flat : Flat) (page : Page) (e : Stored) → IsFlat config state flat → entry_of flat.stored.items page ≡ Some e → is_untouched state page ≡ false
+pub untouched_some : (config : Config) (state : FlatState) (flat : Flat) (page : Page) (e : Stored) → IsFlat config state flat → stored_of flat.stored.items page ≡ Some e → is_untouched state page ≡ false
 untouched_some config state flat page e h entry = ap (λ (b : Bool). is_private page && not b) (h.touched page ∙ ap (λ (o : Option Stored). is_private page && is_some o) entry) ∙ go (is_private page)
   where
     go : (b : Bool) → (b && not (b && true)) ≡ false
     go true = refl
     go false = refl
 
-none_touched : (config : Config) (state : FlatState) (flat : Flat) (page : Page) → IsFlat config state flat → entry_of flat.stored.items page ≡ None → has_page state.touched page ≡ false
+none_touched : (config : Config) (state : FlatState) (flat : Flat) (page : Page) → IsFlat config state flat → stored_of flat.stored.items page ≡ None → has_page state.touched page ≡ false
 none_touched config state flat page h entry = h.touched page ∙ (ap (λ (o : Option Stored). is_private page && is_some o) entry ∙ and_no (is_private page))
 
-pub untouched_none : (config : Config) (state : FlatState) (flat : Flat) (page : Page) → IsFlat config state flat → entry_of flat.stored.items page ≡ None → is_untouched state page ≡ is_private page
+pub untouched_none : (config : Config) (state : FlatState) (flat : Flat) (page : Page) → IsFlat config state flat → stored_of flat.stored.items page ≡ None → is_untouched state page ≡ is_private page
 untouched_none config state flat page h entry = ap (λ (b : Bool). is_private page && not b) (none_touched config state flat page h entry) ∙ go (is_private page)
   where
     go : (b : Bool) → (b && true) ≡ b
@@ -104,20 +104,20 @@ flat_kept config state old new e h same entries counted =
       stored = λ q. bytes q (same_page e.page q) ∙ ap (bytes_or (shared_bytes config q)) (sym (entries q));
     }
   where
-    has : (q : Page) (b : Bool) → same_page e.page q ≡ b → has_page (touched_with state.touched e.page) q ≡ (is_private q && is_some (cond b (Some e) (entry_of old.stored.items q)))
+    has : (q : Page) (b : Bool) → same_page e.page q ≡ b → has_page (touched_with state.touched e.page) q ≡ (is_private q && is_some (cond b (Some e) (stored_of old.stored.items q)))
     has q false apart = touched_other state.touched e.page q apart ∙ h.touched q
     has q true same_pages = subst (λ (x : Page). has_page (touched_with state.touched e.page) x ≡ (is_private x && true)) (pages_equal e.page q same_pages) (of_page (is_private e.page) refl)
       where
         of_page : (b : Bool) → is_private e.page ≡ b → has_page (touched_with state.touched e.page) e.page ≡ (is_private e.page && true)
         of_page true private = touched_same state.touched e.page private ∙ ap (λ (b : Bool). b && true) (sym private)
-        of_page false shared = ap (λ (b : Bool). has_page (cond b (with_page state.touched e.page) state.touched) e.page) shared ∙ (h.touched e.page ∙ (ap (λ (b : Bool). b && is_some (entry_of old.stored.items e.page)) shared ∙ ap (λ (b : Bool). b && true) (sym shared)))
+        of_page false shared = ap (λ (b : Bool). has_page (cond b (with_page state.touched e.page) state.touched) e.page) shared ∙ (h.touched e.page ∙ (ap (λ (b : Bool). b && is_some (stored_of old.stored.items e.page)) shared ∙ ap (λ (b : Bool). b && true) (sym shared)))
 
-    bytes : (q : Page) (b : Bool) → cond b e.bytes (state.stored q) ≡ bytes_or (shared_bytes config q) (cond b (Some e) (entry_of old.stored.items q))
+    bytes : (q : Page) (b : Bool) → cond b e.bytes (state.stored q) ≡ bytes_or (shared_bytes config q) (cond b (Some e) (stored_of old.stored.items q))
     bytes q true = refl
     bytes q false = h.stored q
 
 -- one more entry
-pub flat_pushed : (config : Config) (state : FlatState) (old new : Flat) (e : Stored) → IsFlat config state old → new.tables ≡ old.tables → entry_of old.stored.items e.page ≡ None → new.stored.items ≡ old.stored.items ++ e ∷ [] → IsFlat config (flat_with state e.page e.bytes) new
+pub flat_pushed : (config : Config) (state : FlatState) (old new : Flat) (e : Stored) → IsFlat config state old → new.tables ≡ old.tables → stored_of old.stored.items e.page ≡ None → new.stored.items ≡ old.stored.items ++ e ∷ [] → IsFlat config (flat_with state e.page e.bytes) new
 flat_pushed config state old new e h same absent items =
     flat_kept config state old new e h same
     (subst (IsWith old.stored.items e) (sym items) (with_pushed old.stored.items e absent))
@@ -140,7 +140,7 @@ flat_written config state old new i e h same within place items =
     (subst (IsWith old.stored.items e) (sym items) (with_written old.stored.items i e within place))
     (ap length (unchanged (is_private e.page) refl) ∙ (h.count ∙ (counts ∙ ap (count_by is_touch) (sym items))))
   where
-    entry : entry_of old.stored.items e.page ≡ Some (slice_index_or old.stored.items i e)
+    entry : stored_of old.stored.items e.page ≡ Some (slice_index_or old.stored.items i e)
     entry = entry_at old.stored.items i e.page e within place
 
     has_it : has_page state.touched e.page ≡ (is_private e.page && true)

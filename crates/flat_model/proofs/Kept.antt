@@ -1,10 +1,9 @@
 -- Soundness after changes of references, of modify marks of active frames, and of the touched
 -- pages alone.
-use Rattle.std.proofs.Common.{◌≡◌, ◌||◌, ℕ, ◌⊎◌, Bool, true, false, ◌&&◌, List, [], ◌∷◌, Option, Some, None, slice_get, nat_eq, refl, sym, ap, ◌∙◌, inl, inr, ⊎_elim}
+use Rattle.std.proofs.Common.{◌≡◌, ◌||◌, ℕ, ◌⊎◌, Bool, true, false, ◌&&◌, List, [], ◌∷◌, Some, None, nat_eq, refl, sym, ap, ◌∙◌, inl, inr, ⊎_elim}
 use Rattle.std.specs.List.{IsDistinct, AllByRecursion}
 use Rattle.std.proofs.lemmas.Bool.{true≢false, or_left, or_right, and_from, eq-eqb}
 use Rattle.vm_types.specs.Same.{same_page, same_state}
-use Rattle.vm_types.specs.Ring.{Held}
 use Rattle.vm_types.specs.declared.names.Page.{Page}
 use Rattle.vm_types.specs.declared.names.Page.TheVariants.{Private, Shared}
 use Rattle.vm_types.specs.declared.names.FrameState.{FrameState}
@@ -18,7 +17,7 @@ use Rattle.flat_model.specs.Pager.{Pager, Frame, Process}
 use Rattle.flat_model.specs.Sets.{has_page, at_number}
 use Rattle.flat_model.specs.Step.{with_reference}
 use Rattle.flat_model.proofs.BasicsDone.{at_number_field}
-use Rattle.flat_model.specs.Sound.{IsSound, HasBadFrames, HasLists, HasStates, HasPages, HasEntries, HasCharges, HasSwapped, HasContents, HasLimits, HasStatuses, FitsRole, IsFirstRead, FitsWrite, FitsDirection, FitsFlight, Holds, is_in, IsInSlot, slot_of, IsPrivateMapped}
+use Rattle.flat_model.specs.Sound.{IsSound, HasBadFrames, HasLists, HasStates, HasPages, HasEntries, HasCharges, HasSwapped, HasContents, HasLimits, HasStatuses, FitsRole, IsFirstRead, FitsWrite, FitsDirection, FitsFlight, Holds, is_in, IsPrivateMapped}
 
 -- the same status, ring and limit
 pub record IsAlike (x y : Process) : Type 0 where
@@ -145,11 +144,6 @@ module _ (config : Config) (past : List Entry) (a : Pager) (frame : ℕ → Fram
     lies = sound.charges.lies;
   }
 
-  in_slot : (p n : ℕ) (slot : Option Held) (page : Page) → IsInSlot a p n slot page → IsInSlot b p n slot page
-  in_slot p n None page h = tt
-  in_slot p n (Some held) (Private q v) h = h
-  in_slot p n (Some held) (Shared s k) h = h
-
   swapped_kept : HasSwapped b
   swapped_kept page p n lies =
       let old = sound.swapped page p n lies in
@@ -157,7 +151,7 @@ module _ (config : Config) (past : List Entry) (a : Pager) (frame : ℕ → Fram
         own = old.own;
         away = λ e. old.away (sym (kept.alike p).status ∙ e);
         alone = old.alone;
-        slot = rw (kept.alike p).ring (in_slot p n (slot_of (slice_get (a.process p).ring.slots n)) page old.slot);
+        slot = rw (kept.alike p).ring old.slot;
         frame = λ f e. rw ((kept.marked f).state, (kept.alike p).status) (old.frame f (held_before f page e));
       }
 
@@ -225,7 +219,7 @@ module _ (config : Config) (past : List Entry) (a : Pager) (frame : ℕ → Fram
           w.1,
           w.2,
           (kept.alike to_swap.0).status ∙ w.3,
-          (slot.0, rw (kept.alike to_swap.0).ring slot.1, in_slot to_swap.0 w.0 (Some slot.0) page slot.2),
+          (slot.0, rw (kept.alike to_swap.0).ring slot.1, slot.2),
         ),
       ))
       rest))

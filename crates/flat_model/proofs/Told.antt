@@ -17,7 +17,7 @@ use Rattle.vm_types.specs.declared.reply.Reply.TheVariants as reply
 use Rattle.vm_types.specs.declared.reply.Why.{Why}
 use Rattle.vm_types.specs.declared.reply.Why.TheVariants as why
 use Rattle.flat_model.specs.Flat.{FlatState, flat_with, flat_reply, flat_next, flat_refusal, refusal_at, found_at, answered_at, next_unless, reply_unless, reply_from, bytes_after, offset_in_page, page_bytes, is_untouched, is_page_file_full, is_change, mapping_of, shared_bytes}
-use Rattle.flat_model.specs.FlatMachine.{IsFlat, IsAllowedAt, entry_of, is_of, is_touch, bytes_or}
+use Rattle.flat_model.specs.FlatMachine.{IsFlat, IsAllowedAt, stored_of, is_of, is_touch, bytes_or}
 use Rattle.flat_model.specs.Maps.{Mapped, mapped_by, covers, origin_after, is_private, page_behind, page_number, shared_of, first_bytes}
 use Rattle.flat_model.specs.declared.flat.Flat.{Flat}
 use Rattle.flat_model.specs.declared.flat.Stored.{Stored}
@@ -113,7 +113,7 @@ told_written config state old new p r origin page e d i answer on at h within th
     place : i ≡ position_or_len (is_of e.page) old.stored.items
     place = subst (λ (x : Page). i ≡ position_or_len (is_of x) old.stored.items) (sym on) there
 
-    entry : entry_of old.stored.items e.page ≡ Some (slice_index_or old.stored.items i d)
+    entry : stored_of old.stored.items e.page ≡ Some (slice_index_or old.stored.items i d)
     entry = entry_at old.stored.items i e.page d within place
 
     touched : is_untouched state e.page ≡ false
@@ -129,13 +129,13 @@ behind_shared config p v (origin.Section s i) shared = go (shared_of (slice_get 
     go true e = refl
     go false e = absurd (true≢false e)
 
-pub full_from : (config : Config) (state : FlatState) (old : Flat) (page : Page) → IsFlat config state old → entry_of old.stored.items page ≡ None → is_page_file_full config state page ≡ (is_private page && nat_eq (count_by is_touch old.stored.items) old.tables.pagefile)
+pub full_from : (config : Config) (state : FlatState) (old : Flat) (page : Page) → IsFlat config state old → stored_of old.stored.items page ≡ None → is_page_file_full config state page ≡ (is_private page && nat_eq (count_by is_touch old.stored.items) old.tables.pagefile)
 full_from config state old page h absent =
     ap (λ (b : Bool). b && nat_eq (length state.touched) config.pagefile) (untouched_none config state old page h absent)
     ∙ (ap (λ (n : ℕ). is_private page && nat_eq n config.pagefile) h.count
     ∙ ap (λ (n : ℕ). is_private page && nat_eq (count_by is_touch old.stored.items) n) (sym h.tables.pagefile))
 
-first_found : (config : Config) (state : FlatState) (old : Flat) (p : ℕ) (r : Ref) (origin : Origin) (page : Page) → IsAllowedAt config state p r origin page → IsFlat config state old → entry_of old.stored.items page ≡ None → page_bytes config state page origin ≡ first_bytes config origin
+first_found : (config : Config) (state : FlatState) (old : Flat) (p : ℕ) (r : Ref) (origin : Origin) (page : Page) → IsAllowedAt config state p r origin page → IsFlat config state old → stored_of old.stored.items page ≡ None → page_bytes config state page origin ≡ first_bytes config origin
 first_found config state old p r origin page at h absent =
     ap (λ (b : Bool). cond b (first_bytes config origin) (state.stored page)) (untouched_none config state old page h absent) ∙ go (is_private page) refl
   where
@@ -146,7 +146,7 @@ first_found config state old p r origin page at h absent =
         ∙ subst (λ (x : Page). is_private x ≡ false → shared_bytes config x ≡ first_bytes config origin) at.behind (behind_shared config p (page_number (r.addr).0) origin) shared)
 
 pub told_pushed : (config : Config) (state : FlatState) (old new : Flat) (p : ℕ) (r : Ref) (origin : Origin) (e : Stored) (answer : Reply) → IsAllowedAt config state p r origin e.page
-    → IsFlat config state old → entry_of old.stored.items e.page ≡ None → is_page_file_full config state e.page ≡ false
+    → IsFlat config state old → stored_of old.stored.items e.page ≡ None → is_page_file_full config state e.page ≡ false
     → answer ≡ reply_from r.op (first_bytes config origin) (offset_in_page r) → e.bytes ≡ bytes_after r.op (first_bytes config origin) (offset_in_page r)
     → new.tables ≡ old.tables → new.stored.items ≡ old.stored.items ++ e ∷ [] → IsTold config state new p r answer
 told_pushed config state old new p r origin e answer at h absent room same bytes tables items =

@@ -17,7 +17,6 @@ use Rattle.flat_model.specs.Sound.{FitsRole, IsFirstRead, FitsWrite, FitsDirecti
 use Rattle.flat_model.proofs.Basics.{at_number_other, each_fails, each_of_two, has_page_more}
 use Rattle.flat_model.proofs.ZeroFacts.{IsServed, zeroed}
 use Rattle.flat_model.proofs.ZeroEntries.{held_stays, entry_stays, status_stays}
-use Rattle.flat_model.proofs.ZeroPages.{slot_stays}
 
 module _ (config : Config) (a : Pager) (p v f : ℕ) (process : Process) where
   pub first_read_stays : (x : Flight) (r : Role) (page : Page) → IsFirstRead config a x r page → IsFirstRead config (zeroed a p v f process) x r page
@@ -74,7 +73,7 @@ module _ (config : Config) (a : Pager) (p v f : ℕ) (process : Process) where
           (
             held.0,
             subst (λ (y : Process). slice_get y.ring.slots rest.0 ≡ Some (Some held.0)) there held.1,
-            slot_stays a (zeroed a p v f process) q rest.0 (Some held.0) page held.2,
+            held.2,
           ),
         ),
       ))

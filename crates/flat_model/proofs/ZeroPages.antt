@@ -1,9 +1,8 @@
 -- ZERO keeps the points on charges, swap blocks and contents.
-use Rattle.std.proofs.Common.{◌≡◌, ◌⊎◌, ℕ, ◌<◌, Bool, true, false, ◌||◌, List, ◌∷◌, Option, Some, None, length, slice_get, refl, sym, ap, ◌∙◌, subst, inl, inr}
+use Rattle.std.proofs.Common.{◌≡◌, ◌⊎◌, ℕ, ◌<◌, Bool, true, false, ◌||◌, List, ◌∷◌, Some, None, length, slice_get, refl, sym, ap, ◌∙◌, subst, inl, inr}
 use Rattle.std.proofs.lemmas.Map.Keys.{IsDistinct-cons}
 use Rattle.std.proofs.lemmas.Option.{none-some}
 use Rattle.vm_types.specs.Same.{same_page, same_state}
-use Rattle.vm_types.specs.Ring.{Held}
 use Rattle.vm_types.specs.declared.names.Page.{Page}
 use Rattle.vm_types.specs.declared.names.Page.TheVariants.{Private, Shared}
 use Rattle.vm_types.specs.declared.names.Addr.{Addr}
@@ -17,18 +16,13 @@ use Rattle.flat_model.specs.Flights.{open_flights, has_flight}
 use Rattle.flat_model.specs.Maps.{proc}
 use Rattle.flat_model.specs.Pager.{Pager, Frame, Process, Assigned}
 use Rattle.flat_model.specs.Sets.{has_page, at_number}
-use Rattle.flat_model.specs.Sound.{Holds, HasCharges, IsInSlot, slot_of, MayHoldSwapped, IsSwapped, HasSwapped, IsPrivateMapped, HasContents}
+use Rattle.flat_model.specs.Sound.{Holds, HasCharges, FitsSlot, slot_of, MayHoldSwapped, IsSwapped, HasSwapped, IsPrivateMapped, HasContents}
 use Rattle.flat_model.specs.Step.{active_with}
 use Rattle.flat_model.proofs.Basics.{at_number_cases, at_number_same, at_number_other, each_fails, each_weaker, has_page_more, has_page_first, pages_equal}
 use Rattle.flat_model.proofs.ZeroFacts.{IsUnused, IsAbsent, IsServed, zeroed, zero_entry}
 use Rattle.flat_model.proofs.ZeroEntries.{held_stays, status_stays}
 
 -- what is in a slot turns on the slot alone, and not on the rest of the state
-pub slot_stays : (a b : Pager) (p n : ℕ) (slot : Option Held) (page : Page) → IsInSlot a p n slot page → IsInSlot b p n slot page
-slot_stays a b p n None page is = tt
-slot_stays a b p n (Some held) (Private q v) is = is
-slot_stays a b p n (Some held) (Shared s i) is = is
-
 module _ (config : Config) (a : Pager) (p v f : ℕ) (process : Process) where
   pub zero_charges : HasCharges config a → IsAbsent config a p v → length a.charged < config.pagefile → HasCharges config (zeroed a p v f process)
   zero_charges charges absent room =
@@ -52,7 +46,7 @@ module _ (config : Config) (a : Pager) (p v f : ℕ) (process : Process) where
         own = is.own;
         away = λ here. is.away (sym (status_stays config a p v f process served q) ∙ here);
         alone = is.alone;
-        slot = subst (λ (x : Process). IsInSlot (zeroed a p v f process) q n (slot_of (slice_get x.ring.slots n)) page) (sym there) (slot_stays a (zeroed a p v f process) q n _ page is.slot);
+        slot = subst (λ (x : Process). FitsSlot q (slot_of (slice_get x.ring.slots n)) page) (sym there) is.slot;
         frame = at_number_cases (λ (g : ℕ) (frame : Frame). frame.page ≡ Some page → MayHold frame) a.frame f (active_with (Private (proc p) v) true)
             (λ holds. absurd (elsewhere holds)) (λ g apart held. moved g (is.frame g held));
       }

@@ -25,8 +25,8 @@ abbrev pub is_touch : Stored → Bool
 is_touch entry = is_private entry.page
 
 -- the entry of a page
-abbrev pub entry_of : List Stored → Page → Option Stored
-entry_of stored page = find (is_of page) stored
+abbrev pub stored_of : List Stored → Page → Option Stored
+stored_of stored page = find (is_of page) stored
 
 -- the bytes of an entry, or others where there is none
 abbrev pub bytes_or : List ℕ → Option Stored → List ℕ
@@ -46,9 +46,9 @@ pub record AreTablesOf (config : Config) (tables : Tables) : Type 0 where
 pub record IsFlat (config : Config) (state : FlatState) (flat : Flat) : Type 0 where
   pub tables : AreTablesOf config flat.tables
   pub map : state.map ≡ first_map config
-  pub touched : (page : Page) → has_page state.touched page ≡ (is_private page && is_some (entry_of flat.stored.items page))
+  pub touched : (page : Page) → has_page state.touched page ≡ (is_private page && is_some (stored_of flat.stored.items page))
   pub count : length state.touched ≡ count_by is_touch flat.stored.items
-  pub stored : (page : Page) → state.stored page ≡ bytes_or (shared_bytes config page) (entry_of flat.stored.items page)
+  pub stored : (page : Page) → state.stored page ≡ bytes_or (shared_bytes config page) (stored_of flat.stored.items page)
 
 -- the reply is the flat reply, and the machine stands for the next state; without memory it stands
 -- for the same state
@@ -71,9 +71,9 @@ pub record IsAllowedAt (config : Config) (state : FlatState) (p : ℕ) (r : Ref)
 abbrev pub AnswersNew : Flat → Flat → Page → Origin → Ref → Result Reply NoMemory → Type 0
 AnswersNew old new page origin r result =
     (config : Config) (state : FlatState) (p : ℕ) → IsFlat config state old → IsAllowedAt config state p r origin page
-    → entry_of old.stored.items page ≡ None → IsAnswer config state new p r result
+    → stored_of old.stored.items page ≡ None → IsAnswer config state new p r result
 
 -- where the page's first entry is
 abbrev pub IsPlace : List Stored → Page → Option ℕ → Type 0
-IsPlace stored page None = entry_of stored page ≡ None
+IsPlace stored page None = stored_of stored page ≡ None
 IsPlace stored page (Some place) = (place < length stored) × (place ≡ position_or_len (is_of page) stored)

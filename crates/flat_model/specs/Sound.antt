@@ -100,10 +100,11 @@ pub record HasCharges (config : Config) (a : Pager) : Type 0 where
   pub shared : (s : SecId) (i : ℕ) → a.lies (Shared s i) ≡ Some (block.Section s i)
   pub lies : (page : Page) (b : ℕ) → a.lies page ≡ Some (block.PageFile b) → (x : Assigned) × (assigned_of a page ≡ Some x) × (x.block ≡ b)
 
-abbrev pub IsInSlot : Pager → ℕ → ℕ → Option Held → Page → Type 0
-IsInSlot a p n None page = Unit {0}
-IsInSlot a p n (Some held) (Private q v) = (q.0 ≡ p) × (held.vpn ≡ v)
-IsInSlot a p n (Some held) (Shared s i) = ⊥
+-- a slot of process p is empty or holds the page
+abbrev pub FitsSlot : ℕ → Option Held → Page → Type 0
+FitsSlot p None page = Unit {0}
+FitsSlot p (Some held) (Private q v) = (q.0 ≡ p) × (held.vpn ≡ v)
+FitsSlot p (Some held) (Shared s i) = ⊥
 
 abbrev pub slot_of : Option (Option Held) → Option Held
 slot_of None = None
@@ -125,7 +126,7 @@ pub record IsSwapped (a : Pager) (page : Page) (p n : ℕ) : Type 0 where
   pub own : is_of p page ≡ true
   pub away : (a.process p).status ≡ status.Resident → ⊥
   pub alone : (other : Page) → a.lies other ≡ a.lies page → other ≡ page
-  pub slot : IsInSlot a p n (slot_of (slice_get (a.process p).ring.slots n)) page
+  pub slot : FitsSlot p (slot_of (slice_get (a.process p).ring.slots n)) page
   pub frame : (f : ℕ) → Holds a f page → MayHoldSwapped a p f
 
 abbrev pub HasSwapped : Pager → Type 0
@@ -203,7 +204,7 @@ FitsWrite a x page =
     ⊎ (((y : Assigned) × (assigned_of a page ≡ Some y) × (x.block ≡ block.PageFile y.block))
     ⊎ ((p : ℕ) × ((n : ℕ) × (x.block ≡ block.Swap (record { 0 = p }) n) × (is_of p page ≡ true)
     × ((a.process p).status ≡ status.Leaving)
-    × ((held : Held) × (slice_get (a.process p).ring.slots n ≡ Some (Some held)) × IsInSlot a p n (Some held) page))))
+    × ((held : Held) × (slice_get (a.process p).ring.slots n ≡ Some (Some held)) × FitsSlot p (Some held) page))))
 
 abbrev pub FitsDirection : Config → Pager → Flight → Direction → Page → Type 0
 FitsDirection config a x (reading r) page = FitsRead config a x r page
