@@ -4,6 +4,7 @@ ghost use Rattle.disk_trait.specs.Causes.{Rose};
 ghost use Rattle.disk_trait.specs.Told.{told};
 
 use crate::block::Block;
+use std::alloc::AllocError;
 use vm_types::{BlockId, NoMemory};
 
 /// Why a block could not be made.
@@ -21,6 +22,16 @@ impl From<NoMemory> for MakeFault {
     ghost from_gives = { λ _ fault. fault ≡ MakeFault.NoMemory };
 
     fn from(_error: NoMemory) -> MakeFault {
+        MakeFault::NoMemory
+    }
+}
+
+impl From<AllocError> for MakeFault {
+    ghost use Rattle.disk_trait.specs.declared.depot.MakeFault.{MakeFault};
+
+    ghost from_gives = { λ _ fault. fault ≡ MakeFault.NoMemory };
+
+    fn from(_error: AllocError) -> MakeFault {
         MakeFault::NoMemory
     }
 }

@@ -1,8 +1,10 @@
-//! Blocks of 512 bytes on a disk, depots that make them, and both in memory.
+//! Blocks of 512 bytes on a disk, depots that make them, and both in memory and as files.
 #![tactic(auto)]
 
 mod block;
 mod depot;
+mod file_block;
+mod file_depot;
 mod memory_block;
 mod memory_depot;
 mod never_fails;
@@ -10,6 +12,8 @@ mod plain_block;
 
 pub use block::Block;
 pub use depot::{Depot, MakeFault};
+pub use file_block::FileBlock;
+pub use file_depot::FileDepot;
 pub use memory_block::MemoryBlock;
 pub use memory_depot::MemoryDepot;
 pub use never_fails::NeverFails;

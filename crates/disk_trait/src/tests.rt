@@ -2,8 +2,9 @@ ghost use Rattle.std.specs.Prelude.{◌≡◌, ◌+◌, ◌^◌, ◌<◌, true, 
 ghost use Rattle.disk_trait.specs.Causes.{Rose};
 
 use super::*;
+use std::fs;
 use std::test::Fail;
-use vm_types::{BlockId, Failed, Proc};
+use vm_types::{BlockId, Failed, Proc, SecId};
 
 /// Writes bytes and reads them back, as any block that tells its content gives them.
 fn write_and_read<B: Block>(block: &mut B, bytes: &[u8], buf: &mut [u8]) -> Result<(), Failed>
@@ -80,5 +81,39 @@ fn other_blocks_never_fail(rt: HostRuntime) -> Result<(), Fail> {
     );
     assert_eq!(rt; write_and_read(&mut failing, &[4; 512], &mut buf), Ok(()));
     assert_eq!(rt; buf, [4; 512]);
+    Ok(())
+}
+
+#[test]
+fn files_give_back_what_was_written(rt: HostRuntime) -> Result<(), Fail> {
+    let folder = "disk_trait_test";
+    let _ = fs::remove_dir_all(&rt, folder);
+    let mut depot = FileDepot::new(rt.alloc(), rt.clone()?, folder)?;
+    assert_eq!(rt;
+        make_and_retire(&mut depot, BlockId::PageFile(7), &[1; 512]),
+        Err(MakeFault::Failed)
+    );
+    fs::create_dir(&rt, folder)?;
+    let blocks = [
+        (BlockId::Section(SecId(2), 3), "disk_trait_test/s2_3"),
+        (BlockId::PageFile(7), "disk_trait_test/p7"),
+        (BlockId::Swap(Proc(0), 2), "disk_trait_test/x0_2"),
+    ];
+    for (id, path) in blocks {
+        let mut block = depot.make(id, &[1; 512], &[1])?;
+        assert_eq!(rt; fs::read(&rt, path)?.as_slice(), [1; 512].as_slice());
+        let mut buf = [0; 512];
+        assert_eq!(rt; write_and_read(&mut block, &[2; 512], &mut buf), Ok(()));
+        assert_eq!(rt; buf, [2; 512]);
+        assert_eq!(rt; fs::read(&rt, path)?.as_slice(), [2; 512].as_slice());
+        fs::remove_file(&rt, path)?;
+        assert_eq!(rt;
+            (block.read(&mut buf), block.write(&[3; 512])),
+            (Err(Failed), Err(Failed))
+        );
+        assert_eq!(rt; block.faults(), 2);
+        depot.retire(id, block)?;
+    }
+    fs::remove_dir_all(&rt, folder)?;
     Ok(())
 }

@@ -7,10 +7,10 @@ use Rattle.std.proofs.lemmas.Map.Keys.{IsDistinct-cons}
 use Rattle.std.proofs.lemmas.Map.Made.{length-le_from_is_member}
 use Rattle.vm_types.specs.Same.{same_page}
 use Rattle.vm_types.specs.declared.names.Page.{Page}
-use Rattle.flat_model.specs.Flat.{touched_with}
-use Rattle.flat_model.specs.Maps.{is_private}
-use Rattle.flat_model.specs.Sets.{has_page, at_number}
-use Rattle.flat_model.proofs.Basics.{same_page_refl, pages_equal, same_from_equal, each_fails, count_cons, count_cons_yes}
+use Rattle.pager_model.specs.Flat.{touched_with}
+use Rattle.pager_model.specs.Maps.{is_private}
+use Rattle.pager_model.specs.Sets.{has_page, at_number}
+use Rattle.pager_rules.proofs.Basics.{same_page_refl, pages_equal, same_from_equal, each_fails, count_cons, count_cons_yes}
 
 -- a field of a function with one value changed, where the new value's field is as it was
 pub at_number_field : {X Y : Type 0} (field : X → Y) (f : ℕ → X) (n : ℕ) (x : X) → field x ≡ field (f n) → (m : ℕ) → field (at_number f n x m) ≡ field (f m)

@@ -7,7 +7,7 @@ use Rattle.vm_types.specs.declared.reply.Why.{Why}
 use Rattle.vm_journal.specs.declared.entry.Entry.{Entry}
 use Rattle.vm_journal.specs.declared.entry.What.TheVariants as what
 use Rattle.flat_model.specs.Pager.{Pager, Process}
-use Rattle.flat_model.specs.Sets.{at_number}
+use Rattle.pager_model.specs.Sets.{at_number}
 use Rattle.flat_model.specs.Sound.{IsSound}
 use Rattle.flat_model.specs.Step.{IsDenied, after, with_reference}
 use Rattle.flat_model.proofs.Kept.{IsKept, alike_reference, kept_sound}

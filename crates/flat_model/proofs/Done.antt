@@ -11,14 +11,14 @@ use Rattle.vm_types.specs.declared.reference.Ref.{Ref}
 use Rattle.vm_types.specs.declared.reply.Reply.{Reply}
 use Rattle.vm_journal.specs.declared.entry.Entry.{Entry}
 use Rattle.vm_journal.specs.declared.entry.What.TheVariants as what
-use Rattle.flat_model.specs.Flat.{is_change, touched_with}
-use Rattle.flat_model.specs.Flights.{open_flights, has_read}
-use Rattle.flat_model.specs.Maps.{page_number, is_private}
+use Rattle.pager_model.specs.Flat.{is_change, touched_with}
+use Rattle.pager_model.specs.Flights.{open_flights, has_read}
+use Rattle.pager_model.specs.Maps.{page_number, is_private}
 use Rattle.flat_model.specs.Pager.{Pager, Frame, Process, Valid, is_entry, entry_of, shares}
-use Rattle.flat_model.specs.Sets.{has_page, at_number}
+use Rattle.pager_model.specs.Sets.{has_page, at_number}
 use Rattle.flat_model.specs.Sound.{IsSound, Holds, is_in}
 use Rattle.flat_model.specs.Step.{IsDone, after, frames_done, touched_at, with_modify, with_reference}
-use Rattle.flat_model.proofs.Basics.{at_number_cases, states_equal}
+use Rattle.pager_rules.proofs.Basics.{at_number_cases, states_equal}
 use Rattle.flat_model.proofs.BasicsDone.{find_counts, touched_cases, touched_once}
 use Rattle.flat_model.proofs.Kept.{changed, IsKept, IsMarked, alike_reference, kept_sound}
 use Rattle.flat_model.proofs.Quiet.{quiet_after, quiet_sound}

@@ -10,13 +10,13 @@ use Rattle.std.proofs.lemmas.Option.{slice_get-get_or}
 use Rattle.vm_types.specs.Same.{same_page}
 use Rattle.vm_types.specs.declared.names.Page.{Page}
 use Rattle.vm_types.specs.declared.config.Config.{Config}
-use Rattle.flat_model.specs.Flat.{FlatState, flat_with, touched_with, is_untouched, shared_bytes}
+use Rattle.pager_model.specs.Flat.{FlatState, flat_with, touched_with, is_untouched, shared_bytes}
 use Rattle.flat_model.specs.FlatMachine.{IsFlat, AreTablesOf, stored_of, is_of, is_touch, bytes_or}
-use Rattle.flat_model.specs.Maps.{is_private}
-use Rattle.flat_model.specs.Sets.{has_page, with_page}
+use Rattle.pager_model.specs.Maps.{is_private}
+use Rattle.pager_model.specs.Sets.{has_page, with_page}
 use Rattle.flat_model.specs.declared.flat.Flat.{Flat}
 use Rattle.flat_model.specs.declared.flat.Stored.{Stored}
-use Rattle.flat_model.proofs.Basics.{same_page_refl, pages_equal, same_from_equal, has_page_first}
+use Rattle.pager_rules.proofs.Basics.{same_page_refl, pages_equal, same_from_equal, has_page_first}
 use Rattle.flat_model.proofs.Found.{found_passes}
 
 -- ---- the entry of each page

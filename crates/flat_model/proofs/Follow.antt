@@ -11,14 +11,14 @@ use Rattle.vm_types.specs.declared.reply.Why.TheVariants as why
 use Rattle.vm_journal.specs.declared.entry.Entry.{Entry}
 use Rattle.vm_journal.specs.declared.entry.What.{What}
 use Rattle.vm_journal.specs.declared.entry.What.TheVariants as what
-use Rattle.flat_model.specs.Flat.{FlatState, is_untouched, is_page_file_full, refusal_at, flat_refusal, answered_at, next_unless, flat_next}
+use Rattle.pager_model.specs.Flat.{FlatState, is_untouched, is_page_file_full, refusal_at, flat_refusal, answered_at, next_unless, flat_next}
 use Rattle.flat_model.specs.Laws.{IsSoundThroughout}
-use Rattle.flat_model.specs.Maps.{Map, Mapped, page_behind, page_number, is_private}
+use Rattle.pager_model.specs.Maps.{Map, Mapped, page_behind, page_number, is_private}
 use Rattle.flat_model.specs.Pager.{Pager, Valid}
 use Rattle.flat_model.specs.Run.{pager_after, IsRun}
-use Rattle.flat_model.specs.Sets.{has_page}
+use Rattle.pager_model.specs.Sets.{has_page}
 use Rattle.flat_model.specs.Sound.{IsSound}
-use Rattle.flat_model.specs.Spoken.{flat_after, flat_entry}
+use Rattle.pager_model.specs.Spoken.{flat_after, flat_entry}
 use Rattle.flat_model.specs.Step.{IsDone, IsLegalWhat, Allows, after_what, page_at, touched_at}
 use Rattle.flat_model.proofs.BasicsDone.{shorter_list}
 

@@ -13,7 +13,7 @@ use Rattle.vm_types.specs.declared.config.Origin.{Origin}
 use Rattle.vm_types.specs.declared.config.Origin.TheVariants as origin
 use Rattle.vm_types.specs.declared.config.Section.{Section}
 use Rattle.vm_types.specs.declared.names.SecId.{SecId}
-use Rattle.flat_model.specs.Maps.{covers, page_number}
+use Rattle.pager_model.specs.Maps.{covers, page_number}
 use Rattle.flat_model.specs.Usable.{IsUsable, pages_of, end_of, limit_of}
 
 pub found_passes : {X : Type 0} (p : X → Bool) (xs : List X) (x : X) → find p xs ≡ Some x → p x ≡ true

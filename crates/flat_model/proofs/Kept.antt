@@ -12,9 +12,9 @@ use Rattle.vm_types.specs.declared.config.Config.{Config}
 use Rattle.vm_journal.specs.declared.entry.Entry.{Entry}
 use Rattle.vm_journal.specs.declared.entry.Role.{Role}
 use Rattle.vm_journal.specs.declared.entry.Role.TheVariants as role
-use Rattle.flat_model.specs.Flights.{Flight, Direction, reading, writing, open_flights, has_flight, has_read, has_failed_read, failed_flight, is_reading}
+use Rattle.pager_model.specs.Flights.{Flight, Direction, reading, writing, open_flights, has_flight, has_read, has_failed_read, failed_flight, is_reading}
 use Rattle.flat_model.specs.Pager.{Pager, Frame, Process}
-use Rattle.flat_model.specs.Sets.{has_page, at_number}
+use Rattle.pager_model.specs.Sets.{has_page, at_number}
 use Rattle.flat_model.specs.Step.{with_reference}
 use Rattle.flat_model.proofs.BasicsDone.{at_number_field}
 use Rattle.flat_model.specs.Sound.{IsSound, HasBadFrames, HasLists, HasStates, HasPages, HasEntries, HasCharges, HasSwapped, HasContents, HasLimits, HasStatuses, FitsRole, IsFirstRead, FitsWrite, FitsDirection, FitsFlight, Holds, is_in, IsPrivateMapped}

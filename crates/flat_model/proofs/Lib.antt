@@ -1,4 +1,3 @@
-pub mod Basics
 pub mod Opening
 pub mod ZeroRing
 pub mod ZeroFacts

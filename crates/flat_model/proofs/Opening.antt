@@ -18,11 +18,11 @@ use Rattle.vm_types.specs.declared.names.FrameState.TheVariants as state
 use Rattle.vm_types.specs.declared.names.ProcStatus.TheVariants as status
 use Rattle.vm_types.specs.declared.config.Config.{Config}
 use Rattle.vm_types.specs.declared.config.ProcSpec.{ProcSpec}
-use Rattle.flat_model.specs.Maps.{is_private}
-use Rattle.flat_model.specs.Sets.{has}
+use Rattle.pager_model.specs.Maps.{is_private}
+use Rattle.pager_model.specs.Sets.{has}
 use Rattle.flat_model.specs.Pager.{is_bad, first_frame, first_process, first_block, opening}
 use Rattle.flat_model.specs.Sound.{has_vpn, HasBadFrames, HasLists, HasStates, HasPages, HasEntries, HasCharges, HasSwapped, HasContents, HasLimits, IsBounded, HasStatuses, IsSound}
-use Rattle.flat_model.proofs.Basics.{count_replicate}
+use Rattle.pager_rules.proofs.Basics.{count_replicate}
 
 -- ---- the free list
 has_filter : (test : ℕ → Bool) (xs : List ℕ) (x : ℕ) → has (filter test xs) x ≡ (test x && has xs x)

@@ -2,9 +2,9 @@
 use Rattle.std.proofs.Common.{◌≡◌, ℕ, false, List, ◌∷◌, Some, None, sym, ◌∙◌}
 use Rattle.vm_types.specs.declared.config.Config.{Config}
 use Rattle.vm_journal.specs.declared.entry.Entry.{Entry}
-use Rattle.flat_model.specs.Flights.{open_flights, has_failed_read, failed_flight, failed_in, fails_read, awaits_reuse}
+use Rattle.pager_model.specs.Flights.{open_flights, has_failed_read, failed_flight, failed_in, fails_read, awaits_reuse}
 use Rattle.flat_model.specs.Pager.{Pager}
-use Rattle.flat_model.proofs.Basics.{no_failed_read}
+use Rattle.pager_rules.proofs.Basics.{no_failed_read}
 use Rattle.flat_model.specs.Sound.{IsSound, HasStates, HasFlights, HasContents}
 
 -- the entries after which a past has the same open flights, and no frame awaits its reuse

@@ -12,15 +12,15 @@ use Rattle.vm_types.specs.declared.service.Request.TheVariants as request
 use Rattle.vm_journal.specs.declared.entry.Entry.{Entry}
 use Rattle.vm_journal.specs.declared.entry.What.{What}
 use Rattle.vm_journal.specs.declared.entry.What.TheVariants as what
-use Rattle.flat_model.specs.Flat.{flat_refusal, flat_reply}
-use Rattle.flat_model.specs.Maps.{page_number}
+use Rattle.pager_model.specs.Flat.{flat_refusal, flat_reply}
+use Rattle.pager_model.specs.Maps.{page_number}
 use Rattle.flat_model.specs.Order.{answered, requests_of, spoken_by, IsInOrder, IsAnswered}
 use Rattle.flat_model.specs.Pager.{Pager, Valid, entry_of}
 use Rattle.flat_model.specs.Policy.{spoken, next_task, next_entry, next_of, next_request, next_for, unless_pending, fault_or_done, zero_with, by_seat, page_start, IsSerial}
 use Rattle.flat_model.specs.Run.{pager_after}
-use Rattle.flat_model.specs.Spoken.{flat_after, request_of}
+use Rattle.pager_model.specs.Spoken.{flat_after, request_of}
 use Rattle.flat_model.specs.Step.{is_pending}
-use Rattle.flat_model.proofs.Basics.{count_cons_yes, count_cons_no}
+use Rattle.pager_rules.proofs.Basics.{count_cons_yes, count_cons_no}
 
 -- an entry answers nothing, or this request
 abbrev Speaks : Request → What → Type 0

@@ -16,9 +16,9 @@ use Rattle.vm_types.specs.declared.reply.Reply.{Reply}
 use Rattle.vm_types.specs.declared.reply.Reply.TheVariants as reply
 use Rattle.vm_types.specs.declared.reply.Why.{Why}
 use Rattle.vm_types.specs.declared.reply.Why.TheVariants as why
-use Rattle.flat_model.specs.Flat.{FlatState, flat_with, flat_reply, flat_next, flat_refusal, refusal_at, found_at, answered_at, next_unless, reply_unless, reply_from, bytes_after, offset_in_page, page_bytes, is_untouched, is_page_file_full, is_change, mapping_of, shared_bytes}
+use Rattle.pager_model.specs.Flat.{FlatState, flat_with, flat_reply, flat_next, flat_refusal, refusal_at, found_at, answered_at, next_unless, reply_unless, reply_from, bytes_after, offset_in_page, page_bytes, is_untouched, is_page_file_full, is_change, mapping_of, shared_bytes}
 use Rattle.flat_model.specs.FlatMachine.{IsFlat, IsAllowedAt, stored_of, is_of, is_touch, bytes_or}
-use Rattle.flat_model.specs.Maps.{Mapped, mapped_by, covers, origin_after, is_private, page_behind, page_number, shared_of, first_bytes}
+use Rattle.pager_model.specs.Maps.{Mapped, mapped_by, covers, origin_after, is_private, page_behind, page_number, shared_of, first_bytes}
 use Rattle.flat_model.specs.declared.flat.Flat.{Flat}
 use Rattle.flat_model.specs.declared.flat.Stored.{Stored}
 use Rattle.flat_model.proofs.Entries.{flat_pushed, flat_written, entry_at, untouched_some, untouched_none}

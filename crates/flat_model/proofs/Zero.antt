@@ -7,12 +7,12 @@ use Rattle.vm_types.specs.declared.names.Seat.{Seat}
 use Rattle.vm_types.specs.declared.config.Config.{Config}
 use Rattle.vm_journal.specs.declared.entry.Entry.{Entry}
 use Rattle.vm_journal.specs.declared.entry.What.TheVariants as what
-use Rattle.flat_model.specs.Flights.{open_flights}
-use Rattle.flat_model.specs.Maps.{page_number}
+use Rattle.pager_model.specs.Flights.{open_flights}
+use Rattle.pager_model.specs.Maps.{page_number}
 use Rattle.flat_model.specs.Pager.{Pager, Process}
 use Rattle.flat_model.specs.Sound.{IsSound}
 use Rattle.flat_model.specs.Step.{IsZero, with_fault, after}
-use Rattle.flat_model.proofs.Basics.{no_failed_read}
+use Rattle.pager_rules.proofs.Basics.{no_failed_read}
 use Rattle.flat_model.proofs.ZeroFacts.{IsUnused, IsAbsent, IsServed, unused_frame, absent_page, with_fault_serves}
 use Rattle.flat_model.proofs.ZeroFrames.{zero_bad_frames, zero_lists, zero_states, zero_pages}
 use Rattle.flat_model.proofs.ZeroEntries.{zero_entries, zero_limits, zero_statuses}

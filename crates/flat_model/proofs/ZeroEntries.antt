@@ -8,12 +8,12 @@ use Rattle.vm_types.specs.declared.names.Page.TheVariants.{Private}
 use Rattle.vm_types.specs.declared.names.ProcStatus.{ProcStatus}
 use Rattle.vm_types.specs.declared.names.ProcStatus.TheVariants as status
 use Rattle.vm_types.specs.declared.config.Config.{Config}
-use Rattle.flat_model.specs.Maps.{proc}
+use Rattle.pager_model.specs.Maps.{proc}
 use Rattle.flat_model.specs.Pager.{Pager, Frame, Process, Valid, is_entry, entry_of}
-use Rattle.flat_model.specs.Sets.{at_number}
+use Rattle.pager_model.specs.Sets.{at_number}
 use Rattle.flat_model.specs.Sound.{Holds, has_vpn, HasEntries, HasLimits, IsBounded, HasStatuses}
 use Rattle.flat_model.specs.Step.{active_with, page_of}
-use Rattle.flat_model.proofs.Basics.{at_number_cases, at_number_same, count_cons, count_cons_no, count_from_no_find, find_cons_no, nat_eq_refl}
+use Rattle.pager_rules.proofs.Basics.{at_number_cases, at_number_same, count_cons, count_cons_no, count_from_no_find, find_cons_no, nat_eq_refl}
 use Rattle.flat_model.proofs.ZeroFacts.{IsAbsent, IsServed, zeroed}
 
 module _ (config : Config) (a : Pager) (p v f : ℕ) (process : Process) where

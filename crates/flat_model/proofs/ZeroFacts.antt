@@ -18,13 +18,13 @@ use Rattle.vm_types.specs.declared.config.Origin.{Origin}
 use Rattle.vm_types.specs.declared.config.ProcSpec.{ProcSpec}
 use Rattle.vm_journal.specs.declared.entry.Entry.{Entry}
 use Rattle.vm_journal.specs.declared.entry.What.TheVariants as what
-use Rattle.flat_model.specs.Flights.{open_flights, has_read, has_failed_read}
-use Rattle.flat_model.specs.Maps.{Mapped, page_behind, proc}
+use Rattle.pager_model.specs.Flights.{open_flights, has_read, has_failed_read}
+use Rattle.pager_model.specs.Maps.{Mapped, page_behind, proc}
 use Rattle.flat_model.specs.Pager.{Pager, Process, Valid, entry_of, shares}
-use Rattle.flat_model.specs.Sets.{has, has_page, at_number}
+use Rattle.pager_model.specs.Sets.{has, has_page, at_number}
 use Rattle.flat_model.specs.Sound.{is_in, Holds, HasLists, HasStates, HasEntries, HasContents, HasLimits}
 use Rattle.flat_model.specs.Step.{IsDemandZero, IsEmptyHead, page_of, page_at, with_fault, active_with, tail}
-use Rattle.flat_model.proofs.Basics.{states_equal, nat_eq_refl}
+use Rattle.pager_rules.proofs.Basics.{states_equal, nat_eq_refl}
 use Rattle.flat_model.proofs.ZeroRing.{IsPlaced, placed_below_limit}
 
 -- the frame is free, empty, in no entry and not being read; nothing awaits its reuse

@@ -9,12 +9,12 @@ use Rattle.vm_types.specs.declared.names.ProcStatus.TheVariants as status
 use Rattle.vm_types.specs.declared.config.Config.{Config}
 use Rattle.vm_journal.specs.declared.entry.Role.{Role}
 use Rattle.vm_journal.specs.declared.entry.Role.TheVariants as role
-use Rattle.flat_model.specs.Flights.{Flight, Direction, reading, writing, is_busy}
-use Rattle.flat_model.specs.Maps.{page_number, proc}
+use Rattle.pager_model.specs.Flights.{Flight, Direction, reading, writing, is_busy}
+use Rattle.pager_model.specs.Maps.{page_number, proc}
 use Rattle.flat_model.specs.Pager.{Pager, Process}
-use Rattle.flat_model.specs.Sets.{at_number}
+use Rattle.pager_model.specs.Sets.{at_number}
 use Rattle.flat_model.specs.Sound.{FitsRole, IsFirstRead, FitsWrite, FitsDirection, FitsFlight}
-use Rattle.flat_model.proofs.Basics.{at_number_other, each_fails, each_of_two, has_page_more}
+use Rattle.pager_rules.proofs.Basics.{at_number_other, each_fails, each_of_two, has_page_more}
 use Rattle.flat_model.proofs.ZeroFacts.{IsServed, zeroed}
 use Rattle.flat_model.proofs.ZeroEntries.{held_stays, entry_stays, status_stays}
 

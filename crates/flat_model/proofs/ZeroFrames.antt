@@ -13,13 +13,13 @@ use Rattle.vm_types.specs.declared.names.Seat.{Seat}
 use Rattle.vm_types.specs.declared.names.FrameState.TheVariants as state
 use Rattle.vm_types.specs.declared.config.Config.{Config}
 use Rattle.vm_journal.specs.declared.entry.Entry.{Entry}
-use Rattle.flat_model.specs.Flights.{open_flights, has_read, has_write}
-use Rattle.flat_model.specs.Maps.{proc}
+use Rattle.pager_model.specs.Flights.{open_flights, has_read, has_write}
+use Rattle.pager_model.specs.Maps.{proc}
 use Rattle.flat_model.specs.Pager.{Pager, Frame, Process, Valid, is_bad, shares}
-use Rattle.flat_model.specs.Sets.{has}
+use Rattle.pager_model.specs.Sets.{has}
 use Rattle.flat_model.specs.Sound.{is_in, Holds, HasBadFrames, HasLists, HasStates, HasPages}
 use Rattle.flat_model.specs.Step.{IsEmptyHead, active_with, tail}
-use Rattle.flat_model.proofs.Basics.{at_number_cases, none_passes, count_cons_yes, count_cons_no, nat_eq_refl}
+use Rattle.pager_rules.proofs.Basics.{at_number_cases, none_passes, count_cons_yes, count_cons_no, nat_eq_refl}
 use Rattle.flat_model.proofs.ZeroFacts.{IsUnused, IsAbsent, zeroed, zero_entry, state_of_free}
 
 module _ (config : Config) (past : List Entry) (a : Pager) (p v f : ℕ) (process : Process) where

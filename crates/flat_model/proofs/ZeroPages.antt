@@ -12,13 +12,13 @@ use Rattle.vm_types.specs.declared.names.FrameState.TheVariants as state
 use Rattle.vm_types.specs.declared.names.ProcStatus.TheVariants as status
 use Rattle.vm_types.specs.declared.config.Config.{Config}
 use Rattle.vm_journal.specs.declared.entry.Entry.{Entry}
-use Rattle.flat_model.specs.Flights.{open_flights, has_flight}
-use Rattle.flat_model.specs.Maps.{proc}
+use Rattle.pager_model.specs.Flights.{open_flights, has_flight}
+use Rattle.pager_model.specs.Maps.{proc}
 use Rattle.flat_model.specs.Pager.{Pager, Frame, Process, Assigned}
-use Rattle.flat_model.specs.Sets.{has_page, at_number}
+use Rattle.pager_model.specs.Sets.{has_page, at_number}
 use Rattle.flat_model.specs.Sound.{Holds, HasCharges, FitsSlot, slot_of, MayHoldSwapped, IsSwapped, HasSwapped, IsPrivateMapped, HasContents}
 use Rattle.flat_model.specs.Step.{active_with}
-use Rattle.flat_model.proofs.Basics.{at_number_cases, at_number_same, at_number_other, each_fails, each_weaker, has_page_more, has_page_first, pages_equal}
+use Rattle.pager_rules.proofs.Basics.{at_number_cases, at_number_same, at_number_other, each_fails, each_weaker, has_page_more, has_page_first, pages_equal}
 use Rattle.flat_model.proofs.ZeroFacts.{IsUnused, IsAbsent, IsServed, zeroed, zero_entry}
 use Rattle.flat_model.proofs.ZeroEntries.{held_stays, status_stays}
 

@@ -11,7 +11,7 @@ use Rattle.vm_types.specs.declared.ring_choice.Choice.{Choice}
 use Rattle.vm_types.specs.declared.ring_choice.Choice.TheVariants.{Empty}
 use Rattle.flat_model.specs.Sound.{has_vpn}
 use Rattle.flat_model.specs.Step.{placed, placed_at}
-use Rattle.flat_model.proofs.Basics.{count_cons_yes, count_set}
+use Rattle.pager_rules.proofs.Basics.{count_cons_yes, count_set}
 
 -- ---- the slots from the hand on
 -- a place after the hand is a slot, before the end of the list or past it

@@ -9,7 +9,7 @@ use Rattle.vm_types.specs.declared.names.FrameState.TheVariants as state
 use Rattle.vm_types.specs.declared.names.ProcStatus.{ProcStatus}
 use Rattle.vm_types.specs.declared.config.Config.{Config}
 use Rattle.vm_journal.specs.declared.entry.Entry.{Entry}
-use Rattle.flat_model.specs.Flights.{Flight, open_flights}
+use Rattle.pager_model.specs.Flights.{Flight, open_flights}
 use Rattle.flat_model.specs.Pager.{Pager, shares}
 
 -- how many transfers are open on a frame

@@ -10,9 +10,9 @@ use Rattle.vm_types.specs.declared.config.Origin.{Origin}
 use Rattle.vm_types.specs.declared.faults.NoMemory.{NoMemory}
 use Rattle.vm_types.specs.declared.reference.Ref.{Ref}
 use Rattle.vm_types.specs.declared.reply.Reply.{Reply}
-use Rattle.flat_model.specs.Flat.{FlatState, shared_bytes, flat_reply, flat_next, mapping_of, is_change}
-use Rattle.flat_model.specs.Maps.{first_map, is_private, page_behind, page_number}
-use Rattle.flat_model.specs.Sets.{has_page}
+use Rattle.pager_model.specs.Flat.{FlatState, shared_bytes, flat_reply, flat_next, mapping_of, is_change}
+use Rattle.pager_model.specs.Maps.{first_map, is_private, page_behind, page_number}
+use Rattle.pager_model.specs.Sets.{has_page}
 use Rattle.flat_model.specs.declared.tables.Tables.{Tables}
 use Rattle.flat_model.specs.declared.flat.Flat.{Flat}
 use Rattle.flat_model.specs.declared.flat.Stored.{Stored}

@@ -8,7 +8,7 @@ use Rattle.flat_model.specs.Pager.{Pager, opening}
 use Rattle.flat_model.specs.Policy.{IsSerial, next_entry, next_task}
 use Rattle.flat_model.specs.Run.{IsRun, pager_after}
 use Rattle.flat_model.specs.Sound.{IsSound}
-use Rattle.flat_model.specs.Spoken.{flat_after}
+use Rattle.pager_model.specs.Spoken.{flat_after}
 use Rattle.flat_model.specs.Step.{IsLegal, after}
 
 -- the state is sound at the opening and after each entry of a past

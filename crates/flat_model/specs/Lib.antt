@@ -1,10 +1,10 @@
-pub mod Maps
-pub mod Sets
-pub mod Flat
-pub mod FlatService
-pub mod Spoken
+pub use Rattle.pager_model.specs.Maps
+pub use Rattle.pager_model.specs.Sets
+pub use Rattle.pager_model.specs.Flat
+pub use Rattle.pager_model.specs.FlatService
+pub use Rattle.pager_model.specs.Spoken
+pub use Rattle.pager_model.specs.Flights
 pub mod Pager
-pub mod Flights
 pub mod Step
 pub mod Run
 pub mod Sound

@@ -4,8 +4,8 @@ use Rattle.vm_types.specs.declared.config.Config.{Config}
 use Rattle.vm_types.specs.declared.config.Task.{Task}
 use Rattle.vm_types.specs.declared.service.Request.{Request}
 use Rattle.vm_journal.specs.declared.entry.Entry.{Entry}
-use Rattle.flat_model.specs.Flights.{open_flights, awaits_reuse}
-use Rattle.flat_model.specs.Spoken.{request_of}
+use Rattle.pager_model.specs.Flights.{open_flights, awaits_reuse}
+use Rattle.pager_model.specs.Spoken.{request_of}
 
 -- a request of a process's seat, where the entry speaks for it
 abbrev pub spoken_by : ℕ → ℕ → Option Request → List Request

@@ -14,8 +14,8 @@ use Rattle.vm_types.specs.declared.names.ProcStatus.{ProcStatus}
 use Rattle.vm_types.specs.declared.names.ProcStatus.TheVariants as status
 use Rattle.vm_types.specs.declared.config.Config.{Config}
 use Rattle.vm_types.specs.declared.config.ProcSpec.{ProcSpec}
-use Rattle.flat_model.specs.Maps.{Map, first_map}
-use Rattle.flat_model.specs.Sets.{has}
+use Rattle.pager_model.specs.Maps.{Map, first_map}
+use Rattle.pager_model.specs.Sets.{has}
 
 -- a page frame: its state, the page that it holds, and whether that page is modified
 pub record Frame : Type 0 where

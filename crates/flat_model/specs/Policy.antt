@@ -11,11 +11,11 @@ use Rattle.vm_types.specs.declared.service.Request.TheVariants as request
 use Rattle.vm_journal.specs.declared.entry.Entry.{Entry}
 use Rattle.vm_journal.specs.declared.entry.What.{What}
 use Rattle.vm_journal.specs.declared.entry.What.TheVariants as what
-use Rattle.flat_model.specs.Flat.{flat_refusal, flat_reply}
-use Rattle.flat_model.specs.Maps.{page_number}
+use Rattle.pager_model.specs.Flat.{flat_refusal, flat_reply}
+use Rattle.pager_model.specs.Maps.{page_number}
 use Rattle.flat_model.specs.Pager.{Pager, Valid, entry_of}
 use Rattle.flat_model.specs.Run.{pager_after}
-use Rattle.flat_model.specs.Spoken.{flat_after, request_of}
+use Rattle.pager_model.specs.Spoken.{flat_after, request_of}
 use Rattle.flat_model.specs.Step.{is_pending}
 
 -- how many requests a past has answered

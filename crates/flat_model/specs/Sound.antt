@@ -20,10 +20,10 @@ use Rattle.vm_types.specs.declared.config.ProcSpec.{ProcSpec}
 use Rattle.vm_journal.specs.declared.entry.Entry.{Entry}
 use Rattle.vm_journal.specs.declared.entry.Role.{Role}
 use Rattle.vm_journal.specs.declared.entry.Role.TheVariants as role
-use Rattle.flat_model.specs.Flights.{Flight, Direction, reading, writing, open_flights, has_flight, has_read, has_write, has_failed_read, failed_flight}
-use Rattle.flat_model.specs.Maps.{Mapped, page_number, is_private}
+use Rattle.pager_model.specs.Flights.{Flight, Direction, reading, writing, open_flights, has_flight, has_read, has_write, has_failed_read, failed_flight}
+use Rattle.pager_model.specs.Maps.{Mapped, page_number, is_private}
 use Rattle.flat_model.specs.Pager.{Pager, Process, Valid, Assigned, is_bad, is_entry, entry_of, shares}
-use Rattle.flat_model.specs.Sets.{has, has_page}
+use Rattle.pager_model.specs.Sets.{has, has_page}
 use Rattle.flat_model.specs.Step.{page_of}
 
 -- whether a frame is in a state

@@ -17,16 +17,16 @@ use Rattle.vm_types.specs.declared.reply.Why.{Why}
 use Rattle.vm_types.specs.declared.reply.Why.TheVariants as why
 use Rattle.vm_types.specs.declared.ring_choice.Choice.{Choice}
 use Rattle.vm_types.specs.declared.ring_choice.Choice.TheVariants.{Empty}
-use Rattle.vm_journal.specs.HasLine.{Answers}
+use Rattle.vm_text.specs.References.{Answers}
 use Rattle.vm_journal.specs.declared.entry.Entry.{Entry}
 use Rattle.vm_journal.specs.declared.entry.What.{What}
 use Rattle.vm_journal.specs.declared.entry.What.TheVariants as what
-use Rattle.flat_model.specs.Flat.{flat_refusal, is_change, touched_with}
-use Rattle.flat_model.specs.Flights.{open_flights, is_busy, awaits_reuse}
-use Rattle.flat_model.specs.Maps.{Mapped, page_behind, page_number}
+use Rattle.pager_model.specs.Flat.{flat_refusal, is_change, touched_with}
+use Rattle.pager_model.specs.Flights.{open_flights, is_busy, awaits_reuse}
+use Rattle.pager_model.specs.Maps.{Mapped, page_behind, page_number}
 use Rattle.flat_model.specs.Pager.{Pager, Frame, Process, Valid, entry_of}
-use Rattle.flat_model.specs.Sets.{has_page, at_number}
-use Rattle.flat_model.specs.Spoken.{flat_after}
+use Rattle.pager_model.specs.Sets.{has_page, at_number}
+use Rattle.pager_model.specs.Spoken.{flat_after}
 
 -- an adjustment is pending where enough references were spoken since the last one
 abbrev pub is_pending : Config → Process → Bool

@@ -1,20 +1,19 @@
 -- The printed text of a run: entry lines, the report, the lines after it, and the status. This
 -- project's own. Each line ends with byte 10.
-use Rattle.std.specs.Prelude.{ℕ, Bool, true, false, ◌+◌, ◌*◌, ◌&&◌, List, [], ◌∷◌, ◌++◌, Option, Some, None, length, take, drop, filter, map, reverse, slice_get, slice_index_or, codes, decimal, if◌then◌else◌}
+use Rattle.std.specs.Prelude.{ℕ, Bool, false, ◌+◌, ◌&&◌, List, [], ◌∷◌, ◌++◌, Option, Some, None, length, take, drop, filter, map, reverse, slice_index_or, codes, decimal, if◌then◌else◌}
 use Rattle.std.specs.List.{range_with_len, list_any, flat_map}
 use Rattle.vm_types.specs.Same.{same_page}
 use Rattle.vm_types.specs.Configuration.{section_pages}
 use Rattle.vm_types.specs.declared.names.Page.{Page}
-use Rattle.vm_types.specs.declared.names.Page.TheVariants.{Private, Shared}
+use Rattle.vm_types.specs.declared.names.Page.TheVariants.{Shared}
 use Rattle.vm_types.specs.declared.names.FrameState.{FrameState}
 use Rattle.vm_types.specs.declared.names.FrameState.TheVariants as state
-use Rattle.vm_types.specs.declared.names.ProcStatus.{ProcStatus}
-use Rattle.vm_types.specs.declared.names.ProcStatus.TheVariants as status
 use Rattle.vm_types.specs.declared.config.Config.{Config}
 use Rattle.vm_types.specs.declared.config.Section.{Section}
 use Rattle.vm_journal.specs.declared.entry.Entry.{Entry}
 use Rattle.vm_journal.specs.Line.{line_text}
-use Rattle.vm_journal.specs.Words.{process_name, address_text}
+use Rattle.vm_text.specs.Names.{process_name, page_text}
+use Rattle.vm_text.specs.States.{state_word, status_word, mark_text}
 use Rattle.flat_model.specs.Counts.{FrameRow, ProcessRow, Report, report_of}
 use Rattle.flat_model.specs.Pager.{Pager}
 use Rattle.flat_model.specs.Run.{pager_after}
@@ -26,37 +25,6 @@ ended line = line ++ 10 ∷ []
 abbrev pub entry_lines : ℕ → ℕ → List Section → List Entry → List ℕ
 entry_lines number procs names [] = []
 entry_lines number procs names (e ∷ entries) = ended (line_text number e procs names) ++ entry_lines (number + 1) procs names entries
-
-abbrev pub section_name : List Section → ℕ → List ℕ
-section_name names s = name_of (slice_get names s) where
-  name_of : Option Section → List ℕ
-  name_of None = []
-  name_of (Some section) = section.name
-
--- a page: process and first address, or section and number
-abbrev pub page_text : List Section → Page → List ℕ
-page_text names (Private p v) = process_name p.0 ++ codes "/" ++ address_text (512 * v)
-page_text names (Shared s i) = section_name names s.0 ++ codes "/" ++ decimal i
-
-abbrev pub state_word : FrameState → List ℕ
-state_word state.Free = codes "FREE"
-state_word state.Modified = codes "MODIFIED"
-state_word state.Bad = codes "BAD"
-state_word state.ReleasePending = codes "RELEASE"
-state_word state.ReadError = codes "READERROR"
-state_word state.Writing = codes "WRITING"
-state_word state.Reading = codes "READING"
-state_word state.Active = codes "ACTIVE"
-
-abbrev pub status_word : ProcStatus → List ℕ
-status_word status.Resident = codes "RESIDENT"
-status_word status.Leaving = codes "LEAVING"
-status_word status.Gone = codes "GONE"
-status_word status.Coming = codes "COMING"
-
-abbrev pub mark_text : Bool → List ℕ
-mark_text true = codes "1"
-mark_text false = codes "0"
 
 -- the line of a frame that holds a page
 abbrev pub held_text : List Section → ℕ → FrameRow → Page → List ℕ

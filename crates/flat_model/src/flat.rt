@@ -5,8 +5,8 @@ ghost use Rattle.std.specs.Prelude.{◌≡◌, ◌&&◌, count_by, nat_eq, IfOk}
 ghost use Rattle.vm_types.specs.Configuration.{IsWellFormed};
 ghost use Rattle.vm_types.specs.Same.{same_page};
 ghost use Rattle.vm_types.specs.WellFormed.{IsWellFormedReference};
-ghost use Rattle.flat_model.specs.Flat.{flat_start, is_change};
-ghost use Rattle.flat_model.specs.Maps.{is_private};
+ghost use Rattle.pager_model.specs.Flat.{flat_start, is_change};
+ghost use Rattle.pager_model.specs.Maps.{is_private};
 ghost use Rattle.flat_model.specs.FlatMachine.{IsFlat, AnswersAsFlat, AnswersNew, IsPlace, is_touch};
 ghost use Rattle.flat_model.specs.Usable.{IsOrigin};
 

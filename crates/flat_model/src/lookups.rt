@@ -3,7 +3,7 @@
 ghost use Rattle.std.specs.Prelude.{◌≡◌, ◌-◌, find, slice_get, IfOk, Some};
 ghost use Rattle.vm_types.specs.Configuration.{IsWellFormed};
 ghost use Rattle.vm_types.specs.declared.config.Config.{Config};
-ghost use Rattle.flat_model.specs.Maps.{covers, page_number, shared_of, page_behind, first_bytes, origin_after};
+ghost use Rattle.pager_model.specs.Maps.{covers, page_number, shared_of, page_behind, first_bytes, origin_after};
 ghost use Rattle.flat_model.specs.FlatMachine.{AreTablesOf};
 ghost use Rattle.flat_model.specs.Usable.{IsOrigin};
 

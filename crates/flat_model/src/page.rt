@@ -3,8 +3,8 @@
 ghost use Rattle.std.specs.Prelude.{◌≡◌, ℕ, ◌+◌, ◌<◌, ◌≤◌, ◌^◌, ◌++◌, length, take, drop};
 ghost use Rattle.vm_types.specs.declared.reference.Width.TheVariants.{One, Two, Four};
 ghost use Rattle.vm_types.specs.WellFormed.{IsWellFormedReference, width_bytes};
-ghost use Rattle.vm_journal.specs.HasLine.{Answers};
-ghost use Rattle.flat_model.specs.Flat.{number_at, with_number, reply_from, bytes_after, offset_in_page};
+ghost use Rattle.vm_text.specs.References.{Answers};
+ghost use Rattle.pager_model.specs.Flat.{number_at, with_number, reply_from, bytes_after, offset_in_page};
 
 use vm_types::{Op, Ref, Reply, Width};
 

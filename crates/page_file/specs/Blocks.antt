@@ -25,6 +25,10 @@ pub record IsFreeBlock (blocks : Blocks) (block : ℕ) : Type 0 where
 abbrev pub IsAssignedBlock : Blocks → ℕ → Type 0
 IsAssignedBlock blocks block = IsSome (owner_of blocks block)
 
+-- no block below this one is free
+abbrev pub NoneFreeBelow : Blocks → ℕ → Type 0
+NoneFreeBelow blocks block = (k : ℕ) → k < block → ¬ IsFreeBlock blocks k
+
 -- each assigned block is charged, and no more are charged than there are
 pub record AreBlocks (blocks : Blocks) : Type 0 where
   pub assigned : assigned_blocks blocks ≤ blocks.charged

@@ -12,18 +12,22 @@ pub struct PageFile {
     owners: Vec<Option<Page>>,
     charges: u32,
     assignments: u32,
+    /// No block below this one is free; at most the number of blocks.
+    hint: u32,
 }
 
 impl Model for PageFile {
-    ghost use Rattle.std.specs.Prelude.{◌≡◌, count_by, is_some};
-    ghost use Rattle.page_file.specs.Blocks.{Blocks, AreBlocks};
+    ghost use Rattle.std.specs.Prelude.{◌≡◌, ◌≤◌, count_by, is_some, length};
+    ghost use Rattle.page_file.specs.Blocks.{Blocks, AreBlocks, NoneFreeBelow};
 
     ghost Value = { Blocks };
 
     ghost view = { λ f. record { charged = f.charges; owners = f.owners.items } };
 
     ghost invariant = { λ f. (f.assignments ≡ count_by is_some f.owners.items)
-        × AreBlocks (record { charged = f.charges; owners = f.owners.items }) };
+        × AreBlocks (record { charged = f.charges; owners = f.owners.items })
+        × (f.hint ≤ length f.owners.items)
+        × NoneFreeBelow (record { charged = f.charges; owners = f.owners.items }) f.hint };
 }
 
 impl PageFile {
@@ -34,12 +38,14 @@ impl PageFile {
     /// # Errors
     /// `NoMemory` for want of memory.
     pub fn new(alloc: Global, blocks: u32) -> Result<PageFile, NoMemory>
-        ensures { IfOk result (λ f. f ≡ record { charged = 0; owners = replicate blocks None }) }
+        ensures made { IfOk result (λ f. f ≡ record { charged = 0; owners = replicate blocks None }) }
+        ensures blocks { IfOk result (λ f. AreBlocks f) }
     {
         Ok(PageFile {
             owners: vec![in alloc; None; blocks as usize]?,
             charges: 0,
             assignments: 0,
+            hint: 0,
         })
     }
 
@@ -51,6 +57,7 @@ impl PageFile {
         ensures full { IsErr result ↔ (self.old.charged ≡ length self.old.owners) }
         ensures ok { OnOk result (self.new ≡ record self.old { charged = self.old.charged + 1 }) }
         ensures err { OnErr result (self.new ≡ self.old) }
+        ensures blocks { AreBlocks self.new }
     {
         if self.charges as usize == self.owners.len() {
             return Err(Full);
@@ -62,7 +69,8 @@ impl PageFile {
     /// Charges one block less.
     pub fn uncharge(&mut self)
         requires { assigned_blocks self.old < self.old.charged }
-        ensures { self.new ≡ record self.old { charged = self.old.charged - 1 } }
+        ensures value { self.new ≡ record self.old { charged = self.old.charged - 1 } }
+        ensures blocks { AreBlocks self.new }
     {
         self.charges -= 1;
     }
@@ -71,33 +79,46 @@ impl PageFile {
     pub fn assign(&mut self, block: u32, page: Page)
         requires free { IsFreeBlock self.old block }
         requires charged { assigned_blocks self.old < self.old.charged }
-        ensures { self.new ≡ record self.old { owners = slice_set self.old.owners block (Some page) } }
+        ensures value { self.new ≡ record self.old { owners = slice_set self.old.owners block (Some page) } }
+        ensures assigned { assigned_blocks self.new ≡ assigned_blocks self.old + 1 }
+        ensures blocks { AreBlocks self.new }
     {
         self.owners[block as usize] = Some(page);
         self.assignments += 1;
+        if block == self.hint {
+            self.hint += 1;
+        }
     }
 
-    /// The lowest free block. Looks at each block once at most.
+    /// The lowest free block. Looks at each block once at most, and at one block alone where, since
+    /// the page file was made or its lowest free block was released, each block was assigned as the
+    /// lowest.
     pub fn lowest(&self) -> u32
         requires { assigned_blocks self.now < self.now.charged }
         ensures free { IsFreeBlock self.now result }
         ensures lowest { (k : ℕ) → k < result → ¬ IsFreeBlock self.now k }
+        ensures blocks { AreBlocks self.now }
     {
-        first_free(&self.owners).unwrap() as u32
+        let from = self.hint as usize;
+        (from + first_free(&self.owners[from..]).unwrap()) as u32
     }
 
     /// Makes an assigned block free.
     pub fn release(&mut self, block: u32)
         requires { IsAssignedBlock self.old block }
-        ensures { self.new ≡ record self.old { owners = slice_set self.old.owners block None } }
+        ensures value { self.new ≡ record self.old { owners = slice_set self.old.owners block None } }
+        ensures assigned { assigned_blocks self.new + 1 ≡ assigned_blocks self.old }
+        ensures blocks { AreBlocks self.new }
     {
         self.owners[block as usize] = None;
         self.assignments -= 1;
+        self.hint = self.hint.min(block);
     }
 
     /// The page that the block is assigned to: none where it is free, or there is no such block.
     pub fn owner(&self, block: u32) -> Option<Page>
-        ensures { result ≡ owner_of self.now block }
+        ensures value { result ≡ owner_of self.now block }
+        ensures blocks { AreBlocks self.now }
     {
         self.owners.get(block as usize).copied().flatten()
     }

@@ -31,3 +31,27 @@ fn offers_the_lowest_free_block(rt: HostRuntime) -> Result<(), Fail> {
     assert_eq!(rt; (file.charged(), file.assigned(), file.lowest()), (1, 0, 0));
     Ok(())
 }
+
+#[test]
+fn fills_the_greatest_page_file_from_its_lowest_block(rt: HostRuntime) -> Result<(), Fail> {
+    let mut file = PageFile::new(rt.alloc(), 16_384)?;
+    for block in 0..16_384 {
+        file.charge()?;
+        let lowest = file.lowest();
+        assert_eq!(rt; lowest, block);
+        file.assign(lowest, Page::Private(Proc(0), block));
+    }
+    assert_eq!(rt; file.charge(), Err(Full));
+    assert_eq!(rt; file.assigned(), 16_384);
+    for block in [9, 5, 16_383] {
+        assert!(rt; file.owner(block).is_some());
+        file.release(block);
+    }
+    for block in [5, 9, 16_383] {
+        assert!(rt; file.assigned() < file.charged());
+        let lowest = file.lowest();
+        assert_eq!(rt; lowest, block);
+        file.assign(lowest, Page::Private(Proc(1), block));
+    }
+    Ok(())
+}

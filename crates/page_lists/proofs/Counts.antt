@@ -1,10 +1,8 @@
 -- How often a frame stands in a list, after each change of the list, and what that says of its length.
-use Rattle.std.proofs.Common.{◌≡◌, ℕ, ◌+◌, ◌≤◌, ◌<◌, zero, suc, Bool, true, false, cond, eqb, List, [], ◌∷◌, ◌++◌, Some, None, length, drop, refl, sym, ◌∙◌, ap, ⊎_elim, arith}
-use Rattle.std.specs.List.{IsDistinct, AllByRecursion, list_any, slice_get, position, position_or_len}
-use Rattle.std.proofs.lemmas.List.Quantifiers.{position-Some}
-use Rattle.std.proofs.lemmas.Option.{slice_get-get_or, slice_get_within, get_or_from_slice_get}
-use Rattle.std.proofs.lemmas.Bool.{cases_eq, eq-eqb, ne_eqb, eqb-true, eqb-false, or_cases, or_parts, cases_lt, lt-ltb}
-use Rattle.std.proofs.lemmas.List.Sums.{sum_by-cons, sum_by-append, sum_by_push, fails_before_first}
+use Rattle.std.proofs.Common.{◌≡◌, ℕ, ◌+◌, ◌≤◌, ◌<◌, zero, suc, true, false, cond, eqb, List, [], ◌∷◌, ◌++◌, Some, length, refl, sym, ◌∙◌, ap, ⊎_elim, arith}
+use Rattle.std.specs.List.{IsDistinct, AllByRecursion, list_any, slice_get}
+use Rattle.std.proofs.lemmas.Bool.{cases_eq, eq-eqb, ne_eqb, eqb-true, or_cases}
+use Rattle.std.proofs.lemmas.List.Sums.{sum_by-cons, sum_by-append, sum_by_push}
 use Rattle.std.proofs.lemmas.Map.Steps.{length-le_from_distinct_below}
 use Rattle.page_lists.specs.Lists.{count_of, without}
 
@@ -18,7 +16,7 @@ count_of-append xs ys f = sum_by-append (λ other. cond (eqb other f) 1 0) xs ys
 pub count_of-push : (xs : List ℕ) (x f : ℕ) → count_of (xs ++ x ∷ []) f ≡ count_of xs f + cond (eqb x f) 1 0
 count_of-push xs x f = sum_by_push (λ other. cond (eqb other f) 1 0) xs x
 
-count_of-same : (x : ℕ) (xs : List ℕ) (f : ℕ) → x ≡ f → count_of (x ∷ xs) f ≡ 1 + count_of xs f
+pub count_of-same : (x : ℕ) (xs : List ℕ) (f : ℕ) → x ≡ f → count_of (x ∷ xs) f ≡ 1 + count_of xs f
 count_of-same x xs f same = count_of-cons x xs f ∙ rw (eq-eqb x f same) refl
 
 counted_at : (x : ℕ) (xs : List ℕ) (f : ℕ) → x ≡ f → 0 < count_of (x ∷ xs) f
@@ -32,10 +30,6 @@ count_of-without (x ∷ xs) f g =
     let cons = count_of-cons x xs g in
     let kept = count_of-cons x (without xs f) g in
     grind (arith, cases_eq x f, cases_eq f g, cases_eq x g, eqb-true, eq-eqb, ne_eqb)
-
-pub count_of-drop : (xs : List ℕ) (f : ℕ) → count_of (drop 1 xs) f ≤ count_of xs f
-count_of-drop [] f = omega arith
-count_of-drop (x ∷ xs) f = omega (arith, count_of-cons x xs f)
 
 -- a frame that isn't there leaves the list as it is
 pub without-absent : (xs : List ℕ) (f : ℕ) → count_of xs f ≡ 0 → without xs f ≡ xs
@@ -83,43 +77,3 @@ same_place (x ∷ xs) f zero zero once a b = refl
 same_place (x ∷ xs) f zero (suc k) once a b = twice x xs f k once a b
 same_place (x ∷ xs) f (suc j) zero once a b = twice x xs f j once b a
 same_place (x ∷ xs) f (suc j) (suc k) once a b = ap suc (same_place xs f j k (omega (arith, count_of-cons x xs f)) a b)
-
--- the first place of a frame has it
-place_has : (xs : List ℕ) (f p : ℕ) → position (λ other. eqb other f) xs ≡ Some p → slice_get xs p ≡ Some f
-place_has xs f p first =
-    let at = position-Some (λ other. eqb other f) xs p 0 first in
-    slice_get-get_or xs p 0 at.0 ∙ ap Some (eqb-true _ _ at.1)
-
--- and is its only one
-pub place_is : (xs : List ℕ) (f p k : ℕ) → count_of xs f ≤ 1 → position (λ other. eqb other f) xs ≡ Some p → slice_get xs k ≡ Some f → k ≡ p
-place_is xs f p k once first here = same_place xs f k p once here (place_has xs f p first)
-
-pub counted_place : (xs : List ℕ) (f p : ℕ) → position (λ other. eqb other f) xs ≡ Some p → 0 < count_of xs f
-counted_place xs f p first = found xs f p (place_has xs f p first)
-
-position-None : (p : ℕ → Bool) (xs : List ℕ) → position p xs ≡ None → length xs ≤ position_or_len p xs
-position-None p xs none = grind (arith, none, cases_lt (position_or_len p xs) (length xs), lt-ltb)
-
--- a frame that has a place has a first one
-pub has_place : (xs : List ℕ) (f k : ℕ) → position (λ other. eqb other f) xs ≡ None → slice_get xs k ≡ Some f → ⊥
-has_place xs f k none here =
-    let within = slice_get_within xs k f here in
-    let past = position-None (λ other. eqb other f) xs none in
-    let fails = fails_before_first (λ other. eqb other f) xs k 0 (omega (arith, within, past)) in
-    eqb-false _ _ fails (get_or_from_slice_get xs k f 0 here)
-
--- what a search through the list answers
-pub counted_any : (f : ℕ) (xs : List ℕ) → list_any (λ other. eqb other f) xs ≡ true → 0 < count_of xs f
-counted_any f [] h = cc
-counted_any f (x ∷ xs) h = ⊎_elim
-    (λ here. counted_at x xs f (eqb-true x f here))
-    (λ there. omega (arith, counted_any f xs there, count_of-cons x xs f))
-    (or_cases _ _ h)
-
-pub count_of-none : (f : ℕ) (xs : List ℕ) → list_any (λ other. eqb other f) xs ≡ false → count_of xs f ≡ 0
-count_of-none f [] h = refl
-count_of-none f (x ∷ xs) h =
-    let parts = or_parts (eqb x f) (list_any (λ other. eqb other f) xs) h in
-    let rest : count_of xs f ≡ 0 = count_of-none f xs parts.1 in
-    let count = count_of-cons x xs f in
-    count ∙ rw parts.0 (omega arith)

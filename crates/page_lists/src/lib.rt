@@ -1,7 +1,9 @@
-//! The free and the modified page list, as lists of frame numbers.
+//! The free and the modified page list, as lists of frame numbers, kept in two link cells a frame.
 #![tactic(auto)]
 
+mod ends;
 mod faults;
+mod links;
 mod list_name;
 mod lists;
 

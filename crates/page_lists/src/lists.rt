@@ -1,55 +1,64 @@
-ghost use Rattle.std.specs.Prelude.{◌≡◌, ℕ, ◌<◌, ◌≤◌, ◌+◌, ◌^◌, [], ◌∷◌, ◌++◌, length, drop, slice_get, position, ◌==◌, IfOk, MatchOption, Option};
-ghost use Rattle.std.specs.Bool.{OnTrue, OnFalse};
-ghost use Rattle.std.specs.VecDeque.{deque_capacity};
-ghost use Rattle.page_lists.specs.Lists.{list_of, with_list, without, count_of, IsOn, IsOnNone, AreTwoLists, IsNext};
+ghost use Rattle.std.specs.Prelude.{◌≡◌, ◌<◌, ◌==◌, [], ◌∷◌, ◌++◌, length, drop, slice_get, slice_set, replicate, IfOk, MatchOption, None, Some, if◌then◌else◌};
+ghost use Rattle.page_lists.specs.Lists.{list_of, other_of, cells_of, without, IsOn, IsOnNone, AreTwoLists, IsNext};
+ghost use Rattle.page_lists.specs.Links.{mark_of};
 
+use crate::ends::Ends;
 use crate::faults::NoMemory;
+use crate::links::{append, cell_at, next_in, prepend, put, unlink};
 use crate::list_name::ListName;
-use std::alloc::Global;
-use std::collections::VecDeque;
+use std::alloc::{AllocError, Global};
 use std::marker::Model;
 
 /// The free and the modified page list of a memory: two lists of frame numbers without repeats,
-/// with no frame on both.
+/// with no frame on both. Each frame has two link cells, which are lent while it is on neither.
 #[derive(Debug, Drop)]
 pub struct Lists {
-    frames: u32,
-    free: VecDeque<u32>,
-    modified: VecDeque<u32>,
+    forward: Vec<u32>,
+    backward: Vec<u32>,
+    marks: Vec<Option<ListName>>,
+    free: Ends,
+    modified: Ends,
 }
 
 impl Model for Lists {
-    ghost use Rattle.std.specs.Prelude.{◌<◌, ◌≤◌, ◌^◌};
-    ghost use Rattle.std.specs.VecDeque.{deque_capacity};
-    ghost use Rattle.page_lists.specs.Lists.{TwoLists, AreTwoLists};
+    ghost use Rattle.std.specs.Prelude.{length};
+    ghost use Rattle.page_lists.specs.Lists.{TwoLists};
+    ghost use Rattle.page_lists.specs.Links.{items_of, all_cells, AreLinked};
 
     ghost Value = { TwoLists };
 
-    ghost view = { λ s. record { frames = s.frames; free = s.free.items; modified = s.modified.items } };
-
-    ghost invariant = { λ s. record {
-      lists : AreTwoLists (record { frames = s.frames; free = s.free.items; modified = s.modified.items });
-      short : s.frames < 2 ^ 32;
-      free_room : s.frames ≤ deque_capacity s.free;
-      modified_room : s.frames ≤ deque_capacity s.modified;
+    ghost view = { λ s. record {
+      frames = length s.forward.items;
+      free = items_of s.forward.items s.free;
+      modified = items_of s.forward.items s.modified;
+      cells = all_cells s.forward.items s.backward.items s.marks.items;
     } };
+
+    ghost invariant = { λ s.
+        AreLinked s.forward.items s.backward.items s.marks.items s.free s.modified };
 }
 
 impl Lists {
-    /// Two empty lists, for the frames below `frames`.
+    /// Two empty lists, for the frames below `frames`, with cells of zeros.
     ///
     /// # Errors
-    /// `NoMemory` for want of memory: each list takes four bytes a frame.
+    /// `NoMemory` if memory runs out: the cells take eight bytes a frame, and the marks two.
     pub fn new(alloc: Global, frames: u32) -> Result<Lists, NoMemory>
-        ensures empty { IfOk result (λ lists. lists ≡ record { frames = frames; free = []; modified = [] }) }
+        ensures frames { IfOk result (λ lists. lists.frames ≡ frames) }
+        ensures free { IfOk result (λ lists. lists.free ≡ []) }
+        ensures modified { IfOk result (λ lists. lists.modified ≡ []) }
+        ensures cells { IfOk result (λ lists. lists.cells ≡ replicate frames (0, 0)) }
         ensures valid { IfOk result (λ lists. AreTwoLists lists) }
     {
-        let free = VecDeque::with_capacity(alloc, frames as usize)?;
-        let modified = VecDeque::with_capacity(alloc, frames as usize)?;
+        let forward = zeros(alloc, frames)?;
+        let backward = zeros(alloc, frames)?;
+        let marks = no_marks(alloc, frames)?;
         Ok(Lists {
-            frames,
-            free,
-            modified,
+            forward,
+            backward,
+            marks,
+            free: EMPTY,
+            modified: EMPTY,
         })
     }
 
@@ -57,12 +66,21 @@ impl Lists {
     pub fn push_tail(&mut self, l: ListName, f: u32)
         requires below { f < self.old.frames }
         requires on_none { IsOnNone self.old f }
-        ensures lists { self.new ≡ with_list self.old l (list_of self.old l ++ f ∷ []) }
+        ensures list { list_of self.new l ≡ list_of self.old l ++ f ∷ [] }
+        ensures other { list_of self.new (other_of l) ≡ list_of self.old (other_of l) }
+        ensures frames { self.new.frames ≡ self.old.frames }
+        ensures cells { self.new.cells ≡ slice_set self.old.cells f (0, 0) }
         ensures valid { AreTwoLists self.new }
     {
+        self.marks[f as usize] = Some(l);
         match l {
-            ListName::Free => self.free.push_back_reserved(f),
-            ListName::Modified => self.modified.push_back_reserved(f),
+            ListName::Free => append(&mut self.forward, &mut self.backward, &mut self.free, f),
+            ListName::Modified => append(
+                &mut self.forward,
+                &mut self.backward,
+                &mut self.modified,
+                f,
+            ),
         }
     }
 
@@ -70,36 +88,58 @@ impl Lists {
     pub fn push_head(&mut self, l: ListName, f: u32)
         requires below { f < self.old.frames }
         requires on_none { IsOnNone self.old f }
-        ensures lists { self.new ≡ with_list self.old l (f ∷ list_of self.old l) }
+        ensures list { list_of self.new l ≡ f ∷ list_of self.old l }
+        ensures other { list_of self.new (other_of l) ≡ list_of self.old (other_of l) }
+        ensures frames { self.new.frames ≡ self.old.frames }
+        ensures cells { self.new.cells ≡ slice_set self.old.cells f (0, 0) }
         ensures valid { AreTwoLists self.new }
     {
+        self.marks[f as usize] = Some(l);
         match l {
-            ListName::Free => self.free.push_front_reserved(f),
-            ListName::Modified => self.modified.push_front_reserved(f),
+            ListName::Free => prepend(&mut self.forward, &mut self.backward, &mut self.free, f),
+            ListName::Modified => prepend(
+                &mut self.forward,
+                &mut self.backward,
+                &mut self.modified,
+                f,
+            ),
         }
     }
 
-    /// Takes the head off a list; `None` exactly where the list is empty.
+    /// Takes the head off a list; `None` exactly if the list is empty. The frame's cells are then
+    /// zeros.
     pub fn pop_head(&mut self, l: ListName) -> Option<u32>
         ensures head { result ≡ slice_get (list_of self.old l) 0 }
-        ensures lists { self.new ≡ with_list self.old l (drop 1 (list_of self.old l)) }
+        ensures list { list_of self.new l ≡ drop 1 (list_of self.old l) }
+        ensures other { list_of self.new (other_of l) ≡ list_of self.old (other_of l) }
+        ensures frames { self.new.frames ≡ self.old.frames }
+        ensures cells { self.new.cells ≡ self.old.cells }
         ensures valid { AreTwoLists self.new }
     {
-        match l {
-            ListName::Free => self.free.pop_front(),
-            ListName::Modified => self.modified.pop_front(),
-        }
+        let f = self.head(l)?;
+        self.remove(l, f);
+        Some(f)
     }
 
-    /// Takes the frame off a list that it is on; the order of the rest stays.
+    /// Takes the frame off a list that it is on; the order of the rest stays. The frame's cells are
+    /// then zeros.
     pub fn remove(&mut self, l: ListName, f: u32)
         requires { IsOn self.old l f }
-        ensures lists { self.new ≡ with_list self.old l (without (list_of self.old l) f) }
+        ensures list { list_of self.new l ≡ without (list_of self.old l) f }
+        ensures other { list_of self.new (other_of l) ≡ list_of self.old (other_of l) }
+        ensures frames { self.new.frames ≡ self.old.frames }
+        ensures cells { self.new.cells ≡ self.old.cells }
         ensures valid { AreTwoLists self.new }
     {
+        self.marks[f as usize] = None;
         match l {
-            ListName::Free => remove_from(&mut self.free, f),
-            ListName::Modified => remove_from(&mut self.modified, f),
+            ListName::Free => unlink(&mut self.forward, &mut self.backward, &mut self.free, f),
+            ListName::Modified => unlink(
+                &mut self.forward,
+                &mut self.backward,
+                &mut self.modified,
+                f,
+            ),
         }
     }
 
@@ -109,19 +149,19 @@ impl Lists {
         ensures valid { AreTwoLists self.now }
     {
         match l {
-            ListName::Free => self.free.len() as u32,
-            ListName::Modified => self.modified.len() as u32,
+            ListName::Free => self.free.count,
+            ListName::Modified => self.modified.count,
         }
     }
 
-    /// The first frame of a list; `None` exactly where the list is empty.
+    /// The first frame of a list; `None` exactly if the list is empty.
     pub fn head(&self, l: ListName) -> Option<u32>
         ensures head { result ≡ slice_get (list_of self.now l) 0 }
         ensures valid { AreTwoLists self.now }
     {
         match l {
-            ListName::Free => self.free.front().copied(),
-            ListName::Modified => self.modified.front().copied(),
+            ListName::Free => head_of(&self.free),
+            ListName::Modified => head_of(&self.modified),
         }
     }
 
@@ -130,70 +170,85 @@ impl Lists {
         ensures on { MatchOption result (IsOnNone self.now f) (λ l. IsOn self.now l f) }
         ensures valid { AreTwoLists self.now }
     {
-        if is_in(&self.free, f) {
-            Some(ListName::Free)
-        } else if is_in(&self.modified, f) {
-            Some(ListName::Modified)
-        } else {
-            None
-        }
+        mark_at(&self.marks, f)
     }
 
-    /// The frame after `f` on the list that `f` is on; `None` exactly where `f` is the last there,
-    /// or on neither list.
+    /// The frame after `f` on the list that `f` is on; `None` exactly if `f` is the last there, or
+    /// on neither list.
     pub fn next(&self, f: u32) -> Option<u32>
         ensures next { IsNext self.now f result }
         ensures valid { AreTwoLists self.now }
     {
-        if is_in(&self.free, f) {
-            next_in(&self.free, f)
-        } else {
-            next_in(&self.modified, f)
+        match mark_at(&self.marks, f) {
+            Some(ListName::Free) => next_in(&self.forward, &self.free, f),
+            Some(ListName::Modified) => next_in(&self.forward, &self.modified, f),
+            None => None,
         }
     }
-}
 
-/// Takes a frame out of a list.
-fn remove_from(list: &mut VecDeque<u32>, f: u32)
-    ensures items { list.new.items ≡ without list.old.items f }
-    ensures capacity { deque_capacity list.new ≡ deque_capacity list.old }
-{
-    list.retain(|other| *other != f);
-}
+    /// The two cells of a frame on neither list.
+    pub fn cells(&self, f: u32) -> (u32, u32)
+        requires below { f < self.now.frames }
+        requires on_none { IsOnNone self.now f }
+        ensures cells { result ≡ cells_of self.now f }
+        ensures valid { AreTwoLists self.now }
+    {
+        (cell_at(&self.forward, f), cell_at(&self.backward, f))
+    }
 
-/// Whether a frame is in a list.
-fn is_in(list: &VecDeque<u32>, f: u32) -> bool
-    ensures yes { OnTrue result (0 < count_of list.now.items f) }
-    ensures no { OnFalse result (count_of list.now.items f ≡ 0) }
-{
-    list.contains(&f)
-}
-
-/// What stands after a frame in a list in which it stands once at most; `None` where it is the
-/// last, or not there.
-fn next_in(list: &VecDeque<u32>, f: u32) -> Option<u32>
-    requires short { length list.now.items < 2 ^ 32 }
-    requires once { count_of list.now.items f ≤ 1 }
-    ensures after { let items = list.now.items in
-        (place : ℕ) → slice_get items place ≡ Some f → result ≡ slice_get items (place + 1) }
-    ensures absent { count_of list.now.items f ≡ 0 → result ≡ None }
-{
-    match place_in(list, f) {
-        Some(place) => item_at(list, place + 1),
-        None => None,
+    /// Writes the two cells of a frame on neither list. It keeps them until it comes onto a list.
+    pub fn set_cells(&mut self, f: u32, c: (u32, u32))
+        requires below { f < self.old.frames }
+        requires on_none { IsOnNone self.old f }
+        ensures cells { self.new.cells ≡ slice_set self.old.cells f c }
+        ensures free { self.new.free ≡ self.old.free }
+        ensures modified { self.new.modified ≡ self.old.modified }
+        ensures frames { self.new.frames ≡ self.old.frames }
+        ensures valid { AreTwoLists self.new }
+    {
+        put(&mut self.forward, f, c.0);
+        put(&mut self.backward, f, c.1);
     }
 }
 
-/// The first place of a frame in a list, from 0; `None` where it is not there.
-fn place_in(list: &VecDeque<u32>, f: u32) -> Option<usize>
-    ensures { result ≡ position (λ other. other == f) list.now.items }
+/// The ends of an empty list.
+const EMPTY: Ends = Ends {
+    head: 0,
+    tail: 0,
+    count: 0,
+};
+
+/// So many zeros.
+fn zeros(alloc: Global, n: u32) -> Result<Vec<u32>, AllocError>
+    ensures { IfOk result (λ v. v.items ≡ replicate n 0) }
 {
-    list.iter().position(|other| *other == f)
+    vec![in alloc; 0; n as usize]
 }
 
-/// What stands in a place of a list, from 0.
-fn item_at(list: &VecDeque<u32>, place: usize) -> Option<u32>
-    ensures { result ≡ slice_get list.now.items place }
+/// So many frames without a mark.
+fn no_marks(alloc: Global, n: u32) -> Result<Vec<Option<ListName>>, AllocError>
+    ensures { IfOk result (λ v. v.items ≡ replicate n None) }
 {
-    list.get(place).copied()
+    vec![in alloc; None; n as usize]
+}
+
+/// The first frame of the list with these ends.
+fn head_of(ends: &Ends) -> Option<u32>
+    ensures { result ≡ (if ends.now.count == 0 then None else Some ends.now.head) }
+{
+    if ends.count == 0 {
+        None
+    } else {
+        Some(ends.head)
+    }
+}
+
+/// The mark of a frame; none for a number past the frames.
+fn mark_at(marks: &Vec<Option<ListName>>, f: u32) -> Option<ListName>
+    ensures { result ≡ mark_of marks.now.items f }
+{
+    match marks.get(f as usize) {
+        Some(mark) => *mark,
+        None => None,
+    }
 }

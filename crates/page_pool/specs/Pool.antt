@@ -1,10 +1,6 @@
 -- What contracts see of a pool of page buffers, and of a buffer. Source: this project's own.
 use Rattle.std.specs.Prelude.{ℕ, ◌≡◌, ◌≤◌, List}
-
--- the name of a pool, which contracts alone see: a number, and how many buffers it was made with
-pub record PoolName : Type 0 where
-  pub number : ℕ
-  pub size : ℕ
+use Rattle.vm_types.specs.declared.pool_name.PoolName.{PoolName}
 
 -- a pool: its name, and how many buffers are left in it
 pub record PoolState : Type 0 where

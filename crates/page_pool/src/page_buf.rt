@@ -28,7 +28,7 @@ impl Model for PageBuf {
 impl PageBuf {
     ghost use Rattle.page_pool.specs.PageBuf.{LendsBytes};
 
-    /// Its 512 bytes. Takes no memory.
+    /// Its 512 bytes. Doesn't allocate.
     pub fn bytes(&self) -> &[u8]
         ensures bytes { result.now ≡ self.now.bytes }
         ensures size { length result.now ≡ 512 }
@@ -36,7 +36,7 @@ impl PageBuf {
         whole(&self.bytes)
     }
 
-    /// Its 512 bytes, to be written. Takes no memory.
+    /// Its 512 bytes, to be written. Doesn't allocate.
     pub fn bytes_mut(&mut self) -> &mut [u8]
         ensures* writes_back { sem 𝓛 (LendsBytes self.entry result) }
         ensures bytes { result.now ≡ self.old.bytes }
@@ -47,7 +47,7 @@ impl PageBuf {
         self.bytes.as_mut_slice()
     }
 
-    /// Makes all its bytes zero. Takes no memory.
+    /// Makes all its bytes zero. Doesn't allocate.
     pub fn zero(&mut self)
         ensures { self.new ≡ record self.old { bytes = replicate 512 0 } }
     {

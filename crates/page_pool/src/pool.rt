@@ -33,7 +33,7 @@ impl Pool {
     /// A pool of `n` buffers of zeros, at most 16,800.
     ///
     /// # Errors
-    /// `NoMemory` for want of memory.
+    /// `NoMemory` if memory runs out.
     pub fn new(alloc: Global, n: u32) -> Result<Pool, NoMemory>
         requires { n ≤ 16800 }
         ensures size { IfOk result (λ pool. pool.name.size ≡ n) }
@@ -47,7 +47,7 @@ impl Pool {
         Ok(Pool { free, tickets })
     }
 
-    /// Takes a buffer out, or answers `None` where none is left. Takes no memory.
+    /// Takes a buffer out, or returns `None` if none is left. Doesn't allocate.
     pub fn take(&mut self) -> Option<PageBuf>
         ensures none { IsNone result ↔ (self.old.left ≡ 0) }
         ensures pool { IfSome result (λ buf. buf.pool ≡ self.old.name) }
@@ -65,7 +65,7 @@ impl Pool {
         Some(buf)
     }
 
-    /// Takes a buffer of this pool back. Takes no memory.
+    /// Takes a buffer of this pool back. Doesn't allocate.
     pub fn put(&mut self, buf: PageBuf)
         requires { buf.pool ≡ self.old.name }
         ensures name { self.new.name ≡ self.old.name }

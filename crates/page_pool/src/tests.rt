@@ -41,3 +41,16 @@ fn buffers_are_apart(rt: HostRuntime) -> Result<(), Fail> {
     assert_eq!(rt; third.bytes(), [3; 512].as_slice());
     Ok(())
 }
+
+#[test]
+fn makes_the_greatest_pool(rt: HostRuntime) -> Result<(), Fail> {
+    let mut pool = Pool::new(rt.alloc(), 16_800)?;
+    let mut first = pool.take().ok_or("all are left")?;
+    let second = pool.take().ok_or("all but one are left")?;
+    first.bytes_mut().fill(7);
+    assert_eq!(rt; second.bytes(), [0; 512].as_slice());
+    pool.put(first);
+    pool.put(second);
+    pool.close();
+    Ok(())
+}

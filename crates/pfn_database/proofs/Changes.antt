@@ -1,13 +1,14 @@
 -- What keeps rows and lists consistent where one frame changes.
-use Rattle.std.proofs.Common.{◌≡◌, ℕ, ◌+◌, ◌-◌, ◌<◌, Bool, true, false, cond, eqb, List, [], ◌∷◌, ◌++◌, Option, Some, IsSome, length, set, get_or, refl, sym, ◌∙◌, ⊎_elim, arith, get_or-set_same, get_or-set_other}
+use Rattle.std.proofs.Common.{◌≡◌, ℕ, ◌+◌, ◌-◌, ◌≤◌, ◌<◌, Bool, true, false, cond, eqb, List, [], ◌∷◌, ◌++◌, Option, Some, None, IsSome, length, set, get_or, refl, sym, ◌∙◌, ⊎_elim, arith, get_or-set_same, get_or-set_other}
 use Rattle.std.proofs.lemmas.Bool.{cases_eq, eq-eqb, ne_eqb}
 use Rattle.std.proofs.lemmas.List.Elements.{All-set}
 use Rattle.vm_types.specs.declared.names.FrameState.{FrameState}
 use Rattle.vm_types.specs.declared.names.FrameState.TheVariants.{Free, Modified, Bad, ReleasePending, ReadError, Writing, Reading, Active}
+use Rattle.vm_types.specs.declared.names.Page.TheVariants.{Private, Shared}
 use Rattle.page_lists.specs.Lists.{count_of, without}
 use Rattle.page_lists.proofs.Counts.{count_of-cons, count_of-push, count_of-without}
 use Rattle.pfn_database.specs.declared.row.Row.{Row}
-use Rattle.pfn_database.specs.Rows.{IsRow, IsOneOf, FitsModify, FitsPage, bad_row, empty_row, unshared, state_in_transfer}
+use Rattle.pfn_database.specs.Rows.{IsRow, IsOneOf, FitsModify, FitsPage, FitsSlot, FitsReferences, counted_references, shared, bad_row, empty_row, unshared, state_in_transfer}
 use Rattle.vm_types.specs.declared.names.Page.{Page}
 use Rattle.pfn_database.specs.Frames.{Frames, row_of, is_free, is_modified, IsConsistent}
 
@@ -33,10 +34,44 @@ is_modified-other Reading other = refl
 is_modified-other Active other = refl
 
 pub IsRow-empty : IsRow empty_row
-IsRow-empty = record { refs = refl; flights = omega arith; modify = refl; page = tt; shared = λ _. (refl, refl); listed = λ _. refl }
+IsRow-empty = record { refs = refl; flights = omega arith; modify = refl; page = tt; slot = tt; shared = λ _. (refl, refl); listed = λ _. refl }
 
 pub IsRow-bad : IsRow bad_row
-IsRow-bad = record { refs = refl; flights = omega arith; modify = refl; page = refl; shared = λ _. (refl, refl); listed = λ _. refl }
+IsRow-bad = record { refs = refl; flights = omega arith; modify = refl; page = refl; slot = tt; shared = λ _. (refl, refl); listed = λ _. refl }
+
+-- what is used of the references: they follow what is counted, and there are as many at least
+FitsReferences-change : (refs counted refs' counted' : ℕ) → FitsReferences refs counted → refs' + counted ≡ refs + counted' → FitsReferences refs' counted'
+FitsReferences-change refs counted refs' counted' fits moved = omega arith
+
+FitsReferences-least : (refs counted : ℕ) → FitsReferences refs counted → counted ≤ refs
+FitsReferences-least refs counted fits = omega arith
+
+-- and no more than two, so that there is room for one more
+counted_references-most : (shares flights : ℕ) → flights ≤ 1 → counted_references shares flights ≤ 2
+counted_references-most shares flights one = grind arith
+
+pub refs-most : (row : Row) → IsRow row → row.refs ≤ 2
+refs-most row good = let most = counted_references-most row.shares row.flights good.flights in omega (arith, good.refs)
+
+pub refs-least : (row : Row) → IsRow row → 0 < row.shares → 0 < row.refs
+refs-least row good some =
+    let one : row.shares ≡ 0 → ⊥ = omega arith in
+    let least : 1 + row.flights ≤ row.refs = rw (ne_eqb row.shares 0 one) at (FitsReferences-least _ _ good.refs) in
+    omega arith
+
+pub refs-flight : (row : Row) → IsRow row → row.flights ≡ 1 → 0 < row.refs
+refs-flight row good one = let least = FitsReferences-least _ _ good.refs in omega (arith, least)
+
+-- the head of the free list is a Free frame
+pub is_free-yes : (state : FrameState) → 0 < cond {A = ℕ} (is_free state) 1 0 → state ≡ Free
+is_free-yes Free some = refl
+is_free-yes Modified some = absurd (omega arith)
+is_free-yes Bad some = absurd (omega arith)
+is_free-yes ReleasePending some = absurd (omega arith)
+is_free-yes ReadError some = absurd (omega arith)
+is_free-yes Writing some = absurd (omega arith)
+is_free-yes Reading some = absurd (omega arith)
+is_free-yes Active some = absurd (omega arith)
 
 -- the cases of a state that is one of three
 one_of_three : {P : Type 0} (a b c state : FrameState) → IsOneOf (a ∷ b ∷ c ∷ []) state → (state ≡ a → P) → (state ≡ b → P) → (state ≡ c → P) → P
@@ -93,51 +128,100 @@ left_off false = (refl, refl)
 pub unshared_off : (row : Row) → row.state ≡ Active → (is_free (unshared row).state ≡ is_free row.state) × (is_modified (unshared row).state ≡ is_modified row.state)
 unshared_off row active = rw active (left_off _)
 
+-- no slot is one for each page
+pub FitsSlot-none : (page : Option Page) → FitsSlot page 0
+FitsSlot-none None = tt
+FitsSlot-none (Some (Private p v)) = tt
+FitsSlot-none (Some (Shared s i)) = refl
+
 -- each row stays one
 module _ (row : Row) (good : IsRow row) where
-  pub IsRow-active : (page : Page) (slot : ℕ) → IsRow (record row { state = Active; page = Some page; slot = slot })
-  IsRow-active page slot = record {
+  pub IsRow-active : (page : Page) (slot : ℕ) → FitsSlot (Some page) slot → IsRow (record row { state = Active; page = Some page; slot = slot })
+  IsRow-active page slot fits = record {
     refs = good.refs;
     flights = good.flights;
     modify = tt;
     page = refl;
+    slot = fits;
     shared = λ other. absurd (other refl);
     listed = λ h. absurd (not_listed Active refl refl (λ e. cc) h);
   }
 
+  pub IsRow-reading : (page : Page) → row.state ≡ Free → IsRow (record row { state = Reading; page = Some page })
+  IsRow-reading page free =
+      let zeros = good.shared (λ h. let t : Free ≡ Active = sym free ∙ h in cc) in
+      record {
+        refs = good.refs;
+        flights = good.flights;
+        modify = rw free at good.modify;
+        page = refl;
+        slot = rw zeros.1 (FitsSlot-none (Some page));
+        shared = λ _. zeros;
+        listed = λ h. absurd (not_listed Reading refl refl (λ e. cc) h);
+      }
+
+  pub IsRow-error : row.state ≡ Reading → IsRow (record row { state = ReadError })
+  IsRow-error reading = record {
+    refs = good.refs;
+    flights = good.flights;
+    modify = rw reading at good.modify;
+    page = rw reading at good.page;
+    slot = good.slot;
+    shared = λ _. good.shared (λ h. let t : Reading ≡ Active = sym reading ∙ h in cc);
+    listed = λ h. absurd (not_listed ReadError refl refl (λ e. cc) h);
+  }
+
+  pub IsRow-mark : (modify : Bool) → FitsModify row.state modify → IsRow (record row { modify = modify })
+  IsRow-mark modify fits = record {
+    refs = good.refs;
+    flights = good.flights;
+    modify = fits;
+    page = good.page;
+    slot = good.slot;
+    shared = good.shared;
+    listed = good.listed;
+  }
+
   pub IsRow-end_flight : row.flights ≡ 1 → IsRow (record row { refs = row.refs - 1; flights = 0 })
   IsRow-end_flight open_one = record {
-    refs = omega (arith, good.refs);
+    refs = let least = FitsReferences-least _ _ good.refs in FitsReferences-change _ _ _ _ good.refs (omega (arith, least));
     flights = omega arith;
     modify = good.modify;
     page = good.page;
+    slot = good.slot;
     shared = good.shared;
     listed = λ h. refl;
   }
 
+  begun : IsOneOf (Modified ∷ Active ∷ Reading ∷ []) row.state → row.flights ≡ 0 → FitsReferences (row.refs + 1) (counted_references row.shares 1)
+  begun among none = FitsReferences-change _ _ _ _ good.refs (omega arith)
+
   pub IsRow-begin_flight : IsOneOf (Modified ∷ Active ∷ Reading ∷ []) row.state → row.flights ≡ 0 → IsRow (record row { state = state_in_transfer row.state; modify = false; refs = row.refs + 1; flights = 1 })
   IsRow-begin_flight among none = one_of_three Modified Active Reading row.state among
       (λ e. record {
-        refs = omega (arith, good.refs);
+        refs = begun among none;
         flights = omega arith;
         modify = rw e tt;
         page = rw e (rw e at good.page);
+        slot = good.slot;
         shared = λ _. good.shared (λ h. let t : Modified ≡ Active = sym e ∙ h in cc);
         listed = λ h. absurd (not_listed Writing refl refl (λ w. cc) (rw e at h));
       })
       (λ e. record {
-        refs = omega (arith, good.refs);
+        refs = begun among none;
         flights = omega arith;
         modify = rw e tt;
         page = rw e (rw e at good.page);
+        slot = good.slot;
         shared = λ other. absurd (other (rw e refl));
         listed = λ h. absurd (not_listed Active refl refl (λ w. cc) (rw e at h));
       })
       (λ e. record {
-        refs = omega (arith, good.refs);
+        refs = begun among none;
         flights = omega arith;
         modify = rw e refl;
         page = rw e (rw e at good.page);
+        slot = good.slot;
         shared = λ _. good.shared (λ h. let t : Reading ≡ Active = sym e ∙ h in cc);
         listed = λ h. absurd (not_listed Reading refl refl (λ w. cc) (rw e at h));
       })
@@ -150,29 +234,61 @@ module _ (row : Row) (good : IsRow row) where
         flights = good.flights;
         modify = settled_modify row.modify;
         page = settled_page row.modify row.page held;
+        slot = FitsSlot-none row.page;
         shared = λ _. (none, refl);
         listed = λ _. idle;
       }
 
+  first_share : row.shares ≡ 0 → FitsReferences (shared row).refs (counted_references (shared row).shares row.flights)
+  first_share none = FitsReferences-change row.refs (counted_references row.shares row.flights) _ _ good.refs
+      (let more : row.shares + 1 ≡ 0 → ⊥ = omega arith in rw (eq-eqb row.shares 0 none, ne_eqb (row.shares + 1) 0 more) (omega arith))
+
+  more_share : (row.shares ≡ 0 → ⊥) → FitsReferences (shared row).refs (counted_references (shared row).shares row.flights)
+  more_share some = FitsReferences-change row.refs (counted_references row.shares row.flights) _ _ good.refs
+      (let more : row.shares + 1 ≡ 0 → ⊥ = omega arith in rw (ne_eqb row.shares 0 some, ne_eqb (row.shares + 1) 0 more) refl)
+
+  pub IsRow-shared : row.state ≡ Active → IsRow (shared row)
+  IsRow-shared active = record {
+    refs = ⊎_elim first_share more_share (cases_eq row.shares 0);
+    flights = good.flights;
+    modify = good.modify;
+    page = good.page;
+    slot = good.slot;
+    shared = λ other. absurd (other active);
+    listed = good.listed;
+  }
+
+  last_unshare : 0 < row.shares → row.shares ≡ 1 → FitsReferences (row.refs - 1) (counted_references (row.shares - 1) row.flights)
+  last_unshare some last =
+      let one : row.shares ≡ 0 → ⊥ = omega arith in
+      let least : 1 + row.flights ≤ row.refs = rw (ne_eqb row.shares 0 one) at (FitsReferences-least _ _ good.refs) in
+      FitsReferences-change row.refs (counted_references row.shares row.flights) _ _ good.refs (rw (ne_eqb row.shares 0 one, eq-eqb (row.shares - 1) 0 (omega arith)) (omega arith))
+
+  more_unshare : 0 < row.shares → (row.shares ≡ 1 → ⊥) → FitsReferences row.refs (counted_references (row.shares - 1) row.flights)
+  more_unshare some more =
+      let one : row.shares ≡ 0 → ⊥ = omega arith in
+      let more_left : row.shares - 1 ≡ 0 → ⊥ = omega arith in
+      FitsReferences-change row.refs (counted_references row.shares row.flights) _ _ good.refs (rw (ne_eqb row.shares 0 one, ne_eqb (row.shares - 1) 0 more_left) refl)
+
   pub IsRow-unshared : row.state ≡ Active → 0 < row.shares → IsRow (unshared row)
   IsRow-unshared active some =
       let held : IsSome row.page = rw active at good.page in
-      let one : row.shares ≡ 0 → ⊥ = omega arith in
-      let was : row.refs ≡ 1 + row.flights = rw (ne_eqb row.shares 0 one) at good.refs in
       ⊎_elim
-      (λ last. rw (eq-eqb row.shares 1 last, active) (record {
-        refs = rw (eq-eqb (row.shares - 1) 0 (omega arith)) (omega (arith, was));
+      (λ last. rw (eq-eqb row.shares 1 last) (record {
+        refs = last_unshare some last;
         flights = good.flights;
-        modify = left_modify (eqb row.flights 1) row.modify;
-        page = left_page (eqb row.flights 1) row.page held;
+        modify = rw active (left_modify (eqb row.flights 1) row.modify);
+        page = rw active (left_page (eqb row.flights 1) row.page held);
+        slot = FitsSlot-none row.page;
         shared = λ _. (omega arith, refl);
-        listed = λ h. absurd (left_listed (eqb row.flights 1) h);
+        listed = λ h. absurd (left_listed (eqb row.flights 1) (rw active at h));
       }))
-      (λ more. let more_left : row.shares - 1 ≡ 0 → ⊥ = omega arith in rw (ne_eqb row.shares 1 more) (record {
-        refs = rw (ne_eqb (row.shares - 1) 0 more_left) (omega (arith, was));
+      (λ more. rw (ne_eqb row.shares 1 more) (record {
+        refs = more_unshare some more;
         flights = good.flights;
         modify = good.modify;
         page = good.page;
+        slot = good.slot;
         shared = λ other. absurd (other active);
         listed = good.listed;
       }))

@@ -1,32 +1,19 @@
 -- The rows and the lists of a memory of which nothing is used.
-use Rattle.std.proofs.Common.{◌≡◌, ℕ, ◌+◌, ◌≤◌, ◌<◌, zero, suc, Bool, true, false, cond, eqb, ltb, List, [], ◌∷◌, ◌++◌, length, map, filter, not, get_or, refl, sym, ◌∙◌, ap, ap₂, ⊎_elim, arith, add-one}
+use Rattle.std.proofs.Common.{◌≡◌, ℕ, ◌+◌, ◌≤◌, ◌<◌, zero, suc, Bool, true, false, cond, eqb, ltb, List, [], ◌∷◌, ◌++◌, length, map, filter, not, get_or, refl, sym, ◌∙◌, ap, ap₂, ⊎_elim, set, arith, add-one, replicate}
 use Rattle.std.specs.List.{All, range_with_len}
 use Rattle.std.proofs.lemmas.Bool.{cases_eq, cases_lt, cases_Bool, eq-eqb, ne_eqb, lt-ltb, le-ltb}
-use Rattle.std.proofs.lemmas.List.{map-id, get_or_past, append-nil}
-use Rattle.std.proofs.lemmas.List.Folds.{list_any-append}
+use Rattle.std.proofs.lemmas.List.{map-id, get_or_past, append-nil, length-replicate}
 use Rattle.std.proofs.lemmas.List.FromFn.{length-map-range_with_len, get_or-map-range_with_len, filter_of_map_range_with_len_more}
 use Rattle.vm_types.specs.declared.names.FrameState.TheVariants.{Free}
-use Rattle.page_lists.specs.declared.list_name.ListName.TheVariants as name
-use Rattle.page_lists.specs.Lists.{TwoLists, with_list, count_of}
+use Rattle.page_lists.specs.Lists.{count_of}
 use Rattle.page_lists.proofs.Counts.{count_of-cons, count_of-append}
 use Rattle.pfn_database.specs.declared.row.Row.{Row}
 use Rattle.pfn_database.specs.Rows.{IsRow, bad_row}
 use Rattle.pfn_database.specs.Frames.{is_free, is_modified, is_bad, opening_row, opening, IsConsistent}
+use Rattle.pfn_database.specs.declared.kept.Kept.{Kept}
+use Rattle.pfn_database.specs.Kept.{joined, kept_of, rows_of}
+use Rattle.pfn_database.proofs.KeptRows.{get_or-rows_of, rows_of-opening}
 use Rattle.pfn_database.proofs.Changes.{IsRow-empty, IsRow-bad}
-
--- one more bad frame
-pub opening_row-push : (bad : List ℕ) (b k : ℕ) → opening_row (bad ++ b ∷ []) k ≡ cond (eqb b k) bad_row (opening_row bad k)
-opening_row-push bad b k =
-    rw (list_any-append (λ number. eqb number k) bad (b ∷ [])) (⊎_elim
-    (λ same. rw (eq-eqb b k same) (⊎_elim
-    (λ t. rw t refl)
-    (λ t. rw t refl)
-    (cases_Bool (is_bad bad k))))
-    (λ other. rw (ne_eqb b k other) (⊎_elim
-    (λ t. rw t refl)
-    (λ t. rw t refl)
-    (cases_Bool (is_bad bad k))))
-    (cases_eq b k))
 
 -- the numbers below n, and which of them a test keeps
 pub filter-range_more : (p : ℕ → Bool) (n : ℕ) → filter p (range_with_len 0 (n + 1)) ≡ filter p (range_with_len 0 n) ++ cond (p n) (n ∷ []) []
@@ -105,20 +92,18 @@ opening_good bad k = ⊎_elim
     (λ t. rw t (IsRow-empty, refl, refl))
     (cases_Bool (is_bad bad k))
 
--- the lists of the first n frames
-abbrev pub listed : List Row → ℕ → TwoLists
-listed rows n = record { frames = length rows; free = filter (λ f. is_free (get_or rows f bad_row).state) (range_with_len 0 n); modified = [] }
+-- the free frames among the first n, by what is kept of them
+abbrev pub listed : List Kept → ℕ → List ℕ
+listed kept n = filter (λ f. is_free (get_or kept f (kept_of bad_row)).state) (range_with_len 0 n)
 
-pub listed-free : (rows : List Row) (n : ℕ) → (get_or rows n bad_row).state ≡ Free → with_list (listed rows n) name.Free ((listed rows n).free ++ n ∷ []) ≡ listed rows (n + 1)
-listed-free rows n free = ap (λ (list : List ℕ). record { frames = length rows; free = list; modified = [] })
-    (sym (filter-range_more (λ f. is_free (get_or rows f bad_row).state) n ∙ rw free refl))
+pub listed-free : (kept : List Kept) (n : ℕ) → (get_or kept n (kept_of bad_row)).state ≡ Free → listed kept n ++ n ∷ [] ≡ listed kept (n + 1)
+listed-free kept n free = sym (filter-range_more (λ f. is_free (get_or kept f (kept_of bad_row)).state) n ∙ rw free refl)
 
-pub listed-other : (rows : List Row) (n : ℕ) → is_free (get_or rows n bad_row).state ≡ false → listed rows n ≡ listed rows (n + 1)
-listed-other rows n other = ap (λ (list : List ℕ). record { frames = length rows; free = list; modified = [] })
-    (sym (filter-range_more (λ f. is_free (get_or rows f bad_row).state) n ∙ rw other (append-nil _)))
+pub listed-other : (kept : List Kept) (n : ℕ) → is_free (get_or kept n (kept_of bad_row)).state ≡ false → listed kept n ≡ listed kept (n + 1)
+listed-other kept n other = sym (filter-range_more (λ f. is_free (get_or kept f (kept_of bad_row)).state) n ∙ rw other (append-nil _))
 
-pub count_of-listed : (rows : List Row) (n : ℕ) → count_of (listed rows n).free n ≡ 0
-count_of-listed rows n = count_of-range (λ f. is_free (get_or rows f bad_row).state) n n ∙ rw (le-ltb n n (omega arith)) refl
+pub count_of-listed : (kept : List Kept) (n : ℕ) → count_of (listed kept n) n ≡ 0
+count_of-listed kept n = count_of-range (λ f. is_free (get_or kept f (kept_of bad_row)).state) n n ∙ rw (le-ltb n n (omega arith)) refl
 
 module _ (count : ℕ) (bad : List ℕ) where
   abbrev rows : List Row
@@ -138,11 +123,34 @@ module _ (count : ℕ) (bad : List ℕ) where
   opening-listed = rw length-rows (filter-range_same _ _ count (λ k within. rw (row-is k bad_row within) (opening_good bad k).2))
 
   -- what rows and lists made so are
-  pub opening-is : (items : List Row) (lists : TwoLists) → items ≡ rows → lists ≡ listed items (length items) → record { rows = items; free = lists.free; modified = lists.modified } ≡ opening count bad
-  opening-is items lists made put = rw (put, made) (ap (λ (list : List ℕ). record { rows = rows; free = list; modified = [] }) opening-listed)
+  module _ (kept : List Kept) (cells : List (ℕ × ℕ)) (made : kept ≡ map (λ f. kept_of (opening_row bad f)) (range_with_len 0 count)) (zeros : cells ≡ replicate (length kept) (0, 0)) where
+    pub length-made : length kept ≡ count
+    length-made = ap length made ∙ length-map-range_with_len (λ f. kept_of (opening_row bad f)) 0 count
 
-  pub IsConsistent-made : (items : List Row) (lists : TwoLists) → items ≡ rows → lists ≡ listed items (length items) → IsConsistent (record { rows = items; free = lists.free; modified = lists.modified })
-  IsConsistent-made items lists made put = rw (put, made) (IsConsistent-listed rows (opening_rows IsRow (λ k. (opening_good bad k).0)) (opening_rows (λ row. is_modified row.state ≡ false) (λ k. (opening_good bad k).1)))
+    plain : (f : ℕ) → joined (kept_of (opening_row bad f)) (0, 0) ≡ opening_row bad f
+    plain f = ⊎_elim (λ t. rw t refl) (λ t. rw t refl) (cases_Bool (is_bad bad f))
 
-  pub length-made : (items : List Row) → items ≡ rows → length items ≡ count
-  length-made items made = ap length made ∙ length-rows
+    pub rows-made : rows_of kept cells ≡ rows
+    rows-made = rows_of-opening (opening_row bad) count kept cells plain made (zeros ∙ ap (λ n. replicate n (0, 0)) length-made)
+
+    same_length : length cells ≡ length kept
+    same_length = ap length zeros ∙ length-replicate {A = ℕ × ℕ} (length kept) (0, 0)
+
+    listed-made : listed kept (length kept) ≡ filter (λ f. is_free (get_or rows f bad_row).state) (range_with_len 0 (length rows))
+    listed-made = rw (length-made, length-rows) (filter-range_same _ _ count (λ k within.
+        ap (λ row. is_free row.state) (sym (get_or-rows_of kept cells same_length k) ∙ ap (λ list. get_or list k bad_row) rows-made)))
+
+    pub free-made : listed kept (length kept) ≡ (opening count bad).free
+    free-made = listed-made ∙ opening-listed
+
+    pub IsConsistent-made : (free modified : List ℕ) → free ≡ listed kept (length kept) → modified ≡ [] → IsConsistent (record { rows = rows_of kept cells; free = free; modified = modified })
+    IsConsistent-made free modified listed_free none = rw (rows-made, listed_free, none, listed-made) (IsConsistent-listed rows (opening_rows IsRow (λ k. (opening_good bad k).0)) (opening_rows (λ row. is_modified row.state ≡ false) (λ k. (opening_good bad k).1)))
+
+    pub opening-is : (free modified : List ℕ) → free ≡ listed kept (length kept) → modified ≡ [] → record { rows = rows_of kept cells; free = free; modified = modified } ≡ opening count bad
+    opening-is free modified listed_free none = rw (rows-made, listed_free, none, free-made) refl
+
+-- zeros over zeros
+pub set-zeros : (n f : ℕ) → set (replicate n (0, 0)) f (0, 0) ≡ replicate {A = ℕ × ℕ} n (0, 0)
+set-zeros zero f = refl
+set-zeros (suc n) zero = refl
+set-zeros (suc n) (suc f) = ap (λ (list : List (ℕ × ℕ)). (0, 0) ∷ list) (set-zeros n f)

@@ -19,9 +19,14 @@ pub record Frames : Type 0 where
 abbrev pub row_of : Frames → ℕ → Row
 row_of frames frame = slice_index_or frames.rows frame bad_row
 
--- the two lists alone
+-- the two lists alone: the cells of a frame hold its shares and its ring slot
 abbrev pub lists_of : Frames → TwoLists
-lists_of frames = record { frames = length frames.rows; free = frames.free; modified = frames.modified }
+lists_of frames = record {
+  frames = length frames.rows;
+  free = frames.free;
+  modified = frames.modified;
+  cells = map (λ row. (row.shares, row.slot)) frames.rows;
+}
 
 abbrev pub is_free : FrameState → Bool
 is_free Free = true

@@ -1,10 +1,11 @@
 -- The rows of the PFN database. Source: Kenah and Bate, "VAX/VMS Internals and Data Structures",
--- the PFN database: page state, reference count, share count. That a frame has at most one open
--- transfer, and that only an active one has shares, is this project's own.
-use Rattle.std.specs.Prelude.{◌≡◌, ◌≢◌, ◌⊎◌, ⊤, ◌+◌, ◌-◌, ◌≤◌, ◌==◌, Bool, true, false, ◌&&◌, if◌then◌else◌, List, [], ◌∷◌, Option, None, IsSome}
+-- the PFN database: page state, reference count, share count, working set list index. That a frame
+-- has at most one open transfer, and that only an active one has shares, is this project's own.
+use Rattle.std.specs.Prelude.{◌≡◌, ℕ, ◌≢◌, ◌⊎◌, ⊤, ◌+◌, ◌-◌, ◌≤◌, ◌==◌, Bool, true, false, ◌&&◌, if◌then◌else◌, List, [], ◌∷◌, Option, None, Some, IsSome}
 use Rattle.vm_types.specs.declared.names.FrameState.{FrameState}
 use Rattle.vm_types.specs.declared.names.FrameState.TheVariants.{Free, Modified, Bad, ReleasePending, ReadError, Writing, Reading, Active}
 use Rattle.vm_types.specs.declared.names.Page.{Page}
+use Rattle.vm_types.specs.declared.names.Page.TheVariants.{Private, Shared}
 use Rattle.pfn_database.specs.declared.row.Row.{Row}
 
 -- the row of a bad frame
@@ -46,14 +47,36 @@ FitsPage Active page = IsSome page
 FitsPage Writing page = IsSome page
 FitsPage ReleasePending page = IsSome page
 
+-- the references that are counted: one for the shares together, and one for each open transfer
+abbrev pub counted_references : ℕ → ℕ → ℕ
+counted_references shares flights = (if shares == 0 then 0 else 1) + flights
+
+-- a frame has the references that are counted. That it has no others is said here alone
+abbrev pub FitsReferences : ℕ → ℕ → Type 0
+FitsReferences references counted = references ≡ counted
+
+-- a shared page has no ring slot
+abbrev pub FitsSlot : Option Page → ℕ → Type 0
+FitsSlot (Some (Shared section index)) slot = slot ≡ 0
+FitsSlot (Some (Private process page)) slot = ⊤
+FitsSlot None slot = ⊤
+
 -- what every row keeps
 pub record IsRow (row : Row) : Type 0 where
-  pub refs : row.refs ≡ (if row.shares == 0 then 0 else 1) + row.flights
+  pub refs : FitsReferences row.refs (counted_references row.shares row.flights)
   pub flights : row.flights ≤ 1
   pub modify : FitsModify row.state row.modify
   pub page : FitsPage row.state row.page
+  pub slot : FitsSlot row.page row.slot
   pub shared : row.state ≢ Active → (row.shares ≡ 0) × (row.slot ≡ 0)
   pub listed : IsOneOf (Free ∷ Modified ∷ Bad ∷ []) row.state → row.flights ≡ 0
+
+-- the row once one valid entry more is for the frame: the first one is a reference
+abbrev pub shared : Row → Row
+shared row = record row {
+  refs = if row.shares == 0 then row.refs + 1 else row.refs;
+  shares = row.shares + 1;
+}
 
 -- the row once one valid entry less is for the frame: the last one clears the slot, and leaves a
 -- frame that is being written to be released once it is

@@ -1,6 +1,7 @@
 //! The PFN database: a row for each page frame, and the free and the modified page list.
 #![tactic(auto)]
 
+mod kept;
 mod opening;
 mod pfns;
 mod row;

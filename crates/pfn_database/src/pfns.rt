@@ -1,9 +1,11 @@
-ghost use Rattle.std.specs.Prelude.{◌≡◌, ◌≢◌, ◌<◌, ◌+◌, ◌-◌, ◌^◌, ◌==◌, true, false, if◌then◌else◌, [], ◌∷◌, ◌++◌, length, drop, All, IfOk, IfSome, option_map, slice_get, slice_set};
-ghost use Rattle.page_lists.specs.Lists.{list_of, without, count_of, IsOnNone, IsNext};
-ghost use Rattle.pfn_database.specs.Rows.{IsOneOf, states_in_use, FitsModify, empty_row, unshared, state_in_transfer};
+ghost use Rattle.std.specs.Prelude.{◌≡◌, ◌≢◌, ◌<◌, ◌+◌, ◌-◌, ◌^◌, ◌==◌, true, false, if◌then◌else◌, [], ◌∷◌, ◌++◌, length, drop, All, IfOk, IfSome, option_map, slice_get, slice_set, slice_index_or, Some};
+ghost use Rattle.page_lists.specs.Lists.{list_of, without, count_of, cells_of, IsOnNone, IsNext};
+ghost use Rattle.pfn_database.specs.Rows.{IsOneOf, states_in_use, FitsModify, FitsSlot, bad_row, empty_row, shared, unshared, state_in_transfer};
+ghost use Rattle.pfn_database.specs.Kept.{joined, kept_of};
 ghost use Rattle.pfn_database.specs.Frames.{row_of, lists_of, is_free, is_modified, opening, number, IsConsistent};
 
-use crate::opening::{EMPTY, list_free, opening_rows, row_at};
+use crate::kept::{Kept, joined, kept_of};
+use crate::opening::{EMPTY, kept_at, list_free, opening_frames};
 use crate::row::Row;
 use page_lists::{ListName, Lists};
 use std::alloc::Global;
@@ -11,26 +13,36 @@ use std::marker::Model;
 use vm_types::{FrameState, NoMemory, Page, Pfn};
 
 /// The PFN database of a memory: a row for each page frame, and the free and the modified page
-/// list. A frame is on the free list exactly where it is Free, and on the modified list exactly
-/// where it is Modified.
+/// list. A frame is on the free list exactly if it is Free, and on the modified list exactly if it
+/// is Modified. The link cells of a frame on no list hold its share count and its ring slot.
 #[derive(Debug, Drop)]
 pub struct Pfns {
-    rows: Vec<Row>,
+    kept: Vec<Kept>,
     lists: Lists,
 }
 
 impl Model for Pfns {
     ghost use Rattle.std.specs.Prelude.{◌≡◌, ◌<◌, ◌^◌, length};
     ghost use Rattle.pfn_database.specs.Frames.{Frames, IsConsistent};
+    ghost use Rattle.pfn_database.specs.Kept.{rows_of};
 
     ghost Value = { Frames };
 
-    ghost view = { λ s. record { rows = s.rows.items; free = s.lists.free; modified = s.lists.modified } };
+    ghost view = { λ s. record {
+      rows = rows_of s.kept.items s.lists.cells;
+      free = s.lists.free;
+      modified = s.lists.modified;
+    } };
 
     ghost invariant = { λ s. record {
-      consistent : IsConsistent (record { rows = s.rows.items; free = s.lists.free; modified = s.lists.modified });
-      frames : s.lists.frames ≡ length s.rows.items;
-      short : s.lists.frames < 2 ^ 32;
+      consistent : IsConsistent (record {
+        rows = rows_of s.kept.items s.lists.cells;
+        free = s.lists.free;
+        modified = s.lists.modified;
+      });
+      frames : s.lists.frames ≡ length s.kept.items;
+      cells : length s.lists.cells ≡ length s.kept.items;
+      short : length s.kept.items < 2 ^ 32;
     } };
 }
 
@@ -39,17 +51,17 @@ impl Pfns {
     /// and on the free list in number order.
     ///
     /// # Errors
-    /// `NoMemory` for want of memory.
+    /// `NoMemory` if memory runs out.
     pub fn new(alloc: Global, frames: u32, bad: &[u32]) -> Result<Pfns, NoMemory>
         requires { All (λ b. b < frames) bad.now }
         ensures frames { IfOk result (λ pfns. pfns ≡ opening frames bad.now) }
         ensures consistent { IfOk result (λ pfns. IsConsistent pfns) }
     {
-        let rows = opening_rows(alloc, frames, bad)?;
+        let kept = opening_frames(alloc, frames, bad)?;
         match Lists::new(alloc, frames) {
             Ok(mut lists) => {
-                list_free(&rows, &mut lists);
-                Ok(Pfns { rows, lists })
+                list_free(&kept, &mut lists);
+                Ok(Pfns { kept, lists })
             }
             Err(_) => Err(NoMemory),
         }
@@ -61,7 +73,7 @@ impl Pfns {
         ensures row { result ≡ row_of self.now f.0 }
         ensures consistent { IsConsistent self.now }
     {
-        row_at(&self.rows, f)
+        row_at(&self.kept, &self.lists, f)
     }
 
     /// How many frames are on a list.
@@ -72,7 +84,7 @@ impl Pfns {
         self.lists.len(l)
     }
 
-    /// The first frame of a list; `None` exactly where the list is empty.
+    /// The first frame of a list; `None` exactly if the list is empty.
     pub fn list_head(&self, l: ListName) -> Option<Pfn>
         ensures head { option_map number result ≡ slice_get (list_of (lists_of self.now) l) 0 }
         ensures consistent { IsConsistent self.now }
@@ -83,7 +95,7 @@ impl Pfns {
         }
     }
 
-    /// The frame after `f` on the list that `f` is on; `None` exactly where `f` is the last there,
+    /// The frame after `f` on the list that `f` is on; `None` exactly if `f` is the last there,
     /// or on no list.
     pub fn list_next(&self, f: Pfn) -> Option<Pfn>
         ensures next { IsNext (lists_of self.now) f.0 (option_map number result) }
@@ -96,12 +108,14 @@ impl Pfns {
     }
 
     /// Makes a frame active that is empty or holds this page: it leaves the list that it is on, if
-    /// any, holds the page and has the ring slot. Its modify mark, shares and transfer stay.
+    /// any, holds the page and has the ring slot, which is 0 for a shared page. Its modify mark, shares
+    /// and transfer stay.
     pub fn set_active(&mut self, f: Pfn, page: Page, slot: u32)
         requires below { f.0 < length self.old.rows }
         requires usable { ((row_of self.old f.0).state ≢ FrameState.Bad)
             × ((row_of self.old f.0).state ≢ FrameState.ReadError) }
         requires page { IfSome (row_of self.old f.0).page (λ held. held ≡ page) }
+        requires slot { FitsSlot (Some page) slot }
         ensures rows { self.new.rows ≡ slice_set self.old.rows f.0
             (record (row_of self.old f.0) {
               state = FrameState.Active;
@@ -112,13 +126,14 @@ impl Pfns {
         ensures modified { self.new.modified ≡ without self.old.modified f.0 }
         ensures consistent { IsConsistent self.new }
     {
-        let row = row_at(&self.rows, f);
-        take_off(&mut self.lists, row.state, f.0);
-        self.rows[f.0 as usize] = Row {
+        let kept = kept_at(&self.kept, f);
+        take_off(&mut self.lists, kept.state, f.0);
+        let (shares, _) = self.lists.cells(f.0);
+        self.lists.set_cells(f.0, (shares, slot));
+        self.kept[f.0 as usize] = Kept {
             state: FrameState::Active,
             page: Some(page),
-            slot,
-            ..row
+            ..kept
         };
     }
 
@@ -133,12 +148,12 @@ impl Pfns {
         ensures modified { self.new.modified ≡ self.old.modified }
         ensures consistent { IsConsistent self.new }
     {
-        let row = row_at(&self.rows, f);
+        let kept = kept_at(&self.kept, f);
         let _head = self.lists.pop_head(ListName::Free);
-        self.rows[f.0 as usize] = Row {
+        self.kept[f.0 as usize] = Kept {
             state: FrameState::Reading,
             page: Some(page),
-            ..row
+            ..kept
         };
     }
 
@@ -152,10 +167,10 @@ impl Pfns {
         ensures modified { self.new.modified ≡ self.old.modified }
         ensures consistent { IsConsistent self.new }
     {
-        let row = row_at(&self.rows, f);
-        self.rows[f.0 as usize] = Row {
+        let kept = kept_at(&self.kept, f);
+        self.kept[f.0 as usize] = Kept {
             state: FrameState::ReadError,
-            ..row
+            ..kept
         };
     }
 
@@ -171,10 +186,10 @@ impl Pfns {
         ensures modified { self.new.modified ≡ without self.old.modified f.0 }
         ensures consistent { IsConsistent self.new }
     {
-        let row = row_at(&self.rows, f);
-        take_off(&mut self.lists, row.state, f.0);
+        let kept = kept_at(&self.kept, f);
+        take_off(&mut self.lists, kept.state, f.0);
         self.lists.push_head(ListName::Free, f.0);
-        self.rows[f.0 as usize] = EMPTY;
+        self.kept[f.0 as usize] = EMPTY;
     }
 
     /// Puts a frame in use with no shares and no transfer at the tail of the modified list where its
@@ -197,12 +212,9 @@ impl Pfns {
             (if (row_of self.old f.0).modify then self.old.modified ++ f.0 ∷ [] else self.old.modified) }
         ensures consistent { IsConsistent self.new }
     {
-        let row = row_at(&self.rows, f);
-        self.rows[f.0 as usize] = Row {
-            state: push_settled(&mut self.lists, row.modify, f.0),
-            slot: 0,
-            ..row
-        };
+        let kept = kept_at(&self.kept, f);
+        let state = push_settled(&mut self.lists, kept.modify, f.0);
+        self.kept[f.0 as usize] = Kept { state, ..kept };
     }
 
     /// Sets or clears the modify mark of a frame in whose state it may be so.
@@ -215,8 +227,8 @@ impl Pfns {
         ensures modified { self.new.modified ≡ self.old.modified }
         ensures consistent { IsConsistent self.new }
     {
-        let row = row_at(&self.rows, f);
-        self.rows[f.0 as usize] = Row { modify, ..row };
+        let kept = kept_at(&self.kept, f);
+        self.kept[f.0 as usize] = Kept { modify, ..kept };
     }
 
     /// Counts one more valid process entry for an active frame.
@@ -224,26 +236,14 @@ impl Pfns {
         requires below { f.0 < length self.old.rows }
         requires active { (row_of self.old f.0).state ≡ FrameState.Active }
         requires shares { (row_of self.old f.0).shares < 2 ^ 32 - 1 }
-        ensures rows { let row = row_of self.old f.0 in
-            self.new.rows ≡ slice_set self.old.rows f.0
-            (record row {
-              refs = (if row.shares == 0 then row.refs + 1 else row.refs);
-              shares = row.shares + 1;
-            }) }
+        ensures rows { self.new.rows ≡ slice_set self.old.rows f.0 (shared (row_of self.old f.0)) }
         ensures free { self.new.free ≡ self.old.free }
         ensures modified { self.new.modified ≡ self.old.modified }
         ensures consistent { IsConsistent self.new }
     {
-        let row = row_at(&self.rows, f);
-        self.rows[f.0 as usize] = Row {
-            refs: if row.shares == 0 {
-                row.refs + 1
-            } else {
-                row.refs
-            },
-            shares: row.shares + 1,
-            ..row
-        };
+        let row = with_share(joined(kept_at(&self.kept, f), self.lists.cells(f.0)));
+        self.lists.set_cells(f.0, (row.shares, row.slot));
+        self.kept[f.0 as usize] = kept_of(row);
     }
 
     /// Counts one valid process entry less for an active frame. The last one clears the slot, and
@@ -257,8 +257,9 @@ impl Pfns {
         ensures modified { self.new.modified ≡ self.old.modified }
         ensures consistent { IsConsistent self.new }
     {
-        let row = row_at(&self.rows, f);
-        self.rows[f.0 as usize] = without_share(row);
+        let row = without_share(joined(kept_at(&self.kept, f), self.lists.cells(f.0)));
+        self.lists.set_cells(f.0, (row.shares, row.slot));
+        self.kept[f.0 as usize] = kept_of(row);
     }
 
     /// Begins a transfer of a frame that is active, modified or reading. Its modify mark is
@@ -280,14 +281,14 @@ impl Pfns {
         ensures modified { self.new.modified ≡ without self.old.modified f.0 }
         ensures consistent { IsConsistent self.new }
     {
-        let row = row_at(&self.rows, f);
-        take_off(&mut self.lists, row.state, f.0);
-        self.rows[f.0 as usize] = Row {
-            state: state_in_transfer(row.state),
+        let kept = kept_at(&self.kept, f);
+        take_off(&mut self.lists, kept.state, f.0);
+        self.kept[f.0 as usize] = Kept {
+            state: state_in_transfer(kept.state),
             modify: false,
-            refs: row.refs + 1,
+            refs: kept.refs + 1,
             flights: 1,
-            ..row
+            ..kept
         };
     }
 
@@ -302,12 +303,33 @@ impl Pfns {
         ensures modified { self.new.modified ≡ self.old.modified }
         ensures consistent { IsConsistent self.new }
     {
-        let row = row_at(&self.rows, f);
-        self.rows[f.0 as usize] = Row {
-            refs: row.refs - 1,
+        let kept = kept_at(&self.kept, f);
+        self.kept[f.0 as usize] = Kept {
+            refs: kept.refs - 1,
             flights: 0,
-            ..row
+            ..kept
         };
+    }
+}
+
+/// The row of a frame.
+fn row_at(kept: &Vec<Kept>, lists: &Lists, f: Pfn) -> Row
+    requires below { f.0 < length kept.now.items }
+    requires frames { lists.now.frames ≡ length kept.now.items }
+    ensures { result
+        ≡ joined (slice_index_or kept.now.items f.0 (kept_of bad_row)) (cells_of lists.now f.0) }
+{
+    joined(kept_at(kept, f), cells_at(lists, f.0))
+}
+
+/// The cells of a frame: zeros if it is on a list.
+fn cells_at(lists: &Lists, f: u32) -> (u32, u32)
+    requires { f < lists.now.frames }
+    ensures { result ≡ cells_of lists.now f }
+{
+    match lists.on(f) {
+        Some(_) => (0, 0),
+        None => lists.cells(f),
     }
 }
 
@@ -315,10 +337,10 @@ impl Pfns {
 fn take_off(lists: &mut Lists, state: FrameState, f: u32)
     requires free { count_of lists.old.free f ≡ (if is_free state then 1 else 0) }
     requires modified { count_of lists.old.modified f ≡ (if is_modified state then 1 else 0) }
-    ensures { lists.new ≡ record lists.old {
-      free = without lists.old.free f;
-      modified = without lists.old.modified f;
-    } }
+    ensures free { lists.new.free ≡ without lists.old.free f }
+    ensures modified { lists.new.modified ≡ without lists.old.modified f }
+    ensures frames { lists.new.frames ≡ lists.old.frames }
+    ensures cells { lists.new.cells ≡ lists.old.cells }
 {
     match state {
         FrameState::Free => lists.remove(ListName::Free, f),
@@ -328,7 +350,7 @@ fn take_off(lists: &mut Lists, state: FrameState, f: u32)
 }
 
 /// Puts a frame at the tail of the modified list where its page has to be written, else at the
-/// tail of the free list. Answers its state.
+/// tail of the free list. Returns its state.
 fn push_settled(lists: &mut Lists, modify: bool, f: u32) -> FrameState
     requires below { f < lists.old.frames }
     requires on_none { IsOnNone lists.old f }
@@ -337,6 +359,7 @@ fn push_settled(lists: &mut Lists, modify: bool, f: u32) -> FrameState
     ensures modified { lists.new.modified ≡
         (if modify then lists.old.modified ++ f ∷ [] else lists.old.modified) }
     ensures frames { lists.new.frames ≡ lists.old.frames }
+    ensures cells { lists.new.cells ≡ slice_set lists.old.cells f (0, 0) }
 {
     if modify {
         lists.push_tail(ListName::Modified, f);
@@ -344,6 +367,23 @@ fn push_settled(lists: &mut Lists, modify: bool, f: u32) -> FrameState
     }
     lists.push_tail(ListName::Free, f);
     FrameState::Free
+}
+
+/// The row once one valid entry more is for the frame.
+fn with_share(row: Row) -> Row
+    requires shares { row.shares < 2 ^ 32 - 1 }
+    requires refs { row.refs < 2 ^ 32 - 1 }
+    ensures { result ≡ shared row }
+{
+    Row {
+        refs: if row.shares == 0 {
+            row.refs + 1
+        } else {
+            row.refs
+        },
+        shares: row.shares + 1,
+        ..row
+    }
 }
 
 /// The row once one valid entry less is for the frame.

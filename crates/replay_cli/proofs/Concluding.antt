@@ -10,7 +10,8 @@ use Rattle.flat_model.specs.Laws.{RunsAreSound, SerialIsInOrder, SerialEndsAnswe
 use Rattle.flat_model.specs.Order.{IsWhole}
 use Rattle.flat_model.specs.Policy.{next_task, next_of}
 use Rattle.flat_model.specs.Run.{pager_after}
-use Rattle.trace_reader.specs.declared.fault.Cause.{Cause}
+use Rattle.trace_words.specs.declared.cause.Cause.{Cause}
+use Rattle.trace_lines.specs.declared.built.Built.TheVariants.{FirstPath}
 use Rattle.trace_reader.specs.Meaning.{Configuration, Faulty, trace_of, Trace}
 use Rattle.trace_reader.specs.Meaning as meaning
 use Rattle.trace_reader.specs.Answer.{Answers, FaultsBy}
@@ -116,8 +117,8 @@ told_complete : {words : List (List ℕ)} {before after : Option (List ℕ)} {fa
     → IsCommand words → IsTrace before → (Rose faults faults' → ⊥) → (status ≡ 0) ⊎ (status ≡ 7)
 told_complete status text (answered config entries at cmd quiet_source reads run) ok trace quiet = inl refl
 told_complete status text (usage other quiet_source unread_source) ok trace quiet = absurd (other ok)
-told_complete {before = before} status text (faulty n cause cmd quiet_source fault) ok trace quiet =
-    absurd (one_meaning n cause trace.1.0 _ trace.1.2 (subst (λ b. HasFault b n cause) trace.1.1 fault))
+told_complete {after = after} status text (faulty n cause cmd quiet_source fault) ok trace quiet =
+    absurd (one_meaning n cause trace.1.0 _ trace.1.2 (subst (λ b. HasFault b after n cause) trace.1.1 fault).0)
 told_complete {after = after} status text (unfinished cmd quiet_source short) ok trace quiet =
     absurd (not_short trace.1.0 _ trace.1.2 (subst (λ b. IsUnfinished b after) trace.1.1 short).0)
 told_complete status text (unread cmd rose faultless) ok trace quiet = absurd (quiet rose)
@@ -144,7 +145,7 @@ module _ (words : List (List ℕ)) (before after : Option (List ℕ)) (faults fa
 
 -- what the answer of the reader tells
 pub fault_tells : (words : List (List ℕ)) (before after : Option (List ℕ)) (faults faults' : ℕ) (f : TraceFault) → IsCommand words
-    → IfSome before (λ text. Answers (Err f) text after) → FaultsBy (Err f) faults faults' → Tells words before after faults faults' (fault_status f) (fault_told f)
+    → IfSome before (λ text. Answers FirstPath (Err f) text after) → FaultsBy (Err f) faults faults' → Tells words before after faults faults' (fault_status f) (fault_told f)
 fault_tells words before after faults faults' (fault.Line n cause) cmd means counts = faulty n cause cmd counts means
 fault_tells words before after faults faults' fault.Unfinished cmd means counts = unfinished cmd counts means
 fault_tells words before after faults faults' fault.ReadFault cmd means counts = unread cmd counts means

@@ -11,7 +11,7 @@ use Rattle.vm_types.specs.declared.reference.Ref.{Ref}
 use Rattle.vm_types.specs.declared.reply.Reply.{Reply}
 use Rattle.vm_journal.specs.declared.entry.Entry.{Entry}
 use Rattle.vm_journal.specs.declared.entry.What.TheVariants as what
-use Rattle.vm_journal.specs.HasLine.{Answers as Fits}
+use Rattle.vm_text.specs.References.{Answers as Fits}
 use Rattle.flat_model.specs.Flat.{FlatState, flat_reply, flat_next, reply_unless, flat_with, page_bytes, reply_from, bytes_after, offset_in_page, found_at, mapping_of}
 use Rattle.flat_model.specs.Maps.{page_number}
 use Rattle.flat_model.specs.Policy.{by_seat, spoken}

@@ -13,7 +13,6 @@ pub mod Running
 pub mod Reported
 pub mod WordsAre
 pub mod WritesInTurn
-pub mod PlaceLemmas
 pub mod LinesLemmas
 pub mod Ending
 pub mod RunText

@@ -17,7 +17,8 @@ use Rattle.flat_model.specs.Pager.{Pager, Frame, Process, Valid, shares, is_bad,
 use Rattle.flat_model.specs.Run.{pager_after}
 use Rattle.flat_model.specs.Step.{active_with}
 use Rattle.replay_cli.specs.Mirror.{own_page, frame_with, valid_with}
-use Rattle.replay_cli.specs.ReportView.{frame_view, process_view, IsNamed}
+use Rattle.vm_text.specs.Named.{IsPrintablePage}
+use Rattle.replay_cli.specs.ReportView.{frame_view, process_view}
 use Rattle.replay_cli.specs.Reports.{Reports}
 use Rattle.replay_cli.specs.declared.report.FrameRow as code
 use Rattle.replay_cli.specs.declared.report.ProcessRow as code_process
@@ -133,7 +134,7 @@ module _ (config : Config) (past : List Entry) (machine : Machine) (s : Stands c
       ∙ ap (λ procs. map (process_row (pager_after config past)) (range_with_len 0 (length procs))) (sym s.accepted.procs)
 
   -- the pages of the rows have names
-  pages_named : (rows : List code.FrameRow) → map frame_view rows ≡ rows_with config.frames machine.pages.items → All (λ (row : code.FrameRow). IfSome row.page (IsNamed config.sections)) rows
+  pages_named : (rows : List code.FrameRow) → map frame_view rows ≡ rows_with config.frames machine.pages.items → All (λ (row : code.FrameRow). IfSome row.page (IsPrintablePage config.sections)) rows
   pages_named rows are f d h =
       let row : FrameRow = frame_view d in
       let read : (get_or rows f d).page ≡ (get_or (rows_with config.frames machine.pages.items) f row).page =
@@ -144,7 +145,7 @@ module _ (config : Config) (past : List Entry) (machine : Machine) (s : Stands c
       read ∙ ap (λ (r : FrameRow). r.page)
       (get_or_append_left (map taken_row machine.pages.items) (replicate (config.frames - length machine.pages.items) free_row) row f (omega (arith, length-map machine.pages.items taken_row))
       ∙ get_or-map taken_row machine.pages.items f 0 row taken) in
-      subst (λ page. IfSome page (IsNamed config.sections)) (sym is) (omega arith, k.small f taken))
+      subst (λ page. IfSome page (IsPrintablePage config.sections)) (sym is) (omega arith, k.small f taken))
       (λ e. let past_those : length machine.pages.items ≤ f = ltb-false f _ e in
       let inside : f < config.frames = omega (arith, sym (length-map rows frame_view) ∙ ap length are ∙ rows_length) in
       let is : (get_or rows f d).page ≡ None =
@@ -152,7 +153,7 @@ module _ (config : Config) (past : List Entry) (machine : Machine) (s : Stands c
       (get_or-append_right (map taken_row machine.pages.items) (replicate (config.frames - length machine.pages.items) free_row) (length machine.pages.items) f row
       (length-map machine.pages.items taken_row) past_those
       ∙ get_or-replicate (config.frames - length machine.pages.items) (f - length machine.pages.items) free_row row (omega arith)) in
-      subst (λ page. IfSome page (IsNamed config.sections)) (sym is) tt)
+      subst (λ page. IfSome page (IsPrintablePage config.sections)) (sym is) tt)
 
   pub reports : (at charged : ℕ) (rows : List code.FrameRow) (states : List ℕ) (processes : List code_process.ProcessRow) → at ≡ length past → charged ≡ length machine.pages.items
       → map frame_view rows ≡ rows_with config.frames machine.pages.items → states ≡ map (in_state (map frame_view rows)) all_states

@@ -7,6 +7,9 @@ use Rattle.std.proofs.lemmas.List.Elements.{All-from_recursion}
 use Rattle.vm_types.specs.declared.config.Config.{Config}
 use Rattle.vm_types.specs.declared.config.ProcSpec.{ProcSpec}
 use Rattle.vm_types.specs.declared.config.Section.{Section}
+use Rattle.vm_types.specs.Configuration.{IsWellFormed}
+use Rattle.vm_text.specs.Named.{AreNames}
+use Rattle.vm_text.proofs.Printable.{config_names}
 use Rattle.vm_journal.specs.HasLine.{HasLine}
 use Rattle.vm_journal.specs.declared.entry.Entry.{Entry}
 use Rattle.flat_model.specs.Counts.{Report, report_of}
@@ -59,3 +62,10 @@ have_lines config entries lines procs names same own named all =
     subst (λ ns. All (HasLine (length procs) ns) lines) (sym named)
     (subst (λ ps. All (HasLine (length ps) config.sections) lines) (sym own)
     (subst (All (HasLine (length config.procs) config.sections)) (sym same) (all_entries (HasLine (length config.procs) config.sections) entries all)))
+
+-- the processes and sections of the run have names
+pub have_names : (config : Config) (procs : List ProcSpec) (names : List Section) → procs ≡ config.procs → names ≡ config.sections
+    → IsWellFormed config → AreNames (length procs) names
+have_names config procs names own named formed =
+    subst (AreNames (length procs)) (sym named)
+    (subst (λ ps. AreNames (length ps) config.sections) (sym own) (config_names config formed))

@@ -19,7 +19,8 @@ use Rattle.vm_types.specs.declared.reply.Why.{Why}
 use Rattle.vm_journal.specs.declared.entry.Entry.{Entry}
 use Rattle.vm_journal.specs.declared.entry.What.{What}
 use Rattle.vm_journal.specs.declared.entry.What.TheVariants as what
-use Rattle.vm_journal.specs.HasLine.{WhatHasLine, Answers}
+use Rattle.vm_journal.specs.HasLine.{WhatHasLine}
+use Rattle.vm_text.specs.References.{Answers}
 use Rattle.flat_model.specs.Flat.{flat_refusal, flat_reply, is_change}
 use Rattle.flat_model.specs.Flights.{is_busy}
 use Rattle.flat_model.specs.Maps.{page_number}
@@ -91,14 +92,14 @@ module _ (config : Config) (past : List Entry) (accepted : IsAccepted config) (t
   not_pending = rw accepted.params refl
 
   -- a legal entry of the policy with the right reply goes on with the history
-  goes_on : (w : What) → WhatHasLine config.sections w → IsLegal config past (pager_after config past) (by_seat 0 w) → ShowsReply config (flat_after config past) 0 w → next_entry config past ≡ Some (by_seat 0 w)
+  goes_on : (w : What) → WhatHasLine (length config.procs) config.sections w → IsLegal config past (pager_after config past) (by_seat 0 w) → ShowsReply config (flat_after config past) 0 w → next_entry config past ≡ Some (by_seat 0 w)
       → IsRightSoFar config (by_seat 0 w ∷ past)
   goes_on w line legal shows serial =
       record {
         run = (so_far.run, legal);
         right = (so_far.right, shows);
         serial = (so_far.serial, serial);
-        printable = (record { few = accepted.well_formed.some_process.1; seat = omega arith; what = line }, so_far.printable);
+        printable = (record { seat = omega arith; what = line }, so_far.printable);
       }
 
   pub denied_goes_on : (reason : Why) → IsFlatWhy reason → flat_refusal config (flat_after config past) 0 r ≡ Some reason
@@ -133,7 +134,8 @@ module _ (config : Config) (past : List Entry) (accepted : IsAccepted config) (t
       let free : (pager_after config past).free ≡ length vs ∷ range_with_len (length vs + 1) (config.frames - (length vs + 1)) = m.free ∙ free_head config vs frames in
       let invalid : entry_of (pager_after config past) 0 (page_number (r.addr).0) ≡ None = ap (find (is_entry 0 (page_number (r.addr).0))) m.valid ∙ found_none vs (page_number (r.addr).0) out in
       let same : page_number (512 * page_number (r.addr).0) ≡ page_number (r.addr).0 = start_page (r.addr).0 in
-      goes_on (what.Zero (record { 0 = 512 * page_number (r.addr).0 }) (record { 0 = length vs })) (start_aligned (r.addr).0)
+      goes_on (what.Zero (record { 0 = 512 * page_number (r.addr).0 }) (record { 0 = length vs }))
+      (record { aligned = start_aligned (r.addr).0; small = start_below (r.addr).0 well_formed.address }, omega (arith, accepted.frames))
       (record {
         own = own;
         first_byte = (start_below (r.addr).0 well_formed.address, start_aligned (r.addr).0);

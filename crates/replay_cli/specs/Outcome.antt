@@ -5,11 +5,12 @@ use Rattle.vm_types.specs.declared.config.Config.{Config}
 use Rattle.vm_journal.specs.declared.entry.Entry.{Entry}
 use Rattle.outside_io.specs.Causes.{Rose}
 use Rattle.flat_model.specs.Text.{ended, run_text, status_line}
-use Rattle.trace_reader.specs.declared.fault.Cause.{Cause}
-use Rattle.trace_reader.specs.declared.fault.Cause.TheVariants.{NotBuilt}
+use Rattle.trace_words.specs.declared.cause.Cause.{Cause}
+use Rattle.trace_words.specs.declared.cause.Cause.TheVariants.{LineTooLong, NotAscii, TooMany, UnknownWord, Misplaced, NoSuch, BadNumber, OutOfRange, Unaligned, Repeated, NotBuilt}
+use Rattle.trace_lines.specs.declared.built.Built.TheVariants.{FirstPath}
 use Rattle.trace_reader.specs.declared.fault.TraceFault.{TraceFault}
 use Rattle.trace_reader.specs.declared.fault.TraceFault.TheVariants as fault
-use Rattle.trace_reader.specs.Answer.{IsTaken}
+use Rattle.trace_reader.specs.Answer.{IsTaken, HasShown}
 use Rattle.trace_reader.specs.Meaning.{Configuration, Faulty, trace_of, shows_no_fault}
 use Rattle.trace_reader.specs.Meaning as meaning
 use Rattle.replay_cli.specs.Ends.{Ends}
@@ -21,6 +22,16 @@ IsCommand words = words ≡ codes "serial" ∷ []
 
 -- a cause's name in capitals
 abbrev pub cause_text : Cause → List ℕ
+cause_text LineTooLong = codes "LINETOOLONG"
+cause_text NotAscii = codes "NOTASCII"
+cause_text TooMany = codes "TOOMANY"
+cause_text UnknownWord = codes "UNKNOWNWORD"
+cause_text Misplaced = codes "MISPLACED"
+cause_text NoSuch = codes "NOSUCH"
+cause_text BadNumber = codes "BADNUMBER"
+cause_text OutOfRange = codes "OUTOFRANGE"
+cause_text Unaligned = codes "UNALIGNED"
+cause_text Repeated = codes "REPEATED"
 cause_text NotBuilt = codes "NOTBUILT"
 
 abbrev pub fault_text : ℕ → Cause → List ℕ
@@ -44,19 +55,19 @@ fault_told fault.NoMemory = status_line 7
 
 -- where the source tells its bytes, they stand for the configuration and were read to their end
 abbrev pub Reads : Option (List ℕ) → Option (List ℕ) → Config → Type 0
-Reads before after config = IfSome before (λ text. (trace_of text ≡ Configuration config) × (after ≡ Some []))
+Reads before after config = IfSome before (λ text. (trace_of FirstPath text ≡ Configuration config) × (after ≡ Some []))
 
--- the bytes have this first faulty line
-abbrev pub HasFault : Option (List ℕ) → ℕ → Cause → Type 0
-HasFault before n cause = IfSome before (λ text. trace_of text ≡ Faulty n cause)
+-- the bytes have this first faulty line, and those taken show it
+abbrev pub HasFault : Option (List ℕ) → Option (List ℕ) → ℕ → Cause → Type 0
+HasFault before after n cause = IfSome before (λ text. (trace_of FirstPath text ≡ Faulty n cause) × HasShown FirstPath text after)
 
 -- the bytes are accepted lines that end too early
 abbrev pub IsUnfinished : Option (List ℕ) → Option (List ℕ) → Type 0
-IsUnfinished before after = IfSome before (λ text. (trace_of text ≡ meaning.Unfinished) × (after ≡ Some []))
+IsUnfinished before after = IfSome before (λ text. (trace_of FirstPath text ≡ meaning.Unfinished) × (after ≡ Some []))
 
 -- no line of the bytes taken is at fault
 abbrev pub IsFaultless : Option (List ℕ) → Option (List ℕ) → Type 0
-IsFaultless before after = IfSome before (λ text. (taken : List ℕ) × IsTaken text taken after × (shows_no_fault taken ≡ true))
+IsFaultless before after = IfSome before (λ text. (taken : List ℕ) × IsTaken text taken after × (shows_no_fault FirstPath taken ≡ true))
 
 -- the text that goes with a status, each with its cause; by the words, by the bytes left in the
 -- source before and after, and by its count of faults before and after, which rises at status 3 alone
@@ -66,7 +77,7 @@ pub data Tells (words : List (List ℕ)) (before after : Option (List ℕ)) (fau
       → Tells words before after faults faults' 0 (run_text config entries at 0)
   -- any other command line: nothing is read
   usage : (IsCommand words → ⊥) → faults' ≡ faults → after ≡ before → Tells words before after faults faults' 1 (status_line 1)
-  faulty : (n : ℕ) (cause : Cause) → IsCommand words → faults' ≡ faults → HasFault before n cause
+  faulty : (n : ℕ) (cause : Cause) → IsCommand words → faults' ≡ faults → HasFault before after n cause
       → Tells words before after faults faults' 2 (fault_text n cause ++ status_line 2)
   unfinished : IsCommand words → faults' ≡ faults → IsUnfinished before after
       → Tells words before after faults faults' 2 (unfinished_text ++ status_line 2)
@@ -99,4 +110,4 @@ ConcludesRun config taken taken' f f' s s' result =
 
 -- the source tells its bytes, and they stand for a configuration
 abbrev pub IsTrace : Option (List ℕ) → Type 0
-IsTrace before = (text : List ℕ) × ((config : Config) × (before ≡ Some text) × (trace_of text ≡ Configuration config))
+IsTrace before = (text : List ℕ) × ((config : Config) × (before ≡ Some text) × (trace_of FirstPath text ≡ Configuration config))

@@ -1,8 +1,7 @@
 -- The report that a report's code holds, and when it can be printed. This project's own.
-use Rattle.std.specs.Prelude.{◌≡◌, ◌^◌, ◌<◌, ◌≤◌, List, length, map, slice_get, All, IfSome, IsSomeAnd}
-use Rattle.vm_types.specs.declared.names.Page.{Page}
-use Rattle.vm_types.specs.declared.names.Page.TheVariants.{Private, Shared}
+use Rattle.std.specs.Prelude.{◌≡◌, ◌≤◌, List, length, map, All, IfSome}
 use Rattle.vm_types.specs.declared.config.Section.{Section}
+use Rattle.vm_text.specs.Named.{IsPrintablePage}
 use Rattle.flat_model.specs.Counts as counts
 use Rattle.replay_cli.specs.declared.report.FrameRow.{FrameRow}
 use Rattle.replay_cli.specs.declared.report.ProcessRow.{ProcessRow}
@@ -27,13 +26,8 @@ report_view report =
       processes = map process_view report.processes;
     }
 
--- the page's process has a letter and its address 32 bits, or its section has a name of at most 15 bytes
-abbrev pub IsNamed : List Section → Page → Type 0
-IsNamed names (Private p v) = (p.0 < 16) × (v < 2 ^ 23)
-IsNamed names (Shared s i) = IsSomeAnd (slice_get names s.0) (λ section. length section.name ≤ 15)
-
 -- a report of this shape has a text
 pub record IsPrintable (names : List Section) (report : Report) : Type 0 where
   pub states : length report.states ≡ 8
   pub processes : length report.processes ≤ 16
-  pub pages : All (λ (row : FrameRow). IfSome row.page (IsNamed names)) report.frames
+  pub pages : All (λ (row : FrameRow). IfSome row.page (IsPrintablePage names)) report.frames

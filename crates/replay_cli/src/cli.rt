@@ -5,7 +5,7 @@ ghost use Rattle.outside_io.specs.Causes.{Rose};
 ghost use Rattle.flat_model.specs.Text.{report_text, run_text, status_line};
 ghost use Rattle.trace_reader.specs.Accepted.{IsAccepted};
 ghost use Rattle.replay_cli.specs.Ends.{Ends};
-ghost use Rattle.replay_cli.specs.Outcome.{Concludes, ConcludesRun, HasTold, IsCommand, IsTrace, WasCut, fault_status, fault_text, fault_told, unfinished_text};
+ghost use Rattle.replay_cli.specs.Outcome.{Concludes, ConcludesRun, HasTold, IsCommand, IsTrace, WasCut, cause_text, fault_status, fault_text, fault_told, unfinished_text};
 ghost use Rattle.replay_cli.specs.HasRun.{HasRun};
 ghost use Rattle.replay_cli.specs.ReportView.{IsPrintable, report_view};
 ghost use Rattle.replay_cli.specs.Reports.{Reports};
@@ -14,14 +14,14 @@ ghost use Rattle.replay_cli.specs.SinkWrites.{Writes};
 use crate::entry_lines::print_entries;
 use crate::recount::report_of_run;
 use crate::report::{Report, print_report, print_status};
-use crate::report_words::{push_decimal, push_word};
 use crate::run::{Finished, run};
 use crate::whole_line::write_line;
 use arrayvec::ArrayVec;
 use flat_model::{runs_are_sound, serial_is_in_order};
 use outside_io::{Sink, Source, WriteFault};
 use std::alloc::Global;
-use trace_reader::{Cause, TraceFault, read_trace};
+use trace_reader::{Built, Cause, TraceFault, read_trace};
+use vm_text::{push_decimal, push_word};
 use vm_types::{Config, Section};
 
 /// The status with which the program ends: 0 where every request was answered, 1 for a faulty
@@ -52,6 +52,26 @@ fn end<K: Sink>(n: u8, sink: &mut K) -> Status
     }
 }
 
+/// The cause's name in capitals, which has at most eleven bytes.
+fn name_of(cause: Cause) -> &'static [u8]
+    ensures value { result.now ≡ cause_text cause }
+    ensures short { length result.now ≤ 11 }
+{
+    match cause {
+        Cause::LineTooLong => b"LINETOOLONG",
+        Cause::NotAscii => b"NOTASCII",
+        Cause::TooMany => b"TOOMANY",
+        Cause::UnknownWord => b"UNKNOWNWORD",
+        Cause::Misplaced => b"MISPLACED",
+        Cause::NoSuch => b"NOSUCH",
+        Cause::BadNumber => b"BADNUMBER",
+        Cause::OutOfRange => b"OUTOFRANGE",
+        Cause::Unaligned => b"UNALIGNED",
+        Cause::Repeated => b"REPEATED",
+        Cause::NotBuilt => b"NOTBUILT",
+    }
+}
+
 /// Writes a line that says what is wrong with the trace.
 fn print_fault<K: Sink>(n: u32, cause: Cause, sink: &mut K) -> Result<(), WriteFault>
     ensures { Writes (K.taken sink.old) (K.taken sink.new) (K.faults sink.old) (K.faults sink.new)
@@ -60,9 +80,8 @@ fn print_fault<K: Sink>(n: u32, cause: Cause, sink: &mut K) -> Result<(), WriteF
     let mut out = ArrayVec::new();
     push_word(&mut out, b"TRACE ");
     push_decimal(&mut out, u64::from(n));
-    match cause {
-        Cause::NotBuilt => push_word(&mut out, b" NOTBUILT"),
-    }
+    push_word(&mut out, b" ");
+    push_word(&mut out, name_of(cause));
     write_line(out, sink)
 }
 
@@ -170,7 +189,7 @@ fn conclude<S: Source, K: Sink>(
     if !is_command(words) {
         return end(1, sink);
     }
-    match read_trace(alloc, source) {
+    match read_trace(source, alloc, Built::FirstPath) {
         Ok(config) => run_config(alloc, &config, sink),
         Err(fault) => end_fault(fault, sink),
     }

@@ -1,4 +1,5 @@
 ghost use Rattle.std.specs.Prelude.{◌≡◌, ◌+◌, ◌^◌, ◌<◌, ◌≤◌, length, is_some, All};
+ghost use Rattle.vm_text.specs.Named.{AreNames};
 ghost use Rattle.vm_journal.specs.HasLine.{HasLine};
 ghost use Rattle.outside_io.specs.WholeWrite.{TakesText, FaultsBy, stalls_by};
 ghost use Rattle.flat_model.specs.Text.{entry_lines};
@@ -24,6 +25,7 @@ pub fn print_entries<K: Sink>(
     sink: &mut K,
 ) -> Result<(), WriteFault>
     requires numbers { first + length entries.now < 2 ^ 64 }
+    requires names { AreNames procs names.now }
     requires have_lines { All (HasLine procs names.now) entries.now }
     ensures bytes { TakesText (K.taken sink.old) (K.taken sink.new) result (entry_lines first procs names.now entries.now) }
     ensures told { is_some (K.taken sink.new) ≡ is_some (K.taken sink.old) }

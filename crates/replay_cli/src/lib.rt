@@ -8,7 +8,6 @@ mod entry_lines;
 mod machine;
 mod recount;
 mod report;
-mod report_words;
 mod run;
 mod whole_line;
 

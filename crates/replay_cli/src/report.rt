@@ -1,18 +1,19 @@
 ghost use Rattle.std.specs.Prelude.{◌≡◌, ◌+◌, ◌<◌, ◌≤◌, ◌++◌, [], length, is_some, map, decimal, codes, All, IfSome};
 ghost use Rattle.arrayvec.specs.ArrayVec.{array_vec_len};
+ghost use Rattle.vm_text.specs.Named.{IsPrintablePage};
 ghost use Rattle.outside_io.specs.WholeWrite.{TakesText, FaultsBy, stalls_by};
 ghost use Rattle.flat_model.specs.Text.{ended, held_text, frame_line, frame_lines, states_text, page_file_text, process_text, process_lines, report_text, status_line};
-ghost use Rattle.replay_cli.specs.ReportView.{frame_view, process_view, report_view, IsNamed, IsPrintable};
+ghost use Rattle.replay_cli.specs.ReportView.{frame_view, process_view, report_view, IsPrintable};
 ghost use Rattle.replay_cli.specs.SinkWrites.{Writes};
 
-use crate::report_words::{
-    push_counted, push_decimal, push_mark, push_page, push_process, push_state, push_status,
-    push_word,
-};
 use crate::whole_line::write_line;
 use arrayvec::ArrayVec;
 use outside_io::{Sink, WriteFault};
-use vm_types::{FrameState, Listed, Page, ProcStatus, Section};
+use vm_text::{
+    push_count, push_decimal, push_mark, push_page, push_process, push_state, push_status,
+    push_word,
+};
+use vm_types::{FrameState, Listed, Page, Proc, ProcStatus, Section};
 
 /// A frame of the report: its state, the page that it holds, the page's modify bit, and its counts
 /// of references and of valid entries that share it.
@@ -51,6 +52,16 @@ pub struct Report {
     pub assigned: u32,
     /// The processes by number, at most 16.
     pub processes: Listed<ProcessRow>,
+}
+
+// A word, and a count in decimal digits.
+fn push_counted(out: &mut ArrayVec<u8, 160>, word: &[u8], count: u32)
+    requires { array_vec_len out.old + length word.now ≤ 150 }
+    ensures items { out.new.items ≡ out.old.items ++ word.now ++ decimal count }
+    ensures len { array_vec_len out.new ≤ array_vec_len out.old + length word.now + 10 }
+{
+    push_word(out, word);
+    push_count(out, count);
 }
 
 // How many entries were before it.
@@ -96,7 +107,7 @@ fn print_frames<K: Sink>(
     names: &[Section],
     sink: &mut K,
 ) -> Result<(), WriteFault>
-    requires { All (λ row. IfSome row.page (IsNamed names.now)) frames.now }
+    requires { All (λ row. IfSome row.page (IsPrintablePage names.now)) frames.now }
     ensures { Writes (K.taken sink.old) (K.taken sink.new) (K.faults sink.old) (K.faults sink.new)
         (K.stalls sink.old) (K.stalls sink.new) result
         (frame_lines names.now 0 (map frame_view frames.now)) }
@@ -114,7 +125,7 @@ fn print_frame<K: Sink>(
     names: &[Section],
     sink: &mut K,
 ) -> Result<(), WriteFault>
-    requires { IfSome row.page (IsNamed names.now) }
+    requires { IfSome row.page (IsPrintablePage names.now) }
     ensures { Writes (K.taken sink.old) (K.taken sink.new) (K.faults sink.old) (K.faults sink.new)
         (K.stalls sink.old) (K.stalls sink.new) result (frame_line names.now f (frame_view row)) }
 {
@@ -130,7 +141,7 @@ fn print_frame<K: Sink>(
 }
 
 fn push_held(out: &mut ArrayVec<u8, 160>, f: u64, row: FrameRow, page: Page, names: &[Section])
-    requires named { IsNamed names.now page }
+    requires named { IsPrintablePage names.now page }
     requires empty { out.old.items ≡ [] }
     ensures items { out.new.items ≡ held_text names.now f (frame_view row) page }
     ensures len { array_vec_len out.new ≤ 159 }
@@ -188,7 +199,7 @@ fn print_process<K: Sink>(p: u32, row: ProcessRow, sink: &mut K) -> Result<(), W
 {
     let mut out = ArrayVec::new();
     push_word(&mut out, b"PROCESS ");
-    push_process(&mut out, p);
+    push_process(&mut out, Proc(p));
     push_word(&mut out, b" ");
     push_status(&mut out, row.status);
     push_counted(&mut out, b" COUNT ", row.count);

@@ -1,64 +1,89 @@
 -- The lines of a piece, one after another.
-use Rattle.std.proofs.Common.{◌≡◌, ◌≢◌, ℕ, ◌+◌, ◌<◌, ◌≤◌, Bool, true, not, eqb, List, [], ◌∷◌, ◌++◌, length, All, Some, None, sym, ap, subst, ◌∙◌, append_assoc, arith}
-use Rattle.std.specs.Prelude.{⊤}
-use Rattle.std.proofs.lemmas.Bool.{eqb-false, not-true}
-use Rattle.std.proofs.lemmas.Option.{MatchOption-at_some}
-use Rattle.trace_reader.specs.declared.fault.Cause.TheVariants.{NotBuilt}
+use Rattle.std.proofs.Common.{◌≡◌, ◌≢◌, ℕ, ◌+◌, ◌<◌, ◌≤◌, List, [], ◌∷◌, ◌++◌, length, All, Result, Ok, Err, refl, sym, ap, subst, ◌∙◌, append_assoc, append-nil, arith}
+use Rattle.std.specs.Prelude.{IsOk}
+use Rattle.trace_words.specs.declared.cause.Cause.{Cause}
+use Rattle.trace_words.specs.declared.cause.Cause.TheVariants.{LineTooLong}
+use Rattle.trace_lines.specs.declared.built.Built.{Built}
+use Rattle.trace_lines.specs.declared.part.Part.{Part}
+use Rattle.trace_reader.specs.declared.draft.Draft.{Draft}
+use Rattle.trace_reader.specs.declared.fault.TraceFault.{TraceFault}
 use Rattle.trace_reader.specs.declared.fault.TraceFault.TheVariants as fault
-use Rattle.trace_reader.specs.declared.part.Place.TheVariants.{Ended}
-use Rattle.trace_reader.specs.declared.part.Part.{Part}
-use Rattle.trace_reader.specs.Grammar.{next_line}
-use Rattle.trace_reader.specs.Lines.{parts}
-use Rattle.trace_reader.specs.Meaning.{judge}
-use Rattle.trace_reader.specs.Split.{IsOther}
-use Rattle.trace_reader.specs.Stream.{Follows, IsReading, IsAtFault}
-use Rattle.trace_reader.proofs.SoFar.{IsNext, next_gives}
-use Rattle.trace_reader.proofs.Judging.{follows_then, follows_line, fault_line, fault_long, fault_after_end}
+use Rattle.trace_reader.specs.Meaning.{Faulty, next_line, judge, is_open, lines}
+use Rattle.trace_reader.specs.Stream.{Follows, IsReading, HasTaken, IsLineAtFault, IsAtFault, IsOpenFront}
+use Rattle.trace_reader.proofs.Splitting.{lines_none}
+use Rattle.trace_reader.proofs.Judging.{follows_then, follows_more, follows_line, fault_line, shut_line, fault_long, shut_long}
 
 -- the lines so far were taken, and the rest is left
-pub record IsTakingPiece (before : Part) (first : ℕ) (piece : List ℕ) (now : Part) (number : ℕ) (rest : List ℕ) : Type 0 where
+pub record IsTakingPiece (built : Built) (before : Part) (first : ℕ) (piece : List ℕ) (now : Draft) (number : ℕ) (rest : List ℕ) : Type 0 where
   pub front : List ℕ
   pub split : piece ≡ front ++ rest
-  pub follows : Follows before first piece now number rest
-  pub reading : IsReading now number
+  pub follows : Follows built before first front now.part number []
+  pub reading : IsReading built now number
   pub later : first ≤ number
   pub same : number ≡ first → rest ≡ piece
 
-reading_next : (now next : Part) (number : ℕ) (line : List ℕ) → IsReading now number → next_line now line ≡ Some next → IsReading next (number + 1)
-reading_next now next number line reading e =
-    let kept = MatchOption-at_some ⊤ (IsNext now.place now.config) next e (next_gives now line reading.so_far) in
-    record { so_far = kept.0; few = omega (arith, kept.1, reading.few) }
+-- the whole piece is judged as its rest is
+pub whole_follows : (built : Built) (before : Part) (first : ℕ) (piece : List ℕ) (now : Draft) (number : ℕ) (rest : List ℕ) → IsTakingPiece built before first piece now number rest → Follows built before first piece now.part number rest
+whole_follows built before first piece now number rest t =
+    subst (λ (p : List ℕ). Follows built before first p now.part number rest) (sym t.split) (follows_more built before now.part first number t.front [] rest t.follows)
 
-pub take_line : (before : Part) (first : ℕ) (piece : List ℕ) (now : Part) (number : ℕ) (rest line after : List ℕ) (next : Part)
-    → IsTakingPiece before first piece now number rest → rest ≡ line ++ 10 ∷ after → All (IsOther 10) line → next_line now line ≡ Some next
-    → IsTakingPiece before first piece next (number + 1) after
-take_line before first piece now number rest line after next t cut other e = record {
+-- one line more
+line_follows : (built : Built) (before part next : Part) (first number : ℕ) (front line : List ℕ) → Follows built before first front part number [] → All (λ b. b ≢ 10) line → next_line built number part line ≡ Ok next
+    → Follows built before first (front ++ (line ++ 10 ∷ [])) next (number + 1) []
+line_follows built before part next first number front line f other e =
+    follows_then built before part next first number (number + 1) (front ++ (line ++ 10 ∷ [])) (line ++ 10 ∷ []) []
+    (follows_more built before part first number front [] (line ++ 10 ∷ []) f) (follows_line built part next number line [] other e)
+
+moved_on : (piece front rest line after : List ℕ) → piece ≡ front ++ rest → rest ≡ line ++ 10 ∷ after → piece ≡ (front ++ (line ++ 10 ∷ [])) ++ after
+moved_on piece front rest line after split cut =
+    split ∙ ap (λ (r : List ℕ). front ++ r) (cut ∙ sym (append_assoc line (10 ∷ []) after)) ∙ sym (append_assoc front (line ++ 10 ∷ []) after)
+
+pub take_line : (built : Built) (before : Part) (first : ℕ) (piece : List ℕ) (now : Draft) (number : ℕ) (rest line after : List ℕ) (next : Draft) (later : ℕ)
+    → IsTakingPiece built before first piece now number rest → rest ≡ line ++ 10 ∷ after → All (λ b. b ≢ 10) line → HasTaken built now number line next later
+    → IsTakingPiece built before first piece next later after
+take_line built before first piece now number rest line after next later t cut other taken = record {
   front = t.front ++ (line ++ 10 ∷ []);
-  split = t.split ∙ ap (λ (r : List ℕ). t.front ++ r) (cut ∙ sym (append_assoc line (10 ∷ []) after)) ∙ sym (append_assoc t.front (line ++ 10 ∷ []) after);
-  follows = follows_then before now next first number (number + 1) piece rest after t.follows
-      (subst (λ (r : List ℕ). Follows now number r next (number + 1) after) (sym cut) (follows_line now next number line after other e));
-  reading = reading_next now next number line t.reading e;
-  later = omega (arith, t.later);
-  same = λ h. absurd (omega (arith, h, t.later));
+  split = moved_on piece t.front rest line after t.split cut;
+  follows = subst (λ (n : ℕ). Follows built before first (t.front ++ (line ++ 10 ∷ [])) next.part n []) (sym taken.counted) (line_follows built before now.part next.part first number t.front line t.follows other taken.taken);
+  reading = taken.reading;
+  later = omega (arith, t.later, taken.counted);
+  same = λ h. absurd (omega (arith, h, t.later, taken.counted));
 }
 
-pub fault_here : (before : Part) (first : ℕ) (piece : List ℕ) (now : Part) (number : ℕ) (rest line after : List ℕ)
-    → IsTakingPiece before first piece now number rest → rest ≡ line ++ 10 ∷ after → All (IsOther 10) line → next_line now line ≡ None
-    → IsAtFault before first piece (fault.Line number NotBuilt)
-fault_here before first piece now number rest line after t cut other e = λ more.
-    t.follows.judged more ∙ ap (λ (r : List ℕ). judge now number (parts 10 (r ++ more))) cut ∙ fault_line now number line after more other e
+is_ok_value : {A : Type 0} (r : Result A Cause) → IsOk r → (x : A) × (r ≡ Ok x)
+is_ok_value (Ok x) h = (x, refl)
+is_ok_value (Err cause) h = absurd cc
 
-pub fault_in_long : (before : Part) (first : ℕ) (piece : List ℕ) (now : Part) (number : ℕ) (rest : List ℕ)
-    → IsTakingPiece before first piece now number rest → All (IsOther 10) rest → 255 < length rest
-    → IsAtFault before first piece (fault.Line number NotBuilt)
-fault_in_long before first piece now number rest t other long = λ more. t.follows.judged more ∙ fault_long now number rest more other long
+-- memory ran out at a line that is right
+open_front : (built : Built) (before part next : Part) (first number : ℕ) (piece front rest line after : List ℕ) → Follows built before first front part number [] → piece ≡ front ++ rest → rest ≡ line ++ 10 ∷ after
+    → All (λ b. b ≢ 10) line → next_line built number part line ≡ Ok next → IsOpenFront built before first piece
+open_front built before part next first number piece front rest line after f split cut other e = record {
+  front = front ++ (line ++ 10 ∷ []);
+  rest = after;
+  whole = moved_on piece front rest line after split cut;
+  opened = ap (λ (r : List ℕ). is_open built first before (lines r)) (sym (append-nil (front ++ (line ++ 10 ∷ [])))) ∙ (line_follows built before part next first number front line f other e).opened [];
+}
 
-pub fault_behind : (before : Part) (first : ℕ) (piece : List ℕ) (now : Part) (number : ℕ) (rest : List ℕ)
-    → IsTakingPiece before first piece now number rest → All (IsOther 10) rest → now.place ≡ Ended → 0 < length rest
-    → IsAtFault before first piece (fault.Line number NotBuilt)
-fault_behind before first piece now number rest t other ended some = λ more. t.follows.judged more ∙ fault_after_end now number rest more other some ended
+pub fault_here : (built : Built) (before : Part) (first : ℕ) (piece : List ℕ) (now : Draft) (number : ℕ) (rest line after : List ℕ) (f : TraceFault)
+    → IsTakingPiece built before first piece now number rest → rest ≡ line ++ 10 ∷ after → All (λ b. b ≢ 10) line → IsLineAtFault built now.part number line f
+    → IsAtFault built before first piece f
+fault_here built before first piece now number rest line after fault.NoMemory t cut other h =
+    let some = is_ok_value (next_line built number now.part line) h in
+    open_front built before now.part some.0 first number piece t.front rest line after t.follows t.split cut other some.1
+fault_here built before first piece now number rest line after fault.ReadFault t cut other h = absurd h
+fault_here built before first piece now number rest line after (fault.Line n cause) t cut other h =
+    let whole = whole_follows built before first piece now number rest t in (
+      (λ more. whole.judged more ∙ ap (λ (r : List ℕ). judge built number now.part (lines (r ++ more))) cut ∙ fault_line built now.part number cause line after more other h.1 ∙ ap (λ (k : ℕ). Faulty k cause) (sym h.0)),
+      ap (λ (r : List ℕ). is_open built first before (lines r)) (sym (append-nil piece)) ∙ whole.opened [] ∙ ap (λ (r : List ℕ). is_open built number now.part (lines (r ++ []))) cut ∙ shut_line built now.part number cause line after [] other h.1,
+    )
+fault_here built before first piece now number rest line after fault.Unfinished t cut other h = absurd h
 
-pub some_bytes : (rest : List ℕ) (empty : Bool) → empty ≡ eqb (length rest) 0 → not empty ≡ true → 0 < length rest
-some_bytes rest empty is e =
-    let no : length rest ≢ 0 = eqb-false (length rest) 0 (sym is ∙ not-true empty e) in
-    omega arith
+pub fault_in_long : (built : Built) (before : Part) (first : ℕ) (piece : List ℕ) (now : Draft) (number : ℕ) (rest : List ℕ)
+    → IsTakingPiece built before first piece now number rest → All (λ b. b ≢ 10) rest → 255 < length rest
+    → IsAtFault built before first piece (fault.Line number LineTooLong)
+fault_in_long built before first piece now number rest t other long =
+    let whole = whole_follows built before first piece now number rest t in (
+      (λ more. whole.judged more ∙ fault_long built now.part number rest more other long),
+      ap (λ (r : List ℕ). is_open built first before (lines r)) (sym (append-nil piece)) ∙ whole.opened [] ∙ ap (λ (r : List ℕ). is_open built number now.part (lines r)) (append-nil rest)
+          ∙ ap (is_open built number now.part) (lines_none rest other) ∙ shut_long built now.part number rest [] long,
+    )

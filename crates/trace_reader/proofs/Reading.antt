@@ -1,5 +1,5 @@
 -- A text that is read in pieces.
-use Rattle.std.proofs.Common.{◌≡◌, ℕ, ◌+◌, ◌-◌, ◌≤◌, true, List, [], ◌++◌, length, take, drop, All, Option, Some, None, Result, Ok, Err, refl, sym, ap, subst, ◌∙◌, append_assoc, arith, lit≤}
+use Rattle.std.proofs.Common.{◌≡◌, ◌≢◌, ℕ, ◌+◌, ◌-◌, ◌≤◌, true, List, [], ◌++◌, length, take, drop, All, Option, Some, None, Result, Ok, Err, refl, sym, ap, subst, ◌∙◌, append_assoc, arith, lit≤, inl, inr}
 use Rattle.std.specs.Prelude.{IfSome}
 use Rattle.std.specs.List.{copy_within}
 use Rattle.std.specs.Io.KnownBytes.{Keeps, Consumes, IsAtEnd}
@@ -7,40 +7,40 @@ use Rattle.std.proofs.lemmas.List.{append-nil, take_at, drop-take, length-drop, 
 use Rattle.std.proofs.lemmas.List.Elements.{All-nil}
 use Rattle.std.proofs.Math.Seq.{take-add}
 use Rattle.vm_types.specs.declared.config.Config.{Config}
+use Rattle.trace_lines.specs.declared.built.Built.{Built}
+use Rattle.trace_lines.specs.declared.part.Part.{Part}
+use Rattle.trace_lines.specs.Seen.{IsSeen}
+use Rattle.trace_reader.specs.declared.draft.Draft.{Draft}
 use Rattle.trace_reader.specs.declared.fault.TraceFault.{TraceFault}
 use Rattle.trace_reader.specs.declared.fault.TraceFault.TheVariants as fault
-use Rattle.trace_reader.specs.declared.part.Part.{Part}
-use Rattle.trace_reader.specs.Answer.{Answers}
-use Rattle.trace_reader.specs.Grammar.{start}
-use Rattle.trace_reader.specs.Lines.{parts}
-use Rattle.trace_reader.specs.Meaning.{Trace, at_end, judge, trace_of, may_go_on, is_open, shows_no_fault}
-use Rattle.trace_reader.specs.Split.{IsOther}
-use Rattle.trace_reader.specs.Stream.{Follows, IsReading, IsHeld, IsAtFault, IsPieceTaken, Means}
-use Rattle.trace_reader.proofs.Judging.{follows_same, follows_then, follows_more}
-use Rattle.trace_reader.proofs.SoFar.{start_so_far}
-use Rattle.trace_reader.proofs.Splitting.{parts_none}
+use Rattle.trace_reader.specs.Answer.{Answers, HasShown, IsRightSoFar}
+use Rattle.trace_reader.specs.Changes.{start}
+use Rattle.trace_reader.specs.Drafts.{IsDraft}
+use Rattle.trace_reader.specs.Meaning.{at_end, judge, trace_of, shows_no_fault}
+use Rattle.trace_reader.specs.Stream.{Follows, IsReading, IsHeld, IsAtFault, IsOpenFront, IsPieceTaken, Means}
+use Rattle.trace_reader.proofs.Judging.{follows_same, follows_then, follows_more, last_line}
+use Rattle.trace_reader.proofs.Drafting.{start_draft}
+use Rattle.trace_reader.proofs.Splitting.{lines_none}
 
 -- between two reads: whole lines were taken, and the buffer begins with a part of the next one
-pub record IsBetween (text left : Option (List ℕ)) (buffer : List ℕ) (part : Part) (number held : ℕ) : Type 0 where
+pub record IsBetween (built : Built) (text left : Option (List ℕ)) (buffer : List ℕ) (held : Draft) (number count : ℕ) : Type 0 where
   pub room : 256 ≤ length buffer
-  pub few : held ≤ 255
-  pub reading : IsReading part number
-  pub goes_on : may_go_on part.place (take held buffer) ≡ true
-  pub one_line : All (IsOther 10) (take held buffer)
-  pub told : IfSome text (λ t. IsHeld t left part number (take held buffer))
+  pub few : count ≤ 255
+  pub reading : IsReading built held number
+  pub one_line : All (λ b. b ≢ 10) (take count buffer)
+  pub told : IfSome text (λ t. IsHeld built t left held.part number (take count buffer))
 
-held_first : (told : Option (List ℕ)) → IfSome told (λ t. IsHeld t told start 1 [])
-held_first None = tt
-held_first (Some text) = record { taken = []; split = record { rest = text; whole = refl; left_over = refl }; follows = follows_same start 1 [] }
+held_first : (built : Built) (told : Option (List ℕ)) → IfSome told (λ t. IsHeld built t told start 1 [])
+held_first built None = tt
+held_first built (Some text) = record { done = []; split = record { rest = text; whole = refl; left_over = refl }; follows = follows_same built start 1 [] }
 
-pub before_all : (told : Option (List ℕ)) (buffer : List ℕ) → 256 ≤ length buffer → IsBetween told told buffer start 1 0
-before_all told buffer room = record {
+pub from_start : (built : Built) (told : Option (List ℕ)) (buffer : List ℕ) (held : Draft) (number : ℕ) → 256 ≤ length buffer → held.part ≡ start → number ≡ 1 → IsSeen held.seen held.part.config → IsBetween built told told buffer held number 0
+from_start built told buffer held number room p n seen = record {
   room = room;
   few = lit≤ tt;
-  reading = record { so_far = start_so_far; few = lit≤ tt };
-  goes_on = refl;
-  one_line = All-nil (IsOther 10);
-  told = held_first told;
+  reading = record { seen = seen; draft = subst (IsDraft built) (sym p) (start_draft built); few = omega (arith, n) };
+  one_line = All-nil (λ b. b ≢ 10);
+  told = rw (p, n) (held_first built told);
 }
 
 -- a read that failed
@@ -50,21 +50,24 @@ kept None new rest e k = absurd cc
 kept (Some xs) None rest e k = absurd k
 kept (Some xs) (Some ys) rest e k = ap (λ (zs : List ℕ). Some zs) k ∙ e
 
-no_fault : (text pending : List ℕ) (part : Part) (number : ℕ) → All (IsOther 10) pending → may_go_on part.place pending ≡ true → Follows start 1 text part number pending → shows_no_fault text ≡ true
-no_fault text pending part number other goes_on follows =
-    ap shows_no_fault (sym (append-nil text)) ∙ follows.opened []
-    ∙ ap (λ (t : List ℕ). is_open part (parts 10 t)) (append-nil pending)
-    ∙ ap (is_open part) (parts_none 10 pending other) ∙ goes_on
+pub no_fault : (built : Built) (done pending : List ℕ) (part : Part) (number : ℕ) → All (λ b. b ≢ 10) pending → length pending ≤ 255 → Follows built start 1 done part number [] → shows_no_fault built (done ++ pending) ≡ true
+no_fault built done pending part number other few follows =
+    follows.opened pending ∙ last_line built part number pending other few
 
-open_answer : (told left new : Option (List ℕ)) (pending : List ℕ) (part : Part) (number : ℕ) → All (IsOther 10) pending → may_go_on part.place pending ≡ true
-    → IfSome told (λ t. IsHeld t left part number pending) → Keeps left new → IfSome told (λ t. Answers (Err fault.ReadFault) t new)
-open_answer None left new pending part number other goes_on h k = tt
-open_answer (Some text) left new pending part number other goes_on h k =
-    (h.taken, record { rest = h.split.rest; whole = h.split.whole; left_over = kept left new h.split.rest h.split.left_over k }, no_fault h.taken pending part number other goes_on h.follows)
+open_answer : (built : Built) (told left new : Option (List ℕ)) (pending : List ℕ) (part : Part) (number : ℕ) → All (λ b. b ≢ 10) pending → length pending ≤ 255
+    → IfSome told (λ t. IsHeld built t left part number pending) → Keeps left new → IfSome told (λ t. Answers built (Err fault.ReadFault) t new)
+open_answer built None left new pending part number other few h k = tt
+open_answer built (Some text) left new pending part number other few h k =
+    (h.done ++ pending, record { rest = h.split.rest; whole = h.split.whole; left_over = kept left new h.split.rest h.split.left_over k }, no_fault built h.done pending part number other few h.follows)
 
-pub read_failed : (told left new : Option (List ℕ)) (buffer : List ℕ) (part : Part) (number held : ℕ)
-    → IsBetween told left buffer part number held → Keeps left new → IfSome told (λ t. Answers (Err fault.ReadFault) t new)
-read_failed told left new buffer part number held b k = open_answer told left new (take held buffer) part number b.one_line b.goes_on b.told k
+length_held : (count : ℕ) (buffer : List ℕ) → count ≤ 255 → 256 ≤ length buffer → length (take count buffer) ≡ count
+length_held count buffer few room = length-take-le count buffer (omega arith)
+
+pub read_failed : (built : Built) (told left new : Option (List ℕ)) (buffer : List ℕ) (held : Draft) (number count : ℕ)
+    → IsBetween built told left buffer held number count → Keeps left new → IfSome told (λ t. Answers built (Err fault.ReadFault) t new)
+read_failed built told left new buffer held number count b k =
+    let few : length (take count buffer) ≤ 255 = rw (length_held count buffer b.few b.room) b.few in
+    open_answer built told left new (take count buffer) held.part number b.one_line few b.told k
 
 -- the end of the text
 
@@ -75,38 +78,47 @@ ended (Some xs) (Some ys) rest bytes e none c at =
     let is : xs ≡ rest = cc in
     (sym is ∙ c ∙ ap (λ (bs : List ℕ). bs ++ ys) none ∙ at, ap (λ (zs : List ℕ). Some zs) at)
 
-meaning_at_end : (text taken rest pending : List ℕ) (part : Part) (number : ℕ) → text ≡ taken ++ rest → rest ≡ [] → All (IsOther 10) pending → Follows start 1 taken part number pending
-    → trace_of text ≡ at_end part number pending
-meaning_at_end text taken rest pending part number whole none other follows =
-    ap trace_of (whole ∙ ap (λ (r : List ℕ). taken ++ r) none) ∙ follows.judged []
-    ∙ ap (λ (t : List ℕ). judge part number (parts 10 t)) (append-nil pending)
-    ∙ ap (judge part number) (parts_none 10 pending other)
+meaning_at_end : (built : Built) (text done pending rest : List ℕ) (part : Part) (number : ℕ) → text ≡ (done ++ pending) ++ rest → rest ≡ [] → All (λ b. b ≢ 10) pending → Follows built start 1 done part number []
+    → trace_of built text ≡ at_end built number part pending
+meaning_at_end built text done pending rest part number whole none other follows =
+    ap (trace_of built) (whole ∙ ap (λ (r : List ℕ). (done ++ pending) ++ r) none ∙ append-nil (done ++ pending)) ∙ follows.judged pending
+    ∙ ap (judge built number part) (lines_none pending other)
 
-answers_from : (result : Result Config TraceFault) (text : List ℕ) (trace : Trace) (new : Option (List ℕ)) → trace_of text ≡ trace → new ≡ Some [] → Means result trace → Answers result text new
-answers_from (Ok config) text trace new e none m = (e ∙ m, none)
-answers_from (Err fault.NoMemory) text trace new e none m = tt
-answers_from (Err fault.ReadFault) text trace new e none m = absurd m
-answers_from (Err (fault.Line n cause)) text trace new e none m = e ∙ m
-answers_from (Err fault.Unfinished) text trace new e none m = (e ∙ m, none)
+-- at the end the whole text was taken
+all_taken : (built : Built) (text : List ℕ) (new : Option (List ℕ)) → new ≡ Some [] → HasShown built text new
+all_taken built text new none = record { taken = text; split = record { rest = []; whole = sym (append-nil text); left_over = none }; shown = inr none }
 
-end_answer : (result : Result Config TraceFault) (told left new : Option (List ℕ)) (pending bytes : List ℕ) (part : Part) (number : ℕ) → All (IsOther 10) pending
-    → IfSome told (λ t. IsHeld t left part number pending) → bytes ≡ [] → Consumes left new bytes → IsAtEnd new → Means result (at_end part number pending)
-    → IfSome told (λ t. Answers result t new)
-end_answer result None left new pending bytes part number other h none c at m = tt
-end_answer result (Some text) left new pending bytes part number other h none c at m =
+right_until : (built : Built) (text done pending rest : List ℕ) (part : Part) (number : ℕ) → text ≡ (done ++ pending) ++ rest → All (λ b. b ≢ 10) pending → length pending ≤ 255 → Follows built start 1 done part number [] → IsRightSoFar built text
+right_until built text done pending rest part number whole other few follows = record { front = done ++ pending; rest = rest; whole = whole; right = no_fault built done pending part number other few follows }
+
+answers_from : (built : Built) (result : Result Config TraceFault) (text done pending rest : List ℕ) (part : Part) (number : ℕ) (new : Option (List ℕ)) → trace_of built text ≡ at_end built number part pending → new ≡ Some []
+    → IsRightSoFar built text → Means built number part pending result (at_end built number part pending) → Answers built result text new
+answers_from built (Ok config) text done pending rest part number new e none right m = (e ∙ m, none)
+answers_from built (Err fault.NoMemory) text done pending rest part number new e none right m = right
+answers_from built (Err fault.ReadFault) text done pending rest part number new e none right m = absurd m
+answers_from built (Err (fault.Line n cause)) text done pending rest part number new e none right m = (e ∙ m, all_taken built text new none)
+answers_from built (Err fault.Unfinished) text done pending rest part number new e none right m = (e ∙ m, none)
+
+end_answer : (built : Built) (result : Result Config TraceFault) (told left new : Option (List ℕ)) (pending bytes : List ℕ) (part : Part) (number : ℕ) → All (λ b. b ≢ 10) pending → length pending ≤ 255
+    → IfSome told (λ t. IsHeld built t left part number pending) → bytes ≡ [] → Consumes left new bytes → IsAtEnd new → Means built number part pending result (at_end built number part pending)
+    → IfSome told (λ t. Answers built result t new)
+end_answer built result None left new pending bytes part number other few h none c at m = tt
+end_answer built result (Some text) left new pending bytes part number other few h none c at m =
     let over = ended left new h.split.rest bytes h.split.left_over none c at in
-    answers_from result text (at_end part number pending) new (meaning_at_end text h.taken h.split.rest pending part number h.split.whole over.0 other h.follows) over.1 m
+    answers_from built result text h.done pending h.split.rest part number new (meaning_at_end built text h.done pending h.split.rest part number h.split.whole over.0 other h.follows) over.1
+    (right_until built text h.done pending h.split.rest part number h.split.whole other few h.follows) m
 
 take_none : (n : ℕ) (xs : List ℕ) → n ≡ 0 → take n xs ≡ []
 take_none n xs e = ap (λ (k : ℕ). take k xs) e
 
-pub text_ended : (result : Result Config TraceFault) (told left new : Option (List ℕ)) (buffer filled : List ℕ) (part : Part) (number held count : ℕ)
-    → IsBetween told left buffer part number held → take held filled ≡ take held buffer → count ≡ 0
-    → Consumes left new (take count (drop held filled)) → IsAtEnd new → Means result (at_end part number (take held filled))
-    → IfSome told (λ t. Answers result t new)
-text_ended result told left new buffer filled part number held count b same none c at m =
-    end_answer result told left new (take held buffer) (take count (drop held filled)) part number b.one_line b.told (take_none count (drop held filled) none) c at
-    (subst (λ (p : List ℕ). Means result (at_end part number p)) same m)
+pub text_ended : (built : Built) (result : Result Config TraceFault) (told left new : Option (List ℕ)) (buffer filled : List ℕ) (held : Draft) (number count more : ℕ)
+    → IsBetween built told left buffer held number count → take count filled ≡ take count buffer → more ≡ 0
+    → Consumes left new (take more (drop count filled)) → IsAtEnd new → Means built number held.part (take count filled) result (at_end built number held.part (take count filled))
+    → IfSome told (λ t. Answers built result t new)
+text_ended built result told left new buffer filled held number count more b same none c at m =
+    let few : length (take count buffer) ≤ 255 = rw (length_held count buffer b.few b.room) b.few in
+    end_answer built result told left new (take count buffer) (take more (drop count filled)) held.part number b.one_line few b.told (take_none more (drop count filled) none) c at
+    (subst (λ (p : List ℕ). Means built number held.part p result (at_end built number held.part p)) same m)
 
 -- more bytes came
 
@@ -115,63 +127,72 @@ consumed None new rest bytes e c = absurd cc
 consumed (Some xs) None rest bytes e c = absurd c
 consumed (Some xs) (Some ys) rest bytes e c = (ys, refl, (let is : xs ≡ rest = cc in sym is ∙ c))
 
-held_more : (told left new : Option (List ℕ)) (pending bytes : List ℕ) (part : Part) (number : ℕ)
-    → IfSome told (λ t. IsHeld t left part number pending) → Consumes left new bytes → IfSome told (λ t. IsHeld t new part number (pending ++ bytes))
-held_more None left new pending bytes part number h c = tt
-held_more (Some text) left new pending bytes part number h c =
+held_more : (built : Built) (told left new : Option (List ℕ)) (pending bytes : List ℕ) (part : Part) (number : ℕ)
+    → IfSome told (λ t. IsHeld built t left part number pending) → Consumes left new bytes → IfSome told (λ t. IsHeld built t new part number (pending ++ bytes))
+held_more built None left new pending bytes part number h c = tt
+held_more built (Some text) left new pending bytes part number h c =
     let more = consumed left new h.split.rest bytes h.split.left_over c in
     record {
-      taken = h.taken ++ bytes;
-      split = record { rest = more.0; whole = h.split.whole ∙ ap (λ (r : List ℕ). h.taken ++ r) more.2 ∙ sym (append_assoc h.taken bytes more.0); left_over = more.1 };
-      follows = follows_more start part 1 number h.taken pending bytes h.follows;
+      done = h.done;
+      split = record { rest = more.0; whole = h.split.whole ∙ ap (λ (r : List ℕ). (h.done ++ pending) ++ r) more.2 ∙ sym (append_assoc (h.done ++ pending) bytes more.0) ∙ ap (λ (t : List ℕ). t ++ more.0) (append_assoc h.done pending bytes); left_over = more.1 };
+      follows = h.follows;
     }
 
-pub came : (told left new : Option (List ℕ)) (buffer filled : List ℕ) (part : Part) (number held count : ℕ)
-    → IsBetween told left buffer part number held → take held filled ≡ take held buffer → Consumes left new (take count (drop held filled))
-    → IfSome told (λ t. IsHeld t new part number (take (held + count) filled))
-came told left new buffer filled part number held count b same c =
-    let joined : take held buffer ++ take count (drop held filled) ≡ take (held + count) filled =
-    ap (λ (p : List ℕ). p ++ take count (drop held filled)) (sym same) ∙ sym (take-add held count filled) in
-    subst (λ (p : List ℕ). IfSome told (λ t. IsHeld t new part number p)) joined
-    (held_more told left new (take held buffer) (take count (drop held filled)) part number b.told c)
+pub came : (built : Built) (told left new : Option (List ℕ)) (buffer filled : List ℕ) (held : Draft) (number count more : ℕ)
+    → IsBetween built told left buffer held number count → take count filled ≡ take count buffer → Consumes left new (take more (drop count filled))
+    → IfSome told (λ t. IsHeld built t new held.part number (take (count + more) filled))
+came built told left new buffer filled held number count more b same c =
+    let joined : take count buffer ++ take more (drop count filled) ≡ take (count + more) filled =
+    ap (λ (p : List ℕ). p ++ take more (drop count filled)) (sym same) ∙ sym (take-add count more filled) in
+    subst (λ (p : List ℕ). IfSome told (λ t. IsHeld built t new held.part number p)) joined
+    (held_more built told left new (take count buffer) (take more (drop count filled)) held.part number b.told c)
 
 -- a line of the piece is at fault
 
-pub piece_fault : (told new : Option (List ℕ)) (piece : List ℕ) (part : Part) (number : ℕ) (f : TraceFault)
-    → IfSome told (λ t. IsHeld t new part number piece) → IsAtFault part number piece f → IfSome told (λ t. Answers (Err f) t new)
-piece_fault None new piece part number f h a = tt
-piece_fault (Some text) new piece part number fault.NoMemory h a = tt
-piece_fault (Some text) new piece part number fault.ReadFault h a = absurd a
-piece_fault (Some text) new piece part number (fault.Line n cause) h a = ap trace_of h.split.whole ∙ h.follows.judged h.split.rest ∙ a h.split.rest
-piece_fault (Some text) new piece part number fault.Unfinished h a = absurd a
+right_so_far : (built : Built) (text done piece rest : List ℕ) (part : Part) (number : ℕ) → text ≡ (done ++ piece) ++ rest → Follows built start 1 done part number [] → IsOpenFront built part number piece → IsRightSoFar built text
+right_so_far built text done piece rest part number whole follows o = record {
+  front = done ++ o.front;
+  rest = o.rest ++ rest;
+  whole = whole ∙ ap (λ (p : List ℕ). (done ++ p) ++ rest) o.whole ∙ ap (λ (p : List ℕ). p ++ rest) (sym (append_assoc done o.front o.rest)) ∙ append_assoc (done ++ o.front) o.rest rest;
+  right = follows.opened o.front ∙ o.opened;
+}
+
+pub piece_fault : (built : Built) (told new : Option (List ℕ)) (piece : List ℕ) (part : Part) (number : ℕ) (f : TraceFault)
+    → IfSome told (λ t. IsHeld built t new part number piece) → IsAtFault built part number piece f → IfSome told (λ t. Answers built (Err f) t new)
+piece_fault built None new piece part number f h a = tt
+piece_fault built (Some text) new piece part number fault.NoMemory h a = right_so_far built text h.done piece h.split.rest part number h.split.whole h.follows a
+piece_fault built (Some text) new piece part number fault.ReadFault h a = absurd a
+piece_fault built (Some text) new piece part number (fault.Line n cause) h a = (
+  ap (trace_of built) (h.split.whole ∙ append_assoc h.done piece h.split.rest) ∙ h.follows.judged (piece ++ h.split.rest) ∙ a.0 h.split.rest,
+  record { taken = h.done ++ piece; split = h.split; shown = inl (h.follows.opened piece ∙ a.1) },
+)
+piece_fault built (Some text) new piece part number fault.Unfinished h a = absurd a
 
 -- the whole lines of the piece were taken
 
-held_then : (told new : Option (List ℕ)) (piece rest : List ℕ) (part next : Part) (number after : ℕ)
-    → IfSome told (λ t. IsHeld t new part number piece) → Follows part number piece next after rest → IfSome told (λ t. IsHeld t new next after rest)
-held_then None new piece rest part next number after h f = tt
-held_then (Some text) new piece rest part next number after h f =
-    record { taken = h.taken; split = h.split; follows = follows_then start part next 1 number after h.taken piece rest h.follows f }
+held_then : (built : Built) (told new : Option (List ℕ)) (piece front rest : List ℕ) (part next : Part) (number after : ℕ)
+    → IfSome told (λ t. IsHeld built t new part number piece) → piece ≡ front ++ rest → Follows built part number front next after [] → IfSome told (λ t. IsHeld built t new next after rest)
+held_then built None new piece front rest part next number after h split f = tt
+held_then built (Some text) new piece front rest part next number after h split f = record {
+  done = h.done ++ front;
+  split = record { rest = h.split.rest; whole = h.split.whole ∙ ap (λ (p : List ℕ). (h.done ++ p) ++ h.split.rest) split ∙ ap (λ (p : List ℕ). p ++ h.split.rest) (sym (append_assoc h.done front rest)); left_over = h.split.left_over };
+  follows = follows_then built start part next 1 number after (h.done ++ front) front [] (follows_more built start part 1 number h.done [] front h.follows) f;
+}
 
-pub went_on : (told new : Option (List ℕ)) (piece buffer : List ℕ) (part next : Part) (number after held : ℕ)
-    → IfSome told (λ t. IsHeld t new part number piece) → IsPieceTaken part number piece next after held
-    → 256 ≤ length buffer → take held buffer ≡ drop (length piece - held) piece → IsBetween told new buffer next after held
-went_on told new piece buffer part next number after held h p room same = record {
+pub went_on : (built : Built) (told new : Option (List ℕ)) (piece buffer : List ℕ) (part : Part) (next : Draft) (number after count : ℕ)
+    → IfSome told (λ t. IsHeld built t new part number piece) → IsPieceTaken built part number piece next after count
+    → 256 ≤ length buffer → take count buffer ≡ drop (length piece - count) piece → IsBetween built told new buffer next after count
+went_on built told new piece buffer part next number after count h p room same = record {
   room = room;
   few = p.few;
   reading = p.reading;
-  goes_on = subst (λ (r : List ℕ). may_go_on next.place r ≡ true) (sym same) p.goes_on;
-  one_line = subst (λ (r : List ℕ). All (IsOther 10) r) (sym same) p.one_line;
-  told = subst (λ (r : List ℕ). IfSome told (λ t. IsHeld t new next after r)) (sym same) (held_then told new piece (drop (length piece - held) piece) part next number after h p.follows);
+  one_line = subst (λ (r : List ℕ). All (λ b. b ≢ 10) r) (sym same) p.one_line;
+  told = subst (λ (r : List ℕ). IfSome told (λ t. IsHeld built t new next.part after r)) (sym same) (held_then built told new piece p.front (drop (length piece - count) piece) part next.part number after h p.split p.follows);
 }
 
--- whether the source tells, and its faults
-
-pub from_start : (told : Option (List ℕ)) (buffer : List ℕ) (part : Part) (number : ℕ) → 256 ≤ length buffer → part ≡ start → number ≡ 1 → IsBetween told told buffer part number 0
-from_start told buffer part number room p n = rw (p, n) (before_all told buffer room)
-
-pub answers_along : (told new : Option (List ℕ)) (r s : Result Config TraceFault) → r ≡ s → IfSome told (λ t. Answers s t new) → IfSome told (λ t. Answers r t new)
-answers_along told new r s e h = subst (λ (x : Result Config TraceFault). IfSome told (λ t. Answers x t new)) (sym e) h
+-- an answer that another one is equal to
+pub answers_along : (built : Built) (told new : Option (List ℕ)) (r s : Result Config TraceFault) → r ≡ s → IfSome told (λ t. Answers built s t new) → IfSome told (λ t. Answers built r t new)
+answers_along built told new r s e h = subst (λ (x : Result Config TraceFault). IfSome told (λ t. Answers built x t new)) (sym e) h
 
 -- the last bytes of the filled ones, moved to the front
 pub moved : (buffer : List ℕ) (filled held : ℕ) → filled ≤ length buffer → held ≤ filled → take held (copy_within buffer (filled - held) filled 0) ≡ drop (filled - held) (take filled buffer)

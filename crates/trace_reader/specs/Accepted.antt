@@ -1,4 +1,4 @@
--- What every configuration of the first form of trace keeps. Source: this project's own.
+-- What every configuration that is read keeps. Source: this project's own.
 use Rattle.std.specs.Prelude.{◌≡◌, ◌+◌, ◌*◌, ◌≤◌, List, [], ◌∷◌, All}
 use Rattle.vm_types.specs.Configuration.{IsWellFormed}
 use Rattle.vm_types.specs.declared.reference.Mode.TheVariants.{U}
@@ -13,7 +13,9 @@ use Rattle.vm_types.specs.declared.config.Mapping.{Mapping}
 use Rattle.vm_types.specs.declared.config.Origin.TheVariants as origin
 use Rattle.vm_types.specs.declared.config.ProcSpec.{ProcSpec}
 use Rattle.vm_types.specs.declared.config.Task.{Task}
-use Rattle.trace_reader.specs.Defaults.{default_params}
+use Rattle.trace_lines.specs.declared.built.Built.{Built}
+use Rattle.trace_lines.specs.declared.built.Built.TheVariants.{FirstPath, All as Whole}
+use Rattle.trace_lines.specs.ParamWords.{default_params}
 
 -- one byte or four
 abbrev pub IsAcceptedWidth : Width → Type 0
@@ -63,3 +65,8 @@ pub record IsAccepted (config : Config) : Type 0 where
   pub maps : AreAcceptedMaps spec config.maps
   pub fails : config.fails ≡ []
   pub body : All IsAcceptedTask config.body
+
+-- what is read is well formed, and of the form that the program can run
+abbrev pub IsRead : Built → Config → Type 0
+IsRead FirstPath config = IsAccepted config
+IsRead Whole config = IsWellFormed config

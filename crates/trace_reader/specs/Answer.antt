@@ -1,7 +1,8 @@
 -- What an answer of the reader says. Source: this project's own.
-use Rattle.std.specs.Prelude.{◌≡◌, ℕ, true, List, [], ◌++◌, Option, Some, Result, Ok, Err}
+use Rattle.std.specs.Prelude.{◌≡◌, ◌⊎◌, ℕ, true, false, List, [], ◌++◌, Option, Some, Result, Ok, Err}
 use Rattle.vm_types.specs.declared.config.Config.{Config}
 use Rattle.outside_io.specs.Causes.{Rose}
+use Rattle.trace_lines.specs.declared.built.Built.{Built}
 use Rattle.trace_reader.specs.declared.fault.TraceFault.{TraceFault}
 use Rattle.trace_reader.specs.declared.fault.TraceFault.TheVariants.{NoMemory, ReadFault, Line, Unfinished}
 use Rattle.trace_reader.specs.Meaning.{Configuration, Faulty, trace_of, shows_no_fault}
@@ -13,15 +14,28 @@ pub record IsTaken (text taken : List ℕ) (left : Option (List ℕ)) : Type 0 w
   pub whole : text ≡ taken ++ rest
   pub left_over : left ≡ Some rest
 
--- what the answer says of the whole text, and of what is left of it
-abbrev pub Answers : Result Config TraceFault → List ℕ → Option (List ℕ) → Type 0
-Answers (Ok config) text left = (trace_of text ≡ Configuration config) × (left ≡ Some [])
-Answers (Err (Line n cause)) text left = trace_of text ≡ Faulty n cause
-Answers (Err Unfinished) text left = (trace_of text ≡ meaning.Unfinished) × (left ≡ Some [])
-Answers (Err ReadFault) text left = (taken : List ℕ) × IsTaken text taken left × (shows_no_fault taken ≡ true)
-Answers (Err NoMemory) text left = Unit {0}
+-- the bytes taken show the fault, or they are the whole text
+pub record HasShown (built : Built) (text : List ℕ) (left : Option (List ℕ)) : Type 0 where
+  pub taken : List ℕ
+  pub split : IsTaken text taken left
+  pub shown : (shows_no_fault built taken ≡ false) ⊎ (left ≡ Some [])
 
--- the count of faults rose at `ReadFault`, and is else unchanged
+-- no line that was judged is at fault
+pub record IsRightSoFar (built : Built) (text : List ℕ) : Type 0 where
+  pub front : List ℕ
+  pub rest : List ℕ
+  pub whole : text ≡ front ++ rest
+  pub right : shows_no_fault built front ≡ true
+
+-- what the answer says of the whole text, and of what is left of it
+abbrev pub Answers : Built → Result Config TraceFault → List ℕ → Option (List ℕ) → Type 0
+Answers built (Ok config) text left = (trace_of built text ≡ Configuration config) × (left ≡ Some [])
+Answers built (Err (Line n cause)) text left = (trace_of built text ≡ Faulty n cause) × HasShown built text left
+Answers built (Err Unfinished) text left = (trace_of built text ≡ meaning.Unfinished) × (left ≡ Some [])
+Answers built (Err ReadFault) text left = (taken : List ℕ) × IsTaken text taken left × (shows_no_fault built taken ≡ true)
+Answers built (Err NoMemory) text left = IsRightSoFar built text
+
+-- the count of failures rose at `ReadFault`, and is else unchanged
 abbrev pub FaultsBy : Result Config TraceFault → ℕ → ℕ → Type 0
 FaultsBy (Err ReadFault) before now = Rose before now
 FaultsBy (Err NoMemory) before now = now ≡ before

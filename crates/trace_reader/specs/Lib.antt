@@ -1,10 +1,8 @@
-pub mod Defaults
 pub mod Accepted
-pub mod Number
-pub mod Lines
-pub mod Split
-pub mod Grammar
-pub mod Steps
+pub mod Right
+pub mod Changes
+pub mod Drafts
 pub mod Meaning
 pub mod Answer
 pub mod Stream
+pub mod Laws

@@ -1,15 +1,16 @@
--- What a text means as a trace of the first form: a configuration, a first faulty line, or
--- unfinished. Source: this project's own.
-use Rattle.std.specs.Prelude.{ℕ, ◌+◌, Bool, true, false, List, [], ◌∷◌, length, nat_le}
-use Rattle.std.specs.Option.{option_map_or}
+-- What a text means as a trace: a configuration, a first faulty line with its cause, or unfinished.
+-- Source: this project's own.
+use Rattle.std.specs.Prelude.{ℕ, ◌+◌, ◌==◌, Bool, true, false, List, [], ◌∷◌, length, nat_le, Result, Ok, Err}
+use Rattle.std.specs.List.{slice_split}
 use Rattle.vm_types.specs.declared.config.Config.{Config}
-use Rattle.trace_reader.specs.declared.fault.Cause.{Cause}
-use Rattle.trace_reader.specs.declared.fault.Cause.TheVariants.{NotBuilt}
-use Rattle.trace_reader.specs.declared.part.Place.{Place}
-use Rattle.trace_reader.specs.declared.part.Place.TheVariants.{Version, Frames, PageFile, Process, Map, Body, Requests, Ended}
-use Rattle.trace_reader.specs.declared.part.Part.{Part}
-use Rattle.trace_reader.specs.Lines.{parts}
-use Rattle.trace_reader.specs.Grammar.{start, next_line}
+use Rattle.trace_words.specs.declared.cause.Cause.{Cause}
+use Rattle.trace_words.specs.Judged.{◌>>=◌}
+use Rattle.trace_lines.specs.declared.built.Built.{Built}
+use Rattle.trace_lines.specs.declared.part.Part.{Part}
+use Rattle.trace_lines.specs.declared.places.Place.{Place}
+use Rattle.trace_lines.specs.declared.places.Place.TheVariants.{Version, Frames, PageFile, Declarations, Requests, Ended}
+use Rattle.trace_lines.specs.Grammar.{judged}
+use Rattle.trace_reader.specs.Changes.{start, changed}
 
 -- exactly one of three: a configuration, a first faulty line with its cause, unfinished
 pub data Trace : Type 0 where
@@ -17,45 +18,54 @@ pub data Trace : Type 0 where
   Faulty : ℕ → Cause → Trace
   Unfinished : Trace
 
+-- the declarations after the line of this number
+abbrev pub next_line : Built → ℕ → Part → List ℕ → Result Part Cause
+next_line built number part line = judged built number part line >>= λ says. Ok (changed part says)
+
 -- the text ends after whole lines
 abbrev pub finished : Place → Config → Trace
 finished Version config = Unfinished
 finished Frames config = Unfinished
 finished PageFile config = Unfinished
-finished Process config = Unfinished
-finished Map config = Unfinished
-finished Body config = Unfinished
+finished Declarations config = Unfinished
 finished Requests config = Unfinished
 finished Ended config = Configuration config
 
--- the text ends after this part of a line: a part that isn't empty is a line that isn't accepted
-abbrev pub at_end : Part → ℕ → List ℕ → Trace
-at_end part number [] = finished part.place part.config
-at_end part number (b ∷ bytes) = Faulty number NotBuilt
+-- the meaning of a text from the line of this number on, by what that line declares
+abbrev pub after : ℕ → Result Part Cause → (Part → Trace) → Trace
+after number (Ok part) rest = rest part
+after number (Err cause) rest = Faulty number cause
 
--- the lines from this number on, one after another; the last part of the text has no end
-abbrev pub judge : Part → ℕ → List (List ℕ) → Trace
-judge part number [] = at_end part number []
-judge part number (last ∷ []) = at_end part number last
-judge part number (line ∷ next ∷ more) =
-    option_map_or (λ p. judge p (number + 1) (next ∷ more)) (next_line part line) (Faulty number NotBuilt)
+-- the text ends with this part of a line: if it isn't empty it is the last line
+abbrev pub at_end : Built → ℕ → Part → List ℕ → Trace
+at_end built number part [] = finished part.place part.config
+at_end built number part (b ∷ bytes) = after number (next_line built number part (b ∷ bytes)) (λ p. finished p.place p.config)
 
--- lines end with byte 10
-abbrev pub trace_of : List ℕ → Trace
-trace_of text = judge start 1 (parts 10 text)
+-- the lines from this number on, one after another
+abbrev pub judge : Built → ℕ → Part → List (List ℕ) → Trace
+judge built number part [] = at_end built number part []
+judge built number part (last ∷ []) = at_end built number part last
+judge built number part (line ∷ next ∷ more) = after number (next_line built number part line) (λ p. judge built (number + 1) p (next ∷ more))
 
--- a line that has begun is at fault at its first byte after the end, or at its 256th byte
-abbrev pub may_go_on : Place → List ℕ → Bool
-may_go_on Ended [] = true
-may_go_on Ended (b ∷ bytes) = false
-may_go_on other line = nat_le (length line) 255
+-- what stands between the bytes 10, and at the text's ends
+abbrev pub lines : List ℕ → List (List ℕ)
+lines text = slice_split (λ b. b == 10) text
+
+-- lines end with byte 10, the last may end with the text
+abbrev pub trace_of : Built → List ℕ → Trace
+trace_of built text = judge built 1 start (lines text)
 
 -- no line is at fault so far
-abbrev pub is_open : Part → List (List ℕ) → Bool
-is_open part [] = true
-is_open part (last ∷ []) = may_go_on part.place last
-is_open part (line ∷ next ∷ more) = option_map_or (λ p. is_open p (next ∷ more)) (next_line part line) false
+abbrev pub open_after : Result Part Cause → (Part → Bool) → Bool
+open_after (Ok part) rest = rest part
+open_after (Err cause) rest = false
+
+-- a line that has begun is at fault once it has 256 bytes
+abbrev pub is_open : Built → ℕ → Part → List (List ℕ) → Bool
+is_open built number part [] = true
+is_open built number part (last ∷ []) = nat_le (length last) 255
+is_open built number part (line ∷ next ∷ more) = open_after (next_line built number part line) (λ p. is_open built (number + 1) p (next ∷ more))
 
 -- no line of the text is at fault, whatever comes after it
-abbrev pub shows_no_fault : List ℕ → Bool
-shows_no_fault text = is_open start (parts 10 text)
+abbrev pub shows_no_fault : Built → List ℕ → Bool
+shows_no_fault built text = is_open built 1 start (lines text)

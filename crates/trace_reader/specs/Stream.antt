@@ -1,98 +1,80 @@
 -- A text in pieces: what the lines taken so far declare, and what they say of the whole text.
 -- Source: this project's own.
-use Rattle.std.specs.Prelude.{◌≡◌, ◌≢◌, ℕ, ◌+◌, ◌-◌, ◌<◌, ◌≤◌, true, List, [], ◌∷◌, ◌++◌, length, drop, All, Option, Result, Ok, Err}
-use Rattle.vm_types.specs.Configuration.{IsProcess, IsMapping, IsTask}
+use Rattle.std.specs.Prelude.{◌≡◌, ◌≢◌, ℕ, ◌+◌, ◌-◌, ◌≤◌, true, false, List, [], ◌++◌, length, drop, All, Option, Result, Ok, Err, IsOk}
 use Rattle.vm_types.specs.declared.config.Config.{Config}
-use Rattle.vm_types.specs.declared.config.Mapping.{Mapping}
-use Rattle.vm_types.specs.declared.config.ProcSpec.{ProcSpec}
+use Rattle.trace_lines.specs.declared.built.Built.{Built}
+use Rattle.trace_lines.specs.declared.part.Part.{Part}
+use Rattle.trace_lines.specs.Seen.{IsSeen}
+use Rattle.trace_reader.specs.declared.draft.Draft.{Draft}
 use Rattle.trace_reader.specs.declared.fault.TraceFault.{TraceFault}
 use Rattle.trace_reader.specs.declared.fault.TraceFault.TheVariants as fault
-use Rattle.trace_reader.specs.declared.part.Place.{Place}
-use Rattle.trace_reader.specs.declared.part.Place.TheVariants.{Version, Frames, PageFile, Process, Map, Body, Requests, Ended}
-use Rattle.trace_reader.specs.declared.part.Part.{Part}
-use Rattle.trace_reader.specs.Accepted.{IsAcceptedMap, IsAcceptedTask}
 use Rattle.trace_reader.specs.Answer.{IsTaken}
-use Rattle.trace_reader.specs.Defaults.{default_params}
-use Rattle.trace_reader.specs.Grammar.{start}
-use Rattle.trace_reader.specs.Lines.{parts}
-use Rattle.trace_reader.specs.Meaning.{Trace, Configuration, Faulty, judge, may_go_on, is_open}
+use Rattle.trace_reader.specs.Changes.{start}
+use Rattle.trace_reader.specs.Drafts.{IsDraft}
+use Rattle.trace_reader.specs.Meaning.{Trace, Configuration, Faulty, next_line, judge, is_open, lines}
 use Rattle.trace_reader.specs.Meaning as meaning
 
--- how many kinds of line come before
-abbrev pub rank : Place → ℕ
-rank Version = 0
-rank Frames = 1
-rank PageFile = 2
-rank Process = 3
-rank Map = 4
-rank Body = 5
-rank Requests = 6
-rank Ended = 7
+-- what is known before the line of this number
+pub record IsReading (built : Built) (held : Draft) (number : ℕ) : Type 0 where
+  pub seen : IsSeen held.seen held.part.config
+  pub draft : IsDraft built held.part
+  pub few : number ≤ 200001
 
--- at most one mapping, of pages that the process may hold
-abbrev pub AreMapsOf : ProcSpec → List Mapping → Type 0
-AreMapsOf spec [] = Unit {0}
-AreMapsOf spec (m ∷ []) = IsAcceptedMap spec m × IsMapping 1 [] m
-AreMapsOf spec (m ∷ n ∷ rest) = ⊥
+-- the line was taken
+pub record HasTaken (built : Built) (before : Draft) (number : ℕ) (line : List ℕ) (after : Draft) (next : ℕ) : Type 0 where
+  pub taken : next_line built number before.part line ≡ Ok after.part
+  pub counted : next ≡ number + 1
+  pub reading : IsReading built after next
 
--- what the lines before this place keep
-pub record IsSoFar (place : Place) (config : Config) : Type 0 where
-  pub frames : 2 ≤ rank place → (8 ≤ config.frames) × (config.frames ≤ 64)
-  pub bad : config.bad ≡ []
-  pub pagefile : 3 ≤ rank place → (1 ≤ config.pagefile) × (config.pagefile ≤ 16384)
-  pub params : config.params ≡ default_params
-  pub sections : config.sections ≡ []
-  pub no_procs : rank place < 4 → config.procs ≡ []
-  pub procs : 4 ≤ rank place → (spec : ProcSpec) × (config.procs ≡ spec ∷ []) × IsProcess config.frames 0 spec
-  pub no_maps : rank place < 5 → config.maps ≡ []
-  pub maps : (spec : ProcSpec) → config.procs ≡ spec ∷ [] → AreMapsOf spec config.maps
-  pub fails : config.fails ≡ []
-  pub few : length config.body ≤ 100000
-  pub body : All IsAcceptedTask config.body
-  pub tasks : All (IsTask 1) config.body
-
--- how far the lines have come
-abbrev pub progress : Part → ℕ
-progress part = rank part.place + length part.config.body
-
--- the part before the line of this number
-pub record IsReading (part : Part) (number : ℕ) : Type 0 where
-  pub so_far : IsSoFar part.place part.config
-  pub few : number ≤ progress part + 1
+-- why the line wasn't taken
+abbrev pub IsLineAtFault : Built → Part → ℕ → List ℕ → TraceFault → Type 0
+IsLineAtFault built part number line fault.NoMemory = IsOk (next_line built number part line)
+IsLineAtFault built part number line fault.ReadFault = ⊥
+IsLineAtFault built part number line (fault.Line n cause) = (n ≡ number) × (next_line built number part line ≡ Err cause)
+IsLineAtFault built part number line fault.Unfinished = ⊥
 
 -- whatever comes next, the text from before is judged as the rest is from after
-pub record Follows (before : Part) (first : ℕ) (text : List ℕ) (after : Part) (next : ℕ) (rest : List ℕ) : Type 0 where
-  pub judged : (more : List ℕ) → judge before first (parts 10 (text ++ more)) ≡ judge after next (parts 10 (rest ++ more))
-  pub opened : (more : List ℕ) → is_open before (parts 10 (text ++ more)) ≡ is_open after (parts 10 (rest ++ more))
+pub record Follows (built : Built) (before : Part) (first : ℕ) (text : List ℕ) (after : Part) (next : ℕ) (rest : List ℕ) : Type 0 where
+  pub judged : (more : List ℕ) → judge built first before (lines (text ++ more)) ≡ judge built next after (lines (rest ++ more))
+  pub opened : (more : List ℕ) → is_open built first before (lines (text ++ more)) ≡ is_open built next after (lines (rest ++ more))
 
--- whatever comes next, the text has the fault
-abbrev pub IsAtFault : Part → ℕ → List ℕ → TraceFault → Type 0
-IsAtFault part number text fault.NoMemory = Unit {0}
-IsAtFault part number text fault.ReadFault = ⊥
-IsAtFault part number text (fault.Line n cause) = (more : List ℕ) → judge part number (parts 10 (text ++ more)) ≡ Faulty n cause
-IsAtFault part number text fault.Unfinished = ⊥
+-- a front of the text has no line at fault
+pub record IsOpenFront (built : Built) (part : Part) (number : ℕ) (text : List ℕ) : Type 0 where
+  pub front : List ℕ
+  pub rest : List ℕ
+  pub whole : text ≡ front ++ rest
+  pub opened : is_open built number part (lines front) ≡ true
 
--- the answer is what the text means
-abbrev pub Means : Result Config TraceFault → Trace → Type 0
-Means (Ok config) trace = trace ≡ Configuration config
-Means (Err fault.NoMemory) trace = ⊥
-Means (Err fault.ReadFault) trace = ⊥
-Means (Err (fault.Line n cause)) trace = trace ≡ Faulty n cause
-Means (Err fault.Unfinished) trace = trace ≡ meaning.Unfinished
+-- whatever comes next, the text has the fault; or memory ran out at a line that is right
+abbrev pub IsAtFault : Built → Part → ℕ → List ℕ → TraceFault → Type 0
+IsAtFault built part number text fault.NoMemory = IsOpenFront built part number text
+IsAtFault built part number text fault.ReadFault = ⊥
+IsAtFault built part number text (fault.Line n cause) =
+    ((more : List ℕ) → judge built number part (lines (text ++ more)) ≡ Faulty n cause) × (is_open built number part (lines text) ≡ false)
+IsAtFault built part number text fault.Unfinished = ⊥
 
--- of the text this much was taken, and is judged as the rest is from here
-pub record IsHeld (text : List ℕ) (left : Option (List ℕ)) (part : Part) (number : ℕ) (rest : List ℕ) : Type 0 where
-  pub taken : List ℕ
-  pub split : IsTaken text taken left
-  pub follows : Follows start 1 taken part number rest
+-- the answer is what the text means; or memory ran out at its last line, which is right
+abbrev pub Means : Built → ℕ → Part → List ℕ → Result Config TraceFault → Trace → Type 0
+Means built number part line (Ok config) trace = trace ≡ Configuration config
+Means built number part line (Err fault.NoMemory) trace = IsOk (next_line built number part line)
+Means built number part line (Err fault.ReadFault) trace = ⊥
+Means built number part line (Err (fault.Line n cause)) trace = trace ≡ Faulty n cause
+Means built number part line (Err fault.Unfinished) trace = trace ≡ meaning.Unfinished
+
+-- of the text this much was taken: whole lines, and a part of the next one
+pub record IsHeld (built : Built) (text : List ℕ) (left : Option (List ℕ)) (part : Part) (number : ℕ) (pending : List ℕ) : Type 0 where
+  pub done : List ℕ
+  pub split : IsTaken text (done ++ pending) left
+  pub follows : Follows built start 1 done part number []
 
 -- the whole lines of the piece were taken, and this much behind them is left
-pub record IsPieceTaken (before : Part) (first : ℕ) (piece : List ℕ) (after : Part) (next held : ℕ) : Type 0 where
+pub record IsPieceTaken (built : Built) (before : Part) (first : ℕ) (piece : List ℕ) (after : Draft) (next held : ℕ) : Type 0 where
   pub bound : held ≤ length piece
-  pub follows : Follows before first piece after next (drop (length piece - held) piece)
+  pub front : List ℕ
+  pub split : piece ≡ front ++ drop (length piece - held) piece
+  pub follows : Follows built before first front after.part next []
   pub one_line : All (λ b. b ≢ 10) (drop (length piece - held) piece)
-  pub goes_on : may_go_on after.place (drop (length piece - held) piece) ≡ true
   pub few : held ≤ 255
-  pub reading : IsReading after next
+  pub reading : IsReading built after next
   pub later : first ≤ next
   pub same : next ≡ first → held ≡ length piece

@@ -2,24 +2,23 @@ ghost use Rattle.std.specs.Prelude.{◌≡◌};
 ghost use Rattle.trace_reader.specs.declared.fault.TraceFault.TheVariants.{NoMemory};
 
 use std::alloc::AllocError;
-
-/// Why a line of a trace isn't accepted.
-#[derive(Clone, Copy, Debug, PartialEq, Eq)]
-pub enum Cause {
-    /// No part of the reader reads such a line here.
-    NotBuilt,
-}
+use thiserror::Error;
+use trace_words::Cause;
 
 /// Why a trace gives no configuration.
-#[derive(Clone, Copy, Debug, PartialEq, Eq)]
+#[derive(Clone, Copy, Debug, PartialEq, Eq, Error)]
 pub enum TraceFault {
     /// Memory ran out.
+    #[error("out of memory")]
     NoMemory,
-    /// A read failed; the source's count of faults says so.
+    /// A read failed; the source's count of failures says so.
+    #[error("the trace can't be read")]
     ReadFault,
-    /// The first line that isn't accepted, by its number from 1, and why.
+    /// The first faulty line, by its number from 1, and the first rule that it breaks.
+    #[error("line {0}: {1}")]
     Line(u32, Cause),
-    /// The text ends after whole accepted lines, before the trace does.
+    /// The text ends without a faulty line and without END.
+    #[error("the trace ends before its line END")]
     Unfinished,
 }
 

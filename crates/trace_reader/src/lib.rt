@@ -1,16 +1,17 @@
-//! The trace: its grammar, and the reader of its first form.
+//! The trace: its meaning, and the reader that takes it piece by piece.
 #![tactic(auto)]
 
+mod draft;
 mod fault;
-mod lines;
-mod number;
-mod part;
+mod laws;
 mod read;
-mod request;
-mod words;
+mod store;
 
-pub use fault::{Cause, TraceFault};
+pub use fault::TraceFault;
+pub use laws::{a_shown_fault_stays, what_is_read_is_well_formed};
 pub use read::read_trace;
+pub use trace_lines::Built;
+pub use trace_words::Cause;
 
 #[cfg(test)]
 mod tests;

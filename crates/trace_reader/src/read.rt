@@ -1,39 +1,49 @@
 ghost use Rattle.std.specs.Prelude.{◌≡◌, ◌+◌, ◌-◌, ◌<◌, ◌≤◌, ◌↔◌, length, take, drop, IfOk, IfErr, OnOk, OnErr, IfSome, IsSome, IsTrue};
 ghost use Rattle.std.specs.Io.KnownBytes.{Keeps, Consumes, IsAtEnd};
 ghost use Rattle.outside_io.specs.Causes.{HasCause};
-ghost use Rattle.trace_reader.specs.Accepted.{IsAccepted};
+ghost use Rattle.trace_lines.specs.Seen.{IsSeen};
+ghost use Rattle.trace_reader.specs.Accepted.{IsRead};
 ghost use Rattle.trace_reader.specs.Answer.{Answers, FaultsBy};
-ghost use Rattle.trace_reader.specs.Grammar.{start};
+ghost use Rattle.trace_reader.specs.Changes.{start};
 ghost use Rattle.trace_reader.specs.Meaning.{at_end};
-ghost use Rattle.trace_reader.specs.Stream.{IsReading, IsPieceTaken, IsAtFault, Means};
+ghost use Rattle.trace_reader.specs.Stream.{IsReading, HasTaken, IsLineAtFault, IsPieceTaken, IsAtFault, Means};
 
-use crate::fault::{Cause, TraceFault};
-use crate::part::{Part, Place};
-use crate::words::cut;
+use crate::draft::{Draft, Refused};
+use crate::fault::TraceFault;
 use outside_io::Source;
 use std::alloc::Global;
+use trace_lines::{Built, Place};
+use trace_words::{Cause, parted};
 use vm_types::{Config, Failed};
 
 // Bytes of the buffer that the source's pieces go to.
 const ROOM: usize = 8192;
 
-/// The configuration of a trace of the first form: the source is read to its end, in pieces of at
-/// most 8192 bytes, up to the first line that isn't accepted.
+/// The configuration of a trace: the source is read to its end, in pieces of at most 8192 bytes, up
+/// to the first faulty line. With `Built::All` the whole grammar is read, with `Built::FirstPath` a
+/// line that the program can't run yet is a fault too.
 ///
 /// # Errors
-/// `NoMemory` for want of memory for the buffer or the requests. `ReadFault` only where the
-/// source's count of faults rose, and no line taken before is at fault. `Line` is the first line
-/// that isn't accepted. `Unfinished` where the text ends after accepted lines without `END`.
-pub fn read_trace<S: Source>(alloc: Global, source: &mut S) -> Result<Config, TraceFault>
-    ensures accepted { IfOk result IsAccepted }
-    ensures text { IfSome (S.left source.old) (λ text. Answers result text (S.left source.new)) }
+/// `Line` is the first faulty line with the first rule that it breaks, as soon as the bytes taken
+/// show it: at its end, or at its 256th byte. `Unfinished` if the text ends without a faulty line and
+/// without `END`. `ReadFault` only if the source's count of failures rose, and no line taken before is
+/// at fault. `NoMemory` if memory ran out; no line that was judged is at fault then.
+pub fn read_trace<S: Source>(
+    source: &mut S,
+    alloc: Global,
+    built: Built,
+) -> Result<Config, TraceFault>
+    ensures accepted { IfOk result (IsRead built) }
+    ensures text { IfSome (S.left source.old) (λ text. Answers built result text (S.left source.new)) }
     ensures told { IsSome (S.left source.old) → IsSome (S.left source.new) }
     ensures faults { FaultsBy result (S.faults source.old) (S.faults source.new) }
     ensures faults_later { S.faults source.old ≤ S.faults source.new }
 {
     let mut buffer = vec![in alloc; 0; ROOM]?;
     let reader = Reader {
-        part: Part::new(alloc),
+        alloc,
+        built,
+        draft: Draft::new(alloc),
         number: 1,
     };
     read_pieces(source, reader, buffer.as_mut_slice())
@@ -45,10 +55,12 @@ fn read_pieces<S: Source>(
     mut reader: Reader,
     buffer: &mut [u8],
 ) -> Result<Config, TraceFault>
-    requires start { (reader.part ≡ start) × (reader.number ≡ 1) }
+    requires start { reader.draft.part ≡ start }
+    requires first { reader.number ≡ 1 }
+    requires seen { IsSeen reader.draft.seen reader.draft.part.config }
     requires room { 256 ≤ length buffer.old }
-    ensures accepted { IfOk result IsAccepted }
-    ensures text { IfSome (S.left source.old) (λ text. Answers result text (S.left source.new)) }
+    ensures accepted { IfOk result (IsRead reader.built) }
+    ensures text { IfSome (S.left source.old) (λ text. Answers reader.built result text (S.left source.new)) }
     ensures told { IsSome (S.left source.old) → IsSome (S.left source.new) }
     ensures faults { FaultsBy result (S.faults source.old) (S.faults source.new) }
     ensures faults_later { S.faults source.old ≤ S.faults source.new }
@@ -94,54 +106,60 @@ fn keep_last(buffer: &mut [u8], filled: usize, held: usize)
 // What the lines taken so far declare, and the number of the next line.
 #[derive(Drop)]
 struct Reader {
-    part: Part,
+    alloc: Global,
+    built: Built,
+    draft: Draft,
     number: u32,
 }
 
 impl Reader {
+    // Takes the next line.
+    fn take_line(&mut self, line: &[u8]) -> Result<(), TraceFault>
+        requires { IsReading self.old.built self.old.draft self.old.number }
+        ensures built { self.new.built ≡ self.old.built }
+        ensures ok { OnOk result (HasTaken self.old.built self.old.draft self.old.number line.now self.new.draft self.new.number) }
+        ensures err { IfErr result (IsLineAtFault self.old.built self.old.draft.part self.old.number line.now) }
+    {
+        match self.draft.accept(self.alloc, self.built, self.number, line) {
+            Ok(()) => {
+                self.number += 1;
+                Ok(())
+            }
+            Err(Refused::Fault(cause)) => Err(TraceFault::Line(self.number, cause)),
+            Err(Refused::NoMemory) => Err(TraceFault::NoMemory),
+        }
+    }
+
     // Takes the whole lines of the piece, and says how many bytes are left behind them.
     fn take_piece(&mut self, piece: &[u8]) -> Result<usize, TraceFault>
-        requires { IsReading self.old.part self.old.number }
-        ensures ok { IfOk result (IsPieceTaken self.old.part self.old.number piece.now self.new.part self.new.number) }
-        ensures err { IfErr result (IsAtFault self.old.part self.old.number piece.now) }
+        requires { IsReading self.old.built self.old.draft self.old.number }
+        ensures built { self.new.built ≡ self.old.built }
+        ensures ok { IfOk result (IsPieceTaken self.old.built self.old.draft.part self.old.number piece.now self.new.draft self.new.number) }
+        ensures err { IfErr result (IsAtFault self.old.built self.old.draft.part self.old.number piece.now) }
     {
         let mut rest = piece;
-        while let Some((line, after)) = cut(rest, b'\n') {
-            if !self.part.accept(line)? {
-                return Err(self.fault());
-            }
-            self.number += 1;
+        while let Some((line, after)) = parted(rest, b'\n') {
+            self.take_line(line)?;
             rest = after;
         }
-        if rest.len() > 255 || (self.is_ended() && !rest.is_empty()) {
-            return Err(self.fault());
+        if rest.len() > 255 {
+            return Err(TraceFault::Line(self.number, Cause::LineTooLong));
         }
         Ok(rest.len())
     }
 
     // The answer at the end of the text, with what stands behind the last whole line.
-    fn end(self, rest: &[u8]) -> Result<Config, TraceFault>
-        ensures means { Means result (at_end self.part self.number rest.now) }
-        ensures accepted { IsReading self.part self.number → IfOk result IsAccepted }
+    fn end(mut self, rest: &[u8]) -> Result<Config, TraceFault>
+        requires { IsReading self.built self.draft self.number }
+        ensures means { Means self.built self.number self.draft.part rest.now result (at_end self.built self.number self.draft.part rest.now) }
+        ensures accepted { IfOk result (IsRead self.built) }
     {
         if !rest.is_empty() {
-            return Err(self.fault());
+            self.take_line(rest)?;
         }
-        if !self.is_ended() {
-            return Err(TraceFault::Unfinished);
+        match self.draft.part.place {
+            Place::Ended => Ok(self.draft.part.config),
+            _ => Err(TraceFault::Unfinished),
         }
-        Ok(self.part.config)
-    }
-
-    fn is_ended(&self) -> bool
-        ensures { IsTrue result ↔ (self.now.part.place ≡ Place.Ended) }
-    {
-        matches!(self.part.place, Place::Ended)
-    }
-
-    fn fault(&self) -> TraceFault
-        ensures { result ≡ TraceFault.Line self.now.number Cause.NotBuilt }
-    {
-        TraceFault::Line(self.number, Cause::NotBuilt)
     }
 }

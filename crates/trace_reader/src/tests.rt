@@ -5,12 +5,12 @@ use outside_io::{MemorySource, Source};
 use std::alloc::{AllocError, Global};
 use std::test::Fail;
 use vm_types::{
-    Addr, Failed, Mapping, Mode, Op, Origin, Proc, ProcSpec, Ref, Request, Task, Width,
+    Addr, BlockId, Failed, Mapping, Mode, Op, Origin, Proc, ProcSpec, Ref, Request, SecId, Service,
+    Task, Width,
 };
 
+// The machine and one process.
 const HEAD: &[u8] = b"VMTRACE 1\nFRAMES 8\nPAGEFILE 4\nPROCESS A 4 4 4 0\n";
-
-const TAIL: &[u8] = b"BODY\nA W4 00000000 0000002A\nA R4 00000000\nA R1 00000800\nEND\n";
 
 // A source that gives one byte at a call, and fails at one call, counted from 1.
 #[derive(Drop)]
@@ -40,13 +40,6 @@ impl Source for Drip {
     }
 }
 
-fn trace(alloc: Global, head: &[u8], middle: &[u8], tail: &[u8]) -> Result<Vec<u8>, AllocError> {
-    let mut text = head.to_vec(alloc)?;
-    text.extend_from_slice(middle)?;
-    text.extend_from_slice(tail)?;
-    Ok(text)
-}
-
 fn dripping(bytes: Vec<u8>, fails: usize) -> Drip {
     Drip {
         bytes,
@@ -56,133 +49,365 @@ fn dripping(bytes: Vec<u8>, fails: usize) -> Drip {
     }
 }
 
-fn task(at: u32, op: Op) -> Task {
+fn joined(alloc: Global, head: &[u8], tail: &[u8]) -> Result<Vec<u8>, AllocError> {
+    let mut text = head.to_vec(alloc)?;
+    text.extend_from_slice(tail)?;
+    Ok(text)
+}
+
+// The answer to a text by the whole grammar, read at once; it is the same byte by byte.
+fn fault(
+    rt: &impl std::process::Abort,
+    alloc: Global,
+    head: &[u8],
+    tail: &[u8],
+) -> Result<Option<TraceFault>, AllocError> {
+    let mut pieces = dripping(joined(alloc, head, tail)?, 0);
+    let slow = read_trace(&mut pieces, alloc, Built::All).err();
+    let mut source = MemorySource::new(joined(alloc, head, tail)?, Vec::new(alloc));
+    let fast = read_trace(&mut source, alloc, Built::All).err();
+    assert_eq!(rt; fast, slow);
+    Ok(fast)
+}
+
+fn line(n: u32, cause: Cause) -> Option<TraceFault> {
+    Some(TraceFault::Line(n, cause))
+}
+
+fn task(proc: u32, mode: Mode, at: u32, op: Op) -> Task {
     Task {
-        proc: Proc(0),
+        proc: Proc(proc),
         request: Request::Reference(Ref {
-            mode: Mode::U,
+            mode,
             addr: Addr(at),
             op,
         }),
     }
 }
 
+const WHOLE: &[u8] =
+    b"! a comment\n\r\n \t\nVMTRACE 01\r\n\tFRAMES\t 40 \nPAGEFILE 16\nPARAM PFC 8\n\
+BAD 39\nSECTION LIB SHARED 2\nDATA LIB 0511 0aFF\nPROCESS A 4 8 16 1\nPROCESS B 2 2 2 0\n\
+MAPZERO A 00000200 4 URKW\nMAPSEC B 7ffffe00 1 LIB 1 UW\nFAIL S:LIB/1 3 1 3\nFAIL X:A/15 1\n\
+BODY\nA KR2 00000200\nB A4 7FFFFFFC ff\n! another\nA CRETVA 00001000 3 NA\nB ADJWSL 9\nEND\n\n!";
+
 #[test]
-fn reads_a_configuration(rt: HostRuntime) -> Result<(), Fail> {
+fn reads_a_whole_trace(rt: HostRuntime) -> Result<(), Fail> {
     let alloc = rt.alloc();
-    let text = trace(alloc, HEAD, b"MAPZERO A 00000000 4 UW\n", TAIL)?;
-    let mut source = MemorySource::new(text, Vec::new(alloc));
-    let config = read_trace(alloc, &mut source).ok().ok_or("a trace")?;
-    assert_eq!(rt; config.frames, 8);
-    assert_eq!(rt; config.pagefile, 4);
-    assert!(rt; config.bad.items().is_empty() && config.fails.items().is_empty());
-    let spec = ProcSpec {
-        limit: 4,
-        quota: 4,
-        extent: 4,
-        locks: 0,
+    let mut source = MemorySource::new(WHOLE.to_vec(alloc)?, Vec::new(alloc));
+    let config = read_trace(&mut source, alloc, Built::All)
+        .ok()
+        .ok_or("a trace")?;
+    assert!(rt; config.frames == 40 && config.pagefile == 16 && config.params.pfc == 8);
+    assert_eq!(rt; config.bad.items(), [39].as_slice());
+    let sections = config.sections.items();
+    assert_eq!(rt; sections.len(), 1);
+    let bytes = sections[0].bytes.items();
+    assert_eq!(rt; sections[0].name.items(), b"LIB".as_slice());
+    assert!(rt; sections[0].shared && bytes.len() == 1024);
+    assert!(rt; bytes[510] == 0 && bytes[511] == 0x0a && bytes[512] == 0xff && bytes[513] == 0);
+    let spec = |limit, quota, extent, locks| ProcSpec {
+        limit,
+        quota,
+        extent,
+        locks,
     };
-    assert_eq!(rt; config.procs.items(), [spec].as_slice());
-    let map = Mapping {
-        proc: Proc(0),
-        at: Addr(0),
-        pages: 4,
-        from: Origin::Zero,
-        prot: 4,
+    assert_eq!(rt;
+        config.procs.items(),
+        [spec(4, 8, 16, 1), spec(2, 2, 2, 0)].as_slice()
+    );
+    let map = |proc, at, pages, from, prot| Mapping {
+        proc: Proc(proc),
+        at: Addr(at),
+        pages,
+        from,
+        prot,
     };
-    assert_eq!(rt; config.maps.items(), [map].as_slice());
+    let maps = [
+        map(0, 0x200, 4, Origin::Zero, 14),
+        map(1, 0x7fff_fe00, 1, Origin::Section(SecId(0), 1), 4),
+    ];
+    assert_eq!(rt; config.maps.items(), maps.as_slice());
+    let fails = config.fails.items();
+    assert_eq!(rt; fails.len(), 2);
+    assert!(rt; fails[0].block == BlockId::Section(SecId(0), 1));
+    assert_eq!(rt; fails[0].calls.items(), [3, 1, 3].as_slice());
+    assert!(rt; fails[1].block == BlockId::Swap(Proc(0), 15));
+    let service = |proc, service| Task {
+        proc: Proc(proc),
+        request: Request::Service(service),
+    };
+    let at = Addr(0x1000);
     let body = [
-        task(0, Op::Write(Width::Four, 0x2a)),
-        task(0, Op::Read(Width::Four)),
-        task(0x800, Op::Read(Width::One)),
+        task(0, Mode::K, 0x200, Op::Read(Width::Two)),
+        task(1, Mode::U, 0x7fff_fffc, Op::Add(0xff)),
+        service(
+            0,
+            Service::Create {
+                at,
+                pages: 3,
+                prot: 0,
+            },
+        ),
+        service(1, Service::Adjust { limit: 9 }),
     ];
     assert_eq!(rt; config.body.items(), body.as_slice());
     Ok(())
 }
 
 #[test]
-fn reads_many_requests_in_pieces(rt: HostRuntime) -> Result<(), Fail> {
+fn finds_the_faults_of_the_worked_row(rt: HostRuntime) -> Result<(), Fail> {
     let alloc = rt.alloc();
-    let mut text = HEAD.to_vec(alloc)?;
-    text.extend_from_slice(b"BODY\n")?;
-    for _ in 0..2000 {
-        text.extend_from_slice(b"A W4 000000f0 0000002a\n")?;
+    let head = joined(alloc, HEAD, b"MAPZERO A 00000000 1 UW\nBODY\n")?;
+    let long = [b'x'; 300];
+    let table: [(&[u8], Option<TraceFault>); 4] = [
+        (b"", Some(TraceFault::Unfinished)),
+        (b"A R4 00000002", line(7, Cause::Unaligned)),
+        (&long, line(7, Cause::LineTooLong)),
+        (b"A R4 \xc8", line(7, Cause::NotAscii)),
+    ];
+    for (tail, answer) in table {
+        assert_eq!(rt; fault(&rt, alloc, head.as_slice(), tail)?, answer);
     }
-    text.extend_from_slice(b"END\n")?;
-    let mut source = MemorySource::new(text, Vec::new(alloc));
-    let config = read_trace(alloc, &mut source).ok().ok_or("a trace")?;
-    assert_eq!(rt; config.body.items().len(), 2000);
-    for made in config.body.items() {
-        assert_eq!(rt; *made, task(0xf0, Op::Write(Width::Four, 0x2a)));
+    let twice = b"SECTION LIB SHARED 1\nSECTION LIB SHARED 1\n";
+    assert_eq!(rt; fault(&rt, alloc, HEAD, twice)?, line(6, Cause::Repeated));
+    let mut source = MemorySource::new(HEAD.to_vec(alloc)?, [1u32].to_vec(alloc)?);
+    let answer = read_trace(&mut source, alloc, Built::All).err();
+    assert_eq!(rt; answer, Some(TraceFault::ReadFault));
+    Ok(())
+}
+
+// Line 5, behind one process.
+#[test]
+fn judges_each_kind_of_declaration(rt: HostRuntime) -> Result<(), Fail> {
+    let alloc = rt.alloc();
+    let table: [(&[u8], Option<Cause>); 66] = [
+        (b"PARAM PFC 1", None),
+        (b"PARAM PFC 9", Some(Cause::OutOfRange)),
+        (b"PARAM PFC 0", Some(Cause::OutOfRange)),
+        (b"PARAM HILIMIT 16384", None),
+        (b"PARAM HILIMIT 16385", Some(Cause::OutOfRange)),
+        (b"PARAM LOLIMIT 16385", Some(Cause::OutOfRange)),
+        (b"PARAM WAITLIMIT 0", Some(Cause::OutOfRange)),
+        (b"PARAM WAITLIMIT 16385", Some(Cause::OutOfRange)),
+        (b"PARAM WRTCLUSTER 17", Some(Cause::OutOfRange)),
+        (b"PARAM FREELIM 4097", Some(Cause::OutOfRange)),
+        (b"PARAM FREEGOAL 4097", Some(Cause::OutOfRange)),
+        (b"PARAM AWSTIME 100000", None),
+        (b"PARAM AWSTIME 100001", Some(Cause::OutOfRange)),
+        (b"PARAM PFRATH 100001", Some(Cause::OutOfRange)),
+        (b"PARAM PFRATL 100001", Some(Cause::OutOfRange)),
+        (b"PARAM WSINC 1025", Some(Cause::OutOfRange)),
+        (b"PARAM WSDEC 1025", Some(Cause::OutOfRange)),
+        (b"PARAM AWSMIN 1", Some(Cause::OutOfRange)),
+        (b"PARAM AWSMIN 1025", Some(Cause::OutOfRange)),
+        (b"PARAM BORROWLIM 4097", Some(Cause::OutOfRange)),
+        (b"PARAM pfc 1", Some(Cause::UnknownWord)),
+        (b"PARAM PFC", Some(Cause::Misplaced)),
+        (b"BAD 7", None),
+        (b"BAD 8", Some(Cause::OutOfRange)),
+        (b"BAD 12345678901", Some(Cause::BadNumber)),
+        (b"BAD 4294967296", Some(Cause::OutOfRange)),
+        (b"SECTION A1 CRF 16384", None),
+        (b"SECTION A1 CRF 16385", Some(Cause::TooMany)),
+        (b"SECTION A1 CRF 0", Some(Cause::OutOfRange)),
+        (b"SECTION A CRF 1", Some(Cause::UnknownWord)),
+        (b"SECTION ABCDEFGHIJKLMNO CRF 1", None),
+        (b"SECTION ABCDEFGHIJKLMNOP CRF 1", Some(Cause::UnknownWord)),
+        (b"SECTION 1A CRF 1", Some(Cause::UnknownWord)),
+        (b"SECTION LIB PAGED 1", Some(Cause::UnknownWord)),
+        (b"DATA LIB 0 00", Some(Cause::NoSuch)),
+        (b"PROCESS B 2 2 2 0", None),
+        (b"PROCESS B 2 2 2 1", Some(Cause::OutOfRange)),
+        (b"PROCESS B 3 2 3 0", Some(Cause::OutOfRange)),
+        (b"PROCESS B 2 3 2 0", Some(Cause::OutOfRange)),
+        (b"PROCESS B 2 2 1025 x", Some(Cause::OutOfRange)),
+        (b"PROCESS B 2 2 1024 x", Some(Cause::BadNumber)),
+        (b"PROCESS A 2 2 2 0", Some(Cause::Misplaced)),
+        (b"PROCESS C 2 2 2 0", Some(Cause::Misplaced)),
+        (b"PROCESS b 2 2 2 0", Some(Cause::UnknownWord)),
+        (b"MAPZERO A 001FFE00 1 UW", None),
+        (b"MAPZERO A 001FFE00 2 UW", Some(Cause::OutOfRange)),
+        (b"MAPZERO A 0 4096 UW", None),
+        (b"MAPZERO A 0 4097 UW", Some(Cause::OutOfRange)),
+        (b"MAPZERO A 7FF80000 1024 UW", None),
+        (b"MAPZERO A 7FF7FE00 1 UW", Some(Cause::OutOfRange)),
+        (b"MAPZERO A 7FFFFE00 2 UW", Some(Cause::OutOfRange)),
+        (b"MAPZERO A 90000001 1 UW", Some(Cause::Unaligned)),
+        (b"MAPZERO A 000000000 1 UW", Some(Cause::BadNumber)),
+        (b"MAPZERO A 0 1 KE", Some(Cause::UnknownWord)),
+        (b"MAPZERO B 0 1 UW", Some(Cause::NoSuch)),
+        (b"MAPSEC A 0 1 LIB 0 UW", Some(Cause::NoSuch)),
+        (b"FAIL P:3 1", None),
+        (b"FAIL P:4 1", Some(Cause::NoSuch)),
+        (b"FAIL P:03 1", Some(Cause::UnknownWord)),
+        (b"FAIL X:A/3 1 1 1 1 1 1 1 1 1 1 1 1 1 1 1 1", None),
+        (
+            b"FAIL X:A/3 1 1 1 1 1 1 1 1 1 1 1 1 1 1 1 1 1",
+            Some(Cause::Misplaced),
+        ),
+        (b"FAIL X:A/4 1", Some(Cause::NoSuch)),
+        (b"FAIL P:3 0", Some(Cause::OutOfRange)),
+        (b"FAIL P:3", Some(Cause::Misplaced)),
+        (b"UW", Some(Cause::UnknownWord)),
+        (b"A R1 0", Some(Cause::Misplaced)),
+    ];
+    for (text, cause) in table {
+        let answer = match cause {
+            Some(cause) => line(5, cause),
+            None => Some(TraceFault::Unfinished),
+        };
+        assert_eq!(rt; fault(&rt, alloc, HEAD, text)?, answer);
     }
     Ok(())
 }
 
 #[test]
-fn refuses_at_the_first_faulty_line(rt: HostRuntime) -> Result<(), Fail> {
+fn judges_headers_and_repetitions(rt: HostRuntime) -> Result<(), Fail> {
     let alloc = rt.alloc();
-    let line = |n: u32| Some(TraceFault::Line(n, Cause::NotBuilt));
-    let long = [b'x'; 300];
-    let table: [(&[u8], &[u8], &[u8], Option<TraceFault>); 32] = [
-        (HEAD, b"MAPZERO A 00000000 4 UW\n", TAIL, None),
-        (HEAD, b"MAPZERO A 1ffc00 0000000002 UW\n", TAIL, None),
-        (HEAD, b"", TAIL, None),
-        (HEAD, b"", b"BODY\nEND\n", None),
-        (HEAD, b"MAPZERO A 00000000 5 UW\n", TAIL, line(5)),
-        (HEAD, b"MAPZERO A 001ffe00 2 UW\n", TAIL, line(5)),
-        (HEAD, b"MAPZERO A 00000100 1 UW\n", TAIL, line(5)),
-        (HEAD, b"MAPZERO A 00000000 1 UR\n", TAIL, line(5)),
+    let table: [(&[u8], Option<TraceFault>); 22] = [
+        (b"VMTRACE 2", line(1, Cause::OutOfRange)),
+        (b"FRAMES 8", line(1, Cause::Misplaced)),
+        (b"VMTRACE 1\nFRAMES 7", line(2, Cause::OutOfRange)),
+        (b"VMTRACE 1\nFRAMES 4097", line(2, Cause::OutOfRange)),
         (
-            HEAD,
-            b"",
-            b"BODY\nA R4 00000000\n",
-            Some(TraceFault::Unfinished),
-        ),
-        (b"", b"", b"", Some(TraceFault::Unfinished)),
-        (HEAD, b"", b"", Some(TraceFault::Unfinished)),
-        (HEAD, b"", b"BODY\nEND", line(6)),
-        (b"\xff\x00\n\x03", b"", b"", line(1)),
-        (b"VMTRACE 2\n", b"", b"", line(1)),
-        (b"VMTRACE 1", b"", b"", line(1)),
-        (b"VMTRACE 1\n", &long, b"\nFRAMES 8\n", line(2)),
-        (b"VMTRACE 1\n", b"FRAMES 7\n", b"", line(2)),
-        (b"VMTRACE 1\n", b"FRAMES 65\n", b"", line(2)),
-        (b"VMTRACE 1\n", b"FRAMES  8\n", b"", line(2)),
-        (b"VMTRACE 1\n", b"FRAMES 8 \n", b"", line(2)),
-        (b"VMTRACE 1\n", b"FRAMES 00000000008\n", b"", line(2)),
-        (
-            b"VMTRACE 1\nFRAMES 8\n",
-            b"PAGEFILE 4294967297\n",
-            b"",
-            line(3),
+            b"VMTRACE 1\nFRAMES 4096\nPAGEFILE 0",
+            line(3, Cause::OutOfRange),
         ),
         (
-            b"VMTRACE 1\nFRAMES 8\nPAGEFILE 16384\n",
-            b"PROCESS A 4 4 4 3\n",
-            b"",
-            line(4),
+            b"VMTRACE 1\nFRAMES 8\nPAGEFILE 16385",
+            line(3, Cause::OutOfRange),
         ),
         (
-            b"VMTRACE 1\nFRAMES 8\nPAGEFILE 16384\n",
-            b"PROCESS A 4 4 7 0\n",
-            b"",
-            line(4),
+            b"VMTRACE 1\nFRAMES 8\nPAGEFILE 16384\nEND",
+            line(4, Cause::Misplaced),
         ),
-        (HEAD, b"BODY\n", b"A R4 00000002\nEND\n", line(6)),
-        (HEAD, b"BODY\n", b"A W1 0 100\nEND\n", line(6)),
-        (HEAD, b"BODY\n", b"A W1 0\nEND\n", line(6)),
-        (HEAD, b"BODY\n", b"A R2 0\nEND\n", line(6)),
-        (HEAD, b"BODY\n", b"B R1 0\nEND\n", line(6)),
-        (HEAD, b"BODY\n", b"A R1 0\r\nEND\n", line(6)),
-        (HEAD, b"BODY\nEND\n", b"\n", line(7)),
-        (HEAD, b"BODY\nEND\n", b"END\n", line(7)),
+        (
+            b"VMTRACE 1\nFRAMES 8\nPAGEFILE 1\nBODY",
+            line(4, Cause::Misplaced),
+        ),
+        (b"VMTRACE 1\n!\rx", line(2, Cause::NotAscii)),
+        (b"VMTRACE 1\n!\r\r\n", line(2, Cause::NotAscii)),
+        (b"VMTRACE\r\n", line(1, Cause::Misplaced)),
+        (b"a", line(1, Cause::UnknownWord)),
+        (b"A", line(1, Cause::Misplaced)),
+        (
+            b"VMTRACE 1\nFRAMES 8\nPAGEFILE 1\nBAD 1\nBAD 1",
+            line(5, Cause::Repeated),
+        ),
+        (
+            b"VMTRACE 1\nFRAMES 8\nPAGEFILE 1\nPARAM PFC 1\nPARAM PFC 2",
+            line(5, Cause::Repeated),
+        ),
+        (
+            b"VMTRACE 1\nFRAMES 8\nPAGEFILE 1\nFAIL P:0 1\nFAIL P:0 2",
+            line(5, Cause::Repeated),
+        ),
+        (
+            b"VMTRACE 1\nFRAMES 8\nPAGEFILE 1\nPROCESS A 2 2 7 0\nBODY",
+            line(5, Cause::OutOfRange),
+        ),
+        (
+            b"VMTRACE 1\nFRAMES 8\nPAGEFILE 1\nPROCESS A 2 2 6 0\nBAD 1\nBODY",
+            line(6, Cause::OutOfRange),
+        ),
+        (
+            b"VMTRACE 1\nFRAMES 8\nPAGEFILE 1\nPROCESS A 2 2 6 0\nPARAM LOLIMIT 129\nBODY",
+            line(6, Cause::OutOfRange),
+        ),
+        (
+            b"VMTRACE 1\nFRAMES 8\nPAGEFILE 1\nPROCESS A 2 2 6 0\nPARAM FREELIM 1\nBODY",
+            line(6, Cause::OutOfRange),
+        ),
+        (
+            b"VMTRACE 1\nFRAMES 8\nPAGEFILE 1\nPROCESS A 2 2 6 0\nMAPZERO A 0 3 UW\nMAPZERO A 400 1 UW",
+            line(6, Cause::Repeated),
+        ),
+        (
+            b"VMTRACE 1\nFRAMES 8\nPAGEFILE 1\nSECTION AB CRF 1\nDATA AB 511 0000",
+            line(5, Cause::OutOfRange),
+        ),
     ];
-    for (head, middle, tail, fault) in table {
-        let text = trace(alloc, head, middle, tail)?;
-        let mut pieces = dripping(trace(alloc, head, middle, tail)?, 0);
+    for (text, answer) in table {
+        assert_eq!(rt; fault(&rt, alloc, b"", text)?, answer);
+    }
+    Ok(())
+}
+
+#[test]
+fn judges_requests(rt: HostRuntime) -> Result<(), Fail> {
+    let alloc = rt.alloc();
+    let head = joined(alloc, HEAD, b"BODY\n")?;
+    let table: [(&[u8], Option<Cause>); 27] = [
+        (b"A UR1 FFFFFFFF", None),
+        (b"A SW2 2 ffff", None),
+        (b"A W2 2 10000", Some(Cause::OutOfRange)),
+        (b"A W1 0 100", Some(Cause::OutOfRange)),
+        (b"A W4 0 100000000", Some(Cause::BadNumber)),
+        (b"A R2 1", Some(Cause::Unaligned)),
+        (b"A A4 2 0", Some(Cause::Unaligned)),
+        (b"A R1", Some(Cause::Misplaced)),
+        (b"A R1 0 0", Some(Cause::Misplaced)),
+        (b"A W1 0", Some(Cause::Misplaced)),
+        (b"A", Some(Cause::Misplaced)),
+        (b"A R0 0", Some(Cause::UnknownWord)),
+        (b"B R0 0", Some(Cause::NoSuch)),
+        (b"Z R1", Some(Cause::Misplaced)),
+        (b"Z R1 0", Some(Cause::NoSuch)),
+        (b"a R1 0", Some(Cause::UnknownWord)),
+        (b"A CRETVA 0 1 UW", None),
+        (b"A CRETVA 0 1", Some(Cause::Misplaced)),
+        (b"A DELTVA 00000100 1", Some(Cause::Unaligned)),
+        (b"A SETPRT 0 1 XX", Some(Cause::UnknownWord)),
+        (b"A LKWSET 0 0", Some(Cause::OutOfRange)),
+        (b"A ULWSET 0 4097", Some(Cause::OutOfRange)),
+        (b"A PURGWS 001FFE00 2", Some(Cause::OutOfRange)),
+        (b"A ADJWSL 4294967295", None),
+        (b"A ADJWSL 4294967296", Some(Cause::OutOfRange)),
+        (b"MAPZERO A 0 1 UW", Some(Cause::Misplaced)),
+        (b"END\nA R1 0", Some(Cause::Misplaced)),
+    ];
+    for (text, cause) in table {
+        let at = if text.starts_with(b"END") { 7 } else { 6 };
+        let answer = match cause {
+            Some(cause) => line(at, cause),
+            None => Some(TraceFault::Unfinished),
+        };
+        assert_eq!(rt; fault(&rt, alloc, head.as_slice(), text)?, answer);
+    }
+    Ok(())
+}
+
+#[test]
+fn says_what_is_not_built(rt: HostRuntime) -> Result<(), Fail> {
+    let alloc = rt.alloc();
+    let end: &[u8] = b"BODY\nEND\n";
+    let table: [(&[u8], &[u8], Option<TraceFault>); 12] = [
+        (
+            b"MAPZERO A 00000000 4 UW\n",
+            b"BODY\r\n!\n A R4 0\nEND",
+            None,
+        ),
+        (b"MAPZERO A 00000000 5 UW\n", end, line(5, Cause::NotBuilt)),
+        (b"MAPZERO A 00000000 1 UR\n", end, line(5, Cause::NotBuilt)),
+        (b"MAPZERO A 7FFFFE00 1 UW\n", end, line(5, Cause::NotBuilt)),
+        (b"PARAM PFC 1\n", end, line(5, Cause::NotBuilt)),
+        (b"PROCESS B 2 2 2 0\n", end, line(5, Cause::NotBuilt)),
+        (b"PROCESS B 2 2 1 0\n", end, line(5, Cause::OutOfRange)),
+        (b"BODY\n", b"A R2 0\n", line(6, Cause::NotBuilt)),
+        (b"BODY\n", b"A R2 1\n", line(6, Cause::Unaligned)),
+        (b"BODY\n", b"A KR1 0\n", line(6, Cause::NotBuilt)),
+        (b"BODY\n", b"A A4 0 0\n", line(6, Cause::NotBuilt)),
+        (b"BODY\n", b"A PURGWS 0 1\n", line(6, Cause::NotBuilt)),
+    ];
+    for (middle, tail, answer) in table {
+        let head = joined(alloc, HEAD, middle)?;
+        let text = joined(alloc, head.as_slice(), tail)?;
         let mut source = MemorySource::new(text, Vec::new(alloc));
-        assert_eq!(rt; read_trace(alloc, &mut source).err(), fault);
-        assert_eq!(rt; read_trace(alloc, &mut pieces).err(), fault);
+        assert_eq!(rt;
+            read_trace(&mut source, alloc, Built::FirstPath).err(),
+            answer
+        );
     }
     Ok(())
 }
@@ -190,37 +415,48 @@ fn refuses_at_the_first_faulty_line(rt: HostRuntime) -> Result<(), Fail> {
 #[test]
 fn answers_in_the_order_of_the_bytes(rt: HostRuntime) -> Result<(), Fail> {
     let alloc = rt.alloc();
-    let first = Some(TraceFault::Line(1, Cause::NotBuilt));
-    let fault = Some(TraceFault::ReadFault);
+    let long = [b'x'; 300];
+    let failed = Some(TraceFault::ReadFault);
     // The text, the call of a source of single bytes that fails, and the answer.
     let table: [(&[u8], usize, Option<TraceFault>); 6] = [
-        (HEAD, 1, fault),
-        (HEAD, 7, fault),
-        (HEAD, HEAD.len() + 1, fault),
-        (b"FRAMES 8\n", 9, fault),
-        (b"FRAMES 8\n", 10, first),
-        (b"FRAMES 8", 9, fault),
+        (HEAD, 1, failed),
+        (HEAD, HEAD.len() + 1, failed),
+        (b"FRAMES 8\n", 9, failed),
+        (b"FRAMES 8\n", 10, line(1, Cause::Misplaced)),
+        (&long, 256, failed),
+        (&long, 257, line(1, Cause::LineTooLong)),
     ];
     for (text, fails, answer) in table {
         let mut source = dripping(text.to_vec(alloc)?, fails);
-        assert_eq!(rt; read_trace(alloc, &mut source).err(), answer);
+        assert_eq!(rt; read_trace(&mut source, alloc, Built::All).err(), answer);
     }
-    // A line is at fault once 256 of its bytes were taken, and any byte is after END.
-    let mut source = dripping([b'x'; 300].to_vec(alloc)?, 257);
-    assert_eq!(rt; read_trace(alloc, &mut source).err(), first);
-    let mut source = dripping([b'x'; 300].to_vec(alloc)?, 256);
-    assert_eq!(rt; read_trace(alloc, &mut source).err(), fault);
-    let text = trace(alloc, HEAD, b"BODY\nEND\n", b"x")?;
-    let calls = text.len();
-    let mut source = dripping(text, calls + 1);
-    let last = Some(TraceFault::Line(7, Cause::NotBuilt));
-    assert_eq!(rt; read_trace(alloc, &mut source).err(), last);
-    // From memory a whole text comes at once.
-    let mut source = MemorySource::new(HEAD.to_vec(alloc)?, [1u32].to_vec(alloc)?);
-    assert_eq!(rt; read_trace(alloc, &mut source).err(), fault);
-    let mut source = MemorySource::new(HEAD.to_vec(alloc)?, [2u32].to_vec(alloc)?);
-    assert_eq!(rt; read_trace(alloc, &mut source).err(), fault);
-    let mut source = MemorySource::new(b"FRAMES 8\n".to_vec(alloc)?, [2u32].to_vec(alloc)?);
-    assert_eq!(rt; read_trace(alloc, &mut source).err(), first);
+    what_is_read_is_well_formed();
+    a_shown_fault_stays();
+    Ok(())
+}
+
+// The most lines and the most requests that a trace may have.
+#[test]
+fn counts_lines_and_requests(rt: HostRuntime) -> Result<(), Fail> {
+    let alloc = rt.alloc();
+    let mut text = joined(alloc, HEAD, b"BODY\n")?;
+    for _ in 0..100_000 {
+        text.extend_from_slice(b"A R1 0\n")?;
+    }
+    let full = joined(alloc, text.as_slice(), b"A R1 0")?;
+    let mut source = MemorySource::new(full, Vec::new(alloc));
+    let answer = read_trace(&mut source, alloc, Built::All).err();
+    assert_eq!(rt; answer, line(100_006, Cause::TooMany));
+    for _ in 0..99_995 {
+        text.extend_from_slice(b"\n")?;
+    }
+    let all = joined(alloc, text.as_slice(), b"")?;
+    let mut source = MemorySource::new(all, Vec::new(alloc));
+    let answer = read_trace(&mut source, alloc, Built::All).err();
+    assert_eq!(rt; answer, Some(TraceFault::Unfinished));
+    text.extend_from_slice(b"!")?;
+    let mut source = MemorySource::new(text, Vec::new(alloc));
+    let answer = read_trace(&mut source, alloc, Built::All).err();
+    assert_eq!(rt; answer, line(200_001, Cause::TooMany));
     Ok(())
 }

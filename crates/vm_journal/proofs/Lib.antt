@@ -1,1 +1,4 @@
-mod HexLemmas
+pub mod Behind
+pub mod Forms
+pub mod LineWords
+pub mod OneToOne

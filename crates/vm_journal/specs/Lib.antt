@@ -1,6 +1,5 @@
 pub mod Journal
-pub mod Hex
-pub mod Words
 pub mod Line
 pub mod HasLine
 pub mod Own
+pub mod OfKind

@@ -6,23 +6,31 @@ use vm_types::{
 /// that comes back from its swap block.
 #[derive(Clone, Copy, Debug, PartialEq, Eq)]
 pub enum Role {
+    /// A page fault of the process at this address, the first of its page.
     Fault(Proc, Addr),
+    /// The page in the next block, read in the same cluster.
     Near(Page),
+    /// A page of the working set of a process that comes back, by its first address (inswap).
     Come(Proc, Addr),
 }
 
 /// Why a page leaves a working set.
 #[derive(Clone, Copy, Debug, PartialEq, Eq)]
 pub enum EvictWhy {
+    /// Its slot is the victim of a fault at the working set limit.
     Replace,
+    /// It was asked for by `PURGWS`.
     Purge,
+    /// It is deleted, by `DELTVA`.
     Delete,
+    /// Its process leaves memory (outswap).
     Leave,
+    /// The run is over, and the page of a shared section is to be written.
     Rundown,
 }
 
 /// A database change: one of sixteen kinds. `k` is the number of the entry that began the
-/// transfer, `c` and `d` are the block's count of faults before and after it.
+/// transfer, `c` and `d` are the block's count of failures before and after it.
 #[derive(Clone, Copy, Debug, PartialEq, Eq)]
 pub enum What {
     /// A reference is answered.
@@ -116,6 +124,43 @@ pub enum What {
         p: Proc,
         status: ProcStatus,
     },
+}
+
+/// The sixteen kinds of database change.
+#[derive(Clone, Copy, Debug, PartialEq, Eq)]
+pub enum Kind {
+    /// `DONE` in a line.
+    Done,
+    /// `DENIED` in a line.
+    Denied,
+    /// `SERVED` in a line.
+    Served,
+    /// `REUSE` in a line.
+    Reuse,
+    /// `ZERO` in a line.
+    Zero,
+    /// `BACK` in a line.
+    Back,
+    /// `COLLIDE` in a line.
+    Collide,
+    /// `IN` in a line.
+    In,
+    /// `INOK` in a line.
+    InOk,
+    /// `INFAIL` in a line.
+    InFail,
+    /// `OUT` in a line.
+    Out,
+    /// `OUTOK` in a line.
+    OutOk,
+    /// `OUTFAIL` in a line.
+    OutFail,
+    /// `EVICT` in a line.
+    Evict,
+    /// `LIMIT` in a line.
+    Limit,
+    /// `TURN` in a line.
+    Turn,
 }
 
 /// What a seat did.

@@ -1,4 +1,4 @@
-ghost use Rattle.std.specs.Prelude.{◌≡◌, ◌-◌, ◌<◌, ◌≤◌, [], ◌∷◌, ◌++◌, OnOk, OnErr};
+ghost use Rattle.std.specs.Prelude.{◌≡◌, ◌+◌, ◌-◌, ◌^◌, ◌<◌, ◌≤◌, [], ◌∷◌, ◌++◌, length, OnOk, OnErr};
 
 use crate::entry::Entry;
 use crate::kept::Kept;
@@ -6,8 +6,11 @@ use std::alloc::Global;
 use std::marker::Model;
 use vm_types::NoMemory;
 
+/// The most entries that a journal holds or has room for.
+const MOST: usize = 0x1_0000_0000_0000;
+
 /// The list of what was done, oldest first. Contracts see its entries, and how many more can be
-/// written without memory.
+/// written without memory; together these are at most 2^48.
 #[derive(Debug, Drop)]
 pub struct Journal {
     entries: Vec<Entry>,
@@ -15,18 +18,20 @@ pub struct Journal {
 }
 
 impl Model for Journal {
-    ghost use Rattle.std.specs.Prelude.{◌+◌, ◌≤◌, vec_len, vec_capacity};
+    ghost use Rattle.std.specs.Prelude.{vec_len, vec_capacity};
     ghost use Rattle.vm_journal.specs.Journal.{Written};
 
     ghost Value = { Written };
 
     ghost view = { λ j. record { entries = j.entries.items; spare = j.spare } };
 
-    ghost invariant = { λ j. vec_len j.entries + j.spare ≤ vec_capacity j.entries };
+    ghost use Rattle.vm_journal.specs.Journal.{IsRoomy};
+
+    ghost invariant = { λ j. IsRoomy (vec_len j.entries) j.spare (vec_capacity j.entries) };
 }
 
 impl Journal {
-    /// No entries, and nothing spare. Takes no memory.
+    /// No entries, and nothing spare. Doesn't allocate.
     pub fn new(alloc: Global) -> Journal
         ensures { result ≡ record { entries = []; spare = 0 } }
     {
@@ -36,28 +41,32 @@ impl Journal {
         }
     }
 
-    /// Makes room for at least `k` more entries. Takes no memory where there is as much already;
-    /// where it takes some, the journal's memory at least doubles, so that an entry costs no more in
-    /// a long journal than in a short one.
+    /// Makes room for at least `k` more entries. Doesn't allocate if there is as much already; if it
+    /// allocates, the journal's memory at least doubles, so that an entry costs no more in a long
+    /// journal than in a short one.
     ///
     /// # Errors
-    /// `NoMemory` for want of memory, only where `spare` was below `k`; the journal is then as
-    /// before.
+    /// `NoMemory` if memory ran out, or if the journal would have more than 2^48 entries and spare
+    /// places together; only if `spare` was below `k`. The journal is then as before.
     pub fn reserve(&mut self, k: u32) -> Result<(), NoMemory>
         ensures room { OnOk result (k ≤ self.new.spare) }
         ensures no_memory { OnErr result (self.old.spare < k) }
         ensures err { OnErr result (self.new ≡ self.old) }
         ensures entries { self.new.entries ≡ self.old.entries }
         ensures no_less { self.old.spare ≤ self.new.spare }
+        ensures within { length self.new.entries + self.new.spare ≤ 2 ^ 48 }
     {
         if self.spare < k {
+            if self.entries.len() > MOST - k as usize {
+                return Err(NoMemory);
+            }
             self.entries.try_reserve(k as usize)?;
             self.spare = k;
         }
         Ok(())
     }
 
-    /// Writes an entry. Takes no memory.
+    /// Writes an entry. Doesn't allocate.
     pub fn push(&mut self, e: Entry)
         requires { 0 < self.old.spare }
         ensures { self.new ≡ record { entries = self.old.entries ++ e ∷ []; spare = self.old.spare - 1 } }
@@ -66,9 +75,10 @@ impl Journal {
         self.spare -= 1;
     }
 
-    /// The entries, oldest first. Takes no memory.
+    /// The entries, oldest first. Doesn't allocate.
     pub fn entries(&self) -> &[Entry]
-        ensures { result.now ≡ self.now.entries }
+        ensures entries { result.now ≡ self.now.entries }
+        ensures within { length self.now.entries + self.now.spare ≤ 2 ^ 48 }
     {
         self.entries.as_slice()
     }
@@ -80,7 +90,7 @@ impl Journal {
         self.spare
     }
 
-    /// Gives the entries, oldest first. Takes no memory.
+    /// Gives the entries, oldest first. Doesn't allocate.
     pub fn into_entries(self) -> Vec<Entry>
         ensures { result.items ≡ self.entries }
     {

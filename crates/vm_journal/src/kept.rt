@@ -5,7 +5,8 @@ use crate::entry::Entry;
 
 /// A value that keeps a journal.
 pub trait Kept {
-    /// What the value stands on.
+    /// What the value stands on, as its configuration and the name of its pool of page buffers. A type
+    /// of code, so that other values can have a field of it; no value of it need be made.
     type Base;
 
     /// The value's entries, oldest first.
@@ -14,7 +15,7 @@ pub trait Kept {
     /// What the value stands on, which no call of it changes.
     ghost base: { Self → Self.Base };
 
-    /// The entries, oldest first. Takes no memory.
+    /// The entries, oldest first. Doesn't allocate.
     fn entries(&self) -> &[Entry]
         ensures { result.now ≡ journal self.now };
 }

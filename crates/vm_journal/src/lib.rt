@@ -3,12 +3,17 @@
 
 mod entry;
 mod entry_line;
+mod entry_read;
 mod journal;
 mod kept;
-mod text;
+mod parts;
+mod read;
+mod requests;
+mod take;
 
-pub use entry::{Entry, EvictWhy, Role, What};
+pub use entry::{Entry, EvictWhy, Kind, Role, What};
 pub use entry_line::line;
+pub use entry_read::{BadLine, lines_are_one_to_one, read_line};
 pub use journal::Journal;
 pub use kept::Kept;
 

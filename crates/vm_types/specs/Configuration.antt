@@ -59,6 +59,13 @@ pub record AreSections (sections : List Section) : Type 0 where
   pub each : All IsSection sections
   pub differ : AllPairs (λ s t. s.name ≢ t.name) sections
 
+-- the limits of a process, in their order
+pub record IsLimited (spec : ProcSpec) : Type 0 where
+  pub locks : spec.locks + 2 ≤ spec.limit
+  pub quota : spec.limit ≤ spec.quota
+  pub extent : spec.quota ≤ spec.extent
+  pub most : spec.extent ≤ 1024
+
 -- a process alone in memory always finds a free or a modified page, and a victim
 pub record IsProcess (frames bad : ℕ) (spec : ProcSpec) : Type 0 where
   pub locks : spec.locks + 2 ≤ spec.limit

@@ -1,7 +1,11 @@
 pub mod Address
 pub mod Access
 pub mod Ring
+pub mod Adjust
 pub mod Same
 pub mod WellFormed
 pub mod Configuration
 pub mod Loan
+pub mod Cluster
+pub mod PagePlaces
+pub mod Behind

@@ -31,6 +31,10 @@ abbrev pub is_locked_slot : Option Held → Bool
 is_locked_slot None = false
 is_locked_slot (Some held) = held.locked
 
+-- what a page is put into a slot as: not locked
+abbrev pub fresh_slot : ℕ → Option Held
+fresh_slot v = Some (record { vpn = v; locked = false })
+
 -- how many slots are filled
 abbrev pub filled : List (Option Held) → ℕ
 filled slots = count_by is_filled_slot slots

@@ -38,24 +38,38 @@ pub enum BlockId {
     Swap(Proc, u32),
 }
 
-/// The state of a page frame.
+/// The state of a page frame: the location code in its row of the PFN database. Source: Kenah and
+/// Bate, the PFN database.
 #[derive(Clone, Copy, Debug, PartialEq, Eq)]
 pub enum FrameState {
+    /// On the free page list, empty or still with the bytes of a page that isn't modified.
     Free,
+    /// On the modified page list: its bytes are to be written before it is used again.
     Modified,
+    /// Taken out of use at the start, with a memory error.
     Bad,
+    /// Shared by no process any more, while a write of its bytes hasn't ended (release pending).
     ReleasePending,
+    /// Its read failed, and it hasn't been given up yet (read error).
     ReadError,
+    /// Being written to a block by the modified page writer, and shared by no process (write in
+    /// progress).
     Writing,
+    /// Being read from a block (read in progress).
     Reading,
+    /// Valid in a working set (active).
     Active,
 }
 
-/// Where a process stands with the swapper.
+/// Where a process stands with the swapper, which moves whole working sets out of memory and back.
 #[derive(Clone, Copy, Debug, PartialEq, Eq)]
 pub enum ProcStatus {
+    /// Its working set is in memory (RESIDENT).
     Resident,
+    /// Its working set is being written to its swap blocks (outswap).
     Leaving,
+    /// Its working set is out of memory.
     Gone,
+    /// Its working set is being read back (inswap).
     Coming,
 }

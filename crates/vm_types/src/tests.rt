@@ -36,3 +36,20 @@ fn allows_by_code(rt: HostRuntime) {
     assert!(rt; allowed(5, Mode::E, true) && !allowed(5, Mode::S, false));
     assert!(rt; !allowed(0, Mode::K, false) && !allowed(1, Mode::K, false));
 }
+
+#[test]
+fn places_pages_in_tables(rt: HostRuntime) {
+    // The first and last pages of both regions, and the pages just outside.
+    let table = [
+        (0, 0, Some(0)),
+        (0, 4095, Some(4095)),
+        (0, 4096, None),
+        (0, 0x3f_fbff, None),
+        (0, 0x3f_fc00, Some(4096)),
+        (15, 0x3f_ffff, Some(81_919)),
+        (15, 0x40_0000, None),
+    ];
+    for (process, page, place) in table {
+        assert_eq!(rt; page_place(Proc(process), page), place);
+    }
+}

@@ -1,7 +1,7 @@
 -- The slots of a working set ring. Source: Kenah and Bate, "VAX/VMS Internals and Data Structures",
 -- paging dynamics, the working set list.
 use Rattle.std.specs.Prelude.{◌≡◌, ℕ, Bool, ◌^◌, ◌<◌, Option, Some, None, All, length, slice_index_or, slice_set, option_map, IsSome, IfSome}
-use Rattle.vm_types.specs.Ring.{Held, Ring}
+use Rattle.vm_types.specs.Ring.{is_locked_slot, Held, Ring}
 
 -- what the slot holds: none where it is empty, or there is no such slot
 abbrev pub slot_at : Ring → ℕ → Option Held
@@ -10,6 +10,10 @@ slot_at ring slot = slice_index_or ring.slots slot None
 -- the number of the page in the slot
 abbrev pub page_at : Ring → ℕ → Option ℕ
 page_at ring slot = option_map (λ held. held.vpn) (slot_at ring slot)
+
+-- whether the page in the slot is locked
+abbrev pub lock_at : Ring → ℕ → Bool
+lock_at ring slot = is_locked_slot (slot_at ring slot)
 
 -- there is such a slot, and it is empty
 pub record IsEmptySlot (ring : Ring) (slot : ℕ) : Type 0 where

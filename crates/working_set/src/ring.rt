@@ -30,17 +30,18 @@ impl Model for Ring {
 }
 
 impl Ring {
-    ghost use Rattle.vm_types.specs.Ring.{filled, locked, choose, slot_after};
-    ghost use Rattle.working_set.specs.Slots.{IsRing, IsEmptySlot, IsFilledSlot, slot_at, page_at, with_lock};
+    ghost use Rattle.vm_types.specs.Ring.{filled, locked, choose, slot_after, fresh_slot};
+    ghost use Rattle.working_set.specs.Slots.{IsRing, IsEmptySlot, IsFilledSlot, slot_at, page_at, lock_at, with_lock};
     ghost use Rattle.working_set.specs.Offers.{Offers, OffersNone};
 
     /// A ring of so many slots (1 at least): each is empty, and the hand stands on slot 0.
     ///
     /// # Errors
-    /// `NoMemory` for want of memory.
+    /// `NoMemory` if memory runs out.
     pub fn new(alloc: Global, slots: u32) -> Result<Ring, NoMemory>
         requires { 1 ≤ slots }
-        ensures { IfOk result (λ r. r ≡ record { slots = replicate slots None; hand = 0 }) }
+        ensures empty { IfOk result (λ r. r ≡ record { slots = replicate slots None; hand = 0 }) }
+        ensures ring { IfOk result (λ r. IsRing r) }
     {
         Ok(Ring {
             slots: vec![in alloc; None; slots as usize]?,
@@ -74,10 +75,11 @@ impl Ring {
     #[tactic(auto, using(crate::proofs::Counts::filled_below))]
     pub fn place(&mut self, slot: u32, vpn: u32, step: bool)
         requires { IsEmptySlot self.old slot }
-        ensures { self.new ≡ record {
-          slots = slice_set self.old.slots slot (Some (record { vpn = vpn; locked = false }));
+        ensures placed { self.new ≡ record {
+          slots = slice_set self.old.slots slot (fresh_slot vpn);
           hand = if step then (slot + 1) % length self.old.slots else self.old.hand;
         } }
+        ensures ring { IsRing self.new }
     {
         self.slots[slot as usize] = Some(Held::new(vpn, false));
         self.pages += 1;
@@ -89,10 +91,11 @@ impl Ring {
     /// Empties the slot, with its lock, where it was empty too. With `point` the hand stands on it.
     pub fn clear(&mut self, slot: u32, point: bool)
         requires { slot < length self.old.slots }
-        ensures { self.new ≡ record {
+        ensures cleared { self.new ≡ record {
           slots = slice_set self.old.slots slot None;
           hand = if point then slot else self.old.hand;
         } }
+        ensures ring { IsRing self.new }
     {
         let was = self.slots[slot as usize].take();
         self.pages -= u32::from(was.is_some());
@@ -105,7 +108,8 @@ impl Ring {
     /// Locks the page in the slot. It may be locked already.
     pub fn lock(&mut self, slot: u32)
         requires { IsFilledSlot self.old slot }
-        ensures { self.new ≡ with_lock self.old slot true }
+        ensures locked { self.new ≡ with_lock self.old slot true }
+        ensures ring { IsRing self.new }
     {
         self.set_lock(slot, true);
     }
@@ -113,7 +117,8 @@ impl Ring {
     /// Unlocks the page in the slot. It may be unlocked already.
     pub fn unlock(&mut self, slot: u32)
         requires { IsFilledSlot self.old slot }
-        ensures { self.new ≡ with_lock self.old slot false }
+        ensures unlocked { self.new ≡ with_lock self.old slot false }
+        ensures ring { IsRing self.new }
     {
         self.set_lock(slot, false);
     }
@@ -142,6 +147,22 @@ impl Ring {
         Some(self.slots[slot as usize]?.vpn())
     }
 
+    /// Whether the page in the slot is locked: not where it is empty.
+    pub fn is_locked(&self, slot: u32) -> bool
+        requires { slot < length self.now.slots }
+        ensures { result ≡ lock_at self.now slot }
+    {
+        is_locked(self.slots[slot as usize])
+    }
+
+    /// The slot on which the hand stands.
+    pub fn hand(&self) -> u32
+        ensures value { result ≡ self.now.hand }
+        ensures ring { IsRing self.now }
+    {
+        self.hand
+    }
+
     /// The slot that is so many places after the hand.
     fn slot_after(&self, places: usize) -> u32
         requires { places < length self.now.slots }
@@ -153,7 +174,8 @@ impl Ring {
     /// Locks or unlocks the page in the slot.
     fn set_lock(&mut self, slot: u32, lock: bool)
         requires { IsFilledSlot self.old slot }
-        ensures { self.new ≡ with_lock self.old slot lock }
+        ensures locked { self.new ≡ with_lock self.old slot lock }
+        ensures ring { IsRing self.new }
     {
         if let Some(held) = self.slots[slot as usize] {
             self.slots[slot as usize] = Some(Held::new(held.vpn(), lock));

@@ -93,7 +93,7 @@ fn writes_the_rows(rt: HostRuntime) -> Result<(), Fail> {
             "serial",
             "\0\u{7f}no trace",
             2,
-            "TRACE 1 NOTBUILT\nSTATUS 2\n",
+            "TRACE 1 NOTASCII\nSTATUS 2\n",
         ),
         ("parallel", FIRST_RUN, 1, "STATUS 1\n"),
     ];

@@ -1,5 +1,5 @@
 use Rattle.std.proofs.Common.{◌≡◌, find, drop}
-use Rattle.flat_model.specs.Maps.{covers}
+use Rattle.pager_model.specs.Maps.{covers}
 use Rattle.flat_model.proofs.lookups.covering.Given as goal
 
 abbrev pub invariant-loop-mapping : goal.invariant-loop-mapping

@@ -3,13 +3,17 @@ use Rattle.flat_model.specs.Text.{entry_lines, report_text, status_line}
 use Rattle.replay_cli.specs.Ends.{Ends}
 use Rattle.replay_cli.specs.ReportView.{IsPrintable, report_view}
 use Rattle.replay_cli.proofs.Ending.{ends_cut, ends_then}
-use Rattle.replay_cli.proofs.RunText.{run_text_parts, have_lines}
+use Rattle.replay_cli.proofs.RunText.{run_text_parts, have_lines, have_names}
 use Rattle.replay_cli.proofs.cli.end_run.Goals as goal
 
 pub print_entries-requires-clause-have_lines : goal.print_entries-requires-clause-have_lines
 print_entries-requires-clause-have_lines g c =
     have_lines c.args.config.now c.args.run.now.entries.items c.deref.result.now c.items.result.now c.items-names.result.now
     c.deref.ensures.value c.items.ensures c.items-names.ensures c.requires.run.stands.history.printable
+
+pub print_entries-requires-clause-names : goal.print_entries-requires-clause-names
+print_entries-requires-clause-names g c =
+    have_names c.args.config.now c.items.result.now c.items-names.result.now c.items.ensures c.items-names.ensures c.requires.run.stands.accepted.well_formed
 
 pub end_report-requires : goal.end_report-requires
 end_report-requires g c = subst (λ names. IsPrintable names c.args.report.now) (sym c.items-names.ensures) c.requires.report.printable

@@ -1,9 +1,9 @@
 use Rattle.std.proofs.Common.{sym, ◌∙◌, refl, ap, subst, find, length, ◌<◌, ◌≡◌}
 use Rattle.std.specs.List.{position_or_len}
 use Rattle.vm_types.specs.Access.{is_allowed}
-use Rattle.flat_model.specs.Flat.{reply_from, bytes_after, offset_in_page}
+use Rattle.pager_model.specs.Flat.{reply_from, bytes_after, offset_in_page}
 use Rattle.flat_model.specs.FlatMachine.{is_of}
-use Rattle.flat_model.specs.Maps.{covers, page_number}
+use Rattle.pager_model.specs.Maps.{covers, page_number}
 use Rattle.flat_model.specs.Usable.{IsUsable}
 use Rattle.flat_model.proofs.Entries.{page_at_place}
 use Rattle.flat_model.proofs.Found.{found_has}

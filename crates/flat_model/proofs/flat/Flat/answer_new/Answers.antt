@@ -1,5 +1,5 @@
 use Rattle.std.proofs.Common.{sym, ◌∙◌, refl, ap}
-use Rattle.flat_model.specs.Flat.{reply_from, bytes_after, offset_in_page}
+use Rattle.pager_model.specs.Flat.{reply_from, bytes_after, offset_in_page}
 use Rattle.flat_model.proofs.Told.{told_pushed, full_from}
 use Rattle.flat_model.proofs.flat.Flat.answer_new.Goals as goal
 

@@ -1,26 +1,11 @@
-use Rattle.std.proofs.Common.{arith}
-use Rattle.page_lists.specs.declared.list_name.ListName.TheVariants.{Free, Modified}
-use Rattle.page_lists.proofs.TwoLists.{AreTwoLists-pop_head}
+use Rattle.std.proofs.Common.{sym, ◌∙◌}
+use Rattle.page_lists.proofs.TwoLists.{IsOn-head, without-head}
 use Rattle.page_lists.proofs.lists.Lists.pop_head.Goals as goal
 
-pub invariant_of-self : goal.invariant_of-self
-invariant_of-self c = record {
-  lists = AreTwoLists-pop_head _ c.self.invariant.lists Free _ c.pop_front.ensures.rest;
-  short = c.self.invariant.short;
-  free_room = omega (arith, c.self.invariant.free_room, c.pop_front.ensures.capacity);
-  modified_room = c.self.invariant.modified_room;
-}
+pub remove-requires : goal.remove-requires
+remove-requires c = IsOn-head _ c.head.ensures.valid c.args.l c.in_ok-f.f (sym c.in_ok-f.ensures.head)
 
-pub returns-in-Free-clause-valid : goal.returns-in-Free-clause-valid
-returns-in-Free-clause-valid c = (invariant_of-self c).lists
-
-pub invariant_of-self-in-Modified : goal.invariant_of-self-in-Modified
-invariant_of-self-in-Modified c = record {
-  lists = AreTwoLists-pop_head _ c.self.invariant.lists Modified _ c.pop_front-in-Modified.ensures.rest;
-  modified_room = omega (arith, c.self.invariant.modified_room, c.pop_front-in-Modified.ensures.capacity);
-  short = c.self.invariant.short;
-  free_room = c.self.invariant.free_room;
-}
-
-pub returns-in-Modified-clause-valid : goal.returns-in-Modified-clause-valid
-returns-in-Modified-clause-valid c = (invariant_of-self-in-Modified c).lists
+pub returns-clause-list : goal.returns-clause-list
+returns-clause-list c =
+    let head = sym c.in_ok-f.ensures.head in
+    c.remove.ensures.list ∙ without-head _ c.in_ok-f.f (IsOn-head _ c.head.ensures.valid c.args.l c.in_ok-f.f head) head

@@ -1,48 +1,81 @@
-use Rattle.std.proofs.Common.{arith}
+use Rattle.std.proofs.Common.{ℕ, ◌+◌, [], ◌∷◌, ◌++◌, eqb, ◌≡◌, ◌∙◌, ap, set, arith}
+use Rattle.page_lists.specs.Lists.{TwoLists, count_of}
+use Rattle.page_lists.proofs.Counts.{count_of-push}
+use Rattle.page_lists.specs.Links.{items_of}
+use Rattle.page_lists.proofs.Marked.{one_if}
+use Rattle.page_lists.proofs.Moves.{free-gain, modified-gain}
+use Rattle.page_lists.proofs.TwoLists.{AreTwoLists-linked, length-list_of-lt}
 use Rattle.page_lists.specs.declared.list_name.ListName.TheVariants.{Free, Modified}
-use Rattle.page_lists.proofs.TwoLists.{AreTwoLists-push_tail, length-list_of-lt}
 use Rattle.page_lists.proofs.lists.Lists.push_tail.Goals as goal
 
 -- a list that lacks a frame has room for it
-pub push_back_reserved-requires : goal.push_back_reserved-requires
-push_back_reserved-requires c =
+pub append-requires-clause-room : goal.append-requires-clause-room
+append-requires-clause-room c =
     let below = rw (← c.self.view_is) at c.requires.below in
     let none = rw (← c.self.view_is) at c.requires.on_none in
-    let short = length-list_of-lt _ c.self.invariant.lists Free c.args.f below none in
-    omega (arith, short, c.self.inside.free.ok.0, c.self.invariant.free_room)
+    let valid = AreTwoLists-linked _ _ _ _ _ c.self.invariant in
+    let short = length-list_of-lt _ valid Free c.args.f below none in
+    omega (arith, short, c.self.invariant.free_list.linked.counted, c.self.invariant.short)
 
 pub invariant_of-self : goal.invariant_of-self
 invariant_of-self c =
     let below = rw (← c.self.view_is) at c.requires.below in
     let none = rw (← c.self.view_is) at c.requires.on_none in
-    record {
-      lists = AreTwoLists-push_tail _ c.self.invariant.lists Free _ c.args.f below none c.push_back_reserved.ensures.items;
-      short = c.self.invariant.short;
-      free_room = omega (arith, c.self.invariant.free_room, c.push_back_reserved.ensures.capacity);
-      modified_room = c.self.invariant.modified_room;
-    }
+    let items = items_of c.self.inside.forward.items c.self.inside.free in
+    let add : (g : ℕ) → count_of (items ++ c.args.f ∷ []) g ≡ count_of items g + one_if (eqb c.args.f g) = λ g. count_of-push items c.args.f g in
+    rw c.in-Free.is (free-gain _ _ _ _ _ c.self.invariant c.args.f below _ _ _ c.append.ensures.count c.append.ensures.same_count c.append.ensures.linked none c.append.ensures.others (λ g. ap (λ list. count_of list g) c.append.ensures.items ∙ add g)).0
 
-pub returns-in-Free-clause-valid : goal.returns-in-Free-clause-valid
-returns-in-Free-clause-valid c = (invariant_of-self c).lists
-
--- a list that lacks a frame has room for it
-pub push_back_reserved-requires-in-Modified : goal.push_back_reserved-requires-in-Modified
-push_back_reserved-requires-in-Modified c =
+pub returns-in-Free-clause-other : goal.returns-in-Free-clause-other
+returns-in-Free-clause-other c =
     let below = rw (← c.self.view_is) at c.requires.below in
     let none = rw (← c.self.view_is) at c.requires.on_none in
-    let short = length-list_of-lt _ c.self.invariant.lists Modified c.args.f below none in
-    omega (arith, short, c.self.inside.modified.ok.0, c.self.invariant.modified_room)
+    let items = items_of c.self.inside.forward.items c.self.inside.free in
+    let add : (g : ℕ) → count_of (items ++ c.args.f ∷ []) g ≡ count_of items g + one_if (eqb c.args.f g) = λ g. count_of-push items c.args.f g in
+    rw c.in-Free.is ((free-gain _ _ _ _ _ c.self.invariant c.args.f below _ _ _ c.append.ensures.count c.append.ensures.same_count c.append.ensures.linked none c.append.ensures.others (λ g. ap (λ list. count_of list g) c.append.ensures.items ∙ add g)).1 ∙ ap (λ (lists : TwoLists). lists.modified) c.self.view_is)
+
+pub returns-in-Free-clause-cells : goal.returns-in-Free-clause-cells
+returns-in-Free-clause-cells c =
+    let below = rw (← c.self.view_is) at c.requires.below in
+    let none = rw (← c.self.view_is) at c.requires.on_none in
+    let items = items_of c.self.inside.forward.items c.self.inside.free in
+    let add : (g : ℕ) → count_of (items ++ c.args.f ∷ []) g ≡ count_of items g + one_if (eqb c.args.f g) = λ g. count_of-push items c.args.f g in
+    rw c.in-Free.is ((free-gain _ _ _ _ _ c.self.invariant c.args.f below _ _ _ c.append.ensures.count c.append.ensures.same_count c.append.ensures.linked none c.append.ensures.others (λ g. ap (λ list. count_of list g) c.append.ensures.items ∙ add g)).2 ∙ ap (λ (lists : TwoLists). set lists.cells c.args.f (0, 0)) c.self.view_is)
+
+pub returns-in-Free-clause-valid : goal.returns-in-Free-clause-valid
+returns-in-Free-clause-valid c = AreTwoLists-linked _ _ _ _ _ (invariant_of-self c)
+
+-- a list that lacks a frame has room for it
+pub append-requires-in-Modified-clause-room : goal.append-requires-in-Modified-clause-room
+append-requires-in-Modified-clause-room c =
+    let below = rw (← c.self.view_is) at c.requires.below in
+    let none = rw (← c.self.view_is) at c.requires.on_none in
+    let valid = AreTwoLists-linked _ _ _ _ _ c.self.invariant in
+    let short = length-list_of-lt _ valid Modified c.args.f below none in
+    omega (arith, short, c.self.invariant.modified_list.linked.counted, c.self.invariant.short)
 
 pub invariant_of-self-in-Modified : goal.invariant_of-self-in-Modified
 invariant_of-self-in-Modified c =
     let below = rw (← c.self.view_is) at c.requires.below in
     let none = rw (← c.self.view_is) at c.requires.on_none in
-    record {
-      lists = AreTwoLists-push_tail _ c.self.invariant.lists Modified _ c.args.f below none c.push_back_reserved-in-Modified.ensures.items;
-      modified_room = omega (arith, c.self.invariant.modified_room, c.push_back_reserved-in-Modified.ensures.capacity);
-      short = c.self.invariant.short;
-      free_room = c.self.invariant.free_room;
-    }
+    let items = items_of c.self.inside.forward.items c.self.inside.modified in
+    let add : (g : ℕ) → count_of (items ++ c.args.f ∷ []) g ≡ count_of items g + one_if (eqb c.args.f g) = λ g. count_of-push items c.args.f g in
+    rw c.in-Modified.is (modified-gain _ _ _ _ _ c.self.invariant c.args.f below _ _ _ c.append-in-Modified.ensures.count c.append-in-Modified.ensures.same_count c.append-in-Modified.ensures.linked none c.append-in-Modified.ensures.others (λ g. ap (λ list. count_of list g) c.append-in-Modified.ensures.items ∙ add g)).0
+
+pub returns-in-Modified-clause-other : goal.returns-in-Modified-clause-other
+returns-in-Modified-clause-other c =
+    let below = rw (← c.self.view_is) at c.requires.below in
+    let none = rw (← c.self.view_is) at c.requires.on_none in
+    let items = items_of c.self.inside.forward.items c.self.inside.modified in
+    let add : (g : ℕ) → count_of (items ++ c.args.f ∷ []) g ≡ count_of items g + one_if (eqb c.args.f g) = λ g. count_of-push items c.args.f g in
+    rw c.in-Modified.is ((modified-gain _ _ _ _ _ c.self.invariant c.args.f below _ _ _ c.append-in-Modified.ensures.count c.append-in-Modified.ensures.same_count c.append-in-Modified.ensures.linked none c.append-in-Modified.ensures.others (λ g. ap (λ list. count_of list g) c.append-in-Modified.ensures.items ∙ add g)).1 ∙ ap (λ (lists : TwoLists). lists.free) c.self.view_is)
+
+pub returns-in-Modified-clause-cells : goal.returns-in-Modified-clause-cells
+returns-in-Modified-clause-cells c =
+    let below = rw (← c.self.view_is) at c.requires.below in
+    let none = rw (← c.self.view_is) at c.requires.on_none in
+    let items = items_of c.self.inside.forward.items c.self.inside.modified in
+    let add : (g : ℕ) → count_of (items ++ c.args.f ∷ []) g ≡ count_of items g + one_if (eqb c.args.f g) = λ g. count_of-push items c.args.f g in
+    rw c.in-Modified.is ((modified-gain _ _ _ _ _ c.self.invariant c.args.f below _ _ _ c.append-in-Modified.ensures.count c.append-in-Modified.ensures.same_count c.append-in-Modified.ensures.linked none c.append-in-Modified.ensures.others (λ g. ap (λ list. count_of list g) c.append-in-Modified.ensures.items ∙ add g)).2 ∙ ap (λ (lists : TwoLists). set lists.cells c.args.f (0, 0)) c.self.view_is)
 
 pub returns-in-Modified-clause-valid : goal.returns-in-Modified-clause-valid
-returns-in-Modified-clause-valid c = (invariant_of-self-in-Modified c).lists
+returns-in-Modified-clause-valid c = AreTwoLists-linked _ _ _ _ _ (invariant_of-self-in-Modified c)

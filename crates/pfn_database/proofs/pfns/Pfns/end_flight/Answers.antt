@@ -1,20 +1,48 @@
-use Rattle.std.proofs.Common.{ap, length-set}
+use Rattle.std.proofs.Common.{◌-◌, ◌<◌, length, set, refl, sym, ◌∙◌, ap, arith, length-set}
+use Rattle.pfn_database.specs.declared.row.Row.{Row}
 use Rattle.pfn_database.specs.Rows.{bad_row}
-use Rattle.pfn_database.specs.Frames.{is_free, is_modified}
-use Rattle.pfn_database.proofs.Changes.{IsConsistent-same, IsRow-end_flight}
+use Rattle.pfn_database.specs.Frames.{Frames, row_of}
+use Rattle.pfn_database.proofs.KeptRows.{length-rows_of, row-is, edited}
+use Rattle.pfn_database.proofs.Changes.{IsConsistent-same, IsRow-end_flight, refs-flight}
 use Rattle.pfn_database.proofs.pfns.Pfns.end_flight.Goals as goal
+
+pub kept_at-kept-requires : goal.kept_at-kept-requires
+kept_at-kept-requires c =
+    let below = rw (← c.self.view_is) at c.requires.below in
+    let near : c.args.f.0 < length c.self.inside.kept.items = omega (arith, below, length-rows_of c.self.inside.kept.items c.self.inside.lists.cells c.self.invariant.cells) in
+    near
+
+pub index_mut-requires : goal.index_mut-requires
+index_mut-requires c =
+    let below = rw (← c.self.view_is) at c.requires.below in
+    let near : c.args.f.0 < length c.self.inside.kept.items = omega (arith, below, length-rows_of c.self.inside.kept.items c.self.inside.lists.cells c.self.invariant.cells) in
+    omega (arith, near, c.self.inside.kept.ok.0)
+
+pub overflow_sub-kept : goal.overflow_sub-kept
+overflow_sub-kept c =
+    let below = rw (← c.self.view_is) at c.requires.below in
+    let good = c.self.invariant.consistent.rows c.args.f.0 bad_row below in
+    let row = row-is c.self.inside.kept.items c.self.inside.lists.cells c.self.invariant.cells c.args.f.0 c.kept_at-kept.result c.kept_at-kept.ensures in
+    let one = rw (← c.self.view_is) at c.requires.flights in
+    let some = refs-flight _ good one in
+    omega (arith, some, ap (λ (r : Row). r.refs) row)
 
 pub invariant_of-self : goal.invariant_of-self
 invariant_of-self c =
     let below = rw (← c.self.view_is) at c.requires.below in
-    let was = c.self.invariant.consistent.rows c.args.f.0 bad_row below in
-    let good = rw (← c.row_at-row.ensures) at was in
-    let open_one = rw (← c.self.view_is, ← c.row_at-row.ensures) at c.requires.flights in
+    let good = c.self.invariant.consistent.rows c.args.f.0 bad_row below in
+    let one = rw (← c.self.view_is) at c.requires.flights in
     record {
-      consistent = IsConsistent-same _ c.self.invariant.consistent c.args.f.0 below _ (IsRow-end_flight _ good open_one) (ap (λ r. is_free r.state) c.row_at-row.ensures) (ap (λ r. is_modified r.state) c.row_at-row.ensures);
-      frames = rw length-set c.self.invariant.frames;
-      short = c.self.invariant.short;
+      consistent = rw (edited c.self.inside.kept.items c.self.inside.lists.cells c.self.invariant.cells c.args.f.0 c.kept_at-kept.result c.kept_at-kept.ensures (record { state = c.kept_at-kept.result.state; page = c.kept_at-kept.result.page; modify = c.kept_at-kept.result.modify; refs = c.kept_at-kept.result.refs - 1; flights = 0 }) (λ (r : Row). record r { refs = r.refs - 1; flights = 0 }) refl) (IsConsistent-same _ c.self.invariant.consistent c.args.f.0 below _ (IsRow-end_flight _ good one) refl refl);
+      frames = c.self.invariant.frames ∙ sym (length-set c.self.inside.kept.items c.args.f.0 _);
+      cells = c.self.invariant.cells ∙ sym (length-set c.self.inside.kept.items c.args.f.0 _);
+      short = rw length-set c.self.invariant.short;
     }
 
+pub returns-clause-rows : goal.returns-clause-rows
+returns-clause-rows c =
+    edited c.self.inside.kept.items c.self.inside.lists.cells c.self.invariant.cells c.args.f.0 c.kept_at-kept.result c.kept_at-kept.ensures (record { state = c.kept_at-kept.result.state; page = c.kept_at-kept.result.page; modify = c.kept_at-kept.result.modify; refs = c.kept_at-kept.result.refs - 1; flights = 0 }) (λ (r : Row). record r { refs = r.refs - 1; flights = 0 }) refl ∙ ap (λ (frames : Frames). set frames.rows c.args.f.0 ((λ (r : Row). record r { refs = r.refs - 1; flights = 0 }) (row_of frames c.args.f.0))) c.self.view_is
+
 pub returns-clause-consistent : goal.returns-clause-consistent
-returns-clause-consistent c = (invariant_of-self c).consistent
+returns-clause-consistent c =
+    (invariant_of-self c).consistent

@@ -1,35 +1,28 @@
-use Rattle.std.proofs.Common.{◌≡◌, ◌∙◌, sym, subst, arith}
-use Rattle.std.proofs.lemmas.Bool.{MatchBool-at_true, MatchBool-at_false, both_ways}
-use Rattle.std.specs.Prelude.{Some, None}
-use Rattle.trace_reader.specs.Grammar.{next_line}
-use Rattle.trace_reader.specs.Stream.{IsAtFault}
-use Rattle.trace_reader.proofs.Pieces.{take_line, fault_here, fault_in_long, fault_behind, some_bytes}
+use Rattle.std.proofs.Common.{◌∙◌, sym, subst, ap, Result, Err, ℕ}
+use Rattle.std.specs.Prelude.{IfErr}
+use Rattle.std.proofs.lemmas.Result.{err_from_is_err_and}
+use Rattle.trace_lines.specs.declared.built.Built.{Built}
+use Rattle.trace_reader.specs.declared.fault.TraceFault.{TraceFault}
+use Rattle.trace_reader.specs.Stream.{IsAtFault, HasTaken, IsLineAtFault}
+use Rattle.trace_reader.proofs.Pieces.{take_line, fault_here, fault_in_long}
 use Rattle.trace_reader.proofs.read.Reader.take_piece.Goals as goal
-use Rattle.trace_reader.proofs.read.Reader.take_piece.Goals.{then-rest-gt255-via-then-rest-gt255, then-rest-gt255-via-else-rest-gt255+then-not-is_empty, then-is_ended, else-is_ended}
 
-pub returns-then-not-branch-clause-err : goal.returns-then-not-branch-clause-err
-returns-then-not-branch-clause-err c =
-    let none : next_line c.loop-line.self.part c.in-Some.line.now ≡ None =
-    MatchBool-at_false (next_line c.loop-line.self.part c.in-Some.line.now ≡ Some c.accept.new.self) (next_line c.loop-line.self.part c.in-Some.line.now ≡ None) c.if-not-branch.true c.in_ok-accept.ensures in
-    subst (IsAtFault c.args.self.now.part c.args.self.now.number c.args.piece.now) (sym c.fault.ensures)
-    (fault_here c.args.self.now.part c.args.self.now.number c.args.piece.now c.loop-line.self.part c.loop-line.self.number c.loop-line.rest.now c.in-Some.line.now c.in-Some.after.now c.loop-line.invariant c.in-Some.ensures.1 c.in-Some.ensures.0 none)
+pub returns-in_err-take_line-clause-err : goal.returns-in_err-take_line-clause-err
+returns-in_err-take_line-clause-err c =
+    let p = err_from_is_err_and c.from_residual.result c.from_residual.ensures.1 in
+    subst (λ (r : Result ℕ TraceFault). IfErr r (IsAtFault c.args.self.now.built c.args.self.now.draft.part c.args.self.now.number c.args.piece.now)) (sym (p.1 ∙ ap (λ (f : TraceFault). Err f) p.2))
+    (fault_here c.args.self.now.built c.args.self.now.draft.part c.args.self.now.number c.args.piece.now c.loop-line.self.draft c.loop-line.self.number c.loop-line.rest.now c.in-Some.line.now c.in-Some.after.now c.in_err-take_line.field-0.0
+    c.loop-line.invariant.1 c.in-Some.ensures.1 c.in-Some.ensures.0
+    (subst (λ (b : Built). IsLineAtFault b c.loop-line.self.draft.part c.loop-line.self.number c.in-Some.line.now c.in_err-take_line.field-0.0) c.loop-line.invariant.0 c.in_err-take_line.ensures.err))
 
 pub loop-line-preserved : goal.loop-line-preserved
-loop-line-preserved c =
-    let some : next_line c.loop-line.self.part c.in-Some.line.now ≡ Some c.accept.new.self =
-    MatchBool-at_true (next_line c.loop-line.self.part c.in-Some.line.now ≡ Some c.accept.new.self) (next_line c.loop-line.self.part c.in-Some.line.now ≡ None) c.if-not-branch.false c.in_ok-accept.ensures in
-    take_line c.args.self.now.part c.args.self.now.number c.args.piece.now c.loop-line.self.part c.loop-line.self.number c.loop-line.rest.now c.in-Some.line.now c.in-Some.after.now c.accept.new.self c.loop-line.invariant c.in-Some.ensures.1 c.in-Some.ensures.0 some
+loop-line-preserved c = (
+  c.take_line.ensures.built ∙ c.loop-line.invariant.0,
+  take_line c.args.self.now.built c.args.self.now.draft.part c.args.self.now.number c.args.piece.now c.loop-line.self.draft c.loop-line.self.number c.loop-line.rest.now c.in-Some.line.now c.in-Some.after.now c.take_line.new.self.draft c.take_line.new.self.number
+      c.loop-line.invariant.1 c.in-Some.ensures.1 c.in-Some.ensures.0
+      (subst (λ (b : Built). HasTaken b c.loop-line.self.draft c.loop-line.self.number c.in-Some.line.now c.take_line.new.self.draft c.take_line.new.self.number) c.loop-line.invariant.0 c.in_ok-take_line.ensures.ok),
+)
 
 pub returns-then-rest-gt255-clause-err : goal.returns-then-rest-gt255-clause-err
 returns-then-rest-gt255-clause-err c =
-    subst (IsAtFault c.args.self.now.part c.args.self.now.number c.args.piece.now) (sym c.fault-then-rest-gt255.ensures)
-    (elim c.then-rest-gt255.branch [
-      | then-rest-gt255-via-then-rest-gt255 w ↦
-          fault_in_long c.args.self.now.part c.args.self.now.number c.args.piece.now c.loop-line.self.part c.loop-line.self.number c.loop-line.rest.now c.loop-line.invariant c.in_default.ensures (omega arith)
-      | then-rest-gt255-via-else-rest-gt255+then-not-is_empty w ↦
-          elim w.if-is_ended.branch [
-            | then-is_ended v ↦ fault_behind c.args.self.now.part c.args.self.now.number c.args.piece.now c.loop-line.self.part c.loop-line.self.number c.loop-line.rest.now c.loop-line.invariant c.in_default.ensures (w.is_ended.ensures.0 v.if-is_ended.true)
-                (some_bytes c.loop-line.rest.now v.is_empty.result v.is_empty.ensures (sym v.value-is ∙ w.if-not-is_empty.true))
-            | else-is_ended v ↦ absurd (both_ways w.is_ended.result v.if-is_ended.false (sym v.value-is ∙ w.if-not-is_empty.true))
-          ]
-    ])
+    fault_in_long c.args.self.now.built c.args.self.now.draft.part c.args.self.now.number c.args.piece.now c.loop-line.self.draft c.loop-line.self.number c.loop-line.rest.now c.loop-line.invariant.1 c.in_default.ensures c.if-rest-gt255.true

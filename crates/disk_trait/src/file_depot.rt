@@ -1,0 +1,76 @@
+ghost use Rattle.std.specs.Prelude.{◌≡◌, [], IfOk};
+
+use crate::depot::{Depot, MakeFault};
+use crate::file_block::{FileBlock, create_file};
+use std::alloc::{AllocError, Global};
+use std::rt::Files;
+use vm_types::{BlockId, NoMemory};
+
+/// A depot whose blocks are files of 512 bytes in one folder, named by their blocks: `s2_3` is the
+/// block of section 2's page 3, `p7` is block 7 of the page file, and `x0_2` the swap block of
+/// process 0's ring slot 2. It ignores the calls that a block is to fail at.
+#[derive(Drop)]
+pub struct FileDepot<R: Files> {
+    alloc: Global,
+    runtime: R,
+    folder: String,
+    faults: u64,
+    retired: Vec<(BlockId, FileBlock<R>)>,
+}
+
+impl<R: Files + Clone + Drop + Send> FileDepot<R> {
+    /// A depot in that folder, which has not failed and has taken nothing back. It doesn't look
+    /// whether the folder is there.
+    ///
+    /// # Errors
+    /// `NoMemory` for want of memory.
+    pub fn new(alloc: Global, runtime: R, folder: &str) -> Result<FileDepot<R>, NoMemory>
+        ensures retired { IfOk result (λ d. ⟦<FileDepot<R> as Depot>⟧.retired d ≡ []) }
+        ensures faults { IfOk result (λ d. ⟦<FileDepot<R> as Depot>⟧.faults d ≡ 0) }
+    {
+        Ok(FileDepot {
+            alloc,
+            runtime,
+            folder: folder.to_string(alloc)?,
+            faults: 0,
+            retired: Vec::new(alloc),
+        })
+    }
+}
+
+/// The path of a block's file in the folder.
+fn path_of(alloc: Global, folder: &str, id: BlockId) -> Result<String, AllocError> {
+    match id {
+        BlockId::Section(section, page) => format!(in alloc; "{folder}/s{}_{page}", section.0),
+        BlockId::PageFile(block) => format!(in alloc; "{folder}/p{block}"),
+        BlockId::Swap(process, slot) => format!(in alloc; "{folder}/x{}_{slot}", process.0),
+    }
+}
+
+impl<R: Files + Clone + Drop + Send> Depot for FileDepot<R> {
+    type Block = FileBlock<R>;
+
+    ghost retired = { λ d. d.retired.items };
+
+    ghost faults = { λ d. d.faults };
+
+    fn make(
+        &mut self,
+        id: BlockId,
+        bytes: &[u8],
+        _fails: &[u32],
+    ) -> Result<FileBlock<R>, MakeFault> {
+        let runtime = self.runtime.clone()?;
+        let path = path_of(self.alloc, self.folder.as_str(), id)?;
+        if create_file(&runtime, path.as_str(), bytes).is_err() {
+            self.faults = self.faults.saturating_add(1);
+            return Err(MakeFault::Failed);
+        }
+        Ok(FileBlock::new(runtime, path))
+    }
+
+    fn retire(&mut self, id: BlockId, block: FileBlock<R>) -> Result<(), NoMemory> {
+        self.retired.push((id, block))?;
+        Ok(())
+    }
+}

@@ -1,0 +1,16 @@
+pub mod Prefixes
+pub mod Own
+pub mod Sums
+pub mod Facts
+pub mod Ticket
+pub mod Look
+pub mod Publish
+pub mod PassOn
+pub mod Split
+pub mod Join
+pub mod Ranges
+pub mod Ends
+pub mod Entered
+pub mod Left
+pub mod Dealt
+pub mod Places

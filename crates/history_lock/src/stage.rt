@@ -1,0 +1,18 @@
+use std::collections::LinkedList;
+use vm_journal::Entry;
+
+/// Where a pass stands. No value of it is made.
+pub enum Stage {
+    /// It has no ticket.
+    Idle,
+    /// It took in another pass, which had seen this journal.
+    Joined(LinkedList<Entry>),
+    /// It has this ticket, and its turn hasn't come.
+    Waiting(u64),
+    /// Its turn has come, and it holds the value.
+    Holding(u64),
+    /// It has told the journal's new length, and still holds the value.
+    Published(u64),
+    /// Another pass has taken it in.
+    Spent,
+}

@@ -1,0 +1,66 @@
+//! The loops over the lock's words.
+ghost use Rattle.std.specs.Prelude.{◌≡◌, ℕ, ◌+◌, ◌%◌, ◌<◌, ◌≤◌, [], ◌∷◌, length, slice_get, vec_len, vec_capacity, Some, None};
+ghost use Rattle.std.specs.List.{range_with_len};
+ghost use Rattle.history_lock.specs.Known.{Known};
+ghost use Rattle.history_lock.specs.Views.{unseen};
+ghost use Rattle.history_lock.specs.declared.stage.Stage.TheVariants.{Waiting, Holding};
+
+use crate::opening::Opening;
+use crate::pass::Pass;
+use crate::plays::{Cut, Look};
+use crate::turns::Turns;
+use crate::view::View;
+use atomic_table::{Seat, Shared};
+use std::sync::Wait;
+use std::{mem, thread};
+use vm_journal::Kept;
+
+// Looks at the ticket that is served until it is `ticket`, and takes the value.
+pub(crate) fn await_turn<T: Kept, W: Wait>(
+    rt: &W,
+    shared: &Shared<Option<T>, View<T::Base>, Opening<T>, Turns<T>>,
+    seat: &mut Seat<Option<T>, View<T::Base>>,
+    ticket: u64,
+) -> T
+    requires own { seat.old.table_id ≡ shared.now.table_id }
+    requires words { (shared.now.table_id.words ≡ 3) × (shared.now.table_id.slots ≡ 1) }
+    requires waits { (t : ℕ) × (seat.old.me.0.stage ≡ Waiting t) × (t % 18446744073709551616 ≡ ticket) }
+    requires empty { seat.old.me.1 ≡ [] }
+    ensures own { seat.new.table_id ≡ seat.old.table_id }
+    ensures known { Known T.journal T.base result seat.old.me.0 }
+    ensures holds { (t : ℕ) × (seat.new.me ≡ (record seat.old.me.0 { stage = Holding t; seen = T.journal result }, (0, None) ∷ [])) }
+{
+    for _ in rt.forever() {
+        let served = shared.load::<Look<T>>(seat, 1);
+        if served == ticket {
+            let value = shared.exchange(seat, 0, None).unwrap();
+            return value;
+        }
+        thread::yield_now();
+    }
+    unreachable!()
+}
+
+// Cuts the first pass, which owns the numbers below n, into n passes of one number each.
+pub(crate) fn deal<T: Kept>(
+    shared: &Shared<Option<T>, View<T::Base>, Opening<T>, Turns<T>>,
+    seat: Seat<Option<T>, View<T::Base>>,
+    n: u32,
+    passes: &mut Vec<Pass<T>>,
+)
+    requires own { seat.table_id ≡ shared.now.table_id }
+    requires words { shared.now.table_id.words ≡ 3 }
+    requires some_pass { 0 < n }
+    requires room { (passes.old.items ≡ []) × (n ≤ vec_capacity passes.old) }
+    requires all { seat.me ≡ (unseen (range_with_len 0 n) (T.base shared.now.key.value.value), []) }
+    ensures count { length passes.new.items ≡ n }
+    ensures each { (i : ℕ) (pass : _) → slice_get passes.new.items i ≡ Some pass → (pass.seat.table_id ≡ shared.now.table_id) × (pass.seat.me ≡ (unseen (i ∷ []) (T.base shared.now.key.value.value), [])) }
+{
+    let mut rest = seat;
+    for _i in 1..n {
+        let others = shared.split_seat::<Cut>(&mut rest);
+        let first = mem::replace(&mut rest, others);
+        passes.push_reserved(Pass { seat: first });
+    }
+    passes.push_reserved(Pass { seat: rest });
+}

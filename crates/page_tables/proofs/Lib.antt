@@ -1,0 +1,4 @@
+pub mod Bits
+pub mod EntryWords
+pub mod Entries
+pub mod Changes

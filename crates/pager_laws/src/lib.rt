@@ -1,0 +1,10 @@
+//! The laws of the pager's model: legal steps of all sixteen kinds keep soundness, so every run is
+//! sound at each of its prefixes; and what the serial policy gives is in order.
+#![tactic(auto)]
+
+mod laws;
+
+pub use laws::{
+    carriers_balance, counts_are_few, flat_machine_follows, flights_are_open,
+    runs_are_of_configuration, runs_are_sound, serial_is_in_order, steps_keep_soundness,
+};

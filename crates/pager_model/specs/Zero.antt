@@ -1,0 +1,45 @@
+-- ZERO: a demand zero page that isn't charged gets the empty frame at the free list's head. Source:
+-- Kenah and Bate, "VAX/VMS Internals and Data Structures", paging dynamics, demand zero pages; the
+-- charge of a page file block is this project's own.
+use Rattle.std.specs.Prelude.{◌≡◌, ℕ, true, ◌+◌, ◌<◌, ◌∷◌, Option, Some, None, length}
+use Rattle.vm_types.specs.Ring.{filled}
+use Rattle.vm_types.specs.declared.names.FrameState.TheVariants as state
+use Rattle.vm_types.specs.declared.config.Config.{Config}
+use Rattle.vm_types.specs.declared.config.Origin.TheVariants as origin
+use Rattle.page_lists.specs.Lists.{without}
+use Rattle.pager_model.specs.Changes.{valid_at}
+use Rattle.pager_model.specs.Lookups.{count_page}
+use Rattle.pager_model.specs.Maps.{Mapped, page_behind, page_number}
+use Rattle.pager_model.specs.Own.{IsEmptyHead, IsOwn}
+use Rattle.pager_model.specs.Pager.{Pager}
+use Rattle.pager_model.specs.Ring.{placed}
+use Rattle.pager_model.specs.Sets.{at_number}
+
+abbrev pub IsDemandZero : Option Mapped → Type 0
+IsDemandZero None = ⊥
+IsDemandZero (Some m) = m.origin ≡ origin.Zero
+
+pub record IsZero (config : Config) (a : Pager) (p address f : ℕ) : Type 0 where
+  pub own : IsOwn config a p
+  pub demand_zero : IsDemandZero (a.map p (page_number address))
+  pub not_charged : count_page a.charged (page_behind config p (page_number address) origin.Zero) ≡ 0
+  pub room : length a.charged < config.pagefile
+  pub below_limit : filled (a.ring p).slots < a.limit p
+  pub frame : IsEmptyHead a f
+
+-- the page is charged; its frame is active with the modify mark set; its entry is valid and in the
+-- ring's place; one more fault
+abbrev pub after_zero : Config → Pager → ℕ → ℕ → ℕ → Pager
+after_zero config a p address f =
+    let v = page_number address in
+    let g = page_behind config p v origin.Zero in
+    record a {
+      state = at_number a.state f state.Active;
+      page = at_number a.page f (Some g);
+      modify = at_number a.modify f true;
+      free = without a.free f;
+      ring = at_number a.ring p (placed (a.ring p) (a.limit p) v);
+      faults = at_number a.faults p (a.faults p + 1);
+      valid = valid_at p v f ∷ a.valid;
+      charged = g ∷ a.charged;
+    }

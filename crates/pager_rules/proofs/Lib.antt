@@ -1,0 +1,13 @@
+pub mod Basics
+pub mod Frames
+pub mod Lists
+pub mod Pages
+pub mod PlacedRing
+pub mod Put
+pub mod Quiet
+pub mod Rings
+pub mod TouchedPages
+pub mod Transfers
+pub mod Turns
+pub mod Unread
+pub mod Views

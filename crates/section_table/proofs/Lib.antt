@@ -1,0 +1,2 @@
+pub mod Layable
+pub mod TestConfig

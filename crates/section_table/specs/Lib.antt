@@ -1,0 +1,2 @@
+pub mod SectionTable
+pub mod Laying

@@ -1,0 +1,12 @@
+//! The section table: what is behind each page of the processes, and the section block of a page.
+#![tactic(auto)]
+
+mod laying;
+mod part;
+mod sections;
+
+pub use part::{Kind, Part};
+pub use sections::Sections;
+
+#[cfg(test)]
+mod tests;

@@ -1,0 +1,44 @@
+-- The lines that hold numbers of the machine: VMTRACE 1, FRAMES n, PAGEFILE n, PARAM name n, BAD f.
+-- Source: this project's own.
+use Rattle.std.specs.Prelude.{ℕ, Bool, not, ◌==◌, nat_lt, List, [], ◌∷◌, Result, Ok, Err, slice_index_or, false}
+use Rattle.std.specs.List.{list_any}
+use Rattle.vm_types.specs.declared.config.Config.{Config}
+use Rattle.trace_words.specs.declared.cause.Cause.{Cause}
+use Rattle.trace_words.specs.declared.cause.Cause.TheVariants.{Misplaced, OutOfRange, Repeated as AlreadyGiven}
+use Rattle.trace_words.specs.Judged.{◌>>=◌, owed}
+use Rattle.trace_words.specs.Number.{decimal, decimal_within}
+use Rattle.trace_lines.specs.ParamWords.{param_of, least, most, number_of}
+use Rattle.trace_lines.specs.Says.{Says, Version, Frames, PageFile, Param, Bad}
+
+-- VMTRACE 1
+abbrev pub version_line : List (List ℕ) → Result Says Cause
+version_line (n ∷ []) = decimal_within 1 1 n >>= λ _. Ok Version
+version_line other = Err Misplaced
+
+-- FRAMES n
+abbrev pub frames_line : List (List ℕ) → Result Says Cause
+frames_line (n ∷ []) = decimal_within 8 4096 n >>= λ frames. Ok (Frames frames)
+frames_line other = Err Misplaced
+
+-- PAGEFILE n
+abbrev pub pagefile_line : List (List ℕ) → Result Says Cause
+pagefile_line (n ∷ []) = decimal_within 1 16384 n >>= λ blocks. Ok (PageFile blocks)
+pagefile_line other = Err Misplaced
+
+-- PARAM name n, each once
+abbrev pub param_line : List Bool → List (List ℕ) → Result Says Cause
+param_line given (name ∷ n ∷ []) =
+    param_of name >>= λ param. decimal_within (least param) (most param) n >>= λ value.
+    owed (not (slice_index_or given (number_of param) false)) AlreadyGiven (Ok (Param param value))
+param_line given other = Err Misplaced
+
+-- whether the frame is among these
+abbrev pub is_listed : List ℕ → ℕ → Bool
+is_listed frames f = list_any (λ g. g == f) frames
+
+-- BAD f, each once
+abbrev pub bad_line : Config → List (List ℕ) → Result Says Cause
+bad_line config (f ∷ []) =
+    decimal f >>= λ frame. owed (nat_lt frame config.frames) OutOfRange
+    (owed (not (is_listed config.bad frame)) AlreadyGiven (Ok (Bad frame)))
+bad_line config other = Err Misplaced

@@ -1,0 +1,14 @@
+pub mod Places
+pub mod Keywords
+pub mod ParamWords
+pub mod Says
+pub mod Lookups
+pub mod Headers
+pub mod Declarations
+pub mod Mappings
+pub mod Fails
+pub mod Requests
+pub mod Built
+pub mod Grammar
+pub mod Keys
+pub mod Seen

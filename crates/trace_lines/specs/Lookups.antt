@@ -1,0 +1,42 @@
+-- What a word names of what was declared before. Source: this project's own.
+use Rattle.std.specs.Prelude.{ℕ, ◌+◌, ◌*◌, ◌%◌, ◌==◌, Bool, ◌&&◌, ◌||◌, nat_le, nat_lt, bytes_eq, position, slice_get, length, List, Option, Result, Ok, Err}
+use Rattle.std.specs.Option.{option_map_or}
+use Rattle.vm_types.specs.Configuration.{section_pages}
+use Rattle.vm_types.specs.declared.config.ProcSpec.{ProcSpec}
+use Rattle.vm_types.specs.declared.config.Section.{Section}
+use Rattle.trace_words.specs.declared.cause.Cause.{Cause}
+use Rattle.trace_words.specs.declared.cause.Cause.TheVariants.{UnknownWord, NoSuch, Unaligned}
+use Rattle.trace_words.specs.Judged.{◌>>=◌, owed}
+use Rattle.trace_words.specs.Letter.{letter}
+use Rattle.trace_words.specs.Name.{is_name}
+use Rattle.trace_words.specs.Number.{hexadecimal}
+
+-- the process of this letter
+abbrev pub process : List ProcSpec → List ℕ → Result ℕ Cause
+process procs word = letter word >>= λ p. owed (nat_lt p (length procs)) NoSuch (Ok p)
+
+-- the number of the section of this name
+abbrev pub number_named : List Section → List ℕ → Option ℕ
+number_named sections name = position (λ section. bytes_eq section.name name) sections
+
+abbrev pub or_none : Option ℕ → Result ℕ Cause
+or_none found = option_map_or Ok found (Err NoSuch)
+
+abbrev pub section : List Section → List ℕ → Result ℕ Cause
+section sections word = owed (is_name word) UnknownWord (or_none (number_named sections word))
+
+-- the pages and the bytes of the section of this number
+abbrev pub pages_at : List Section → ℕ → ℕ
+pages_at sections s = option_map_or section_pages (slice_get sections s) 0
+
+abbrev pub bytes_at : List Section → ℕ → ℕ
+bytes_at sections s = option_map_or (λ section. length section.bytes) (slice_get sections s) 0
+
+-- an address that is a multiple of this
+abbrev pub aligned : ℕ → List ℕ → Result ℕ Cause
+aligned bytes word = hexadecimal word >>= λ at. owed (at % bytes == 0) Unaligned (Ok at)
+
+-- pages from an address on lie in P0 pages 0 to 4095, or in the last 1024 pages of P1
+abbrev pub is_inside : ℕ → ℕ → Bool
+is_inside at pages =
+    nat_le (at + 512 * pages) 2097152 || (nat_le 2146959360 at && nat_le (at + 512 * pages) 2147483648)

@@ -1,0 +1,46 @@
+-- What the reader keeps so that no line costs more as the trace grows: the bad frames, the mapped
+-- pages and the blocks with failing calls, each under a number of its own. Source: this project's own.
+use Rattle.std.specs.Prelude.{◌≡◌, ℕ, ◌+◌, ◌*◌, ◌%◌, ◌<◌, ◌≤◌, ◌==◌, Bool, ◌&&◌, nat_le, nat_lt, List, All, length, sum_by}
+use Rattle.vm_types.specs.Configuration.{section_pages}
+use Rattle.std.specs.List.{list_any}
+use Rattle.std.specs.Ordering.{nat_cmp}
+use Rattle.std.specs.BTreeSet.{contains}
+use Rattle.vm_types.specs.declared.names.BlockId.{BlockId}
+use Rattle.vm_types.specs.declared.names.BlockId.TheVariants.{Section, PageFile, Swap}
+use Rattle.vm_types.specs.declared.config.Config.{Config}
+use Rattle.vm_types.specs.declared.config.Mapping.{Mapping}
+use Rattle.trace_lines.specs.declared.seen.Seen.{Seen}
+use Rattle.trace_lines.specs.Keys.{page_key, block_key}
+use Rattle.trace_lines.specs.Headers.{is_listed}
+
+-- whether the page is one of the mapping's
+abbrev pub covers : Mapping → ℕ → ℕ → Bool
+covers m p page = ((m.proc).0 == p) && nat_le (m.at).0 (512 * page) && nat_lt (512 * page) ((m.at).0 + 512 * m.pages)
+
+abbrev pub is_mapped : List Mapping → ℕ → ℕ → Bool
+is_mapped maps p page = list_any (λ m. covers m p page) maps
+
+-- exactly what the configuration names
+pub record IsSeen (seen : Seen) (config : Config) : Type 0 where
+  pub bad : (f : ℕ) → contains nat_cmp seen.bad f ≡ is_listed config.bad f
+  pub pages : (p page : ℕ) → page < 8388608 → contains nat_cmp seen.pages (page_key p page) ≡ is_mapped config.maps p page
+  pub blocks : (key : ℕ) → contains nat_cmp seen.blocks key ≡ list_any (λ fails. block_key fails.block == key) config.fails
+
+-- the block has a key of its own
+abbrev pub IsKeyed : BlockId → Type 0
+IsKeyed (Section s page) = (s.0 < 64) × (page < 16384)
+IsKeyed (PageFile b) = b < 1048576
+IsKeyed (Swap p slot) = slot < 1024
+
+-- a mapping of whole pages
+abbrev pub IsPaged : Mapping → Type 0
+IsPaged m = ((m.at).0 % 512 ≡ 0) × (1 ≤ m.pages)
+
+-- the limits on which the keys rest
+pub record IsBounded (config : Config) : Type 0 where
+  pub pagefile : config.pagefile ≤ 16384
+  pub sections : length config.sections ≤ 64
+  pub pages : sum_by section_pages config.sections ≤ 16384
+  pub slots : All (λ spec. spec.extent ≤ 1024) config.procs
+  pub blocks : All (λ fails. IsKeyed fails.block) config.fails
+  pub maps : All IsPaged config.maps

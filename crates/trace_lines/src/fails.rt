@@ -1,0 +1,121 @@
+ghost use Rattle.std.specs.Prelude.{◌≡◌, ◌≤◌, ◌&&◌, nat_le, length, IfOk};
+ghost use Rattle.std.specs.List.{list_any};
+ghost use Rattle.trace_words.specs.BlockWords.{name_of};
+ghost use Rattle.trace_words.specs.Pairs.{held};
+ghost use Rattle.trace_words.specs.Words.{words};
+ghost use Rattle.trace_lines.specs.Fails.{is_same, slots_at, block_named, call_numbers, fail_line};
+ghost use Rattle.trace_lines.specs.Says.{said};
+ghost use Rattle.trace_lines.specs.Seen.{IsSeen, IsBounded, IsKeyed};
+
+use crate::line::Line;
+use crate::lookups::{number_named, pages_at};
+use crate::seen::{Seen, block_key};
+use arrayvec::ArrayVec;
+use trace_words::{BlockName, Cause, block_name, decimal_within, next_word};
+use vm_types::{BlockId, Config, Proc, ProcSpec, SecId};
+
+// The swap blocks of the process of this number.
+fn slots_at(procs: &[ProcSpec], p: u32) -> u32
+    ensures { result ≡ slots_at procs.now p }
+{
+    match procs.get(p as usize) {
+        Some(spec) => spec.extent,
+        None => 0,
+    }
+}
+
+// The block of this name, if it is there.
+fn block_named(config: &Config, name: &BlockName) -> Result<BlockId, Cause>
+    requires { IsBounded config.now }
+    ensures value { result ≡ block_named config.now (name_of name.now) }
+    ensures keyed { IfOk result IsKeyed }
+{
+    match *name {
+        BlockName::Section(name, page) => {
+            let sections = config.sections.items();
+            let Some(s) = number_named(sections, name) else {
+                return Err(Cause::NoSuch);
+            };
+            if (page as usize) < pages_at(sections, s) {
+                Ok(BlockId::Section(SecId(s as u32), page))
+            } else {
+                Err(Cause::NoSuch)
+            }
+        }
+        BlockName::PageFile(b) => {
+            if b < config.pagefile {
+                Ok(BlockId::PageFile(b))
+            } else {
+                Err(Cause::NoSuch)
+            }
+        }
+        BlockName::Swap(p, slot) => {
+            if slot < slots_at(config.procs.items(), p) {
+                Ok(BlockId::Swap(Proc(p), slot))
+            } else {
+                Err(Cause::NoSuch)
+            }
+        }
+    }
+}
+
+// Whether the text has 1 to 16 words.
+fn has_calls(text: &[u8]) -> bool
+    ensures { result ≡ (nat_le 1 (length (words text.now)) && nat_le (length (words text.now)) 16) }
+{
+    let mut count = 0u8;
+    let mut rest = text;
+    while let Some((_, after)) = next_word(rest) {
+        if count >= 16 {
+            return false;
+        }
+        count += 1;
+        rest = after;
+    }
+    count >= 1
+}
+
+// The numbers that the words of the text spell.
+fn call_numbers(text: &[u8]) -> Result<ArrayVec<u32, 16>, Cause>
+    requires { length (words text.now) ≤ 16 }
+    ensures { held result ≡ call_numbers (words text.now) }
+{
+    let mut calls = ArrayVec::new();
+    let mut rest = text;
+    while let Some((word, after)) = next_word(rest) {
+        let n = decimal_within(1, 0xffff_ffff, word)?;
+        calls.push(n);
+        rest = after;
+    }
+    Ok(calls)
+}
+
+// Whether the block was named before.
+fn is_repeated(config: &Config, seen: &Seen, id: BlockId) -> bool
+    requires seen { IsSeen seen.now config.now }
+    requires bounded { IsBounded config.now }
+    requires keyed { IsKeyed id }
+    ensures { result ≡ list_any (λ fails. is_same fails.block id) config.now.fails }
+{
+    seen.blocks.contains(&block_key(id))
+}
+
+pub(crate) fn fail<'a>(config: &Config, seen: &Seen, text: &[u8]) -> Result<Line<'a>, Cause>
+    requires seen { IsSeen seen.now config.now }
+    requires bounded { IsBounded config.now }
+    ensures { said result ≡ fail_line config.now (words text.now) }
+{
+    let Some((name, rest)) = next_word(text) else {
+        return Err(Cause::Misplaced);
+    };
+    if !has_calls(rest) {
+        return Err(Cause::Misplaced);
+    }
+    let name = block_name(name)?;
+    let id = block_named(config, &name)?;
+    let calls = call_numbers(rest)?;
+    if is_repeated(config, seen, id) {
+        return Err(Cause::Repeated);
+    }
+    Ok(Line::Fail(id, calls))
+}

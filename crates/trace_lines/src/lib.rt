@@ -1,0 +1,33 @@
+//! The lines of a trace: what a line says, by what the lines before it declare, or which rule it
+//! breaks first. Nothing here takes memory.
+#![tactic(auto)]
+
+mod built;
+mod declarations;
+mod fails;
+mod first_path;
+mod headers;
+mod judging;
+mod keywords;
+mod line;
+mod lookups;
+mod mappings;
+mod params;
+mod part;
+mod places;
+mod ranges;
+mod requests;
+mod seen;
+
+pub use built::Built;
+pub use judging::judge;
+pub use keywords::Keyword;
+pub use line::Line;
+pub use params::Param;
+pub use part::{DEFAULTS, Part};
+pub use places::Place;
+pub use ranges::{CodedRange, Range, Written};
+pub use seen::{Seen, block_key, page_key};
+
+#[cfg(test)]
+mod tests;

@@ -1,0 +1,36 @@
+use crate::params::Param;
+use arrayvec::ArrayVec;
+use vm_types::{BlockId, Mapping, ProcSpec, Task};
+
+/// What a line says.
+#[derive(Debug, Drop)]
+pub enum Line<'a> {
+    /// Nothing: it is skipped.
+    Nothing,
+    /// VMTRACE 1.
+    Version,
+    /// So many frames.
+    Frames(u32),
+    /// So many blocks of the page file.
+    PageFile(u32),
+    /// A parameter's value.
+    Param(Param, u32),
+    /// A bad frame.
+    Bad(u32),
+    /// A section: its name, whether it is shared, and its pages.
+    Section(&'a [u8], bool, u32),
+    /// Bytes of a section: its number, the place of the first, and the bytes.
+    Data(usize, u32, ArrayVec<u8, 64>),
+    /// The next process.
+    Process(ProcSpec),
+    /// A mapping.
+    Map(Mapping),
+    /// A block and its calls that fail.
+    Fail(BlockId, ArrayVec<u32, 16>),
+    /// The requests follow.
+    Body,
+    /// A request.
+    Request(Task),
+    /// No more requests follow.
+    End,
+}

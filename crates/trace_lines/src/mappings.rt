@@ -1,0 +1,116 @@
+ghost use Rattle.std.specs.Prelude.{◌≡◌, ◌+◌, ◌^◌, ◌%◌, ◌≤◌, ◌<◌, ℕ, true, false, IsTrue, MatchBool};
+ghost use Rattle.std.specs.Ordering.{nat_cmp};
+ghost use Rattle.std.specs.BTreeSet.{contains};
+ghost use Rattle.std.specs.List.{list_any};
+ghost use Rattle.trace_words.specs.Split.{listed};
+ghost use Rattle.trace_lines.specs.Keys.{page_key};
+ghost use Rattle.trace_lines.specs.Lookups.{is_inside};
+ghost use Rattle.trace_lines.specs.Mappings.{overlaps, mapped, mapzero_line, mapsec_line};
+ghost use Rattle.trace_lines.specs.Says.{said};
+ghost use Rattle.trace_lines.specs.Seen.{IsSeen, IsBounded};
+
+use crate::line::Line;
+use crate::lookups::{aligned, is_inside, pages_at, process, section};
+use crate::seen::{Seen, page_key};
+use trace_words::{Cause, Words, decimal, decimal_within, protection};
+use vm_types::{Addr, Config, Mapping, Origin, Proc, SecId};
+
+// Whether one of the pages is mapped already.
+fn has_page(seen: &Seen, proc: u32, first: u32, pages: u32) -> bool
+    requires { first + pages < 2 ^ 32 }
+    ensures { MatchBool result
+        ((k : ℕ) × (k < pages) × (contains nat_cmp seen.now.pages (page_key proc (first + k)) ≡ true))
+        ((k : ℕ) → k < pages → contains nat_cmp seen.now.pages (page_key proc (first + k)) ≡ false) }
+{
+    for k in 0..pages {
+        if seen.pages.contains(&page_key(proc, first + k)) {
+            return true;
+        }
+    }
+    false
+}
+
+// Whether a page of the mapping is mapped already.
+fn is_repeated(config: &Config, seen: &Seen, m: &Mapping) -> bool
+    requires seen { IsSeen seen.now config.now }
+    requires bounded { IsBounded config.now }
+    requires aligned { (m.now.at).0 % 512 ≡ 0 }
+    requires some { 1 ≤ m.now.pages }
+    requires inside { IsTrue (is_inside (m.now.at).0 m.now.pages) }
+    ensures { result ≡ list_any (λ before. overlaps before m.now) config.now.maps }
+{
+    has_page(seen, m.proc.0, m.at.0 / 512, m.pages)
+}
+
+// A mapping inside the regions, of pages that aren't mapped yet.
+fn mapped<'a>(config: &Config, seen: &Seen, m: Mapping) -> Result<Line<'a>, Cause>
+    requires seen { IsSeen seen.now config.now }
+    requires aligned { (m.at).0 % 512 ≡ 0 }
+    requires some { 1 ≤ m.pages }
+    requires bounded { IsBounded config.now }
+    ensures { said result ≡ mapped config.now m }
+{
+    if !is_inside(m.at.0, m.pages) {
+        return Err(Cause::OutOfRange);
+    }
+    if is_repeated(config, seen, &m) {
+        return Err(Cause::Repeated);
+    }
+    Ok(Line::Map(m))
+}
+
+pub(crate) fn mapzero<'a>(config: &Config, seen: &Seen, args: &Words<'a>) -> Result<Line<'a>, Cause>
+    requires seen { IsSeen seen.now config.now }
+    requires bounded { IsBounded config.now }
+    ensures { said result ≡ mapzero_line config.now (listed args.now) }
+{
+    let Words::Four(x, addr, n, prot) = args else {
+        return Err(Cause::Misplaced);
+    };
+    let p = process(config.procs.items(), x)?;
+    let at = aligned(512, addr)?;
+    let pages = decimal_within(1, 4096, n)?;
+    let prot = protection(prot)?;
+    mapped(
+        config,
+        seen,
+        Mapping {
+            proc: Proc(p),
+            at: Addr(at),
+            pages,
+            from: Origin::Zero,
+            prot,
+        },
+    )
+}
+
+pub(crate) fn mapsec<'a>(config: &Config, seen: &Seen, args: &Words<'a>) -> Result<Line<'a>, Cause>
+    requires seen { IsSeen seen.now config.now }
+    requires bounded { IsBounded config.now }
+    ensures { said result ≡ mapsec_line config.now (listed args.now) }
+{
+    let Words::Six(x, addr, n, name, first, prot) = args else {
+        return Err(Cause::Misplaced);
+    };
+    let sections = config.sections.items();
+    let p = process(config.procs.items(), x)?;
+    let at = aligned(512, addr)?;
+    let pages = decimal_within(1, 4096, n)?;
+    let s = section(sections, name)?;
+    let first = decimal(first)?;
+    let prot = protection(prot)?;
+    if first as usize + pages as usize > pages_at(sections, s) {
+        return Err(Cause::OutOfRange);
+    }
+    mapped(
+        config,
+        seen,
+        Mapping {
+            proc: Proc(p),
+            at: Addr(at),
+            pages,
+            from: Origin::Section(SecId(s as u32), first),
+            prot,
+        },
+    )
+}

@@ -1,0 +1,180 @@
+ghost use Rattle.std.specs.Prelude.{◌≡◌, ◌<◌};
+ghost use Rattle.trace_lines.specs.ParamWords.{writer_param, other_param, param_of, least, most, number_of, with_param};
+
+use trace_words::{Cause, is};
+use vm_types::Params;
+
+/// A parameter of the pager.
+#[derive(Clone, Copy, Debug, PartialEq, Eq)]
+pub enum Param {
+    /// PFC, 1 to 8.
+    Pfc,
+    /// HILIMIT, 0 to 16_384.
+    HiLimit,
+    /// LOLIMIT, 0 to 16_384.
+    LoLimit,
+    /// WAITLIMIT, 1 to 16_384.
+    WaitLimit,
+    /// WRTCLUSTER, 1 to 16.
+    WrtCluster,
+    /// FREELIM, 0 to 4096.
+    FreeLim,
+    /// FREEGOAL, 0 to 4096.
+    FreeGoal,
+    /// AWSTIME, 0 to 100_000.
+    AwsTime,
+    /// PFRATH, 0 to 100_000.
+    PfrAtH,
+    /// PFRATL, 0 to 100_000.
+    PfrAtL,
+    /// WSINC, 0 to 1024.
+    WsInc,
+    /// WSDEC, 0 to 1024.
+    WsDec,
+    /// AWSMIN, 2 to 1024.
+    AwsMin,
+    /// BORROWLIM, 0 to 4096.
+    BorrowLim,
+}
+
+// The parameters of clusters and of the lists.
+fn writer_param(word: &[u8]) -> Option<Param>
+    ensures { result ≡ writer_param word.now }
+{
+    if is(word, b"PFC") {
+        Some(Param::Pfc)
+    } else if is(word, b"HILIMIT") {
+        Some(Param::HiLimit)
+    } else if is(word, b"LOLIMIT") {
+        Some(Param::LoLimit)
+    } else if is(word, b"WAITLIMIT") {
+        Some(Param::WaitLimit)
+    } else if is(word, b"WRTCLUSTER") {
+        Some(Param::WrtCluster)
+    } else if is(word, b"FREELIM") {
+        Some(Param::FreeLim)
+    } else if is(word, b"FREEGOAL") {
+        Some(Param::FreeGoal)
+    } else {
+        None
+    }
+}
+
+// The parameters of the adjustment.
+fn other_param(word: &[u8]) -> Option<Param>
+    ensures { result ≡ other_param word.now }
+{
+    if is(word, b"AWSTIME") {
+        Some(Param::AwsTime)
+    } else if is(word, b"PFRATH") {
+        Some(Param::PfrAtH)
+    } else if is(word, b"PFRATL") {
+        Some(Param::PfrAtL)
+    } else if is(word, b"WSINC") {
+        Some(Param::WsInc)
+    } else if is(word, b"WSDEC") {
+        Some(Param::WsDec)
+    } else if is(word, b"AWSMIN") {
+        Some(Param::AwsMin)
+    } else if is(word, b"BORROWLIM") {
+        Some(Param::BorrowLim)
+    } else {
+        None
+    }
+}
+
+/// The parameter of this name.
+///
+/// # Errors
+/// `UnknownWord` if there is none.
+pub(crate) fn param_of(word: &[u8]) -> Result<Param, Cause>
+    ensures { result ≡ param_of word.now }
+{
+    if let Some(param) = writer_param(word) {
+        return Ok(param);
+    }
+    match other_param(word) {
+        Some(param) => Ok(param),
+        None => Err(Cause::UnknownWord),
+    }
+}
+
+impl Param {
+    /// The least value that it may have.
+    pub(crate) fn least(self) -> u32
+        ensures { result ≡ least self }
+    {
+        match self {
+            Param::Pfc | Param::WaitLimit | Param::WrtCluster => 1,
+            Param::AwsMin => 2,
+            _ => 0,
+        }
+    }
+
+    /// The greatest value that it may have.
+    pub(crate) fn most(self) -> u32
+        ensures { result ≡ most self }
+    {
+        match self {
+            Param::Pfc => 8,
+            Param::HiLimit => 16_384,
+            Param::LoLimit => 16_384,
+            Param::WaitLimit => 16_384,
+            Param::WrtCluster => 16,
+            Param::FreeLim => 4096,
+            Param::FreeGoal => 4096,
+            Param::AwsTime => 100_000,
+            Param::PfrAtH => 100_000,
+            Param::PfrAtL => 100_000,
+            Param::WsInc => 1024,
+            Param::WsDec => 1024,
+            Param::AwsMin => 1024,
+            Param::BorrowLim => 4096,
+        }
+    }
+
+    /// Its number, 0 to 13.
+    pub fn number(self) -> usize
+        ensures value { result ≡ number_of self }
+        ensures small { result < 14 }
+    {
+        match self {
+            Param::Pfc => 0,
+            Param::HiLimit => 1,
+            Param::LoLimit => 2,
+            Param::WaitLimit => 3,
+            Param::WrtCluster => 4,
+            Param::FreeLim => 5,
+            Param::FreeGoal => 6,
+            Param::AwsTime => 7,
+            Param::PfrAtH => 8,
+            Param::PfrAtL => 9,
+            Param::WsInc => 10,
+            Param::WsDec => 11,
+            Param::AwsMin => 12,
+            Param::BorrowLim => 13,
+        }
+    }
+
+    /// Sets it.
+    pub fn set(self, params: &mut Params, n: u32)
+        ensures { params.new ≡ with_param self n params.old }
+    {
+        match self {
+            Param::Pfc => params.pfc = n,
+            Param::HiLimit => params.hilimit = n,
+            Param::LoLimit => params.lolimit = n,
+            Param::WaitLimit => params.waitlimit = n,
+            Param::WrtCluster => params.wrtcluster = n,
+            Param::FreeLim => params.freelim = n,
+            Param::FreeGoal => params.freegoal = n,
+            Param::AwsTime => params.awstime = n,
+            Param::PfrAtH => params.pfrath = n,
+            Param::PfrAtL => params.pfratl = n,
+            Param::WsInc => params.wsinc = n,
+            Param::WsDec => params.wsdec = n,
+            Param::AwsMin => params.awsmin = n,
+            Param::BorrowLim => params.borrowlim = n,
+        }
+    }
+}

@@ -1,0 +1,223 @@
+ghost use Rattle.std.specs.Prelude.{◌≡◌};
+ghost use Rattle.trace_words.specs.Split.{listed};
+ghost use Rattle.trace_words.specs.Words.{words};
+ghost use Rattle.trace_lines.specs.Requests.{params_agree, has_frames, body_line, end_line, asked_by, referred, read_line, reference_line, adjust_line, service_line, by_verb, request_line};
+ghost use Rattle.trace_lines.specs.Says.{said};
+
+use crate::line::Line;
+use crate::lookups::{aligned, process};
+use crate::ranges::{bytes_of, coded_range_of, range_of, write_of};
+use trace_words::{Access, Cause, ServiceName, Verb, Words, decimal, next_word, verb_of, words_of};
+use vm_types::{Addr, Config, Mode, Op, Params, Proc, Ref, Request, Service, Task, Width};
+
+fn params_agree(params: &Params) -> bool
+    ensures { result ≡ params_agree params.now }
+{
+    params.lolimit <= params.hilimit
+        && params.hilimit <= params.waitlimit
+        && params.freelim <= params.freegoal
+}
+
+// Whether each process alone has a frame to spare beside the page at hand.
+fn has_frames(config: &Config) -> bool
+    ensures { result ≡ has_frames config.now }
+{
+    let bad = config.bad.items().len() as u64;
+    let frames = u64::from(config.frames);
+    config
+        .procs
+        .items()
+        .iter()
+        .all(|spec| u64::from(spec.extent) + bad + 2 <= frames)
+}
+
+pub(crate) fn body<'a>(config: &Config, args: &Words<'a>) -> Result<Line<'a>, Cause>
+    ensures { said result ≡ body_line config.now (listed args.now) }
+{
+    let Words::Zero = args else {
+        return Err(Cause::Misplaced);
+    };
+    if config.procs.items().is_empty() {
+        return Err(Cause::Misplaced);
+    }
+    if !params_agree(&config.params) || !has_frames(config) {
+        return Err(Cause::OutOfRange);
+    }
+    Ok(Line::Body)
+}
+
+pub(crate) fn end<'a>(args: &Words<'a>) -> Result<Line<'a>, Cause>
+    ensures { said result ≡ end_line (listed args.now) }
+{
+    let Words::Zero = args else {
+        return Err(Cause::Misplaced);
+    };
+    Ok(Line::End)
+}
+
+fn asked_by<'a>(config: &Config, p: u32, request: Request) -> Result<Line<'a>, Cause>
+    ensures { said result ≡ asked_by config.now p request }
+{
+    if config.body.items().len() >= 100_000 {
+        return Err(Cause::TooMany);
+    }
+    Ok(Line::Request(Task {
+        proc: Proc(p),
+        request,
+    }))
+}
+
+fn referred<'a>(config: &Config, p: u32, mode: Mode, at: u32, op: Op) -> Result<Line<'a>, Cause>
+    ensures { said result ≡ referred config.now p mode at op }
+{
+    let addr = Addr(at);
+    asked_by(config, p, Request::Reference(Ref { mode, addr, op }))
+}
+
+fn read<'a>(
+    config: &Config,
+    x: &[u8],
+    mode: Mode,
+    width: Width,
+    args: &Words,
+) -> Result<Line<'a>, Cause>
+    ensures { said result ≡ read_line config.now x.now mode width (listed args.now) }
+{
+    let Words::One(addr) = args else {
+        return Err(Cause::Misplaced);
+    };
+    let p = process(config.procs.items(), x)?;
+    let at = aligned(bytes_of(width), addr)?;
+    referred(config, p, mode, at, Op::Read(width))
+}
+
+fn reference<'a>(
+    config: &Config,
+    x: &[u8],
+    mode: Mode,
+    access: Access,
+    args: &Words,
+) -> Result<Line<'a>, Cause>
+    ensures { said result ≡ reference_line config.now x.now mode access (listed args.now) }
+{
+    match access {
+        Access::Read(width) => read(config, x, mode, width, args),
+        Access::Write(width) => {
+            let w = write_of(config, x, width, args)?;
+            referred(config, w.proc, mode, w.at, Op::Write(width, w.value))
+        }
+        Access::Add => {
+            let w = write_of(config, x, Width::Four, args)?;
+            referred(config, w.proc, mode, w.at, Op::Add(w.value))
+        }
+    }
+}
+
+fn adjust<'a>(config: &Config, x: &[u8], args: &Words) -> Result<Line<'a>, Cause>
+    ensures { said result ≡ adjust_line config.now x.now (listed args.now) }
+{
+    let Words::One(limit) = args else {
+        return Err(Cause::Misplaced);
+    };
+    let p = process(config.procs.items(), x)?;
+    let limit = decimal(limit)?;
+    asked_by(config, p, Request::Service(Service::Adjust { limit }))
+}
+
+fn service<'a>(
+    config: &Config,
+    x: &[u8],
+    name: ServiceName,
+    args: &Words,
+) -> Result<Line<'a>, Cause>
+    ensures { said result ≡ service_line config.now x.now name (listed args.now) }
+{
+    match name {
+        ServiceName::Create => {
+            let r = coded_range_of(config, x, args)?;
+            let at = Addr(r.at);
+            let (pages, prot) = (r.pages, r.prot);
+            asked_by(
+                config,
+                r.proc,
+                Request::Service(Service::Create { at, pages, prot }),
+            )
+        }
+        ServiceName::Protect => {
+            let r = coded_range_of(config, x, args)?;
+            let at = Addr(r.at);
+            let (pages, prot) = (r.pages, r.prot);
+            asked_by(
+                config,
+                r.proc,
+                Request::Service(Service::Protect { at, pages, prot }),
+            )
+        }
+        ServiceName::Delete => {
+            let r = range_of(config, x, args)?;
+            let (at, pages) = (Addr(r.at), r.pages);
+            asked_by(
+                config,
+                r.proc,
+                Request::Service(Service::Delete { at, pages }),
+            )
+        }
+        ServiceName::Lock => {
+            let r = range_of(config, x, args)?;
+            let (at, pages) = (Addr(r.at), r.pages);
+            asked_by(
+                config,
+                r.proc,
+                Request::Service(Service::Lock { at, pages }),
+            )
+        }
+        ServiceName::Unlock => {
+            let r = range_of(config, x, args)?;
+            let (at, pages) = (Addr(r.at), r.pages);
+            asked_by(
+                config,
+                r.proc,
+                Request::Service(Service::Unlock { at, pages }),
+            )
+        }
+        ServiceName::Purge => {
+            let r = range_of(config, x, args)?;
+            let (at, pages) = (Addr(r.at), r.pages);
+            asked_by(
+                config,
+                r.proc,
+                Request::Service(Service::Purge { at, pages }),
+            )
+        }
+        ServiceName::Adjust => adjust(config, x, args),
+    }
+}
+
+fn by_verb<'a>(
+    config: &Config,
+    x: &[u8],
+    verb: Option<Verb>,
+    args: &Words,
+) -> Result<Line<'a>, Cause>
+    ensures { said result ≡ by_verb config.now x.now (listed args.now) verb }
+{
+    match verb {
+        None => {
+            process(config.procs.items(), x)?;
+            Err(Cause::UnknownWord)
+        }
+        Some(Verb::Op(op)) => reference(config, x, op.mode, op.access, args),
+        Some(Verb::Service(name)) => service(config, x, name, args),
+    }
+}
+
+/// A request of the process of this letter, by the text behind it.
+pub(crate) fn request<'a>(config: &Config, x: &[u8], text: &[u8]) -> Result<Line<'a>, Cause>
+    ensures { said result ≡ request_line config.now x.now (words text.now) }
+{
+    let Some((second, rest)) = next_word(text) else {
+        return Err(Cause::Misplaced);
+    };
+    let args = words_of(rest);
+    by_verb(config, x, verb_of(second), &args)
+}

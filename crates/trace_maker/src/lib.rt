@@ -1,0 +1,11 @@
+//! Made traces: configurations that are drawn from a seed.
+#![tactic(auto)]
+
+mod draws;
+mod machine;
+mod make;
+
+pub use make::make_trace;
+
+#[cfg(test)]
+mod tests;

@@ -1,0 +1,82 @@
+ghost use Rattle.std.specs.Prelude.{◌≡◌, ◌≤◌, IfOk};
+ghost use Rattle.trace_maker.specs.Made.{pattern, made_section, made_sections, made_process, made_procs, made_map, made_maps};
+
+use std::alloc::Global;
+use vm_types::{Addr, Listed, Mapping, NoMemory, Origin, Proc, ProcSpec, SecId, Section};
+
+// The first bytes of a section.
+#[tactic(auto, using(crate::proofs::Growing::pattern_none, crate::proofs::Growing::pattern_more))]
+fn bytes_of(alloc: Global, count: u32) -> Result<Listed<u8>, NoMemory>
+    ensures { IfOk result (λ bytes. bytes ≡ pattern count) }
+{
+    let mut bytes = Listed::new(alloc);
+    for n in 0..count {
+        bytes.push(((n / 512 + n % 512) % 256) as u8)?;
+    }
+    Ok(bytes)
+}
+
+fn section(alloc: Global, name: &[u8], shared: bool, pages: u32) -> Result<Section, NoMemory>
+    requires { pages ≤ 256 }
+    ensures { IfOk result (λ section. section ≡ made_section name.now shared pages) }
+{
+    Ok(Section {
+        name: Listed::of(name.to_vec(alloc)?),
+        shared,
+        bytes: bytes_of(alloc, 512 * pages)?,
+    })
+}
+
+/// The sections LIB and IMG.
+pub(crate) fn sections(alloc: Global) -> Result<Listed<Section>, NoMemory>
+    ensures { IfOk result (λ sections. sections ≡ made_sections) }
+{
+    let mut sections = Listed::new(alloc);
+    sections.push(section(alloc, b"LIB", true, 256)?)?;
+    sections.push(section(alloc, b"IMG", false, 64)?)?;
+    Ok(sections)
+}
+
+/// So many processes.
+#[tactic(auto, using(crate::proofs::Growing::procs_none, crate::proofs::Growing::procs_more))]
+pub(crate) fn processes(alloc: Global, count: u32) -> Result<Listed<ProcSpec>, NoMemory>
+    ensures { IfOk result (λ procs. procs ≡ made_procs count) }
+{
+    let mut procs = Listed::new(alloc);
+    for n in 0..count {
+        procs.push(ProcSpec {
+            limit: 48,
+            quota: 64,
+            extent: 80,
+            locks: 8,
+        })?;
+    }
+    Ok(procs)
+}
+
+fn mapping(p: u32, at: u32, pages: u32, from: Origin) -> Mapping
+    ensures { result ≡ made_map p at pages from }
+{
+    Mapping {
+        proc: Proc(p),
+        at: Addr(at),
+        pages,
+        from,
+        prot: 4,
+    }
+}
+
+/// What each of so many processes maps.
+#[tactic(auto, using(crate::proofs::Growing::maps_none, crate::proofs::Growing::maps_more))]
+pub(crate) fn mappings(alloc: Global, count: u32) -> Result<Listed<Mapping>, NoMemory>
+    ensures { IfOk result (λ maps. maps ≡ made_maps count) }
+{
+    let mut maps = Listed::new(alloc);
+    for p in 0..count {
+        maps.push(mapping(p, 0, 256, Origin::Zero))?;
+        maps.push(mapping(p, 0x4_0000, 256, Origin::Section(SecId(0), 0)))?;
+        maps.push(mapping(p, 0x8_0000, 64, Origin::Section(SecId(1), 0)))?;
+        maps.push(mapping(p, 0x7fff_c000, 32, Origin::Zero))?;
+    }
+    Ok(maps)
+}

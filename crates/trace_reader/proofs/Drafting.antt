@@ -1,0 +1,191 @@
+-- The declarations so far keep what makes a configuration well formed.
+use Rattle.std.proofs.Common.{◌≡◌, ◌≢◌, ℕ, zero, suc, ◌+◌, ◌<◌, ◌≤◌, true, leb, ◌&&◌, List, [], ◌∷◌, length, Some, Ok, refl, ap, subst, arith, lit≤}
+use Rattle.std.specs.Prelude.{IfOk, AllPairs, sum_by, slice_get}
+use Rattle.std.specs.List.{list_all, AllByRecursion}
+use Rattle.std.proofs.lemmas.Bool.{and_parts, leb-true}
+use Rattle.std.proofs.lemmas.List.Elements.{All-nil, All-weaker, All-from_recursion, recursion_from_All}
+use Rattle.std.proofs.lemmas.Option.{slice_get_within}
+use Rattle.vm_types.specs.Configuration.{AreParams, IsProcess, IsSection, IsMapping, AreApart, IsBlock, AreFails, IsTask, IsWellFormed, section_pages}
+use Rattle.vm_types.specs.declared.config.Config.{Config}
+use Rattle.vm_types.specs.declared.config.Fails.{Fails}
+use Rattle.vm_types.specs.declared.config.Mapping.{Mapping}
+use Rattle.vm_types.specs.declared.config.Params.{Params}
+use Rattle.vm_types.specs.declared.config.ProcSpec.{ProcSpec}
+use Rattle.vm_types.specs.declared.config.Section.{Section as Held}
+use Rattle.vm_types.specs.declared.config.Task.{Task}
+use Rattle.vm_types.specs.declared.names.BlockId.{BlockId}
+use Rattle.vm_types.specs.declared.names.BlockId.TheVariants as block
+use Rattle.trace_lines.specs.declared.built.Built.{Built}
+use Rattle.trace_lines.specs.declared.built.Built.TheVariants.{FirstPath, All as Whole}
+use Rattle.trace_lines.specs.declared.part.Part.{Part}
+use Rattle.trace_lines.specs.declared.places.Place.{Place}
+use Rattle.trace_lines.specs.declared.places.Place.TheVariants.{Ended}
+use Rattle.trace_lines.specs.Grammar.{judged}
+use Rattle.trace_lines.specs.Places.{rank}
+use Rattle.trace_lines.specs.Requests.{params_agree}
+use Rattle.trace_lines.specs.Says.{Says}
+use Rattle.trace_lines.specs.Seen.{IsBounded, IsKeyed, IsPaged}
+use Rattle.trace_reader.specs.Accepted.{IsRead, IsAccepted, IsAcceptedRequest, AreAcceptedMaps}
+use Rattle.trace_reader.specs.Changes.{start, changed}
+use Rattle.trace_reader.specs.Drafts.{AreInRange, AreSound, IsPlaced, AreMapsOf, IsRunnable, IsRunnableBy, IsDraft}
+use Rattle.trace_reader.specs.Meaning.{next_line}
+use Rattle.trace_reader.specs.Right.{IsRight, IsOrdered}
+use Rattle.trace_reader.proofs.Giving.{bind_gives}
+use Rattle.trace_reader.proofs.Judged.{IsJudged, judged_gives, at_ok}
+use Rattle.trace_reader.proofs.SoundNext.{sound_next}
+use Rattle.trace_reader.proofs.PlacedNext.{placed_next}
+use Rattle.trace_reader.proofs.RunnableNext.{runnable_by}
+use Rattle.trace_reader.proofs.Listing.{page_of_all}
+
+-- before the first line
+
+no_pairs : {X : Type 0} (R : X → X → Type 0) → AllPairs R []
+no_pairs R i j d lt bound = absurd (omega (arith, bound))
+
+start_sound : AreSound start.config
+start_sound = record {
+  frames = lit≤ tt;
+  bad = All-nil (λ f. f < 0);
+  bad_differ = no_pairs (λ f g. f ≢ g);
+  pagefile = lit≤ tt;
+  params = record { pfc = (lit≤ tt, lit≤ tt); hilimit = lit≤ tt; lolimit = lit≤ tt; waitlimit = (lit≤ tt, lit≤ tt); wrtcluster = (lit≤ tt, lit≤ tt); freelim = lit≤ tt; freegoal = lit≤ tt; awstime = lit≤ tt; pfrath = lit≤ tt; pfratl = lit≤ tt; wsinc = lit≤ tt; wsdec = lit≤ tt; awsmin = (lit≤ tt, lit≤ tt); borrowlim = lit≤ tt };
+  sections = record { few = lit≤ tt; pages = lit≤ tt; each = All-nil IsSection; differ = no_pairs (λ (s : Held) (t : Held). s.name ≢ t.name) };
+  few_procs = lit≤ tt;
+  procs = All-nil IsOrdered;
+  maps = All-nil (IsMapping 0 []);
+  maps_apart = no_pairs AreApart;
+  fails = All-nil (AreFails start.config);
+  fails_differ = no_pairs (λ (a : Fails) (b : Fails). a.block ≢ b.block);
+  few_tasks = lit≤ tt;
+  body = All-nil (IsTask 0);
+}
+
+start_placed : IsPlaced 0 start.config
+start_placed = record { no_bad = λ h. refl; no_fails = λ h. refl; frames = λ h. absurd (omega (arith, h)); pagefile = λ h. absurd (omega (arith, h)); some_process = λ h. absurd (omega (arith, h)); agree = λ h. absurd (omega (arith, h)); room = λ h. absurd (omega (arith, h)) }
+
+start_runnable : (built : Built) → IsRunnableBy built start.config
+start_runnable FirstPath = record { frames = lit≤ tt; bad = refl; params = refl; sections = refl; procs = lit≤ tt; maps = tt; fails = refl; body = All-nil (λ (task : Task). IsAcceptedRequest task.request) }
+start_runnable Whole = tt
+
+pub start_draft : (built : Built) → IsDraft built start
+start_draft built = record { sound = start_sound; placed = start_placed; runnable = start_runnable built }
+
+-- the limits on which the keys rest
+
+extent_at : (procs : List ProcSpec) (k : ℕ) (x : ProcSpec) → AllByRecursion IsOrdered procs → slice_get procs k ≡ Some x → x.extent ≤ 1024
+extent_at [] k x each e = absurd cc
+extent_at (y ∷ procs) zero x each e = let same : y ≡ x = cc in subst (λ (z : ProcSpec). z.extent ≤ 1024) same each.0.most
+extent_at (y ∷ procs) (suc k) x each e = extent_at procs k x each.1 e
+
+keyed : (c : Config) → AreSound c → (id : BlockId) → IsBlock c id → IsKeyed id
+keyed c s (block.Section k page) h =
+    let few : length c.sections ≤ 64 = s.sections.few in
+    let pages : sum_by section_pages c.sections ≤ 16384 = s.sections.pages in
+    let there = slice_get_within c.sections k.0 h.0 h.1 in
+    let most = page_of_all c.sections k.0 h.0 h.1 in
+    (omega (arith, there, few), omega (arith, h.2, most, pages))
+keyed c s (block.PageFile b) h = omega (arith, h, s.pagefile)
+keyed c s (block.Swap p n) h =
+    let there = slice_get_within c.procs p.0 h.0 h.1 in
+    omega (arith, h.2, extent_at c.procs p.0 h.0 (recursion_from_All IsOrdered c.procs s.procs) h.1)
+
+pub bounded : (built : Built) (part : Part) → IsDraft built part → IsBounded part.config
+bounded built part d =
+    let s = d.sound in
+    record {
+      pagefile = s.pagefile;
+      sections = s.sections.few;
+      pages = s.sections.pages;
+      slots = All-weaker IsOrdered (λ spec. spec.extent ≤ 1024) (λ spec h. h.most) part.config.procs s.procs;
+      blocks = All-weaker (AreFails part.config) (λ f. IsKeyed f.block) (λ f h. keyed part.config s f.block h.block) part.config.fails s.fails;
+      maps = All-weaker (IsMapping (length part.config.procs) part.config.sections) IsPaged (λ m h. (h.range.aligned, h.range.some)) part.config.maps s.maps;
+    }
+
+-- the next line
+
+pub right_line : (built : Built) (number : ℕ) (part : Part) (line : List ℕ) (said : Says) → judged built number part line ≡ Ok said → IsRight part said × (number ≤ 200000)
+right_line built number part line said e =
+    let h = at_ok (judged built number part line) said (IsJudged built number part) (judged_gives built number part line) e in
+    (h.right, h.few)
+
+next_keeps : (built : Built) (number : ℕ) (part : Part) (line : List ℕ) → IsDraft built part → IfOk (next_line built number part line) (λ next. IsDraft built next × (number ≤ 200000))
+next_keeps built number part line d =
+    bind_gives (judged built number part line) (λ said. Ok (changed part said)) (IsJudged built number part) (λ next. IsDraft built next × (number ≤ 200000)) (judged_gives built number part line) (λ said h.
+    (record { sound = sound_next part said d.sound d.placed h.right; placed = placed_next part said d.placed h.right; runnable = runnable_by built part said d.runnable h.right h.built_yet }, h.few))
+
+pub next_draft : (built : Built) (number : ℕ) (part next : Part) (line : List ℕ) → IsDraft built part → next_line built number part line ≡ Ok next → IsDraft built next
+next_draft built number part next line d e = (at_ok (next_line built number part line) next (λ next. IsDraft built next × (number ≤ 200000)) (next_keeps built number part line d) e).0
+
+pub next_number : (built : Built) (number : ℕ) (part next : Part) (line : List ℕ) → IsDraft built part → next_line built number part line ≡ Ok next → number ≤ 200000
+next_number built number part next line d e = (at_ok (next_line built number part line) next (λ next. IsDraft built next × (number ≤ 200000)) (next_keeps built number part line d) e).1
+
+-- after END
+
+whole_params : (params : Params) → AreInRange params → params_agree params ≡ true → AreParams params
+whole_params params s e =
+    let a = leb params.lolimit params.hilimit in
+    let b = leb params.hilimit params.waitlimit in
+    let c = leb params.freelim params.freegoal in
+    let ab = and_parts (a && b) c e in
+    let a_b = and_parts a b ab.0 in
+    record { pfc = s.pfc; hilimit = s.hilimit; lolimit = leb-true params.lolimit params.hilimit a_b.0; waitlimit = s.waitlimit; wait_above = leb-true params.hilimit params.waitlimit a_b.1; wrtcluster = s.wrtcluster; freelim = leb-true params.freelim params.freegoal ab.1; freegoal = s.freegoal; awstime = s.awstime; pfrath = s.pfrath; pfratl = s.pfratl; wsinc = s.wsinc; wsdec = s.wsdec; awsmin = s.awsmin; borrowlim = s.borrowlim }
+
+whole_procs : (frames bad : ℕ) (procs : List ProcSpec) → AllByRecursion IsOrdered procs → list_all (λ spec. leb (spec.extent + bad + 2) frames) procs ≡ true → AllByRecursion (IsProcess frames bad) procs
+whole_procs frames bad [] each e = tt
+whole_procs frames bad (spec ∷ procs) each e =
+    let both = and_parts (leb (spec.extent + bad + 2) frames) (list_all (λ (x : ProcSpec). leb (x.extent + bad + 2) frames) procs) e in
+    let s = each.0 in
+    (record { locks = s.locks; quota = s.quota; extent = s.extent; most = s.most; room = leb-true (spec.extent + bad + 2) frames both.0 }, whole_procs frames bad procs each.1 both.1)
+
+pub whole : (c : Config) → AreSound c → IsPlaced 5 c → IsWellFormed c
+whole c s p = record {
+  frames = (p.frames (lit≤ tt), s.frames);
+  bad = s.bad;
+  bad_differ = s.bad_differ;
+  pagefile = (p.pagefile (lit≤ tt), s.pagefile);
+  params = whole_params c.params s.params (p.agree (lit≤ tt));
+  sections = s.sections;
+  some_process = (p.some_process (lit≤ tt), s.few_procs);
+  procs = All-from_recursion (IsProcess c.frames (length c.bad)) c.procs (whole_procs c.frames (length c.bad) c.procs (recursion_from_All IsOrdered c.procs s.procs) (p.room (lit≤ tt)));
+  maps = s.maps;
+  maps_apart = s.maps_apart;
+  fails = s.fails;
+  fails_differ = s.fails_differ;
+  few_tasks = s.few_tasks;
+  body = s.body;
+}
+
+one_process : (procs : List ProcSpec) → 1 ≤ length procs → length procs ≤ 1 → (spec : ProcSpec) × (procs ≡ spec ∷ [])
+one_process [] some few = absurd (omega (arith, some))
+one_process (spec ∷ []) some few = (spec, refl)
+one_process (spec ∷ other ∷ more) some few = absurd (omega (arith, few))
+
+its_maps : (spec : ProcSpec) (maps : List Mapping) → AreMapsOf (spec ∷ []) maps → AreAcceptedMaps spec maps
+its_maps spec [] h = tt
+its_maps spec (m ∷ []) h = h
+its_maps spec (m ∷ n ∷ more) h = absurd h
+
+accepted : (c : Config) → IsWellFormed c → IsRunnable c → IsAccepted c
+accepted c w s =
+    let one = one_process c.procs w.some_process.0 s.procs in
+    let count : length c.procs ≡ 1 = ap (λ (ps : List ProcSpec). length ps) one.1 in
+    record {
+      well_formed = w;
+      frames = s.frames;
+      bad = s.bad;
+      params = s.params;
+      sections = s.sections;
+      spec = one.0;
+      procs = one.1;
+      maps = its_maps one.0 c.maps (subst (λ (ps : List ProcSpec). AreMapsOf ps c.maps) one.1 s.maps);
+      fails = s.fails;
+      body = λ k d lt. (let task = w.body k d lt in let there = task.proc in record { proc = omega (arith, there, count); request = s.body k d lt });
+    }
+
+read_by : (built : Built) (c : Config) → IsWellFormed c → IsRunnableBy built c → IsRead built c
+read_by FirstPath c w s = accepted c w s
+read_by Whole c w s = w
+
+pub read_whole : (built : Built) (part : Part) → IsDraft built part → part.place ≡ Ended → IsRead built part.config
+read_whole built part d e =
+    read_by built part.config (whole part.config d.sound (subst (λ (p : Place). IsPlaced (rank p) part.config) e d.placed)) d.runnable

@@ -1,0 +1,81 @@
+-- What a line that breaks no rule says fits the declarations, and stands there.
+use Rattle.std.proofs.Common.{◌≡◌, ℕ, ◌≤◌, true, eqb, leb, List, [], ◌∷◌, length, Option, Some, None, Result, Ok, refl, sym, subst, ◌∙◌}
+use Rattle.std.specs.Prelude.{IfOk}
+use Rattle.std.specs.List.{list_all}
+use Rattle.std.proofs.lemmas.Bool.{leb-true, eqb-true}
+use Rattle.trace_words.specs.declared.cause.Cause.{Cause}
+use Rattle.trace_words.specs.declared.cause.Cause.TheVariants.{Misplaced}
+use Rattle.trace_words.specs.Judged.{owed}
+use Rattle.trace_words.specs.Words.{words}
+use Rattle.trace_lines.specs.declared.built.Built.{Built}
+use Rattle.trace_lines.specs.declared.keywords.Keyword.{Keyword}
+use Rattle.trace_lines.specs.declared.keywords.Keyword.TheVariants.{Version, Frames, PageFile, Param, Bad, Section, Data, Process, MapZero, MapSection, Fail, Body, End}
+use Rattle.trace_lines.specs.declared.part.Part.{Part}
+use Rattle.trace_lines.specs.declared.places.Place.TheVariants.{Requests}
+use Rattle.trace_lines.specs.Built.{is_built}
+use Rattle.trace_lines.specs.Grammar.{by_keyword, placed, is_letter, is_comment, by_first, by_words, content, is_text, read, judged}
+use Rattle.trace_lines.specs.Keywords.{keyword_of, place_of}
+use Rattle.trace_lines.specs.Places.{rank}
+use Rattle.trace_lines.specs.Requests.{request_line}
+use Rattle.trace_lines.specs.Says.{Says, Nothing}
+use Rattle.trace_reader.specs.Right.{IsRight}
+use Rattle.trace_reader.proofs.Giving.{owed_gives, bind_gives, if_gives, weaker}
+use Rattle.trace_reader.proofs.LinesRight.{Gives, version_gives, frames_gives, pagefile_gives, param_gives, bad_gives, section_gives, data_gives, process_gives, mapzero_gives, mapsec_gives, fail_gives, body_gives, end_gives, request_gives}
+
+keyword_gives : (part : Part) (args : List (List ℕ)) (keyword : Keyword) → IfOk (by_keyword part args keyword) (Gives part (rank (place_of keyword)))
+keyword_gives part args Version = version_gives part args
+keyword_gives part args Frames = frames_gives part args
+keyword_gives part args PageFile = pagefile_gives part args
+keyword_gives part args Param = param_gives part args
+keyword_gives part args Bad = bad_gives part args
+keyword_gives part args Section = section_gives part args
+keyword_gives part args Data = data_gives part args
+keyword_gives part args Process = process_gives part args
+keyword_gives part args MapZero = mapzero_gives part args
+keyword_gives part args MapSection = mapsec_gives part args
+keyword_gives part args Fail = fail_gives part args
+keyword_gives part args Body = body_gives part args
+keyword_gives part args End = end_gives part args
+
+stands : (part : Part) (place : ℕ) (said : Says) → rank part.place ≡ place → Gives part place said → IsRight part said
+stands part place said e g = record { here = e ∙ sym g.1; fits = g.0 }
+
+placed_gives : (part : Part) (args : List (List ℕ)) (keyword : Option Keyword) → IfOk (placed part args keyword) (IsRight part)
+placed_gives part args None = tt
+placed_gives part args (Some keyword) =
+    owed_gives (eqb (rank part.place) (rank (place_of keyword))) _ (by_keyword part args keyword) (IsRight part) (λ e.
+    weaker (by_keyword part args keyword) (Gives part (rank (place_of keyword))) (IsRight part) (keyword_gives part args keyword) (λ said g. stands part (rank (place_of keyword)) said (eqb-true (rank part.place) (rank (place_of keyword)) e) g))
+
+letter_gives : (part : Part) (first : List ℕ) (args : List (List ℕ)) → IfOk (owed (eqb (rank part.place) (rank Requests)) Misplaced (request_line part.config first args)) (IsRight part)
+letter_gives part first args =
+    owed_gives (eqb (rank part.place) 4) _ (request_line part.config first args) (IsRight part) (λ e.
+    weaker (request_line part.config first args) (Gives part 4) (IsRight part) (request_gives part first args) (λ said g. stands part 4 said (eqb-true (rank part.place) 4 e) g))
+
+first_gives : (part : Part) (first : List ℕ) (args : List (List ℕ)) → IfOk (by_first part first args) (IsRight part)
+first_gives part first args =
+    if_gives (is_comment first) (Ok Nothing) _ (IsRight part) (record { here = refl; fits = tt })
+    (if_gives (is_letter first) _ (placed part args (keyword_of first)) (IsRight part) (letter_gives part first args) (placed_gives part args (keyword_of first)))
+
+words_give : (part : Part) (all : List (List ℕ)) → IfOk (by_words part all) (IsRight part)
+words_give part [] = record { here = refl; fits = tt }
+words_give part (first ∷ args) = first_gives part first args
+
+-- what a judged line says
+pub record IsJudged (built : Built) (number : ℕ) (part : Part) (said : Says) : Type 0 where
+  pub right : IsRight part said
+  pub few : number ≤ 200000
+  pub built_yet : is_built built part.config said ≡ true
+
+read_gives : (number : ℕ) (part : Part) (line : List ℕ) → IfOk (read number part line) (λ said. IsRight part said × (number ≤ 200000))
+read_gives number part line =
+    owed_gives (leb (length line) 255) _ _ (λ said. IsRight part said × (number ≤ 200000)) (λ _. owed_gives (list_all is_text (content line)) _ _ (λ said. IsRight part said × (number ≤ 200000)) (λ _.
+    owed_gives (leb number 200000) _ (by_words part (words (content line))) (λ said. IsRight part said × (number ≤ 200000)) (λ e.
+    weaker (by_words part (words (content line))) (IsRight part) (λ said. IsRight part said × (number ≤ 200000)) (words_give part (words (content line))) (λ said r. (r, leb-true number 200000 e)))))
+
+pub judged_gives : (built : Built) (number : ℕ) (part : Part) (line : List ℕ) → IfOk (judged built number part line) (IsJudged built number part)
+judged_gives built number part line =
+    bind_gives (read number part line) _ (λ said. IsRight part said × (number ≤ 200000)) (IsJudged built number part) (read_gives number part line) (λ said h.
+    owed_gives (is_built built part.config said) _ (Ok said) (IsJudged built number part) (λ e. record { right = h.0; few = h.1; built_yet = e }))
+
+pub at_ok : {A : Type 0} (r : Result A Cause) (x : A) (P : A → Type 0) → IfOk r P → r ≡ Ok x → P x
+at_ok {A} r x P h e = subst (λ (s : Result A Cause). IfOk s P) e h

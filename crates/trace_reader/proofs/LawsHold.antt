@@ -1,0 +1,146 @@
+-- The laws about the meaning of a text.
+use Rattle.std.proofs.Common.{◌≡◌, ℕ, ◌+◌, ◌<◌, Bool, true, false, eqb, List, [], ◌∷◌, ◌++◌, length, Result, Ok, Err, refl, sym, ap, subst, ◌∙◌, arith}
+use Rattle.std.proofs.lemmas.Bool.{leb-false}
+use Rattle.std.proofs.lemmas.List.{length-append}
+use Rattle.vm_types.specs.declared.config.Config.{Config}
+use Rattle.trace_words.specs.declared.cause.Cause.{Cause}
+use Rattle.trace_words.specs.declared.cause.Cause.TheVariants.{LineTooLong}
+use Rattle.trace_lines.specs.declared.built.Built.{Built}
+use Rattle.trace_lines.specs.declared.part.Part.{Part}
+use Rattle.trace_lines.specs.declared.places.Place.{Place}
+use Rattle.trace_lines.specs.declared.places.Place.TheVariants.{Version, Frames, PageFile, Declarations, Requests, Ended}
+use Rattle.trace_reader.specs.Accepted.{IsRead}
+use Rattle.trace_reader.specs.Changes.{start}
+use Rattle.trace_reader.specs.Drafts.{IsDraft}
+use Rattle.trace_reader.specs.Laws.{ReadIsWellFormed, FaultStays}
+use Rattle.trace_reader.specs.Meaning.{Trace, Configuration, Faulty, Unfinished, next_line, finished, after, at_end, judge, lines, open_after, is_open}
+use Rattle.trace_reader.proofs.Drafting.{start_draft, next_draft, read_whole}
+use Rattle.trace_reader.proofs.Judging.{too_long, refused}
+use Rattle.trace_reader.proofs.Splitting.{some_line}
+
+-- a configuration comes after END
+
+not_finished : (config : Config) → Unfinished ≡ Configuration config → ⊥
+not_finished config e = cc
+
+not_faulty : (n : ℕ) (cause : Cause) (config : Config) → Faulty n cause ≡ Configuration config → ⊥
+not_faulty n cause config e = cc
+
+same_configuration : (a b : Config) → Configuration a ≡ Configuration b → a ≡ b
+same_configuration a b e = cc
+
+finished_read : (built : Built) (part : Part) (place : Place) (config : Config) → IsDraft built part → part.place ≡ place → finished place part.config ≡ Configuration config → IsRead built config
+finished_read built part Version config d p e = absurd (not_finished config e)
+finished_read built part Frames config d p e = absurd (not_finished config e)
+finished_read built part PageFile config d p e = absurd (not_finished config e)
+finished_read built part Declarations config d p e = absurd (not_finished config e)
+finished_read built part Requests config d p e = absurd (not_finished config e)
+finished_read built part Ended config d p e = subst (IsRead built) (same_configuration part.config config e) (read_whole built part d p)
+
+after_read : (built : Built) (number : ℕ) (part : Part) (line : List ℕ) (config : Config) (rest : Part → Trace) → IsDraft built part
+    → ((next : Part) → IsDraft built next → rest next ≡ Configuration config → IsRead built config)
+    → (r : Result Part Cause) → next_line built number part line ≡ r → after number r rest ≡ Configuration config → IsRead built config
+after_read built number part line config rest d h (Ok next) is e = h next (next_draft built number part next line d is) e
+after_read built number part line config rest d h (Err cause) is e = absurd (not_faulty number cause config e)
+
+end_read : (built : Built) (number : ℕ) (part : Part) (last : List ℕ) (config : Config) → IsDraft built part → at_end built number part last ≡ Configuration config → IsRead built config
+end_read built number part [] config d e = finished_read built part part.place config d refl e
+end_read built number part (b ∷ last) config d e =
+    after_read built number part (b ∷ last) config (λ p. finished p.place p.config) d (λ next n f. finished_read built next next.place config n refl f) (next_line built number part (b ∷ last)) refl e
+
+judge_read : (built : Built) (number : ℕ) (part : Part) (all : List (List ℕ)) (config : Config) → IsDraft built part → judge built number part all ≡ Configuration config → IsRead built config
+judge_read built number part [] config d e = end_read built number part [] config d e
+judge_read built number part (last ∷ []) config d e = end_read built number part last config d e
+judge_read built number part (line ∷ next ∷ more) config d e =
+    after_read built number part line config (λ p. judge built (number + 1) p (next ∷ more)) d (λ p n f. judge_read built (number + 1) p (next ∷ more) config n f) (next_line built number part line) refl e
+
+pub read_is_well_formed : ReadIsWellFormed
+read_is_well_formed built text config e = judge_read built 1 start (lines text) config (start_draft built) e
+
+-- a text that goes on
+
+-- the last line goes on with the first one of what follows
+joined : List (List ℕ) → List (List ℕ) → List (List ℕ)
+joined [] after = after
+joined (last ∷ []) [] = last ∷ []
+joined (last ∷ []) (m ∷ more) = (last ++ m) ∷ more
+joined (x ∷ y ∷ xs) after = x ∷ joined (y ∷ xs) after
+
+lines_on : (b : ℕ) (text : List ℕ) → eqb b 10 ≡ true → lines (b ∷ text) ≡ [] ∷ lines text
+lines_on b text e = rw e refl
+
+lines_in : (b : ℕ) (text first : List ℕ) (others : List (List ℕ)) → eqb b 10 ≡ false → lines text ≡ first ∷ others → lines (b ∷ text) ≡ (b ∷ first) ∷ others
+lines_in b text first others e some = rw (e, some) refl
+
+joined_nil : (xs : List (List ℕ)) (x : List ℕ) (after : List (List ℕ)) → joined ([] ∷ x ∷ xs) after ≡ [] ∷ joined (x ∷ xs) after
+unfolding joined
+joined_nil xs x after = refl
+
+joined_head : (b : ℕ) (first : List ℕ) (others after : List (List ℕ)) → (y : List ℕ) × (ys : List (List ℕ)) × (joined (first ∷ others) after ≡ y ∷ ys) × (joined ((b ∷ first) ∷ others) after ≡ (b ∷ y) ∷ ys)
+unfolding joined
+joined_head b first [] [] = (first, [], refl, refl)
+joined_head b first [] (m ∷ more) = (first ++ m, more, refl, refl)
+joined_head b first (y ∷ ys) after = (first, joined (y ∷ ys) after, refl, refl)
+
+joined_start : (m : List ℕ) (more : List (List ℕ)) → joined ([] ∷ []) (m ∷ more) ≡ m ∷ more
+unfolding joined
+joined_start m more = refl
+
+by_byte : (b : ℕ) (text more : List ℕ) (t : Bool) → eqb b 10 ≡ t → lines (text ++ more) ≡ joined (lines text) (lines more) → lines (b ∷ (text ++ more)) ≡ joined (lines (b ∷ text)) (lines more)
+by_byte b text more true e h =
+    let some = some_line text in
+    lines_on b (text ++ more) e ∙ ap (λ (ls : List (List ℕ)). [] ∷ ls) (h ∙ ap (λ (ls : List (List ℕ)). joined ls (lines more)) some.2)
+    ∙ sym (joined_nil some.1 some.0 (lines more)) ∙ ap (λ (ls : List (List ℕ)). joined ([] ∷ ls) (lines more)) (sym some.2) ∙ ap (λ (ls : List (List ℕ)). joined ls (lines more)) (sym (lines_on b text e))
+by_byte b text more false e h =
+    let some = some_line text in
+    let head = joined_head b some.0 some.1 (lines more) in
+    lines_in b (text ++ more) head.0 head.1 e (h ∙ ap (λ (ls : List (List ℕ)). joined ls (lines more)) some.2 ∙ head.2)
+    ∙ sym head.3 ∙ ap (λ (ls : List (List ℕ)). joined ls (lines more)) (sym (lines_in b text some.0 some.1 e some.2))
+
+lines_append : (text more : List ℕ) → lines (text ++ more) ≡ joined (lines text) (lines more)
+lines_append [] more = let some = some_line more in some.2 ∙ sym (joined_start some.0 some.1) ∙ ap (joined ([] ∷ [])) (sym some.2)
+lines_append (b ∷ text) more = by_byte b text more (eqb b 10) refl (lines_append text more)
+
+-- what is shut stays so
+
+abbrev Stays : Built → ℕ → Part → List (List ℕ) → List (List ℕ) → Type 0
+Stays built number part all more = ((n : ℕ) × ((cause : Cause) × (judge built number part all ≡ Faulty n cause))) × (judge built number part (joined all more) ≡ judge built number part all)
+
+never : true ≡ false → ⊥
+never e = cc
+
+long_stays : (built : Built) (number : ℕ) (part : Part) (last : List ℕ) (more : List (List ℕ)) → 255 < length last → Stays built number part (last ∷ []) more
+unfolding joined
+long_stays built number part last [] long = let fault = refused built part number LineTooLong last [] (omega arith) (too_long built part number last long) in ((number, (LineTooLong, fault)), refl)
+long_stays built number part last (m ∷ more) long =
+    let fault = refused built part number LineTooLong last [] (omega arith) (too_long built part number last long) in
+    let longer : 255 < length (last ++ m) = rw length-append (omega arith) in
+    ((number, (LineTooLong, fault)), refused built part number LineTooLong (last ++ m) more (omega arith) (too_long built part number (last ++ m) longer) ∙ sym fault)
+
+line_stays : (built : Built) (number : ℕ) (part : Part) (line next : List ℕ) (all more : List (List ℕ))
+    → ((p : Part) → is_open built (number + 1) p (next ∷ all) ≡ false → Stays built (number + 1) p (next ∷ all) more)
+    → (r : Result Part Cause) → next_line built number part line ≡ r → open_after r (λ p. is_open built (number + 1) p (next ∷ all)) ≡ false → Stays built number part (line ∷ next ∷ all) more
+unfolding joined
+line_stays built number part line next all more rest (Ok p) is shut =
+    let tail = rest p shut in
+    let head = joined_head 0 next all more in
+    let here : judge built number part (line ∷ next ∷ all) ≡ judge built (number + 1) p (next ∷ all) = rw is refl in
+    let there : judge built number part (line ∷ joined (next ∷ all) more) ≡ judge built (number + 1) p (joined (next ∷ all) more) =
+    ap (λ (ls : List (List ℕ)). judge built number part (line ∷ ls)) head.2 ∙ (rw is refl) ∙ ap (judge built (number + 1) p) (sym head.2) in
+    ((tail.0.0, (tail.0.1.0, here ∙ tail.0.1.1)), there ∙ tail.1 ∙ sym here)
+line_stays built number part line next all more rest (Err cause) is shut =
+    let head = joined_head 0 next all more in
+    let here : judge built number part (line ∷ next ∷ all) ≡ Faulty number cause = rw is refl in
+    let there : judge built number part (line ∷ joined (next ∷ all) more) ≡ Faulty number cause =
+    ap (λ (ls : List (List ℕ)). judge built number part (line ∷ ls)) head.2 ∙ (rw is refl) in
+    ((number, (cause, here)), there ∙ sym here)
+
+stays : (built : Built) (number : ℕ) (part : Part) (all more : List (List ℕ)) → is_open built number part all ≡ false → Stays built number part all more
+stays built number part [] more shut = absurd (never shut)
+stays built number part (last ∷ []) more shut = long_stays built number part last more (leb-false (length last) 255 shut)
+stays built number part (line ∷ next ∷ all) more shut = line_stays built number part line next all more (λ p h. stays built (number + 1) p (next ∷ all) more h) (next_line built number part line) refl shut
+
+pub fault_stays : FaultStays
+fault_stays built text more shut =
+    let h = stays built 1 start (lines text) (lines more) shut in
+    (h.0, ap (judge built 1 start) (lines_append text more) ∙ h.1)

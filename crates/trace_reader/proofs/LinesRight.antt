@@ -1,0 +1,319 @@
+-- What a line that breaks no rule says: each kind of line by its words.
+use Rattle.std.proofs.Common.{◌≡◌, ℕ, suc, ◌+◌, ◌%◌, ◌^◌, ◌<◌, ◌≤◌, true, not, eqb, leb, ltb, ◌&&◌, List, [], ◌∷◌, length, All, Option, Some, None, Ok, refl, arith, ap}
+use Rattle.std.specs.Prelude.{IfOk, slice_get, is_some}
+use Rattle.std.specs.List.{list_any}
+use Rattle.std.specs.Option.{option_map_or}
+use Rattle.std.proofs.lemmas.Bool.{and_parts, leb-true, ltb-true, not-true}
+use Rattle.std.proofs.lemmas.List.Elements.{All-nil, All-cons}
+use Rattle.vm_types.specs.Configuration.{IsBlock, IsMapping}
+use Rattle.vm_types.specs.WellFormed.{IsCode, IsRange, IsWellFormedRequest, width_bytes}
+use Rattle.vm_types.specs.declared.config.Config.{Config}
+use Rattle.vm_types.specs.declared.config.Mapping.{Mapping}
+use Rattle.vm_types.specs.declared.config.Origin.TheVariants as origin
+use Rattle.vm_types.specs.declared.config.ProcSpec.{ProcSpec}
+use Rattle.vm_types.specs.declared.names.BlockId.TheVariants as block
+use Rattle.vm_types.specs.declared.reference.Mode.{Mode}
+use Rattle.vm_types.specs.declared.reference.Width.{Width}
+use Rattle.vm_types.specs.declared.reference.Width.TheVariants.{Four}
+use Rattle.vm_types.specs.declared.reference.Op.TheVariants as what
+use Rattle.vm_types.specs.declared.service.Service.TheVariants as asked
+use Rattle.vm_types.specs.declared.service.Request.{Request as Wanted}
+use Rattle.vm_types.specs.declared.service.Request.TheVariants as wanted
+use Rattle.trace_words.specs.declared.ops.Access.{Access}
+use Rattle.trace_words.specs.declared.ops.Access.TheVariants.{Read, Write, Add}
+use Rattle.trace_words.specs.declared.services.ServiceName.{ServiceName}
+use Rattle.trace_words.specs.declared.services.ServiceName.TheVariants as service
+use Rattle.trace_words.specs.declared.verbs.Verb.{Verb}
+use Rattle.trace_words.specs.declared.verbs.Verb.TheVariants.{Op, Service}
+use Rattle.trace_words.specs.BlockWords.{Named, block_name}
+use Rattle.trace_words.specs.BlockWords as named
+use Rattle.trace_words.specs.Judged.{◌>>=◌}
+use Rattle.trace_words.specs.Letter.{letter}
+use Rattle.trace_words.specs.Name.{is_name}
+use Rattle.trace_words.specs.Number.{decimal, decimal_within, hexadecimal}
+use Rattle.trace_words.specs.Pairs.{pairs}
+use Rattle.trace_words.specs.Protection.{protection}
+use Rattle.trace_words.specs.VerbWords.{verb_of}
+use Rattle.trace_lines.specs.declared.part.Part.{Part}
+use Rattle.trace_lines.specs.declared.ranges.Written.{Written}
+use Rattle.trace_lines.specs.declared.ranges.Range.{Range}
+use Rattle.trace_lines.specs.declared.ranges.CodedRange.{CodedRange}
+use Rattle.trace_lines.specs.Declarations.{are_ordered, has_room, sharing, section_line, data_line, process_line}
+use Rattle.trace_lines.specs.Fails.{is_same, slots_at, block_named, call_numbers, fail_line}
+use Rattle.trace_lines.specs.Headers.{version_line, frames_line, pagefile_line, param_line, bad_line, is_listed}
+use Rattle.trace_lines.specs.Lookups.{process, section, number_named, or_none, pages_at, bytes_at, aligned, is_inside}
+use Rattle.trace_lines.specs.Mappings.{overlaps, mapped, mapzero_line, mapsec_line}
+use Rattle.trace_lines.specs.ParamWords.{param_of, least, most}
+use Rattle.trace_lines.specs.Places.{rank}
+use Rattle.trace_lines.specs.Requests.{params_agree, has_frames, body_line, end_line, asked_by, read_line, write_of, reference_line, range_of, coded_range_of, adjust_line, service_line, by_verb, request_line}
+use Rattle.trace_lines.specs.Says as says
+use Rattle.trace_lines.specs.Says.{Says}
+use Rattle.trace_reader.specs.Right.{IsOrdered, Fits, place_for}
+use Rattle.trace_reader.proofs.Giving.{owed_gives, bind_gives, then_gives, InRange, number_gives, IsWord, decimal_gives, aligned_gives, process_number, section_number, name_gives, protection_gives, inside_gives, pages_give, origin_gives}
+
+-- the line says what fits, and stands there
+abbrev pub Gives : Part → ℕ → Says → Type 0
+Gives part place said = Fits part said × (place_for said (rank part.place) ≡ place)
+
+pub version_gives : (part : Part) (words : List (List ℕ)) → IfOk (version_line words) (Gives part 0)
+version_gives part [] = tt
+version_gives part (n ∷ []) = then_gives (decimal_within 1 1 n) _ (Gives part 0) (λ _. (tt, refl))
+version_gives part (a ∷ b ∷ more) = tt
+
+pub frames_gives : (part : Part) (words : List (List ℕ)) → IfOk (frames_line words) (Gives part 1)
+frames_gives part [] = tt
+frames_gives part (n ∷ []) = bind_gives (decimal_within 8 4096 n) _ (InRange 8 4096) (Gives part 1) (number_gives 8 4096 n) (λ n range. (range, refl))
+frames_gives part (a ∷ b ∷ more) = tt
+
+pub pagefile_gives : (part : Part) (words : List (List ℕ)) → IfOk (pagefile_line words) (Gives part 2)
+pagefile_gives part [] = tt
+pagefile_gives part (n ∷ []) = bind_gives (decimal_within 1 16384 n) _ (InRange 1 16384) (Gives part 2) (number_gives 1 16384 n) (λ n range. (range, refl))
+pagefile_gives part (a ∷ b ∷ more) = tt
+
+pub param_gives : (part : Part) (words : List (List ℕ)) → IfOk (param_line part.given words) (Gives part 3)
+param_gives part [] = tt
+param_gives part (a ∷ []) = tt
+param_gives part (name ∷ n ∷ []) =
+    then_gives (param_of name) _ (Gives part 3) (λ p. bind_gives (decimal_within (least p) (most p) n) _ (InRange (least p) (most p)) (Gives part 3) (number_gives (least p) (most p) n) (λ v range.
+    owed_gives _ _ (Ok (says.Param p v)) (Gives part 3) (λ _. (range, refl))))
+param_gives part (a ∷ b ∷ c ∷ more) = tt
+
+pub bad_gives : (part : Part) (words : List (List ℕ)) → IfOk (bad_line part.config words) (Gives part 3)
+bad_gives part [] = tt
+bad_gives part (f ∷ []) =
+    then_gives (decimal f) _ (Gives part 3) (λ f. owed_gives (ltb f part.config.frames) _ _ (Gives part 3) (λ below.
+    owed_gives (not (is_listed part.config.bad f)) _ (Ok (says.Bad f)) (Gives part 3) (λ new. ((ltb-true f part.config.frames below, not-true (is_listed part.config.bad f) new), refl))))
+bad_gives part (a ∷ b ∷ more) = tt
+
+none_found : (o : Option ℕ) → not (is_some o) ≡ true → o ≡ None
+none_found None e = refl
+none_found (Some n) e = cc
+
+pub section_gives : (part : Part) (words : List (List ℕ)) → IfOk (section_line part.config words) (Gives part 3)
+section_gives part [] = tt
+section_gives part (a ∷ []) = tt
+section_gives part (a ∷ b ∷ []) = tt
+section_gives part (name ∷ kind ∷ n ∷ []) =
+    owed_gives (is_name name) _ _ (Gives part 3) (λ good. then_gives (sharing kind) _ (Gives part 3) (λ shared.
+    bind_gives (decimal_within 1 4294967295 n) _ (InRange 1 4294967295) (Gives part 3) (number_gives 1 4294967295 n) (λ pages range.
+    owed_gives (not (is_some (number_named part.config.sections name))) _ _ (Gives part 3) (λ new.
+    owed_gives (has_room part.config.sections pages) _ (Ok (says.Section name shared pages)) (Gives part 3) (λ room.
+    ((name_gives name good, range.0, none_found (number_named part.config.sections name) new, room), refl))))))
+section_gives part (a ∷ b ∷ c ∷ d ∷ more) = tt
+
+pub data_gives : (part : Part) (words : List (List ℕ)) → IfOk (data_line part.config words) (Gives part 3)
+data_gives part [] = tt
+data_gives part (a ∷ []) = tt
+data_gives part (a ∷ b ∷ []) = tt
+data_gives part (name ∷ offset ∷ hex ∷ []) =
+    bind_gives (section part.config.sections name) _ (λ s. s < length part.config.sections) (Gives part 3) (section_number part.config.sections name) (λ s there.
+    then_gives (decimal offset) _ (Gives part 3) (λ at. then_gives (pairs hex) _ (Gives part 3) (λ bytes.
+    owed_gives (leb (at + length bytes) (bytes_at part.config.sections s)) _ (Ok (says.Data s at bytes)) (Gives part 3) (λ inside.
+    ((there, leb-true (at + length bytes) (bytes_at part.config.sections s) inside), refl)))))
+data_gives part (a ∷ b ∷ c ∷ d ∷ more) = tt
+
+ordered_gives : (spec : ProcSpec) → spec.extent ≤ 1024 → are_ordered spec ≡ true → IsOrdered spec
+ordered_gives spec few e =
+    let a = leb (spec.locks + 2) spec.limit in
+    let b = leb spec.limit spec.quota in
+    let c = leb spec.quota spec.extent in
+    let ab = and_parts (a && b) c e in
+    let a_b = and_parts a b ab.0 in
+    record { locks = leb-true (spec.locks + 2) spec.limit a_b.0; quota = leb-true spec.limit spec.quota a_b.1; extent = leb-true spec.quota spec.extent ab.1; most = few }
+
+pub process_gives : (part : Part) (words : List (List ℕ)) → IfOk (process_line part.config words) (Gives part 3)
+process_gives part [] = tt
+process_gives part (a ∷ []) = tt
+process_gives part (a ∷ b ∷ []) = tt
+process_gives part (a ∷ b ∷ c ∷ []) = tt
+process_gives part (a ∷ b ∷ c ∷ d ∷ []) = tt
+process_gives part (x ∷ limit ∷ quota ∷ extent ∷ locks ∷ []) =
+    then_gives (letter x) _ (Gives part 3) (λ p. owed_gives (eqb p (length part.config.procs)) _ _ (Gives part 3) (λ order.
+    then_gives (decimal limit) _ (Gives part 3) (λ l. then_gives (decimal quota) _ (Gives part 3) (λ q.
+    bind_gives (decimal_within 0 1024 extent) _ (InRange 0 1024) (Gives part 3) (number_gives 0 1024 extent) (λ x few. then_gives (decimal locks) _ (Gives part 3) (λ k.
+    let spec : ProcSpec = record { limit = l; quota = q; extent = x; locks = k } in
+    owed_gives (are_ordered spec) _ _ (Gives part 3) (λ ordered. owed_gives (ltb (length part.config.procs) 16) _ (Ok (says.Process spec)) (Gives part 3) (λ room.
+    ((ordered_gives spec few.1 ordered, ltb-true (length part.config.procs) 16 room), refl)))))))))
+process_gives part (a ∷ b ∷ c ∷ d ∷ e ∷ f ∷ more) = tt
+
+-- a mapping that fits apart from where it lies
+abbrev CanMap : Part → Mapping → Type 0
+CanMap part m = is_inside (m.at).0 m.pages ≡ true → IsMapping (length part.config.procs) part.config.sections m
+
+mapped_gives : (part : Part) (m : Mapping) → CanMap part m → IfOk (mapped part.config m) (Gives part 3)
+mapped_gives part m can =
+    owed_gives (is_inside (m.at).0 m.pages) _ _ (Gives part 3) (λ inside. owed_gives (not (list_any (λ b. overlaps b m) part.config.maps)) _ (Ok (says.Map m)) (Gives part 3) (λ new.
+    ((can inside, inside, not-true (list_any (λ b. overlaps b m) part.config.maps) new), refl)))
+
+pub mapzero_gives : (part : Part) (words : List (List ℕ)) → IfOk (mapzero_line part.config words) (Gives part 3)
+mapzero_gives part [] = tt
+mapzero_gives part (a ∷ []) = tt
+mapzero_gives part (a ∷ b ∷ []) = tt
+mapzero_gives part (a ∷ b ∷ c ∷ []) = tt
+mapzero_gives part (x ∷ addr ∷ n ∷ prot ∷ []) =
+    bind_gives (process part.config.procs x) _ (λ p. p < length part.config.procs) (Gives part 3) (process_number part.config.procs x) (λ p there.
+    bind_gives (aligned 512 addr) _ (λ at. IsWord at × (at % 512 ≡ 0)) (Gives part 3) (aligned_gives 512 addr) (λ at whole.
+    bind_gives (decimal_within 1 4096 n) _ (InRange 1 4096) (Gives part 3) (number_gives 1 4096 n) (λ pages few.
+    bind_gives (protection prot) _ IsCode (Gives part 3) (protection_gives prot) (λ code good.
+    mapped_gives part (record { proc = record { 0 = p }; at = record { 0 = at }; pages = pages; from = origin.Zero; prot = code })
+    (λ inside. record { proc = there; range = inside_gives at pages whole.1 few inside; code = good; origin = tt })))))
+mapzero_gives part (a ∷ b ∷ c ∷ d ∷ e ∷ more) = tt
+
+pub mapsec_gives : (part : Part) (words : List (List ℕ)) → IfOk (mapsec_line part.config words) (Gives part 3)
+mapsec_gives part [] = tt
+mapsec_gives part (a ∷ []) = tt
+mapsec_gives part (a ∷ b ∷ []) = tt
+mapsec_gives part (a ∷ b ∷ c ∷ []) = tt
+mapsec_gives part (a ∷ b ∷ c ∷ d ∷ []) = tt
+mapsec_gives part (a ∷ b ∷ c ∷ d ∷ e ∷ []) = tt
+mapsec_gives part (x ∷ addr ∷ n ∷ name ∷ first ∷ prot ∷ []) =
+    bind_gives (process part.config.procs x) _ (λ p. p < length part.config.procs) (Gives part 3) (process_number part.config.procs x) (λ p there.
+    bind_gives (aligned 512 addr) _ (λ at. IsWord at × (at % 512 ≡ 0)) (Gives part 3) (aligned_gives 512 addr) (λ at whole.
+    bind_gives (decimal_within 1 4096 n) _ (InRange 1 4096) (Gives part 3) (number_gives 1 4096 n) (λ pages few.
+    then_gives (section part.config.sections name) _ (Gives part 3) (λ s. then_gives (decimal first) _ (Gives part 3) (λ page.
+    bind_gives (protection prot) _ IsCode (Gives part 3) (protection_gives prot) (λ code good.
+    owed_gives (leb (page + pages) (pages_at part.config.sections s)) _ _ (Gives part 3) (λ fits.
+    mapped_gives part (record { proc = record { 0 = p }; at = record { 0 = at }; pages = pages; from = origin.Section (record { 0 = s }) page; prot = code })
+    (λ inside. record {
+      proc = there;
+      range = inside_gives at pages whole.1 few inside;
+      code = good;
+      origin = origin_gives part.config.sections s page pages few.0 (leb-true (page + pages) (pages_at part.config.sections s) fits);
+    }))))))))
+mapsec_gives part (a ∷ b ∷ c ∷ d ∷ e ∷ f ∷ g ∷ more) = tt
+
+-- blocks
+
+slots_give : (procs : List ProcSpec) (p slot : ℕ) → slot < slots_at procs p → (x : ProcSpec) × (slice_get procs p ≡ Some x) × (slot < x.extent)
+slots_give procs p slot lt = by_process (slice_get procs p) refl lt where
+  by_process : (o : Option ProcSpec) → slice_get procs p ≡ o → slot < option_map_or (λ (x : ProcSpec). x.extent) o 0 → (x : ProcSpec) × (slice_get procs p ≡ Some x) × (slot < x.extent)
+  by_process None e h = absurd (omega (arith, h))
+  by_process (Some x) e h = (x, e, h)
+
+block_gives : (config : Config) (name : Named) → IfOk (block_named config name) (IsBlock config)
+block_gives config (named.Section name page) =
+    then_gives (or_none (number_named config.sections name)) _ (IsBlock config) (λ s. owed_gives (ltb page (pages_at config.sections s)) _ (Ok (block.Section (record { 0 = s }) page)) (IsBlock config) (λ e.
+    pages_give config.sections s page (ltb-true page (pages_at config.sections s) e)))
+block_gives config (named.PageFile b) = owed_gives (ltb b config.pagefile) _ (Ok (block.PageFile b)) (IsBlock config) (λ e. ltb-true b config.pagefile e)
+block_gives config (named.Swap p slot) = owed_gives (ltb slot (slots_at config.procs p)) _ (Ok (block.Swap (record { 0 = p }) slot)) (IsBlock config) (λ e. slots_give config.procs p slot (ltb-true slot (slots_at config.procs p) e))
+
+abbrev AreCalls : List (List ℕ) → List ℕ → Type 0
+AreCalls words calls = (length calls ≡ length words) × All (λ call. 1 ≤ call) calls
+
+calls_give : (words : List (List ℕ)) → IfOk (call_numbers words) (AreCalls words)
+calls_give [] = (refl, All-nil (λ call. 1 ≤ call))
+calls_give (word ∷ words) =
+    bind_gives (decimal_within 1 4294967295 word) _ (InRange 1 4294967295) (AreCalls (word ∷ words)) (number_gives 1 4294967295 word) (λ n range.
+    bind_gives (call_numbers words) (λ more. Ok (n ∷ more)) (AreCalls words) (AreCalls (word ∷ words)) (calls_give words) (λ more rest. (ap suc rest.0, All-cons (λ call. 1 ≤ call) n more range.0 rest.1)))
+
+pub fail_gives : (part : Part) (words : List (List ℕ)) → IfOk (fail_line part.config words) (Gives part 3)
+fail_gives part [] = tt
+fail_gives part (name ∷ words) =
+    owed_gives (leb 1 (length words) && leb (length words) 16) _ _ (Gives part 3) (λ some.
+    let both = and_parts (leb 1 (length words)) (leb (length words) 16) some in
+    let low : 1 ≤ length words = leb-true 1 (length words) both.0 in
+    let high : length words ≤ 16 = leb-true (length words) 16 both.1 in
+    bind_gives (block_name name >>= block_named part.config) _ (IsBlock part.config) (Gives part 3) (then_gives (block_name name) (block_named part.config) (IsBlock part.config) (λ b. block_gives part.config b)) (λ id there.
+    bind_gives (call_numbers words) _ (AreCalls words) (Gives part 3) (calls_give words) (λ calls good.
+    owed_gives (not (list_any (λ f. is_same f.block id) part.config.fails)) _ (Ok (says.Fail id calls)) (Gives part 3) (λ new.
+    ((there, (omega (arith, low, good.0), omega (arith, high, good.0)), good.1, not-true (list_any (λ f. is_same f.block id) part.config.fails) new), refl)))))
+
+-- BODY, END and requests
+
+pub body_gives : (part : Part) (words : List (List ℕ)) → IfOk (body_line part.config words) (Gives part 3)
+body_gives part [] =
+    owed_gives (ltb 0 (length part.config.procs)) _ _ (Gives part 3) (λ some. owed_gives (params_agree part.config.params && has_frames part.config) _ (Ok says.Body) (Gives part 3) (λ e.
+    let both = and_parts (params_agree part.config.params) (has_frames part.config) e in
+    let one : 0 < length part.config.procs = ltb-true 0 (length part.config.procs) some in
+    ((omega (arith, one), both.0, both.1), refl)))
+body_gives part (a ∷ more) = tt
+
+pub end_gives : (part : Part) (words : List (List ℕ)) → IfOk (end_line words) (Gives part 4)
+end_gives part [] = (tt, refl)
+end_gives part (a ∷ more) = tt
+
+asked_gives : (part : Part) (p : ℕ) (request : Wanted) → p < length part.config.procs → IsWellFormedRequest request → IfOk (asked_by part.config p request) (Gives part 4)
+asked_gives part p request there good =
+    owed_gives (ltb (length part.config.body) 100000) _ (Ok (says.Request (record { proc = record { 0 = p }; request = request }))) (Gives part 4) (λ room.
+    ((record { proc = there; request = good }, ltb-true (length part.config.body) 100000 room), refl))
+
+read_gives : (part : Part) (x : List ℕ) (mode : Mode) (width : Width) (words : List (List ℕ)) → IfOk (read_line part.config x mode width words) (Gives part 4)
+read_gives part x mode width [] = tt
+read_gives part x mode width (addr ∷ []) =
+    bind_gives (process part.config.procs x) _ (λ p. p < length part.config.procs) (Gives part 4) (process_number part.config.procs x) (λ p there.
+    bind_gives (aligned (width_bytes width) addr) _ (λ at. IsWord at × (at % width_bytes width ≡ 0)) (Gives part 4) (aligned_gives (width_bytes width) addr) (λ at good.
+    asked_gives part p (wanted.Reference (record { mode = mode; addr = record { 0 = at }; op = what.Read width })) there (record { address = good.0; aligned = good.1; fits = tt })))
+read_gives part x mode width (a ∷ b ∷ more) = tt
+
+abbrev IsGoodWrite : Part → Width → Written → Type 0
+IsGoodWrite part width w = (w.proc < length part.config.procs) × IsWord w.at × (w.at % width_bytes width ≡ 0) × (w.value < 256 ^ width_bytes width)
+
+write_gives : (part : Part) (x : List ℕ) (width : Width) (words : List (List ℕ)) → IfOk (write_of part.config x width words) (IsGoodWrite part width)
+write_gives part x width [] = tt
+write_gives part x width (a ∷ []) = tt
+write_gives part x width (addr ∷ value ∷ []) =
+    bind_gives (process part.config.procs x) _ (λ p. p < length part.config.procs) (IsGoodWrite part width) (process_number part.config.procs x) (λ p there.
+    bind_gives (aligned (width_bytes width) addr) _ (λ at. IsWord at × (at % width_bytes width ≡ 0)) (IsGoodWrite part width) (aligned_gives (width_bytes width) addr) (λ at good.
+    then_gives (hexadecimal value) _ (IsGoodWrite part width) (λ n. owed_gives (ltb n (256 ^ width_bytes width)) _ (Ok (record { proc = p; at = at; value = n })) (IsGoodWrite part width) (λ fits.
+    (there, good.0, good.1, ltb-true n (256 ^ width_bytes width) fits)))))
+write_gives part x width (a ∷ b ∷ c ∷ more) = tt
+
+reference_gives : (part : Part) (x : List ℕ) (mode : Mode) (access : Access) (words : List (List ℕ)) → IfOk (reference_line part.config x mode access words) (Gives part 4)
+reference_gives part x mode (Read width) words = read_gives part x mode width words
+reference_gives part x mode (Write width) words = bind_gives (write_of part.config x width words) _ (IsGoodWrite part width) (Gives part 4) (write_gives part x width words) (λ w good.
+    asked_gives part w.proc (wanted.Reference (record { mode = mode; addr = record { 0 = w.at }; op = what.Write width w.value })) good.0 (record { address = good.1; aligned = good.2; fits = good.3 }))
+reference_gives part x mode Add words = bind_gives (write_of part.config x Four words) _ (IsGoodWrite part Four) (Gives part 4) (write_gives part x Four words) (λ w good.
+    asked_gives part w.proc (wanted.Reference (record { mode = mode; addr = record { 0 = w.at }; op = what.Add w.value })) good.0 (record { address = good.1; aligned = good.2; fits = good.3 }))
+
+abbrev IsGoodRange : Part → Range → Type 0
+IsGoodRange part r = (r.proc < length part.config.procs) × IsRange r.at r.pages
+
+range_gives : (part : Part) (x : List ℕ) (words : List (List ℕ)) → IfOk (range_of part.config x words) (IsGoodRange part)
+range_gives part x [] = tt
+range_gives part x (a ∷ []) = tt
+range_gives part x (addr ∷ n ∷ []) =
+    bind_gives (process part.config.procs x) _ (λ p. p < length part.config.procs) (IsGoodRange part) (process_number part.config.procs x) (λ p there.
+    bind_gives (aligned 512 addr) _ (λ at. IsWord at × (at % 512 ≡ 0)) (IsGoodRange part) (aligned_gives 512 addr) (λ at whole.
+    bind_gives (decimal_within 1 4096 n) _ (InRange 1 4096) (IsGoodRange part) (number_gives 1 4096 n) (λ pages few.
+    owed_gives (is_inside at pages) _ (Ok (record { proc = p; at = at; pages = pages })) (IsGoodRange part) (λ inside. (there, inside_gives at pages whole.1 few inside)))))
+range_gives part x (a ∷ b ∷ c ∷ more) = tt
+
+abbrev IsGoodCodedRange : Part → CodedRange → Type 0
+IsGoodCodedRange part r = (r.proc < length part.config.procs) × IsRange r.at r.pages × IsCode r.prot
+
+coded_range_gives : (part : Part) (x : List ℕ) (words : List (List ℕ)) → IfOk (coded_range_of part.config x words) (IsGoodCodedRange part)
+coded_range_gives part x [] = tt
+coded_range_gives part x (a ∷ []) = tt
+coded_range_gives part x (a ∷ b ∷ []) = tt
+coded_range_gives part x (addr ∷ n ∷ prot ∷ []) =
+    bind_gives (process part.config.procs x) _ (λ p. p < length part.config.procs) (IsGoodCodedRange part) (process_number part.config.procs x) (λ p there.
+    bind_gives (aligned 512 addr) _ (λ at. IsWord at × (at % 512 ≡ 0)) (IsGoodCodedRange part) (aligned_gives 512 addr) (λ at whole.
+    bind_gives (decimal_within 1 4096 n) _ (InRange 1 4096) (IsGoodCodedRange part) (number_gives 1 4096 n) (λ pages few.
+    bind_gives (protection prot) _ IsCode (IsGoodCodedRange part) (protection_gives prot) (λ code good.
+    owed_gives (is_inside at pages) _ (Ok (record { proc = p; at = at; pages = pages; prot = code })) (IsGoodCodedRange part) (λ inside. (there, inside_gives at pages whole.1 few inside, good))))))
+coded_range_gives part x (a ∷ b ∷ c ∷ d ∷ more) = tt
+
+adjust_gives : (part : Part) (x : List ℕ) (words : List (List ℕ)) → IfOk (adjust_line part.config x words) (Gives part 4)
+adjust_gives part x [] = tt
+adjust_gives part x (limit ∷ []) =
+    bind_gives (process part.config.procs x) _ (λ p. p < length part.config.procs) (Gives part 4) (process_number part.config.procs x) (λ p there.
+    bind_gives (decimal limit) _ IsWord (Gives part 4) (decimal_gives limit) (λ n small. asked_gives part p (wanted.Service (asked.Adjust n)) there small))
+adjust_gives part x (a ∷ b ∷ more) = tt
+
+service_gives : (part : Part) (x : List ℕ) (name : ServiceName) (words : List (List ℕ)) → IfOk (service_line part.config x name words) (Gives part 4)
+service_gives part x service.Create words = bind_gives (coded_range_of part.config x words) _ (IsGoodCodedRange part) (Gives part 4) (coded_range_gives part x words) (λ r good. asked_gives part r.proc (wanted.Service (asked.Create (record { 0 = r.at }) r.pages r.prot)) good.0 (good.1, good.2))
+service_gives part x service.Protect words = bind_gives (coded_range_of part.config x words) _ (IsGoodCodedRange part) (Gives part 4) (coded_range_gives part x words) (λ r good. asked_gives part r.proc (wanted.Service (asked.Protect (record { 0 = r.at }) r.pages r.prot)) good.0 (good.1, good.2))
+service_gives part x service.Delete words = bind_gives (range_of part.config x words) _ (IsGoodRange part) (Gives part 4) (range_gives part x words) (λ r good. asked_gives part r.proc (wanted.Service (asked.Delete (record { 0 = r.at }) r.pages)) good.0 good.1)
+service_gives part x service.Lock words = bind_gives (range_of part.config x words) _ (IsGoodRange part) (Gives part 4) (range_gives part x words) (λ r good. asked_gives part r.proc (wanted.Service (asked.Lock (record { 0 = r.at }) r.pages)) good.0 good.1)
+service_gives part x service.Unlock words = bind_gives (range_of part.config x words) _ (IsGoodRange part) (Gives part 4) (range_gives part x words) (λ r good. asked_gives part r.proc (wanted.Service (asked.Unlock (record { 0 = r.at }) r.pages)) good.0 good.1)
+service_gives part x service.Purge words = bind_gives (range_of part.config x words) _ (IsGoodRange part) (Gives part 4) (range_gives part x words) (λ r good. asked_gives part r.proc (wanted.Service (asked.Purge (record { 0 = r.at }) r.pages)) good.0 good.1)
+service_gives part x service.Adjust words = adjust_gives part x words
+
+verb_gives : (part : Part) (x : List ℕ) (words : List (List ℕ)) (verb : Option Verb) → IfOk (by_verb part.config x words verb) (Gives part 4)
+verb_gives part x words None = then_gives (process part.config.procs x) _ (Gives part 4) (λ _. tt)
+verb_gives part x words (Some (Op op)) = reference_gives part x op.mode op.access words
+verb_gives part x words (Some (Service name)) = service_gives part x name words
+
+pub request_gives : (part : Part) (x : List ℕ) (words : List (List ℕ)) → IfOk (request_line part.config x words) (Gives part 4)
+request_gives part x [] = tt
+request_gives part x (second ∷ words) = verb_gives part x words (verb_of second)

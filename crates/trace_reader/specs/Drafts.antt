@@ -1,0 +1,94 @@
+-- What the lines so far keep. Source: this project's own.
+use Rattle.std.specs.Prelude.{◌≡◌, ◌≢◌, ℕ, ◌<◌, ◌≤◌, true, List, [], ◌∷◌, length, All, AllPairs, Result, Err, IsOk}
+use Rattle.vm_types.specs.Configuration.{AreSections, IsMapping, AreApart, AreFails, IsTask}
+use Rattle.vm_types.specs.declared.config.Config.{Config}
+use Rattle.vm_types.specs.declared.config.Mapping.{Mapping}
+use Rattle.vm_types.specs.declared.config.Params.{Params}
+use Rattle.vm_types.specs.declared.config.ProcSpec.{ProcSpec}
+use Rattle.trace_words.specs.declared.cause.Cause.{Cause}
+use Rattle.trace_lines.specs.declared.built.Built.{Built}
+use Rattle.trace_lines.specs.declared.built.Built.TheVariants.{FirstPath, All as Whole}
+use Rattle.trace_lines.specs.declared.part.Part.{Part}
+use Rattle.trace_lines.specs.ParamWords.{default_params}
+use Rattle.trace_lines.specs.Places.{rank}
+use Rattle.trace_lines.specs.Requests.{params_agree, has_frames}
+use Rattle.trace_reader.specs.declared.draft.Refused.{Refused}
+use Rattle.trace_reader.specs.declared.draft.Refused.TheVariants.{Fault, NoMemory}
+use Rattle.trace_reader.specs.Accepted.{IsAcceptedMap, IsAcceptedRequest}
+use Rattle.trace_reader.specs.Right.{IsOrdered}
+
+-- the ranges of the parameters
+pub record AreInRange (params : Params) : Type 0 where
+  pub pfc : (1 ≤ params.pfc) × (params.pfc ≤ 8)
+  pub hilimit : params.hilimit ≤ 16384
+  pub lolimit : params.lolimit ≤ 16384
+  pub waitlimit : (1 ≤ params.waitlimit) × (params.waitlimit ≤ 16384)
+  pub wrtcluster : (1 ≤ params.wrtcluster) × (params.wrtcluster ≤ 16)
+  pub freelim : params.freelim ≤ 4096
+  pub freegoal : params.freegoal ≤ 4096
+  pub awstime : params.awstime ≤ 100000
+  pub pfrath : params.pfrath ≤ 100000
+  pub pfratl : params.pfratl ≤ 100000
+  pub wsinc : params.wsinc ≤ 1024
+  pub wsdec : params.wsdec ≤ 1024
+  pub awsmin : (2 ≤ params.awsmin) × (params.awsmin ≤ 1024)
+  pub borrowlim : params.borrowlim ≤ 4096
+
+-- what the declarations keep by themselves
+pub record AreSound (config : Config) : Type 0 where
+  pub frames : config.frames ≤ 4096
+  pub bad : All (λ f. f < config.frames) config.bad
+  pub bad_differ : AllPairs (λ f g. f ≢ g) config.bad
+  pub pagefile : config.pagefile ≤ 16384
+  pub params : AreInRange config.params
+  pub sections : AreSections config.sections
+  pub few_procs : length config.procs ≤ 16
+  pub procs : All IsOrdered config.procs
+  pub maps : All (IsMapping (length config.procs) config.sections) config.maps
+  pub maps_apart : AllPairs AreApart config.maps
+  pub fails : All (AreFails config) config.fails
+  pub fails_differ : AllPairs (λ a b. a.block ≢ b.block) config.fails
+  pub few_tasks : length config.body ≤ 100000
+  pub body : All (IsTask (length config.procs)) config.body
+
+-- what the places before keep
+pub record IsPlaced (place : ℕ) (config : Config) : Type 0 where
+  pub no_bad : place < 3 → config.bad ≡ []
+  pub no_fails : place < 3 → config.fails ≡ []
+  pub frames : 2 ≤ place → 8 ≤ config.frames
+  pub pagefile : 3 ≤ place → 1 ≤ config.pagefile
+  pub some_process : 4 ≤ place → 1 ≤ length config.procs
+  pub agree : 4 ≤ place → params_agree config.params ≡ true
+  pub room : 4 ≤ place → has_frames config ≡ true
+
+-- at most one mapping, of the first process
+abbrev pub AreMapsOf : List ProcSpec → List Mapping → Type 0
+AreMapsOf procs [] = Unit {0}
+AreMapsOf [] (m ∷ []) = ⊥
+AreMapsOf (spec ∷ procs) (m ∷ []) = IsAcceptedMap spec m
+AreMapsOf procs (m ∷ n ∷ rest) = ⊥
+
+-- what the program can run
+pub record IsRunnable (config : Config) : Type 0 where
+  pub frames : config.frames ≤ 64
+  pub bad : config.bad ≡ []
+  pub params : config.params ≡ default_params
+  pub sections : config.sections ≡ []
+  pub procs : length config.procs ≤ 1
+  pub maps : AreMapsOf config.procs config.maps
+  pub fails : config.fails ≡ []
+  pub body : All (λ task. IsAcceptedRequest task.request) config.body
+
+abbrev pub IsRunnableBy : Built → Config → Type 0
+IsRunnableBy FirstPath config = IsRunnable config
+IsRunnableBy Whole config = Unit {0}
+
+pub record IsDraft (built : Built) (part : Part) : Type 0 where
+  pub sound : AreSound part.config
+  pub placed : IsPlaced (rank part.place) part.config
+  pub runnable : IsRunnableBy built part.config
+
+-- why a line that gives this wasn't taken
+abbrev pub IsRefused : Result Part Cause → Refused → Type 0
+IsRefused next (Fault cause) = next ≡ Err cause
+IsRefused next NoMemory = IsOk next

@@ -1,0 +1,12 @@
+pub mod Judged
+pub mod Words
+pub mod Split
+pub mod Number
+pub mod Name
+pub mod Letter
+pub mod Protection
+pub mod OpWords
+pub mod ServiceWords
+pub mod VerbWords
+pub mod BlockWords
+pub mod Pairs

@@ -1,0 +1,11 @@
+pub mod HexLemmas
+pub mod Printable
+pub mod Digits
+pub mod Decimals
+pub mod Splitting
+pub mod Cutting
+pub mod Seats
+pub mod Ops
+pub mod Ranges
+pub mod OneToOne
+pub mod Blanks

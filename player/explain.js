@@ -1,0 +1,312 @@
+"use strict";
+// Says a line in words: what happened, why, and by which rule. The state is the one before it.
+(function (Player) {
+  const SEATS = { MPW: "the modified page writer", SWP: "the swapper" };
+  const MODES = { K: "kernel", E: "executive", S: "supervisor" };
+  const WIDTHS = { 1: "byte", 2: "word", 4: "longword" };
+  const EXPLAIN = {};
+
+  function seatName(seat) {
+    return SEATS[seat] || `process ${seat}`;
+  }
+
+  function capital(text) {
+    return text[0].toUpperCase() + text.slice(1);
+  }
+
+  function blockName(block) {
+    if (block[0] === "P") {
+      return `page file block ${block.slice(2)}`;
+    }
+    const [owner, number] = block.slice(2).split("/");
+    return block[0] === "X" ? `the swap block of ${owner}'s slot ${number}`
+      : `block ${number} of section ${owner}`;
+  }
+
+  function access(record) {
+    const mode = MODES[record.operation[0]] ? ` in ${MODES[record.operation[0]]} mode` : "";
+    const bare = mode ? record.operation.slice(1) : record.operation;
+    const width = WIDTHS[bare[1]];
+    return { mode, width, kind: bare[0] };
+  }
+
+  function list(state, name) {
+    return name === "MODIFIED" ? `the modified list (${state.modified.length} before)`
+      : `the free list (${state.free.length} before)`;
+  }
+
+  EXPLAIN.DONE = function (state, record) {
+    const { mode, width, kind } = access(record);
+    const where = `the ${width} at ${record.address}${mode}`;
+    const what = {
+      R: `reads ${where} and gets ${record.value}.`,
+      W: `writes ${record.value} to ${where}.`,
+      A: `adds ${record.value} to ${where} in one interlocked step; it held ${record.old} before.`,
+    }[kind];
+    return { what: `Process ${record.seat} ${what}`,
+      why: "The page is mapped, the access is allowed, and the page is in the working set.",
+      rule: kind === "R" ? "Reference answered: a valid page is read without the pager."
+        : "Reference answered: a write sets the frame's modify mark." };
+  };
+
+  const DENIALS = {
+    UNMAPPED: ["no mapping covers the address", "a reference to an unmapped page is refused"],
+    PROTECTED: ["the page's protection code doesn't allow this access in this mode",
+      "protection is judged after the mapping and before the page file"],
+    PAGEFILEFULL: ["the page would be touched for the first time, and as many pages are touched " +
+      "already as the page file has blocks", "each touched page needs a page file block of its own"],
+    DISKFAULT: ["a transfer that the process asked for has failed",
+      "one failed transfer refuses at most one request, and of the one who asked for it"],
+  };
+
+  EXPLAIN.DENIED = function (state, record) {
+    const { mode, kind, width } = access(record);
+    const verb = { R: "reading", W: "writing", A: "adding to" }[kind];
+    const [why, rule] = DENIALS[record.why];
+    return { what: `Process ${record.seat} is refused ${verb} the ${width} at ` +
+      `${record.address}${mode}: ${record.why}.`,
+      why: `${capital(why)}. Nothing is read or written.`, rule: `Refusal: ${rule}.` };
+  };
+
+  EXPLAIN.ZERO = function (state, record) {
+    const page = Player.pageAt(state, Player.processNumber(record.seat), record.address);
+    return { what: `Process ${record.seat} touches ${page} for the first time and gets frame ` +
+      `F${record.frame} with zeros.`,
+      why: "The page is demand zero: it has no bytes on disk yet, so nothing is read. " +
+        "It is charged one page file block, and counts as modified.",
+      rule: "Demand zero fault: the frame is taken from the head of the free list." };
+  };
+
+  const BACK_REASONS = {
+    FREE: "The frame was on the free list and still held the page.",
+    MODIFIED: "The frame was on the modified list and still held the page.",
+    WRITING: "The page's write to disk is still open; the write goes on beside it.",
+    RELEASE: "The page was evicted during its write, which is still open.",
+    ACTIVE: "Another valid entry has the page in this frame; both share it now.",
+  };
+
+  EXPLAIN.BACK = function (state, record) {
+    const page = state.frames[record.frame] ? state.frames[record.frame].page : "its page";
+    const process = state.processes[Player.processNumber(record.process)];
+    if (process && process.status === "COMING") {
+      return { what: `${page} comes back into ${record.process}'s working set in frame ` +
+        `F${record.frame}, in the slot that it left.`,
+        why: "Process " + record.process + " is being swapped in, and its frame wasn't reused " +
+          "meanwhile. It counts as modified again.",
+        rule: "Inswap: a page that is still in memory comes back without a read." };
+    }
+    return { what: `Process ${record.process} faults ${page} back from frame F${record.frame}.`,
+      why: `${BACK_REASONS[record.state]} No read is needed.`,
+      rule: record.state === "ACTIVE" ? "Shared page fault: the entry points to the frame in use."
+        : "Soft page fault: a page in transition is taken back without a transfer." };
+  };
+
+  EXPLAIN.COLLIDE = function (state, record) {
+    return { what: `${capital(seatName(record.seat))} faults on the page of frame ` +
+      `F${record.frame}, which is being read.`,
+      why: `The read that line ${record.start} began is still open. Nothing is read a second time.`,
+      rule: "Collided page fault: the later process waits for the read of the first." };
+  };
+
+  EXPLAIN.REUSE = function (state, record) {
+    const error = state.frames[record.frame] && state.frames[record.frame].state === "READERROR";
+    return { what: `Frame F${record.frame} gives up ${record.page} and is empty now.`,
+      why: error ? "Its read failed, so its bytes are of no use."
+        : "It is the oldest frame of the free list, and a page needs a frame.",
+      rule: error ? "Read error: the frame is emptied and heads the free list."
+        : "Frames are taken from the head of the free list; the page has to be read again later." };
+  };
+
+  // A private page that is read from a section's block is a first copy on reference.
+  function copyReason(state, record) {
+    const page = Player.pageAt(state, Player.processNumber(record.process), record.address);
+    return state.config.known && record.block[0] === "S" && Player.isPrivate(page)
+      ? " It is copy on reference: from now on it is the process's own, is charged to the page " +
+        "file, and counts as modified." : "";
+  }
+
+  EXPLAIN.IN = function (state, record) {
+    const from = `A read of ${blockName(record.block)} into frame F${record.frame} begins`;
+    if (record.role === "NEAR") {
+      return { what: `${from}, for ${record.page}.`,
+        why: "No one asked for the page yet. Its block follows the one before in the cluster.",
+        rule: "Read cluster: neighbours are read along with the page that was asked for." };
+    }
+    const page = `${record.process}/${record.address}`;
+    return record.role === "COME"
+      ? { what: `${from}, for ${page}.`,
+        why: `Process ${record.process} is being swapped in, and this page's frame was reused.`,
+        rule: "Inswap: pages that are no longer in memory are read from their swap blocks." }
+      : { what: `${from}, for ${seatName(record.seat)}'s fault at ${record.address}.`,
+        why: "No frame holds the page, so its bytes have to come from disk." +
+          copyReason(state, record),
+        rule: "Hard page fault: the frame is taken from the head of the free list." };
+  };
+
+  EXPLAIN.INOK = function (state, record) {
+    const flight = state.flights.get(record.frame);
+    const page = flight ? flight.page : "the page";
+    const near = flight && flight.role === "NEAR";
+    return { what: `The read of ${page} into frame F${record.frame} succeeded.`,
+      why: near ? "The page was read as a neighbour. It waits at the tail of the free list."
+        : `The page is in the working set of ${flight ? `process ${flight.process}` : "its process"} now.`,
+      rule: near ? "Read cluster: neighbours become free pages that a fault can take back."
+        : "Landing of a read: the entry becomes valid." };
+  };
+
+  function failures(record) {
+    return `The block had failed ${record.before} times before, and ${record.after} times now.`;
+  }
+
+  EXPLAIN.INFAIL = function (state, record) {
+    return { what: `The read into frame F${record.frame} that line ${record.start} began failed.`,
+      why: failures(record), rule: "Read error: the next line empties the frame." };
+  };
+
+  EXPLAIN.OUT = function (state, record) {
+    const frame = state.frames[record.frame];
+    const swap = record.block[0] === "X";
+    return { what: `${capital(seatName(record.seat))} begins to write ` +
+      `${frame ? frame.page : "a page"} from frame F${record.frame} to ${blockName(record.block)}.`,
+      why: swap ? "Its process is leaving memory, and the page goes to the swap block of its slot."
+        : `The frame heads ${list(state, "MODIFIED")}; it can't be reused before its page is written.`,
+      rule: swap ? "Outswap: private pages are written to swap blocks."
+        : "Modified page writing: pages are taken from the head of the modified list." };
+  };
+
+  EXPLAIN.OUTOK = function (state, record) {
+    const frame = state.frames[record.frame];
+    const flight = state.flights.get(record.frame);
+    const where = flight ? blockName(flight.block) : "its block";
+    if (frame && frame.modify) {
+      return { what: `The write of frame F${record.frame} to ${where} succeeded.`,
+        why: "The page was changed while it was written, so it has to be written again.",
+        rule: "A change during a write isn't lost: the modify mark stays." };
+    }
+    return { what: `The write of frame F${record.frame} to ${where} succeeded; ` +
+      `${frame ? frame.page : "the page"} lies there now.`,
+      why: frame && frame.shares ? "The page is still in a working set, so its frame stays active."
+        : "No working set has the page, so its frame goes to the tail of the free list.",
+      rule: "Landing of a write: an unchanged page without shares is free." };
+  };
+
+  EXPLAIN.OUTFAIL = function (state, record) {
+    return { what: `The write of frame F${record.frame} that line ${record.start} began failed.`,
+      why: failures(record),
+      rule: "A failed write loses nothing: the page counts as modified again." };
+  };
+
+  const EVICT_REASONS = {
+    REPLACE: ["its working set is at its limit, and this is the first page from the hand on that " +
+      "isn't locked", "Replacement: the ring is gone round from the hand, and locked pages stay"],
+    PURGE: ["it asked to purge this range", "Purge: pages of the range that aren't locked leave"],
+    DELETE: ["it deletes this range", "Deletion: valid pages leave before the range is unmapped"],
+    LEAVE: ["the process is being swapped out", "Outswap: the working set is emptied"],
+    RUNDOWN: ["all requests are answered, and shared pages are written back at the end",
+      "Rundown: shared pages leave all working sets"],
+  };
+  const EVICT_STATES = {
+    ACTIVE: "Others still share the frame, so it stays active.",
+    RELEASE: "A transfer of the frame is still open, so it is released when that ends.",
+    FREE: "The page is unmodified: its frame goes to the tail of the free list.",
+    MODIFIED: "The page is modified: its frame goes to the tail of the modified list.",
+  };
+
+  EXPLAIN.EVICT = function (state, record) {
+    const [why, rule] = EVICT_REASONS[record.why];
+    const page = state.frames[record.frame] ? state.frames[record.frame].page : "The page";
+    return { what: `${page} in frame F${record.frame} leaves the working set of process ` +
+      `${record.process}.`,
+      why: `Of process ${record.process}: ${why}. ${EVICT_STATES[record.state]}`,
+      rule: `${rule}.` };
+  };
+
+  EXPLAIN.LIMIT = function (state, record) {
+    const process = state.processes[Player.processNumber(record.seat)];
+    const old = process ? process.limit : 0;
+    const way = record.limit > old ? "is raised" : record.limit < old ? "is lowered" : "stays";
+    return { what: `The working set limit of process ${record.seat} ${way}: ${old} before, ` +
+      `${record.limit} now.`,
+      why: `It had ${record.faults} faults in the last period.`,
+      rule: "Automatic adjustment: many faults raise the limit, few faults lower it." };
+  };
+
+  const TURNS = {
+    LEAVING: ["begins to be swapped out", "Frames are needed, or another process is to come in first."],
+    GONE: ["is swapped out", "All pages that aren't locked in memory have left its working set."],
+    COMING: ["begins to be swapped in", "It has a request to make, and its pages have to be in memory."],
+    RESIDENT: ["is in memory again", "All its pages have come back from its swap blocks."],
+  };
+
+  EXPLAIN.TURN = function (state, record) {
+    const [what, why] = TURNS[record.status];
+    return { what: `Process ${record.process} ${what}; ${seatName(record.seat)} does it.`, why,
+      rule: `Swapper: the status of process ${record.process} is ${record.status} now.` };
+  };
+
+  const SERVICE_NAMES = {
+    CRETVA: "maps new demand zero pages", DELTVA: "deletes pages",
+    SETPRT: "sets the protection of pages", LKWSET: "locks pages in its working set",
+    ULWSET: "unlocks pages of its working set", LCKPAG: "locks pages in memory",
+    ULKPAG: "unlocks pages in memory", PURGWS: "purges pages from its working set",
+    ADJWSL: "sets its working set limit",
+  };
+  const ANSWERS = {
+    INUSE: "Refused: some page of the range is mapped already.",
+    UNMAPPED: "Refused: some page of the range isn't mapped.",
+    LOCKLIMIT: "Refused: more pages would be locked than the process may lock.",
+    BADLIMIT: "Refused: the limit is below what locks need, or above the ring's slots.",
+    DISKFAULT: "Refused: a transfer that the service needed has failed.",
+  };
+
+  EXPLAIN.SERVED = function (state, record) {
+    const range = record.service === "ADJWSL" ? ` to ${record.limit}`
+      : ` (${record.pages} from ${record.address} on)`;
+    const count = record.counted === undefined ? "" : ` Pages that this was done to: ${record.counted}.`;
+    return { what: `Process ${record.seat} ${SERVICE_NAMES[record.service]}${range}: ` +
+      `${record.answer}.`,
+      why: record.answer === "OK" ? `The service is done.${count}` : ANSWERS[record.answer],
+      rule: `System service ${record.service}.` };
+  };
+
+  // ---- the lines that are no entries ----
+
+  EXPLAIN.AT = (state, record) => ({ what: `The report begins: ${record.entries} entries came ` +
+    "before it.", why: "All requests are answered.", rule: "Report of the page frames." });
+  EXPLAIN.COUNTS = () => ({ what: "How many frames are in each state.", why: "",
+    rule: "Report of the page frames." });
+  EXPLAIN.FRAME = (state, record) => ({ what: `Frame F${record.frame} is ${record.state} and holds ` +
+    `${record.page}.`,
+    why: `It ${record.modify ? "has to be written before it is reused" : "is unmodified"}; ` +
+      `${record.shares} valid entries share it, and ${record.refs} references hold it.`,
+    rule: "Report of the page frames." });
+  EXPLAIN.BADFRAME = (state, record) => ({ what: `Frame F${record.frame} is bad and never used.`,
+    why: "The trace says so.", rule: "Report of the page frames." });
+  EXPLAIN.PAGEFILE = (state, record) => ({ what: `The page file has ${record.size} blocks: ` +
+    `${record.charged} are charged to pages, and ${record.assigned} are assigned.`, why: "",
+    rule: "Report of the page file." });
+  EXPLAIN.PROCESS = (state, record) => ({ what: `Process ${record.process} is ${record.status}, ` +
+    `with ${record.count} pages in its working set and a limit of ${record.limit}.`, why: "",
+    rule: "Report of the processes." });
+  EXPLAIN.DIRTY = (state, record) => ({ what: `The change of ${record.page} was never written to ` +
+    "its section.", why: "Its last write failed, or it could not leave a working set.",
+    rule: "Rundown: what could not be written is named." });
+  const STATUSES = ["the run is whole", "the words of the command line are wrong",
+    "the input is no trace", "reading the input failed", "writing the output failed",
+    "a shared page is dirty at the end", "a block could not be made", "memory ended",
+    "the log isn't legal"];
+  EXPLAIN.STATUS = (state, record) => ({ what: `The program ended with status ${record.status}: ` +
+    `${STATUSES[record.status]}.`, why: "", rule: "Exit status." });
+  EXPLAIN.TRACE = (state, record) => ({ what: `Line ${record.line} of the trace was refused: ` +
+    `${record.cause}.`, why: "It is the first faulty line.", rule: "Trace format." });
+  EXPLAIN.UNFINISHED = () => ({ what: "The trace ended before its END line.", why: "",
+    rule: "Trace format." });
+  EXPLAIN.UNKNOWN = (state, record) => ({ what: `This line isn't known to the player: ` +
+    `${record.text}`, why: "It is skipped. What is shown from here on may be wrong.",
+    rule: "No rule of the log's format fits it." });
+
+  // What the line says, why, and by which rule.
+  Player.explain = function (state, record) {
+    return EXPLAIN[record.kind](state, record);
+  };
+})(globalThis.Player = globalThis.Player || {});

@@ -1,0 +1,111 @@
+"""A small client of a browser's test driver (chromedriver), with the standard library alone."""
+
+import base64
+import json
+import shutil
+import socket
+import subprocess
+import time
+import urllib.error
+import urllib.request
+
+ELEMENT = "element-6066-11e4-a52e-4f735466cecf"
+
+
+class Missing(Exception):
+    """The browser or its driver isn't there, or doesn't start."""
+
+
+def free_port():
+    with socket.socket() as one:
+        one.bind(("127.0.0.1", 0))
+        return one.getsockname()[1]
+
+
+def find_browser():
+    browser = shutil.which("chromium") or shutil.which("google-chrome")
+    driver = shutil.which("chromedriver")
+    if not browser or not driver:
+        raise Missing("chromium or chromedriver isn't there")
+    return browser, driver
+
+
+class Browser:
+    """One window of a browser without a screen."""
+
+    def __init__(self, width=1400, height=1500):
+        browser, driver = find_browser()
+        self.port = free_port()
+        self.driver = subprocess.Popen([driver, f"--port={self.port}"],
+                                       stdout=subprocess.DEVNULL, stderr=subprocess.DEVNULL)
+        self.window = ""
+        try:
+            self.wait_for_driver()
+            self.window = self.open_window(browser, width, height)
+        except BaseException:
+            self.driver.terminate()
+            self.driver.wait()
+            raise
+
+    def wait_for_driver(self):
+        for _ in range(100):
+            try:
+                if self.call("GET", "/status")["ready"]:
+                    return
+            except OSError:
+                time.sleep(0.1)
+        raise Missing("chromedriver doesn't answer")
+
+    def open_window(self, browser, width, height):
+        words = ["--headless=new", "--no-sandbox", "--disable-gpu", "--disable-dev-shm-usage",
+                 f"--window-size={width},{height}"]
+        options = {"binary": browser, "args": words}
+        asked = {"capabilities": {"alwaysMatch": {"goog:chromeOptions": options}}}
+        try:
+            return self.call("POST", "/session", asked)["sessionId"]
+        except (OSError, RuntimeError) as fault:
+            raise Missing(f"the browser doesn't start: {fault}") from None
+
+    def call(self, method, path, body=None):
+        data = None if body is None else json.dumps(body).encode()
+        asked = urllib.request.Request(f"http://127.0.0.1:{self.port}{path}", data, method=method,
+                                       headers={"Content-Type": "application/json"})
+        try:
+            with urllib.request.urlopen(asked, timeout=60) as answer:
+                return json.load(answer)["value"]
+        except urllib.error.HTTPError as fault:
+            raise RuntimeError(fault.read().decode()[:500]) from None
+
+    def ask(self, method, path, body=None):
+        return self.call(method, f"/session/{self.window}{path}", body)
+
+    def open(self, url):
+        self.ask("POST", "/url", {"url": url})
+
+    def find(self, selector):
+        found = self.ask("POST", "/element", {"using": "css selector", "value": selector})
+        return found[ELEMENT]
+
+    def click(self, selector):
+        self.ask("POST", f"/element/{self.find(selector)}/click", {})
+
+    def type(self, selector, text):
+        self.ask("POST", f"/element/{self.find(selector)}/value", {"text": text})
+
+    def run(self, script, *words):
+        return self.ask("POST", "/execute/sync", {"script": script, "args": list(words)})
+
+    def text(self, selector):
+        return self.run("return document.querySelector(arguments[0]).textContent", selector)
+
+    def picture(self, name):
+        with open(name, "wb") as out:
+            out.write(base64.b64decode(self.ask("GET", "/screenshot")))
+
+    def close(self):
+        try:
+            if self.window:
+                self.ask("DELETE", "")
+        finally:
+            self.driver.terminate()
+            self.driver.wait()

@@ -1,0 +1,222 @@
+"""Chooses the references, splits them, and gives each page of a recording its place."""
+
+import itertools
+
+from sources import RecordError
+
+PAGE_BYTES = 512
+P0_PAGES = 4096
+P1_PAGES = 1024
+P1_END = 0x80000000
+REQUESTS = 100_000
+PROCESSES = 16
+SECTION_PAGES = 16_384
+LETTERS = "ABCDEFGHIJKLMNOP"
+
+
+def split(address, size, widths):
+    """The aligned pieces of a reference. An aligned piece never lies in two pages."""
+    pieces = []
+    while size:
+        width = max(w for w in widths if w <= size and address % w == 0)
+        pieces.append((address, width))
+        address += width
+        size -= width
+    return pieces
+
+
+def choose(references, fetches, skip, count):
+    """The part of a recording that was asked for; fetches only where they were."""
+    chosen = (one for one in references if fetches or one[1] != "I")
+    return itertools.islice(chosen, skip, None if count is None else skip + count)
+
+
+def interleave(recordings, quantum):
+    """Takes `quantum` references of each recording in turn until all have ended."""
+    waiting = [iter(one) for one in recordings]
+    while waiting:
+        left = []
+        for recording in waiting:
+            taken = list(itertools.islice(recording, quantum))
+            yield from taken
+            if len(taken) == quantum:
+                left.append(recording)
+        waiting = left
+
+
+def cut_value(value, address, start, width):
+    """The bytes of a value that go to one piece, least significant byte first."""
+    return None if value is None else (value >> (8 * (address - start))) % (1 << (8 * width))
+
+
+class Recording:
+    """The requests before they have places: (process, op, address, width, value)."""
+
+    def __init__(self):
+        self.requests = []
+        self.owners = []
+        self.notes = []
+        self.references = 0
+        self.fetched = set()
+        self.written = set()
+        self.highest = {}
+
+    def process_of(self, owner):
+        if owner not in self.owners:
+            if len(self.owners) == PROCESSES:
+                raise RecordError(f"more than {PROCESSES} processes: \"{owner}\" is one too many")
+            self.owners.append(owner)
+        return self.owners.index(owner)
+
+    def add(self, reference, widths):
+        """Adds one reference; false where it doesn't fit any more."""
+        owner, op, address, size, value = reference
+        process = self.process_of(owner)
+        added = []
+        for at, width in split(address, size, {4} if op == "A" else widths):
+            part = cut_value(value, at, address, width)
+            for letter in {"M": "RW", "I": "R"}.get(op, op):
+                added.append((process, letter, at, width, part))
+            self.note_page(process, op, at // PAGE_BYTES)
+        if len(self.requests) + len(added) > REQUESTS:
+            return False
+        self.requests += added
+        self.references += 1
+        self.highest[process] = max(self.highest.get(process, 0), added[-1][2])
+        return True
+
+    def note_page(self, process, op, page):
+        if op == "I":
+            self.fetched.add((process, page))
+        elif op != "R":
+            self.written.add((process, page))
+
+
+def gather(recordings, options):
+    """All requests of the recordings, up to the number that a trace may have."""
+    parts = [choose(one, options.fetches, options.skip, options.count) for one in recordings]
+    found = Recording()
+    for reference in interleave(parts, options.quantum):
+        if reference[1] == "A" and reference[2] % 4:
+            raise RecordError(f"an add at {reference[2]:X}, which is no multiple of 4")
+        if not found.add(reference, options.widths):
+            found.notes.append(f"cut after {found.references} references: a trace has at most "
+                               f"{REQUESTS} requests")
+            break
+    for part in recordings:
+        part.close()
+    if not found.requests:
+        raise RecordError("no reference is left to write; the part that was asked for is empty")
+    return found
+
+
+class Place:
+    """Where the pages of one process stand."""
+
+    def __init__(self, stack_from):
+        self.stack_from = stack_from
+        self.zero = {}
+        self.stack = {}
+        self.text = {}
+
+    def find(self, page, section_page):
+        """Gives the page a place where it has none; false where there is no room."""
+        if page in self.zero or page in self.stack or page in self.text:
+            return True
+        if section_page is not None:
+            self.text[page] = section_page
+        elif self.stack_from is not None and page >= self.stack_from:
+            self.stack[page] = P1_END // PAGE_BYTES - 1 - len(self.stack)
+        else:
+            self.zero[page] = len(self.zero)
+        return len(self.stack) <= P1_PAGES
+
+
+class Layout:
+    """The places of all processes, and the sections for text that several share."""
+
+    def __init__(self, found, options):
+        self.sections = {name: {} for name, _ in options.text}
+        self.groups = self.text_groups(found, options.text)
+        self.places = [Place(self.stack_begin(found, process, options.stack))
+                       for process in range(len(found.owners))]
+        self.text_pages = {key for key in found.fetched if self.is_text(key, found)}
+
+    @staticmethod
+    def stack_begin(found, process, kilobytes):
+        """The first page of the stack: so many kilobytes below the highest address used."""
+        if kilobytes is None:
+            return None
+        return max(0, found.highest.get(process, 0) - kilobytes * 1024 + 1) // PAGE_BYTES
+
+    @staticmethod
+    def text_groups(found, text):
+        """The section's name of each process that shares one."""
+        groups = {}
+        for name, letters in text:
+            for letter in letters:
+                process = LETTERS.index(letter)
+                if process >= len(found.owners):
+                    raise RecordError(f"--text names process {letter}, which has no recording")
+                if process in groups:
+                    raise RecordError(f"--text names process {letter} twice")
+                groups[process] = name
+        return groups
+
+    def is_text(self, key, found):
+        """Whether a fetched page is shared: no process of its section writes to that page."""
+        process, page = key
+        name = self.groups.get(process)
+        return name is not None and not any(
+            (other, page) in found.written for other, group in self.groups.items() if group == name)
+
+    def section_page(self, process, page):
+        """The page's number in its section, or None for a private page."""
+        name = self.groups.get(process)
+        shared = name is not None and any(
+            (other, page) in self.text_pages for other, group in self.groups.items()
+            if group == name)
+        if not shared:
+            return None
+        pages = self.sections[name]
+        return pages.setdefault(page, len(pages))
+
+    def put(self, process, page):
+        """Gives a page its place; a sentence where the limits of the format leave no room."""
+        place = self.places[process]
+        if not place.find(page, self.section_page(process, page)):
+            return f"process {LETTERS[process]} uses more than {P1_PAGES} stack pages"
+        for other, one in enumerate(self.places):
+            text = len(self.sections.get(self.groups.get(other), ()))
+            if len(one.zero) + (text if one.text else 0) > P0_PAGES:
+                return f"process {LETTERS[other]} uses more than {P0_PAGES} pages"
+        if sum(map(len, self.sections.values())) > SECTION_PAGES:
+            return f"the sections have more than {SECTION_PAGES} pages"
+        return ""
+
+    def address(self, process, address):
+        """Where an address of the recording stands in the trace."""
+        page, offset = divmod(address, PAGE_BYTES)
+        place = self.places[process]
+        if page in place.text:
+            number = len(place.zero) + place.text[page]
+        else:
+            number = place.stack.get(page, place.zero.get(page))
+        return number * PAGE_BYTES + offset
+
+
+def lay_out(found, options):
+    """Places all pages in order of first use. Where there is no room the recording is cut."""
+    seen = set()
+    layout = Layout(found, options)
+    for number, (process, _, address, _, _) in enumerate(found.requests):
+        key = (process, address // PAGE_BYTES)
+        if key in seen:
+            continue
+        seen.add(key)
+        fault = layout.put(*key)
+        if fault:
+            found.notes.append(f"cut after {number} requests: {fault}")
+            found.requests = found.requests[:number]
+            return lay_out(found, options)
+    return layout

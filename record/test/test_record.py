@@ -1,0 +1,280 @@
+#!/usr/bin/env python3
+"""Tests the recorder: python3 record/test/test_record.py
+
+What needs valgrind or the built program is left out where they aren't there, and named.
+"""
+
+import pathlib
+import re
+import shutil
+import subprocess
+import sys
+import tempfile
+import unittest
+
+sys.dont_write_bytecode = True
+
+from checker import check
+
+HERE = pathlib.Path(__file__).resolve().parent
+TOP = HERE.parent.parent
+RECORDER = HERE.parent / "record.py"
+PROGRAM = TOP / "crates" / "neqysbar" / "out" / "neqysbar"
+EXAMPLES = TOP / "examples" / "recorded"
+
+
+def record(*words):
+    """The status, the trace and the messages of one call."""
+    done = subprocess.run([sys.executable, str(RECORDER), *map(str, words)], capture_output=True,
+                          text=True, check=False)
+    return done.returncode, done.stdout, done.stderr
+
+
+def lines_of(trace, *firsts):
+    """The trace's lines that begin with one of these words."""
+    return [line for line in trace.splitlines() if line.split()[0] in firsts]
+
+
+def body(trace):
+    lines = trace.splitlines()
+    return lines[lines.index("BODY") + 1:lines.index("END")]
+
+
+class Case(unittest.TestCase):
+    """A folder for recordings, and a call whose trace has to keep the format."""
+
+    def setUp(self):
+        self.folder = tempfile.TemporaryDirectory()
+        self.addCleanup(self.folder.cleanup)
+
+    def file(self, name, text):
+        path = pathlib.Path(self.folder.name) / name
+        path.write_text(text, encoding="latin-1")
+        return path
+
+    def trace(self, *words):
+        status, trace, messages = record(*words)
+        self.assertEqual((status, check(trace)), (0, ""), messages)
+        return trace
+
+    def refused(self, message, *words):
+        status, trace, messages = record(*words)
+        self.assertEqual((status, trace), (2, ""))
+        self.assertIn(message, messages)
+
+
+class Recordings(Case):
+    def test_list_whole(self):
+        one = self.file("one", "# two processes\nfirst W4 8000 2A\nsecond R1 0x10\nfirst A4 8200 1\n"
+                               "first R2 8002\n")
+        self.assertEqual(self.trace("--no-comments", "--frames", 8, "--limit", "4,5", "--extent",
+                                    "6", "--list", one), """\
+VMTRACE 1
+FRAMES 8
+PAGEFILE 3
+PROCESS A 4 4 6 0
+PROCESS B 5 5 6 0
+MAPZERO A 00000000 2 UW
+MAPZERO B 00000000 1 UW
+BODY
+A W4 00000000 0000002A
+B R1 00000010
+A A4 00000200 00000001
+A R2 00000002
+END
+""")
+
+    def test_lackey_kinds(self):
+        one = self.file("one", "==7== Lackey\nI  04001000,3\n S 1ffefffe78,8\n L 04222c4,1\n"
+                               " M 0421c7cc,4\n==7== end\n")
+        self.assertEqual(body(self.trace("--lackey", one)), [
+            "A W4 00000078 00000001", "A W4 0000007C 00000002", "A R1 000002C4",
+            "A R4 000005CC", "A W4 000005CC 00000005"])
+        self.assertEqual(body(self.trace("--fetches", "--zero", "--lackey", one))[:3], [
+            "A R2 00000000", "A R1 00000002", "A W4 00000278 00000000"])
+
+    def test_din(self):
+        one = self.file("one", "0 1000\n1 1004\n2 2000\n4 0\n0 1007 more words\n")
+        self.assertEqual(body(self.trace("--din", one)), [
+            "A R4 00000000", "A W4 00000004 00000002", "A R1 00000007", "A R2 00000008",
+            "A R1 0000000A"])
+        self.assertEqual(len(body(self.trace("--din", one, "--fetches", "--size", 1))), 4)
+
+    def test_split_across_pages(self):
+        one = self.file("one", " L 1ff,4\n S 3fe,4\n L 0,16\n")
+        self.assertEqual(body(self.trace("--zero", "--lackey", one)), [
+            "A R1 000001FF", "A R2 00000200", "A R1 00000202", "A W2 000003FE 0000",
+            "A W2 00000400 0000", "A R4 00000000", "A R4 00000004", "A R4 00000008",
+            "A R4 0000000C"])
+
+    def test_widths_and_value(self):
+        one = self.file("one", "p W4 102 11223344\n")
+        self.assertEqual(body(self.trace("--list", one)),
+                         ["A W2 00000102 3344", "A W2 00000104 1122"])
+        self.assertEqual(body(self.trace("--list", one, "--widths", "1,4")), [
+            "A W1 00000102 44", "A W1 00000103 33", "A W1 00000104 22", "A W1 00000105 11"])
+
+    def test_part_and_quantum(self):
+        one = self.file("one", "".join(f" L {n * 4:x},4\n" for n in range(6)))
+        two = self.file("two", "".join(f" L {n * 4 + 64:x},4\n" for n in range(3)))
+        words = ["--lackey", one, "--lackey", two, "--quantum", 2]
+        self.assertEqual(body(self.trace(*words)), [
+            "A R4 00000000", "A R4 00000004", "B R4 00000040", "B R4 00000044", "A R4 00000008",
+            "A R4 0000000C", "B R4 00000048", "A R4 00000010", "A R4 00000014"])
+        self.assertEqual(body(self.trace(*words, "--skip", 1, "--count", 2)), [
+            "A R4 00000004", "A R4 00000008", "B R4 00000044", "B R4 00000048"])
+
+
+class Places(Case):
+    def test_stack(self):
+        one = self.file("one", " L 1000,4\n S 7fff0000fffc,4\n L 7fff0000f000,4\n L 7fff0000fc00,4\n")
+        trace = self.trace("--zero", "--stack", 1, "--lackey", one)
+        self.assertEqual(lines_of(trace, "MAPZERO"), ["MAPZERO A 00000000 2 UW",
+                                                      "MAPZERO A 7FFFFC00 2 UW"])
+        self.assertEqual(body(trace), ["A R4 00000000", "A W4 7FFFFFFC 00000000", "A R4 00000200",
+                                       "A R4 7FFFFC00"])
+        self.assertIn("! A 7FFFFC00 2 7FFF0000FC00", trace)
+
+    def test_shared_text(self):
+        one = self.file("one", "I  4000,4\nI  4200,4\n S 8000,4\nI  4400,4\n S 4400,4\n")
+        two = self.file("two", "I  4200,4\nI  4000,4\n L 9000,4\n")
+        trace = self.trace("--zero", "--fetches", "--text", "TEXT:AB", "--quantum", 9,
+                           "--lackey", one, "--lackey", two)
+        self.assertEqual(lines_of(trace, "SECTION", "MAPZERO", "MAPSEC"), [
+            "SECTION TEXT SHARED 2", "MAPZERO A 00000000 2 UW", "MAPSEC A 00000400 2 TEXT 0 UR",
+            "MAPZERO B 00000000 1 UW", "MAPSEC B 00000200 2 TEXT 0 UR"])
+        self.assertEqual(body(trace), [
+            "A R4 00000400", "A R4 00000600", "A W4 00000000 00000000", "A R4 00000200",
+            "A W4 00000200 00000000", "B R4 00000400", "B R4 00000200", "B R4 00000000"])
+
+    def test_comments_name_the_mapping(self):
+        one = self.file("one", " L 1000,4\n L 1200,4\n L 9000,4\n")
+        trace = self.trace("--lackey", one)
+        for line in ["! process A is one (recording 1)", "! 3 references of the recording, 3 requests",
+                     "! A 00000000 2 1000", "! A 00000400 1 9000"]:
+            self.assertIn(line, trace.splitlines())
+        self.assertNotIn("!", self.trace("--lackey", one, "--no-comments"))
+
+    def test_strange_name(self):
+        name = self.file("n\xe4me " + "x" * 200, " L 0,4\n")
+        self.assertIn("n?me", self.trace("--lackey", name))
+
+
+class Limits(Case):
+    def test_requests(self):
+        one = self.file("one", "".join(f" L {n % 64 * 8:x},8\n" for n in range(50_003)))
+        status, trace, messages = record("--lackey", one)
+        self.assertEqual((status, check(trace), len(body(trace))), (0, "", 100_000))
+        self.assertIn("cut after 50000 references", messages)
+        self.assertIn("! cut after 50000 references", trace)
+
+    def test_pages(self):
+        one = self.file("one", "".join(f" L {n * 512:x},4\n" for n in range(4098)))
+        status, trace, messages = record("--lackey", one)
+        self.assertEqual((status, check(trace), len(body(trace))), (0, "", 4096))
+        self.assertIn("uses more than 4096 pages", messages)
+        status, trace, messages = record("--lackey", one, "--stack", 2048)
+        self.assertEqual((status, check(trace), len(body(trace))), (0, "", 1025))
+        self.assertIn("uses more than 1024 stack pages", messages)
+
+    def test_processes(self):
+        text = "".join(f"p{n} R4 {n:x}00\n" for n in range(17))
+        self.refused("more than 16 processes", "--list", self.file("one", text))
+        one = self.file("one", text.replace("p16", "p15"))
+        self.assertEqual(len(lines_of(self.trace("--list", one), "PROCESS")), 16)
+
+    def test_machine(self):
+        one = self.file("one", " L 0,4\n")
+        for message, words in [
+                ("--frames is 7", ["--frames", 7]), ("--pagefile is 16385", ["--pagefile", 16385]),
+                ("<= 1024 doesn't hold of 0, 1, 1, 1", ["--limit", 1]),
+                ("<= 1024 doesn't hold of 0, 32, 31, 31", ["--quota", 31]),
+                ("<= 1024 doesn't hold of 31, 32", ["--locks", 31]),
+                ("are more than the 33 frames", ["--frames", 33]),
+                ("PFC is 9", ["--param", "PFC=9"]), ("no parameter", ["--param", "PFX=9"]),
+                ("LOLIMIT <= HILIMIT", ["--param", "HILIMIT=31"]),
+                ("FREELIM <= FREEGOAL", ["--param", "FREELIM=1"]),
+                ("parameter is given twice", ["--param", "PFC=1", "--param", "PFC=2"]),
+                ("--limit has 2 numbers", ["--limit", "4,4"]),
+                ("--text needs --fetches", ["--text", "TEXT:A"]),
+                ("isn't NAME:LETTERS", ["--text", "T:A"]), ("1 has to be", ["--widths", "2,4"]),
+                ("process B, which", ["--fetches", "--text", "TEXT:B"]),
+                ("part that was asked for is empty", ["--skip", 1])]:
+            with self.subTest(message):
+                self.refused(message, *words, "--lackey", one)
+
+    def test_bad_recordings(self):
+        for kind, text, message in [
+                ("--lackey", " L 0,4\nhello\n", "line 2: \"hello\" is no line of lackey"),
+                ("--lackey", " L 0,0\n", "line 1: a reference of 0 bytes"),
+                ("--din", "0 1000\n9 1000\n", "line 2: \"9 1000\" is no line of the din format"),
+                ("--din", "0 xyz\n", "line 1: \"xyz\" is no hexadecimal number"),
+                ("--list", "p R4\n", "line 1: a line has a process, an op, an address"),
+                ("--list", "p Q4 0\n", "line 1: \"Q4\" is no op"),
+                ("--list", "p A2 0\n", "line 1: an add has four bytes"),
+                ("--list", "p A4 2\n", "an add at 2, which is no multiple of 4"),
+                ("--list", "p R4 00000000000000001\n", "is no hexadecimal number")]:
+            with self.subTest(message):
+                self.refused(message, kind, self.file("one", text))
+        self.refused("can't be read", "--din", "/no/such/recording")
+        self.refused("no recording is given")
+        self.refused("there is no program", "--run", "/no/such/program")
+
+
+class Checking(Case):
+    """The checker finds what it is there for."""
+
+    GOOD = ("VMTRACE 1\nFRAMES 8\nPAGEFILE 4\nSECTION LIB SHARED 2\nPROCESS A 2 2 2 0\n"
+            "MAPZERO A 00000000 1 UW\nMAPSEC A 00000200 2 LIB 0 UR\nBODY\nA R4 00000000\n"
+            "A W1 00000001 07\nEND\n")
+
+    def test_faults(self):
+        self.assertEqual(check(self.GOOD), "")
+        for old, new in [("FRAMES 8", "FRAMES 7"), ("PAGEFILE 4", "PAGEFILE 0"),
+                         ("PAGEFILE 4\n", "PAGEFILE 4\nPARAM PFC 9\n"), ("LIB SHARED 2", "LIB SHARED 1"),
+                         ("2 2 2 0", "2 2 7 0"), ("2 2 2 0", "2 2 2 1"), ("00000000 1 UW", "00000000 2 UW"),
+                         ("0 UR", "0 XX"), ("MAPZERO A", "MAPZERO B"), ("A R4 00000000", "A R4 00000002"),
+                         ("A R4 00000000", "A R4 00000600"), ("01 07", "01 0007"), ("A R4", "B R4"),
+                         ("A R4", "A A2"), ("END\n", ""), ("END\n", "END"), ("BODY", "! " + "x" * 260),
+                         ("BODY", "! \xe4"), ("END\n", "END\nEND\n"), ("SECTION LIB", "SECTION lib")]:
+            with self.subTest(new):
+                self.assertNotEqual(check(self.GOOD.replace(old, new, 1)), "")
+
+
+class RealPrograms(Case):
+    @unittest.skipUnless(shutil.which("valgrind"), "valgrind isn't there")
+    def test_record_true(self):
+        plain = self.trace("--count", 2000, "--run", "/bin/true")
+        self.assertEqual(lines_of(plain, "PROCESS"), ["PROCESS A 32 32 32 0"])
+        self.assertGreaterEqual(len(body(plain)), 2000)
+        for words in [["--fetches", "--stack", 8192, "--text", "TEXT:A", "--count", 5000],
+                      ["--skip", 3000, "--count", 500, "--no-comments", "--frames", 64]]:
+            self.trace(*words, "--run", "/bin/true")
+
+    @unittest.skipUnless(PROGRAM.exists(), "the program isn't built")
+    def test_program_takes_it(self):
+        one = self.file("one", "p W4 8000 2A\np R4 8000\np R1 9000\n")
+        trace = self.trace("--no-comments", "--frames", 8, "--limit", 4, "--list", one)
+        done = subprocess.run([PROGRAM, "serial"], input=trace, capture_output=True, text=True,
+                              check=False)
+        self.assertEqual((done.returncode, done.stdout.splitlines()[-1]), (0, "STATUS 0"))
+
+    @unittest.skipUnless(PROGRAM.exists(), "the program isn't built")
+    def test_program_takes_the_examples(self):
+        for path in sorted(EXAMPLES.glob("*.trace")):
+            with self.subTest(path.name):
+                done = subprocess.run([PROGRAM, "serial"], input=path.read_bytes(),
+                                      capture_output=True, check=False)
+                last = done.stdout.decode().splitlines()[-2:]
+                if last and re.fullmatch(r"TRACE \d+ NOTBUILT", last[0]):
+                    self.skipTest(f"the program doesn't read all of {path.name} yet")
+                self.assertEqual(done.returncode, 0)
+
+    def test_examples_keep_the_format(self):
+        for path in sorted(EXAMPLES.glob("*.trace")):
+            with self.subTest(path.name):
+                self.assertEqual(check(path.read_text(encoding="ascii")), "")
+
+
+if __name__ == "__main__":
+    unittest.main()
