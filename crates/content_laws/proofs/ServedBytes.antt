@@ -1,8 +1,8 @@
--- A service leaves the bytes of every page that is in flight.
+-- A service leaves the bytes of every page that it doesn't forget, and so of one that is in flight.
 use Rattle.pager_rules.proofs.Basics.{pages_equal}
 use Rattle.std.proofs.Common.{◌||◌, ◌≡◌, ℕ, ◌+◌, ◌<◌, Bool, true, false, cond, not, ◌&&◌, List, [], ◌∷◌, Option, Some, None, filter, nat_eq, refl, sym, ap, ap₂, ◌∙◌, subst, arith}
 use Rattle.std.specs.Option.{option_map}
-use Rattle.std.proofs.lemmas.Bool.{eqb-true, false≢true}
+use Rattle.std.proofs.lemmas.Bool.{and_from, and_parts, eq-eqb, eqb-true, false_from_ne_true, false≢true, true≢false}
 use Rattle.std.proofs.lemmas.Option.{none-some}
 use Rattle.vm_types.specs.Same.{same_page}
 use Rattle.vm_types.specs.declared.names.Page.{Page}
@@ -19,8 +19,8 @@ use Rattle.pager_model.specs.Bytes.{bytes_at, bytes_in}
 use Rattle.pager_model.specs.Flat.{FlatState}
 use Rattle.pager_model.specs.FlatService.{demand_zero, flat_service, in_range, is_private_in, map_range, with_prot}
 use Rattle.pager_model.specs.Flights.{open_flights}
-use Rattle.pager_model.specs.Lookups.{page_at, page_by}
-use Rattle.pager_model.specs.Maps.{Map, Mapped, first_bytes, proc}
+use Rattle.pager_model.specs.Lookups.{own_page, page_at}
+use Rattle.pager_model.specs.Maps.{Map, Mapped, first_bytes, is_private, proc}
 use Rattle.pager_model.specs.Pager.{Pager}
 use Rattle.pager_model.specs.Served.{IsServed}
 use Rattle.pager_model.specs.Sets.{has_page}
@@ -66,37 +66,42 @@ module _ (config : Config) (flat : FlatState) (q : Proc) (v : ℕ) where
   protected prot None = refl
   protected prot (Some m) = refl
 
-module _ (config : Config) (past : List Entry) (a : Pager) (flat : FlatState) (kept : IsKept config (quiet (open_flights past)) a) (maps : a.map ≡ flat.map) (f : ℕ) where
-  -- a page that is held is mapped by its process
-  mapped_held : (q : Proc) (v : ℕ) → a.page f ≡ Some (Private q v) → page_by config a.map q.0 v ≡ Some (Private q v)
-  mapped_held q v held = (kept.pages (Private q v)).mapped (kept.held_charged f (Private q v) refl held)
+-- whether the service forgets the page
+abbrev pub is_dropped : ℕ → Service → Answer → Page → Bool
+is_dropped p (service.Delete at pages) answer.Good g = is_private_in p at.0 pages g
+is_dropped p s other g = false
 
-  unmapped_none : (q : Proc) (v : ℕ) → a.page f ≡ Some (Private q v) → a.map q.0 v ≡ None → ⊥
-  unmapped_none q v held none = none-some (Private q v) (sym (ap (page_at config q.0 v) none) ∙ mapped_held q v held)
+module _ (config : Config) (past : List Entry) (a : Pager) (flat : FlatState) where
+  unmapped_none : (q : Proc) (v : ℕ) → own_page config a.map (Private q v) ≡ Some (Private q v) → a.map q.0 v ≡ None → ⊥
+  unmapped_none q v mapped none = none-some (Private q v) (sym (ap (page_at config q.0 v) none) ∙ mapped)
 
-  pub served_bytes : (p : ℕ) (s : Service) (w : Answer) (g : Page) → IsServed config past a p s w → 0 < reads_on f (open_flights past) + writes_on f (open_flights past) → a.page f ≡ Some g
-      → bytes_in config (flat_service flat p s w) g ≡ bytes_in config flat g
-  served_bytes p (service.Create at pages prot) answer.Good (Shared s i) legal busy held = refl
-  served_bytes p (service.Create at pages prot) answer.Good (Private q v) legal busy held =
+  -- a page that is shared, or mapped by its process, and isn't forgotten
+  pub served_keeps : (p : ℕ) (s : Service) (w : Answer) (g : Page) → IsServed config past a p s w → (is_private g ≡ true → own_page config a.map g ≡ Some g) → is_dropped p s w g ≡ false → bytes_in config (flat_service flat p s w) g ≡ bytes_in config flat g
+  served_keeps p (service.Create at pages prot) answer.Good (Shared s i) legal mapped stays = refl
+  served_keeps p (service.Create at pages prot) answer.Good (Private q v) legal mapped stays =
       bytes_by config flat q v flat.touched (map_range (λ (o : Option Mapped). Some (demand_zero prot)) p at.0 pages flat.map) refl
-      (range_by config flat q v (λ (o : Option Mapped). Some (demand_zero prot)) p at.0 pages (λ inside same. absurd (unmapped_none q v held (subst (λ (r : ℕ). a.map r v ≡ None) same (legal.1 v inside)))))
-  served_bytes p (service.Delete at pages) answer.Good (Shared s i) legal busy held = refl
-  served_bytes p (service.Delete at pages) answer.Good (Private q v) legal busy held =
+      (range_by config flat q v (λ (o : Option Mapped). Some (demand_zero prot)) p at.0 pages (λ inside same. absurd (unmapped_none q v (mapped refl) (subst (λ (r : ℕ). a.map r v ≡ None) same (legal.1 v inside)))))
+  served_keeps p (service.Delete at pages) answer.Good (Shared s i) legal mapped stays = refl
+  served_keeps p (service.Delete at pages) answer.Good (Private q v) legal mapped stays =
       bytes_by config flat q v (filter (λ (page : Page). not (is_private_in p at.0 pages page)) flat.touched) (map_range (λ (o : Option Mapped). None) p at.0 pages flat.map)
-      (kept_page p at.0 pages (Private q v) flat.touched (outside (nat_eq p q.0) refl (in_range at.0 pages v) refl))
-      (range_by config flat q v (λ (o : Option Mapped). None) p at.0 pages (λ inside same. absurd (in_flight inside same)))
-    where
-      in_flight : in_range at.0 pages v ≡ true → p ≡ q.0 → ⊥
-      in_flight inside same =
-          let own : a.page f ≡ Some (Private (proc p) v) = held ∙ ap (λ (r : ℕ). Some (Private (proc r) v)) (sym same) in
-          omega (arith, busy, legal.1.not_in_flight v f inside own)
-
-      outside : (b : Bool) → nat_eq p q.0 ≡ b → (c : Bool) → in_range at.0 pages v ≡ c → (nat_eq p q.0 && in_range at.0 pages v) ≡ false
-      outside true same true inside = absurd (in_flight inside (eqb-true _ _ same))
-      outside true same false out = ap₂ (λ (d e : Bool). d && e) same out
-      outside false other c is = ap (λ (d : Bool). d && in_range at.0 pages v) other
-  served_bytes p (service.Protect at pages prot) answer.Good (Shared s i) legal busy held = refl
-  served_bytes p (service.Protect at pages prot) answer.Good (Private q v) legal busy held =
+      (kept_page p at.0 pages (Private q v) flat.touched stays)
+      (range_by config flat q v (λ (o : Option Mapped). None) p at.0 pages (λ inside same. absurd (true≢false (sym (and_from _ _ (eq-eqb p q.0 same) inside) ∙ stays))))
+  served_keeps p (service.Protect at pages prot) answer.Good (Shared s i) legal mapped stays = refl
+  served_keeps p (service.Protect at pages prot) answer.Good (Private q v) legal mapped stays =
       bytes_by config flat q v flat.touched (map_range (option_map (with_prot prot)) p at.0 pages flat.map) refl
       (range_by config flat q v (option_map (with_prot prot)) p at.0 pages (λ inside same. protected config flat q v prot (flat.map q.0 v)))
-  served_bytes p s other g legal busy held = refl
+  served_keeps p s other g legal mapped stays = refl
+
+  -- no service forgets a page that is in flight
+  pub flying_stays : (p : ℕ) (s : Service) (w : Answer) (g : Page) (f : ℕ) → IsServed config past a p s w → 0 < reads_on f (open_flights past) + writes_on f (open_flights past) → a.page f ≡ Some g → is_dropped p s w g ≡ false
+  flying_stays p (service.Delete at pages) answer.Good (Shared s i) f legal busy held = refl
+  flying_stays p (service.Delete at pages) answer.Good (Private q v) f legal busy held = false_from_ne_true (nat_eq p q.0 && in_range at.0 pages v) (λ both.
+      let parts = and_parts (nat_eq p q.0) (in_range at.0 pages v) both in
+      let own : a.page f ≡ Some (Private (proc p) v) = held ∙ ap (λ (r : ℕ). Some (Private (proc r) v)) (sym (eqb-true p q.0 parts.0)) in
+      omega (arith, busy, legal.1.not_in_flight v f parts.1 own))
+  flying_stays p s other g f legal busy held = refl
+
+  -- so it leaves the bytes of such a page
+  pub served_bytes : IsKept config (quiet (open_flights past)) a → (f p : ℕ) (s : Service) (w : Answer) (g : Page) → IsServed config past a p s w → 0 < reads_on f (open_flights past) + writes_on f (open_flights past) → a.page f ≡ Some g
+      → bytes_in config (flat_service flat p s w) g ≡ bytes_in config flat g
+  served_bytes kept f p s w g legal busy held = served_keeps p s w g legal (λ private. (kept.pages g).mapped (kept.held_charged f g private held)) (flying_stays p s w g f legal busy held)

@@ -100,7 +100,7 @@ forgotten_page : (page : ℕ → Option Page) (o : Option ℕ) (f : ℕ) → ((h
 forgotten_page page None f apart = refl
 forgotten_page page (Some h) f apart = at_number_other page h None f (apart h refl)
 
-holder_holds : (config : Config) (page : ℕ → Option Page) (g : Page) (h : ℕ) → holder config page g ≡ Some h → page h ≡ Some g
+pub holder_holds : (config : Config) (page : ℕ → Option Page) (g : Page) (h : ℕ) → holder config page g ≡ Some h → page h ≡ Some g
 holder_holds config page g h found = go (page h) refl (found_passes (λ (f : ℕ). holds_page g (page f)) (range_with_len 0 config.frames) h found)
   where
     go : (o : Option Page) → page h ≡ o → holds_page g o ≡ true → page h ≡ Some g
@@ -246,11 +246,11 @@ module _ (config : Config) (past : List Entry) (a : Pager) (x : Flight) (is_open
   served_page p (service.Adjust n) answer.Good legal kept = refl
   served_page p s other legal kept = refl
 
-  pub served_left : (seat : Seat) (s : Service) (w : Answer) → IsKept config (quiet (open_flights past)) a → a.map ≡ (flat_after config past).map → IsServed config past a seat.0 s w
+  pub served_left : (seat : Seat) (s : Service) (w : Answer) → IsKept config (quiet (open_flights past)) a → IsServed config past a seat.0 s w
       → LeavesFlight config past a (record { seat = seat; what = what.Served s w }) x
-  served_left seat s w kept maps legal g held =
+  served_left seat s w kept legal g held =
       left config past a x is_open (record { seat = seat; what = what.Served s w }) (after_served config a seat.0 s w) g refl (served_page seat.0 s w legal kept)
-      (λ reads. served_bytes config past a (flat_after config past) kept maps x.frame seat.0 s w g legal (on_frame x flights (counts_open past x is_open) x.frame refl) held) refl
+      (λ reads. served_bytes config past a (flat_after config past) kept x.frame seat.0 s w g legal (on_frame x flights (counts_open past x is_open) x.frame refl) held) refl
 
   pub same_left : (e : Entry) → find (starts x.start) (open_flights (e ∷ past)) ≡ find (starts x.start) flights → (after config past a e).page ≡ a.page → flat_after config (e ∷ past) ≡ flat_after config past → counts_of x.block (e ∷ past) ≡ counts_of x.block past → LeavesFlight config past a e x
   same_left e found page flat counts g held = left config past a x is_open e (after config past a e) g found (ap (λ (p : ℕ → Option Page). p x.frame) page) (λ reads. ap (λ (s : FlatState). bytes_in config s g) flat) counts
@@ -263,7 +263,7 @@ module _ (config : Config) (past : List Entry) (a : Pager) (x : Flight) (is_open
       → LeavesFlight config past a (entry seat w) x
   row_leaves seat (what.Done r answer) kept maps turn legal other = done_left config past a x is_open seat r answer (calm config past a (entry seat (what.Done r answer)) turn refl kept) maps legal
   row_leaves seat (what.Denied r reason) kept maps turn legal other = same_left (entry seat (what.Denied r reason)) refl refl refl refl
-  row_leaves seat (what.Served s w) kept maps turn legal other = served_left seat s w (calm config past a (entry seat (what.Served s w)) turn refl kept) maps legal
+  row_leaves seat (what.Served s w) kept maps turn legal other = served_left seat s w (calm config past a (entry seat (what.Served s w)) turn refl kept) legal
   row_leaves seat (what.Reuse f g) kept maps turn legal other = reuse_left seat f g kept turn.reuse legal
   row_leaves seat (what.Zero address f) kept maps turn legal other = zero_left seat address f (calm config past a (entry seat (what.Zero address f)) turn refl kept) legal
   row_leaves seat (what.Back q address f from) kept maps turn legal other = same_left (entry seat (what.Back q address f from)) refl (back_page a (a.status q.0) q.0 address.0 f.0) refl refl

@@ -40,7 +40,7 @@ use Rattle.pager_rules.proofs.Views.{frames_move, pages_move}
 use Rattle.pager_rules.specs.Kept.{FitsBlock, FitsDirection, FitsFlight, FitsFrame, FitsPage, FitsProcess, HasUnsaved, IsForItsPage, IsInFrame, IsKept, saves, views}
 
 -- a page in a frame without shares has no entry
-idle_entry : (config : Config) (a : Pager) (kept_once : (f g : ℕ) (y : Page) → a.page f ≡ Some y → a.page g ≡ Some y → f ≡ g) (p v f : ℕ) (g : Page) → page_by config a.map p v ≡ Some g → a.page f ≡ Some g → shares a.valid f ≡ 0
+pub idle_entry : (config : Config) (a : Pager) (kept_once : (f g : ℕ) (y : Page) → a.page f ≡ Some y → a.page g ≡ Some y → f ≡ g) (p v f : ℕ) (g : Page) → page_by config a.map p v ≡ Some g → a.page f ≡ Some g → shares a.valid f ≡ 0
     → AllByRecursion (IsForItsPage config a.map a.page) a.valid → entries_at a.valid p v ≡ 0
 idle_entry config a once p v f g own held none all = go (entries_at a.valid p v) refl
   where

@@ -46,7 +46,7 @@ charged_less : (config : Config) (pages : List Page) (a : Pager) (h : Page) → 
 charged_less config [] a h = omega arith
 charged_less config (g ∷ pages) a h = omega (arith, charged_less config pages (forgotten config a g) h, count_filter_le (same_page h) (λ (x : Page). not (same_page g x)) a.charged)
 
-charged_none : (config : Config) (pages : List Page) (a : Pager) (h : Page) → 0 < count_page pages h → count_page (forget_all config pages a).charged h ≡ 0
+pub charged_none : (config : Config) (pages : List Page) (a : Pager) (h : Page) → 0 < count_page pages h → count_page (forget_all config pages a).charged h ≡ 0
 charged_none config [] a h some = absurd (omega arith)
 charged_none config (g ∷ pages) a h some = go (same_page h g) refl (charged_none config pages (forgotten config a g) h)
   where
@@ -111,7 +111,7 @@ inside_to address pages v is =
     omega (arith, range_counts (page_number address) pages v (leb-true _ _ parts.0) (ltb-true _ _ parts.1))
 
 -- a frame that holds a page of p without a valid entry isn't shared
-unshared : (config : Config) (a : Pager) (flights : List Flight) (p v f : ℕ) → IsKept config (quiet flights) a → entries_at a.valid p v ≡ 0 → a.page f ≡ Some (Private (proc p) v) → shares a.valid f ≡ 0
+pub unshared : (config : Config) (a : Pager) (flights : List Flight) (p v f : ℕ) → IsKept config (quiet flights) a → entries_at a.valid p v ≡ 0 → a.page f ≡ Some (Private (proc p) v) → shares a.valid f ≡ 0
 unshared config a flights p v f kept none holds = go (shares a.valid f) refl
   where
     go : (n : ℕ) → shares a.valid f ≡ n → shares a.valid f ≡ 0

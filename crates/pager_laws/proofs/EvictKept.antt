@@ -58,7 +58,7 @@ slot_found v (Some held ∷ xs) some = go (nat_eq held.vpn v) refl (slot_found v
     go true is rest = (held, refl, eqb-true held.vpn v is)
     go false is rest = let later = rest (omega (arith, count_cons_no (has_vpn v) (Some held) xs is)) in (later.0, next_slot (Some held) xs (position_or_len (has_vpn v) xs) ∙ later.1, later.2)
 
-in_its_slot : (config : Config) (past : List Entry) (a : Pager) (p v f : ℕ) (to : FrameState) → IsKept config (quiet (open_flights past)) a → IsTaken past a p v f to → IsEvicted past a p v f (slot_with (a.ring p) v) to
+pub in_its_slot : (config : Config) (past : List Entry) (a : Pager) (p v f : ℕ) (to : FrameState) → IsKept config (quiet (open_flights past)) a → IsTaken past a p v f to → IsEvicted past a p v f (slot_with (a.ring p) v) to
 in_its_slot config past a p v f to kept taken =
     let some = count_found (is_entry p v) (is_entry p v) a.valid taken.entry taken.valid (found_passes (is_entry p v) a.valid taken.entry taken.valid) in
     let found = slot_found v (a.ring p).slots (omega (arith, (kept.entries p v).slots)) in

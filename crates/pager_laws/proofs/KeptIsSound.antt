@@ -75,16 +75,16 @@ same_block_refl (block.PageFile i) = nat_eq_refl i
 same_block_refl (block.Swap p n) = and_from _ _ (nat_eq_refl p.0) (nat_eq_refl n)
 
 -- a page that counts
-has_from_count : (pages : List Page) (g : Page) → 0 < count_page pages g → has_page pages g ≡ true
+pub has_from_count : (pages : List Page) (g : Page) → 0 < count_page pages g → has_page pages g ≡ true
 has_from_count pages g some = any_counts (same_page g) pages ∙ lt-ltb 0 _ some
 
-count_from_has : (pages : List Page) (g : Page) → has_page pages g ≡ true → 0 < count_page pages g
+pub count_from_has : (pages : List Page) (g : Page) → has_page pages g ≡ true → 0 < count_page pages g
 count_from_has pages g is = ltb-true 0 _ (sym (any_counts (same_page g) pages) ∙ is)
 
-has_none : (pages : List Page) (g : Page) → count_page pages g ≡ 0 → has_page pages g ≡ false
+pub has_none : (pages : List Page) (g : Page) → count_page pages g ≡ 0 → has_page pages g ≡ false
 has_none pages g none = any_counts (same_page g) pages ∙ ap (λ (n : ℕ). nat_lt 0 n) none
 
-none_from_has : (pages : List Page) (g : Page) → has_page pages g ≡ false → count_page pages g ≡ 0
+pub none_from_has : (pages : List Page) (g : Page) → has_page pages g ≡ false → count_page pages g ≡ 0
 none_from_has pages g none = count_none (same_page g) pages none
 
 -- ---- the same by both definitions

@@ -153,7 +153,7 @@ remapped_right config map change p address pages old new q v m = go (nat_eq p q)
     go true same false inside is = old q v m is
     go false same d inside is = old q v m is
 
-in_service : (address pages v : ℕ) → IsRange address pages → in_range address pages v ≡ true → IsMappable v
+pub in_service : (address pages v : ℕ) → IsRange address pages → in_range address pages v ≡ true → IsMappable v
 in_service address pages v range inside =
     let parts = and_parts (nat_le (page_number address) v) _ inside in
     in_pages address pages v range (leb-true _ _ parts.0) (ltb-true _ _ parts.1)

@@ -70,7 +70,7 @@ written_frame x fits some = go x.state refl
     go state.Reading e = absurd (omega (arith, (none state.Reading e).writes))
 
 -- a slot holds one page
-one_in_slot : (q : ℕ) (held : Held) (g h : Page) → FitsSlot q (Some held) g → FitsSlot q (Some held) h → g ≡ h
+pub one_in_slot : (q : ℕ) (held : Held) (g h : Page) → FitsSlot q (Some held) g → FitsSlot q (Some held) h → g ≡ h
 one_in_slot q held (Private p v) (Private r w) fits also =
     let first = fits.0 ∙ sym also.0 in
     let second = sym fits.1 ∙ also.1 in

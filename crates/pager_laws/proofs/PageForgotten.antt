@@ -44,7 +44,7 @@ dropped_own {X} q (x ∷ xs) = go (q x) refl (dropped_own q xs)
     go true is none = none
     go false is none = count_cons_no q x rest is ∙ none
 
-dropped_other : {X : Type 0} (p q : X → Bool) → ((x : X) → q x ≡ true → p x ≡ false) → (xs : List X) → count_by p (filter (λ (y : X). not (q y)) xs) ≡ count_by p xs
+pub dropped_other : {X : Type 0} (p q : X → Bool) → ((x : X) → q x ≡ true → p x ≡ false) → (xs : List X) → count_by p (filter (λ (y : X). not (q y)) xs) ≡ count_by p xs
 dropped_other p q far [] = refl
 dropped_other {X} p q far (x ∷ xs) = go (q x) refl (dropped_other p q far xs)
   where
@@ -59,7 +59,7 @@ dropped_other {X} p q far (x ∷ xs) = go (q x) refl (dropped_other p q far xs)
         step true is_p = count_cons_yes p x rest is_p ∙ (ap (λ (n : ℕ). 1 + n) same ∙ sym (count_cons_yes p x xs is_p))
         step false other = count_cons_no p x rest other ∙ (same ∙ sym (count_cons_no p x xs other))
 
-dropped_find : {X : Type 0} (p q : X → Bool) → ((x : X) → q x ≡ true → p x ≡ false) → (xs : List X) → find p (filter (λ (y : X). not (q y)) xs) ≡ find p xs
+pub dropped_find : {X : Type 0} (p q : X → Bool) → ((x : X) → q x ≡ true → p x ≡ false) → (xs : List X) → find p (filter (λ (y : X). not (q y)) xs) ≡ find p xs
 dropped_find p q far [] = refl
 dropped_find {X} p q far (x ∷ xs) = go (q x) refl (dropped_find p q far xs)
   where

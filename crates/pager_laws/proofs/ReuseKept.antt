@@ -39,7 +39,7 @@ use Rattle.pager_rules.proofs.Views.{frames_move, pages_move}
 use Rattle.pager_rules.specs.Kept.{FitsFailure, FitsFlight, FitsFrame, FitsPage, FitsRead, HasUnsaved, HeldCharged, HeldOnce, IsFirstRead, IsForItsPage, IsInFrame, IsKept, saves, views}
 
 -- ---- a page is charged no more
-uncharged_own : (pages : List Page) (g : Page) → count_page (without_page pages g) g ≡ 0
+pub uncharged_own : (pages : List Page) (g : Page) → count_page (without_page pages g) g ≡ 0
 uncharged_own [] g = refl
 uncharged_own (x ∷ pages) g = go (same_page g x) refl (uncharged_own pages g)
   where
@@ -47,7 +47,7 @@ uncharged_own (x ∷ pages) g = go (same_page g x) refl (uncharged_own pages g)
     go true is rest = rest
     go false is rest = count_cons_no (same_page g) x (without_page pages g) is ∙ rest
 
-uncharged_other : (pages : List Page) (g h : Page) → same_page h g ≡ false → count_page (without_page pages g) h ≡ count_page pages h
+pub uncharged_other : (pages : List Page) (g h : Page) → same_page h g ≡ false → count_page (without_page pages g) h ≡ count_page pages h
 uncharged_other [] g h apart = refl
 uncharged_other (x ∷ pages) g h apart = go (same_page g x) refl (uncharged_other pages g h apart)
   where
