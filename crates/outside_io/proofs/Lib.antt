@@ -1,2 +1,3 @@
 mod ReadLemmas
 mod WriteLemmas
+pub mod WritesInTurn

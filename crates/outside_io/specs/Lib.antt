@@ -4,3 +4,4 @@ pub mod WholeWrite
 pub mod Listed
 pub mod MemoryInput
 pub mod MemoryOutput
+pub mod Writes

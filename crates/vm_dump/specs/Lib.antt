@@ -1,0 +1,10 @@
+pub mod Dumped
+pub mod Text
+pub mod Bounds
+pub mod Begins
+pub mod Reading
+pub mod Answers
+pub mod Room
+pub mod Outcome
+pub mod Short
+pub mod Laws
