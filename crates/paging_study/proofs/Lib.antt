@@ -1,0 +1,16 @@
+pub mod Counts
+pub mod Bound
+pub mod Exact
+pub mod Begins
+pub mod Rule
+pub mod Tight
+pub mod KeptSchedule
+pub mod Holds
+pub mod EndsByPlace
+pub mod Forward
+pub mod Backward
+pub mod Flags
+pub mod Together
+pub mod Distance
+pub mod RingSteps
+pub mod OneChoice

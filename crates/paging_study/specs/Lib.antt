@@ -1,0 +1,9 @@
+pub mod Places
+pub mod Intervals
+pub mod Schedule
+pub mod Least
+pub mod Open
+pub mod Recency
+pub mod RingFaults
+pub mod PageString
+pub mod Laws

@@ -1,0 +1,22 @@
+//! What a list of page references costs with so many frames: in the ring of a working set, with the
+//! least recently used page replaced, and at the least.
+#![tactic(auto)]
+
+mod cuts;
+mod drops;
+mod intervals;
+mod kept;
+mod laws;
+mod least;
+mod lru;
+mod references;
+mod ring;
+
+pub use laws::{cuts_bound_faults, least_faults_has_one_choice};
+pub use least::{Least, least_faults};
+pub use lru::lru_faults;
+pub use references::page_string;
+pub use ring::ring_faults;
+
+#[cfg(test)]
+mod tests;
