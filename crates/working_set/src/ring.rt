@@ -123,6 +123,14 @@ impl Ring {
         self.set_lock(slot, false);
     }
 
+    /// How many slots there are: 1 at least.
+    pub fn slots(&self) -> u32
+        ensures value { result ≡ length self.now.slots }
+        ensures ring { IsRing self.now }
+    {
+        self.slots.len() as u32
+    }
+
     /// How many slots hold a page.
     pub fn count(&self) -> u32
         ensures value { result ≡ filled self.now.slots }

@@ -46,7 +46,7 @@ fn tells_locks_and_the_hand_of_the_greatest_ring(rt: HostRuntime) -> Result<(), 
     assert!(rt; made.is_ok());
     let mut ring = made?;
     ring.place(1023, 4_194_303, true);
-    assert_eq!(rt; ring.hand(), 0);
+    assert_eq!(rt; (ring.hand(), ring.slots()), (0, 1024));
     ring.lock(1023);
     assert_eq!(rt; (ring.is_locked(1022), ring.is_locked(1023)), (false, true));
     ring.clear(1023, true);

@@ -1,0 +1,6 @@
+use Rattle.frame_moves.proofs.RowChanges.{row_counted}
+use Rattle.frame_moves.proofs.writes.begin_write.Goals as goal
+
+pub returns-clause-rows : goal.returns-clause-rows
+returns-clause-rows c =
+    row_counted _ _ c.args.f.0 _ c.begin_flight.ensures.consistent c.requires.below c.begin_flight.ensures.rows

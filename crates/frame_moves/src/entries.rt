@@ -1,0 +1,69 @@
+ghost use Rattle.std.specs.Prelude.{◌≡◌, ◌≢◌, ◌<◌, ◌+◌, ◌-◌, ◌^◌, ◌==◌, if◌then◌else◌, length, IfSome, slice_set, Some};
+ghost use Rattle.page_lists.specs.Lists.{without};
+ghost use Rattle.pfn_database.specs.Rows.{FitsSlot, counted_references};
+ghost use Rattle.pfn_database.specs.Frames.{row_of, IsConsistent};
+ghost use Rattle.pager_model.specs.Changes.{pushed_if};
+ghost use Rattle.pager_model.specs.Evict.{evicted_to};
+ghost use Rattle.pager_model.specs.Lookups.{is};
+
+use pfn_database::Pfns;
+use vm_types::{FrameState, Page, Pfn};
+
+/// One more entry is valid for a frame that is empty or holds this page: it leaves the list that it
+/// is on, if any, and is active. The slot is the ring slot, 0 for a shared page. An open transfer
+/// goes on.
+pub fn enter(frames: &mut Pfns, f: Pfn, page: Page, slot: u32, modify: bool)
+    requires below { f.0 < length frames.old.rows }
+    requires usable { ((row_of frames.old f.0).state ≢ FrameState.Bad)
+        × ((row_of frames.old f.0).state ≢ FrameState.ReadError) }
+    requires page { IfSome (row_of frames.old f.0).page (λ held. held ≡ page) }
+    requires slot { FitsSlot (Some page) slot }
+    requires shares { (row_of frames.old f.0).shares < 2 ^ 32 - 1 }
+    ensures rows { let row = row_of frames.old f.0 in
+        frames.new.rows ≡ slice_set frames.old.rows f.0
+        (record row {
+          state = FrameState.Active;
+          page = Some page;
+          modify = modify;
+          refs = counted_references (row.shares + 1) row.flights;
+          shares = row.shares + 1;
+          slot = slot;
+        }) }
+    ensures free { frames.new.free ≡ without frames.old.free f.0 }
+    ensures modified { frames.new.modified ≡ without frames.old.modified f.0 }
+    ensures consistent { IsConsistent frames.new }
+{
+    frames.set_active(f, page, slot);
+    frames.share(f);
+    frames.mark(f, modify);
+}
+
+/// One entry less is valid for an active frame. The last one gives up the slot; the frame is then
+/// release pending while a transfer is open, else it goes onto the tail of the modified list where
+/// its modify mark is set, and onto the tail of the free list where it isn't. It keeps its page.
+pub fn leave(frames: &mut Pfns, f: Pfn)
+    requires below { f.0 < length frames.old.rows }
+    requires active { (row_of frames.old f.0).state ≡ FrameState.Active }
+    requires shares { 0 < (row_of frames.old f.0).shares }
+    ensures rows { let row = row_of frames.old f.0 in
+        frames.new.rows ≡ slice_set frames.old.rows f.0
+        (record row {
+          state = evicted_to row.shares row.flights row.modify;
+          refs = counted_references (row.shares - 1) row.flights;
+          shares = row.shares - 1;
+          slot = if row.shares == 1 then 0 else row.slot;
+        }) }
+    ensures free { let row = row_of frames.old f.0 in
+        frames.new.free ≡ pushed_if
+        (is FrameState.Free (evicted_to row.shares row.flights row.modify)) frames.old.free f.0 }
+    ensures modified { let row = row_of frames.old f.0 in
+        frames.new.modified ≡ pushed_if
+        (is FrameState.Modified (evicted_to row.shares row.flights row.modify)) frames.old.modified f.0 }
+    ensures consistent { IsConsistent frames.new }
+{
+    let row = frames.row(f);
+    frames.unshare(f);
+    if row.shares == 1 && row.flights == 0 {
+        frames.settle(f);
+    }
+}

@@ -1,0 +1,6 @@
+pub mod Blocks
+pub mod Numbers
+pub mod StoreView
+pub mod LiftView
+pub mod Loans
+pub mod TestStore

@@ -1,0 +1,15 @@
+//! The frames of memory with their buffers, the blocks of the disk, and what an open transfer takes out
+//! of both.
+#![tactic(auto)]
+
+mod lift;
+mod numbers;
+mod opening;
+mod store;
+
+pub use numbers::{firsts, page_counts};
+pub use lift::{Carried, Lift};
+pub use store::Store;
+
+#[cfg(test)]
+mod tests;

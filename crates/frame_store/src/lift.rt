@@ -1,0 +1,159 @@
+ghost use Rattle.std.specs.Prelude.{◌≡◌, ◌+◌, ◌<◌, ◌^◌, true, false, length, if◌then◌else◌, OnOk, OnErr};
+ghost use Rattle.disk_trait.specs.Told.{told, IsAnyContent};
+ghost use Rattle.frame_store.specs.LiftView.{IsCarried};
+
+use disk_trait::Block;
+use page_pool::PageBuf;
+use std::marker::Model;
+use vm_types::{BlockId, Failed, Page, Pfn, Seat};
+
+/// How far a lift was carried.
+#[derive(Clone, Copy, Debug, PartialEq, Eq)]
+pub enum Carried {
+    /// Not yet.
+    Waiting,
+    /// The block was read or written.
+    Good,
+    /// The block failed; its count of failures was `before` and is `after`.
+    Bad { before: u64, after: u64 },
+}
+
+/// An open transfer between a frame and a block: the block, and a buffer of the frame's bytes. It is
+/// carried outside of the store that it was lifted from, and then lands there.
+#[derive(Drop)]
+pub struct Lift<B: Block> {
+    pub(crate) seat: Seat,
+    pub(crate) page: Page,
+    pub(crate) frame: Pfn,
+    pub(crate) id: BlockId,
+    pub(crate) block: B,
+    pub(crate) buf: PageBuf,
+    pub(crate) start: u64,
+    pub(crate) read: bool,
+    pub(crate) result: Carried,
+}
+
+impl<B: Block> Model for Lift<B> {
+    ghost use Rattle.std.specs.Prelude.{◌+◌};
+    ghost use Rattle.frame_store.specs.LiftView.{LiftView, MayCall};
+
+    ghost Value = { LiftView B };
+
+    ghost view = { λ l. record {
+      start = l.start;
+      seat = l.seat;
+      page = l.page;
+      frame = (l.frame).0;
+      block = l.id;
+      is_read = l.read;
+      buffer = (l.buf).bytes;
+      held = l.block;
+      result = l.result;
+      pool = (l.buf).pool;
+    } };
+
+    ghost invariant = { λ l. MayCall l.result (B.reads l.block + B.writes l.block) };
+}
+
+impl<B: Block> Lift<B> {
+    /// The number of the entry in which the transfer began. No call of a lift allocates.
+    pub fn start(&self) -> u64
+        ensures { result ≡ self.now.start }
+    {
+        self.start
+    }
+
+    /// Who began it.
+    pub fn seat(&self) -> Seat
+        ensures { result ≡ self.now.seat }
+    {
+        self.seat
+    }
+
+    /// The page whose bytes are moved.
+    pub fn page(&self) -> Page
+        ensures { result ≡ self.now.page }
+    {
+        self.page
+    }
+
+    /// The frame of the page.
+    pub fn frame(&self) -> Pfn
+        ensures { result.0 ≡ self.now.frame }
+    {
+        self.frame
+    }
+
+    /// The block's name.
+    pub fn id(&self) -> BlockId
+        ensures { result ≡ self.now.block }
+    {
+        self.id
+    }
+
+    /// Whether the block is read; else it is written.
+    pub fn is_read(&self) -> bool
+        ensures { result ≡ self.now.is_read }
+    {
+        self.read
+    }
+
+    /// How far it was carried.
+    pub fn result(&self) -> Carried
+        ensures { result ≡ self.now.result }
+    {
+        self.result
+    }
+
+    /// Reads the block into the buffer, or writes the buffer to it. After `Good` this was done, and the
+    /// block's count of failures is as before; after `Bad` the block failed, its count rose, and it has
+    /// its content after a read, and any 512 bytes after a write. A failed read leaves the buffer any
+    /// bytes.
+    pub fn carry(&mut self)
+        requires { self.old.result ≡ Carried.Waiting }
+        ensures same { self.new ≡ record self.old {
+          held = self.new.held;
+          buffer = self.new.buffer;
+          result = self.new.result;
+        } }
+        ensures size { length self.new.buffer ≡ 512 }
+        ensures written { self.old.is_read ≡ false → self.new.buffer ≡ self.old.buffer }
+        ensures plan { B.plan self.new.held ≡ B.plan self.old.held }
+        ensures reads { B.reads self.new.held ≡ B.reads self.old.held + (if self.old.is_read then 1 else 0) }
+        ensures writes { B.writes self.new.held ≡ B.writes self.old.held + (if self.old.is_read then 0 else 1) }
+        ensures result { IsCarried B.tells_content B.content B.faults self.old self.new }
+    {
+        let before = self.block.faults();
+        let done = move_bytes(&mut self.block, &mut self.buf, self.read);
+        self.result = match done {
+            Ok(()) => Carried::Good,
+            Err(_) => Carried::Bad {
+                before,
+                after: self.block.faults(),
+            },
+        };
+    }
+}
+
+/// Reads the block into the buffer, or writes the buffer to it.
+fn move_bytes<B: Block>(block: &mut B, buf: &mut PageBuf, read: bool) -> Result<(), Failed>
+    requires { B.reads block.old + B.writes block.old < 2 ^ 48 }
+    ensures pool { buf.new.pool ≡ buf.old.pool }
+    ensures size { length buf.new.bytes ≡ 512 }
+    ensures written { read ≡ false → buf.new ≡ buf.old }
+    ensures plan { B.plan block.new ≡ B.plan block.old }
+    ensures reads { B.reads block.new ≡ B.reads block.old + (if read then 1 else 0) }
+    ensures writes { B.writes block.new ≡ B.writes block.old + (if read then 0 else 1) }
+    ensures ok { OnOk result (B.faults block.new ≡ B.faults block.old) }
+    ensures failed { OnErr result (B.faults block.old < B.faults block.new) }
+    ensures read { read ≡ true → B.content block.new ≡ B.content block.old }
+    ensures bytes { read ≡ true → OnOk result (B.content block.old ≡ told B.tells_content buf.new.bytes) }
+    ensures content { read ≡ false → OnOk result (B.content block.new ≡ told B.tells_content buf.new.bytes) }
+    ensures torn { read ≡ false → OnErr result (IsAnyContent B.tells_content (B.content block.new)) }
+{
+    if read {
+        block.read(buf.bytes_mut())
+    } else {
+        block.write(buf.bytes())
+    }
+}

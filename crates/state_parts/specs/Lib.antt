@@ -1,0 +1,3 @@
+pub mod ChargedTable
+pub mod SwapTable
+pub mod Victim
