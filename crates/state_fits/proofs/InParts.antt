@@ -1,0 +1,366 @@
+-- IN: a read begins, of role FAULT, NEAR or COME.
+use Rattle.std.proofs.Common.{◌≡◌, ◌⊎◌, inl, inr, ℕ, ◌<◌, ◌+◌, Bool, true, false, cond, List, ◌∷◌, Option, Some, None, length, nat_eq, slice_set, slice_index_or, refl, sym, ap, ◌∙◌, subst, subst₂, arith}
+use Rattle.std.specs.Prelude.{◌&&◌, ◌||◌, if◌then◌else◌}
+use Rattle.std.proofs.lemmas.Bool.{eqb-true, eqb-false, false≢true}
+use Rattle.vm_types.specs.Configuration.{IsBlock, IsSectionPage, IsWellFormed}
+use Rattle.vm_types.specs.declared.config.Config.{Config}
+use Rattle.vm_types.specs.declared.names.Addr.{Addr}
+use Rattle.vm_types.specs.declared.names.BlockId.{BlockId}
+use Rattle.vm_types.specs.declared.names.BlockId.TheVariants as block
+use Rattle.vm_types.specs.declared.names.FrameState.TheVariants as state
+use Rattle.vm_types.specs.declared.names.Page.{Page}
+use Rattle.vm_types.specs.declared.names.Page.TheVariants.{Private, Shared}
+use Rattle.vm_types.specs.declared.names.Pfn.{Pfn}
+use Rattle.vm_types.specs.declared.names.Proc.{Proc}
+use Rattle.vm_types.specs.declared.names.Seat.{Seat}
+use Rattle.vm_types.specs.declared.names.SecId.{SecId}
+use Rattle.vm_journal.specs.declared.entry.Entry.{Entry}
+use Rattle.vm_journal.specs.declared.entry.Role.{Role}
+use Rattle.vm_journal.specs.declared.entry.Role.TheVariants as role
+use Rattle.vm_journal.specs.declared.entry.What.TheVariants as what
+use Rattle.page_lists.specs.Lists.{without}
+use Rattle.page_tables.specs.PageTables.{PageTables, entry_of as pte_in}
+use Rattle.page_file.specs.Blocks.{Blocks}
+use Rattle.global_pages.specs.GlobalPages.{GlobalPages}
+use Rattle.pfn_database.specs.Frames.{Frames, row_of}
+use Rattle.pfn_database.specs.Rows.{counted_references}
+use Rattle.pager_model.specs.Around.{PastView, past_view}
+use Rattle.pager_model.specs.Flights.{Flight, open_flights, reading}
+use Rattle.pager_model.specs.In.{IsFirstIn, IsInFault, IsInLying, charged_with}
+use Rattle.pager_model.specs.Lookups.{IsHead, block_of, count_page, own_page, page_by}
+use Rattle.pager_model.specs.Maps.{is_private, page_number, proc}
+use Rattle.pager_model.specs.Pager.{Pager}
+use Rattle.pager_model.specs.Sets.{at_number, has_page}
+use Rattle.pager_model.specs.Step.{after, IsLegal}
+use Rattle.pager_rules.proofs.Basics.{at_number_other, at_number_same, count_none, has_page_first}
+use Rattle.pager_rules.proofs.Pages.{own_is}
+use Rattle.pager_rules.proofs.Put.{no_block}
+use Rattle.pager_rules.proofs.Turns.{no_reuse}
+use Rattle.pager_rules.specs.Kept.{IsKept}
+use Rattle.pager_laws.proofs.StepKept.{step_kept}
+use Rattle.state_parts.specs.ChargedTable.{ChargedTable, charged_at}
+use Rattle.state_parts.specs.declared.charged_page.ChargedPage.{ChargedPage}
+use Rattle.state_parts.specs.declared.process_row.ProcessRow.{ProcessRow}
+use Rattle.state_fits.specs.File.{FileFits, owner_in}
+use Rattle.state_fits.specs.Pages.{PagesFit, charged_row}
+use Rattle.state_fits.specs.Parts.{Parts}
+use Rattle.state_fits.specs.PartsFit.{PartsFit}
+use Rattle.state_fits.specs.Processes.{ProcessesFit, process_row}
+use Rattle.state_fits.specs.ReadBegins.{charged_in, charged_now, entry_held, file_charged, held_in, one_charge}
+use Rattle.state_fits.proofs.FlightsMoved.{flights_begun, seats_begun}
+use Rattle.state_fits.proofs.Holders.{and_apart, holder_there, no_block_lies, none_listed}
+use Rattle.state_fits.proofs.PartsSet.{pages_set, processes_set, process_read}
+use Rattle.state_fits.proofs.ReadBegun.{begun_frames, begun_globals, begun_tables, free_row}
+use Rattle.state_fits.proofs.SimpleParts.{none_failed}
+
+-- a page that no frame holds may be read into the empty frame at the free list's head
+pub record IsReadable (config : Config) (a : Pager) (f : ℕ) (x : Page) : Type 0 where
+  pub head : IsHead a.free f
+  pub empty : a.page f ≡ None
+  pub out : (h : ℕ) → a.page h ≡ Some x → ⊥
+  pub own : is_private x ≡ true → own_page config a.map x ≡ Some x
+  pub section : (s : SecId) (i : ℕ) → x ≡ Shared s i → IsSectionPage config.sections s.0 i
+
+-- a shared page that lies in a block of the configuration
+lying_section : (config : Config) (o : PastView) (a : Pager) (b : BlockId) (x : Page) → IsKept config o a → IsBlock config b → a.lies x ≡ Some b → (s : SecId) (i : ℕ) → x ≡ Shared s i → IsSectionPage config.sections s.0 i
+lying_section config o a b x kept there lies s i is =
+    let own = (kept.pages (Shared s i)).shared s i refl in
+    let same : b ≡ block.Section s i = let at : a.lies (Shared s i) ≡ Some b = subst (λ (g : Page). a.lies g ≡ Some b) is lies in cc (at, own) in
+    subst (IsBlock config) same there
+
+pub lying_readable : (config : Config) (past : List Entry) (a : Pager) (f : ℕ) (b : BlockId) (x : Page) → IsKept config (past_view past) a → IsInLying config past a f b x → IsReadable config a f x
+lying_readable config past a f b x kept legal = record {
+  head = legal.frame.head;
+  empty = legal.frame.empty;
+  out = legal.out;
+  own = λ private. (kept.pages x).mapped (let one = (kept.pages x).lying b private legal.lies in omega (arith, one));
+  section = lying_section config (past_view past) a b x kept legal.home.exists legal.lies;
+}
+
+pub fault_readable : (config : Config) (past : List Entry) (a : Pager) (p f : ℕ) (b : BlockId) (q address : ℕ) → IsKept config (past_view past) a → (legal : IsInFault config past a p f b q address) → IsReadable config a f legal.page
+fault_readable config past a p f b q address kept legal = record {
+  head = legal.frame.head;
+  empty = legal.frame.empty;
+  out = legal.out;
+  own = λ private. subst (λ (g : Page). own_page config a.map g ≡ Some legal.page) (sym (own_is config a.map p (page_number address) legal.page legal.mapped private)) legal.mapped;
+  section = λ s i is. by legal.from s i is;
+}
+  where
+    by : (a.lies legal.page ≡ Some b) ⊎ IsFirstIn config a p (page_number address) b legal.page → (s : SecId) (i : ℕ) → legal.page ≡ Shared s i → IsSectionPage config.sections s.0 i
+    by (inl lies) s i is = lying_section config (past_view past) a b legal.page kept legal.home.exists lies s i is
+    by (inr first) s i is = absurd (false≢true (sym (ap is_private is) ∙ first.private))
+
+-- what the calls tell of the frame's row, of the page's entry and of its global page
+pub record IsReadBegun (config : Config) (parts : Parts) (f : ℕ) (x : Page) (pfns : Frames) (entries : PageTables) (globals : GlobalPages) : Type 0 where
+  pub rows : pfns.rows ≡ slice_set (parts.frames).rows f (record (row_of parts.frames f) { state = state.Reading; page = Some x; modify = false; refs = counted_references (row_of parts.frames f).shares 1; flights = 1 })
+  pub free : pfns.free ≡ without (parts.frames).free f
+  pub modified : pfns.modified ≡ (parts.frames).modified
+  pub procs : entries.procs ≡ (parts.tables).procs
+  pub each : (q w : ℕ) → pte_in entries q w ≡ entry_held x f (pte_in parts.tables) q w
+  pub global : globals ≡ held_in config x f parts.globals
+
+module _ (config : Config) (past : List Entry) (a : Pager) (seat : Seat) (f : Pfn) (d : BlockId) (r : Role) (formed : IsWellFormed config) (kept : IsKept config (past_view past) a)
+    (legal : IsLegal config past a (record { seat = seat; what = what.In f d r })) (parts : Parts) (fit : PartsFit config past a parts) where
+  abbrev pub e : Entry
+  e = record { seat = seat; what = what.In f d r }
+
+  abbrev begun : Flight
+  begun = record { start = length past + 1; seat = seat.0; frame = f.0; block = d; direction = reading r }
+
+  abbrev pub b : Page → (ℕ → ℕ) → List Page → Pager
+  b x faults charged = record a { state = at_number a.state f.0 state.Reading; page = at_number a.page f.0 (Some x); free = without a.free f.0; faults = faults; charged = charged }
+
+  seat_there : seat.0 < length config.procs + 2
+  seat_there = let few = legal.line.seat in omega (arith, few)
+
+  read_parts : (x : Page) (faults : ℕ → ℕ) (charged : List Page) → IsReadable config a f.0 x → IsKept config (past_view (e ∷ past)) (b x faults charged)
+      → (frames' : Frames) (tables' : PageTables) (globals' : GlobalPages) → IsReadBegun config parts f.0 x frames' tables' globals'
+      → (processes' : List ProcessRow) → ProcessesFit (process_row a.status a.ring a.limit a.references faults a.collided) (length config.procs) processes'
+      → (pages' : ChargedTable) → PagesFit (charged_row charged a.touched a.lies a.assigned) (length config.procs) pages'
+      → (file' : Blocks) → FileFits (length charged) (length a.assigned) (owner_in a.assigned) config.pagefile file'
+      → (n : ℕ) → n ≡ slice_index_or parts.busy seat.0 n
+      → PartsFit config (e ∷ past) (b x faults charged) (record parts {
+        frames = frames';
+        starts = slice_set parts.starts f.0 (Some (length past + 1));
+        roles = slice_set parts.roles f.0 (Some r);
+        processes = processes';
+        tables = tables';
+        pages = pages';
+        globals = globals';
+        file = file';
+        busy = slice_set parts.busy seat.0 (n + 1);
+        in_flight = parts.in_flight + 1;
+      })
+  read_parts x faults charged readable kept' frames' tables' globals' moved processes' processes_fit pages' pages_fit file' file_fit n read =
+      let held = holder_there config (past_view (e ∷ past)) (b x faults charged) x f.0 kept' (at_number_same a.page f.0 (Some x)) in
+      let within = (free_row config past a begun x kept readable.head readable.empty readable.out refl readable.own).within in
+      record {
+        frames = begun_frames config past a begun x kept readable.head readable.empty readable.out refl readable.own parts.frames frames' fit.frames moved.rows moved.free moved.modified;
+        flights = flights_begun (open_flights past) config.frames begun parts.starts parts.roles fit.flights within;
+        processes = processes_fit;
+        spoken = fit.spoken;
+        tables = begun_tables config past a begun x kept readable.head readable.empty readable.out refl readable.own held (length config.procs) parts.tables tables' fit.tables moved.procs moved.each;
+        sections = fit.sections;
+        pages = pages_fit;
+        globals = rw moved.global (begun_globals config past a begun x kept readable.head readable.empty readable.out refl readable.own held readable.section parts.globals fit.globals);
+        file = file_fit;
+        swaps = fit.swaps;
+        seats = seats_begun (open_flights past) (length config.procs + 2) begun parts.busy parts.in_flight n fit.seats seat_there read;
+        failed = none_failed past parts (no_reuse config past e legal.in_turn refl) fit.failed;
+      }
+
+-- ---- FAULT: whether the page is charged now
+-- the page wasn't charged before, and is now; or what is charged stays
+abbrev pub IsChargedNow : Pager → Parts → Proc → ℕ → Type 0
+IsChargedNow a parts p v = (charged_with a.charged (Some (Private p v)) ≡ Private p v ∷ a.charged) × (charged_at parts.pages p.0 v ≡ None)
+    × (charged_row (Private p v ∷ a.charged) a.touched a.lies a.assigned p.0 v ≡ Some (charged_now None)) × (count_page a.charged (Private p v) ≡ 0)
+
+abbrev pub WasCharged : Pager → Parts → Proc → ℕ → Type 0
+WasCharged a parts p v = (charged_with a.charged (Some (Private p v)) ≡ a.charged) × ((row : ChargedPage) × (charged_at parts.pages p.0 v ≡ Some row))
+
+module _ (config : Config) (past : List Entry) (a : Pager) (kept : IsKept config (past_view past) a) (parts : Parts) (fit : PartsFit config past a parts) where
+  module _ (p : Proc) (v : ℕ) where
+    abbrev g : Page
+    g = Private p v
+
+    uncharged : count_page a.charged g ≡ 0 → charged_row a.charged a.touched a.lies a.assigned p.0 v ≡ None
+    unfolding charged_row
+    uncharged none = ap (λ (c : Bool). if c then Some (record { touched = has_page a.touched g; lies = a.lies g; assigned = block_of a.assigned g }) else None) (none_listed a.charged g none)
+
+    fresh : count_page a.charged g ≡ 0 → charged_row (g ∷ a.charged) a.touched a.lies a.assigned p.0 v ≡ Some (charged_now None)
+    unfolding charged_row
+    fresh none =
+        let fits = kept.pages g in
+        let untouched = none_listed a.touched g (omega (arith, fits.touched, none)) in
+        let unassigned = no_block a.assigned g (omega (arith, fits.blocks, none)) in
+        let nowhere = no_block_lies (a.lies g) (λ b lies. let one = fits.lying b refl lies in absurd (omega (arith, one, none))) in
+        ap (λ (c : Bool). if c then Some (record { touched = has_page a.touched g; lies = a.lies g; assigned = block_of a.assigned g }) else None) (has_page_first a.charged g)
+        ∙ (λ i. Some (record { touched = untouched i; lies = nowhere i; assigned = unassigned i }))
+
+    there_is : has_page a.charged g ≡ true → charged_row a.charged a.touched a.lies a.assigned p.0 v ≡ Some (record { touched = has_page a.touched g; lies = a.lies g; assigned = block_of a.assigned g })
+    unfolding charged_row
+    there_is has = ap (λ (c : Bool). if c then Some (record { touched = has_page a.touched g; lies = a.lies g; assigned = block_of a.assigned g }) else None) has
+
+    pub charges : IsChargedNow a parts p v ⊎ WasCharged a parts p v
+    charges = go (nat_eq (count_page a.charged g) 0) refl (has_page a.charged g) refl
+      where
+        with_it : (c : Bool) → nat_eq (count_page a.charged g) 0 ≡ c → charged_with a.charged (Some g) ≡ cond c (g ∷ a.charged) a.charged
+        with_it c is = ap (λ (t : Bool). cond t (g ∷ a.charged) a.charged) is
+
+        go : (c : Bool) → nat_eq (count_page a.charged g) 0 ≡ c → (h : Bool) → has_page a.charged g ≡ h → IsChargedNow a parts p v ⊎ WasCharged a parts p v
+        go true is h has = let none = eqb-true _ _ is in inl (with_it true is, fit.pages.each p.0 v ∙ uncharged none, fresh none, none)
+        go false is true has = inr (with_it false is, (_, fit.pages.each p.0 v ∙ there_is has))
+        go false is false has = absurd (eqb-false _ _ is (count_none _ a.charged has))
+
+    row_there : (q w : ℕ) → (nat_eq p.0 q && nat_eq v w) ≡ false → charged_row (g ∷ a.charged) a.touched a.lies a.assigned q w ≡ charged_row a.charged a.touched a.lies a.assigned q w
+    unfolding charged_row
+    row_there q w apart =
+        ap (λ (c : Bool). if (c || has_page a.charged (Private (proc q) w)) then Some (record { touched = has_page a.touched (Private (proc q) w); lies = a.lies (Private (proc q) w); assigned = block_of a.assigned (Private (proc q) w) }) else None)
+        (and_apart p.0 q v w apart)
+
+  fault_pages : (x : Page) (pages' : ChargedTable) → pages'.procs ≡ (parts.pages).procs → ((q w : ℕ) → charged_at pages' q w ≡ charged_in x (charged_at parts.pages) q w)
+      → PagesFit (charged_row (charged_with a.charged (Some x)) a.touched a.lies a.assigned) (length config.procs) pages'
+  fault_pages (Shared s i) pages' procs changed = record { procs = procs ∙ fit.pages.procs; each = λ q w. changed q w ∙ fit.pages.each q w }
+  fault_pages (Private p v) pages' procs changed = by (charges p v)
+    where
+      by : IsChargedNow a parts p v ⊎ WasCharged a parts p v → PagesFit (charged_row (charged_with a.charged (Some (Private p v))) a.touched a.lies a.assigned) (length config.procs) pages'
+      by (inl (now, none, row, zero)) =
+          subst (λ (list : List Page). PagesFit (charged_row list a.touched a.lies a.assigned) (length config.procs) pages') (sym now)
+          (pages_set (charged_row a.charged a.touched a.lies a.assigned) (charged_row (Private p v ∷ a.charged) a.touched a.lies a.assigned) (length config.procs) parts.pages pages' p.0 v _ fit.pages procs changed
+          (ap (λ (o : Option ChargedPage). Some (charged_now o)) none ∙ sym row) (row_there p v))
+      by (inr (was, (row, is))) =
+          subst (λ (list : List Page). PagesFit (charged_row list a.touched a.lies a.assigned) (length config.procs) pages') (sym was)
+          (pages_set (charged_row a.charged a.touched a.lies a.assigned) (charged_row a.charged a.touched a.lies a.assigned) (length config.procs) parts.pages pages' p.0 v _ fit.pages procs changed
+          (ap (λ (o : Option ChargedPage). Some (charged_now o)) is ∙ (sym is ∙ fit.pages.each p.0 v)) (λ q w apart. refl))
+
+  fault_file : (x : Page) → FileFits (length (charged_with a.charged (Some x))) (length a.assigned) (owner_in a.assigned) config.pagefile (file_charged x (charged_at parts.pages) parts.file)
+  fault_file (Shared s i) = fit.file
+  fault_file (Private p v) = by (charges p v)
+    where
+      Fits : List Page → Option ChargedPage → Type 0
+      Fits list o = FileFits (length list) (length a.assigned) (owner_in a.assigned) config.pagefile (one_charge o parts.file)
+
+      by : IsChargedNow a parts p v ⊎ WasCharged a parts p v → Fits (charged_with a.charged (Some (Private p v))) (charged_at parts.pages p.0 v)
+      by (inl (now, none, row, zero)) =
+          subst₂ Fits (sym now) (sym none)
+          (record { count = fit.file.count; charges = let is = fit.file.charges in omega (arith, is); blocks = fit.file.blocks; owners = fit.file.owners })
+      by (inr (was, (row, is))) = subst₂ Fits (sym was) (sym is) fit.file
+
+module _ (config : Config) (past : List Entry) (a : Pager) (seat : Seat) (f : Pfn) (d : BlockId) (q : Proc) (address : Addr) (formed : IsWellFormed config) (kept : IsKept config (past_view past) a)
+    (legal : IsLegal config past a (record { seat = seat; what = what.In f d (role.Fault q address) })) (parts : Parts) (fit : PartsFit config past a parts) where
+  abbrev entry : Entry
+  entry = record { seat = seat; what = what.In f d (role.Fault q address) }
+
+  fault_page : page_by config a.map q.0 (page_number address.0) ≡ Some legal.row.page
+  fault_page = subst (λ (p : ℕ). page_by config a.map p (page_number address.0) ≡ Some legal.row.page) (sym legal.row.self) legal.row.mapped
+
+  pub fault_readable_as : (x : Page) → page_by config a.map q.0 (page_number address.0) ≡ Some x → IsReadable config a f.0 x
+  fault_readable_as x own =
+      let is : legal.row.page ≡ x = let first = fault_page in cc (first, own) in
+      subst (IsReadable config a f.0) is (fault_readable config past a seat.0 f.0 d q.0 address.0 kept legal.row)
+
+  fault_process : q.0 < length config.procs
+  fault_process = subst (λ (p : ℕ). p < length config.procs) (sym legal.row.self) legal.row.own.process
+
+  fault_processes : (y : ProcessRow) → y ≡ slice_index_or parts.processes q.0 y
+      → ProcessesFit (process_row a.status a.ring a.limit a.references (at_number a.faults q.0 (a.faults q.0 + 1)) a.collided) (length config.procs) (slice_set parts.processes q.0 (record y { faults = y.faults + 1 }))
+  fault_processes y read =
+      let is = process_read (process_row a.status a.ring a.limit a.references a.faults a.collided) (length config.procs) parts.processes q.0 y fit.processes fault_process read in
+      processes_set (process_row a.status a.ring a.limit a.references a.faults a.collided) (process_row a.status a.ring a.limit a.references (at_number a.faults q.0 (a.faults q.0 + 1)) a.collided)
+      (length config.procs) parts.processes q.0 _ fit.processes fault_process
+      (λ i. record {
+        status = (is i).status;
+        ring = (is i).ring;
+        limit = (is i).limit;
+        references = (is i).references;
+        faults = (ap (λ (z : ProcessRow). z.faults + 1) is ∙ sym (at_number_same a.faults q.0 (a.faults q.0 + 1))) i;
+        collided = (is i).collided;
+      })
+      (λ p apart i. record {
+        status = a.status p;
+        ring = a.ring p;
+        limit = a.limit p;
+        references = a.references p;
+        faults = at_number_other a.faults q.0 (a.faults q.0 + 1) p apart i;
+        collided = a.collided p;
+      })
+
+  pub in_fault_parts : (x : Page) → page_by config a.map q.0 (page_number address.0) ≡ Some x
+      → (frames' : Frames) (tables' : PageTables) (globals' : GlobalPages) → IsReadBegun config parts f.0 x frames' tables' globals'
+      → (y : ProcessRow) → y ≡ slice_index_or parts.processes q.0 y
+      → (pages' : ChargedTable) → pages'.procs ≡ (parts.pages).procs → ((p w : ℕ) → charged_at pages' p w ≡ charged_in x (charged_at parts.pages) p w)
+      → (file' : Blocks) → file' ≡ file_charged x (charged_at parts.pages) parts.file
+      → (n : ℕ) → n ≡ slice_index_or parts.busy seat.0 n
+      → PartsFit config (entry ∷ past) (after config past a entry) (record parts {
+        frames = frames';
+        starts = slice_set parts.starts f.0 (Some (length past + 1));
+        roles = slice_set parts.roles f.0 (Some (role.Fault q address));
+        processes = slice_set parts.processes q.0 (record y { faults = y.faults + 1 });
+        tables = tables';
+        pages = pages';
+        globals = globals';
+        file = file';
+        busy = slice_set parts.busy seat.0 (n + 1);
+        in_flight = parts.in_flight + 1;
+      })
+  in_fault_parts x own frames' tables' globals' moved y read pages' procs changed file' file_is n read_n =
+      let faults = at_number a.faults q.0 (a.faults q.0 + 1) in
+      subst (λ (o : Option Page). PartsFit config (entry ∷ past) (put o) (record parts {
+        frames = frames';
+        starts = slice_set parts.starts f.0 (Some (length past + 1));
+        roles = slice_set parts.roles f.0 (Some (role.Fault q address));
+        processes = slice_set parts.processes q.0 (record y { faults = y.faults + 1 });
+        tables = tables';
+        pages = pages';
+        globals = globals';
+        file = file';
+        busy = slice_set parts.busy seat.0 (n + 1);
+        in_flight = parts.in_flight + 1;
+      })) (sym own)
+      (read_parts config past a seat f d (role.Fault q address) formed kept legal parts fit x faults (charged_with a.charged (Some x)) (fault_readable_as x own)
+      (subst (λ (o : Option Page). IsKept config (past_view (entry ∷ past)) (put o)) own (step_kept config past a entry formed kept legal))
+      frames' tables' globals' moved _ (fault_processes y read)
+      pages' (fault_pages config past a kept parts fit x pages' procs changed)
+      file' (rw file_is (fault_file config past a kept parts fit x)) n read_n)
+    where
+      put : Option Page → Pager
+      put o = record a { state = at_number a.state f.0 state.Reading; page = at_number a.page f.0 o; free = without a.free f.0; faults = at_number a.faults q.0 (a.faults q.0 + 1); charged = charged_with a.charged o }
+
+-- ---- NEAR
+module _ (config : Config) (past : List Entry) (a : Pager) (seat : Seat) (f : Pfn) (d : BlockId) (x : Page) (formed : IsWellFormed config) (kept : IsKept config (past_view past) a)
+    (legal : IsLegal config past a (record { seat = seat; what = what.In f d (role.Near x) })) (parts : Parts) (fit : PartsFit config past a parts) where
+  pub in_near_parts : (frames' : Frames) (tables' : PageTables) (globals' : GlobalPages) → IsReadBegun config parts f.0 x frames' tables' globals'
+      → (n : ℕ) → n ≡ slice_index_or parts.busy seat.0 n
+      → PartsFit config (record { seat = seat; what = what.In f d (role.Near x) } ∷ past) (after config past a (record { seat = seat; what = what.In f d (role.Near x) })) (record parts {
+        frames = frames';
+        starts = slice_set parts.starts f.0 (Some (length past + 1));
+        roles = slice_set parts.roles f.0 (Some (role.Near x));
+        tables = tables';
+        globals = globals';
+        busy = slice_set parts.busy seat.0 (n + 1);
+        in_flight = parts.in_flight + 1;
+      })
+  in_near_parts frames' tables' globals' moved n read =
+      read_parts config past a seat f d (role.Near x) formed kept legal parts fit x a.faults a.charged (lying_readable config past a f.0 d x kept legal.row.lying)
+      (step_kept config past a (record { seat = seat; what = what.In f d (role.Near x) }) formed kept legal)
+      frames' tables' globals' moved parts.processes fit.processes parts.pages fit.pages parts.file fit.file n read
+
+-- ---- COME
+module _ (config : Config) (past : List Entry) (a : Pager) (seat : Seat) (f : Pfn) (d : BlockId) (q : Proc) (address : Addr) (formed : IsWellFormed config) (kept : IsKept config (past_view past) a)
+    (legal : IsLegal config past a (record { seat = seat; what = what.In f d (role.Come q address) })) (parts : Parts) (fit : PartsFit config past a parts) where
+  abbrev come_entry : Entry
+  come_entry = record { seat = seat; what = what.In f d (role.Come q address) }
+
+  pub come_readable : (x : Page) → page_by config a.map q.0 (page_number address.0) ≡ Some x → IsReadable config a f.0 x
+  come_readable x own =
+      let is : legal.row.page ≡ x = let first = legal.row.mapped in cc (first, own) in
+      subst (IsReadable config a f.0) is (lying_readable config past a f.0 d legal.row.page kept legal.row.lying)
+
+  pub in_come_parts : (x : Page) → page_by config a.map q.0 (page_number address.0) ≡ Some x
+      → (frames' : Frames) (tables' : PageTables) (globals' : GlobalPages) → IsReadBegun config parts f.0 x frames' tables' globals'
+      → (n : ℕ) → n ≡ slice_index_or parts.busy seat.0 n
+      → PartsFit config (come_entry ∷ past) (after config past a come_entry) (record parts {
+        frames = frames';
+        starts = slice_set parts.starts f.0 (Some (length past + 1));
+        roles = slice_set parts.roles f.0 (Some (role.Come q address));
+        tables = tables';
+        globals = globals';
+        busy = slice_set parts.busy seat.0 (n + 1);
+        in_flight = parts.in_flight + 1;
+      })
+  in_come_parts x own frames' tables' globals' moved n read =
+      subst (λ (o : Option Page). PartsFit config (come_entry ∷ past) (put o) (record parts {
+        frames = frames';
+        starts = slice_set parts.starts f.0 (Some (length past + 1));
+        roles = slice_set parts.roles f.0 (Some (role.Come q address));
+        tables = tables';
+        globals = globals';
+        busy = slice_set parts.busy seat.0 (n + 1);
+        in_flight = parts.in_flight + 1;
+      })) (sym own)
+      (read_parts config past a seat f d (role.Come q address) formed kept legal parts fit x a.faults a.charged (come_readable x own)
+      (subst (λ (o : Option Page). IsKept config (past_view (come_entry ∷ past)) (put o)) own (step_kept config past a come_entry formed kept legal))
+      frames' tables' globals' moved parts.processes fit.processes parts.pages fit.pages parts.file fit.file n read)
+    where
+      put : Option Page → Pager
+      put o = record a { state = at_number a.state f.0 state.Reading; page = at_number a.page f.0 o; free = without a.free f.0 }

@@ -1,0 +1,17 @@
+pub mod Parts
+pub mod Frames
+pub mod Processes
+pub mod Spoken
+pub mod Entries
+pub mod Pages
+pub mod Globals
+pub mod File
+pub mod Swaps
+pub mod Seats
+pub mod PartsFit
+pub mod Changes
+pub mod Opening
+pub mod ReadBegins
+pub mod Writes
+pub mod Forgetting
+pub mod Serving

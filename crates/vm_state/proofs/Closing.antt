@@ -1,0 +1,66 @@
+-- How each method closes: the parts stand for the state after the entry, and buffers and blocks have moved as it says.
+use Rattle.std.proofs.Common.{◌≡◌, ℕ, ◌+◌, ◌-◌, ◌≤◌, Bool, List, [], ◌∷◌, ◌++◌, Option, length, reverse, sym, ap, ◌∙◌, subst, subst₂, arith}
+use Rattle.std.proofs.lemmas.List.{length-reverse, reverse-append}
+use Rattle.vm_types.specs.declared.config.Config.{Config}
+use Rattle.vm_journal.specs.Journal.{Written}
+use Rattle.vm_journal.specs.declared.entry.Entry.{Entry}
+use Rattle.pager_model.specs.Flights.{open_flights}
+use Rattle.pager_model.specs.OfConfig.{IsOfConfig}
+use Rattle.pager_model.specs.Around.{past_view}
+use Rattle.pager_model.specs.Run.{pager_after}
+use Rattle.pager_model.specs.Step.{IsLegal}
+use Rattle.pager_laws.proofs.OfConfigKept.{run_right}
+use Rattle.pager_laws.proofs.RunsAreSound.{run_kept}
+use Rattle.pager_rules.specs.Kept.{IsKept}
+use Rattle.content_laws.specs.Moved.{Moves}
+use Rattle.content_laws.proofs.ContentStays.{content_stays}
+use Rattle.frame_store.specs.Blocks.{held_at}
+use Rattle.frame_store.specs.StoreView.{StoreView}
+use Rattle.state_fits.specs.Parts.{Parts}
+use Rattle.state_fits.specs.PartsFit.{PartsFit}
+use Rattle.vm_state.specs.History.{History, MayAdd, owed}
+use Rattle.vm_state.specs.StateKept.{IsState, IsStoreOf, home_in}
+
+-- what a method requires is of the value, what it needs is of the fields
+pub may_before : {s t : History} {e : Entry} → s ≡ t → MayAdd t e → MayAdd s e
+may_before {s} {t} {e} is may = subst (λ (x : History). MayAdd x e) (sym is) may
+
+newest_first : (before : List Entry) (now : Written) (spare : ℕ) (e : Entry) → now ≡ record { entries = before ++ e ∷ []; spare = spare } → reverse now.entries ≡ e ∷ reverse before
+newest_first before now spare e is = ap (λ (j : Written). reverse j.entries) is ∙ reverse-append before (e ∷ [])
+
+-- the number of the next entry
+pub next_number : (before now : List Entry) → now ≡ before → length now + 1 ≡ length (reverse before) + 1
+next_number before now is = ap (λ (xs : List Entry). length xs + 1) is ∙ ap (λ (n : ℕ). n + 1) (sym (length-reverse before))
+
+module _ {B : Type 0} {content plan : B → Option (List ℕ)} {reads writes faults : B → ℕ} {tells tells_plan : Bool} {config : Config} where
+  -- with the newest entry in front it holds, so it does once the entry is pushed
+  pub pushed : {store : StoreView B} {fields : Parts} {numbers : List ℕ} (before : List Entry) (spare : ℕ) (e : Entry) (new : Written) → new ≡ record { entries = before ++ e ∷ []; spare = spare }
+      → IsState content plan reads writes faults tells tells_plan config (e ∷ reverse before) spare store fields numbers
+      → IsState content plan reads writes faults tells tells_plan config (reverse new.entries) new.spare store fields numbers
+  pushed {store} {fields} {numbers} before spare e new is state =
+      subst₂ (λ (p : List Entry) (n : ℕ). IsState content plan reads writes faults tells tells_plan config p n store fields numbers) (sym (newest_first before new spare e is)) (sym (ap (λ (j : Written). j.spare) is)) state
+
+  module _ {past : List Entry} {spare : ℕ} {store : StoreView B} {fields : Parts} {numbers : List ℕ} (before : IsState content plan reads writes faults tells tells_plan config past spare store fields numbers) where
+    pub kept : IsKept config (past_view past) (pager_after config past)
+    kept = run_kept config past before.formed before.run
+
+    pub right : IsOfConfig config (pager_after config past)
+    right = run_right config past before.formed before.run
+
+    -- the store as it was, or with other buffers and blocks
+    pub closed : (e : Entry) → IsLegal config past (pager_after config past) e → owed (e ∷ past) + 1 ≤ spare → (store' : StoreView B) (fields' : Parts)
+        → PartsFit config (e ∷ past) (pager_after config (e ∷ past)) fields'
+        → Moves tells tells_plan config past (pager_after config past) (e.seat).0 e.what (held_at store.buffers) (held_at store'.buffers) (home_in content plan reads writes faults config store) (home_in content plan reads writes faults config store')
+        → IsStoreOf config (open_flights (e ∷ past)) store' numbers
+        → IsState content plan reads writes faults tells tells_plan config (e ∷ past) (spare - 1) store' fields' numbers
+    closed e legal paid store' fields' fit moves places =
+        record {
+          formed = before.formed;
+          run = (before.run, legal);
+          short = (let short = before.short in omega (arith, short, paid));
+          paid = omega (arith, paid);
+          parts = fit;
+          bytes = content_stays tells tells_plan config past e (held_at store.buffers) (held_at store'.buffers) (home_in content plan reads writes faults config store) (home_in content plan reads writes faults config store')
+              before.formed (before.run, legal) moves before.bytes;
+          places = places;
+        }

@@ -1,0 +1,15 @@
+pub mod Closing
+pub mod SimpleCloses
+pub mod Looked
+pub mod WhatIsRead
+pub mod Owed
+pub mod FirstPages
+pub mod Layable
+pub mod ZeroCloses
+pub mod DoneCloses
+pub mod BackCloses
+pub mod EvictCloses
+pub mod Numbered
+pub mod ReuseCloses
+pub mod ServedCloses
+pub mod StartCloses

@@ -1,0 +1,23 @@
+use Rattle.std.proofs.Common.{arith}
+use Rattle.vm_journal.specs.declared.entry.What.TheVariants as what
+use Rattle.vm_types.specs.declared.reply.Answer.TheVariants as answer
+use Rattle.vm_types.specs.declared.service.Service.TheVariants as service
+use Rattle.vm_state.specs.History.{entry_by}
+use Rattle.vm_state.proofs.Closing.{may_before, next_number, pushed}
+use Rattle.vm_state.proofs.ServedCloses.{adjusted_closes}
+use Rattle.vm_state.proofs.SimpleCloses.{spoken_few}
+use Rattle.vm_state.proofs.state.State.adjust.Goals as goal
+
+pub overflow_add-spoken : goal.overflow_add-spoken
+overflow_add-spoken g c =
+    let may = may_before c.self.view_is c.requires in
+    let few = spoken_few c.self.invariant c.args.seat.0 c.index_mut-spoken.result.now may.legal.row.0.process c.index_mut-spoken.ensures.value in
+    let short = c.self.invariant.short in
+    omega (arith, few, short)
+
+pub invariant_of-self : goal.invariant_of-self
+invariant_of-self g c =
+    let may = may_before c.self.view_is c.requires in
+    pushed _ _ (entry_by c.args.seat (what.Served (service.Adjust c.args.limit) answer.Good)) c.push.new.self c.push.ensures
+    (adjusted_closes c.self.invariant c.args.seat c.index_mut-spoken.result.now c.index_mut-spoken.ensures.value _ (next_number _ c.entries.result.now c.entries.ensures.entries)
+    c.args.limit c.index_mut-row.result.now c.index_mut-row.ensures.value may.legal may.paid)

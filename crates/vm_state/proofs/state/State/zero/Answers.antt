@@ -1,0 +1,56 @@
+use Rattle.std.proofs.Common.{◌/◌, refl, IsSome, subst, sym, ◌∙◌, arith}
+use Rattle.vm_state.specs.History.{entry_by}
+use Rattle.vm_state.proofs.Closing.{may_before, pushed}
+use Rattle.vm_state.proofs.Looked.{looked}
+use Rattle.vm_state.proofs.SimpleCloses.{faults_few}
+use Rattle.vm_state.proofs.ZeroCloses as close
+use Rattle.vm_journal.specs.declared.entry.What.TheVariants as what
+use Rattle.vm_state.proofs.state.State.zero.Goals as goal
+
+pub take_slot-slot-requires-clause-limit : goal.take_slot-slot-requires-clause-limit
+take_slot-slot-requires-clause-limit g c = close.limit_most c.self.invariant c.args.seat c.args.a c.args.f (may_before c.self.view_is c.requires).legal c.index_mut-row.result.now c.index_mut-row.ensures.value
+
+pub overflow_add-row : goal.overflow_add-row
+overflow_add-row g c =
+    let may = may_before c.self.view_is c.requires in
+    let few = faults_few c.self.invariant c.args.seat.0 c.index_mut-row.result.now may.legal.row.own.process c.index_mut-row.ensures.value in
+    let short = c.self.invariant.short in
+    omega (arith, few, short)
+
+pub enter-requires-clause-below : goal.enter-requires-clause-below
+enter-requires-clause-below g c = rw c.frames_mut.ensures.value (close.below c.self.invariant c.args.seat c.args.a c.args.f (may_before c.self.view_is c.requires).legal)
+
+pub enter-requires-clause-usable : goal.enter-requires-clause-usable
+enter-requires-clause-usable g c = rw c.frames_mut.ensures.value (close.usable c.self.invariant c.args.seat c.args.a c.args.f (may_before c.self.view_is c.requires).legal)
+
+pub enter-requires-clause-page : goal.enter-requires-clause-page
+enter-requires-clause-page g c = rw c.frames_mut.ensures.value (close.no_page c.self.invariant c.args.seat c.args.a c.args.f (may_before c.self.view_is c.requires).legal)
+
+pub enter-requires-clause-shares : goal.enter-requires-clause-shares
+enter-requires-clause-shares g c = rw c.frames_mut.ensures.value (close.few_shares c.self.invariant c.args.seat c.args.a c.args.f (may_before c.self.view_is c.requires).legal)
+
+pub zero-requires-after_bounds : goal.zero-requires-after_bounds
+zero-requires-after_bounds g c = λ κs outlives. close.buffer_there c.self.invariant c.args.seat c.args.a c.args.f (may_before c.self.view_is c.requires).legal
+
+pub unwrap-prot-requires : goal.unwrap-prot-requires
+unwrap-prot-requires g c =
+    let there = close.entry_there c.self.invariant c.args.seat c.args.a c.args.f (may_before c.self.view_is c.requires).legal in
+    subst IsSome (sym (looked c.self.inside.tables c.args.seat.0 (c.args.a.0 / 512) c.look-look.result c.entry_in.result c.look-look.ensures.value c.entry_in.ensures ∙ there.1)) refl
+
+pub set-requires-clause-entry : goal.set-requires-clause-entry
+set-requires-clause-entry g c =
+    close.entry_good c.self.invariant c.args.seat c.args.a c.args.f (may_before c.self.view_is c.requires).legal c.unwrap-prot.result
+    (sym (looked c.self.inside.tables c.args.seat.0 (c.args.a.0 / 512) c.look-look.result c.entry_in.result c.look-look.ensures.value c.entry_in.ensures) ∙ c.unwrap-prot.ensures)
+
+pub invariant_of-self : goal.invariant_of-self
+invariant_of-self g c =
+    let may = may_before c.self.view_is c.requires in
+    pushed _ _ (entry_by c.args.seat (what.Zero c.args.a c.args.f)) c.push.new.self c.push.ensures
+    (close.zero_closes c.self.invariant c.args.seat c.args.a c.args.f may.legal refl may.paid c.index_mut-row.result.now c.index_mut-row.ensures.value
+    c.take_slot-slot.result c.take_slot-slot.new.ring c.take_slot-slot.ensures.offered c.take_slot-slot.ensures.placed c.enter.new.frames
+    (rw (← c.frames_mut.ensures.value) c.enter.ensures.rows) (rw (← c.frames_mut.ensures.value) c.enter.ensures.free) (rw (← c.frames_mut.ensures.value) c.enter.ensures.modified)
+    c.zero.new.self c.zero.ensures
+    c.set.new.self c.unwrap-prot.result c.set.ensures.procs c.set.ensures.changed
+    (sym (looked c.self.inside.tables c.args.seat.0 (c.args.a.0 / 512) c.look-look.result c.entry_in.result c.look-look.ensures.value c.entry_in.ensures) ∙ c.unwrap-prot.ensures)
+    c.set-2.new.self c.set-2.ensures.procs c.set-2.ensures.changed
+    c.charge.new.self (close.went_well c.charge.result c.charge.ensures.full (close.room c.self.invariant c.args.seat c.args.a c.args.f may.legal) c.charge.ensures.ok))

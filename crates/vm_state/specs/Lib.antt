@@ -1,0 +1,11 @@
+pub mod History
+pub mod StateKept
+pub mod Shown
+pub mod Touching
+pub mod CarrierView
+pub mod Readings
+pub mod Laying
+pub mod Made
+pub mod SectionPages
+pub mod Resting
+pub mod RingSlots

@@ -1,0 +1,43 @@
+ghost use Rattle.std.specs.Prelude.{◌≡◌};
+
+use crate::ring_slots::{enter_ring, frame_slot, marked_back};
+use crate::sharing::share;
+use crate::shown::entry_in;
+use crate::state::State;
+use disk_trait::Block;
+use frame_moves::enter;
+use pte_forms::{Place, Pte};
+use vm_journal::{Entry, What};
+use vm_types::{Addr, FrameState, Pfn, Proc, Seat};
+
+impl<B: Block> State<B> {
+    ghost use Rattle.vm_journal.specs.declared.entry.What.{What};
+    ghost use Rattle.vm_state.specs.History.{MayAdd, added, entry_by};
+
+    /// A page in a frame becomes valid again for a process; `from` is the state that the frame was in.
+    pub fn back(&mut self, seat: Seat, p: Proc, a: Addr, f: Pfn, from: FrameState)
+        requires { MayAdd self.old (entry_by seat (What.Back p a f from)) }
+        ensures { self.new ≡ added self.old (entry_by seat (What.Back p a f from)) }
+    {
+        let vpn = a.0 / 512;
+        let kept = self.store.frames().row(f);
+        let page = kept.page.unwrap();
+        let row = &mut self.processes[p.0 as usize];
+        let modify = marked_back(row.status, kept.modify);
+        let slot = enter_ring(row, &mut self.pages, &mut self.swaps, p, vpn);
+        let held = frame_slot(page, slot);
+        enter(self.store.frames_mut(), f, page, held, modify);
+        let look = self.tables.look(p, vpn);
+        let prot = entry_in(look).unwrap().prot;
+        let place = Place::Valid {
+            modify: false,
+            frame: f,
+        };
+        self.tables.set(p, vpn, Pte { prot, place });
+        share(&mut self.globals, &self.firsts, page);
+        self.journal.push(Entry {
+            seat,
+            what: What::Back { p, a, f, from },
+        });
+    }
+}

@@ -1,0 +1,38 @@
+ghost use Rattle.std.specs.Prelude.{◌≡◌};
+
+use crate::sharing::{left_at, unshare};
+use crate::shown::entry_in;
+use crate::state::State;
+use disk_trait::Block;
+use frame_moves::leave;
+use pte_forms::Pte;
+use state_parts::give_up;
+use vm_journal::{Entry, EvictWhy, What};
+use vm_types::{Addr, FrameState, Pfn, Proc, Seat};
+
+impl<B: Block> State<B> {
+    ghost use Rattle.vm_journal.specs.declared.entry.What.{What};
+    ghost use Rattle.vm_state.specs.History.{MayAdd, added, entry_by};
+
+    /// A page leaves the working set of a process, and its frame goes to the state `to`.
+    pub fn evict(&mut self, seat: Seat, p: Proc, a: Addr, f: Pfn, why: EvictWhy, to: FrameState)
+        requires { MayAdd self.old (entry_by seat (What.Evict p a f why to)) }
+        ensures { self.new ≡ added self.old (entry_by seat (What.Evict p a f why to)) }
+    {
+        let vpn = a.0 / 512;
+        let row = &mut self.processes[p.0 as usize];
+        give_up(&mut row.ring, row.limit, why, vpn);
+        let kept = self.store.frames().row(f);
+        let page = kept.page.unwrap();
+        leave(self.store.frames_mut(), f);
+        let look = self.tables.look(p, vpn);
+        let prot = entry_in(look).unwrap().prot;
+        let place = left_at(&self.firsts, f, page);
+        self.tables.set(p, vpn, Pte { prot, place });
+        unshare(&mut self.globals, &self.firsts, page);
+        self.journal.push(Entry {
+            seat,
+            what: What::Evict { p, a, f, why, to },
+        });
+    }
+}

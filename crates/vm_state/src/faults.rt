@@ -1,0 +1,68 @@
+ghost use Rattle.std.specs.Prelude.{◌≡◌};
+
+use crate::shown::entry_in;
+use crate::state::State;
+use disk_trait::Block;
+use frame_moves::enter;
+use pte_forms::{Place, Pte};
+use state_parts::{ChargedPage, take_slot};
+use vm_journal::{Entry, What};
+use vm_types::{Addr, Page, Pfn, Proc, Seat};
+
+/// What is kept of a page that has just been charged.
+const FRESH: ChargedPage = ChargedPage {
+    touched: false,
+    lies: None,
+    assigned: None,
+};
+
+impl<B: Block> State<B> {
+    ghost use Rattle.vm_journal.specs.declared.entry.What.{What};
+    ghost use Rattle.vm_state.specs.History.{MayAdd, added, entry_by};
+
+    /// Gives a demand zero page of the seat's process its first frame.
+    pub fn zero(&mut self, seat: Seat, a: Addr, f: Pfn)
+        requires { MayAdd self.old (entry_by seat (What.Zero a f)) }
+        ensures { self.new ≡ added self.old (entry_by seat (What.Zero a f)) }
+    {
+        let p = Proc(seat.0);
+        let vpn = a.0 / 512;
+        let row = &mut self.processes[seat.0 as usize];
+        let slot = take_slot(&mut row.ring, row.limit, vpn);
+        row.faults += 1;
+        enter(
+            self.store.frames_mut(),
+            f,
+            Page::Private(p, vpn),
+            slot,
+            true,
+        );
+        self.store.zero(f);
+        let look = self.tables.look(p, vpn);
+        let prot = entry_in(look).unwrap().prot;
+        let place = Place::Valid {
+            modify: false,
+            frame: f,
+        };
+        self.tables.set(p, vpn, Pte { prot, place });
+        self.pages.set(p, vpn, Some(FRESH));
+        self.file.charge().unwrap();
+        self.journal.push(Entry {
+            seat,
+            what: What::Zero { a, f },
+        });
+    }
+
+    /// The seat's process runs into the read that entry `k` began.
+    pub fn collide(&mut self, seat: Seat, a: Addr, f: Pfn, k: u64)
+        requires { MayAdd self.old (entry_by seat (What.Collide a f k)) }
+        ensures { self.new ≡ added self.old (entry_by seat (What.Collide a f k)) }
+    {
+        let row = &mut self.processes[seat.0 as usize];
+        row.collided = Some(k);
+        self.journal.push(Entry {
+            seat,
+            what: What::Collide { a, f, k },
+        });
+    }
+}

@@ -1,0 +1,62 @@
+ghost use Rattle.std.specs.Prelude.{◌≡◌, true};
+
+use crate::shown::{frame_in, marked};
+use crate::state::State;
+use crate::touching::touch;
+use disk_trait::Block;
+use flat_model::apply;
+use vm_journal::{Entry, What};
+use vm_types::{Proc, Ref, Reply, Seat, Why};
+
+impl<B: Block> State<B> {
+    ghost use Rattle.vm_journal.specs.declared.entry.What.{What};
+    ghost use Rattle.vm_text.specs.References.{Answers};
+    ghost use Rattle.pager_model.specs.Flat.{flat_reply};
+    ghost use Rattle.pager_model.specs.Spoken.{flat_after};
+    ghost use Rattle.vm_state.specs.History.{MayAdd, MayAnswer, added, entry_by};
+
+    /// Answers a reference of the seat's process whose page is valid. Returns the reply that its entry
+    /// shows, which is the flat machine's if blocks tell their content.
+    pub fn done(&mut self, seat: Seat, r: Ref) -> Reply
+        requires { MayAnswer self.old seat r }
+        ensures added { self.new ≡ added self.old (entry_by seat (What.Done r result)) }
+        ensures answers { Answers r.op result }
+        ensures right { B.tells_content ≡ true
+            → result ≡ flat_reply self.old.config (flat_after self.old.config self.old.past) seat.0 r }
+    {
+        let row = &mut self.processes[seat.0 as usize];
+        row.references += 1;
+        let look = self.tables.look(Proc(seat.0), r.addr.0 / 512);
+        let f = frame_in(look).unwrap();
+        let kept = self.store.frames().row(f);
+        self.store.frames_mut().mark(f, marked(r.op, kept.modify));
+        touch(&mut self.pages, kept.page.unwrap());
+        let reply = apply(self.store.bytes_mut(f), r);
+        let number = self.journal.entries().len() as u64 + 1;
+        let spoken = &mut self.spoken[seat.0 as usize];
+        spoken.last = Some(number);
+        spoken.count += 1;
+        self.journal.push(Entry {
+            seat,
+            what: What::Done { r, reply },
+        });
+        reply
+    }
+
+    /// Refuses a reference of the seat's process.
+    pub fn denied(&mut self, seat: Seat, r: Ref, why: Why)
+        requires { MayAdd self.old (entry_by seat (What.Denied r why)) }
+        ensures { self.new ≡ added self.old (entry_by seat (What.Denied r why)) }
+    {
+        let row = &mut self.processes[seat.0 as usize];
+        row.references += 1;
+        let number = self.journal.entries().len() as u64 + 1;
+        let spoken = &mut self.spoken[seat.0 as usize];
+        spoken.last = Some(number);
+        spoken.count += 1;
+        self.journal.push(Entry {
+            seat,
+            what: What::Denied { r, why },
+        });
+    }
+}
