@@ -7,8 +7,8 @@ mod numbers;
 mod opening;
 mod store;
 
-pub use numbers::{firsts, page_counts};
 pub use lift::{Carried, Lift};
+pub use numbers::{firsts, page_counts};
 pub use store::Store;
 
 #[cfg(test)]

@@ -172,14 +172,16 @@ module _ {B : Type 0} {content plan : B → Option (List ℕ)} {reads writes fau
         (done_parts config past a seat r answer (kept before) legal fields before.parts frames'
         (rows ∙ (ap (λ (b : Bool). slice_set fields.frames.rows f.0 (record (row_of fields.frames f.0) { modify = b })) m_row
         ∙ ap (λ (n : ℕ). slice_set fields.frames.rows n (record (row_of fields.frames n) { modify = (if is_change r.op then true else (row_of fields.frames n).modify) })) same))
-        free modified x read y read_y pages' procs (subst (λ (g : Page). (q w : ℕ) → charged_at pages' q w ≡ touched_rows g (charged_at fields.pages) q w) it touched))
-        (record {
-          bytes = bytes;
-          finds = record { entry = e; valid = legal.row.valid.1; has = subst (λ (n : ℕ). held_at store.buffers n ≡ Some bytes) same there };
-          put = subst (λ (n : ℕ). PutsBuffer n (Some (bytes_after r.op bytes (offset_in_page r))) (held_at store.buffers) (held_at (slice_set store.buffers f.0 (Some bytes')))) same
-              (subst (λ (bs : List ℕ). PutsBuffer f.0 (Some bs) (held_at store.buffers) (held_at (slice_set store.buffers f.0 (Some bytes')))) bytes_is
-              (list_puts_buffer store.buffers f.0 (Some bytes') (let count = before.places.buffers in let less = at.within in omega (arith, count, less, same))));
-        }, refl)
+        free modified x read y read_y pages' procs (subst (λ (g : Page). (q w : ℕ) → charged_at pages' q w ≡ touched_rows g (charged_at fields.pages) q w) it touched)) (
+          record {
+            bytes = bytes;
+            finds = record { entry = e; valid = legal.row.valid.1; has = subst (λ (n : ℕ). held_at store.buffers n ≡ Some bytes) same there };
+            put = subst (λ (n : ℕ). PutsBuffer n (Some (bytes_after r.op bytes (offset_in_page r))) (held_at store.buffers) (held_at (slice_set store.buffers f.0 (Some bytes')))) same
+                (subst (λ (bs : List ℕ). PutsBuffer f.0 (Some bs) (held_at store.buffers) (held_at (slice_set store.buffers f.0 (Some bytes')))) bytes_is
+                (list_puts_buffer store.buffers f.0 (Some bytes') (let count = before.places.buffers in let less = at.within in omega (arith, count, less, same))));
+          },
+          refl,
+        )
         (record { ids = before.places.ids; buffers = length-set store.buffers f.0 (Some bytes') ∙ before.places.buffers; left = before.places.left; firsts = before.places.firsts }))
 
     pub done_right : (bytes : List ℕ) → held_at store.buffers f.0 ≡ Some bytes → answer ≡ reply_from r.op bytes (offset_in_page r) → tells ≡ true

@@ -6,6 +6,7 @@ pub mod Owed
 pub mod FirstPages
 pub mod Layable
 pub mod ZeroCloses
+pub mod DeleteCloses
 pub mod DoneCloses
 pub mod BackCloses
 pub mod EvictCloses

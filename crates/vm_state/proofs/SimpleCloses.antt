@@ -45,7 +45,7 @@ spoken_with_few (what.Served s answer) own number n row few = one_more_few own n
 spoken_with_few other own number n row few = omega (arith, few)
 
 -- no process has more spoken entries than there are
-spoken_by_few : (p : ℕ) (past : List Entry) → (spoken_by p past).count ≤ length past
+pub spoken_by_few : (p : ℕ) (past : List Entry) → (spoken_by p past).count ≤ length past
 spoken_by_few p [] = omega arith
 spoken_by_few p (e ∷ past) = let few = spoken_with_few e.what (nat_eq (e.seat).0 p) (length past + 1) (length past) (spoken_by p past) (spoken_by_few p past) in subst (λ (n : ℕ). (spoken_by p (e ∷ past)).count ≤ n) (omega arith) few
 

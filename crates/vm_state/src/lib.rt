@@ -1,8 +1,10 @@
 //! The pager's state on its real parts: a method for each kind of entry.
 #![tactic(auto)]
 
+mod answering;
 mod backs;
 mod carrier;
+mod deletions;
 mod evictions;
 mod faults;
 mod opening;

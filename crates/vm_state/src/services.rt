@@ -119,7 +119,14 @@ impl<B: Block> State<B> {
         let spoken = &mut self.spoken[seat.0 as usize];
         spoken.last = Some(number);
         spoken.count += 1;
-        create_zeros(&mut self.tables, &mut self.sections, Proc(seat.0), at, pages, prot);
+        create_zeros(
+            &mut self.tables,
+            &mut self.sections,
+            Proc(seat.0),
+            at,
+            pages,
+            prot,
+        );
         self.journal.push(Entry {
             seat,
             what: What::Served {

@@ -66,4 +66,3 @@ impl<B: Block> Model for State<B> {
           failed = s.failed;
         }) s.firsts.items };
 }
-

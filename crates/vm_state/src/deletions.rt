@@ -1,0 +1,44 @@
+ghost use Rattle.std.specs.Prelude.{◌≡◌};
+
+use crate::shown::entry_in;
+use crate::state::State;
+use disk_trait::Block;
+use page_ranges::{empty_frame, uncharge};
+use vm_journal::{Entry, What};
+use vm_types::{Addr, Answer, Proc, Seat, Service};
+
+impl<B: Block> State<B> {
+    ghost use Rattle.vm_journal.specs.declared.entry.What.{What};
+    ghost use Rattle.vm_types.specs.declared.reply.Answer.{Answer};
+    ghost use Rattle.vm_types.specs.declared.service.Service.{Service};
+    ghost use Rattle.vm_state.specs.History.{MayAdd, added, entry_by};
+
+    /// Deletes the pages of a range of the seat's process, of which none is valid or in flight.
+    pub fn delete(&mut self, seat: Seat, at: Addr, pages: u32)
+        requires { MayAdd self.old (entry_by seat (What.Served (Service.Delete at pages) Answer.Good)) }
+        ensures { self.new ≡ added self.old (entry_by seat (What.Served (Service.Delete at pages) Answer.Good)) }
+    {
+        let p = Proc(seat.0);
+        let number = self.journal.entries().len() as u64 + 1;
+        for n in 0..pages {
+            let vpn = at.0 / 512 + n;
+            let place = entry_in(self.tables.look(p, vpn)).unwrap().place;
+            empty_frame(self.store.frames_mut(), place);
+            let kept = self.pages.at(p, vpn);
+            uncharge(&mut self.file, kept);
+            self.pages.set(p, vpn, None);
+            self.tables.unmap(p, vpn);
+            self.sections.forget(p, vpn);
+        }
+        let spoken = &mut self.spoken[seat.0 as usize];
+        spoken.last = Some(number);
+        spoken.count += 1;
+        self.journal.push(Entry {
+            seat,
+            what: What::Served {
+                s: Service::Delete { at, pages },
+                answer: Answer::Good,
+            },
+        });
+    }
+}
