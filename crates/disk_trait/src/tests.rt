@@ -84,6 +84,25 @@ fn other_blocks_never_fail(rt: HostRuntime) -> Result<(), Fail> {
     Ok(())
 }
 
+/// Gives back as many blocks as the greatest page file has.
+#[test]
+fn the_greatest_page_file_is_retired(rt: HostRuntime) -> Result<(), Fail> {
+    let mut memory = MemoryDepot::new(rt.alloc(), Vec::new(rt.alloc()));
+    let mut other = NeverFails::new(rt.alloc());
+    for number in 0..16_384u32 {
+        let (id, bytes) = (BlockId::PageFile(number), [(number & 255) as u8; 512]);
+        assert_eq!(rt; make_and_retire(&mut memory, id, &bytes), Ok(()));
+        assert_eq!(rt; make_and_retire(&mut other, id, &bytes), Ok(()));
+    }
+    for number in [0, 1, 16_383] {
+        let found = memory
+            .retired(BlockId::PageFile(number))
+            .ok_or("it was retired")?;
+        assert_eq!(rt; found.bytes(), [(number & 255) as u8; 512].as_slice());
+    }
+    Ok(())
+}
+
 #[test]
 fn files_give_back_what_was_written(rt: HostRuntime) -> Result<(), Fail> {
     let folder = "disk_trait_test";

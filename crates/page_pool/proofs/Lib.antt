@@ -1,2 +1,6 @@
-pub mod Steps
-pub mod Walks
+pub mod Pages
+pub mod Tickets
+pub mod Numbers
+pub mod Parts
+pub mod Whole
+pub mod Values

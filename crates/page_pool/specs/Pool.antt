@@ -1,5 +1,5 @@
 -- What contracts see of a pool of page buffers, and of a buffer. Source: this project's own.
-use Rattle.std.specs.Prelude.{ℕ, ◌≡◌, ◌≤◌, List}
+use Rattle.std.specs.Prelude.{ℕ, ◌≡◌, ◌≤◌, List, length}
 use Rattle.vm_types.specs.declared.pool_name.PoolName.{PoolName}
 
 -- a pool: its name, and how many buffers are left in it
@@ -7,11 +7,12 @@ pub record PoolState : Type 0 where
   pub name : PoolName
   pub left : ℕ
 
--- a pool has a ticket for each buffer that is left, and room for all that it was made with
-pub record IsKept (tickets left size capacity : ℕ) : Type 0 where
-  pub counted : tickets ≡ left
-  pub within : left ≤ size
-  pub room : size ≤ capacity
+-- the parts that are in are those whose numbers are on the stack, which has room for all
+pub record IsKept (numbers stack : List ℕ) (all capacity size : ℕ) : Type 0 where
+  pub stacked : numbers ≡ stack
+  pub within : length stack ≤ all
+  pub room : all ≤ capacity
+  pub known : size ≡ all
 
 -- a buffer: the name of its pool, and its bytes
 pub record Buffer : Type 0 where

@@ -1,9 +1,10 @@
-//! A pool of page buffers of 512 bytes.
+//! A pool of page buffers of 512 bytes, which are parts of one region.
 #![tactic(auto)]
 
 mod page_buf;
+mod part;
 mod pool;
-mod tickets;
+mod region;
 
 pub use page_buf::PageBuf;
 pub use pool::Pool;

@@ -1,28 +1,24 @@
 ghost use Rattle.std.specs.Prelude.{◌≡◌, length, replicate};
 ghost use Rattle.std.specs.Borrow.{sem};
 
-use crate::tickets::Tickets;
+use crate::part::Part;
 use std::marker::Model;
 
-/// A buffer of 512 bytes, out of a pool. No two buffers overlap.
+/// A buffer of 512 bytes, out of a pool. No two buffers overlap. A buffer that is dropped isn't handed out again.
 #[derive(Drop)]
 pub struct PageBuf {
-    pub(crate) bytes: Box<[u8; 512]>,
-    pub(crate) ticket: Tickets,
+    pub(crate) part: Part,
 }
 
 impl Model for PageBuf {
-    ghost use Rattle.std.specs.Prelude.{◌≡◌};
     ghost use Rattle.page_pool.specs.Pool.{Buffer};
 
     ghost Value = { Buffer };
 
     ghost view = { λ b. record {
-      pool = record { number = b.ticket.name; size = b.ticket.all };
-      bytes = b.bytes.value;
+      pool = record { number = b.part.name; size = b.part.size };
+      bytes = b.part.bytes;
     } };
-
-    ghost invariant = { λ b. b.ticket.count ≡ 1 };
 }
 
 impl PageBuf {
@@ -33,7 +29,7 @@ impl PageBuf {
         ensures bytes { result.now ≡ self.now.bytes }
         ensures size { length result.now ≡ 512 }
     {
-        whole(&self.bytes)
+        whole(self.part.bytes())
     }
 
     /// Its 512 bytes, to be written. Doesn't allocate.
@@ -44,14 +40,14 @@ impl PageBuf {
     {
         // The proof learns here that there are 512 bytes.
         let _ = self.bytes();
-        self.bytes.as_mut_slice()
+        self.part.bytes_mut().as_mut_slice()
     }
 
     /// Makes all its bytes zero. Doesn't allocate.
     pub fn zero(&mut self)
         ensures { self.new ≡ record self.old { bytes = replicate 512 0 } }
     {
-        *self.bytes = [0; 512];
+        *self.part.bytes_mut() = [0; 512];
     }
 }
 

@@ -1,36 +1,37 @@
 ghost use Rattle.std.specs.Prelude.{◌≡◌, ◌+◌, ◌≤◌, ◌↔◌, IsNone, IfSome, OnSome, IfNone, IfOk, length};
 
 use crate::page_buf::PageBuf;
-use crate::tickets::Tickets;
+use crate::region::{Deed, Region};
 use std::alloc::Global;
 use std::marker::Model;
 use vm_types::NoMemory;
 
-/// A pool of page buffers. Each buffer that is out has a ticket of the pool, and the pool has the
-/// other tickets, so a buffer of the pool finds room in it.
-#[derive(Drop)]
+/// A pool of page buffers: one region, and the numbers of the parts that are in, as a stack.
 pub struct Pool {
-    free: Vec<Box<[u8; 512]>>,
-    tickets: Tickets,
+    region: Region,
+    deed: Deed<Global>,
+    alloc: Global,
+    free: Vec<u32>,
+    size: u32,
 }
 
 impl Model for Pool {
-    ghost use Rattle.std.specs.Prelude.{vec_len, vec_capacity};
+    ghost use Rattle.std.specs.Prelude.{◌≡◌, length, vec_capacity};
     ghost use Rattle.page_pool.specs.Pool.{PoolState, IsKept};
 
     ghost Value = { PoolState };
 
     ghost view = { λ p. record {
-      name = record { number = p.tickets.name; size = p.tickets.all };
-      left = vec_len p.free;
+      name = record { number = p.region.name; size = p.region.size };
+      left = length p.free.items;
     } };
 
-    ghost invariant = { λ p.
-        IsKept p.tickets.count (vec_len p.free) p.tickets.all (vec_capacity p.free) };
+    ghost invariant = { λ p. IsKept p.region.numbers p.free.items p.region.size (vec_capacity p.free) p.size
+        × (p.deed.start ≡ p.region.start) × (p.deed.size ≡ p.region.size) × (p.deed.alloc ≡ p.alloc) };
 }
 
 impl Pool {
-    /// A pool of `n` buffers of zeros, at most 16,800.
+    /// A pool of `n` buffers, at most 16,800.
     ///
     /// # Errors
     /// `NoMemory` if memory runs out.
@@ -40,11 +41,19 @@ impl Pool {
         ensures left { IfOk result (λ pool. pool.left ≡ n) }
     {
         let mut free = Vec::with_capacity(alloc, n as usize)?;
-        for _ in 0..n {
-            free.push(Box::new(alloc, [0; 512])?)?;
+        for number in 0..n {
+            free.push_reserved(number);
         }
-        let tickets = Tickets::new(u64::from(n));
-        Ok(Pool { free, tickets })
+        let Some((region, deed)) = Region::new(&alloc, n as usize) else {
+            return Err(NoMemory);
+        };
+        Ok(Pool {
+            region,
+            deed,
+            alloc,
+            free,
+            size: n,
+        })
     }
 
     /// Takes a buffer out, or returns `None` if none is left. Doesn't allocate.
@@ -57,9 +66,9 @@ impl Pool {
         ensures name { self.new.name ≡ self.old.name }
         ensures within { self.new.left ≤ self.new.name.size }
     {
-        let bytes = self.free.pop()?;
-        let ticket = self.tickets.split();
-        let buf = PageBuf { bytes, ticket };
+        let number = self.free.pop()?;
+        let part = self.region.take(number, [0; 512]);
+        let buf = PageBuf { part };
         // The proof learns here that there are 512 bytes.
         let _ = buf.bytes();
         Some(buf)
@@ -72,15 +81,39 @@ impl Pool {
         ensures left { self.new.left ≡ self.old.left + 1 }
         ensures within { self.new.left ≤ self.new.name.size }
     {
-        let PageBuf { bytes, ticket } = buf;
-        self.tickets.merge(ticket);
-        self.free.push_reserved(bytes);
+        let PageBuf { part } = buf;
+        let number = self.region.put(part);
+        self.free.push_reserved(number);
     }
 
     /// Gives back the memory of a pool to which all buffers are back.
     pub fn close(self)
         requires { self.left ≡ self.name.size }
     {
-        let _ = self;
+        let Pool {
+            region,
+            deed,
+            alloc,
+            free: _,
+            size: _,
+        } = self;
+        region.free(deed, &alloc);
+    }
+}
+
+impl Drop for Pool {
+    fn drop(self) {
+        let Pool {
+            region,
+            deed,
+            alloc,
+            free,
+            size,
+        } = self;
+        if free.len() == size as usize {
+            region.free(deed, &alloc);
+        } else {
+            region.leak(deed);
+        }
     }
 }
