@@ -2,4 +2,3 @@ pub mod Journal
 pub mod Line
 pub mod HasLine
 pub mod Own
-pub mod OfKind

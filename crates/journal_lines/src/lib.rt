@@ -1,0 +1,10 @@
+//! The line of an entry, written.
+#![tactic(auto)]
+
+mod entry_line;
+mod parts;
+
+pub use entry_line::line;
+
+#[cfg(test)]
+mod tests;
