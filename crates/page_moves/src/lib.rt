@@ -1,0 +1,13 @@
+//! What an entry of the pager changes of one page's entry, of its global page, and of what is kept of
+//! it.
+#![tactic(auto)]
+
+mod reading;
+
+pub use reading::{
+    charge_page, first_read, global_number, hold_page, mapped_page, share_page, slot_of_block,
+    slot_of_page,
+};
+
+#[cfg(test)]
+mod tests;
