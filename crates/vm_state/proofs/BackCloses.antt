@@ -120,4 +120,4 @@ module _ {B : Type 0} {content plan : B → Option (List ℕ)} {reads writes fau
       back_closes paid taken modify marked held held_is rows =
           closed before e legal paid (record store { frames = frames' }) left
           (by_status x.status refl taken (rows ∙ ap₂ (λ (m : Bool) (n : ℕ). slice_set fields.frames.rows f.0 (entered_row g m n (row_of fields.frames f.0))) marked held_is)) (refl, refl)
-          (record { ids = before.places.ids; buffers = before.places.buffers; left = before.places.left; firsts = before.places.firsts })
+          (record { ids = before.places.ids; buffers = before.places.buffers; blocks = before.places.blocks; left = before.places.left; firsts = before.places.firsts })

@@ -25,7 +25,7 @@ use Rattle.vm_state.specs.StateKept.{IsState, IsStoreOf, home_in}
 pub may_before : {s t : History} {e : Entry} → s ≡ t → MayAdd t e → MayAdd s e
 may_before {s} {t} {e} is may = subst (λ (x : History). MayAdd x e) (sym is) may
 
-newest_first : (before : List Entry) (now : Written) (spare : ℕ) (e : Entry) → now ≡ record { entries = before ++ e ∷ []; spare = spare } → reverse now.entries ≡ e ∷ reverse before
+pub newest_first : (before : List Entry) (now : Written) (spare : ℕ) (e : Entry) → now ≡ record { entries = before ++ e ∷ []; spare = spare } → reverse now.entries ≡ e ∷ reverse before
 newest_first before now spare e is = ap (λ (j : Written). reverse j.entries) is ∙ reverse-append before (e ∷ [])
 
 -- the number of the next entry

@@ -182,7 +182,7 @@ module _ {B : Type 0} {content plan : B → Option (List ℕ)} {reads writes fau
           },
           refl,
         )
-        (record { ids = before.places.ids; buffers = length-set store.buffers f.0 (Some bytes') ∙ before.places.buffers; left = before.places.left; firsts = before.places.firsts }))
+        (record { ids = before.places.ids; buffers = length-set store.buffers f.0 (Some bytes') ∙ before.places.buffers; blocks = before.places.blocks; left = before.places.left; firsts = before.places.firsts }))
 
     pub done_right : (bytes : List ℕ) → held_at store.buffers f.0 ≡ Some bytes → answer ≡ reply_from r.op bytes (offset_in_page r) → tells ≡ true
         → answer ≡ flat_reply config (flat_after config past) seat.0 r

@@ -67,4 +67,4 @@ module _ {B : Type 0} {content plan : B → Option (List ℕ)} {reads writes fau
       (evict_parts config past a seat q address f why to fields (kept before) (right before) legal before.parts x g old frames' tables' read page there rows free modified procs
       (λ r w. changed r w ∙ ap (λ (y : Place). changed_at (pte_in fields.tables) q.0 v (Some (record { prot = old.prot; place = y })) r w) place_is))
       (refl, refl)
-      (record { ids = before.places.ids; buffers = before.places.buffers; left = before.places.left; firsts = before.places.firsts }))
+      (record { ids = before.places.ids; buffers = before.places.buffers; blocks = before.places.blocks; left = before.places.left; firsts = before.places.firsts }))

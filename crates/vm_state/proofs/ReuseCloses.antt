@@ -129,4 +129,4 @@ module _ {B : Type 0} {content plan : B → Option (List ℕ)} {reads writes fau
         → IsState content plan reads writes faults tells tells_plan config (e ∷ past) (spare - 1) (record store { frames = frames' }) left numbers
     reuse_closes paid rest globals charge =
         closed before e legal paid (record store { frames = frames' }) left (by_page page refl rest globals charge) (refl, refl)
-        (record { ids = before.places.ids; buffers = before.places.buffers; left = before.places.left; firsts = before.places.firsts })
+        (record { ids = before.places.ids; buffers = before.places.buffers; blocks = before.places.blocks; left = before.places.left; firsts = before.places.firsts })

@@ -120,6 +120,7 @@ module _ {B : Type 0} (content plan : B → Option (List ℕ)) (reads writes fau
           places = record {
             ids = opened.ids;
             buffers = ap length opened.buffers ∙ length-replicate config.frames (Some (replicate 512 0));
+            blocks = many;
             left = (let left = opened.left in omega (arith, left));
             firsts = have;
           };

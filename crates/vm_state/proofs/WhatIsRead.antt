@@ -26,7 +26,7 @@ use Rattle.vm_state.specs.StateKept.{IsState}
 use Rattle.vm_state.proofs.Closing.{kept}
 use Rattle.vm_state.proofs.ZeroCloses.{slice_get_within_some}
 
-some_counted : {X : Type 0} (p : X → Bool) (xs : List X) → nat_lt 0 (count_by p xs) ≡ list_any p xs
+pub some_counted : {X : Type 0} (p : X → Bool) (xs : List X) → nat_lt 0 (count_by p xs) ≡ list_any p xs
 some_counted p [] = refl
 some_counted p (x ∷ xs) = go (p x) refl (some_counted p xs)
   where

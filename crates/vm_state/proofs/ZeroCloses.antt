@@ -134,4 +134,4 @@ module _ {B : Type 0} {content plan : B → Option (List ℕ)} {reads writes fau
       (zero_parts config past a seat address f before.formed (kept before) (right before) legal fields before.parts x read slot
       ((λ i. choose (sym is.0 i) (sym is.1 i)) ∙ chosen) frames' rows free modified tables' old procs changed there pages' procs' changed')
       (list_puts_buffer store.buffers f.0 (Some (replicate 512 0)) (let count = before.places.buffers in let less = head.within in omega (arith, count, less)), refl)
-      (record { ids = before.places.ids; buffers = length-set store.buffers f.0 (Some (replicate 512 0)) ∙ before.places.buffers; left = before.places.left; firsts = before.places.firsts })))
+      (record { ids = before.places.ids; buffers = length-set store.buffers f.0 (Some (replicate 512 0)) ∙ before.places.buffers; blocks = before.places.blocks; left = before.places.left; firsts = before.places.firsts })))

@@ -9,3 +9,16 @@ pub mod Made
 pub mod SectionPages
 pub mod Resting
 pub mod RingSlots
+pub mod LiftsFit
+pub mod ReadRoles
+pub mod Landings
+pub mod LiftsBegin
+pub mod Beginnings
+pub mod Carrying
+pub mod LiftsLand
+pub mod PageReadings
+pub mod PagesShown
+pub mod ProcessReadings
+pub mod FlightReadings
+pub mod Ends
+pub mod Answering

@@ -1,5 +1,5 @@
 -- What a state keeps. This project's own.
-use Rattle.std.specs.Prelude.{◌≡◌, ℕ, Bool, ◌+◌, ◌*◌, ◌^◌, ◌≤◌, ◌<◌, List, Option, Some, length, slice_get}
+use Rattle.std.specs.Prelude.{◌≡◌, ℕ, Bool, not, ◌+◌, ◌*◌, ◌^◌, ◌≤◌, ◌<◌, List, Option, Some, length, count_by, slice_get}
 use Rattle.std.specs.Option.{option_map}
 use Rattle.vm_types.specs.Configuration.{IsWellFormed}
 use Rattle.vm_types.specs.declared.config.Config.{Config}
@@ -7,7 +7,7 @@ use Rattle.vm_types.specs.declared.names.BlockId.{BlockId}
 use Rattle.vm_journal.specs.declared.entry.Entry.{Entry}
 use Rattle.pager_model.specs.Content.{ContentFits}
 use Rattle.pager_model.specs.Fits.{told_of}
-use Rattle.pager_model.specs.Flights.{Flight, open_flights}
+use Rattle.pager_model.specs.Flights.{Flight, is_reading, open_flights}
 use Rattle.pager_model.specs.Run.{IsRun, pager_after}
 use Rattle.pager_model.specs.Told.{Told}
 use Rattle.frame_store.specs.Blocks.{block_at, blocks_of, held_at}
@@ -17,12 +17,17 @@ use Rattle.state_fits.specs.Parts.{Parts}
 use Rattle.state_fits.specs.PartsFit.{PartsFit}
 use Rattle.vm_state.specs.History.{owed}
 
--- the store is the configuration's: its blocks, a buffer for each frame, and as many more as may be out with writes;
+-- whether a transfer is a write: it has a buffer of its own
+abbrev pub is_writing : Flight → Bool
+is_writing x = not (is_reading x.direction)
+
+-- the store is the configuration's: its blocks, a place for each of them, a buffer for each frame, and as many more as may be out with writes;
 -- and the number of the first page of each section
 pub record IsStoreOf {B : Type 0} (config : Config) (flights : List Flight) (store : StoreView B) (numbers : List ℕ) : Type 0 where
   pub ids : store.ids ≡ blocks_of config
   pub buffers : length store.buffers ≡ config.frames
-  pub left : 16 * (length config.procs + 2) ≤ store.left + length flights
+  pub blocks : length store.blocks ≡ length (blocks_of config)
+  pub left : 16 * (length config.procs + 2) ≤ store.left + count_by is_writing flights
   pub firsts : (s : ℕ) → s < length config.sections → slice_get numbers s ≡ Some (section_page_number config s 0)
 
 module _ {B : Type 0} (content plan : B → Option (List ℕ)) (reads writes faults : B → ℕ) where

@@ -1,4 +1,5 @@
-ghost use Rattle.std.specs.Prelude.{◌≡◌, ◌<◌, [], ◌∷◌, ◌++◌, length, IfOk};
+ghost use Rattle.std.specs.Prelude.{◌≡◌, ◌<◌, ◌∷◌, ◌++◌, List, [], length, IfOk};
+ghost use Rattle.std.specs.List.{AllByRecursion};
 
 use disk_trait::Block;
 use frame_store::Lift;
@@ -15,18 +16,27 @@ pub struct Carrier<B: Block> {
 }
 
 impl<B: Block> Model for Carrier<B> {
-    ghost use Rattle.std.specs.Prelude.{◌≤◌, vec_capacity};
+    ghost use Rattle.std.specs.Prelude.{◌≤◌, vec_capacity, vec_len};
     ghost use Rattle.vm_state.specs.CarrierView.{CarrierView};
 
     ghost Value = { CarrierView B };
 
     ghost view = { λ c. record { seat = c.seat; lifts = c.lifts.items } };
 
-    ghost invariant = { λ c. 16 ≤ vec_capacity c.lifts };
+    ghost invariant = { λ c. record {
+      few : vec_len c.lifts ≤ 16;
+      room : 16 ≤ vec_capacity c.lifts;
+    } };
 }
 
 impl<B: Block> Carrier<B> {
+    ghost use Rattle.frame_store.specs.LiftView.{LiftView};
+    ghost use Rattle.frame_store.specs.declared.lift.Carried.{Carried};
+    ghost use Rattle.vm_journal.specs.declared.entry.Entry.{Entry};
+    ghost use Rattle.vm_types.specs.declared.config.Config.{Config};
     ghost use Rattle.vm_state.specs.CarrierView.{taking};
+    ghost use Rattle.vm_state.specs.Carrying.{AreCarried};
+    ghost use Rattle.vm_state.specs.LiftsFit.{LiftFits};
 
     /// An empty carrier of a seat. No other call allocates.
     ///
@@ -41,10 +51,44 @@ impl<B: Block> Carrier<B> {
 
     /// How many lifts it has: at most 16.
     pub fn len(&self) -> u32
-        requires { length self.now.lifts < 17 }
-        ensures { result ≡ length self.now.lifts }
+        ensures few { result < 17 }
+        ensures count { result ≡ length self.now.lifts }
     {
         self.lifts.len() as u32
+    }
+
+    /// Reads or writes the block of each lift, in their order. None of them was carried yet. A lift that
+    /// fitted a journal still fits it. Doesn't allocate.
+    pub fn carry(&mut self)
+        requires { AllByRecursion (λ (lift : LiftView B). lift.result ≡ Carried.Waiting) self.old.lifts }
+        ensures seat { self.new.seat ≡ self.old.seat }
+        ensures carried { AreCarried B.tells_content B.content B.plan B.reads B.writes B.faults
+            self.old.lifts self.new.lifts }
+        ensures fits { (config : Config) (past : List Entry)
+            → AllByRecursion (LiftFits B.content B.plan B.reads B.writes B.faults B.tells_content B.tells_plan config past)
+            self.old.lifts
+            → AllByRecursion (LiftFits B.content B.plan B.reads B.writes B.faults B.tells_content B.tells_plan config past)
+            self.new.lifts }
+    {
+        for n in 0..self.lifts.len() {
+            let lift = &mut self.lifts[n];
+            lift.carry();
+        }
+    }
+
+    /// The seat.
+    pub(crate) fn seat(&self) -> Seat
+        ensures { result ≡ self.now.seat }
+    {
+        self.seat
+    }
+
+    /// Gives its first lift.
+    pub(crate) fn next(&mut self) -> Lift<B>
+        requires { 0 < length self.old.lifts }
+        ensures { self.old ≡ record self.new { lifts = result ∷ self.new.lifts } }
+    {
+        self.lifts.remove(0)
     }
 
     /// Takes one more lift.

@@ -54,7 +54,7 @@ fn fault_in(row: &mut ProcessRow, vpn: u32) -> u32
 }
 
 /// The slot in whose swap block the page lies. No page lies there any more.
-fn come_home(
+pub fn come_home(
     row: &mut ProcessRow,
     pages: &mut ChargedPages,
     swaps: &mut SwapPages,

@@ -1,0 +1,186 @@
+-- Why a reference is refused, by what the parts keep: the flat machine's maps and touched pages are those of the
+-- pager, and each touched page is charged.
+use Rattle.std.proofs.Common.{◌≡◌, ℕ, ◌<◌, ◌≤◌, Bool, true, false, not, cond, ◌&&◌, List, Option, Some, None, length, nat_eq, refl, sym, ap, ◌∙◌, subst, arith}
+use Rattle.std.proofs.lemmas.Bool.{and_parts, eq-eqb, eqb-true, false≢true, ne_eqb, true≢false}
+use Rattle.std.specs.Option.{is_some}
+use Rattle.std.proofs.lemmas.Map.Made.{length-le_from_is_member}
+use Rattle.std.proofs.lemmas.Option.{none-some}
+use Rattle.vm_types.specs.Access.{is_allowed}
+use Rattle.vm_types.specs.declared.config.Config.{Config}
+use Rattle.vm_types.specs.declared.names.BlockId.{BlockId}
+use Rattle.vm_types.specs.declared.names.Page.{Page}
+use Rattle.vm_types.specs.declared.names.Page.TheVariants.{Private, Shared}
+use Rattle.vm_types.specs.declared.names.Proc.{Proc}
+use Rattle.vm_types.specs.declared.reference.Ref.{Ref}
+use Rattle.vm_types.specs.declared.reply.Why.{Why}
+use Rattle.vm_types.specs.declared.reply.Why.TheVariants as why
+use Rattle.vm_journal.specs.declared.entry.Entry.{Entry}
+use Rattle.pager_model.specs.Flat.{FlatState, flat_refusal, is_change, is_page_file_full, refusal_at}
+use Rattle.pager_model.specs.Lookups.{block_of, entry_of}
+use Rattle.pager_model.specs.Maps.{Map, Mapped, page_behind, page_number, proc}
+use Rattle.pager_model.specs.Pager.{Assigned, Pager}
+use Rattle.pager_model.specs.Run.{pager_after}
+use Rattle.pager_model.specs.Sets.{has_page}
+use Rattle.pager_model.specs.Sound.{HasCharges, IsPrivateMapped}
+use Rattle.pager_model.specs.Spoken.{flat_after}
+use Rattle.pager_laws.proofs.FlatFollows.{follows}
+use Rattle.pager_laws.proofs.KeptIsSound.{kept_is_sound}
+use Rattle.pager_rules.proofs.TouchedPages.{same_page_equiv, shorter_list}
+use Rattle.frame_store.specs.StoreView.{StoreView}
+use Rattle.state_parts.specs.ChargedTable.{charged_at}
+use Rattle.state_fits.specs.Pages.{charged_row}
+use Rattle.state_fits.specs.Parts.{Parts}
+use Rattle.state_fits.proofs.EntryPages.{mapped_right}
+use Rattle.vm_state.specs.PageReadings.{found_in, found_with}
+use Rattle.vm_state.specs.PagesShown.{HasWaiting, NoneWaits, is_touched_row, is_waiting}
+use Rattle.vm_state.specs.StateKept.{IsState}
+use Rattle.vm_state.specs.declared.found.Found.{Found}
+use Rattle.vm_state.proofs.Closing.{kept, right}
+
+-- ---- what is kept of a private page says whether it is touched
+touched_row : (charged touched : List Page) (lies : Page → Option BlockId) (assigned : List Assigned) (p v : ℕ) → (has_page touched (Private (proc p) v) ≡ true → has_page charged (Private (proc p) v) ≡ true)
+    → is_touched_row (charged_row charged touched lies assigned p v) ≡ has_page touched (Private (proc p) v)
+unfolding charged_row
+touched_row charged touched lies assigned p v within = go (has_page charged (Private (proc p) v)) (has_page touched (Private (proc p) v)) within
+  where
+    go : (b c : Bool) → (c ≡ true → b ≡ true) → is_touched_row (cond b (Some (record { touched = c; lies = lies (Private (proc p) v); assigned = block_of assigned (Private (proc p) v) })) None) ≡ c
+    go true c is = refl
+    go false false is = refl
+    go false true is = absurd (false≢true (is refl))
+
+waiting_row : (charged touched : List Page) (lies : Page → Option BlockId) (assigned : List Assigned) (p v : ℕ)
+    → is_waiting (charged_row charged touched lies assigned p v) ≡ (has_page charged (Private (proc p) v) && not (has_page touched (Private (proc p) v)))
+unfolding charged_row
+waiting_row charged touched lies assigned p v = go (has_page charged (Private (proc p) v))
+  where
+    go : (b : Bool) → is_waiting (cond b (Some (record { touched = has_page touched (Private (proc p) v); lies = lies (Private (proc p) v); assigned = block_of assigned (Private (proc p) v) })) None)
+        ≡ (b && not (has_page touched (Private (proc p) v)))
+    go true = refl
+    go false = refl
+
+-- ---- the reasons in their order
+abbrev refused : Bool → Bool → Option Why
+refused permitted full = cond (not permitted) (Some why.Protected) (cond full (Some why.PageFileFull) None)
+
+module _ {B : Type 0} {content plan : B → Option (List ℕ)} {reads writes faults : B → ℕ} {tells tells_plan : Bool} {config : Config} {past : List Entry} {spare : ℕ} {store : StoreView B} {fields : Parts} {numbers : List ℕ}
+    (before : IsState content plan reads writes faults tells tells_plan config past spare store fields numbers) where
+  abbrev a : Pager
+  a = pager_after config past
+
+  abbrev flat : FlatState
+  flat = flat_after config past
+
+  map_is : a.map ≡ flat.map
+  map_is = (follows config past before.formed before.run).map
+
+  touched_is : a.touched ≡ flat.touched
+  touched_is = (follows config past before.formed before.run).touched
+
+  charges : HasCharges config a
+  charges = (kept_is_sound config past a (kept before)).charges
+
+  -- ---- whether each block of the page file has a touched page
+  none_fuller : length a.touched ≤ length a.charged
+  none_fuller = length-le_from_is_member same_page_equiv a.touched a.charged charges.touched_once charges.touched
+
+  waits_fewer : HasWaiting fields.pages → length a.touched < length a.charged
+  waits_fewer w =
+      let both = and_parts (has_page a.charged (Private (proc w.p) w.v)) (not (has_page a.touched (Private (proc w.p) w.v)))
+      (sym (waiting_row a.charged a.touched a.lies a.assigned w.p w.v) ∙ (ap is_waiting (sym (before.parts.pages.each w.p w.v)) ∙ w.waits)) in
+      shorter_list a.touched a.charged (Private (proc w.p) w.v) charges.touched_once charges.touched (not_true (has_page a.touched (Private (proc w.p) w.v)) both.1) both.0
+    where
+      not_true : (b : Bool) → not b ≡ true → b ≡ false
+      not_true false is = refl
+      not_true true is = absurd (false≢true is)
+
+  each_touched : ((p : ℕ) → p < length config.procs → NoneWaits fields.pages p) → (g : Page) → has_page a.charged g ≡ true → has_page a.touched g ≡ true
+  each_touched none g is = by g is ((kept_is_sound config past a (kept before)).contents.mapped g is)
+    where
+      both : (b c : Bool) → b ≡ true → (b && not c) ≡ false → c ≡ true
+      both true true is row = refl
+      both true false is row = absurd (true≢false row)
+      both false c is row = absurd (false≢true is)
+
+      by : (h : Page) → has_page a.charged h ≡ true → IsPrivateMapped config a h → has_page a.touched h ≡ true
+      by (Shared s i) there mapped = absurd mapped
+      by (Private p v) there mapped =
+          let found = mapped_right config a p.0 v (Private p v) (right before) mapped in
+          let still : is_waiting (charged_at fields.pages p.0 v) ≡ false = none p.0 (found.3).process v (found.3).page in
+          let row : (has_page a.charged (Private p v) && not (has_page a.touched (Private p v))) ≡ false =
+          sym (waiting_row a.charged a.touched a.lies a.assigned p.0 v) ∙ (ap is_waiting (sym (before.parts.pages.each p.0 v)) ∙ still) in
+          both (has_page a.charged (Private p v)) (has_page a.touched (Private p v)) there row
+
+  not_all : HasWaiting fields.pages → nat_eq (length flat.touched) config.pagefile ≡ false
+  not_all w = ap (λ (xs : List Page). nat_eq (length xs) config.pagefile) (sym touched_is) ∙ ne_eqb _ _ (let less = waits_fewer w in let fit = (kept before).fit in λ same. omega (arith, less, fit, same))
+
+  pub not_charged : (n : ℕ) → n ≡ length a.charged → nat_eq n config.pagefile ≡ false → nat_eq (length flat.touched) config.pagefile ≡ false
+  not_charged n count other =
+      ap (λ (xs : List Page). nat_eq (length xs) config.pagefile) (sym touched_is) ∙ ne_eqb _ _ (let most = none_fuller in let fit = (kept before).fit in λ same. eqb_apart n config.pagefile other (omega (arith, most, fit, same, count)))
+    where
+      eqb_apart : (m n : ℕ) → nat_eq m n ≡ false → m ≡ n → ⊥
+      eqb_apart m n apart same = false≢true (sym apart ∙ eq-eqb m n same)
+
+  pub all_is : (n : ℕ) → n ≡ length a.charged → nat_eq n config.pagefile ≡ true → (waits : Bool) → (waits ≡ true → HasWaiting fields.pages) → (waits ≡ false → (p : ℕ) → p < length config.procs → NoneWaits fields.pages p)
+      → not waits ≡ nat_eq (length flat.touched) config.pagefile
+  all_is n count full true some none = sym (not_all (some refl))
+  all_is n count full false some none =
+      let least = length-le_from_is_member same_page_equiv a.charged a.touched charges.once (each_touched (none refl)) in
+      let most = none_fuller in
+      let charged : n ≡ config.pagefile = eqb-true n config.pagefile full in
+      sym (ap (λ (xs : List Page). nat_eq (length xs) config.pagefile) (sym touched_is) ∙ eq-eqb _ _ (omega (arith, least, most, count, charged)))
+
+  -- ---- whether a page needs a block of a full page file
+  pub touched_known : (p v : ℕ) → is_touched_row (charged_at fields.pages p v) ≡ has_page flat.touched (Private (proc p) v)
+  touched_known p v =
+      ap is_touched_row (before.parts.pages.each p v) ∙ (touched_row a.charged a.touched a.lies a.assigned p v (charges.touched (Private (proc p) v)) ∙ ap (λ (xs : List Page). has_page xs (Private (proc p) v)) touched_is)
+
+  pub full_private : (p : Proc) (v : ℕ) (touched all : Bool) → touched ≡ is_touched_row (charged_at fields.pages p.0 v) → touched ≡ false → all ≡ nat_eq (length flat.touched) config.pagefile
+      → all ≡ is_page_file_full config flat (Private p v)
+  full_private p v touched all is not_touched all_is =
+      all_is ∙ sym (ap (λ (b : Bool). not b && nat_eq (length flat.touched) config.pagefile) (sym (is ∙ touched_known p.0 v) ∙ not_touched))
+
+  pub touched_private : (p : Proc) (v : ℕ) (touched : Bool) → touched ≡ is_touched_row (charged_at fields.pages p.0 v) → touched ≡ true → not touched ≡ is_page_file_full config flat (Private p v)
+  touched_private p v touched is was =
+      ap not was ∙ sym (ap (λ (b : Bool). not b && nat_eq (length flat.touched) config.pagefile) (sym (is ∙ touched_known p.0 v) ∙ was))
+
+  -- ---- the refusal, by what is found
+  pub unmapped_is : (p : ℕ) (r : Ref) → None ≡ found_in config a p (page_number (r.addr).0) → Some why.Unmapped ≡ flat_refusal config flat p r
+  unmapped_is p r none = go (a.map p (page_number (r.addr).0)) refl none
+    where
+      go : (o : Option Mapped) → a.map p (page_number (r.addr).0) ≡ o → None ≡ found_with config p (page_number (r.addr).0) (is_some (entry_of a.valid p (page_number (r.addr).0))) o → Some why.Unmapped ≡ flat_refusal config flat p r
+      go None is missing = sym (ap (refusal_at config flat p r) (ap (λ (m : Map). m p (page_number (r.addr).0)) (sym map_is) ∙ is))
+      go (Some m) is missing = absurd (none-some _ missing)
+
+  module _ (p : ℕ) (r : Ref) (x : Found) (found : Some x ≡ found_in config a p (page_number (r.addr).0)) where
+    refusal_is : refused (is_allowed x.prot r.mode (is_change r.op)) (is_page_file_full config flat x.page) ≡ flat_refusal config flat p r
+    refusal_is = go (a.map p (page_number (r.addr).0)) refl found
+      where
+        go : (o : Option Mapped) → a.map p (page_number (r.addr).0) ≡ o → Some x ≡ found_with config p (page_number (r.addr).0) (is_some (entry_of a.valid p (page_number (r.addr).0))) o
+            → refused (is_allowed x.prot r.mode (is_change r.op)) (is_page_file_full config flat x.page) ≡ flat_refusal config flat p r
+        go None is none = absurd (none-some x (sym none))
+        go (Some m) is some =
+            let same : x ≡ record { page = page_behind config p (page_number (r.addr).0) m.origin; from = m.origin; prot = m.prot; valid = is_some (entry_of a.valid p (page_number (r.addr).0)) } = cc in
+            ap (λ (y : Found). refused (is_allowed y.prot r.mode (is_change r.op)) (is_page_file_full config flat y.page)) same
+            ∙ sym (ap (refusal_at config flat p r) (ap (λ (m : Map). m p (page_number (r.addr).0)) (sym map_is) ∙ is))
+
+    pub code_small : x.prot < 16
+    code_small = go (a.map p (page_number (r.addr).0)) refl found
+      where
+        go : (o : Option Mapped) → a.map p (page_number (r.addr).0) ≡ o → Some x ≡ found_with config p (page_number (r.addr).0) (is_some (entry_of a.valid p (page_number (r.addr).0))) o → x.prot < 16
+        go None is none = absurd (none-some x (sym none))
+        go (Some m) is some =
+            let same : x ≡ record { page = page_behind config p (page_number (r.addr).0) m.origin; from = m.origin; prot = m.prot; valid = is_some (entry_of a.valid p (page_number (r.addr).0)) } = cc in
+            subst (λ (n : ℕ). n < 16) (sym (ap (λ (y : Found). y.prot) same)) (((right before).mapped p (page_number (r.addr).0) m is).code).small
+
+    module _ (change permitted : Bool) (change_is : change ≡ is_change r.op) (permitted_is : permitted ≡ is_allowed x.prot r.mode change) where
+      permits : is_allowed x.prot r.mode (is_change r.op) ≡ permitted
+      permits = sym (permitted_is ∙ ap (is_allowed x.prot r.mode) change_is)
+
+      pub protected_is : permitted ≡ false → Some why.Protected ≡ flat_refusal config flat p r
+      protected_is denied = sym (ap (λ (b : Bool). refused b (is_page_file_full config flat x.page)) (permits ∙ denied)) ∙ refusal_is
+
+      pub full_is : permitted ≡ true → (full : Bool) → full ≡ is_page_file_full config flat x.page → full ≡ true → Some why.PageFileFull ≡ flat_refusal config flat p r
+      full_is granted full value is = sym ((λ i. refused ((permits ∙ granted) i) ((sym value ∙ is) i))) ∙ refusal_is
+
+      pub none_is : permitted ≡ true → (full : Bool) → full ≡ is_page_file_full config flat x.page → full ≡ false → None ≡ flat_refusal config flat p r
+      none_is granted full value is = sym ((λ i. refused ((permits ∙ granted) i) ((sym value ∙ is) i))) ∙ refusal_is

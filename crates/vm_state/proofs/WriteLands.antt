@@ -1,0 +1,117 @@
+-- A write lands: what it requires of the store, and how blocks move.
+use Rattle.std.proofs.Common.{◌≡◌, ℕ, ◌+◌, ◌*◌, ◌≤◌, ◌<◌, Bool, true, false, not, List, Option, Some, None, find, length, count_by, slice_get, slice_set, if◌then◌else◌, refl, sym, ap, ◌∙◌, subst, arith, length-set}
+use Rattle.std.specs.Option.{option_map}
+use Rattle.std.proofs.lemmas.Option.{same_Some, slice_get-get_or}
+use Rattle.vm_types.specs.Configuration.{IsBlock}
+use Rattle.vm_types.specs.declared.config.Config.{Config}
+use Rattle.vm_types.specs.declared.names.BlockId.{BlockId}
+use Rattle.vm_types.specs.declared.names.Seat.{Seat}
+use Rattle.vm_journal.specs.declared.entry.Entry.{Entry}
+use Rattle.pfn_database.specs.Frames.{Frames}
+use Rattle.pager_laws.proofs.FlightsBegun.{flight_blocks}
+use Rattle.pager_model.specs.Fits.{Result, told_of}
+use Rattle.pager_model.specs.Flights.{Flight, is_reading, open_flights, without_flight, writing}
+use Rattle.pager_model.specs.InOk.{IsLanding}
+use Rattle.pager_model.specs.Pager.{Pager}
+use Rattle.pager_model.specs.Run.{pager_after}
+use Rattle.pager_model.specs.Told.{Told}
+use Rattle.pager_model.specs.Transfers.{starts}
+use Rattle.pager_rules.proofs.Lists.{all_found, count_removed_yes}
+use Rattle.pager_rules.proofs.Quiet.{starts_once}
+use Rattle.content_laws.specs.Moved.{BringsBlock}
+use Rattle.content_laws.specs.Put.{PutsBlock}
+use Rattle.content_laws.proofs.AtHome.{block_is_away}
+use Rattle.frame_store.specs.Blocks.{block_at, blocks_of, held_at, number_in, number_of}
+use Rattle.frame_store.specs.LiftView.{LiftView}
+use Rattle.frame_store.specs.StoreView.{StoreView, landed}
+use Rattle.frame_store.proofs.Blocks.{block_kept, block_set, number_within}
+use Rattle.state_fits.specs.Parts.{Parts}
+use Rattle.vm_state.specs.LiftsFit.{LiftFits, lift_seen, result_of}
+use Rattle.vm_state.specs.StateKept.{IsState, IsStoreOf, home_in, is_writing}
+use Rattle.vm_state.proofs.ReadLands.{none_there}
+
+module _ {B : Type 0} {content plan : B → Option (List ℕ)} {reads writes faults : B → ℕ} {tells tells_plan : Bool} {config : Config} {past : List Entry} {spare : ℕ} {store : StoreView B} {fields : Parts} {numbers : List ℕ}
+    (before : IsState content plan reads writes faults tells tells_plan config past spare store fields numbers) (seat : Seat) (lift : LiftView B)
+    (fits : LiftFits content plan reads writes faults tells tells_plan config past lift) (x : Flight) (lands : IsLanding past seat.0 lift.frame lift.start x) (is_out : x.direction ≡ writing)
+    (within : lift.frame < config.frames) where
+  abbrev a : Pager
+  a = pager_after config past
+
+  abbrev home : StoreView B → BlockId → Option Told
+  home s = home_in content plan reads writes faults config s
+
+  -- the lift is of the flight that lands
+  same : fits.0 ≡ x
+  same = same_Some _ _ (sym (subst (λ (j : ℕ). find (starts j) (open_flights past) ≡ Some fits.0) ((fits.1).flight).start (fits.1).found_x) ∙ lands.open_k)
+
+  pub is_write : lift.is_read ≡ false
+  is_write = sym ((fits.1).flight).direction ∙ (ap (λ (y : Flight). is_reading y.direction) same ∙ ap is_reading is_out)
+
+  pub block_is : x.block ≡ lift.block
+  block_is = ap (λ (y : Flight). y.block) (sym same) ∙ ((fits.1).flight).block
+
+  flight_known : IsBlock config x.block
+  flight_known = all_found (λ (y : Flight). IsBlock config y.block) (starts lift.start) (open_flights past) x (flight_blocks config past before.run) lands.open_k
+
+  known : IsBlock config lift.block
+  known = subst (IsBlock config) block_is flight_known
+
+  place : number_in store.ids lift.block ≡ number_of config lift.block
+  place = ap (λ (ids : List BlockId). number_in ids lift.block) before.places.ids
+
+  below : number_in store.ids lift.block < length store.blocks
+  below = let less = number_within config lift.block known in let many = before.places.blocks in omega (arith, less, place, many)
+
+  away : home store lift.block ≡ None
+  away = subst (λ (b : BlockId). home store b ≡ None) block_is (block_is_away config (open_flights past) (home store) lift.start x before.bytes.homes flight_known lands.open_k)
+
+  -- ---- what the store requires
+  pub block_out : slice_get store.blocks (number_in store.ids lift.block) ≡ Some None
+  block_out =
+      slice_get-get_or store.blocks (number_in store.ids lift.block) None below
+      ∙ ap Some (ap (held_at store.blocks) place ∙ none_there (told_of content plan reads writes faults) (block_at config store.blocks lift.block) away)
+
+  pub frame_there : lift.frame < length store.buffers
+  frame_there = let count = before.places.buffers in omega (arith, within, count)
+
+  -- ---- the store after it
+  module _ (frames' : Frames) where
+    abbrev pub store_after : StoreView B
+    store_after = record store {
+      frames = frames';
+      left = store.left + 1;
+      blocks = slice_set store.blocks (number_in store.ids lift.block) (Some lift.held);
+      flights = slice_set store.flights lift.frame None;
+    }
+
+    pub landed_is : landed (record store { frames = frames' }) lift ≡ store_after
+    landed_is = ap (λ (b : Bool). record store {
+      frames = frames';
+      left = if b then store.left else store.left + 1;
+      buffers = if b then slice_set store.buffers lift.frame (Some lift.buffer) else store.buffers;
+      blocks = slice_set store.blocks (number_in store.ids lift.block) (Some lift.held);
+      flights = slice_set store.flights lift.frame None;
+    }) is_write
+
+    block_back : PutsBlock lift.block (Some (told_of content plan reads writes faults lift.held)) (home store) (home store_after)
+    block_back =
+        subst (λ (n : ℕ). PutsBlock lift.block (Some (told_of content plan reads writes faults lift.held)) (home store) (λ (b : BlockId). option_map (told_of content plan reads writes faults) (block_at config (slice_set store.blocks n (Some lift.held)) b)))
+        (sym place)
+        (record {
+          here = ap (option_map (told_of content plan reads writes faults)) (block_set config store.blocks before.places.blocks lift.block known (Some lift.held));
+          others = λ c apart. ap (option_map (told_of content plan reads writes faults)) (block_kept config store.blocks before.places.blocks lift.block known (Some lift.held) c apart);
+        })
+
+    pub brings : (result : Result) → result_of lift.result ≡ result → BringsBlock tells tells_plan config past a lift.start result (home store) (home store_after)
+    brings result ended = record { lift = lift_seen content plan reads writes faults lift; fits = fits; start = refl; ended = ended; back = block_back }
+
+    pub places : IsStoreOf config (without_flight lift.start (open_flights past)) store_after numbers
+    places = record {
+      ids = before.places.ids;
+      buffers = before.places.buffers;
+      blocks = length-set store.blocks (number_in store.ids lift.block) (Some lift.held) ∙ before.places.blocks;
+      left = (let few = before.places.left in
+          let one_less = count_removed_yes is_writing (starts lift.start) (open_flights past) x lands.open_k (starts_once past lift.start) (ap (λ d. not (is_reading d)) is_out) in
+          omega (arith, few, one_less));
+      firsts = before.places.firsts;
+    }

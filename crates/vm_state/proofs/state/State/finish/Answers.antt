@@ -1,0 +1,14 @@
+use Rattle.std.proofs.Common.{[], ◌≡◌, subst, sym}
+use Rattle.pager_model.specs.Flights.{open_flights}
+use Rattle.vm_state.specs.Ends.{AreGivenBack}
+use Rattle.vm_state.specs.History.{History}
+use Rattle.vm_state.proofs.EndCloses as close
+use Rattle.vm_state.proofs.state.State.finish.Goals as goal
+
+pub into_blocks-requires-after_bounds : goal.into_blocks-requires-after_bounds
+into_blocks-requires-after_bounds g c κs within = close.all_home c.self.invariant (subst (λ (s : History). open_flights s.past ≡ []) (sym c.self.view_is) c.requires)
+
+pub returns-clause-blocks : goal.returns-clause-blocks
+returns-clause-blocks g c =
+    subst (λ (s : History). AreGivenBack g.B.Block.content g.B.Block.plan g.B.Block.reads g.B.Block.writes g.B.Block.faults g.B.Block.tells_content g.B.Block.tells_plan s.config s.past c.into_blocks.result.items) c.self.view_is
+    (close.given_back c.self.invariant (subst (λ (s : History). open_flights s.past ≡ []) (sym c.self.view_is) c.requires) c.into_blocks.result.items c.into_blocks.ensures.ids c.into_blocks.ensures.blocks)

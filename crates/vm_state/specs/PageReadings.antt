@@ -1,0 +1,36 @@
+-- What the readers of pages show. This project's own.
+use Rattle.std.specs.Prelude.{ℕ, Bool, Option, Some, None, nat_lt}
+use Rattle.std.specs.Option.{is_some, option_map}
+use Rattle.vm_types.specs.Configuration.{IsSectionPage}
+use Rattle.vm_types.specs.declared.config.Config.{Config}
+use Rattle.vm_types.specs.declared.names.Page.{Page}
+use Rattle.vm_types.specs.declared.names.Page.TheVariants.{Private, Shared}
+use Rattle.pager_model.specs.Forget.{holder}
+use Rattle.pager_model.specs.Given.{pfn}
+use Rattle.pager_model.specs.Lookups.{block_of, count_page, entry_of}
+use Rattle.pager_model.specs.Maps.{Mapped, page_behind}
+use Rattle.pager_model.specs.Pager.{Pager, Valid}
+use Rattle.vm_state.specs.declared.found.Backing.{Backing}
+use Rattle.vm_state.specs.declared.found.Found.{Found}
+
+-- of a page number that is mapped: the page, what is behind it, its protection code, and whether its entry is valid
+abbrev pub found_with : Config → ℕ → ℕ → Bool → Option Mapped → Option Found
+found_with config p v valid None = None
+found_with config p v valid (Some m) = Some (record { page = page_behind config p v m.origin; from = m.origin; prot = m.prot; valid = valid })
+
+abbrev pub found_in : Config → Pager → ℕ → ℕ → Option Found
+found_in config a p v = found_with config p v (is_some (entry_of a.valid p v)) (a.map p v)
+
+-- whether a page is charged, the block in which it lies, the page file block that is assigned to it, and the frame
+-- that holds it
+abbrev pub backing_in : Config → Pager → Page → Backing
+backing_in config a g =
+    record { charged = nat_lt 0 (count_page a.charged g); lies = a.lies g; assigned = block_of a.assigned g; frame = option_map pfn (holder config a.page g) }
+
+abbrev pub frame_of : Valid → ℕ
+frame_of e = e.frame
+
+-- a shared page is one of a section of the configuration
+abbrev pub IsKnown : Config → Page → Type 0
+IsKnown config (Private p v) = Unit {0}
+IsKnown config (Shared s i) = IsSectionPage config.sections s.0 i

@@ -1,0 +1,60 @@
+ghost use Rattle.std.specs.Prelude.{◌≡◌, ◌<◌, length, find, count_by, nat_eq};
+ghost use Rattle.std.specs.List.{list_any};
+ghost use Rattle.std.specs.Option.{option_map};
+ghost use Rattle.vm_types.specs.Configuration.{IsBlock};
+ghost use Rattle.pager_model.specs.Flights.{open_flights};
+ghost use Rattle.pager_model.specs.Transfers.{has_come, is_on_block, is_read_on};
+ghost use Rattle.vm_state.specs.FlightReadings.{comes, read_by};
+
+use crate::open_read::OpenRead;
+use crate::state::State;
+use disk_trait::Block;
+use vm_journal::Role;
+use vm_types::{BlockId, Pfn, Proc};
+
+/// Whether a read of this role brings back a page of the process.
+fn comes(p: Proc, role: Option<Role>) -> bool
+    ensures { result ≡ comes p.0 role }
+{
+    match role {
+        Some(Role::Come(q, _)) => q.0 == p.0,
+        _ => false,
+    }
+}
+
+/// Whether one of the reads with these roles brings back a page of the process.
+fn any_comes(roles: &[Option<Role>], p: Proc) -> bool
+    ensures { result ≡ list_any (comes p.0) roles.now }
+{
+    roles.iter().any(|role| comes(p, *role))
+}
+
+/// No reader allocates.
+impl<B: Block> State<B> {
+    /// The open read of a frame of the configuration; none if none is open on it.
+    pub fn read_on(&self, f: Pfn) -> Option<OpenRead>
+        requires { f.0 < self.now.config.frames }
+        ensures { result ≡ option_map read_by (find (is_read_on f.0) (open_flights self.now.past)) }
+    {
+        self.roles[f.0 as usize]?;
+        let start = self.store.flight(f)?;
+        let seat = self.journal.entries()[start as usize - 1].seat;
+        Some(OpenRead { seat, start })
+    }
+
+    /// Whether a page of a process (any number) is being read back from its swap block. Looks at each
+    /// frame.
+    pub fn has_come(&self, p: Proc) -> bool
+        ensures { result ≡ has_come p.0 (open_flights self.now.past) }
+    {
+        any_comes(&self.roles, p)
+    }
+
+    /// Whether no open transfer is on a block of the configuration.
+    pub fn home(&self, id: BlockId) -> bool
+        requires { IsBlock self.now.config id }
+        ensures { result ≡ nat_eq (count_by (is_on_block id) (open_flights self.now.past)) 0 }
+    {
+        self.store.home(id)
+    }
+}

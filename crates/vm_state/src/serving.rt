@@ -1,0 +1,169 @@
+ghost use Rattle.std.specs.Prelude.{◌≡◌, ◌<◌, ◌≤◌, Some, count_by, length, slice_get};
+ghost use Rattle.std.specs.List.{list_any};
+ghost use Rattle.vm_types.specs.WellFormed.{IsRange, IsWellFormedService};
+ghost use Rattle.pager_model.specs.Forget.{range_of};
+ghost use Rattle.pager_model.specs.Serve.{is_in_use, is_unmapped};
+ghost use Rattle.pager_model.specs.Served.{is_locked_in};
+ghost use Rattle.vm_types.specs.declared.reply.Answer.{Answer};
+ghost use Rattle.vm_state.specs.Answering.{answer_in, has_entry, limit_answer, lock_answer};
+ghost use Rattle.vm_state.specs.History.{pager};
+
+use crate::shown::entry_in;
+use crate::state::State;
+use disk_trait::Block;
+use page_tables::Tables;
+use state_parts::{count_in, locked_in};
+use vm_types::{Addr, Answer, Proc, ProcSpec, Seat, Service};
+use working_set::Ring;
+
+/// Whether a page number of a process has an entry, if `mapped`, or else whether it has none.
+fn has_entry(tables: &Tables, p: Proc, mapped: bool, vpn: u32) -> bool
+    ensures { result ≡ has_entry tables.now p.0 mapped vpn }
+{
+    let is_there = entry_in(tables.look(p, vpn)).is_some();
+    if mapped { is_there } else { !is_there }
+}
+
+/// Whether some page of a range of a process has an entry, if `mapped`, or else whether some has none.
+fn some_entry(tables: &Tables, p: Proc, mapped: bool, at: Addr, pages: u32) -> bool
+    requires { IsRange at.0 pages }
+    ensures { result ≡ list_any (has_entry tables.now p.0 mapped) (range_of at.0 pages) }
+{
+    let first = at.0 / 512;
+    for n in 0..pages {
+        if has_entry(tables, p, mapped, first + n) {
+            return true;
+        }
+    }
+    false
+}
+
+/// The answer to a lock of a range that is mapped.
+fn lock_answer(ring: &Ring, spec: &ProcSpec, at: Addr, pages: u32) -> Answer
+    requires slots { length ring.now.slots ≤ 1024 }
+    requires locks { spec.now.locks ≤ 1024 }
+    ensures { result ≡ lock_answer ring.now at.0 pages (Some spec.now) }
+{
+    let count = count_in(ring, at, pages);
+    let locked = ring.locked() + count;
+    if locked > spec.locks + locked_in(ring, at, pages) {
+        Answer::LockLimit
+    } else {
+        Answer::Count(count)
+    }
+}
+
+/// The answer to an adjustment of a limit.
+fn limit_answer(spec: &ProcSpec, limit: u32) -> Answer
+    requires { spec.now.locks ≤ 1024 }
+    ensures { result ≡ limit_answer limit (Some spec.now) }
+{
+    if limit >= spec.locks + 2 && limit <= spec.extent {
+        Answer::Good
+    } else {
+        Answer::BadLimit
+    }
+}
+
+impl<B: Block> State<B> {
+    ghost use Rattle.vm_journal.specs.declared.entry.What.{What};
+    ghost use Rattle.vm_state.specs.Answering.{answer_after};
+    ghost use Rattle.vm_state.specs.History.{MayAdd, added, entry_by};
+
+    /// Answers a service of the seat's process; after a transfer that failed, with that, and else with
+    /// its first refusal that applies, or with what it does. Gives the answer.
+    pub fn served(&mut self, seat: Seat, s: Service, fault: bool) -> Answer
+        requires { MayAdd self.old (entry_by seat (What.Served s (answer_after self.old seat.0 s fault))) }
+        ensures answer { result ≡ answer_after self.old seat.0 s fault }
+        ensures entry { self.new ≡ added self.old (entry_by seat (What.Served s result)) }
+    {
+        let answer = if fault {
+            Answer::DiskFault
+        } else {
+            self.answer_of(Proc(seat.0), s)
+        };
+        self.answer(seat, s, answer);
+        answer
+    }
+
+    /// The answer to a service of a process of the configuration.
+    fn answer_of(&self, p: Proc, s: Service) -> Answer
+        requires process { p.0 < length self.now.config.procs }
+        requires service { IsWellFormedService s }
+        ensures { result ≡ answer_in self.now.config (pager self.now) p.0 s }
+    {
+        match s {
+            Service::Create { at, pages, .. } => {
+                if self.is_in_use(p, at, pages) {
+                    Answer::InUse
+                } else {
+                    Answer::Good
+                }
+            }
+            Service::Delete { at, pages } | Service::Protect { at, pages, .. } => {
+                if self.is_unmapped(p, at, pages) {
+                    Answer::Unmapped
+                } else {
+                    Answer::Good
+                }
+            }
+            Service::Lock { at, pages } => {
+                if self.is_unmapped(p, at, pages) {
+                    Answer::Unmapped
+                } else {
+                    self.answer_to_lock(p, at, pages)
+                }
+            }
+            Service::Unlock { at, pages } => {
+                if self.is_unmapped(p, at, pages) {
+                    Answer::Unmapped
+                } else {
+                    self.answer_to_unlock(p, at, pages)
+                }
+            }
+            Service::Purge { .. } => Answer::Good,
+            Service::Adjust { limit } => self.answer_to_adjust(p, limit),
+        }
+    }
+
+    /// Whether some page of a range of a process is mapped.
+    fn is_in_use(&self, p: Proc, at: Addr, pages: u32) -> bool
+        requires { IsRange at.0 pages }
+        ensures { result ≡ is_in_use (pager self.now) p.0 at.0 pages }
+    {
+        some_entry(&self.tables, p, true, at, pages)
+    }
+
+    /// Whether some page of a range of a process isn't mapped.
+    fn is_unmapped(&self, p: Proc, at: Addr, pages: u32) -> bool
+        requires { IsRange at.0 pages }
+        ensures { result ≡ is_unmapped (pager self.now) p.0 at.0 pages }
+    {
+        some_entry(&self.tables, p, false, at, pages)
+    }
+
+    /// The answer to a lock of a range that is mapped.
+    fn answer_to_lock(&self, p: Proc, at: Addr, pages: u32) -> Answer
+        requires { p.0 < length self.now.config.procs }
+        ensures { result ≡ lock_answer ((pager self.now).ring p.0) at.0 pages (slice_get self.now.config.procs p.0) }
+    {
+        let spec = &self.config.procs.items()[p.0 as usize];
+        lock_answer(&self.processes[p.0 as usize].ring, spec, at, pages)
+    }
+
+    /// The answer to an unlock of a range that is mapped.
+    fn answer_to_unlock(&self, p: Proc, at: Addr, pages: u32) -> Answer
+        requires { p.0 < length self.now.config.procs }
+        ensures { result ≡ Answer.Count (count_by (is_locked_in at.0 pages) ((pager self.now).ring p.0).slots) }
+    {
+        Answer::Count(locked_in(&self.processes[p.0 as usize].ring, at, pages))
+    }
+
+    /// The answer to an adjustment of a limit.
+    fn answer_to_adjust(&self, p: Proc, limit: u32) -> Answer
+        requires { p.0 < length self.now.config.procs }
+        ensures { result ≡ limit_answer limit (slice_get self.now.config.procs p.0) }
+    {
+        limit_answer(&self.config.procs.items()[p.0 as usize], limit)
+    }
+}

@@ -1,0 +1,130 @@
+ghost use Rattle.std.specs.Prelude.{◌≡◌, ℕ, false};
+ghost use Rattle.state_fits.specs.Writes.{page_landed, swaps_landed};
+ghost use Rattle.state_parts.specs.ChargedTable.{charged_at};
+ghost use Rattle.state_parts.specs.SwapTable.{swapped_at};
+ghost use Rattle.write_moves.specs.Moves.{MayLie};
+
+use crate::state::State;
+use disk_trait::Block;
+use frame_moves::end_write;
+use frame_store::{Carried, Lift};
+use state_parts::{ChargedPages, SwapPages};
+use vm_journal::{Entry, What};
+use vm_types::{BlockId, Page, Seat};
+use write_moves::lie_in;
+
+impl<B: Block> State<B> {
+    ghost use Rattle.vm_journal.specs.declared.entry.What.{What};
+    ghost use Rattle.vm_state.specs.History.{MayAdd, added, entry_by};
+    ghost use Rattle.vm_state.specs.Landings.{HasFailed, landing_of};
+    ghost use Rattle.vm_state.specs.LiftsFit.{LiftFits};
+
+    /// A write has gone well.
+    pub fn out_ok(&mut self, seat: Seat, lift: Lift<B>)
+        requires may { MayAdd self.old (entry_by seat (landing_of lift)) }
+        requires fits { LiftFits B.content B.plan B.reads B.writes B.faults B.tells_content B.tells_plan
+            self.old.config self.old.past lift }
+        requires write { lift.is_read ≡ false }
+        requires good { lift.result ≡ Carried.Good }
+        requires pool { lift.pool ≡ self.old.pool }
+        ensures { self.new ≡ added self.old (entry_by seat (landing_of lift)) }
+    {
+        self.out_ok_well(seat, lift)
+    }
+
+    /// A write has failed.
+    pub fn out_fail(&mut self, seat: Seat, lift: Lift<B>)
+        requires may { MayAdd self.old (entry_by seat (landing_of lift)) }
+        requires fits { LiftFits B.content B.plan B.reads B.writes B.faults B.tells_content B.tells_plan
+            self.old.config self.old.past lift }
+        requires write { lift.is_read ≡ false }
+        requires bad { HasFailed lift.result }
+        requires pool { lift.pool ≡ self.old.pool }
+        ensures { self.new ≡ added self.old (entry_by seat (landing_of lift)) }
+    {
+        let Carried::Bad { before, after } = lift.result() else {
+            unreachable!();
+        };
+        self.out_fail_counted(seat, lift, before, after)
+    }
+
+    /// A write has landed well. The page lies in the block, unless it was modified meanwhile.
+    fn out_ok_well(&mut self, seat: Seat, lift: Lift<B>)
+        requires may { MayAdd self.old (entry_by seat (What.OutOk (record { 0 = lift.frame }) lift.start)) }
+        requires fits { LiftFits B.content B.plan B.reads B.writes B.faults B.tells_content B.tells_plan
+            self.old.config self.old.past lift }
+        requires good { lift.result ≡ Carried.Good }
+        requires pool { lift.pool ≡ self.old.pool }
+        ensures { self.new ≡ added self.old (entry_by seat (What.OutOk (record { 0 = lift.frame }) lift.start)) }
+    {
+        let f = lift.frame();
+        let k = lift.start();
+        let block = lift.id();
+        let row = self.store.frames().row(f);
+        end_write(self.store.frames_mut(), f, false);
+        lie_unless(
+            &mut self.pages,
+            &mut self.swaps,
+            row.modify,
+            row.page,
+            block,
+        );
+        self.roles[f.0 as usize] = None;
+        let busy = &mut self.busy[seat.0 as usize];
+        *busy -= 1;
+        self.in_flight -= 1;
+        self.store.land(lift);
+        self.journal.push(Entry {
+            seat,
+            what: What::OutOk { f, k },
+        });
+    }
+
+    /// A write has failed; its block's count of failures was `before` and is `after`.
+    fn out_fail_counted(&mut self, seat: Seat, lift: Lift<B>, before: u64, after: u64)
+        requires may { MayAdd self.old (entry_by seat (What.OutFail (record { 0 = lift.frame }) lift.start before after)) }
+        requires fits { LiftFits B.content B.plan B.reads B.writes B.faults B.tells_content B.tells_plan
+            self.old.config self.old.past lift }
+        requires bad { lift.result ≡ Carried.Bad before after }
+        requires pool { lift.pool ≡ self.old.pool }
+        ensures { self.new ≡ added self.old (entry_by seat (What.OutFail (record { 0 = lift.frame }) lift.start before after)) }
+    {
+        let f = lift.frame();
+        let k = lift.start();
+        end_write(self.store.frames_mut(), f, true);
+        self.roles[f.0 as usize] = None;
+        let busy = &mut self.busy[seat.0 as usize];
+        *busy -= 1;
+        self.in_flight -= 1;
+        self.store.land(lift);
+        self.journal.push(Entry {
+            seat,
+            what: What::OutFail {
+                f,
+                k,
+                c: before,
+                d: after,
+            },
+        });
+    }
+}
+
+/// A page whose write has landed lies in the block, unless it was modified meanwhile.
+fn lie_unless(
+    pages: &mut ChargedPages,
+    swaps: &mut SwapPages,
+    modify: bool,
+    page: Option<Page>,
+    block: BlockId,
+)
+    requires { MayLie pages.old swaps.old page block }
+    ensures rows { (q w : ℕ) → charged_at pages.new q w ≡ page_landed modify page block (charged_at pages.old) q w }
+    ensures procs { pages.new.procs ≡ pages.old.procs }
+    ensures swaps { (q m : ℕ) → swapped_at swaps.new q m
+        ≡ swaps_landed modify page block (charged_at pages.old) (swapped_at swaps.old) q m }
+    ensures swap_procs { swaps.new.procs ≡ swaps.old.procs }
+{
+    if !modify {
+        lie_in(pages, swaps, page, block);
+    }
+}
