@@ -35,7 +35,7 @@ find_filter {X} p q (y ∷ xs) apart = go (q y) refl (p y) refl (find_filter p q
     go true same true is rest = absurd (apart y is same)
 
 -- a block is assigned to one page
-owner_once : (assigned : List Assigned) (g h : Page) (n : ℕ) → count_by (is_owner (block.PageFile n)) assigned ≤ 1 → count_by (is_assigned_to g) assigned ≤ 1 → block_of assigned g ≡ Some n → block_of assigned h ≡ Some n → g ≡ h
+pub owner_once : (assigned : List Assigned) (g h : Page) (n : ℕ) → count_by (is_owner (block.PageFile n)) assigned ≤ 1 → count_by (is_assigned_to g) assigned ≤ 1 → block_of assigned g ≡ Some n → block_of assigned h ≡ Some n → g ≡ h
 owner_once assigned g h n one once first second = go (find (is_assigned_to g) assigned) refl (find (is_assigned_to h) assigned) refl (same_page g h) refl first second
   where
     go : (o : Option Assigned) → find (is_assigned_to g) assigned ≡ o → (u : Option Assigned) → find (is_assigned_to h) assigned ≡ u → (b : Bool) → same_page g h ≡ b

@@ -46,7 +46,7 @@ lesser_is m n = go (nat_le m n) refl
     go false is = let more = leb-false m n is in (omega arith, omega arith, λ k a b. b)
 
 -- what an adjustment gives is within the process's bounds
-adjust_within : (params : Params) (spec : ProcSpec) (faults limit free : ℕ) → spec.limit ≤ spec.quota → spec.quota ≤ spec.extent → spec.locks + 2 ≤ limit → limit ≤ spec.extent
+pub adjust_within : (params : Params) (spec : ProcSpec) (faults limit free : ℕ) → spec.limit ≤ spec.quota → spec.quota ≤ spec.extent → spec.locks + 2 ≤ limit → limit ≤ spec.extent
     → (spec.locks + 2 ≤ adjust params spec faults limit free) × (adjust params spec faults limit free ≤ spec.extent)
 adjust_within params spec faults limit free quota extent least most = go (nat_lt params.pfrath faults) (nat_lt faults params.pfratl)
   where

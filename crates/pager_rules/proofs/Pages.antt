@@ -41,7 +41,7 @@ pub own_process : (config : Config) (map : Map) (p v q : ℕ) (g : Page) → pag
 own_process config map p v q g is own = eqb-true p q (subst (λ (x : Page). is_of q x ≡ true) (own_is config map p v g is (is_of_private q g own)) own)
 
 -- what is behind a copy on reference page is a section's block
-section_is : (o : Option Mapped) (b : BlockId) → section_at o ≡ Some b → is_section_block b ≡ true
+pub section_is : (o : Option Mapped) (b : BlockId) → section_at o ≡ Some b → is_section_block b ≡ true
 section_is None b is = absurd (cc)
 section_is (Some m) b is = of_origin m.origin is
   where

@@ -15,7 +15,7 @@ number_in sections s i = sum_by section_pages (take s sections) + i
 within_own : (o : Option Section) (x : Section) (i : ℕ) → o ≡ Some x → (y : Section) × (o ≡ Some y) × (i < section_pages y) → i < section_pages x
 within_own o x i is (y, also, less) = let same : y ≡ x = cc in subst (λ (z : Section). i < section_pages z) same less
 
-in_all : (sections : List Section) (s i : ℕ) → IsSectionPage sections s i → number_in sections s i < sum_by section_pages sections
+pub in_all : (sections : List Section) (s i : ℕ) → IsSectionPage sections s i → number_in sections s i < sum_by section_pages sections
 in_all [] s i page = absurd (none-some page.0 page.1)
 in_all (x ∷ sections) zero i page = let more = sum_by-cons section_pages x sections in let less = within_own (Some x) x i refl page in omega (arith, more, less)
 in_all (x ∷ sections) (suc s) i page =

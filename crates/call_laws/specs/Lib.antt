@@ -1,0 +1,3 @@
+pub mod AreLegal
+pub mod Ready
+pub mod Laws
