@@ -1,0 +1,326 @@
+-- The reads of a cluster, one after another: what is made so far and what is left make the whole.
+use Rattle.std.proofs.Common.{◌≡◌, ℕ, suc, ◌+◌, ◌-◌, ◌*◌, ◌<◌, ◌≤◌, Bool, List, [], ◌∷◌, ◌++◌, Option, Some, None, inl, inr, length, map, refl, sym, ap, ◌∙◌, subst, arith}
+use Rattle.std.specs.List.{range_with_len}
+use Rattle.std.proofs.lemmas.List.{append-nil, append_assoc}
+use Rattle.vm_types.specs.Configuration.{IsWellFormed}
+use Rattle.vm_types.specs.declared.config.Config.{Config}
+use Rattle.vm_types.specs.declared.names.Addr.{Addr}
+use Rattle.vm_types.specs.declared.names.BlockId.{BlockId}
+use Rattle.vm_types.specs.declared.names.Page.{Page}
+use Rattle.vm_types.specs.declared.names.Seat.{Seat}
+use Rattle.vm_types.specs.declared.reference.Ref.{Ref}
+use Rattle.vm_journal.specs.declared.entry.Entry.{Entry}
+use Rattle.vm_journal.specs.declared.entry.Role.{Role}
+use Rattle.vm_journal.specs.declared.entry.Role.TheVariants as role
+use Rattle.vm_journal.specs.declared.entry.What.{What}
+use Rattle.vm_journal.specs.declared.entry.What.TheVariants as what
+use Rattle.page_lists.specs.Lists.{without}
+use Rattle.pager_model.specs.Advance.{block_after, cluster_targets, following, frame_given, near_target, near_targets, next_carry, window}
+use Rattle.pager_model.specs.ClusterLength.{cluster_length}
+use Rattle.pager_model.specs.Given.{Target, given, page_address, pfn, reads_made, reuse_first, unsaid, with_reply}
+use Rattle.pager_model.specs.In.{IsIn}
+use Rattle.pager_model.specs.Maps.{proc}
+use Rattle.pager_model.specs.Own.{IsEmptyHead}
+use Rattle.pager_model.specs.Pager.{Pager}
+use Rattle.pager_model.specs.Reuse.{IsReuse}
+use Rattle.pager_model.specs.Run.{IsRun, pager_after}
+use Rattle.call_laws.specs.AreLegal.{AreLegal}
+use Rattle.call_laws.proofs.NearLegal.{tail_without}
+use Rattle.vm_state.specs.CarrierView.{CarrierView}
+use Rattle.vm_state.specs.History.{History, entry_by, owed, pager}
+use Rattle.fault_core.specs.Cases.{at_frame, vpn_of}
+use Rattle.fault_core.specs.Gives.{Gives, MayGive, made_in}
+use Rattle.fault_core.specs.Lifted.{HasBegunLifts, place_of, reads_in}
+use Rattle.fault_core.specs.ReadySeat.{empty}
+use Rattle.fault_core.specs.Reads.{one_read}
+use Rattle.fault_core.specs.declared.next.Next.TheVariants.{Carry}
+use Rattle.fault_core.proofs.OneReads.{no_more, none_read, one_is}
+use Rattle.fault_core.proofs.Steps.{gives_as, may_as}
+
+-- the frame of a legal read is an empty head
+head_of : (r : Role) (config : Config) (past : List Entry) (a : Pager) (p f : ℕ) (b : BlockId) → IsIn r config past a p f b → IsEmptyHead a f
+head_of (role.Fault q address) config past a p f b legal = legal.frame
+head_of (role.Near g) config past a p f b legal = legal.lying.frame
+head_of (role.Come q address) config past a p f b legal = legal.lying.frame
+
+reused_holds : (past : List Entry) (a : Pager) (p f : ℕ) (g : Page) → IsReuse past a p f g → a.page f ≡ Some g
+reused_holds past a p f g (inl free) = free.holds
+reused_holds past a p f g (inr failed) = failed.holds
+
+-- and is then off the free list
+free_after : (config : Config) (past : List Entry) (seat : Seat) (f : ℕ) (b : BlockId) (r : Role) → (pager_after config (entry_by seat (what.In (pfn f) b r) ∷ past)).free ≡ without (pager_after config past).free f
+free_after config past seat f b (role.Fault q address) = refl
+free_after config past seat f b (role.Near g) = refl
+free_after config past seat f b (role.Come q address) = refl
+
+-- ---- one read and those behind it
+module _ (s : History) (seat : Seat) (f : ℕ) (b : BlockId) (r : Role) where
+  abbrev read : What
+  read = what.In (pfn f) b r
+
+  abbrev after_one : Option Page → History
+  after_one o = made_in seat (reuse_first o f (read ∷ [])) s
+
+  holds : (o : Option Page) (ws : List What) → AreLegal s.config s.past seat.0 (reuse_first o f (read ∷ ws)) → (pager s).page f ≡ o
+  holds None ws legal = (head_of r s.config s.past (pager s) seat.0 f b legal.0.row).empty
+  holds (Some g) ws legal = reused_holds s.past (pager s) seat.0 f g legal.0.row
+
+  legal_then : (o : Option Page) (ws : List What) → AreLegal s.config s.past seat.0 (reuse_first o f (read ∷ ws)) → AreLegal (after_one o).config (after_one o).past seat.0 ws
+  legal_then None ws legal = legal.1
+  legal_then (Some g) ws legal = legal.1.1
+
+  made_then : (o : Option Page) (ws : List What) → made_in seat (reuse_first o f (read ∷ ws)) s ≡ made_in seat ws (after_one o)
+  made_then None ws = refl
+  made_then (Some g) ws = refl
+
+  reads_then : (o : Option Page) (ws : List What) → reads_in (reuse_first o f (read ∷ [])) ++ reads_in ws ≡ reads_in (reuse_first o f (read ∷ ws))
+  reads_then None ws = refl
+  reads_then (Some g) ws = refl
+
+  module _ (formed : IsWellFormed s.config) (run : IsRun s.config s.past) (fs : List ℕ) (free : (pager s).free ≡ f ∷ fs) where
+    free_then : (o : Option Page) (ws : List What) → AreLegal s.config s.past seat.0 (reuse_first o f (read ∷ ws)) → (pager (after_one o)).free ≡ fs
+    free_then None ws legal = free_after s.config s.past seat f b r ∙ tail_without s.config s.past formed run f fs free
+    free_then (Some g) ws legal =
+        let past : List Entry = entry_by seat (what.Reuse (pfn f) g) ∷ s.past in
+        free_after s.config past seat f b r
+        ∙ tail_without s.config past formed (run, legal.0) f fs (ap (λ (xs : List ℕ). f ∷ xs) (tail_without s.config s.past formed run f fs free))
+
+-- ---- the reads that are left
+abbrev pub left_by : (ℕ → Option Page) → List Target → History → List What
+left_by page targets s = reads_made page (pager s).free targets
+
+module _ {B : Type 0} (page : ℕ → Option Page) (whole : History) (all : List What) (seat : Seat) where
+  -- what is left is legal, and makes the whole with what was made
+  pub record IsReading (targets : List Target) (s : History) (c : CarrierView B) : Type 0 where
+    pub legal : AreLegal s.config s.past seat.0 (left_by page targets s)
+    pub history : made_in seat (left_by page targets s) s ≡ whole
+    pub places : map place_of c.lifts ++ reads_in (left_by page targets s) ≡ reads_in all
+
+  module _ (t : Target) (ts : List Target) (s s' : History) (c c' : CarrierView B) (is : IsReading (t ∷ ts) s c) (made : s' ≡ made_in seat (one_read s t.block t.role) s)
+      (each : map place_of c'.lifts ≡ map place_of c.lifts ++ reads_in (one_read s t.block t.role)) where
+    -- the list is empty, and nothing was made
+    without_frame : (pager s).free ≡ [] → IsReading ts s' c'
+    without_frame free =
+        let none : (targets : List Target) → left_by page targets s ≡ [] = λ targets. ap (λ (xs : List ℕ). reads_made page xs targets) free in
+        let same : s' ≡ s = made ∙ ap (λ (ws : List What). made_in seat ws s) (none_read s t.block t.role free) in
+        let kept : map place_of c'.lifts ≡ map place_of c.lifts = each ∙ (ap (λ (ws : List What). map place_of c.lifts ++ reads_in ws) (none_read s t.block t.role free) ∙ append-nil (map place_of c.lifts)) in
+        subst (λ (x : History). IsReading ts x c') (sym same) (record {
+          legal = subst (λ (ws : List What). AreLegal s.config s.past seat.0 ws) (sym (none ts)) tt;
+          history = ap (λ (ws : List What). made_in seat ws s) (none ts ∙ sym (none (t ∷ ts))) ∙ is.history;
+          places = (λ i. kept i ++ reads_in ((none ts ∙ sym (none (t ∷ ts))) i)) ∙ is.places;
+        })
+
+    module _ (f : ℕ) (fs : List ℕ) (free : (pager s).free ≡ f ∷ fs) (formed : IsWellFormed s.config) (run : IsRun s.config s.past) where
+      abbrev rest : List What
+      rest = reads_made page fs ts
+
+      given_now : left_by page (t ∷ ts) s ≡ reuse_first (page f) f (what.In (pfn f) t.block t.role ∷ rest)
+      given_now = ap (λ (xs : List ℕ). reads_made page xs (t ∷ ts)) free
+
+      legal_now : AreLegal s.config s.past seat.0 (reuse_first (page f) f (what.In (pfn f) t.block t.role ∷ rest))
+      legal_now = subst (λ (ws : List What). AreLegal s.config s.past seat.0 ws) given_now is.legal
+
+      one_now : one_read s t.block t.role ≡ reuse_first (page f) f (what.In (pfn f) t.block t.role ∷ [])
+      one_now =
+          one_is s seat (pfn f) t.block t.role (record { rest = fs; heads = free })
+          ∙ ap (λ (o : Option Page). reuse_first o f (what.In (pfn f) t.block t.role ∷ [])) (holds s seat f t.block t.role (page f) rest legal_now)
+
+      abbrev later : History
+      later = after_one s seat f t.block t.role (page f)
+
+      rest_is : left_by page ts later ≡ rest
+      rest_is = ap (λ (xs : List ℕ). reads_made page xs ts) (free_then s seat f t.block t.role formed run fs free (page f) rest legal_now)
+
+      with_frame : IsReading ts s' c'
+      with_frame = subst (λ (x : History). IsReading ts x c') (sym (made ∙ ap (λ (ws : List What). made_in seat ws s) one_now)) (record {
+        legal = subst (λ (ws : List What). AreLegal later.config later.past seat.0 ws) (sym rest_is) (legal_then s seat f t.block t.role (page f) rest legal_now);
+        history = ap (λ (ws : List What). made_in seat ws later) rest_is ∙ (sym (made_then s seat f t.block t.role (page f) rest) ∙ (ap (λ (ws : List What). made_in seat ws s) (sym given_now) ∙ is.history));
+        places =
+            (λ i. (each ∙ ap (λ (ws : List What). map place_of c.lifts ++ reads_in ws) one_now) i ++ reads_in (rest_is i))
+            ∙ (append_assoc (map place_of c.lifts) (reads_in (reuse_first (page f) f (what.In (pfn f) t.block t.role ∷ []))) (reads_in rest)
+            ∙ (ap (λ (xs : List (ℕ × BlockId)). map place_of c.lifts ++ xs) (reads_then s seat f t.block t.role (page f) rest ∙ ap (λ (ws : List What). reads_in ws) (sym given_now))
+            ∙ is.places));
+      })
+
+    pub next_read : IsWellFormed s.config → IsRun s.config s.past → IsReading ts s' c'
+    next_read formed run = by (pager s).free refl
+      where
+        by : (xs : List ℕ) → (pager s).free ≡ xs → IsReading ts s' c'
+        by [] free = without_frame free
+        by (f ∷ fs) free = with_frame f fs free formed run
+
+  -- its entries may be made
+  pub may_one : (t : Target) (ts : List Target) (s : History) (c : CarrierView B) → IsReading (t ∷ ts) s c → AreLegal s.config s.past seat.0 (one_read s t.block t.role)
+  may_one t ts s c is = by (pager s).free refl
+    where
+      front : (f : ℕ) (o : Option Page) (ws : List What) → AreLegal s.config s.past seat.0 (reuse_first o f (what.In (pfn f) t.block t.role ∷ ws)) → AreLegal s.config s.past seat.0 (reuse_first o f (what.In (pfn f) t.block t.role ∷ []))
+      front f None ws legal = (legal.0, tt)
+      front f (Some g) ws legal = (legal.0, (legal.1.0, tt))
+
+      by : (xs : List ℕ) → (pager s).free ≡ xs → AreLegal s.config s.past seat.0 (one_read s t.block t.role)
+      by [] free = subst (λ (ws : List What). AreLegal s.config s.past seat.0 ws) (sym (none_read s t.block t.role free)) tt
+      by (f ∷ fs) free =
+          let legal : AreLegal s.config s.past seat.0 (reuse_first (page f) f (what.In (pfn f) t.block t.role ∷ reads_made page fs ts)) = subst (λ (xs : List ℕ). AreLegal s.config s.past seat.0 (reads_made page xs (t ∷ ts))) free is.legal in
+          subst (λ (ws : List What). AreLegal s.config s.past seat.0 ws)
+          (sym (one_is s seat (pfn f) t.block t.role (record { rest = fs; heads = free })
+          ∙ ap (λ (o : Option Page). reuse_first o f (what.In (pfn f) t.block t.role ∷ [])) (holds s seat f t.block t.role (page f) (reads_made page fs ts) legal)))
+          (front f (page f) (reads_made page fs ts) legal)
+
+  -- nothing is left
+  pub read_all : (s : History) (c : CarrierView B) → IsReading [] s c → (s ≡ whole) × (map place_of c.lifts ≡ reads_in all)
+  read_all s c is =
+      let none = no_more page (pager s).free in (
+        ap (λ (ws : List What). made_in seat ws s) (sym none) ∙ is.history,
+        sym (append-nil (map place_of c.lifts)) ∙ (ap (λ (ws : List What). map place_of c.lifts ++ reads_in ws) (sym none) ∙ is.places),
+      )
+
+-- ---- the places of the cluster
+module _ (config : Config) (a : Pager) (g : Page) (b : BlockId) where
+  abbrev pub targets_from : ℕ → ℕ → List Target
+  targets_from k n = near_targets config a g b (range_with_len k (n - k))
+
+  one_more : (k n : ℕ) → k < n → range_with_len k (n - k) ≡ k ∷ range_with_len (k + 1) (n - (k + 1))
+  one_more k n less = let more : n - k ≡ suc (n - (k + 1)) = omega (arith, less) in ap (range_with_len k) more
+
+  pub target_next : (k n : ℕ) (o : Option Page) → k < n → o ≡ following config a g b k → targets_from k n ≡ near_target (block_after b k) o ++ targets_from (k + 1) n
+  target_next k n o less is =
+      ap (near_targets config a g b) (one_more k n less) ∙ ap (λ (x : Option Page). near_target (block_after b k) x ++ targets_from (k + 1) n) (sym is)
+
+  pub no_targets : (k n : ℕ) → n ≤ k → targets_from k n ≡ []
+  no_targets k n most = let none : n - k ≡ 0 = omega (arith, most) in ap (λ (m : ℕ). near_targets config a g b (range_with_len k m)) none
+
+-- ---- what is given
+reply_stays : (o : Option Page) (f : ℕ) (b : BlockId) (r : Role) (ws : List What) → map (with_reply unsaid) ws ≡ ws → map (with_reply unsaid) (reuse_first o f (what.In (pfn f) b r ∷ ws)) ≡ reuse_first o f (what.In (pfn f) b r ∷ ws)
+reply_stays None f b r ws same = ap (λ (xs : List What). what.In (pfn f) b r ∷ xs) same
+reply_stays (Some g) f b r ws same = ap (λ (xs : List What). what.Reuse (pfn f) g ∷ what.In (pfn f) b r ∷ xs) same
+
+replies_stay : (page : ℕ → Option Page) (frames : List ℕ) (targets : List Target) → map (with_reply unsaid) (reads_made page frames targets) ≡ reads_made page frames targets
+replies_stay page [] targets = refl
+replies_stay page (f ∷ fs) [] = refl
+replies_stay page (f ∷ fs) (t ∷ ts) = reply_stays (page f) f t.block t.role (reads_made page fs ts) (replies_stay page fs ts)
+
+module _ (s : History) (seat : Seat) (r : Ref) (g : Page) (b : BlockId) where
+  abbrev pub fault_targets : List Target
+  fault_targets = cluster_targets s.config (pager s) seat.0 r g b
+
+  abbrev pub made_all : List What
+  made_all = reads_made (pager s).page (pager s).free fault_targets
+
+  pub frame_is : 1 ≤ length (pager s).free → at_frame s seat r g (Some b) ≡ given made_all next_carry
+  frame_is some = by (pager s).free some
+    where
+      by : (xs : List ℕ) → 1 ≤ length xs → frame_given s.config (pager s) seat.0 r g (Some b) xs ≡ given (reads_made (pager s).page xs fault_targets) next_carry
+      by [] some = absurd (omega (arith, some))
+      by (f ∷ fs) some = refl
+
+  pub reading_first : {B : Type 0} (c : CarrierView B) → c ≡ empty seat → 1 ≤ length (pager s).free → MayGive s seat (at_frame s seat r g (Some b)) → IsReading (pager s).page (made_in seat made_all s) made_all seat fault_targets s c
+  reading_first c none some may = record {
+    legal = (may_as s seat (at_frame s seat r g (Some b)) (given made_all next_carry) (frame_is some) may).legal;
+    history = refl;
+    places = ap (λ (x : CarrierView _). map place_of x.lifts ++ reads_in made_all) none;
+  }
+
+  module _ {B : Type 0} {content plan : B → Option (List ℕ)} {reads writes faults : B → ℕ} {tells tells_plan : Bool} where
+    pub gives_reads : (s' : History) (old c : CarrierView B) → 1 ≤ length (pager s).free → IsReading (pager s).page (made_in seat made_all s) made_all seat [] s' c → HasBegunLifts content plan reads writes faults tells tells_plan s' seat c
+        → Gives content plan reads writes faults tells tells_plan s s' seat r (at_frame s seat r g (Some b)) Carry old c
+    gives_reads s' old c some is has =
+        let done = read_all (pager s).page (made_in seat made_all s) made_all seat s' c is in
+        gives_as (at_frame s seat r g (Some b)) (given made_all next_carry) (frame_is some) (record {
+          given = record {
+            shown = unsaid;
+            history = done.0 ∙ ap (λ (ws : List What). made_in seat ws s) (sym (replies_stay (pager s).page (pager s).free fault_targets));
+            answer = refl;
+          };
+          right = λ t. tt;
+          carrier = record { own = has.own; each = done.1; begun = has.begun };
+        })
+
+-- ---- a cluster's reads
+module _ (s₀ : History) (seat : Seat) (r : Ref) (g : Page) (b : BlockId) where
+  abbrev pub IsReadingOf : {B : Type 0} → List Target → History → CarrierView B → Type 0
+  IsReadingOf targets s c = IsReading (pager s₀).page (made_in seat (made_all s₀ seat r g b) s₀) (made_all s₀ seat r g b) seat targets s c
+
+  abbrev pub targets_of : ℕ → ℕ → List Target
+  targets_of k n = targets_from s₀.config (pager s₀) g b k n
+
+  abbrev pub near : BlockId → Page → Target
+  near d x = record { block = d; role = role.Near x }
+
+  abbrev pub fault_at : Addr → Target
+  fault_at start = record { block = b; role = role.Fault (proc seat.0) start }
+
+  pub reading_start : {B : Type 0} (c : CarrierView B) (start : Addr) (n : ℕ) → c ≡ empty seat → 1 ≤ length (pager s₀).free → MayGive s₀ seat (at_frame s₀ seat r g (Some b))
+      → start ≡ page_address (vpn_of r) → n ≡ cluster_length (window s₀.config (pager s₀) g b) s₀.config.params.pfc (length (pager s₀).free) → IsReadingOf (fault_at start ∷ targets_of 1 n) s₀ c
+  reading_start c start n none some may start_is n_is =
+      subst (λ (ts : List Target). IsReadingOf ts s₀ c) (λ i. fault_at (sym start_is i) ∷ targets_of 1 (sym n_is i)) (reading_first s₀ seat r g b c none some may)
+
+  pub reading_near : {B : Type 0} (s : History) (c : CarrierView B) (k n : ℕ) (x : Page) (d : BlockId) → IsReadingOf (targets_of k n) s c → k < n → Some x ≡ following s₀.config (pager s₀) g b k → d ≡ block_after b k
+      → IsReadingOf (near d x ∷ targets_of (k + 1) n) s c
+  reading_near s c k n x d is less page there =
+      subst (λ (e : BlockId). IsReadingOf (near e x ∷ targets_of (k + 1) n) s c) (sym there)
+      (subst (λ (ts : List Target). IsReadingOf ts s c) (target_next s₀.config (pager s₀) g b k n (Some x) less page) is)
+
+  pub reading_skip : {B : Type 0} (s : History) (c : CarrierView B) (k n : ℕ) → IsReadingOf (targets_of k n) s c → k < n → None ≡ following s₀.config (pager s₀) g b k → IsReadingOf (targets_of (k + 1) n) s c
+  reading_skip s c k n is less page = subst (λ (ts : List Target). IsReadingOf ts s c) (target_next s₀.config (pager s₀) g b k n None less page) is
+
+  pub reading_end : {B : Type 0} (s : History) (c : CarrierView B) (k n : ℕ) → IsReadingOf (targets_of k n) s c → n ≤ k → IsReadingOf [] s c
+  reading_end s c k n is most = subst (λ (ts : List Target). IsReadingOf ts s c) (no_targets s₀.config (pager s₀) g b k n most) is
+
+  -- the next one's entries
+  pub may_next : {B : Type 0} (t : Target) (ts : List Target) (s : History) (c : CarrierView B) → IsReadingOf (t ∷ ts) s c → AreLegal s.config s.past seat.0 (one_read s t.block t.role)
+  may_next t ts s c is = may_one (pager s₀).page (made_in seat (made_all s₀ seat r g b) s₀) (made_all s₀ seat r g b) seat t ts s c is
+
+  pub reading_next : {B : Type 0} (t : Target) (ts : List Target) (s s' : History) (c c' : CarrierView B) → IsReadingOf (t ∷ ts) s c → s' ≡ made_in seat (one_read s t.block t.role) s
+      → map place_of c'.lifts ≡ map place_of c.lifts ++ reads_in (one_read s t.block t.role) → IsWellFormed s.config → IsRun s.config s.past → IsReadingOf ts s' c'
+  reading_next t ts s s' c c' is made each formed run =
+      next_read (pager s₀).page (made_in seat (made_all s₀ seat r g b) s₀) (made_all s₀ seat r g b) seat t ts s s' c c' is made each formed run
+
+pub no_lifts : {B : Type 0} (c : CarrierView B) (seat : Seat) → c ≡ empty seat → length c.lifts ≡ 0
+no_lifts c seat none = ap (λ (x : CarrierView _). length x.lifts) none
+
+module _ {B : Type 0} {content plan : B → Option (List ℕ)} {reads writes faults : B → ℕ} {tells tells_plan : Bool} where
+  pub none_begun : (s : History) (c : CarrierView B) (seat : Seat) → c ≡ empty seat → HasBegunLifts content plan reads writes faults tells tells_plan s seat c
+  none_begun s c seat none = subst (λ (x : CarrierView B). HasBegunLifts content plan reads writes faults tells tells_plan s seat x) (sym none) (record { own = refl; begun = tt })
+
+-- ---- how far the reads came: the places before k of n were read
+pub record IsPartRead {B : Type 0} (content plan : B → Option (List ℕ)) (reads writes faults : B → ℕ) (tells tells_plan : Bool) (s₀ : History) (seat : Seat) (r : Ref) (g : Page) (b : BlockId) (k n : ℕ) (s : History) (c : CarrierView B) : Type 0 where
+  pub reading : IsReadingOf s₀ seat r g b (targets_of s₀ seat r g b k n) s c
+  pub begun : HasBegunLifts content plan reads writes faults tells tells_plan s seat c
+  pub few : length c.lifts ≤ k
+  pub paid : owed s.past + 64 ≤ s.spare + 4 * k
+
+module _ {B : Type 0} {content plan : B → Option (List ℕ)} {reads writes faults : B → ℕ} {tells tells_plan : Bool} (s₀ : History) (seat : Seat) (r : Ref) (g : Page) (b : BlockId) (n : ℕ) where
+  pub part_first : (s : History) (c₀ c : CarrierView B) (start : Addr) → IsReadingOf s₀ seat r g b (fault_at s₀ seat r g b start ∷ targets_of s₀ seat r g b 1 n) s₀ c₀ → s ≡ made_in seat (one_read s₀ b (role.Fault (proc seat.0) start)) s₀
+      → map place_of c.lifts ≡ map place_of c₀.lifts ++ reads_in (one_read s₀ b (role.Fault (proc seat.0) start)) → IsWellFormed s₀.config → IsRun s₀.config s₀.past
+      → HasBegunLifts content plan reads writes faults tells tells_plan s seat c → length c₀.lifts ≡ 0 → length c.lifts ≤ length c₀.lifts + 1 → owed s₀.past + 64 ≤ s₀.spare → owed s.past + s₀.spare ≤ owed s₀.past + s.spare + 4
+      → IsPartRead content plan reads writes faults tells tells_plan s₀ seat r g b 1 n s c
+  part_first s c₀ c start is made each formed run begun none few room paid = record {
+    reading = reading_next s₀ seat r g b (fault_at s₀ seat r g b start) (targets_of s₀ seat r g b 1 n) s₀ s c₀ c is made each formed run;
+    begun = begun;
+    few = omega (arith, none, few);
+    paid = omega (arith, room, paid);
+  }
+
+  module _ (k : ℕ) (s s' s'' : History) (c c' c'' : CarrierView B) (is : IsPartRead content plan reads writes faults tells tells_plan s₀ seat r g b k n s c) (less : k < n) where
+    pub part_some : (x : Page) (d : BlockId) → Some x ≡ following s₀.config (pager s₀) g b k → d ≡ block_after b k → s' ≡ made_in seat (one_read s d (role.Near x)) s
+        → map place_of c'.lifts ≡ map place_of c.lifts ++ reads_in (one_read s d (role.Near x)) → IsWellFormed s.config → IsRun s.config s.past
+        → HasBegunLifts content plan reads writes faults tells tells_plan s' seat c' → length c'.lifts ≤ length c.lifts + 1 → owed s'.past + s.spare ≤ owed s.past + s'.spare + 4
+        → s'' ≡ s' → c'' ≡ c' → IsPartRead content plan reads writes faults tells tells_plan s₀ seat r g b (k + 1) n s'' c''
+    part_some x d page there made each formed run begun few paid same same_carrier =
+        subst (λ (y : History). IsPartRead content plan reads writes faults tells tells_plan s₀ seat r g b (k + 1) n y c'') (sym same)
+        (subst (λ (y : CarrierView B). IsPartRead content plan reads writes faults tells tells_plan s₀ seat r g b (k + 1) n s' y) (sym same_carrier) (record {
+          reading = reading_next s₀ seat r g b (near s₀ seat r g b d x) (targets_of s₀ seat r g b (k + 1) n) s s' c c' (reading_near s₀ seat r g b s c k n x d is.reading less page there) made each formed run;
+          begun = begun;
+          few = let so_far = is.few in omega (arith, so_far, few);
+          paid = let so_far = is.paid in omega (arith, so_far, paid);
+        }))
+
+    pub part_none : None ≡ following s₀.config (pager s₀) g b k → s'' ≡ s → c'' ≡ c → IsPartRead content plan reads writes faults tells tells_plan s₀ seat r g b (k + 1) n s'' c''
+    part_none page same same_carrier =
+        subst (λ (y : History). IsPartRead content plan reads writes faults tells tells_plan s₀ seat r g b (k + 1) n y c'') (sym same)
+        (subst (λ (y : CarrierView B). IsPartRead content plan reads writes faults tells tells_plan s₀ seat r g b (k + 1) n s y) (sym same_carrier) (record {
+          reading = reading_skip s₀ seat r g b s c k n is.reading less page;
+          begun = is.begun;
+          few = let so_far = is.few in omega (arith, so_far);
+          paid = let so_far = is.paid in omega (arith, so_far);
+        }))

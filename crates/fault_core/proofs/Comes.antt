@@ -1,0 +1,193 @@
+-- A page that is in a frame, or out.
+use Rattle.std.proofs.Common.{◌≡◌, ℕ, ◌+◌, ◌<◌, ◌≤◌, ◌&&◌, Bool, true, false, cond, not, List, [], ◌∷◌, Option, Some, None, length, slice_get, refl, sym, ap, ◌∙◌, subst, arith}
+use Rattle.std.specs.Option.{option_map}
+use Rattle.std.proofs.lemmas.Option.{none-some, same_Some}
+use Rattle.vm_types.specs.Configuration.{IsBlock, IsWellFormed}
+use Rattle.pfn_database.specs.declared.row.Row.{Row}
+use Rattle.vm_types.specs.declared.names.Addr.{Addr}
+use Rattle.vm_types.specs.declared.config.Config.{Config}
+use Rattle.vm_types.specs.declared.config.Origin.{Origin}
+use Rattle.vm_types.specs.declared.config.Origin.TheVariants as origin
+use Rattle.vm_types.specs.declared.names.BlockId.{BlockId}
+use Rattle.vm_types.specs.declared.names.BlockId.TheVariants as block
+use Rattle.vm_types.specs.declared.names.FrameState.{FrameState}
+use Rattle.vm_types.specs.declared.names.Page.{Page}
+use Rattle.vm_types.specs.declared.names.Page.TheVariants.{Private, Shared}
+use Rattle.vm_types.specs.declared.names.Pfn.{Pfn}
+use Rattle.vm_types.specs.declared.names.Seat.{Seat}
+use Rattle.vm_types.specs.declared.reference.Ref.{Ref}
+use Rattle.vm_types.specs.declared.reply.Reply.{Reply}
+use Rattle.vm_journal.specs.declared.entry.Entry.{Entry}
+use Rattle.vm_journal.specs.declared.entry.What.{What}
+use Rattle.vm_journal.specs.declared.entry.What.TheVariants as what
+use Rattle.pager_model.specs.Advance.{again_no_frame, frame_given, gives_again, held_given, is_uncharged, next_answered, source_of}
+use Rattle.pager_model.specs.Around.{past_view}
+use Rattle.pager_model.specs.Forget.{holder}
+use Rattle.pager_model.specs.Given.{given, page_address, reuse_first, unsaid}
+use Rattle.pager_model.specs.Lookups.{IsHead, page_by, section_at, section_of}
+use Rattle.pager_model.specs.Maps.{is_private, proc}
+use Rattle.pager_model.specs.OfConfig.{IsOrigin, IsPageOf}
+use Rattle.pager_model.specs.Run.{IsRun}
+use Rattle.pager_laws.proofs.RunsAreSound.{run_kept}
+use Rattle.pager_model.specs.Flat.{flat_reply}
+use Rattle.pager_model.specs.Spoken.{flat_after}
+use Rattle.pager_laws.proofs.OfConfigKept.{page_right}
+use Rattle.state_fits.proofs.EntryPages.{mapped_right}
+use Rattle.pager_rules.proofs.Put.{head_counts}
+use Rattle.state_fits.proofs.Holders.{free_is, holder_holds, holds_within}
+use Rattle.vm_state.specs.History.{History, MayAdd, MayAnswer, added, entry_by, owed, pager}
+use Rattle.vm_state.specs.PageReadings.{IsKnown}
+use Rattle.vm_state.specs.CarrierView.{CarrierView}
+use Rattle.vm_state.specs.Readings.{row_at}
+use Rattle.vm_state.specs.Shown.{frame_number}
+use Rattle.vm_state.specs.declared.found.Backing.{Backing}
+use Rattle.call_laws.specs.AreLegal.{AreLegal}
+use Rattle.call_laws.proofs.ReadsLegal.{lying_block}
+use Rattle.call_laws.proofs.WaitsLegal.{kept, right}
+use Rattle.fault_core.specs.Cases.{at_frame, at_held, vpn_of}
+use Rattle.fault_core.specs.Gives.{Gives, MayGive, made_in}
+use Rattle.fault_core.specs.ReadySeat.{IsReadySeat}
+use Rattle.fault_core.specs.SoughtPage.{IsSought}
+use Rattle.fault_core.specs.declared.next.Next.TheVariants.{Answered}
+use Rattle.fault_core.specs.declared.sought.Sought.{Sought}
+use Rattle.fault_core.proofs.Branches.{frame_none, frame_some, uncharged_is}
+use Rattle.fault_core.proofs.Replaces.{row_state}
+use Rattle.fault_core.proofs.Steps.{answered_then, may_answer_then, may_as, paid_after, paid_first, ready_of}
+
+known_page : (config : Config) (g : Page) → IsPageOf config g → IsKnown config g
+known_page config (Private p v) of = tt
+known_page config (Shared s i) of = of.0
+
+section_real : (config : Config) (b : BlockId) (o : Origin) → IsOrigin config o → section_of o ≡ Some b → IsBlock config b
+section_real config b origin.Zero there is = absurd (none-some b is)
+section_real config b (origin.Section s i) there is = subst (IsBlock config) (same_Some (block.Section s i) b is) there
+
+module _ (s : History) (seat : Seat) (r : Ref) (ready : IsReadySeat s seat) where
+  pub page_known : (g : Page) → page_by s.config (pager s).map seat.0 (vpn_of r) ≡ Some g → IsKnown s.config g
+  page_known g mapped = known_page s.config g (page_right s.config (pager s).map seat.0 (vpn_of r) g (right s.config s.past seat.0 (ready_of s seat ready)).mapped mapped)
+
+  module _ (x : Sought) (sought : IsSought s seat r x) where
+    pub frame_held : (f : Pfn) → (x.backing).frame ≡ Some f → holder s.config (pager s).page x.page ≡ Some f.0
+    frame_held f is = frame_some f (holder s.config (pager s).page x.page) (sym is ∙ ap (λ (z : Backing). z.frame) sought.backing)
+
+    pub frame_out : (x.backing).frame ≡ None → holder s.config (pager s).page x.page ≡ None
+    frame_out is = frame_none (holder s.config (pager s).page x.page) (sym is ∙ ap (λ (z : Backing). z.frame) sought.backing)
+
+    pub uncharged : (is_private x.page && not (x.backing).charged) ≡ is_uncharged (pager s) x.page
+    uncharged = uncharged_is (pager s) x.page (x.backing).charged (ap (λ (z : Backing). z.charged) sought.backing)
+
+    pub source_is : (o : Option BlockId) → o ≡ cond (is_private x.page && not (x.backing).charged) x.behind (x.backing).lies → o ≡ source_of (pager s) x.page ((pager s).map seat.0 (vpn_of r))
+    source_is o is = is ∙ (λ i. cond (uncharged i) (sought.behind i) ((sought.backing i).lies))
+
+    pub source_real : (b : BlockId) → source_of (pager s) x.page ((pager s).map seat.0 (vpn_of r)) ≡ Some b → IsBlock s.config b
+    source_real b is = by (is_uncharged (pager s) x.page) is
+      where
+        by : (c : Bool) → cond c (section_at ((pager s).map seat.0 (vpn_of r))) ((pager s).lies x.page) ≡ Some b → IsBlock s.config b
+        by false lies = lying_block s.config s.past seat.0 (ready_of s seat ready) x.page b (page_right s.config (pager s).map seat.0 (vpn_of r) x.page (right s.config s.past seat.0 (ready_of s seat ready)).mapped sought.mapped) lies
+        by true behind =
+            let found = mapped_right s.config (pager s) seat.0 (vpn_of r) x.page (right s.config s.past seat.0 (ready_of s seat ready)) sought.mapped in
+            section_real s.config b found.0.origin found.3.origin (sym (ap section_at found.1) ∙ behind)
+
+  -- ---- a page that comes back
+  module _ (g : Page) (f : Pfn) (holds : holder s.config (pager s).page g ≡ Some f.0) where
+    pub held_within : f.0 < s.config.frames
+    held_within = holds_within s.config (past_view s.past) (pager s) f.0 g (kept s.config s.past seat.0 (ready_of s seat ready)) (holder_holds s.config (pager s).page g f.0 holds)
+
+    pub comes : (from : FrameState) → from ≡ (pager s).state f.0 → at_held s seat r g ≡ given (what.Back (proc seat.0) (page_address (vpn_of r)) f from ∷ what.Done r unsaid ∷ []) next_answered
+    comes from is =
+        ap (held_given s.config s.past (pager s) seat.0 r g) holds
+        ∙ ap (λ (z : FrameState). given (what.Back (proc seat.0) (page_address (vpn_of r)) f z ∷ what.Done r unsaid ∷ []) next_answered) (sym is)
+
+    -- by the row of the frame, and the page's first address
+    module _ (row : Row) (row_is : row ≡ row_at s f.0) (start : Addr) (start_is : start ≡ page_address (vpn_of r)) where
+      abbrev entry : What
+      entry = what.Back (proc seat.0) start f row.state
+
+      given_is : at_held s seat r g ≡ given (entry ∷ what.Done r unsaid ∷ []) next_answered
+      given_is =
+          comes row.state (ap (λ (z : Row). z.state) row_is ∙ row_state s f.0)
+          ∙ ap (λ (z : Addr). given (what.Back (proc seat.0) z f row.state ∷ what.Done r unsaid ∷ []) next_answered) (sym start_is)
+
+      pub came_back : MayGive s seat (at_held s seat r g) → MayAdd s (entry_by seat entry)
+      came_back may =
+          let m = may_as s seat _ _ given_is may in
+          record { legal = m.legal.0; paid = paid_first s seat entry 1 (omega arith) refl refl m.room }
+
+      module _ (s' : History) where
+        pub may_answer_back : MayGive s seat (at_held s seat r g) → s' ≡ added s (entry_by seat entry) → MayAnswer s' seat r
+        may_answer_back may made =
+            let m = may_as s seat _ _ given_is may in
+            may_answer_then s s' seat entry r made m.legal.1.0 refl refl m.room
+
+        pub gives_back : {B : Type 0} {content plan : B → Option (List ℕ)} {reads writes faults : B → ℕ} {tells tells_plan : Bool}
+            → s' ≡ added s (entry_by seat entry) → (after : History) (shown : Reply) (c : CarrierView B) → after ≡ added s' (entry_by seat (what.Done r shown))
+            → (tells ≡ true → shown ≡ flat_reply s'.config (flat_after s'.config s'.past) seat.0 r)
+            → Gives content plan reads writes faults tells tells_plan s after seat r (at_held s seat r g) (Answered shown) c c
+        gives_back first after shown c made flat = answered_then s s' after seat entry r shown c _ given_is first refl refl made flat
+
+-- ---- the free list's head
+pub head_there : (xs : List ℕ) (f : Pfn) → option_map frame_number (Some f) ≡ slice_get xs 0 → IsHead xs f.0
+head_there [] f is = absurd (none-some _ (sym is))
+head_there (y ∷ ys) f is = record { rest = ys; heads = ap (λ (z : ℕ). z ∷ ys) (sym (same_Some f.0 y is)) }
+
+pub none_there : (xs : List ℕ) → option_map frame_number None ≡ slice_get xs 0 → xs ≡ []
+none_there [] is = refl
+none_there (y ∷ ys) is = absurd (none-some _ is)
+
+pub no_frame : (s : History) (seat : Seat) (r : Ref) (g : Page) (o : Option BlockId) → option_map frame_number None ≡ slice_get (pager s).free 0 → at_frame s seat r g o ≡ gives_again again_no_frame
+no_frame s seat r g o is = ap (frame_given s.config (pager s) seat.0 r g o) (none_there (pager s).free is)
+
+pub some_free : (xs : List ℕ) (f : ℕ) → IsHead xs f → 1 ≤ length xs
+some_free xs f head = let some = ap (λ (ys : List ℕ). length ys) head.heads in omega (arith, some)
+
+-- ---- a frame gives up its page first
+pub reuse_alone : (config : Config) (past : List Entry) (p f : ℕ) (ws : List What) (o : Option Page) → AreLegal config past p (reuse_first o f ws) → AreLegal config past p (reuse_first o f [])
+reuse_alone config past p f ws None legal = tt
+reuse_alone config past p f ws (Some g) legal = (legal.0, tt)
+
+pub behind_reuse : (s : History) (seat : Seat) (f : ℕ) (ws : List What) (o : Option Page) → AreLegal s.config s.past seat.0 (reuse_first o f ws) → AreLegal (made_in seat (reuse_first o f []) s).config (made_in seat (reuse_first o f []) s).past seat.0 ws
+behind_reuse s seat f ws None legal = legal
+behind_reuse s seat f ws (Some g) legal = legal.1
+
+module _ (s : History) (seat : Seat) (f : Pfn) (head : IsHead (pager s).free f.0) where
+  pub head_within : IsWellFormed s.config → IsRun s.config s.past → f.0 < s.config.frames
+  head_within formed run = (free_is s.config s.past (pager s) f.0 (run_kept s.config s.past formed run) (head_counts (pager s).free f.0 head)).within
+
+  pub may_reuse : (g : Page) → (pager s).page f.0 ≡ Some g → AreLegal s.config s.past seat.0 (reuse_first ((pager s).page f.0) f.0 []) → owed s.past + 2 ≤ s.spare → MayAdd s (entry_by seat (what.Reuse f g))
+  may_reuse g holds legal paid = record {
+    legal = (subst (λ (o : Option Page). AreLegal s.config s.past seat.0 (reuse_first o f.0 [])) holds legal).0;
+    paid = paid_after s.past (entry_by seat (what.Reuse f g)) s.spare 1 refl refl (omega (arith, paid));
+  }
+
+-- ---- a demand zero page
+module _ (s : History) (seat : Seat) (r : Ref) (g : Page) (f : Pfn) (head : IsHead (pager s).free f.0) (start : Addr) (start_is : start ≡ page_address (vpn_of r)) where
+  abbrev zero_made : List What
+  zero_made = what.Zero start f ∷ what.Done r unsaid ∷ []
+
+  pub zeros : at_frame s seat r g None ≡ given (reuse_first ((pager s).page f.0) f.0 zero_made) next_answered
+  zeros =
+      ap (frame_given s.config (pager s) seat.0 r g None) head.heads
+      ∙ ap (λ (z : Addr). given (reuse_first ((pager s).page f.0) f.0 (what.Zero z f ∷ what.Done r unsaid ∷ [])) next_answered) (sym start_is)
+
+  pub may_first : MayGive s seat (at_frame s seat r g None) → AreLegal s.config s.past seat.0 (reuse_first ((pager s).page f.0) f.0 [])
+  may_first may = reuse_alone s.config s.past seat.0 f.0 zero_made ((pager s).page f.0) (may_as s seat _ _ zeros may).legal
+
+  paid_behind : (o : Option Page) → owed s.past + 64 ≤ s.spare → owed (made_in seat (reuse_first o f.0 []) s).past + 60 ≤ (made_in seat (reuse_first o f.0 []) s).spare
+  paid_behind None room = omega (arith, room)
+  paid_behind (Some x) room = let paid = paid_first s seat (what.Reuse f x) 62 (omega arith) refl refl room in omega (arith, paid)
+
+  module _ (s1 : History) (first : s1 ≡ made_in seat (reuse_first ((pager s).page f.0) f.0 []) s) (may : MayGive s seat (at_frame s seat r g None)) where
+    rest : AreLegal s1.config s1.past seat.0 zero_made
+    rest = subst (λ (x : History). AreLegal x.config x.past seat.0 zero_made) (sym first) (behind_reuse s seat f.0 zero_made ((pager s).page f.0) (may_as s seat _ _ zeros may).legal)
+
+    left : owed s1.past + 60 ≤ s1.spare
+    left = subst (λ (x : History). owed x.past + 60 ≤ x.spare) (sym first) (paid_behind ((pager s).page f.0) may.room)
+
+    pub may_zero : MayAdd s1 (entry_by seat (what.Zero start f))
+    may_zero = record { legal = rest.0; paid = paid_after s1.past (entry_by seat (what.Zero start f)) s1.spare 1 refl refl (let enough = left in omega (arith, enough)) }
+
+    pub may_answer_zero : (s2 : History) → s2 ≡ added s1 (entry_by seat (what.Zero start f)) → MayAnswer s2 seat r
+    may_answer_zero s2 made = subst (λ (x : History). MayAnswer x seat r) (sym made) (record {
+      legal = rest.1.0;
+      paid = let paid = paid_after s1.past (entry_by seat (what.Zero start f)) s1.spare 2 refl refl (let enough = left in omega (arith, enough)) in omega (arith, paid);
+    })

@@ -1,0 +1,10 @@
+pub mod Branches
+pub mod Steps
+pub mod Firsts
+pub mod Replaces
+pub mod Comes
+pub mod OneReads
+pub mod ClusterReads
+pub mod ClusterLengths
+pub mod Windows
+pub mod Advances

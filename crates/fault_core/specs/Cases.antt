@@ -1,0 +1,52 @@
+-- The cases of a reference, one after another, on a history. This project's own.
+use Rattle.std.specs.Prelude.{ℕ, Option}
+use Rattle.vm_types.specs.declared.names.BlockId.{BlockId}
+use Rattle.vm_types.specs.declared.names.Page.{Page}
+use Rattle.vm_types.specs.declared.names.Seat.{Seat}
+use Rattle.vm_types.specs.declared.reference.Ref.{Ref}
+use Rattle.pager_model.specs.Advance.{GivenNext, advance_gives, entry_given, fault_given, frame_given, held_given, mapped_given, out_given, read_given, refused_given, replace_given, room_given, source_of}
+use Rattle.pager_model.specs.Flat.{flat_refusal}
+use Rattle.pager_model.specs.Flights.{open_flights}
+use Rattle.pager_model.specs.Forget.{holder}
+use Rattle.pager_model.specs.Lookups.{entry_of, page_by}
+use Rattle.pager_model.specs.Maps.{page_number}
+use Rattle.pager_model.specs.Spoken.{flat_after}
+use Rattle.pager_model.specs.Transfers.{is_read_on}
+use Rattle.std.specs.Prelude.{find}
+use Rattle.vm_state.specs.History.{History, pager}
+
+abbrev pub vpn_of : Ref → ℕ
+vpn_of r = page_number (r.addr).0
+
+abbrev pub at_first : History → Seat → Ref → GivenNext
+at_first s seat r = advance_gives s.config s.past (pager s) seat.0 r
+
+abbrev pub at_refusal : History → Seat → Ref → GivenNext
+at_refusal s seat r = refused_given s.config s.past (pager s) seat.0 r (flat_refusal s.config (flat_after s.config s.past) seat.0 r)
+
+abbrev pub at_entry : History → Seat → Ref → GivenNext
+at_entry s seat r = entry_given s.config s.past (pager s) seat.0 r (entry_of (pager s).valid seat.0 (vpn_of r))
+
+abbrev pub at_map : History → Seat → Ref → GivenNext
+at_map s seat r = mapped_given s.config s.past (pager s) seat.0 r (page_by s.config (pager s).map seat.0 (vpn_of r))
+
+abbrev pub at_fault : History → Seat → Ref → Page → GivenNext
+at_fault s seat r g = fault_given s.config s.past (pager s) seat.0 r g (holder s.config (pager s).page g)
+
+abbrev pub at_read : History → Seat → Ref → Page → ℕ → GivenNext
+at_read s seat r g f = read_given s.config s.past (pager s) seat.0 r g f (find (is_read_on f) (open_flights s.past))
+
+abbrev pub at_room : History → Seat → Ref → Page → GivenNext
+at_room s seat r g = room_given s.config s.past (pager s) seat.0 r g
+
+abbrev pub at_replace : History → Seat → GivenNext
+at_replace s seat = replace_given s.config s.past (pager s) seat.0
+
+abbrev pub at_held : History → Seat → Ref → Page → GivenNext
+at_held s seat r g = held_given s.config s.past (pager s) seat.0 r g (holder s.config (pager s).page g)
+
+abbrev pub at_out : History → Seat → Ref → Page → GivenNext
+at_out s seat r g = out_given s.config s.past (pager s) seat.0 r g (source_of (pager s) g ((pager s).map seat.0 (vpn_of r)))
+
+abbrev pub at_frame : History → Seat → Ref → Page → Option BlockId → GivenNext
+at_frame s seat r g o = frame_given s.config (pager s) seat.0 r g o (pager s).free

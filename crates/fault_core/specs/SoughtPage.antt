@@ -1,0 +1,15 @@
+-- What is known of a page that a process refers to. This project's own.
+use Rattle.std.specs.Prelude.{◌≡◌, Some}
+use Rattle.vm_types.specs.declared.names.Seat.{Seat}
+use Rattle.vm_types.specs.declared.reference.Ref.{Ref}
+use Rattle.pager_model.specs.Lookups.{page_by, section_at}
+use Rattle.pager_model.specs.Maps.{page_number}
+use Rattle.vm_state.specs.History.{History, pager}
+use Rattle.vm_state.specs.PageReadings.{backing_in}
+use Rattle.fault_core.specs.declared.sought.Sought.{Sought}
+
+-- the process has the page there, with this behind it, and the page is where it says
+pub record IsSought (s : History) (seat : Seat) (r : Ref) (x : Sought) : Type 0 where
+  pub mapped : page_by s.config (pager s).map seat.0 (page_number (r.addr).0) ≡ Some x.page
+  pub behind : x.behind ≡ section_at ((pager s).map seat.0 (page_number (r.addr).0))
+  pub backing : x.backing ≡ backing_in s.config (pager s) x.page

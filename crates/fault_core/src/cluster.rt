@@ -1,0 +1,156 @@
+ghost use Rattle.std.specs.Prelude.{◌≡◌, ◌+◌, ◌≤◌, ◌<◌, ◌^◌, ◌&&◌, Some, length, not, slice_get, true};
+ghost use Rattle.vm_types.specs.Configuration.{IsBlock, IsWellFormed};
+ghost use Rattle.vm_types.specs.declared.names.BlockId.TheVariants as block;
+ghost use Rattle.vm_types.specs.declared.names.Page.{Page};
+ghost use Rattle.pager_model.specs.Advance.{block_after, following, following_owner, following_shared, is_out, is_uncharged, lies_in, owner_of, window};
+ghost use Rattle.pager_model.specs.ClusterLength.{cluster_length};
+ghost use Rattle.pager_model.specs.In.{is_kin};
+ghost use Rattle.pager_model.specs.Maps.{is_private};
+ghost use Rattle.vm_state.specs.History.{pager};
+ghost use Rattle.vm_state.specs.PageReadings.{IsKnown};
+ghost use Rattle.fault_core.specs.Reads.{IsWindow, block_place, page_place, reach_of};
+
+use crate::faults::is_uncharged;
+use crate::sought::Sought;
+use arrayvec::ArrayVec;
+use disk_trait::Block;
+use read_cluster::choose;
+use vm_state::State;
+use vm_types::{BlockId, Page, SecId};
+
+/// The block so many places behind another.
+pub fn block_after(b: BlockId, places: u32) -> BlockId
+    requires { block_place b + places < 2 ^ 32 }
+    ensures { result ≡ block_after b places }
+{
+    match b {
+        BlockId::Section(s, i) => BlockId::Section(s, i + places),
+        BlockId::PageFile(n) => BlockId::PageFile(n + places),
+        BlockId::Swap(p, n) => BlockId::Swap(p, n + places),
+    }
+}
+
+/// Whether two pages are private to one process, or of one section.
+fn is_kin(g: Page, h: Page) -> bool
+    ensures { result ≡ is_kin g h }
+{
+    match g {
+        Page::Private(p, _) => match h {
+            Page::Private(q, _) => p.0 == q.0,
+            Page::Shared(..) => false,
+        },
+        Page::Shared(s, _) => match h {
+            Page::Private(..) => false,
+            Page::Shared(t, _) => s.0 == t.0,
+        },
+    }
+}
+
+/// Whether a page lies in this block of the page file.
+fn lies_in(lies: Option<BlockId>, n: u32) -> bool
+    ensures { result ≡ lies_in lies (block.PageFile n) }
+{
+    match lies {
+        Some(b) => match b {
+            BlockId::Section(..) => false,
+            BlockId::PageFile(m) => m == n,
+            BlockId::Swap(..) => false,
+        },
+        None => false,
+    }
+}
+
+/// The page of a section that may follow so many places behind the faulting one.
+fn following_shared<B: Block>(state: &State<B>, s: SecId, i: u32) -> Option<Page>
+    ensures { result ≡ following_shared (slice_get state.now.config.sections s.0) s i }
+{
+    let section = state.config().sections.items().get(s.0 as usize)?;
+    if (i as usize) < section.bytes.items().len() / 512 {
+        Some(Page::Shared(s, i))
+    } else {
+        None
+    }
+}
+
+/// The owner of a block of the page file, if it lies there and is of the same process.
+fn following_owner<B: Block>(state: &State<B>, g: Page, n: u32) -> Option<Page>
+    requires { is_private g ≡ true }
+    ensures { result ≡ following_owner (pager state.now) g n (owner_of (pager state.now).assigned n) }
+{
+    let h = state.owner(n)?;
+    if is_kin(g, h) && lies_in(state.backing(h).lies, n) {
+        Some(h)
+    } else {
+        None
+    }
+}
+
+/// The page that may follow so many places behind the faulting one.
+fn following<B: Block>(state: &State<B>, g: Page, b: BlockId, places: u32) -> Option<Page>
+    requires page { page_place g + places < 2 ^ 32 }
+    requires block { block_place b + places < 2 ^ 32 }
+    ensures { result ≡ following state.now.config (pager state.now) g b places }
+{
+    match g {
+        Page::Shared(s, i) => following_shared(state, s, i + places),
+        Page::Private(..) => match b {
+            BlockId::PageFile(n) => following_owner(state, g, n + places),
+            BlockId::Section(..) => None,
+            BlockId::Swap(..) => None,
+        },
+    }
+}
+
+/// Whether a page is in no frame.
+fn is_out<B: Block>(state: &State<B>, page: Option<Page>) -> bool
+    requires { (g : Page) → page ≡ Some g → IsKnown state.now.config g }
+    ensures { result ≡ is_out state.now.config (pager state.now) page }
+{
+    match page {
+        Some(g) => state.backing(g).frame.is_none(),
+        None => false,
+    }
+}
+
+/// How many places a cluster may reach: the first read of a copy on reference page is made by itself.
+fn reach<B: Block>(state: &State<B>, x: Sought) -> u32
+    requires { (is_private x.page && not (x.backing).charged) ≡ is_uncharged (pager state.now) x.page }
+    ensures { result ≡ reach_of state.now.config (pager state.now) x.page }
+{
+    if is_uncharged(x) {
+        1
+    } else {
+        state.config().params.pfc
+    }
+}
+
+/// The faulting page and the pages that may follow it, and how many of them are read together.
+pub fn cluster<B: Block>(
+    state: &State<B>,
+    x: Sought,
+    b: BlockId,
+) -> (ArrayVec<Option<Page>, 8>, u32)
+    requires formed { IsWellFormed state.now.config }
+    requires known { IsKnown state.now.config x.page }
+    requires exists { IsBlock state.now.config b }
+    requires charge { (is_private x.page && not (x.backing).charged) ≡ is_uncharged (pager state.now) x.page }
+    requires free { 1 ≤ length (pager state.now).free }
+    ensures pages { IsWindow state.now.config (pager state.now) x.page b (result.0).items }
+    ensures within { result.1 ≤ reach_of state.now.config (pager state.now) x.page }
+    ensures length { result.1 ≡ cluster_length (window state.now.config (pager state.now) x.page b)
+        state.now.config.params.pfc (length (pager state.now).free) }
+{
+    let pfc = state.config().params.pfc;
+    let reach = reach(state, x);
+    let mut pages = ArrayVec::new();
+    let mut out = ArrayVec::<bool, 8>::new();
+    pages.push(Some(x.page));
+    out.push(true);
+    for places in 1..reach {
+        let page = following(state, x.page, b, places);
+        out.push(is_out(state, page));
+        pages.push(page);
+    }
+    let length = choose(out.as_slice(), pfc, state.free_len());
+    (pages, length)
+}

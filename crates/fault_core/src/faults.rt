@@ -1,0 +1,130 @@
+ghost use Rattle.std.specs.Prelude.{◌≡◌, ◌<◌, ◌&&◌, length, nat_eq, nat_le, not};
+ghost use Rattle.vm_types.specs.WellFormed.{IsWellFormedReference};
+ghost use Rattle.vm_types.specs.Ring.{filled};
+ghost use Rattle.pager_model.specs.Advance.{is_uncharged};
+ghost use Rattle.pager_model.specs.Lookups.{section_of};
+ghost use Rattle.pager_model.specs.Maps.{is_private};
+ghost use Rattle.vm_state.specs.History.{pager};
+ghost use Rattle.fault_core.specs.Cases.{at_fault, at_map, at_room};
+ghost use Rattle.fault_core.specs.SoughtPage.{IsSought};
+ghost use Rattle.fault_core.specs.Gives.{Gives, MayGive};
+ghost use Rattle.fault_core.specs.ReadySeat.{IsReadySeat, empty};
+
+use crate::fetches::held;
+use crate::next::{AgainWhy, Next};
+use crate::sought::Sought;
+use crate::waits::{read, replace};
+use disk_trait::Block;
+use vm_state::{Carrier, State};
+use vm_types::{BlockId, Origin, Page, Proc, Ref, Seat};
+
+/// The section block of an origin.
+fn section_of(from: Origin) -> Option<BlockId>
+    ensures { result ≡ section_of from }
+{
+    match from {
+        Origin::Zero => None,
+        Origin::Section(s, i) => Some(BlockId::Section(s, i)),
+    }
+}
+
+/// The page's entry isn't valid.
+pub fn mapped<B: Block>(state: &mut State<B>, seat: Seat, r: Ref, carrier: &mut Carrier<B>) -> Next
+    requires ready { IsReadySeat state.old seat }
+    requires formed { IsWellFormedReference r }
+    requires may { MayGive state.old seat (at_map state.old seat r) }
+    requires carrier { carrier.old ≡ empty seat }
+    ensures { Gives B.content B.plan B.reads B.writes B.faults B.tells_content B.tells_plan
+        state.old state.new seat r (at_map state.old seat r) result carrier.old carrier.new }
+{
+    match state.found(Proc(seat.0), r.addr.0 / 512) {
+        Some(found) => {
+            let behind = section_of(found.from);
+            let backing = state.backing(found.page);
+            let x = Sought {
+                page: found.page,
+                behind,
+                backing,
+            };
+            fault(state, seat, r, x, carrier)
+        }
+        None => Next::Again(AgainWhy::NotResident),
+    }
+}
+
+/// A page that is mapped isn't valid.
+fn fault<B: Block>(
+    state: &mut State<B>,
+    seat: Seat,
+    r: Ref,
+    x: Sought,
+    carrier: &mut Carrier<B>,
+) -> Next
+    requires ready { IsReadySeat state.old seat }
+    requires formed { IsWellFormedReference r }
+    requires sought { IsSought state.old seat r x }
+    requires may { MayGive state.old seat (at_fault state.old seat r x.page) }
+    requires carrier { carrier.old ≡ empty seat }
+    ensures { Gives B.content B.plan B.reads B.writes B.faults B.tells_content B.tells_plan
+        state.old state.new seat r (at_fault state.old seat r x.page) result carrier.old carrier.new }
+{
+    match x.backing.frame {
+        Some(f) => read(state, seat, r, x, f, carrier),
+        None => room(state, seat, r, x, carrier),
+    }
+}
+
+/// Whether it is a private page.
+fn is_private(page: Page) -> bool
+    ensures { result ≡ is_private page }
+{
+    matches!(page, Page::Private(..))
+}
+
+/// Whether it is a private page that isn't charged to the page file.
+pub fn is_uncharged(x: Sought) -> bool
+    ensures { result ≡ (is_private x.page && not (x.backing).charged) }
+{
+    is_private(x.page) && !x.backing.charged
+}
+
+/// Whether each block of the page file is charged, and the page needs one.
+fn is_charging<B: Block>(state: &State<B>, x: Sought) -> bool
+    requires { (is_private x.page && not (x.backing).charged) ≡ is_uncharged (pager state.now) x.page }
+    ensures { result ≡ (is_uncharged (pager state.now) x.page && nat_eq (length (pager state.now).charged) state.now.config.pagefile) }
+{
+    is_uncharged(x) && state.charged() == state.config().pagefile
+}
+
+/// Whether as many pages are in the working set as its limit allows.
+fn is_at_limit<B: Block>(state: &State<B>, p: Proc) -> bool
+    requires { p.0 < length state.now.config.procs }
+    ensures { result ≡ nat_le ((pager state.now).limit p.0) (filled ((pager state.now).ring p.0).slots) }
+{
+    state.limit_of(p) <= state.count(p)
+}
+
+/// No other seat is reading the page.
+pub fn room<B: Block>(
+    state: &mut State<B>,
+    seat: Seat,
+    r: Ref,
+    x: Sought,
+    carrier: &mut Carrier<B>,
+) -> Next
+    requires ready { IsReadySeat state.old seat }
+    requires formed { IsWellFormedReference r }
+    requires sought { IsSought state.old seat r x }
+    requires may { MayGive state.old seat (at_room state.old seat r x.page) }
+    requires carrier { carrier.old ≡ empty seat }
+    ensures { Gives B.content B.plan B.reads B.writes B.faults B.tells_content B.tells_plan
+        state.old state.new seat r (at_room state.old seat r x.page) result carrier.old carrier.new }
+{
+    if is_charging(state, x) {
+        Next::Again(AgainWhy::Charging)
+    } else if is_at_limit(state, Proc(seat.0)) {
+        replace(state, seat, r, carrier)
+    } else {
+        held(state, seat, r, x, carrier)
+    }
+}
