@@ -14,3 +14,4 @@ pub mod Together
 pub mod Distance
 pub mod RingSteps
 pub mod OneChoice
+pub mod LetGo

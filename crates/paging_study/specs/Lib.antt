@@ -7,3 +7,5 @@ pub mod Recency
 pub mod RingFaults
 pub mod PageString
 pub mod Laws
+pub mod Distinct
+pub mod Dropped

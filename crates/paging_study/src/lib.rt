@@ -3,6 +3,8 @@
 #![tactic(auto)]
 
 mod cuts;
+mod distinct;
+mod dropped;
 mod drops;
 mod intervals;
 mod kept;
@@ -12,6 +14,8 @@ mod lru;
 mod references;
 mod ring;
 
+pub use distinct::distinct_pages;
+pub use dropped::dropped_places;
 pub use laws::{cuts_bound_faults, least_faults_has_one_choice};
 pub use least::{Least, least_faults};
 pub use lru::lru_faults;

@@ -80,6 +80,10 @@ fn counts_faults_with_two_and_three_frames(rt: HostRuntime) -> Result<(), Fail> 
         [true, false, true, false, false, false].as_slice()
     );
     assert_eq!(rt; two.cuts.as_slice(), [3].as_slice());
+    assert_eq!(rt; distinct_pages(rt.alloc(), &pages)?, 3);
+    let kept = [true, false, true, false, false, false];
+    let drops = dropped_places(rt.alloc(), &pages, &kept)?;
+    assert_eq!(rt; drops.as_slice(), [2].as_slice());
     let three = least_faults(rt.alloc(), &pages, 3)?;
     assert_eq!(rt; three.faults, 3);
     assert_eq!(rt;
@@ -153,7 +157,10 @@ fn takes_the_most_pages_and_frames(rt: HostRuntime) -> Result<(), Fail> {
     if pages.len() <= 100_000 {
         assert_eq!(rt; ring_faults(rt.alloc(), &pages, 1024)?, 3);
         assert_eq!(rt; lru_faults(rt.alloc(), &pages, 1024)?.last(), Some(&3));
-        assert_eq!(rt; least_faults(rt.alloc(), &pages, 1024)?.faults, 3);
+        let least = least_faults(rt.alloc(), &pages, 1024)?;
+        assert_eq!(rt; least.faults, 3);
+        assert_eq!(rt; distinct_pages(rt.alloc(), &pages)?, 3);
+        assert!(rt; dropped_places(rt.alloc(), &pages, &least.kept)?.is_empty());
     }
     let mut pages = Vec::new(rt.alloc());
     for i in 0..2050 {

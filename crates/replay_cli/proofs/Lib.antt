@@ -11,9 +11,8 @@ pub mod Cases
 pub mod Started
 pub mod Running
 pub mod Reported
-pub mod WordsAre
-pub mod WritesInTurn
 pub mod LinesLemmas
-pub mod Ending
 pub mod RunText
 pub mod Concluding
+pub mod Obeying
+pub mod Asking

@@ -4,7 +4,5 @@ pub mod HasRun
 pub mod ReportView
 pub mod RunReport
 pub mod Reports
-pub mod SinkWrites
 pub mod SerialRun
-pub mod Ends
-pub mod Outcome
+pub mod Commands

@@ -7,6 +7,7 @@ use Rattle.flat_model.specs.Order.{IsInOrder, IsWhole}
 use Rattle.flat_model.specs.Policy.{IsSerial, next_entry}
 use Rattle.flat_model.specs.Run.{IsRun}
 use Rattle.flat_model.specs.Spoken.{IsRight}
+use Rattle.flat_model.specs.Text.{run_text}
 
 -- entries, the oldest first, with the report's place: one legal run in which each reference's reply
 -- is what flat sections reply there, each process's requests stand once and in order, every state is
@@ -21,3 +22,10 @@ pub record IsSerialRun (config : Config) (entries : List Entry) (at : ℕ) : Typ
   pub whole : IsWhole config (reverse (take at entries)) (reverse (drop at entries))
   pub serial : IsSerial config (reverse entries)
   pub ended : next_entry config (reverse entries) ≡ None
+
+-- the text of the one run of a configuration
+pub record IsSerialText (config : Config) (text : List ℕ) : Type 0 where
+  pub entries : List Entry
+  pub at : ℕ
+  pub run : IsSerialRun config entries at
+  pub lines : text ≡ run_text config entries at 0

@@ -1,21 +1,23 @@
-ghost use Rattle.std.specs.Prelude.{◌≡◌, ◌+◌, ◌^◌, ◌<◌, ◌≤◌, length, is_some, All};
+ghost use Rattle.std.specs.Prelude.{◌≡◌, ◌+◌, ◌^◌, ◌<◌, ◌≤◌, length, All};
 ghost use Rattle.vm_text.specs.Named.{AreNames};
 ghost use Rattle.vm_journal.specs.HasLine.{HasLine};
-ghost use Rattle.outside_io.specs.WholeWrite.{TakesText, FaultsBy, stalls_by};
+ghost use Rattle.outside_io.specs.Views.{sink_view};
+ghost use Rattle.outside_io.specs.Writes.{Writes};
 ghost use Rattle.flat_model.specs.Text.{entry_lines};
 
-use crate::whole_line::write_line;
 use arrayvec::ArrayVec;
+use journal_lines::line;
 use outside_io::{Sink, WriteFault};
-use vm_journal::{Entry, line};
+use program_ends::write_line;
+use vm_journal::Entry;
 use vm_types::Section;
 
 /// Writes the entries' lines, each with the byte 10 that ends it in one write of a whole text.
 /// The first entry has the number `first`, and each other one the number after that of the one
-/// before it. `procs` is the number of processes, and `names` are the sections. Takes no memory.
+/// before it. `procs` is the number of processes, and `names` are the sections. Doesn't allocate.
 ///
 /// # Errors
-/// `Failed` only where the sink's count of faults rose. `NoneTaken` exactly where its count of
+/// `Failed` only if the sink's count of failures rose. `NoneTaken` exactly if its count of
 /// stalls rose. After either the sink has taken less than the lines, a prefix of them.
 pub fn print_entries<K: Sink>(
     first: u64,
@@ -27,12 +29,8 @@ pub fn print_entries<K: Sink>(
     requires numbers { first + length entries.now < 2 ^ 64 }
     requires names { AreNames procs names.now }
     requires have_lines { All (HasLine procs names.now) entries.now }
-    ensures bytes { TakesText (K.taken sink.old) (K.taken sink.new) result (entry_lines first procs names.now entries.now) }
-    ensures told { is_some (K.taken sink.new) ≡ is_some (K.taken sink.old) }
-    ensures faults { FaultsBy (K.faults sink.old) (K.faults sink.new) result }
-    ensures faults_later { K.faults sink.old ≤ K.faults sink.new }
-    ensures stalls { K.stalls sink.new ≡ stalls_by (K.stalls sink.old) result }
-    ensures stalls_later { K.stalls sink.old ≤ K.stalls sink.new }
+    ensures { Writes (sink_view (K.taken sink.old) (K.faults sink.old) (K.stalls sink.old))
+        (sink_view (K.taken sink.new) (K.faults sink.new) (K.stalls sink.new)) result (entry_lines first procs names.now entries.now) }
 {
     let mut number = first;
     for e in entries {

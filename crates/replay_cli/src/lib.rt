@@ -1,5 +1,5 @@
-//! The program over a source and a sink: it reads a trace, runs it, and writes the entry lines, the
-//! report and the status.
+//! The program over a source and a sink: `serial` reads a trace, runs it, and writes the entry lines,
+//! the report and the status; `study` reads one and writes what a process's references cost.
 #![tactic(auto)]
 
 mod answer;
@@ -9,9 +9,11 @@ mod machine;
 mod recount;
 mod report;
 mod run;
-mod whole_line;
+mod words;
 
-pub use cli::{Status, run_one};
+pub use cli::run_one;
+pub use program_ends::Status;
+pub use words::{Command, command_of};
 
 #[cfg(test)]
 mod tests;

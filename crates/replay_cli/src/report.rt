@@ -1,17 +1,16 @@
-ghost use Rattle.std.specs.Prelude.{◌≡◌, ◌+◌, ◌<◌, ◌≤◌, ◌++◌, [], length, is_some, map, decimal, codes, All, IfSome};
+ghost use Rattle.std.specs.Prelude.{◌≡◌, ◌+◌, ◌<◌, ◌≤◌, ◌++◌, [], length, map, decimal, codes, All, IfSome};
 ghost use Rattle.arrayvec.specs.ArrayVec.{array_vec_len};
 ghost use Rattle.vm_text.specs.Named.{IsPrintablePage};
-ghost use Rattle.outside_io.specs.WholeWrite.{TakesText, FaultsBy, stalls_by};
-ghost use Rattle.flat_model.specs.Text.{ended, held_text, frame_line, frame_lines, states_text, page_file_text, process_text, process_lines, report_text, status_line};
+ghost use Rattle.outside_io.specs.Views.{sink_view};
+ghost use Rattle.outside_io.specs.Writes.{Writes};
+ghost use Rattle.flat_model.specs.Text.{ended, held_text, frame_line, frame_lines, states_text, page_file_text, process_text, process_lines, report_text};
 ghost use Rattle.replay_cli.specs.ReportView.{frame_view, process_view, report_view, IsPrintable};
-ghost use Rattle.replay_cli.specs.SinkWrites.{Writes};
 
-use crate::whole_line::write_line;
 use arrayvec::ArrayVec;
 use outside_io::{Sink, WriteFault};
+use program_ends::{push_counted, write_line};
 use vm_text::{
-    push_count, push_decimal, push_mark, push_page, push_process, push_state, push_status,
-    push_word,
+    push_decimal, push_mark, push_page, push_process, push_state, push_status, push_word,
 };
 use vm_types::{FrameState, Listed, Page, Proc, ProcStatus, Section};
 
@@ -54,20 +53,10 @@ pub struct Report {
     pub processes: Listed<ProcessRow>,
 }
 
-// A word, and a count in decimal digits.
-fn push_counted(out: &mut ArrayVec<u8, 160>, word: &[u8], count: u32)
-    requires { array_vec_len out.old + length word.now ≤ 150 }
-    ensures items { out.new.items ≡ out.old.items ++ word.now ++ decimal count }
-    ensures len { array_vec_len out.new ≤ array_vec_len out.old + length word.now + 10 }
-{
-    push_word(out, word);
-    push_count(out, count);
-}
-
 // How many entries were before it.
 fn print_at<K: Sink>(at: u64, sink: &mut K) -> Result<(), WriteFault>
-    ensures { Writes (K.taken sink.old) (K.taken sink.new) (K.faults sink.old) (K.faults sink.new)
-        (K.stalls sink.old) (K.stalls sink.new) result (ended (codes "PFN AT " ++ decimal at)) }
+    ensures { Writes (sink_view (K.taken sink.old) (K.faults sink.old) (K.stalls sink.old))
+        (sink_view (K.taken sink.new) (K.faults sink.new) (K.stalls sink.new)) result (ended (codes "PFN AT " ++ decimal at)) }
 {
     let mut out = ArrayVec::new();
     push_word(&mut out, b"PFN AT ");
@@ -78,8 +67,8 @@ fn print_at<K: Sink>(at: u64, sink: &mut K) -> Result<(), WriteFault>
 // How many frames are in each state.
 fn print_states<K: Sink>(states: &[u32], sink: &mut K) -> Result<(), WriteFault>
     requires { length states.now ≡ 8 }
-    ensures { Writes (K.taken sink.old) (K.taken sink.new) (K.faults sink.old) (K.faults sink.new)
-        (K.stalls sink.old) (K.stalls sink.new) result (ended (states_text states.now)) }
+    ensures { Writes (sink_view (K.taken sink.old) (K.faults sink.old) (K.stalls sink.old))
+        (sink_view (K.taken sink.new) (K.faults sink.new) (K.stalls sink.new)) result (ended (states_text states.now)) }
 {
     let mut out = ArrayVec::new();
     push_states(&mut out, states);
@@ -108,8 +97,8 @@ fn print_frames<K: Sink>(
     sink: &mut K,
 ) -> Result<(), WriteFault>
     requires { All (λ row. IfSome row.page (IsPrintablePage names.now)) frames.now }
-    ensures { Writes (K.taken sink.old) (K.taken sink.new) (K.faults sink.old) (K.faults sink.new)
-        (K.stalls sink.old) (K.stalls sink.new) result
+    ensures { Writes (sink_view (K.taken sink.old) (K.faults sink.old) (K.stalls sink.old))
+        (sink_view (K.taken sink.new) (K.faults sink.new) (K.stalls sink.new)) result
         (frame_lines names.now 0 (map frame_view frames.now)) }
 {
     for (f, row) in frames.iter().enumerate() {
@@ -126,8 +115,8 @@ fn print_frame<K: Sink>(
     sink: &mut K,
 ) -> Result<(), WriteFault>
     requires { IfSome row.page (IsPrintablePage names.now) }
-    ensures { Writes (K.taken sink.old) (K.taken sink.new) (K.faults sink.old) (K.faults sink.new)
-        (K.stalls sink.old) (K.stalls sink.new) result (frame_line names.now f (frame_view row)) }
+    ensures { Writes (sink_view (K.taken sink.old) (K.faults sink.old) (K.stalls sink.old))
+        (sink_view (K.taken sink.new) (K.faults sink.new) (K.stalls sink.new)) result (frame_line names.now f (frame_view row)) }
 {
     let mut out = ArrayVec::new();
     match row.page {
@@ -169,8 +158,8 @@ fn push_bad(out: &mut ArrayVec<u8, 160>, f: u64)
 }
 
 fn print_page_file<K: Sink>(report: &Report, sink: &mut K) -> Result<(), WriteFault>
-    ensures { Writes (K.taken sink.old) (K.taken sink.new) (K.faults sink.old) (K.faults sink.new)
-        (K.stalls sink.old) (K.stalls sink.new) result
+    ensures { Writes (sink_view (K.taken sink.old) (K.faults sink.old) (K.stalls sink.old))
+        (sink_view (K.taken sink.new) (K.faults sink.new) (K.stalls sink.new)) result
         (ended (page_file_text (report_view report.now))) }
 {
     let mut out = ArrayVec::new();
@@ -182,8 +171,8 @@ fn print_page_file<K: Sink>(report: &Report, sink: &mut K) -> Result<(), WriteFa
 
 fn print_processes<K: Sink>(processes: &[ProcessRow], sink: &mut K) -> Result<(), WriteFault>
     requires { length processes.now ≤ 16 }
-    ensures { Writes (K.taken sink.old) (K.taken sink.new) (K.faults sink.old) (K.faults sink.new)
-        (K.stalls sink.old) (K.stalls sink.new) result
+    ensures { Writes (sink_view (K.taken sink.old) (K.faults sink.old) (K.stalls sink.old))
+        (sink_view (K.taken sink.new) (K.faults sink.new) (K.stalls sink.new)) result
         (process_lines 0 (map process_view processes.now)) }
 {
     for (p, row) in processes.iter().enumerate() {
@@ -194,8 +183,8 @@ fn print_processes<K: Sink>(processes: &[ProcessRow], sink: &mut K) -> Result<()
 
 fn print_process<K: Sink>(p: u32, row: ProcessRow, sink: &mut K) -> Result<(), WriteFault>
     requires { p < 16 }
-    ensures { Writes (K.taken sink.old) (K.taken sink.new) (K.faults sink.old) (K.faults sink.new)
-        (K.stalls sink.old) (K.stalls sink.new) result (ended (process_text p (process_view row))) }
+    ensures { Writes (sink_view (K.taken sink.old) (K.faults sink.old) (K.stalls sink.old))
+        (sink_view (K.taken sink.new) (K.faults sink.new) (K.stalls sink.new)) result (ended (process_text p (process_view row))) }
 {
     let mut out = ArrayVec::new();
     push_word(&mut out, b"PROCESS ");
@@ -210,10 +199,10 @@ fn print_process<K: Sink>(p: u32, row: ProcessRow, sink: &mut K) -> Result<(), W
 /// Writes the report's lines, each with the byte 10 that ends it in one write of a whole text.
 /// `names` are the sections. The report has the counts of eight states and at most 16 processes;
 /// a page that a frame holds is a process's (below 16) and below 2^23, or one of a section whose
-/// name has at most 15 bytes. Takes no memory.
+/// name has at most 15 bytes. Doesn't allocate.
 ///
 /// # Errors
-/// `Failed` only where the sink's count of faults rose. `NoneTaken` exactly where its count of
+/// `Failed` only if the sink's count of failures rose. `NoneTaken` exactly if its count of
 /// stalls rose. After either the sink has taken less than the lines, a prefix of them.
 pub fn print_report<K: Sink>(
     report: &Report,
@@ -221,35 +210,12 @@ pub fn print_report<K: Sink>(
     sink: &mut K,
 ) -> Result<(), WriteFault>
     requires { IsPrintable names.now report.now }
-    ensures bytes { TakesText (K.taken sink.old) (K.taken sink.new) result (report_text names.now (report_view report.now)) }
-    ensures told { is_some (K.taken sink.new) ≡ is_some (K.taken sink.old) }
-    ensures faults { FaultsBy (K.faults sink.old) (K.faults sink.new) result }
-    ensures faults_later { K.faults sink.old ≤ K.faults sink.new }
-    ensures stalls { K.stalls sink.new ≡ stalls_by (K.stalls sink.old) result }
-    ensures stalls_later { K.stalls sink.old ≤ K.stalls sink.new }
+    ensures { Writes (sink_view (K.taken sink.old) (K.faults sink.old) (K.stalls sink.old))
+        (sink_view (K.taken sink.new) (K.faults sink.new) (K.stalls sink.new)) result (report_text names.now (report_view report.now)) }
 {
     print_at(report.at, sink)?;
     print_states(report.states.items(), sink)?;
     print_frames(report.frames.items(), names, sink)?;
     print_page_file(report, sink)?;
     print_processes(report.processes.items(), sink)
-}
-
-/// Writes the line of the status, with the byte 10 that ends it in one write of a whole text.
-/// Takes no memory.
-///
-/// # Errors
-/// `Failed` only where the sink's count of faults rose. `NoneTaken` exactly where its count of
-/// stalls rose. After either the sink has taken less than the line, a prefix of it.
-pub fn print_status<K: Sink>(n: u8, sink: &mut K) -> Result<(), WriteFault>
-    ensures bytes { TakesText (K.taken sink.old) (K.taken sink.new) result (status_line n) }
-    ensures told { is_some (K.taken sink.new) ≡ is_some (K.taken sink.old) }
-    ensures faults { FaultsBy (K.faults sink.old) (K.faults sink.new) result }
-    ensures faults_later { K.faults sink.old ≤ K.faults sink.new }
-    ensures stalls { K.stalls sink.new ≡ stalls_by (K.stalls sink.old) result }
-    ensures stalls_later { K.stalls sink.old ≤ K.stalls sink.new }
-{
-    let mut out = ArrayVec::new();
-    push_counted(&mut out, b"STATUS ", u32::from(n));
-    write_line(out, sink)
 }

@@ -1,10 +1,8 @@
 -- The texts of a list are written one after the other.
-use Rattle.std.proofs.Common.{◌≡◌, ℕ, ◌+◌, ◌<◌, List, [], ◌∷◌, ◌++◌, length, map, drop, get_or, zero, suc, Option, Result, sym, subst, ap, ◌∙◌, arith}
+use Rattle.std.proofs.Common.{◌≡◌, ℕ, ◌+◌, ◌<◌, List, [], ◌∷◌, ◌++◌, length, map, drop, get_or, zero, suc, sym, ap, ◌∙◌, arith}
 use Rattle.std.specs.Prelude.{All}
 use Rattle.std.specs.List.{flat_map, AllByRecursion}
 use Rattle.std.proofs.lemmas.List.{drop_more}
-use Rattle.outside_io.specs.declared.whole.WriteFault.{WriteFault}
-use Rattle.outside_io.specs.Writes.{Writes}
 use Rattle.vm_dump.specs.declared.dump.ProcRec.{ProcRec}
 use Rattle.vm_dump.specs.Bounds.{IsProcess}
 use Rattle.vm_dump.specs.Dumped.{process_of}
@@ -20,12 +18,6 @@ pub processes-next : (procs : List ProcRec) (i : ℕ) (p : ProcRec) → i < leng
 processes-next procs i p lt is =
     ap (λ (ps : List ProcRec). flat_map process_text (map process_of ps)) (drop_more procs i p lt)
     ∙ ap (λ (q : ProcRec). process_text (process_of q) ++ flat_map process_text (map process_of (drop (i + 1) procs))) (sym is)
-
--- the same write, of a text in other words
-pub writes_as : {a b : Option (List ℕ)} {f g s t : ℕ} {result other : Result (Unit {0}) WriteFault} {text same : List ℕ}
-    → result ≡ other → same ≡ text → Writes a b f g s t other same → Writes a b f g s t result text
-writes_as {a} {b} {f} {g} {s} {t} {result} {other} {text} {same} r e w =
-    subst (λ (x : Result (Unit {0}) WriteFault). Writes a b f g s t x text) (sym r) (subst (λ (x : List ℕ). Writes a b f g s t other x) e w)
 
 -- the processes of a dump are short
 pub short_each : (frames : ℕ) (procs : List ProcRec) → AllByRecursion (IsProcess frames) (map process_of procs) → All IsShort procs

@@ -1,7 +1,7 @@
 ghost use Rattle.std.specs.Prelude.{◌≡◌, ◌∷◌, []};
 
 use crate::entry_lines::print_entries;
-use crate::report::{FrameRow, ProcessRow, Report, print_report, print_status};
+use crate::report::{FrameRow, ProcessRow, Report, print_report};
 use outside_io::MemorySink;
 use std::alloc::Global;
 use std::test::Fail;
@@ -42,13 +42,11 @@ fn prints_a_report(rt: HostRuntime) -> Result<(), Fail> {
     };
     let mut sink = ample(alloc)?;
     assert_eq!(rt; print_report(&report, &[], &mut sink), Ok(()));
-    assert_eq!(rt; print_status(0, &mut sink), Ok(()));
     let text = b"PFN AT 4\n\
 FREE 7 MODIFIED 0 BAD 0 RELEASE 0 READERROR 0 WRITING 0 READING 0 ACTIVE 1\n\
 FRAME 0 ACTIVE A/00000000 MODIFY 1 REFS 1 SHARES 1\n\
 PAGEFILE 4 CHARGED 1 ASSIGNED 0\n\
-PROCESS A RESIDENT COUNT 1 LIMIT 4\n\
-STATUS 0\n";
+PROCESS A RESIDENT COUNT 1 LIMIT 4\n";
     assert_eq!(rt; sink.taken(), text.as_slice());
     Ok(())
 }

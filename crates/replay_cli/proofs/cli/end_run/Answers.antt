@@ -1,8 +1,9 @@
-use Rattle.std.proofs.Common.{◌++◌, length, sym, subst}
-use Rattle.flat_model.specs.Text.{entry_lines, report_text, status_line}
-use Rattle.replay_cli.specs.Ends.{Ends}
+use Rattle.std.proofs.Common.{ℕ, List, ◌++◌, sym, subst}
+use Rattle.flat_model.specs.Text.{report_text, status_line}
+use Rattle.outside_io.specs.Views.{sink_view}
+use Rattle.program_ends.specs.Ends.{Ends}
+use Rattle.program_ends.proofs.Ending.{ends_cut, ends_then}
 use Rattle.replay_cli.specs.ReportView.{IsPrintable, report_view}
-use Rattle.replay_cli.proofs.Ending.{ends_cut, ends_then}
 use Rattle.replay_cli.proofs.RunText.{run_text_parts, have_lines, have_names}
 use Rattle.replay_cli.proofs.cli.end_run.Goals as goal
 
@@ -20,35 +21,14 @@ end_report-requires g c = subst (λ names. IsPrintable names c.args.report.now) 
 
 pub returns-in-Err : goal.returns-in-Err
 returns-in-Err g c =
-    subst (λ text. Ends (g.K.Sink.taken c.args.sink.now) (g.K.Sink.taken c.print_entries.new.sink) (g.K.Sink.faults c.args.sink.now) (g.K.Sink.faults c.print_entries.new.sink)
-    (g.K.Sink.stalls c.args.sink.now) (g.K.Sink.stalls c.print_entries.new.sink) 0 text 4)
+    subst (λ (text : List ℕ). Ends (sink_view (g.K.Sink.taken c.args.sink.now) (g.K.Sink.faults c.args.sink.now) (g.K.Sink.stalls c.args.sink.now)) (sink_view (g.K.Sink.taken c.print_entries.new.sink) (g.K.Sink.faults c.print_entries.new.sink) (g.K.Sink.stalls c.print_entries.new.sink)) 0 text 4)
     (sym (run_text_parts c.args.config.now c.args.run.now.entries.items c.deref.result.now c.items.result.now c.items-names.result.now (report_view c.args.report.now)
     c.requires.run.stands.accepted.sections c.deref.ensures.value c.items.ensures c.items-names.ensures c.requires.report.recount))
-    (ends_cut _ _ _ _ _ _ c.in-Err.field-0 (entry_lines 1 (length c.items.result.now) c.items-names.result.now c.deref.result.now)
-    (report_text c.items-names.result.now (report_view c.args.report.now) ++ status_line 0) 0
-    (record {
-      bytes = c.in-Err.ensures.bytes;
-      told = c.in-Err.ensures.told;
-      faults = c.in-Err.ensures.faults;
-      faults_later = c.in-Err.ensures.faults_later;
-      stalls = c.in-Err.ensures.stalls;
-      stalls_later = c.in-Err.ensures.stalls_later;
-    }))
+    (ends_cut (report_text c.items-names.result.now (report_view c.args.report.now) ++ status_line 0) 0 c.in-Err.ensures)
 
 pub returns-in-Ok : goal.returns-in-Ok
 returns-in-Ok g c =
-    subst (λ text. Ends (g.K.Sink.taken c.args.sink.now) (g.K.Sink.taken c.end_report.new.sink) (g.K.Sink.faults c.args.sink.now) (g.K.Sink.faults c.end_report.new.sink)
-    (g.K.Sink.stalls c.args.sink.now) (g.K.Sink.stalls c.end_report.new.sink) 0 text c.end_report.result.0)
+    subst (λ (text : List ℕ). Ends (sink_view (g.K.Sink.taken c.args.sink.now) (g.K.Sink.faults c.args.sink.now) (g.K.Sink.stalls c.args.sink.now)) (sink_view (g.K.Sink.taken c.end_report.new.sink) (g.K.Sink.faults c.end_report.new.sink) (g.K.Sink.stalls c.end_report.new.sink)) 0 text c.end_report.result.0)
     (sym (run_text_parts c.args.config.now c.args.run.now.entries.items c.deref.result.now c.items.result.now c.items-names.result.now (report_view c.args.report.now)
     c.requires.run.stands.accepted.sections c.deref.ensures.value c.items.ensures c.items-names.ensures c.requires.report.recount))
-    (ends_then _ _ _ _ _ _ _ _ _ (entry_lines 1 (length c.items.result.now) c.items-names.result.now c.deref.result.now)
-    (report_text c.items-names.result.now (report_view c.args.report.now) ++ status_line 0) 0 c.end_report.result.0
-    (record {
-      bytes = c.in-Ok.ensures.bytes;
-      told = c.in-Ok.ensures.told;
-      faults = c.in-Ok.ensures.faults;
-      faults_later = c.in-Ok.ensures.faults_later;
-      stalls = c.in-Ok.ensures.stalls;
-      stalls_later = c.in-Ok.ensures.stalls_later;
-    })
-    c.end_report.ensures)
+    (ends_then c.in-Ok.ensures c.end_report.ensures)

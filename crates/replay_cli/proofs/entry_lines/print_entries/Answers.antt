@@ -2,25 +2,17 @@ use Rattle.std.proofs.Common.{◌≡◌, [], drop, arith}
 use Rattle.std.proofs.lemmas.List.{drop_all}
 use Rattle.std.proofs.lemmas.Result.{err_from_is_err_and}
 use Rattle.replay_cli.proofs.LinesLemmas.{entry_lines-next}
-use Rattle.replay_cli.proofs.WritesInTurn.{progress_none, progress_more, progress_fault, progress_all}
+use Rattle.outside_io.proofs.WritesInTurn.{progress_none, progress_more, progress_fault, progress_all}
 use Rattle.replay_cli.proofs.entry_lines.print_entries.Goals as goal
 
 pub loop-e-init : goal.loop-e-init
-loop-e-init g c = record { number = omega arith; progress = progress_none _ _ _ _ }
+loop-e-init g c = record { number = omega arith; progress = progress_none _ _ }
 
 pub returns-in_err-write_line : goal.returns-in_err-write_line
 returns-in_err-write_line g c =
     let p = err_from_is_err_and c.from_residual.result c.from_residual.ensures.1 in
     let parts = entry_lines-next c.loop-e.number c.args.procs c.args.names.now c.args.entries.now c.loop-e.e-index _ c.line.new.out.items c.loop-e-test.true c.line.ensures.text in
-    let w = progress_fault _ parts c.loop-e.invariant.progress c.in_err-write_line.ensures in
-    rw (p.1, p.2) (record {
-      bytes = w.bytes;
-      told = w.told;
-      faults = w.faults;
-      faults_later = w.faults_later;
-      stalls = w.stalls;
-      stalls_later = w.stalls_later;
-    })
+    rw (p.1, p.2) (progress_fault _ parts c.loop-e.invariant.progress c.in_err-write_line.ensures)
 
 pub loop-e-preserved : goal.loop-e-preserved
 loop-e-preserved g c =
@@ -33,12 +25,4 @@ loop-e-preserved g c =
 pub returns : goal.returns
 returns g c =
     let none : drop c.loop-e.e-index c.args.entries.now ≡ [] = drop_all _ _ c.loop-e-test.false in
-    let w = progress_all (rw none at c.loop-e.invariant.progress) in
-    record {
-      bytes = w.bytes;
-      told = w.told;
-      faults = w.faults;
-      faults_later = w.faults_later;
-      stalls = w.stalls;
-      stalls_later = w.stalls_later;
-    }
+    progress_all (rw none at c.loop-e.invariant.progress)

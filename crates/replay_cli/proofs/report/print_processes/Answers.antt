@@ -2,11 +2,11 @@ use Rattle.std.proofs.Common.{◌≡◌, [], drop}
 use Rattle.std.proofs.lemmas.List.{drop_all}
 use Rattle.std.proofs.lemmas.Result.{err_from_is_err_and}
 use Rattle.replay_cli.proofs.LinesLemmas.{process_lines-next}
-use Rattle.replay_cli.proofs.WritesInTurn.{progress_none, progress_more, progress_fault, progress_all}
+use Rattle.outside_io.proofs.WritesInTurn.{progress_none, progress_more, progress_fault, progress_all}
 use Rattle.replay_cli.proofs.report.print_processes.Goals as goal
 
 pub loop-p-init : goal.loop-p-init
-loop-p-init g c = progress_none _ _ _ _
+loop-p-init g c = progress_none _ _
 
 pub returns-in_err-print_process : goal.returns-in_err-print_process
 returns-in_err-print_process g c =

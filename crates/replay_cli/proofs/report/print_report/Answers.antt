@@ -4,7 +4,7 @@ use Rattle.vm_types.specs.declared.config.Section.{Section}
 use Rattle.flat_model.specs.Text.{ended, frame_lines, page_file_text, process_lines, states_text}
 use Rattle.replay_cli.specs.declared.report.Report.{Report}
 use Rattle.replay_cli.specs.ReportView.{report_view}
-use Rattle.replay_cli.proofs.WritesInTurn.{writes_then, writes_fault}
+use Rattle.outside_io.proofs.WritesInTurn.{writes_then, writes_fault}
 use Rattle.replay_cli.proofs.report.print_report.Goals as goal
 
 abbrev states : Report → List ℕ
@@ -19,38 +19,38 @@ page_file report = ended (page_file_text (report_view report))
 abbrev processes : Report → List ℕ
 processes report = process_lines 0 (report_view report).processes
 
-pub returns-in_err-print_at-clause-bytes : goal.returns-in_err-print_at-clause-bytes
-returns-in_err-print_at-clause-bytes g c =
+pub returns-in_err-print_at : goal.returns-in_err-print_at
+returns-in_err-print_at g c =
     let p = err_from_is_err_and c.from_residual.result c.from_residual.ensures.1 in
     let report = c.args.report.now in
     let failed = writes_fault (frames c.args.names.now report) (writes_fault (states report) c.in_err-print_at.ensures) in
-    rw p.1 (writes_fault (processes report) (writes_fault (page_file report) failed)).bytes
+    rw (p.1, p.2) (writes_fault (processes report) (writes_fault (page_file report) failed))
 
-pub returns-in_err-print_states-clause-bytes : goal.returns-in_err-print_states-clause-bytes
-returns-in_err-print_states-clause-bytes g c =
+pub returns-in_err-print_states : goal.returns-in_err-print_states
+returns-in_err-print_states g c =
     let p = err_from_is_err_and c.from_residual-in_err-print_states.result c.from_residual-in_err-print_states.ensures.1 in
     let report = c.args.report.now in
     let failed = writes_then {two = states c.args.report.now} c.in_ok-print_at.ensures (rw c.items.ensures at c.in_err-print_states.ensures) in
-    rw p.1 (writes_fault (processes report) (writes_fault (page_file report) (writes_fault (frames c.args.names.now report) failed))).bytes
+    rw (p.1, p.2) (writes_fault (processes report) (writes_fault (page_file report) (writes_fault (frames c.args.names.now report) failed)))
 
-pub returns-in_err-print_frames-clause-bytes : goal.returns-in_err-print_frames-clause-bytes
-returns-in_err-print_frames-clause-bytes g c =
+pub returns-in_err-print_frames : goal.returns-in_err-print_frames
+returns-in_err-print_frames g c =
     let p = err_from_is_err_and c.from_residual-in_err-print_frames.result c.from_residual-in_err-print_frames.ensures.1 in
     let report = c.args.report.now in
     let before = writes_then {two = states c.args.report.now} c.in_ok-print_at.ensures (rw c.items.ensures at c.in_ok-print_states.ensures) in
     let failed = writes_then before (rw c.items-2.ensures at c.in_err-print_frames.ensures) in
-    rw p.1 (writes_fault (processes report) (writes_fault (page_file report) failed)).bytes
+    rw (p.1, p.2) (writes_fault (processes report) (writes_fault (page_file report) failed))
 
-pub returns-in_err-print_page_file-clause-bytes : goal.returns-in_err-print_page_file-clause-bytes
-returns-in_err-print_page_file-clause-bytes g c =
+pub returns-in_err-print_page_file : goal.returns-in_err-print_page_file
+returns-in_err-print_page_file g c =
     let p = err_from_is_err_and c.from_residual-in_err-print_page_file.result c.from_residual-in_err-print_page_file.ensures.1 in
     let first = writes_then {two = states c.args.report.now} c.in_ok-print_at.ensures (rw c.items.ensures at c.in_ok-print_states.ensures) in
     let before = writes_then first (rw c.items-2.ensures at c.in_ok-print_frames.ensures) in
-    rw p.1 (writes_fault (processes c.args.report.now) (writes_then {two = page_file c.args.report.now} before c.in_err-print_page_file.ensures)).bytes
+    rw (p.1, p.2) (writes_fault (processes c.args.report.now) (writes_then {two = page_file c.args.report.now} before c.in_err-print_page_file.ensures))
 
-pub returns-clause-bytes : goal.returns-clause-bytes
-returns-clause-bytes g c =
+pub returns : goal.returns
+returns g c =
     let first = writes_then {two = states c.args.report.now} c.in_ok-print_at.ensures (rw c.items.ensures at c.in_ok-print_states.ensures) in
     let second = writes_then first (rw c.items-2.ensures at c.in_ok-print_frames.ensures) in
     let third = writes_then {two = page_file c.args.report.now} second c.in_ok-print_page_file.ensures in
-    (writes_then third (rw c.items-3.ensures at c.print_processes.ensures)).bytes
+    (writes_then third (rw c.items-3.ensures at c.print_processes.ensures))

@@ -2,10 +2,10 @@ use Rattle.std.proofs.Common.{◌≡◌, ◌++◌, List, ℕ, Result, Err, lengt
 use Rattle.std.proofs.lemmas.Result.{err_from_is_err_and}
 use Rattle.std.specs.List.{flat_map}
 use Rattle.outside_io.specs.declared.whole.WriteFault.{WriteFault}
-use Rattle.outside_io.proofs.WritesInTurn.{writes_then, writes_fault}
+use Rattle.outside_io.proofs.WritesInTurn.{writes_as, writes_then, writes_fault}
 use Rattle.vm_dump.specs.Dumped.{process_of}
 use Rattle.vm_dump.specs.Text.{number, frame_text, process_text}
-use Rattle.vm_dump.proofs.Writing.{writes_as, short_each}
+use Rattle.vm_dump.proofs.Writing.{short_each}
 use Rattle.vm_dump.proofs.write.write_dump.Goals as goal
 
 pub returns-in_err-write_row : goal.returns-in_err-write_row

@@ -1,0 +1,4 @@
+pub mod Ends
+pub mod Concludes
+pub mod FaultText
+pub mod Tells

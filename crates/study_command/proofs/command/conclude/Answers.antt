@@ -1,0 +1,8 @@
+use Rattle.program_ends.proofs.Telling.{concludes_answered, concludes_fault}
+use Rattle.study_command.proofs.command.conclude.Goals as goal
+
+pub returns-in-Ok-clause-outcome : goal.returns-in-Ok-clause-outcome
+returns-in-Ok-clause-outcome g c = concludes_answered c.in-Ok.config c.in-Ok.ensures.text c.in-Ok.ensures.faults c.study_config.ensures
+
+pub returns-in-Err-clause-outcome : goal.returns-in-Err-clause-outcome
+returns-in-Err-clause-outcome g c = concludes_fault c.in-Err.fault c.in-Err.ensures.text c.in-Err.ensures.faults c.end_fault.ensures

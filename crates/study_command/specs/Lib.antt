@@ -1,0 +1,4 @@
+pub mod CommandLine
+pub mod LeastOf
+pub mod StudyText
+pub mod Answered

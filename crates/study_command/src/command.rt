@@ -1,0 +1,97 @@
+ghost use Rattle.std.specs.Prelude.{◌≡◌, ◌≢◌, ◌⊎◌, ◌≤◌, ◌++◌, length};
+ghost use Rattle.outside_io.specs.Causes.{Rose};
+ghost use Rattle.outside_io.specs.Views.{sink_view, source_view};
+ghost use Rattle.vm_types.specs.Configuration.{IsWellFormed};
+ghost use Rattle.program_ends.specs.Concludes.{Concludes, EndsAnswered, HasTold, WasCut};
+ghost use Rattle.program_ends.specs.Ends.{Ends};
+ghost use Rattle.program_ends.specs.Tells.{IsTrace, Tells};
+ghost use Rattle.pager_model.specs.Text.{status_line};
+ghost use Rattle.study_command.specs.StudyText.{IsStudyText, answer_lines};
+
+use crate::answers::{Answers, answers_of};
+use crate::printing::print_answers;
+use crate::words::Study;
+use outside_io::{Sink, Source};
+use program_ends::{Status, end_fault, end_with};
+use std::alloc::Global;
+use trace_reader::{Built, read_trace};
+use vm_types::Config;
+
+// Writes the lines and the status 0.
+fn end_answers<K: Sink>(answers: &Answers, frames: u32, sink: &mut K) -> Status
+    requires { length answers.now.lru.items ≤ 1024 }
+    ensures { Ends (sink_view (K.taken sink.old) (K.faults sink.old) (K.stalls sink.old))
+        (sink_view (K.taken sink.new) (K.faults sink.new) (K.stalls sink.new)) 0
+        (answer_lines answers.now.pages answers.now.distinct frames answers.now.ring answers.now.lru.items
+        answers.now.least.faults answers.now.drops.items answers.now.least.cuts.items ++ status_line 0) result.0 }
+{
+    match print_answers(answers, frames, sink) {
+        Ok(()) => end_with(0, sink),
+        Err(_) => Status(4),
+    }
+}
+
+// Studies a configuration, and writes what there is to say.
+fn study_config<K: Sink>(alloc: Global, config: &Config, study: Study, sink: &mut K) -> Status
+    requires frames { (1 ≤ study.frames) × (study.frames ≤ 1024) }
+    requires formed { IsWellFormed config.now }
+    ensures { EndsAnswered (IsStudyText study config.now) (sink_view (K.taken sink.old) (K.faults sink.old) (K.stalls sink.old))
+        (sink_view (K.taken sink.new) (K.faults sink.new) (K.stalls sink.new)) result.0 }
+{
+    match answers_of(alloc, config, study) {
+        Ok(answers) => end_answers(&answers, study.frames, sink),
+        Err(_) => end_with(7, sink),
+    }
+}
+
+// The outcome of the command.
+fn conclude<S: Source, K: Sink>(alloc: Global, study: Study, source: &mut S, sink: &mut K) -> Status
+    requires { (1 ≤ study.frames) × (study.frames ≤ 1024) }
+    ensures outcome { Concludes (Tells Built.All (IsStudyText study) (source_view (S.left source.old) (S.faults source.old)) (source_view (S.left source.new) (S.faults source.new)))
+        (sink_view (K.taken sink.old) (K.faults sink.old) (K.stalls sink.old)) (sink_view (K.taken sink.new) (K.faults sink.new) (K.stalls sink.new)) result.0 }
+    ensures faults_later { S.faults source.old ≤ S.faults source.new }
+{
+    match read_trace(source, alloc, Built::All) {
+        Ok(config) => study_config(alloc, &config, study, sink),
+        Err(fault) => end_fault(fault, sink),
+    }
+}
+
+/// Reads a trace from the source, runs nothing, and writes to the sink what the references of a process
+/// in its body cost with so many frames: `PAGES` with how many references and how many distinct pages
+/// there are; `RING` with the faults in a working set's ring; an `LRU` for one frame, for two, and so
+/// on, with the faults if the least recently used page is replaced; `LEAST` with the least number of
+/// faults; a `DROP` for each place, from 1, whose page doesn't keep its frame until it is referenced
+/// again; a `CUT` for each place that shows that no schedule has fewer; and the status line. Each line
+/// is one write of a whole text. The status is 0 for a trace, 2 if the input is none, 3 only if a read
+/// failed, 4 only if a write failed or took nothing, 7 if memory ran out.
+///
+/// Takes time as the references times the frames at worst.
+pub fn study_trace<S: Source, K: Sink>(
+    alloc: Global,
+    study: Study,
+    source: &mut S,
+    sink: &mut K,
+) -> Status
+    requires { (1 ≤ study.frames) × (study.frames ≤ 1024) }
+    // A status with the text that goes with it, and how the text was written.
+    ensures outcome { Concludes (Tells Built.All (IsStudyText study) (source_view (S.left source.old) (S.faults source.old)) (source_view (S.left source.new) (S.faults source.new)))
+        (sink_view (K.taken sink.old) (K.faults sink.old) (K.stalls sink.old)) (sink_view (K.taken sink.new) (K.faults sink.new) (K.stalls sink.new)) result.0 }
+    // So with every status but 4 what was written is the text that goes with it, and no count of the
+    // sink changed.
+    ensures told { result.0 ≢ 4 → HasTold (Tells Built.All (IsStudyText study) (source_view (S.left source.old) (S.faults source.old)) (source_view (S.left source.new) (S.faults source.new)))
+        (sink_view (K.taken sink.old) (K.faults sink.old) (K.stalls sink.old)) (sink_view (K.taken sink.new) (K.faults sink.new) (K.stalls sink.new)) result.0 }
+    ensures unfailed { result.0 ≢ 4 → (K.faults sink.new ≡ K.faults sink.old) × (K.stalls sink.new ≡ K.stalls sink.old) }
+    // With status 4 it is a proper prefix of a text that goes with another status.
+    ensures cut { result.0 ≡ 4 → WasCut (Tells Built.All (IsStudyText study) (source_view (S.left source.old) (S.faults source.old)) (source_view (S.left source.new) (S.faults source.new)))
+        (sink_view (K.taken sink.old) (K.faults sink.old) (K.stalls sink.old)) (sink_view (K.taken sink.new) (K.faults sink.new) (K.stalls sink.new)) }
+    ensures read_fault { result.0 ≡ 3 → Rose (S.faults source.old) (S.faults source.new) }
+    ensures write_fault { result.0 ≡ 4 → Rose (K.faults sink.old) (K.faults sink.new) ⊎ Rose (K.stalls sink.old) (K.stalls sink.new) }
+    // If the input is a trace and no count rises, the status is 0, or memory ran out.
+    ensures complete { IsTrace Built.All (source_view (S.left source.old) (S.faults source.old))
+        → (Rose (S.faults source.old) (S.faults source.new) → ⊥) → (Rose (K.faults sink.old) (K.faults sink.new) → ⊥)
+        → (Rose (K.stalls sink.old) (K.stalls sink.new) → ⊥) → (result.0 ≡ 0) ⊎ (result.0 ≡ 7) }
+    ensures faults_later { S.faults source.old ≤ S.faults source.new }
+{
+    conclude(alloc, study, source, sink)
+}
