@@ -1,3 +1,4 @@
+mod Handing
 mod ReadLemmas
 mod WriteLemmas
 pub mod WritesInTurn

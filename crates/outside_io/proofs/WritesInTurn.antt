@@ -6,6 +6,7 @@ use Rattle.std.proofs.KnownBytes.{Appends-nil, Appends-trans}
 use Rattle.std.specs.declared.option.Option.{Option}
 use Rattle.outside_io.specs.declared.whole.WriteFault.{WriteFault}
 use Rattle.outside_io.specs.declared.whole.WriteFault.TheVariants.{Failed, NoneTaken}
+use Rattle.outside_io.specs.Views.{SinkView}
 use Rattle.outside_io.specs.WholeWrite.{TakesText, FaultsBy, stalls_by}
 use Rattle.outside_io.specs.Writes.{Writes}
 
@@ -46,55 +47,55 @@ stalls_fault T U s t Failed first = first
 stalls_fault T U s t NoneTaken first = first
 
 -- the same of all that a write does to a sink
-pub writes_then : {a b c : Option (List ℕ)} {f g h s t u : ℕ} {result : Result (Unit {0}) WriteFault} {one two : List ℕ}
-    → Writes a b f g s t (Ok tt) one → Writes b c g h t u result two → Writes a c f h s u result (one ++ two)
-writes_then {a} {b} {c} {f} {g} {h} {s} {t} {u} {result} {one} {two} first second =
+pub writes_then : {a b c : SinkView} {result : Result (Unit {0}) WriteFault} {one two : List ℕ}
+    → Writes a b (Ok tt) one → Writes b c result two → Writes a c result (one ++ two)
+writes_then {a} {b} {c} {result} {one} {two} first second =
     record {
-      bytes = taken_then {T = Unit {0}} a b c tt result one two first.bytes second.bytes;
+      bytes = taken_then {T = Unit {0}} a.taken b.taken c.taken tt result one two first.bytes second.bytes;
       told = second.told ∙ first.told;
-      faults = faults_then {T = Unit {0}} f g h tt result first.faults second.faults;
-      faults_later = omega (arith, first.faults_later, second.faults_later);
-      stalls = stalls_then {T = Unit {0}} s t u tt result first.stalls second.stalls;
+      failures = faults_then {T = Unit {0}} a.failures b.failures c.failures tt result first.failures second.failures;
+      failures_later = omega (arith, first.failures_later, second.failures_later);
+      stalls = stalls_then {T = Unit {0}} a.stalls b.stalls c.stalls tt result first.stalls second.stalls;
       stalls_later = omega (arith, first.stalls_later, second.stalls_later);
     }
 
-pub writes_fault : {a b : Option (List ℕ)} {f g s t : ℕ} {fault : WriteFault} {one : List ℕ} (two : List ℕ)
-    → Writes a b f g s t (Err fault) one → Writes a b f g s t (Err fault) (one ++ two)
+pub writes_fault : {a b : SinkView} {fault : WriteFault} {one : List ℕ} (two : List ℕ)
+    → Writes a b (Err fault) one → Writes a b (Err fault) (one ++ two)
 writes_fault {a} {b} {fault} {one} two first =
     record {
-      bytes = taken_fault (Unit {0}) (Unit {0}) a b fault one two first.bytes;
+      bytes = taken_fault (Unit {0}) (Unit {0}) a.taken b.taken fault one two first.bytes;
       told = first.told;
-      faults = first.faults;
-      faults_later = first.faults_later;
+      failures = first.failures;
+      failures_later = first.failures_later;
       stalls = first.stalls;
       stalls_later = first.stalls_later;
     }
 
 -- nothing is written
-pub writes_none : (a : Option (List ℕ)) (f s : ℕ) → Writes a a f f s s (Ok tt) []
-writes_none a f s =
+pub writes_none : (a : SinkView) → Writes a a (Ok tt) []
+writes_none a =
     record {
-      bytes = Appends-nil a;
+      bytes = Appends-nil a.taken;
       told = refl;
-      faults = refl;
-      faults_later = omega arith;
+      failures = refl;
+      failures_later = omega arith;
       stalls = refl;
       stalls_later = omega arith;
     }
 
 -- a text was written up to what is left of it
-pub record Progress (old new : Option (List ℕ)) (f f' s s' : ℕ) (whole left : List ℕ) : Type 0 where
+pub record Progress (before now : SinkView) (whole left : List ℕ) : Type 0 where
   pub written : List ℕ
   pub parts : whole ≡ written ++ left
-  pub so_far : Writes old new f f' s s' (Ok tt) written
+  pub so_far : Writes before now (Ok tt) written
 
 -- nothing of it is written yet
-pub progress_none : (a : Option (List ℕ)) (f s : ℕ) (whole : List ℕ) → Progress a a f f s s whole whole
-progress_none a f s whole = record { written = []; parts = refl; so_far = writes_none a f s }
+pub progress_none : (a : SinkView) (whole : List ℕ) → Progress a a whole whole
+progress_none a whole = record { written = []; parts = refl; so_far = writes_none a }
 
 -- its next part is written
-pub progress_more : {a b c : Option (List ℕ)} {f g h s t u : ℕ} {whole left next : List ℕ} (rest : List ℕ) → left ≡ next ++ rest
-    → Progress a b f g s t whole left → Writes b c g h t u (Ok tt) next → Progress a c f h s u whole rest
+pub progress_more : {a b c : SinkView} {whole left next : List ℕ} (rest : List ℕ) → left ≡ next ++ rest
+    → Progress a b whole left → Writes b c (Ok tt) next → Progress a c whole rest
 progress_more {next} rest parts before more =
     record {
       written = before.written ++ next;
@@ -103,13 +104,19 @@ progress_more {next} rest parts before more =
     }
 
 -- the write of its next part failed
-pub progress_fault : {a b c : Option (List ℕ)} {f g h s t u : ℕ} {fault : WriteFault} {whole left next : List ℕ} (rest : List ℕ) → left ≡ next ++ rest
-    → Progress a b f g s t whole left → Writes b c g h t u (Err fault) next → Writes a c f h s u (Err fault) whole
-progress_fault {a} {c} {f} {h} {s} {u} {fault} rest parts before failed =
+pub progress_fault : {a b c : SinkView} {fault : WriteFault} {whole left next : List ℕ} (rest : List ℕ) → left ≡ next ++ rest
+    → Progress a b whole left → Writes b c (Err fault) next → Writes a c (Err fault) whole
+progress_fault {a} {c} {fault} rest parts before failed =
     let all = before.parts ∙ ap (λ left. before.written ++ left) parts in
-    subst (λ text. Writes a c f h s u (Err fault) text) (sym all) (writes_then before.so_far (writes_fault rest failed))
+    subst (λ text. Writes a c (Err fault) text) (sym all) (writes_then before.so_far (writes_fault rest failed))
 
 -- nothing of it is left
-pub progress_all : {a b : Option (List ℕ)} {f g s t : ℕ} {whole : List ℕ} → Progress a b f g s t whole [] → Writes a b f g s t (Ok tt) whole
-progress_all {a} {b} {f} {g} {s} {t} before =
-    subst (λ text. Writes a b f g s t (Ok tt) text) (sym (before.parts ∙ append-nil before.written)) before.so_far
+pub progress_all : {a b : SinkView} {whole : List ℕ} → Progress a b whole [] → Writes a b (Ok tt) whole
+progress_all {a} {b} before =
+    subst (λ text. Writes a b (Ok tt) text) (sym (before.parts ∙ append-nil before.written)) before.so_far
+
+-- the same write, of a text in other words
+pub writes_as : {a b : SinkView} {result other : Result (Unit {0}) WriteFault} {text same : List ℕ}
+    → result ≡ other → same ≡ text → Writes a b other same → Writes a b result text
+writes_as {a} {b} {result} {other} {text} {same} r e w =
+    subst (λ (x : Result (Unit {0}) WriteFault). Writes a b x text) (sym r) (subst (λ (x : List ℕ). Writes a b other x) e w)

@@ -5,3 +5,5 @@ pub mod Listed
 pub mod MemoryInput
 pub mod MemoryOutput
 pub mod Writes
+pub mod Views
+pub mod KeptIsLast

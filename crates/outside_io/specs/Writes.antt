@@ -1,13 +1,14 @@
 -- What the write of a text does to a sink, in one fact. Source: this project's own.
-use Rattle.std.specs.Prelude.{◌≡◌, ℕ, ◌≤◌, List, Option, Result, is_some}
+use Rattle.std.specs.Prelude.{◌≡◌, ℕ, ◌≤◌, List, Result, is_some}
 use Rattle.outside_io.specs.declared.whole.WriteFault.{WriteFault}
+use Rattle.outside_io.specs.Views.{SinkView}
 use Rattle.outside_io.specs.WholeWrite.{TakesText, FaultsBy, stalls_by}
 
--- the bytes taken, the count of faults f and the count of stalls s, before and after, by the answer
-pub record Writes (old new : Option (List ℕ)) (f f' s s' : ℕ) (result : Result (Unit {0}) WriteFault) (text : List ℕ) : Type 0 where
-  pub bytes : TakesText old new result text
-  pub told : is_some new ≡ is_some old
-  pub faults : FaultsBy f f' result
-  pub faults_later : f ≤ f'
-  pub stalls : s' ≡ stalls_by s result
-  pub stalls_later : s ≤ s'
+-- what is seen of the sink before and after, by the answer
+pub record Writes (before after : SinkView) (result : Result (Unit {0}) WriteFault) (text : List ℕ) : Type 0 where
+  pub bytes : TakesText before.taken after.taken result text
+  pub told : is_some after.taken ≡ is_some before.taken
+  pub failures : FaultsBy before.failures after.failures result
+  pub failures_later : before.failures ≤ after.failures
+  pub stalls : after.stalls ≡ stalls_by before.stalls result
+  pub stalls_later : before.stalls ≤ after.stalls

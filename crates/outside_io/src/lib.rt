@@ -9,6 +9,7 @@ mod sink;
 mod source;
 mod std_sink;
 mod std_source;
+mod steady_write;
 mod whole;
 
 pub use memory_sink::MemorySink;
@@ -17,6 +18,7 @@ pub use sink::Sink;
 pub use source::Source;
 pub use std_sink::StdSink;
 pub use std_source::StdSource;
+pub use steady_write::SteadyWrite;
 pub use whole::{WriteFault, write_whole};
 
 #[cfg(test)]

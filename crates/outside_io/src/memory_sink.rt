@@ -1,9 +1,10 @@
 ghost use Rattle.std.specs.Prelude.{◌≡◌, ◌+◌, ◌≤◌, [], min, length, Some, is_err, OnOk, OnErr, IfOk, if◌then◌else◌};
 ghost use Rattle.std.specs.Io.{WritesAtMost};
-ghost use Rattle.std.specs.Io.KnownBytes.{WriteAppends};
+ghost use Rattle.std.specs.Io.KnownBytes.{Keeps, WriteAppends};
 ghost use Rattle.outside_io.specs.Causes.{HasCause, raised};
 ghost use Rattle.outside_io.specs.Stalls.{stalls_after};
 ghost use Rattle.outside_io.specs.Listed.{is_listed};
+ghost use Rattle.outside_io.specs.KeptIsLast.{all_is_handed_on};
 
 use crate::calls::lists;
 use crate::sink::Sink;
@@ -11,7 +12,8 @@ use std::alloc::Global;
 use std::marker::Model;
 use vm_types::{Failed, NoMemory};
 
-/// A sink in memory, for tests: it fails and stalls exactly at given calls, and has a last byte.
+/// A sink in memory, for tests: it fails and stalls exactly at given calls, and has a last byte. It
+/// keeps nothing that a flush would hand on.
 #[derive(Debug, Drop)]
 pub struct MemorySink {
     taken: Vec<u8>,
@@ -35,9 +37,9 @@ impl Model for MemorySink {
 }
 
 impl MemorySink {
-    /// Nothing is taken yet. Of its calls, counted from 1, exactly those in `fails` fail; of the
-    /// others those in `stalls` take nothing, and each other one takes as much of its piece as the
-    /// `room` bytes still hold.
+    /// Nothing is taken yet. Of its calls, writes and flushes, counted from 1, exactly those in
+    /// `fails` fail; of the other writes those in `stalls` take nothing, and each other one takes as
+    /// much of its piece as the `room` bytes still hold.
     ///
     /// # Errors
     /// `NoMemory` for want of memory for `room` bytes.
@@ -72,6 +74,8 @@ impl Sink for MemorySink {
     ghost taken = { λ s. Some s.taken };
 
     ghost faults = { λ s. s.faults };
+
+    ghost kept = { λ _. [] };
 
     ghost stalls = { λ s. s.stalls };
 
@@ -110,4 +114,27 @@ impl Sink for MemorySink {
         }
         Ok(count)
     }
+
+    fn flush(&mut self) -> Result<(), Failed>
+        ensures bytes { Keeps (Some self.old.taken) (Some self.new.taken) }
+        ensures cause { HasCause self.old.faults self.new.faults result }
+        ensures quiet { OnOk result (self.new.faults ≡ self.old.faults) }
+        ensures stalls { self.new.stalls ≡ self.old.stalls }
+
+        ensures room { self.new.room ≡ self.old.room }
+        ensures fails { is_err result ≡ is_listed self.old.fails (raised self.old.calls) }
+        ensures failed { OnErr result (self.new.faults ≡ raised self.old.faults) }
+        ensures calls { self.new.calls ≡ raised self.old.calls }
+        ensures plan { self.new.fails ≡ self.old.fails }
+        ensures idle_plan { self.new.idle ≡ self.old.idle }
+    {
+        self.calls = self.calls.saturating_add(1);
+        if lists(&self.fails, self.calls) {
+            self.faults = self.faults.saturating_add(1);
+            return Err(Failed);
+        }
+        Ok(())
+    }
+
+    ghost kept_is_last = { λ s. all_is_handed_on s.taken };
 }

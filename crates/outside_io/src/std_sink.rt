@@ -1,68 +1,152 @@
-ghost use Rattle.std.specs.Prelude.{◌≡◌, None, OnOk};
-ghost use Rattle.outside_io.specs.Causes.{HasCause};
+ghost use Rattle.std.specs.Prelude.{◌≡◌, ◌≢◌, ◌<◌, ◌≤◌, ◌++◌, [], length, drop, ℕ, is_some, is_err, OnOk, OnErr, IsErr};
+ghost use Rattle.std.specs.Io.{WritesAtMost};
+ghost use Rattle.std.specs.Io.KnownBytes.{Keeps, WriteAppends, append_known};
+ghost use Rattle.outside_io.specs.Causes.{HasCause, raised};
+ghost use Rattle.outside_io.specs.Stalls.{stalls_after};
+ghost use Rattle.outside_io.specs.KeptIsLast.{kept_is_last_known};
 
 use crate::sink::Sink;
-use std::io::Write;
+use crate::steady_write::SteadyWrite;
+use arrayvec::ArrayVec;
+use std::io;
 use vm_types::Failed;
 
-/// One of std's writers as a sink. It doesn't tell the bytes taken.
-#[derive(Debug, Drop)]
-pub struct StdSink<W: Write> {
+/// One of std's writers as a sink, with a buffer of 8192 bytes before it. It tells the bytes taken if
+/// the writer's type does: those that the writer holds, and then those that are kept in the buffer.
+///
+/// Once a call has failed, each later one fails too, and the writer isn't called again. So nothing
+/// is written after a failed write, and dropping the sink writes nothing either.
+#[derive(Drop)]
+pub struct StdSink<W: SteadyWrite> {
     writer: W,
+    buffer: ArrayVec<u8, 8192>,
+    // so many of the buffer's first bytes are handed on
+    done: usize,
     faults: u64,
-    stalls: u64,
+    ghost within: { done ≤ length buffer.items },
 }
 
-impl<W: Write> StdSink<W> {
-    /// No call has failed or stalled yet. Takes no memory.
+impl<W: SteadyWrite> StdSink<W> {
+    /// No call has failed yet, and nothing is kept. Doesn't allocate.
     pub fn new(writer: W) -> StdSink<W>
+        ensures taken { ⟦<StdSink<W> as Sink>⟧.taken result ≡ append_known (W.contents writer) [] }
+        ensures kept { ⟦<StdSink<W> as Sink>⟧.kept result ≡ [] }
         ensures faults { ⟦<StdSink<W> as Sink>⟧.faults result ≡ 0 }
         ensures stalls { ⟦<StdSink<W> as Sink>⟧.stalls result ≡ 0 }
     {
         StdSink {
             writer,
+            buffer: ArrayVec::new(),
+            done: 0,
             faults: 0,
-            stalls: 0,
         }
     }
 
-    /// Hands on what the writer keeps in a buffer. Takes no memory.
-    ///
-    /// # Errors
-    /// `Failed` only where the count of faults rose.
-    pub fn flush(&mut self) -> Result<(), Failed>
-        ensures cause { HasCause (⟦<StdSink<W> as Sink>⟧.faults self.old) (⟦<StdSink<W> as Sink>⟧.faults self.new) result }
-        ensures quiet { OnOk result (⟦<StdSink<W> as Sink>⟧.faults self.new ≡ ⟦<StdSink<W> as Sink>⟧.faults self.old) }
-        ensures stalls { ⟦<StdSink<W> as Sink>⟧.stalls self.new ≡ ⟦<StdSink<W> as Sink>⟧.stalls self.old }
+    // Counts a failed call.
+    fn fail(&mut self) -> Result<(), Failed>
+        ensures err { IsErr result }
+        ensures faults { self.new.faults ≡ raised self.old.faults }
+        ensures writer { self.new.writer ≡ self.old.writer }
+        ensures buffer { self.new.buffer ≡ self.old.buffer }
+        ensures done { self.new.done ≡ self.old.done }
     {
-        match self.writer.flush() {
-            Ok(()) => Ok(()),
-            Err(_) => {
-                self.faults = self.faults.saturating_add(1);
-                Err(Failed)
+        self.faults = self.faults.saturating_add(1);
+        Err(Failed)
+    }
+
+    // Writes all that is kept to the writer. A writer that takes nothing has failed.
+    fn empty_buffer(&mut self) -> Result<(), Failed>
+        ensures bytes { Keeps (append_known (W.contents self.old.writer) (drop self.old.done self.old.buffer.items))
+            (append_known (W.contents self.new.writer) (drop self.new.done self.new.buffer.items)) }
+        ensures empty { OnOk result (self.new.buffer.items ≡ []) }
+        ensures quiet { OnOk result (self.new.faults ≡ self.old.faults) }
+        ensures failed { OnErr result (self.new.faults ≡ raised self.old.faults) }
+        ensures later { self.old.faults ≤ self.new.faults }
+        ensures still { self.old.faults ≢ 0 → self.new.writer ≡ self.old.writer }
+        ensures no_more { self.old.faults ≢ 0 → IsErr result }
+    {
+        if self.faults > 0 {
+            return self.fail();
+        }
+        while self.done < self.buffer.len() {
+            match self.writer.write(&self.buffer.as_slice()[self.done..]) {
+                Ok(count) if count > 0 => self.done += count,
+                _ => return self.fail(),
             }
+        }
+        self.buffer.clear();
+        self.done = 0;
+        Ok(())
+    }
+
+    // The answer of the writer's own flush.
+    fn flushed(&mut self, answer: io::Result<()>) -> Result<(), Failed>
+        ensures same { is_err result ≡ is_err answer }
+        ensures quiet { OnOk result (self.new.faults ≡ self.old.faults) }
+        ensures failed { OnErr result (self.new.faults ≡ raised self.old.faults) }
+        ensures writer { self.new.writer ≡ self.old.writer }
+        ensures buffer { self.new.buffer ≡ self.old.buffer }
+        ensures done { self.new.done ≡ self.old.done }
+    {
+        match answer {
+            Ok(()) => Ok(()),
+            Err(_) => self.fail(),
         }
     }
 }
 
-impl<W: Write> Sink for StdSink<W> {
-    ghost taken = { λ _. None };
+impl<W: SteadyWrite> Sink for StdSink<W> {
+    ghost taken = { λ s. append_known (W.contents s.writer) (drop s.done s.buffer.items) };
+
+    ghost kept = { λ s. drop s.done s.buffer.items };
 
     ghost faults = { λ s. s.faults };
 
-    ghost stalls = { λ s. s.stalls };
+    ghost stalls = { λ _. 0 };
 
-    fn write(&mut self, piece: &[u8]) -> Result<usize, Failed> {
-        match self.writer.write(piece) {
-            Ok(0) if !piece.is_empty() => {
-                self.stalls = self.stalls.saturating_add(1);
-                Ok(0)
-            }
-            Ok(count) => Ok(count),
-            Err(_) => {
-                self.faults = self.faults.saturating_add(1);
-                Err(Failed)
-            }
+    fn write(&mut self, piece: &[u8]) -> Result<usize, Failed>
+        ensures bound { WritesAtMost result piece.now }
+        ensures bytes { WriteAppends (append_known (W.contents self.old.writer) (drop self.old.done self.old.buffer.items))
+            (append_known (W.contents self.new.writer) (drop self.new.done self.new.buffer.items)) result piece.now }
+        ensures told { is_some (append_known (W.contents self.new.writer) (drop self.new.done self.new.buffer.items))
+            ≡ is_some (append_known (W.contents self.old.writer) (drop self.old.done self.old.buffer.items)) }
+        ensures cause { HasCause self.old.faults self.new.faults result }
+        ensures quiet { OnOk result (self.new.faults ≡ self.old.faults) }
+        ensures stalls { 0 ≡ stalls_after 0 result piece.now }
+        ensures stalls_later { 0 ≤ 0 }
+
+        // Once a call has failed, each later one fails and doesn't call the writer.
+        ensures failed { OnErr result (self.new.faults ≡ raised self.old.faults) }
+        ensures no_more { self.old.faults ≢ 0 → IsErr result }
+        ensures still { self.old.faults ≢ 0 → self.new.writer ≡ self.old.writer }
+    {
+        if self.faults > 0 || self.buffer.is_full() {
+            self.empty_buffer()?;
         }
+        let count = piece.len().min(self.buffer.remaining_capacity());
+        let _ = self.buffer.try_extend_from_slice(&piece[..count]);
+        Ok(count)
     }
+
+    fn flush(&mut self) -> Result<(), Failed>
+        ensures bytes { Keeps (append_known (W.contents self.old.writer) (drop self.old.done self.old.buffer.items))
+            (append_known (W.contents self.new.writer) (drop self.new.done self.new.buffer.items)) }
+        ensures told { is_some (append_known (W.contents self.new.writer) (drop self.new.done self.new.buffer.items))
+            ≡ is_some (append_known (W.contents self.old.writer) (drop self.old.done self.old.buffer.items)) }
+        ensures handed_on { OnOk result (drop self.new.done self.new.buffer.items ≡ []) }
+        ensures cause { HasCause self.old.faults self.new.faults result }
+        ensures quiet { OnOk result (self.new.faults ≡ self.old.faults) }
+        ensures stalls { ◌≡◌ {A = ℕ} 0 0 }
+
+        // Once a call has failed, each later one fails and doesn't call the writer.
+        ensures failed { OnErr result (self.new.faults ≡ raised self.old.faults) }
+        ensures no_more { self.old.faults ≢ 0 → IsErr result }
+        ensures still { self.old.faults ≢ 0 → self.new.writer ≡ self.old.writer }
+    {
+        self.empty_buffer()?;
+        let answer = self.writer.flush();
+        self.flushed(answer)
+    }
+
+    ghost kept_is_last = { λ s. kept_is_last_known (W.contents s.writer) (drop s.done s.buffer.items) };
 }

@@ -1,3 +1,5 @@
+ghost use Rattle.std.specs.Prelude.{refl};
+
 use super::*;
 use std::io;
 use std::io::{ErrorKind, Read, Write};
@@ -114,15 +116,76 @@ fn adapts_writers(rt: HostRuntime) -> Result<(), Fail> {
     let mut bytes = Vec::new(rt.alloc());
     let mut sink = StdSink::new(&mut bytes);
     assert_eq!(rt; write_whole(&mut sink, b"ab"), Ok(()));
-    assert_eq!(rt; sink.flush(), Ok(()));
+    assert_eq!(rt; flush(&mut sink), Ok(()));
     assert_eq!(rt; bytes.as_slice(), b"ab".as_slice());
-    // A slice takes what it has room for.
-    let mut room = [0; 3];
-    let mut full = StdSink::new(room.as_mut_slice());
-    assert_eq!(rt; write_whole(&mut full, b"abcd"), Err(WriteFault::NoneTaken));
+    // Dropped without a flush, it has written full buffers alone.
+    let mut bytes = Vec::new(rt.alloc());
+    {
+        let mut sink = StdSink::new(&mut bytes);
+        for _ in 0..1025 {
+            assert_eq!(rt; write_whole(&mut sink, b"01234567"), Ok(()));
+        }
+    }
+    assert_eq!(rt; bytes.len(), 8192);
+    Ok(())
+}
+
+fn flush<K: Sink>(sink: &mut K) -> Result<(), Failed> {
+    sink.flush()
+}
+
+// A writer that takes at most three bytes a call, and fails at its call with the number `fails`.
+#[derive(Drop)]
+struct Drip<'a> {
+    taken: &'a mut Vec<u8>,
+    calls: u32,
+    fails: u32,
+}
+
+impl Write for Drip<'_> {
+    fn write(&mut self, buf: &[u8]) -> io::Result<usize> {
+        self.calls = self.calls.saturating_add(1);
+        if self.calls == self.fails {
+            return Err(ErrorKind::BrokenPipe.into());
+        }
+        self.taken.write(&buf[..buf.len().min(3)])
+    }
+
+    fn flush(&mut self) -> io::Result<()> {
+        Ok(())
+    }
+}
+
+impl SteadyWrite for Drip<'_> {
+    ghost steady = { λ a b. refl };
+}
+
+impl SteadyWrite for Broken {
+    ghost steady = { λ a b. refl };
+}
+
+// The writer's first call takes three bytes and its second fails. After that nothing more is written.
+#[test]
+fn ends_at_a_failed_write(rt: HostRuntime) -> Result<(), Fail> {
+    let mut bytes = Vec::new(rt.alloc());
+    let mut sink = StdSink::new(Drip {
+        taken: &mut bytes,
+        calls: 0,
+        fails: 2,
+    });
+    assert_eq!(rt; write_whole(&mut sink, b"abcdefgh"), Ok(()));
+    assert_eq!(rt; flush(&mut sink), Err(Failed));
+    assert_eq!(rt; write_whole(&mut sink, b"ij"), Err(WriteFault::Failed));
+    assert_eq!(rt; flush(&mut sink), Err(Failed));
+    assert_eq!(rt; bytes.as_slice(), b"abc".as_slice());
+    // One that always fails, and a flush of a sink in memory that fails.
     let mut broken = StdSink::new(Broken);
     assert_eq!(rt; write_whole(&mut broken, b""), Ok(()));
-    assert_eq!(rt; write_whole(&mut broken, b"ab"), Err(WriteFault::Failed));
-    assert_eq!(rt; broken.flush(), Err(Failed));
+    assert_eq!(rt; flush(&mut broken), Err(Failed));
+    let alloc = rt.alloc();
+    let mut memory = MemorySink::new(alloc, 10, [2].to_vec(alloc)?, Vec::new(alloc))?;
+    assert_eq!(rt; write_whole(&mut memory, b"ab"), Ok(()));
+    assert_eq!(rt; flush(&mut memory), Err(Failed));
+    assert_eq!(rt; flush(&mut memory), Ok(()));
     Ok(())
 }

@@ -1,0 +1,5 @@
+mod Copying
+mod Lines
+mod Saying
+mod Telling
+mod Texts

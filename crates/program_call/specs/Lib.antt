@@ -1,0 +1,4 @@
+pub mod Words
+pub mod ProgramTells
+pub mod LastLine
+pub mod Messages

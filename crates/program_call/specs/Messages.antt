@@ -1,0 +1,51 @@
+-- What goes to standard error beside the program's output. Source: this project's own.
+use Rattle.std.specs.Prelude.{◌≡◌, ◌≢◌, ◌⊎◌, ℕ, ◌≤◌, Bool, ◌&&◌, nat_le, List, [], ◌∷◌, ◌++◌, length, take, filter, codes, decimal}
+use Rattle.std.specs.Io.KnownBytes.{Appends}
+use Rattle.outside_io.specs.Causes.{Rose}
+use Rattle.outside_io.specs.Views.{SinkView}
+use Rattle.trace_words.specs.declared.cause.Cause.{Cause}
+use Rattle.trace_words.specs.declared.cause.Cause.TheVariants.{LineTooLong, NotAscii, TooMany, UnknownWord, Misplaced, NoSuch, BadNumber, OutOfRange, Unaligned, Repeated, NotBuilt}
+use Rattle.program_ends.specs.FaultText.{fault_text}
+
+-- beside status 1
+abbrev pub usage_text : List ℕ
+usage_text = codes "usage: neqysbar serial < TRACE\n       neqysbar study --process X --frames K < TRACE\n"
+
+-- the rule that a line breaks, in words
+abbrev pub rule_text : Cause → List ℕ
+rule_text LineTooLong = codes "the line has more than 255 bytes"
+rule_text NotAscii = codes "the line has a byte that is neither a blank, a tab nor a printable character"
+rule_text TooMany = codes "there are more lines, sections, section pages, processes or requests than a trace may have"
+rule_text UnknownWord = codes "a word is none of those that may stand in its place"
+rule_text Misplaced = codes "the line doesn't belong here, or has too many or too few words"
+rule_text NoSuch = codes "a process, section or block is named that no earlier line declares"
+rule_text BadNumber = codes "a word stands in the place of a number and is none"
+rule_text OutOfRange = codes "a number is out of its range, or doesn't fit the other numbers"
+rule_text Unaligned = codes "an address isn't a multiple of the page size or of the width of the reference"
+rule_text Repeated = codes "what the line declares was declared before"
+rule_text NotBuilt = codes "the line is correct, but the program can't run such a trace yet"
+
+abbrev pub is_printable : ℕ → Bool
+is_printable byte = nat_le 32 byte && nat_le byte 126
+
+-- beside a faulty line: its number, the rule and the printable bytes of its text
+abbrev pub fault_message : ℕ → Cause → List ℕ → List ℕ
+fault_message number cause text =
+    codes "neqysbar: line " ++ decimal number ++ codes ": " ++ rule_text cause ++ codes ": " ++ filter is_printable text ++ codes "\n"
+
+-- beside a trace without a faulty line
+abbrev pub unfinished_message : List ℕ
+unfinished_message = codes "neqysbar: the trace ends before its line END\n"
+
+-- the message beside a status, by the last line that was read and the first bytes that were written
+pub data IsMessage (number : ℕ) (text first : List ℕ) : ℕ → List ℕ → Type 0 where
+  usage : IsMessage number text first 1 usage_text
+  faulty : (cause : Cause) (rest : List ℕ) → first ≡ fault_text number cause ++ rest → IsMessage number text first 2 (fault_message number cause text)
+  unfinished : ((cause : Cause) → (rest : List ℕ) → first ≢ fault_text number cause ++ rest) → IsMessage number text first 2 unfinished_message
+  no_message : (status : ℕ) → status ≢ 1 → status ≢ 2 → IsMessage number text first status []
+
+-- a prefix of the message was taken, and the whole unless a call failed or took nothing
+abbrev pub IsSaid : SinkView → SinkView → List ℕ → Type 0
+IsSaid before after message =
+    (n : ℕ) × (n ≤ length message) × Appends before.taken after.taken (take n message)
+    × ((n ≡ length message) ⊎ (Rose before.failures after.failures ⊎ Rose before.stalls after.stalls))

@@ -1,0 +1,23 @@
+//! The whole program but its real ends: the words are copied, the command that they name is run, and
+//! what the output keeps is handed on.
+#![tactic(auto)]
+
+mod arguments;
+mod bytes;
+mod first_bytes;
+mod last_line;
+mod line_source;
+mod messages;
+mod program;
+mod room;
+mod words;
+
+pub use arguments::{Arguments, EnvArguments, ListedArguments};
+pub use bytes::{BytesSink, BytesSource, run_bytes};
+pub use first_bytes::FirstBytes;
+pub use last_line::LastLine;
+pub use line_source::LineSource;
+pub use program::{run_and_explain, run_program};
+
+#[cfg(test)]
+mod tests;

@@ -1,0 +1,121 @@
+use crate::{
+    EnvArguments, FirstBytes, LineSource, ListedArguments, run_and_explain, run_bytes, run_program,
+};
+use outside_io::{MemorySink, MemorySource};
+use program_ends::Status;
+use std::alloc::Global;
+use std::test::Fail;
+use vm_types::NoMemory;
+
+const TRACE: &[u8] = b"VMTRACE 1\nFRAMES 8\nPAGEFILE 4\nPROCESS A 4 4 4 0\nBODY\nEND\n";
+
+const TEXT: &[u8] = b"PFN AT 0\n\
+FREE 8 MODIFIED 0 BAD 0 RELEASE 0 READERROR 0 WRITING 0 READING 0 ACTIVE 0\n\
+PAGEFILE 4 CHARGED 0 ASSIGNED 0\n\
+PROCESS A RESIDENT COUNT 0 LIMIT 4\n\
+STATUS 0\n";
+
+// What the program answers and writes, if the output's calls of these numbers fail.
+fn outcome(alloc: Global, words: &[&[u8]], fails: &[u32]) -> Result<(Status, Vec<u8>), NoMemory> {
+    let mut arguments = ListedArguments::new(words);
+    let mut source = MemorySource::new(Vec::from_slice(alloc, TRACE)?, Vec::new(alloc));
+    let fails = Vec::from_slice(alloc, fails)?;
+    let mut output = MemorySink::new(alloc, 1000, fails, Vec::new(alloc))?;
+    let status = run_program(alloc, &mut arguments, &mut source, &mut output);
+    Ok((status, Vec::from_slice(alloc, output.taken())?))
+}
+
+// The words, the failing calls of the output, the status and the text. Five lines are five writes,
+// and the sixth call is the flush.
+#[test]
+fn runs_the_words(rt: HostRuntime) -> Result<(), Fail> {
+    let cut = b"PFN AT 0\n".as_slice();
+    let usage = b"STATUS 1\n".as_slice();
+    let table: [(&[&[u8]], &[u32], u8, &[u8]); 7] = [
+        (&[b"neqysbar", b"serial"], &[], 0, TEXT),
+        (&[b"\xFF\xFE", b"serial"], &[], 0, TEXT),
+        (&[b"neqysbar", b"serial", b"x"], &[], 1, usage),
+        (&[b"neqysbar", b"serial", b"\xFF"], &[], 1, usage),
+        (&[], &[], 1, usage),
+        (&[b"neqysbar", b"serial"], &[6], 4, TEXT),
+        (&[b"neqysbar", b"serial"], &[2], 4, cut),
+    ];
+    for (words, fails, status, text) in table {
+        let told = outcome(rt.alloc(), words, fails)?;
+        assert_eq!(rt; told.0, Status(status));
+        assert_eq!(rt; told.1.as_slice(), text);
+    }
+    Ok(())
+}
+
+#[test]
+fn runs_bytes(rt: HostRuntime) -> Result<(), Fail> {
+    let told = run_bytes(rt.alloc(), &["serial"], TRACE)?;
+    assert_eq!(rt; told.0, Status(0));
+    assert_eq!(rt; told.1.as_slice(), TEXT);
+    Ok(())
+}
+
+// The test's own command line has no word that is a command.
+#[test]
+fn takes_the_words_of_the_process(rt: HostRuntime) -> Result<(), Fail> {
+    let alloc = rt.alloc();
+    let mut arguments = EnvArguments::new(&rt);
+    let mut source = MemorySource::new(Vec::from_slice(alloc, TRACE)?, Vec::new(alloc));
+    let mut output = MemorySink::new(alloc, 1000, Vec::new(alloc), Vec::new(alloc))?;
+    let status = run_program(alloc, &mut arguments, &mut source, &mut output);
+    assert_eq!(rt; status, Status(1));
+    Ok(())
+}
+
+// The words, the trace, the status and the message.
+#[test]
+fn explains(rt: HostRuntime) -> Result<(), Fail> {
+    let alloc = rt.alloc();
+    let name = b"neqysbar".as_slice();
+    let command = b"serial".as_slice();
+    let usage =
+        b"usage: neqysbar serial < TRACE\n       neqysbar study --process X --frames K < TRACE\n".as_slice();
+    let table: [(&[&[u8]], &[u8], u8, &[u8]); 5] = [
+        (&[name, command], TRACE, 0, b""),
+        (&[name], TRACE, 1, usage),
+        (
+            &[name, command],
+            b"VMTRACE 1\n! a remark\nFRAMES\x01 8\nFRAMES 8\n",
+            2,
+            b"neqysbar: line 3: the line has a byte that is neither a blank, a tab nor a printable character: FRAMES 8\n",
+        ),
+        (
+            &[name, command],
+            b"VMTRACE 1\nFRAMES 8\n",
+            2,
+            b"neqysbar: the trace ends before its line END\n",
+        ),
+        (
+            &[name, command],
+            b"VMTRACE 2",
+            2,
+            b"neqysbar: line 1: a number is out of its range, or doesn't fit the other numbers: VMTRACE 2\n",
+        ),
+    ];
+    for (words, trace, status, message) in table {
+        let mut arguments = ListedArguments::new(words);
+        let mut source = LineSource::new(MemorySource::new(
+            Vec::from_slice(alloc, trace)?,
+            Vec::new(alloc),
+        ));
+        let output = MemorySink::new(alloc, 1000, Vec::new(alloc), Vec::new(alloc))?;
+        let mut output = FirstBytes::new(output);
+        let mut messages = MemorySink::new(alloc, 1000, Vec::new(alloc), Vec::new(alloc))?;
+        let ended = run_and_explain(
+            alloc,
+            &mut arguments,
+            &mut source,
+            &mut output,
+            &mut messages,
+        );
+        assert_eq!(rt; ended, Status(status));
+        assert_eq!(rt; messages.taken(), message);
+    }
+    Ok(())
+}
