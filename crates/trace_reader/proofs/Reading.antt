@@ -3,7 +3,7 @@ use Rattle.std.proofs.Common.{◌≡◌, ◌≢◌, ℕ, ◌+◌, ◌-◌, ◌�
 use Rattle.std.specs.Prelude.{IfSome}
 use Rattle.std.specs.List.{copy_within}
 use Rattle.std.specs.Io.KnownBytes.{Keeps, Consumes, IsAtEnd}
-use Rattle.std.proofs.lemmas.List.{append-nil, take_at, drop-take, length-drop, length-take-le}
+use Rattle.std.proofs.lemmas.List.{append-nil, take_at, drop-take, length-append, length-drop, length-take-le}
 use Rattle.std.proofs.lemmas.List.Elements.{All-nil}
 use Rattle.std.proofs.Math.Seq.{take-add}
 use Rattle.vm_types.specs.declared.config.Config.{Config}
@@ -13,7 +13,7 @@ use Rattle.trace_lines.specs.Seen.{IsSeen}
 use Rattle.trace_reader.specs.declared.draft.Draft.{Draft}
 use Rattle.trace_reader.specs.declared.fault.TraceFault.{TraceFault}
 use Rattle.trace_reader.specs.declared.fault.TraceFault.TheVariants as fault
-use Rattle.trace_reader.specs.Answer.{Answers, HasShown, IsRightSoFar}
+use Rattle.trace_reader.specs.Answer.{Answers, IsTaken, HasShown, IsRightSoFar}
 use Rattle.trace_reader.specs.Changes.{start}
 use Rattle.trace_reader.specs.Drafts.{IsDraft}
 use Rattle.trace_reader.specs.Meaning.{at_end, judge, trace_of, shows_no_fault}
@@ -24,7 +24,7 @@ use Rattle.trace_reader.proofs.Splitting.{lines_none}
 
 -- between two reads: whole lines were taken, and the buffer begins with a part of the next one
 pub record IsBetween (built : Built) (text left : Option (List ℕ)) (buffer : List ℕ) (held : Draft) (number count : ℕ) : Type 0 where
-  pub room : 256 ≤ length buffer
+  pub room : length buffer ≡ 8192
   pub few : count ≤ 255
   pub reading : IsReading built held number
   pub one_line : All (λ b. b ≢ 10) (take count buffer)
@@ -34,7 +34,7 @@ held_first : (built : Built) (told : Option (List ℕ)) → IfSome told (λ t. I
 held_first built None = tt
 held_first built (Some text) = record { done = []; split = record { rest = text; whole = refl; left_over = refl }; follows = follows_same built start 1 [] }
 
-pub from_start : (built : Built) (told : Option (List ℕ)) (buffer : List ℕ) (held : Draft) (number : ℕ) → 256 ≤ length buffer → held.part ≡ start → number ≡ 1 → IsSeen held.seen held.part.config → IsBetween built told told buffer held number 0
+pub from_start : (built : Built) (told : Option (List ℕ)) (buffer : List ℕ) (held : Draft) (number : ℕ) → length buffer ≡ 8192 → held.part ≡ start → number ≡ 1 → IsSeen held.seen held.part.config → IsBetween built told told buffer held number 0
 from_start built told buffer held number room p n seen = record {
   room = room;
   few = lit≤ tt;
@@ -60,7 +60,7 @@ open_answer built None left new pending part number other few h k = tt
 open_answer built (Some text) left new pending part number other few h k =
     (h.done ++ pending, record { rest = h.split.rest; whole = h.split.whole; left_over = kept left new h.split.rest h.split.left_over k }, no_fault built h.done pending part number other few h.follows)
 
-length_held : (count : ℕ) (buffer : List ℕ) → count ≤ 255 → 256 ≤ length buffer → length (take count buffer) ≡ count
+length_held : (count : ℕ) (buffer : List ℕ) → count ≤ 255 → length buffer ≡ 8192 → length (take count buffer) ≡ count
 length_held count buffer few room = length-take-le count buffer (omega arith)
 
 pub read_failed : (built : Built) (told left new : Option (List ℕ)) (buffer : List ℕ) (held : Draft) (number count : ℕ)
@@ -88,11 +88,18 @@ meaning_at_end built text done pending rest part number whole none other follows
 all_taken : (built : Built) (text : List ℕ) (new : Option (List ℕ)) → new ≡ Some [] → HasShown built text new
 all_taken built text new none = record { taken = text; split = record { rest = []; whole = sym (append-nil text); left_over = none }; shown = inr none }
 
-right_until : (built : Built) (text done pending rest : List ℕ) (part : Part) (number : ℕ) → text ≡ (done ++ pending) ++ rest → All (λ b. b ≢ 10) pending → length pending ≤ 255 → Follows built start 1 done part number [] → IsRightSoFar built text
-right_until built text done pending rest part number whole other few follows = record { front = done ++ pending; rest = rest; whole = whole; right = no_fault built done pending part number other few follows }
+right_until : (built : Built) (text done pending rest : List ℕ) (part : Part) (number : ℕ) (new : Option (List ℕ)) → text ≡ (done ++ pending) ++ rest → rest ≡ [] → new ≡ Some [] → All (λ b. b ≢ 10) pending → length pending ≤ 255
+    → Follows built start 1 done part number [] → IsRightSoFar built text new
+right_until built text done pending rest part number new whole none over other few follows = record {
+  judged = done ++ pending;
+  piece = [];
+  split = record { rest = []; whole = whole ∙ ap (λ (r : List ℕ). (done ++ pending) ++ r) none ∙ ap (λ (t : List ℕ). t ++ []) (sym (append-nil (done ++ pending))); left_over = over };
+  few = lit≤ tt;
+  right = no_fault built done pending part number other few follows;
+}
 
 answers_from : (built : Built) (result : Result Config TraceFault) (text done pending rest : List ℕ) (part : Part) (number : ℕ) (new : Option (List ℕ)) → trace_of built text ≡ at_end built number part pending → new ≡ Some []
-    → IsRightSoFar built text → Means built number part pending result (at_end built number part pending) → Answers built result text new
+    → IsRightSoFar built text new → Means built number part pending result (at_end built number part pending) → Answers built result text new
 answers_from built (Ok config) text done pending rest part number new e none right m = (e ∙ m, none)
 answers_from built (Err fault.NoMemory) text done pending rest part number new e none right m = right
 answers_from built (Err fault.ReadFault) text done pending rest part number new e none right m = absurd m
@@ -106,7 +113,7 @@ end_answer built result None left new pending bytes part number other few h none
 end_answer built result (Some text) left new pending bytes part number other few h none c at m =
     let over = ended left new h.split.rest bytes h.split.left_over none c at in
     answers_from built result text h.done pending h.split.rest part number new (meaning_at_end built text h.done pending h.split.rest part number h.split.whole over.0 other h.follows) over.1
-    (right_until built text h.done pending h.split.rest part number h.split.whole other few h.follows) m
+    (right_until built text h.done pending h.split.rest part number new h.split.whole over.0 over.1 other few h.follows) m
 
 take_none : (n : ℕ) (xs : List ℕ) → n ≡ 0 → take n xs ≡ []
 take_none n xs e = ap (λ (k : ℕ). take k xs) e
@@ -149,24 +156,26 @@ came built told left new buffer filled held number count more b same c =
 
 -- a line of the piece is at fault
 
-right_so_far : (built : Built) (text done piece rest : List ℕ) (part : Part) (number : ℕ) → text ≡ (done ++ piece) ++ rest → Follows built start 1 done part number [] → IsOpenFront built part number piece → IsRightSoFar built text
-right_so_far built text done piece rest part number whole follows o = record {
-  front = done ++ o.front;
-  rest = o.rest ++ rest;
-  whole = whole ∙ ap (λ (p : List ℕ). (done ++ p) ++ rest) o.whole ∙ ap (λ (p : List ℕ). p ++ rest) (sym (append_assoc done o.front o.rest)) ∙ append_assoc (done ++ o.front) o.rest rest;
+right_so_far : (built : Built) (text done piece : List ℕ) (part : Part) (number : ℕ) (new : Option (List ℕ)) → IsTaken text (done ++ piece) new → length piece ≤ 8192 → Follows built start 1 done part number []
+    → IsOpenFront built part number piece → IsRightSoFar built text new
+right_so_far built text done piece part number new split few follows o = record {
+  judged = done ++ o.front;
+  piece = o.rest;
+  split = subst (λ (t : List ℕ). IsTaken text t new) (ap (λ (p : List ℕ). done ++ p) o.whole ∙ sym (append_assoc done o.front o.rest)) split;
+  few = omega (arith, length-append o.front o.rest, ap (length {A = ℕ}) o.whole);
   right = follows.opened o.front ∙ o.opened;
 }
 
-pub piece_fault : (built : Built) (told new : Option (List ℕ)) (piece : List ℕ) (part : Part) (number : ℕ) (f : TraceFault)
+pub piece_fault : (built : Built) (told new : Option (List ℕ)) (piece : List ℕ) (part : Part) (number : ℕ) (f : TraceFault) → length piece ≤ 8192
     → IfSome told (λ t. IsHeld built t new part number piece) → IsAtFault built part number piece f → IfSome told (λ t. Answers built (Err f) t new)
-piece_fault built None new piece part number f h a = tt
-piece_fault built (Some text) new piece part number fault.NoMemory h a = right_so_far built text h.done piece h.split.rest part number h.split.whole h.follows a
-piece_fault built (Some text) new piece part number fault.ReadFault h a = absurd a
-piece_fault built (Some text) new piece part number (fault.Line n cause) h a = (
+piece_fault built None new piece part number f few h a = tt
+piece_fault built (Some text) new piece part number fault.NoMemory few h a = right_so_far built text h.done piece part number new h.split few h.follows a
+piece_fault built (Some text) new piece part number fault.ReadFault few h a = absurd a
+piece_fault built (Some text) new piece part number (fault.Line n cause) few h a = (
   ap (trace_of built) (h.split.whole ∙ append_assoc h.done piece h.split.rest) ∙ h.follows.judged (piece ++ h.split.rest) ∙ a.0 h.split.rest,
   record { taken = h.done ++ piece; split = h.split; shown = inl (h.follows.opened piece ∙ a.1) },
 )
-piece_fault built (Some text) new piece part number fault.Unfinished h a = absurd a
+piece_fault built (Some text) new piece part number fault.Unfinished few h a = absurd a
 
 -- the whole lines of the piece were taken
 
@@ -181,7 +190,7 @@ held_then built (Some text) new piece front rest part next number after h split 
 
 pub went_on : (built : Built) (told new : Option (List ℕ)) (piece buffer : List ℕ) (part : Part) (next : Draft) (number after count : ℕ)
     → IfSome told (λ t. IsHeld built t new part number piece) → IsPieceTaken built part number piece next after count
-    → 256 ≤ length buffer → take count buffer ≡ drop (length piece - count) piece → IsBetween built told new buffer next after count
+    → length buffer ≡ 8192 → take count buffer ≡ drop (length piece - count) piece → IsBetween built told new buffer next after count
 went_on built told new piece buffer part next number after count h p room same = record {
   room = room;
   few = p.few;

@@ -1,5 +1,5 @@
 -- What an answer of the reader says. Source: this project's own.
-use Rattle.std.specs.Prelude.{◌≡◌, ◌⊎◌, ℕ, true, false, List, [], ◌++◌, Option, Some, Result, Ok, Err}
+use Rattle.std.specs.Prelude.{◌≡◌, ◌⊎◌, ℕ, ◌≤◌, true, false, List, [], ◌++◌, length, Option, Some, Result, Ok, Err}
 use Rattle.vm_types.specs.declared.config.Config.{Config}
 use Rattle.outside_io.specs.Causes.{Rose}
 use Rattle.trace_lines.specs.declared.built.Built.{Built}
@@ -20,12 +20,14 @@ pub record HasShown (built : Built) (text : List ℕ) (left : Option (List ℕ))
   pub split : IsTaken text taken left
   pub shown : (shows_no_fault built taken ≡ false) ⊎ (left ≡ Some [])
 
--- no line that was judged is at fault
-pub record IsRightSoFar (built : Built) (text : List ℕ) : Type 0 where
-  pub front : List ℕ
-  pub rest : List ℕ
-  pub whole : text ≡ front ++ rest
-  pub right : shows_no_fault built front ≡ true
+-- no line that was judged is at fault: the bytes taken show none, but for the last 8192 at most, which
+-- came in one piece
+pub record IsRightSoFar (built : Built) (text : List ℕ) (left : Option (List ℕ)) : Type 0 where
+  pub judged : List ℕ
+  pub piece : List ℕ
+  pub split : IsTaken text (judged ++ piece) left
+  pub few : length piece ≤ 8192
+  pub right : shows_no_fault built judged ≡ true
 
 -- what the answer says of the whole text, and of what is left of it
 abbrev pub Answers : Built → Result Config TraceFault → List ℕ → Option (List ℕ) → Type 0
@@ -33,7 +35,7 @@ Answers built (Ok config) text left = (trace_of built text ≡ Configuration con
 Answers built (Err (Line n cause)) text left = (trace_of built text ≡ Faulty n cause) × HasShown built text left
 Answers built (Err Unfinished) text left = (trace_of built text ≡ meaning.Unfinished) × (left ≡ Some [])
 Answers built (Err ReadFault) text left = (taken : List ℕ) × IsTaken text taken left × (shows_no_fault built taken ≡ true)
-Answers built (Err NoMemory) text left = IsRightSoFar built text
+Answers built (Err NoMemory) text left = IsRightSoFar built text left
 
 -- the count of failures rose at `ReadFault`, and is else unchanged
 abbrev pub FaultsBy : Result Config TraceFault → ℕ → ℕ → Type 0

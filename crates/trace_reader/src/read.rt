@@ -27,7 +27,8 @@ const ROOM: usize = 8192;
 /// `Line` is the first faulty line with the first rule that it breaks, as soon as the bytes taken
 /// show it: at its end, or at its 256th byte. `Unfinished` if the text ends without a faulty line and
 /// without `END`. `ReadFault` only if the source's count of failures rose, and no line taken before is
-/// at fault. `NoMemory` if memory ran out; no line that was judged is at fault then.
+/// at fault. `NoMemory` if memory ran out; no line that was judged is at fault then: the bytes taken
+/// show no fault, but for those of the last piece, at most 8192.
 pub fn read_trace<S: Source>(
     source: &mut S,
     alloc: Global,
@@ -58,7 +59,7 @@ fn read_pieces<S: Source>(
     requires start { reader.draft.part ≡ start }
     requires first { reader.number ≡ 1 }
     requires seen { IsSeen reader.draft.seen reader.draft.part.config }
-    requires room { 256 ≤ length buffer.old }
+    requires room { length buffer.old ≡ 8192 }
     ensures accepted { IfOk result (IsRead reader.built) }
     ensures text { IfSome (S.left source.old) (λ text. Answers reader.built result text (S.left source.new)) }
     ensures told { IsSome (S.left source.old) → IsSome (S.left source.new) }

@@ -5,8 +5,8 @@ use outside_io::{MemorySource, Source};
 use std::alloc::{AllocError, Global};
 use std::test::Fail;
 use vm_types::{
-    Addr, BlockId, Failed, Mapping, Mode, Op, Origin, Proc, ProcSpec, Ref, Request, SecId, Service,
-    Task, Width,
+    Addr, BlockId, Failed, Mapping, Mode, Op, Origin, Params, Proc, ProcSpec, Ref, Request, SecId,
+    Service, Task, Width,
 };
 
 // The machine and one process.
@@ -181,27 +181,11 @@ fn finds_the_faults_of_the_worked_row(rt: HostRuntime) -> Result<(), Fail> {
 #[test]
 fn judges_each_kind_of_declaration(rt: HostRuntime) -> Result<(), Fail> {
     let alloc = rt.alloc();
-    let table: [(&[u8], Option<Cause>); 66] = [
-        (b"PARAM PFC 1", None),
-        (b"PARAM PFC 9", Some(Cause::OutOfRange)),
+    let table: [(&[u8], Option<Cause>); 50] = [
         (b"PARAM PFC 0", Some(Cause::OutOfRange)),
-        (b"PARAM HILIMIT 16384", None),
-        (b"PARAM HILIMIT 16385", Some(Cause::OutOfRange)),
-        (b"PARAM LOLIMIT 16385", Some(Cause::OutOfRange)),
         (b"PARAM WAITLIMIT 0", Some(Cause::OutOfRange)),
-        (b"PARAM WAITLIMIT 16385", Some(Cause::OutOfRange)),
-        (b"PARAM WRTCLUSTER 17", Some(Cause::OutOfRange)),
-        (b"PARAM FREELIM 4097", Some(Cause::OutOfRange)),
-        (b"PARAM FREEGOAL 4097", Some(Cause::OutOfRange)),
-        (b"PARAM AWSTIME 100000", None),
-        (b"PARAM AWSTIME 100001", Some(Cause::OutOfRange)),
-        (b"PARAM PFRATH 100001", Some(Cause::OutOfRange)),
-        (b"PARAM PFRATL 100001", Some(Cause::OutOfRange)),
-        (b"PARAM WSINC 1025", Some(Cause::OutOfRange)),
-        (b"PARAM WSDEC 1025", Some(Cause::OutOfRange)),
+        (b"PARAM WRTCLUSTER 0", Some(Cause::OutOfRange)),
         (b"PARAM AWSMIN 1", Some(Cause::OutOfRange)),
-        (b"PARAM AWSMIN 1025", Some(Cause::OutOfRange)),
-        (b"PARAM BORROWLIM 4097", Some(Cause::OutOfRange)),
         (b"PARAM pfc 1", Some(Cause::UnknownWord)),
         (b"PARAM PFC", Some(Cause::Misplaced)),
         (b"BAD 7", None),
@@ -262,10 +246,105 @@ fn judges_each_kind_of_declaration(rt: HostRuntime) -> Result<(), Fail> {
     Ok(())
 }
 
+// Each parameter: its least and its greatest value, and one above it.
+#[test]
+fn bounds_each_parameter(rt: HostRuntime) -> Result<(), Fail> {
+    let alloc = rt.alloc();
+    let table: [(&[u8], &[u8], &[u8], &[u8]); 14] = [
+        (b"PARAM PFC ", b"1", b"8", b"9"),
+        (b"PARAM HILIMIT ", b"0", b"16384", b"16385"),
+        (b"PARAM LOLIMIT ", b"0", b"16384", b"16385"),
+        (b"PARAM WAITLIMIT ", b"1", b"16384", b"16385"),
+        (b"PARAM WRTCLUSTER ", b"1", b"16", b"17"),
+        (b"PARAM FREELIM ", b"0", b"4096", b"4097"),
+        (b"PARAM FREEGOAL ", b"0", b"4096", b"4097"),
+        (b"PARAM AWSTIME ", b"0", b"100000", b"100001"),
+        (b"PARAM PFRATH ", b"0", b"100000", b"100001"),
+        (b"PARAM PFRATL ", b"0", b"100000", b"100001"),
+        (b"PARAM WSINC ", b"0", b"1024", b"1025"),
+        (b"PARAM WSDEC ", b"0", b"1024", b"1025"),
+        (b"PARAM AWSMIN ", b"2", b"1024", b"1025"),
+        (b"PARAM BORROWLIM ", b"0", b"4096", b"4097"),
+    ];
+    let right = Some(TraceFault::Unfinished);
+    for (name, least, most, above) in table {
+        let head = joined(alloc, HEAD, name)?;
+        assert_eq!(rt; fault(&rt, alloc, head.as_slice(), least)?, right);
+        assert_eq!(rt; fault(&rt, alloc, head.as_slice(), most)?, right);
+        let answer = fault(&rt, alloc, head.as_slice(), above)?;
+        assert_eq!(rt; answer, line(5, Cause::OutOfRange));
+    }
+    Ok(())
+}
+
+#[test]
+fn gives_the_defaults(rt: HostRuntime) -> Result<(), Fail> {
+    let alloc = rt.alloc();
+    let text = joined(alloc, HEAD, b"BODY\nEND")?;
+    let mut source = MemorySource::new(text, Vec::new(alloc));
+    let config = read_trace(&mut source, alloc, Built::All)
+        .ok()
+        .ok_or("a trace")?;
+    let defaults = Params {
+        pfc: 4,
+        hilimit: 128,
+        lolimit: 32,
+        waitlimit: 256,
+        wrtcluster: 8,
+        freelim: 0,
+        freegoal: 0,
+        awstime: 0,
+        pfrath: 16,
+        pfratl: 2,
+        wsinc: 8,
+        wsdec: 4,
+        awsmin: 4,
+        borrowlim: 16,
+    };
+    assert_eq!(rt; config.params, defaults);
+    Ok(())
+}
+
+// The most sections, section pages and processes, and the longest line.
+#[test]
+fn counts_sections_processes_and_bytes(rt: HostRuntime) -> Result<(), Fail> {
+    let alloc = rt.alloc();
+    let right = Some(TraceFault::Unfinished);
+    let mut sections = joined(alloc, HEAD, b"")?;
+    for n in 0..64u8 {
+        sections.extend_from_slice(b"SECTION A")?;
+        sections.push(b'0' + n / 10)?;
+        sections.push(b'0' + n % 10)?;
+        sections.extend_from_slice(b" CRF 1\n")?;
+    }
+    assert_eq!(rt; fault(&rt, alloc, sections.as_slice(), b"")?, right);
+    let answer = fault(&rt, alloc, sections.as_slice(), b"SECTION LIB CRF 1")?;
+    assert_eq!(rt; answer, line(69, Cause::TooMany));
+    let pages = b"SECTION A1 CRF 16383\nSECTION A2 CRF 1";
+    assert_eq!(rt; fault(&rt, alloc, HEAD, pages)?, right);
+    let pages = b"SECTION A1 CRF 16383\nSECTION A2 CRF 2";
+    assert_eq!(rt; fault(&rt, alloc, HEAD, pages)?, line(6, Cause::TooMany));
+    let mut processes = joined(alloc, HEAD, b"")?;
+    for n in 1..16u8 {
+        processes.extend_from_slice(b"PROCESS ")?;
+        processes.push(b'A' + n)?;
+        processes.extend_from_slice(b" 2 2 2 0\n")?;
+    }
+    assert_eq!(rt; fault(&rt, alloc, processes.as_slice(), b"")?, right);
+    let answer = fault(&rt, alloc, processes.as_slice(), b"PROCESS Q 2 2 2 0")?;
+    assert_eq!(rt; answer, line(20, Cause::TooMany));
+    let full = joined(alloc, &[b'!'; 254], b"\r\n")?;
+    assert_eq!(rt; fault(&rt, alloc, HEAD, full.as_slice())?, right);
+    let long = joined(alloc, &[b'!'; 255], b"\r\n")?;
+    let answer = fault(&rt, alloc, HEAD, long.as_slice())?;
+    assert_eq!(rt; answer, line(5, Cause::LineTooLong));
+    Ok(())
+}
+
 #[test]
 fn judges_headers_and_repetitions(rt: HostRuntime) -> Result<(), Fail> {
     let alloc = rt.alloc();
-    let table: [(&[u8], Option<TraceFault>); 22] = [
+    let table: [(&[u8], Option<TraceFault>); 26] = [
         (b"VMTRACE 2", line(1, Cause::OutOfRange)),
         (b"FRAMES 8", line(1, Cause::Misplaced)),
         (b"VMTRACE 1\nFRAMES 7", line(2, Cause::OutOfRange)),
@@ -326,6 +405,22 @@ fn judges_headers_and_repetitions(rt: HostRuntime) -> Result<(), Fail> {
         (
             b"VMTRACE 1\nFRAMES 8\nPAGEFILE 1\nSECTION AB CRF 1\nDATA AB 511 0000",
             line(5, Cause::OutOfRange),
+        ),
+        (
+            b"VMTRACE 1\nFRAMES 8\nPAGEFILE 1\nPROCESS A 2 2 6 0\nPARAM WAITLIMIT 127\nBODY",
+            line(6, Cause::OutOfRange),
+        ),
+        (
+            b"VMTRACE 1\nFRAMES 8\nPAGEFILE 1\nSECTION AB CRF 1\nFAIL S:AB/1 1",
+            line(5, Cause::NoSuch),
+        ),
+        (
+            b"VMTRACE 1\nFRAMES 8\nPAGEFILE 1\nSECTION AB CRF 1\nPROCESS A 2 2 6 0\nMAPSEC A 0 1 AB 1 UW",
+            line(6, Cause::OutOfRange),
+        ),
+        (
+            b"VMTRACE 1\nFRAMES 8\nPAGEFILE 1\nSECTION AB CRF 1\nPROCESS A 2 2 6 0\nMAPSEC A 0 2 AB 0 UW",
+            line(6, Cause::OutOfRange),
         ),
     ];
     for (text, answer) in table {

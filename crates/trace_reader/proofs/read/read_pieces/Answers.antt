@@ -1,4 +1,4 @@
-use Rattle.std.proofs.Common.{◌≡◌, ◌∙◌, ◌+◌, ◌-◌, ℕ, Err, refl, sym, ap, subst, length, take, drop, arith}
+use Rattle.std.proofs.Common.{◌≡◌, ◌∙◌, ◌+◌, ◌-◌, ◌≤◌, ℕ, Err, refl, sym, ap, subst, length, take, drop, arith}
 use Rattle.std.proofs.lemmas.List.{length-take-le}
 use Rattle.trace_lines.specs.declared.built.Built.{Built}
 use Rattle.trace_reader.specs.declared.fault.TraceFault.{TraceFault}
@@ -33,9 +33,11 @@ returns-in_err-held-clause-text g c =
     let held = came c.args.reader.built (g.S.Source.left c.args.source.now) (g.S.Source.left c.loop-count.source) (g.S.Source.left c.fill.new.source)
     c.loop-count.buffer c.fill.new.buffer c.loop-count.reader.draft c.loop-count.reader.number c.loop-count.held c.in-Ok.count c.loop-count.invariant.between
     c.in-Ok.ensures.kept c.in-Ok.ensures.bytes in
+    let room : length c.loop-count.buffer ≡ 8192 = c.loop-count.invariant.between.room in
+    let few : length (take (c.loop-count.held + c.in-Ok.count) c.fill.new.buffer) ≤ 8192 = rw (length-take-le (c.loop-count.held + c.in-Ok.count) c.fill.new.buffer (omega (arith, c.in-Ok.ensures.bound))) (omega (arith, c.in-Ok.ensures.bound)) in
     answers_along c.args.reader.built (g.S.Source.left c.args.source.now) (g.S.Source.left c.fill.new.source) c.from_residual.result (Err c.in_err-held.field-0.0) (p.1 ∙ ap (λ (f : TraceFault). Err f) p.2)
     (piece_fault c.args.reader.built (g.S.Source.left c.args.source.now) (g.S.Source.left c.fill.new.source) (take (c.loop-count.held + c.in-Ok.count) c.fill.new.buffer)
-    c.loop-count.reader.draft.part c.loop-count.reader.number c.in_err-held.field-0.0 held
+    c.loop-count.reader.draft.part c.loop-count.reader.number c.in_err-held.field-0.0 few held
     (subst (λ (b : Built). IsAtFault b c.loop-count.reader.draft.part c.loop-count.reader.number (take (c.loop-count.held + c.in-Ok.count) c.fill.new.buffer) c.in_err-held.field-0.0) c.loop-count.invariant.built c.in_err-held.ensures.err))
 
 pub loop-count-preserved : goal.loop-count-preserved

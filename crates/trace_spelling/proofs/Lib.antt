@@ -1,0 +1,11 @@
+pub mod Numbers
+pub mod Printing
+pub mod Leading
+pub mod Words
+pub mod Lists
+pub mod Headers
+pub mod Sections
+pub mod Mapped
+pub mod Failing
+pub mod Asked
+pub mod Whole
