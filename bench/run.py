@@ -94,9 +94,9 @@ def measure(program, folder, requests, runs):
 
 
 def built_program():
-    """The program's path, after the script at the top has built it where it must."""
+    """The program's path, after it has been built where it must."""
     top = os.path.dirname(os.path.dirname(os.path.abspath(__file__)))
-    script = os.path.join(top, "neqysbar")
+    script = os.path.join(top, "release", "build")
     subprocess.run([script], stdin=subprocess.DEVNULL, stdout=subprocess.DEVNULL, check=False)
     program = os.path.join(top, "crates", "neqysbar", "out", "neqysbar")
     if not os.access(program, os.X_OK):
