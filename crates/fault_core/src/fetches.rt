@@ -43,7 +43,7 @@ pub fn held<B: Block>(
 {
     match x.backing.frame {
         Some(f) => back(state, seat, r, x, f, carrier),
-        None => out(state, seat, r, x, carrier),
+        None => fetch(state, seat, r, x, carrier),
     }
 }
 
@@ -94,8 +94,8 @@ fn is_busy_block<B: Block>(state: &State<B>, block: Option<BlockId>) -> bool
     }
 }
 
-/// The page is out.
-fn out<B: Block>(
+/// The page is out: it is read, or made of zeros.
+fn fetch<B: Block>(
     state: &mut State<B>,
     seat: Seat,
     r: Ref,
