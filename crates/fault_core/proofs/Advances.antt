@@ -11,7 +11,7 @@ use Rattle.call_laws.proofs.AdvanceLegal.{advance_legal}
 use Rattle.vm_state.specs.History.{History, owed, pager}
 use Rattle.fault_core.specs.Cases.{at_first}
 use Rattle.fault_core.specs.Gives.{MayGive}
-use Rattle.fault_core.specs.ReadySeat.{IsReadySeat}
+use Rattle.call_steps.specs.ReadySeat.{IsReadySeat}
 use Rattle.fault_core.proofs.Branches.{first_absent}
 use Rattle.fault_core.proofs.Steps.{ready_of}
 

@@ -1,8 +1,8 @@
 -- The branch of the rule that each test of the code leads to.
-use Rattle.std.proofs.Common.{◌≡◌, ℕ, zero, suc, ◌<◌, ◌&&◌, Bool, true, false, cond, not, List, [], ◌∷◌, Option, Some, None, length, nat_eq, nat_le, nat_lt, slice_get, slice_index_or, refl, sym, ap, ◌∙◌, arith}
+use Rattle.std.proofs.Common.{◌≡◌, ℕ, zero, suc, ◌<◌, ◌&&◌, Bool, true, false, cond, not, List, [], ◌∷◌, Option, Some, None, length, nat_eq, nat_le, nat_lt, slice_get, refl, sym, ap, ◌∙◌, arith}
 use Rattle.std.specs.Option.{option_map}
 use Rattle.std.proofs.lemmas.Bool.{ltb-false, ne_eqb}
-use Rattle.std.proofs.lemmas.Option.{none-some, same_Some, slice_get-get_or}
+use Rattle.std.proofs.lemmas.Option.{none-some, same_Some}
 use Rattle.vm_types.specs.Ring.{filled}
 use Rattle.vm_types.specs.declared.config.Config.{Config}
 use Rattle.vm_types.specs.declared.config.ProcSpec.{ProcSpec}
@@ -26,16 +26,7 @@ use Rattle.vm_state.specs.ProcessReadings.{adjusted_for, pending_in}
 use Rattle.vm_state.specs.Shown.{frame_number}
 use Rattle.vm_state.specs.declared.found.Found.{Found}
 use Rattle.vm_state.specs.declared.open_read.OpenRead.{OpenRead}
-
-pub if_true : {X : Type 0} (b : Bool) (x y : X) → b ≡ true → cond b x y ≡ x
-if_true b x y is = ap (λ (c : Bool). cond c x y) is
-
-pub if_false : {X : Type 0} (b : Bool) (x y : X) → b ≡ false → cond b x y ≡ y
-if_false b x y is = ap (λ (c : Bool). cond c x y) is
-
-item_there : {X : Type 0} (xs : List X) (i : ℕ) → i < length xs → (x : X) × (slice_get xs i ≡ Some x)
-item_there [] i less = absurd (omega (arith, less))
-item_there (x ∷ xs) i less = (slice_index_or (x ∷ xs) i x, slice_get-get_or (x ∷ xs) i x less)
+use Rattle.call_steps.proofs.Branches.{if_false, if_true, item_there}
 
 -- ---- the adjustment
 limit_at : (config : Config) (a : Pager) (p n k : ℕ) (o : Option ProcSpec) → Some (n, k) ≡ adjusted_for config a p o → limit_given config a p o ≡ given (what.Limit n k ∷ []) next_more

@@ -28,13 +28,14 @@ use Rattle.call_laws.specs.AreLegal.{AreLegal}
 use Rattle.call_laws.proofs.NearLegal.{tail_without}
 use Rattle.vm_state.specs.CarrierView.{CarrierView}
 use Rattle.vm_state.specs.History.{History, entry_by, owed, pager}
+use Rattle.vm_state.specs.LiftsLand.{added_each}
+use Rattle.call_steps.proofs.OneReads.{no_more, none_read, one_is}
+use Rattle.call_steps.specs.Lifted.{HasBegunLifts, place_of, places_in}
+use Rattle.call_steps.specs.MayBegin.{empty}
+use Rattle.call_steps.specs.OneRead.{one_read}
 use Rattle.fault_core.specs.Cases.{at_frame, vpn_of}
-use Rattle.fault_core.specs.Gives.{Gives, MayGive, made_in}
-use Rattle.fault_core.specs.Lifted.{HasBegunLifts, place_of, reads_in}
-use Rattle.fault_core.specs.ReadySeat.{empty}
-use Rattle.fault_core.specs.Reads.{one_read}
+use Rattle.fault_core.specs.Gives.{Gives, MayGive}
 use Rattle.fault_core.specs.declared.next.Next.TheVariants.{Carry}
-use Rattle.fault_core.proofs.OneReads.{no_more, none_read, one_is}
 use Rattle.fault_core.proofs.Steps.{gives_as, may_as}
 
 -- the frame of a legal read is an empty head
@@ -59,7 +60,7 @@ module _ (s : History) (seat : Seat) (f : ℕ) (b : BlockId) (r : Role) where
   read = what.In (pfn f) b r
 
   abbrev after_one : Option Page → History
-  after_one o = made_in seat (reuse_first o f (read ∷ [])) s
+  after_one o = added_each seat (reuse_first o f (read ∷ [])) s
 
   holds : (o : Option Page) (ws : List What) → AreLegal s.config s.past seat.0 (reuse_first o f (read ∷ ws)) → (pager s).page f ≡ o
   holds None ws legal = (head_of r s.config s.past (pager s) seat.0 f b legal.0.row).empty
@@ -69,11 +70,11 @@ module _ (s : History) (seat : Seat) (f : ℕ) (b : BlockId) (r : Role) where
   legal_then None ws legal = legal.1
   legal_then (Some g) ws legal = legal.1.1
 
-  made_then : (o : Option Page) (ws : List What) → made_in seat (reuse_first o f (read ∷ ws)) s ≡ made_in seat ws (after_one o)
+  made_then : (o : Option Page) (ws : List What) → added_each seat (reuse_first o f (read ∷ ws)) s ≡ added_each seat ws (after_one o)
   made_then None ws = refl
   made_then (Some g) ws = refl
 
-  reads_then : (o : Option Page) (ws : List What) → reads_in (reuse_first o f (read ∷ [])) ++ reads_in ws ≡ reads_in (reuse_first o f (read ∷ ws))
+  reads_then : (o : Option Page) (ws : List What) → places_in (reuse_first o f (read ∷ [])) ++ places_in ws ≡ places_in (reuse_first o f (read ∷ ws))
   reads_then None ws = refl
   reads_then (Some g) ws = refl
 
@@ -93,21 +94,21 @@ module _ {B : Type 0} (page : ℕ → Option Page) (whole : History) (all : List
   -- what is left is legal, and makes the whole with what was made
   pub record IsReading (targets : List Target) (s : History) (c : CarrierView B) : Type 0 where
     pub legal : AreLegal s.config s.past seat.0 (left_by page targets s)
-    pub history : made_in seat (left_by page targets s) s ≡ whole
-    pub places : map place_of c.lifts ++ reads_in (left_by page targets s) ≡ reads_in all
+    pub history : added_each seat (left_by page targets s) s ≡ whole
+    pub places : map place_of c.lifts ++ places_in (left_by page targets s) ≡ places_in all
 
-  module _ (t : Target) (ts : List Target) (s s' : History) (c c' : CarrierView B) (is : IsReading (t ∷ ts) s c) (made : s' ≡ made_in seat (one_read s t.block t.role) s)
-      (each : map place_of c'.lifts ≡ map place_of c.lifts ++ reads_in (one_read s t.block t.role)) where
+  module _ (t : Target) (ts : List Target) (s s' : History) (c c' : CarrierView B) (is : IsReading (t ∷ ts) s c) (made : s' ≡ added_each seat (one_read s t.block t.role) s)
+      (each : map place_of c'.lifts ≡ map place_of c.lifts ++ places_in (one_read s t.block t.role)) where
     -- the list is empty, and nothing was made
     without_frame : (pager s).free ≡ [] → IsReading ts s' c'
     without_frame free =
         let none : (targets : List Target) → left_by page targets s ≡ [] = λ targets. ap (λ (xs : List ℕ). reads_made page xs targets) free in
-        let same : s' ≡ s = made ∙ ap (λ (ws : List What). made_in seat ws s) (none_read s t.block t.role free) in
-        let kept : map place_of c'.lifts ≡ map place_of c.lifts = each ∙ (ap (λ (ws : List What). map place_of c.lifts ++ reads_in ws) (none_read s t.block t.role free) ∙ append-nil (map place_of c.lifts)) in
+        let same : s' ≡ s = made ∙ ap (λ (ws : List What). added_each seat ws s) (none_read s t.block t.role free) in
+        let kept : map place_of c'.lifts ≡ map place_of c.lifts = each ∙ (ap (λ (ws : List What). map place_of c.lifts ++ places_in ws) (none_read s t.block t.role free) ∙ append-nil (map place_of c.lifts)) in
         subst (λ (x : History). IsReading ts x c') (sym same) (record {
           legal = subst (λ (ws : List What). AreLegal s.config s.past seat.0 ws) (sym (none ts)) tt;
-          history = ap (λ (ws : List What). made_in seat ws s) (none ts ∙ sym (none (t ∷ ts))) ∙ is.history;
-          places = (λ i. kept i ++ reads_in ((none ts ∙ sym (none (t ∷ ts))) i)) ∙ is.places;
+          history = ap (λ (ws : List What). added_each seat ws s) (none ts ∙ sym (none (t ∷ ts))) ∙ is.history;
+          places = (λ i. kept i ++ places_in ((none ts ∙ sym (none (t ∷ ts))) i)) ∙ is.places;
         })
 
     module _ (f : ℕ) (fs : List ℕ) (free : (pager s).free ≡ f ∷ fs) (formed : IsWellFormed s.config) (run : IsRun s.config s.past) where
@@ -132,13 +133,13 @@ module _ {B : Type 0} (page : ℕ → Option Page) (whole : History) (all : List
       rest_is = ap (λ (xs : List ℕ). reads_made page xs ts) (free_then s seat f t.block t.role formed run fs free (page f) rest legal_now)
 
       with_frame : IsReading ts s' c'
-      with_frame = subst (λ (x : History). IsReading ts x c') (sym (made ∙ ap (λ (ws : List What). made_in seat ws s) one_now)) (record {
+      with_frame = subst (λ (x : History). IsReading ts x c') (sym (made ∙ ap (λ (ws : List What). added_each seat ws s) one_now)) (record {
         legal = subst (λ (ws : List What). AreLegal later.config later.past seat.0 ws) (sym rest_is) (legal_then s seat f t.block t.role (page f) rest legal_now);
-        history = ap (λ (ws : List What). made_in seat ws later) rest_is ∙ (sym (made_then s seat f t.block t.role (page f) rest) ∙ (ap (λ (ws : List What). made_in seat ws s) (sym given_now) ∙ is.history));
+        history = ap (λ (ws : List What). added_each seat ws later) rest_is ∙ (sym (made_then s seat f t.block t.role (page f) rest) ∙ (ap (λ (ws : List What). added_each seat ws s) (sym given_now) ∙ is.history));
         places =
-            (λ i. (each ∙ ap (λ (ws : List What). map place_of c.lifts ++ reads_in ws) one_now) i ++ reads_in (rest_is i))
-            ∙ (append_assoc (map place_of c.lifts) (reads_in (reuse_first (page f) f (what.In (pfn f) t.block t.role ∷ []))) (reads_in rest)
-            ∙ (ap (λ (xs : List (ℕ × BlockId)). map place_of c.lifts ++ xs) (reads_then s seat f t.block t.role (page f) rest ∙ ap (λ (ws : List What). reads_in ws) (sym given_now))
+            (λ i. (each ∙ ap (λ (ws : List What). map place_of c.lifts ++ places_in ws) one_now) i ++ places_in (rest_is i))
+            ∙ (append_assoc (map place_of c.lifts) (places_in (reuse_first (page f) f (what.In (pfn f) t.block t.role ∷ []))) (places_in rest)
+            ∙ (ap (λ (xs : List (ℕ × BlockId)). map place_of c.lifts ++ xs) (reads_then s seat f t.block t.role (page f) rest ∙ ap (λ (ws : List What). places_in ws) (sym given_now))
             ∙ is.places));
       })
 
@@ -167,11 +168,11 @@ module _ {B : Type 0} (page : ℕ → Option Page) (whole : History) (all : List
           (front f (page f) (reads_made page fs ts) legal)
 
   -- nothing is left
-  pub read_all : (s : History) (c : CarrierView B) → IsReading [] s c → (s ≡ whole) × (map place_of c.lifts ≡ reads_in all)
+  pub read_all : (s : History) (c : CarrierView B) → IsReading [] s c → (s ≡ whole) × (map place_of c.lifts ≡ places_in all)
   read_all s c is =
       let none = no_more page (pager s).free in (
-        ap (λ (ws : List What). made_in seat ws s) (sym none) ∙ is.history,
-        sym (append-nil (map place_of c.lifts)) ∙ (ap (λ (ws : List What). map place_of c.lifts ++ reads_in ws) (sym none) ∙ is.places),
+        ap (λ (ws : List What). added_each seat ws s) (sym none) ∙ is.history,
+        sym (append-nil (map place_of c.lifts)) ∙ (ap (λ (ws : List What). map place_of c.lifts ++ places_in ws) (sym none) ∙ is.places),
       )
 
 -- ---- the places of the cluster
@@ -213,22 +214,22 @@ module _ (s : History) (seat : Seat) (r : Ref) (g : Page) (b : BlockId) where
       by [] some = absurd (omega (arith, some))
       by (f ∷ fs) some = refl
 
-  pub reading_first : {B : Type 0} (c : CarrierView B) → c ≡ empty seat → 1 ≤ length (pager s).free → MayGive s seat (at_frame s seat r g (Some b)) → IsReading (pager s).page (made_in seat made_all s) made_all seat fault_targets s c
+  pub reading_first : {B : Type 0} (c : CarrierView B) → c ≡ empty seat → 1 ≤ length (pager s).free → MayGive s seat (at_frame s seat r g (Some b)) → IsReading (pager s).page (added_each seat made_all s) made_all seat fault_targets s c
   reading_first c none some may = record {
     legal = (may_as s seat (at_frame s seat r g (Some b)) (given made_all next_carry) (frame_is some) may).legal;
     history = refl;
-    places = ap (λ (x : CarrierView _). map place_of x.lifts ++ reads_in made_all) none;
+    places = ap (λ (x : CarrierView _). map place_of x.lifts ++ places_in made_all) none;
   }
 
   module _ {B : Type 0} {content plan : B → Option (List ℕ)} {reads writes faults : B → ℕ} {tells tells_plan : Bool} where
-    pub gives_reads : (s' : History) (old c : CarrierView B) → 1 ≤ length (pager s).free → IsReading (pager s).page (made_in seat made_all s) made_all seat [] s' c → HasBegunLifts content plan reads writes faults tells tells_plan s' seat c
+    pub gives_reads : (s' : History) (old c : CarrierView B) → 1 ≤ length (pager s).free → IsReading (pager s).page (added_each seat made_all s) made_all seat [] s' c → HasBegunLifts content plan reads writes faults tells tells_plan s' seat c
         → Gives content plan reads writes faults tells tells_plan s s' seat r (at_frame s seat r g (Some b)) Carry old c
     gives_reads s' old c some is has =
-        let done = read_all (pager s).page (made_in seat made_all s) made_all seat s' c is in
+        let done = read_all (pager s).page (added_each seat made_all s) made_all seat s' c is in
         gives_as (at_frame s seat r g (Some b)) (given made_all next_carry) (frame_is some) (record {
           given = record {
             shown = unsaid;
-            history = done.0 ∙ ap (λ (ws : List What). made_in seat ws s) (sym (replies_stay (pager s).page (pager s).free fault_targets));
+            history = done.0 ∙ ap (λ (ws : List What). added_each seat ws s) (sym (replies_stay (pager s).page (pager s).free fault_targets));
             answer = refl;
           };
           right = λ t. tt;
@@ -238,7 +239,7 @@ module _ (s : History) (seat : Seat) (r : Ref) (g : Page) (b : BlockId) where
 -- ---- a cluster's reads
 module _ (s₀ : History) (seat : Seat) (r : Ref) (g : Page) (b : BlockId) where
   abbrev pub IsReadingOf : {B : Type 0} → List Target → History → CarrierView B → Type 0
-  IsReadingOf targets s c = IsReading (pager s₀).page (made_in seat (made_all s₀ seat r g b) s₀) (made_all s₀ seat r g b) seat targets s c
+  IsReadingOf targets s c = IsReading (pager s₀).page (added_each seat (made_all s₀ seat r g b) s₀) (made_all s₀ seat r g b) seat targets s c
 
   abbrev pub targets_of : ℕ → ℕ → List Target
   targets_of k n = targets_from s₀.config (pager s₀) g b k n
@@ -268,12 +269,12 @@ module _ (s₀ : History) (seat : Seat) (r : Ref) (g : Page) (b : BlockId) where
 
   -- the next one's entries
   pub may_next : {B : Type 0} (t : Target) (ts : List Target) (s : History) (c : CarrierView B) → IsReadingOf (t ∷ ts) s c → AreLegal s.config s.past seat.0 (one_read s t.block t.role)
-  may_next t ts s c is = may_one (pager s₀).page (made_in seat (made_all s₀ seat r g b) s₀) (made_all s₀ seat r g b) seat t ts s c is
+  may_next t ts s c is = may_one (pager s₀).page (added_each seat (made_all s₀ seat r g b) s₀) (made_all s₀ seat r g b) seat t ts s c is
 
-  pub reading_next : {B : Type 0} (t : Target) (ts : List Target) (s s' : History) (c c' : CarrierView B) → IsReadingOf (t ∷ ts) s c → s' ≡ made_in seat (one_read s t.block t.role) s
-      → map place_of c'.lifts ≡ map place_of c.lifts ++ reads_in (one_read s t.block t.role) → IsWellFormed s.config → IsRun s.config s.past → IsReadingOf ts s' c'
+  pub reading_next : {B : Type 0} (t : Target) (ts : List Target) (s s' : History) (c c' : CarrierView B) → IsReadingOf (t ∷ ts) s c → s' ≡ added_each seat (one_read s t.block t.role) s
+      → map place_of c'.lifts ≡ map place_of c.lifts ++ places_in (one_read s t.block t.role) → IsWellFormed s.config → IsRun s.config s.past → IsReadingOf ts s' c'
   reading_next t ts s s' c c' is made each formed run =
-      next_read (pager s₀).page (made_in seat (made_all s₀ seat r g b) s₀) (made_all s₀ seat r g b) seat t ts s s' c c' is made each formed run
+      next_read (pager s₀).page (added_each seat (made_all s₀ seat r g b) s₀) (made_all s₀ seat r g b) seat t ts s s' c c' is made each formed run
 
 pub no_lifts : {B : Type 0} (c : CarrierView B) (seat : Seat) → c ≡ empty seat → length c.lifts ≡ 0
 no_lifts c seat none = ap (λ (x : CarrierView _). length x.lifts) none
@@ -290,8 +291,8 @@ pub record IsPartRead {B : Type 0} (content plan : B → Option (List ℕ)) (rea
   pub paid : owed s.past + 64 ≤ s.spare + 4 * k
 
 module _ {B : Type 0} {content plan : B → Option (List ℕ)} {reads writes faults : B → ℕ} {tells tells_plan : Bool} (s₀ : History) (seat : Seat) (r : Ref) (g : Page) (b : BlockId) (n : ℕ) where
-  pub part_first : (s : History) (c₀ c : CarrierView B) (start : Addr) → IsReadingOf s₀ seat r g b (fault_at s₀ seat r g b start ∷ targets_of s₀ seat r g b 1 n) s₀ c₀ → s ≡ made_in seat (one_read s₀ b (role.Fault (proc seat.0) start)) s₀
-      → map place_of c.lifts ≡ map place_of c₀.lifts ++ reads_in (one_read s₀ b (role.Fault (proc seat.0) start)) → IsWellFormed s₀.config → IsRun s₀.config s₀.past
+  pub part_first : (s : History) (c₀ c : CarrierView B) (start : Addr) → IsReadingOf s₀ seat r g b (fault_at s₀ seat r g b start ∷ targets_of s₀ seat r g b 1 n) s₀ c₀ → s ≡ added_each seat (one_read s₀ b (role.Fault (proc seat.0) start)) s₀
+      → map place_of c.lifts ≡ map place_of c₀.lifts ++ places_in (one_read s₀ b (role.Fault (proc seat.0) start)) → IsWellFormed s₀.config → IsRun s₀.config s₀.past
       → HasBegunLifts content plan reads writes faults tells tells_plan s seat c → length c₀.lifts ≡ 0 → length c.lifts ≤ length c₀.lifts + 1 → owed s₀.past + 64 ≤ s₀.spare → owed s.past + s₀.spare ≤ owed s₀.past + s.spare + 4
       → IsPartRead content plan reads writes faults tells tells_plan s₀ seat r g b 1 n s c
   part_first s c₀ c start is made each formed run begun none few room paid = record {
@@ -302,8 +303,8 @@ module _ {B : Type 0} {content plan : B → Option (List ℕ)} {reads writes fau
   }
 
   module _ (k : ℕ) (s s' s'' : History) (c c' c'' : CarrierView B) (is : IsPartRead content plan reads writes faults tells tells_plan s₀ seat r g b k n s c) (less : k < n) where
-    pub part_some : (x : Page) (d : BlockId) → Some x ≡ following s₀.config (pager s₀) g b k → d ≡ block_after b k → s' ≡ made_in seat (one_read s d (role.Near x)) s
-        → map place_of c'.lifts ≡ map place_of c.lifts ++ reads_in (one_read s d (role.Near x)) → IsWellFormed s.config → IsRun s.config s.past
+    pub part_some : (x : Page) (d : BlockId) → Some x ≡ following s₀.config (pager s₀) g b k → d ≡ block_after b k → s' ≡ added_each seat (one_read s d (role.Near x)) s
+        → map place_of c'.lifts ≡ map place_of c.lifts ++ places_in (one_read s d (role.Near x)) → IsWellFormed s.config → IsRun s.config s.past
         → HasBegunLifts content plan reads writes faults tells tells_plan s' seat c' → length c'.lifts ≤ length c.lifts + 1 → owed s'.past + s.spare ≤ owed s.past + s'.spare + 4
         → s'' ≡ s' → c'' ≡ c' → IsPartRead content plan reads writes faults tells tells_plan s₀ seat r g b (k + 1) n s'' c''
     part_some x d page there made each formed run begun few paid same same_carrier =

@@ -1,8 +1,8 @@
 -- A page that is in a frame, or out.
-use Rattle.std.proofs.Common.{◌≡◌, ℕ, ◌+◌, ◌<◌, ◌≤◌, ◌&&◌, Bool, true, false, cond, not, List, [], ◌∷◌, Option, Some, None, length, slice_get, refl, sym, ap, ◌∙◌, subst, arith}
+use Rattle.std.proofs.Common.{◌≡◌, ℕ, ◌+◌, ◌<◌, ◌≤◌, ◌&&◌, Bool, true, false, cond, not, List, [], ◌∷◌, Option, Some, None, slice_get, refl, sym, ap, ◌∙◌, subst, arith}
 use Rattle.std.specs.Option.{option_map}
 use Rattle.std.proofs.lemmas.Option.{none-some, same_Some}
-use Rattle.vm_types.specs.Configuration.{IsBlock, IsWellFormed}
+use Rattle.vm_types.specs.Configuration.{IsBlock}
 use Rattle.pfn_database.specs.declared.row.Row.{Row}
 use Rattle.vm_types.specs.declared.names.Addr.{Addr}
 use Rattle.vm_types.specs.declared.config.Config.{Config}
@@ -17,7 +17,6 @@ use Rattle.vm_types.specs.declared.names.Pfn.{Pfn}
 use Rattle.vm_types.specs.declared.names.Seat.{Seat}
 use Rattle.vm_types.specs.declared.reference.Ref.{Ref}
 use Rattle.vm_types.specs.declared.reply.Reply.{Reply}
-use Rattle.vm_journal.specs.declared.entry.Entry.{Entry}
 use Rattle.vm_journal.specs.declared.entry.What.{What}
 use Rattle.vm_journal.specs.declared.entry.What.TheVariants as what
 use Rattle.pager_model.specs.Advance.{again_no_frame, frame_given, gives_again, held_given, is_uncharged, next_answered, source_of}
@@ -27,14 +26,11 @@ use Rattle.pager_model.specs.Given.{given, page_address, reuse_first, unsaid}
 use Rattle.pager_model.specs.Lookups.{IsHead, page_by, section_at, section_of}
 use Rattle.pager_model.specs.Maps.{is_private, proc}
 use Rattle.pager_model.specs.OfConfig.{IsOrigin, IsPageOf}
-use Rattle.pager_model.specs.Run.{IsRun}
-use Rattle.pager_laws.proofs.RunsAreSound.{run_kept}
 use Rattle.pager_model.specs.Flat.{flat_reply}
 use Rattle.pager_model.specs.Spoken.{flat_after}
 use Rattle.pager_laws.proofs.OfConfigKept.{page_right}
 use Rattle.state_fits.proofs.EntryPages.{mapped_right}
-use Rattle.pager_rules.proofs.Put.{head_counts}
-use Rattle.state_fits.proofs.Holders.{free_is, holder_holds, holds_within}
+use Rattle.state_fits.proofs.Holders.{holder_holds, holds_within}
 use Rattle.vm_state.specs.History.{History, MayAdd, MayAnswer, added, entry_by, owed, pager}
 use Rattle.vm_state.specs.PageReadings.{IsKnown}
 use Rattle.vm_state.specs.CarrierView.{CarrierView}
@@ -44,15 +40,18 @@ use Rattle.vm_state.specs.declared.found.Backing.{Backing}
 use Rattle.call_laws.specs.AreLegal.{AreLegal}
 use Rattle.call_laws.proofs.ReadsLegal.{lying_block}
 use Rattle.call_laws.proofs.WaitsLegal.{kept, right}
+use Rattle.vm_state.specs.LiftsLand.{added_each}
+use Rattle.call_steps.proofs.Rows.{row_state}
+use Rattle.call_steps.proofs.Steps.{paid_after, paid_first}
 use Rattle.fault_core.specs.Cases.{at_frame, at_held, vpn_of}
-use Rattle.fault_core.specs.Gives.{Gives, MayGive, made_in}
-use Rattle.fault_core.specs.ReadySeat.{IsReadySeat}
+use Rattle.fault_core.specs.Gives.{Gives, MayGive}
+use Rattle.call_steps.specs.ReadySeat.{IsReadySeat}
+use Rattle.call_steps.proofs.Heads.{behind_reuse, none_there, reuse_alone}
 use Rattle.fault_core.specs.SoughtPage.{IsSought}
 use Rattle.fault_core.specs.declared.next.Next.TheVariants.{Answered}
 use Rattle.fault_core.specs.declared.sought.Sought.{Sought}
 use Rattle.fault_core.proofs.Branches.{frame_none, frame_some, uncharged_is}
-use Rattle.fault_core.proofs.Replaces.{row_state}
-use Rattle.fault_core.proofs.Steps.{answered_then, may_answer_then, may_as, paid_after, paid_first, ready_of}
+use Rattle.fault_core.proofs.Steps.{answered_then, may_answer_then, may_as, ready_of}
 
 known_page : (config : Config) (g : Page) → IsPageOf config g → IsKnown config g
 known_page config (Private p v) of = tt
@@ -126,38 +125,8 @@ module _ (s : History) (seat : Seat) (r : Ref) (ready : IsReadySeat s seat) wher
         gives_back first after shown c made flat = answered_then s s' after seat entry r shown c _ given_is first refl refl made flat
 
 -- ---- the free list's head
-pub head_there : (xs : List ℕ) (f : Pfn) → option_map frame_number (Some f) ≡ slice_get xs 0 → IsHead xs f.0
-head_there [] f is = absurd (none-some _ (sym is))
-head_there (y ∷ ys) f is = record { rest = ys; heads = ap (λ (z : ℕ). z ∷ ys) (sym (same_Some f.0 y is)) }
-
-pub none_there : (xs : List ℕ) → option_map frame_number None ≡ slice_get xs 0 → xs ≡ []
-none_there [] is = refl
-none_there (y ∷ ys) is = absurd (none-some _ is)
-
 pub no_frame : (s : History) (seat : Seat) (r : Ref) (g : Page) (o : Option BlockId) → option_map frame_number None ≡ slice_get (pager s).free 0 → at_frame s seat r g o ≡ gives_again again_no_frame
 no_frame s seat r g o is = ap (frame_given s.config (pager s) seat.0 r g o) (none_there (pager s).free is)
-
-pub some_free : (xs : List ℕ) (f : ℕ) → IsHead xs f → 1 ≤ length xs
-some_free xs f head = let some = ap (λ (ys : List ℕ). length ys) head.heads in omega (arith, some)
-
--- ---- a frame gives up its page first
-pub reuse_alone : (config : Config) (past : List Entry) (p f : ℕ) (ws : List What) (o : Option Page) → AreLegal config past p (reuse_first o f ws) → AreLegal config past p (reuse_first o f [])
-reuse_alone config past p f ws None legal = tt
-reuse_alone config past p f ws (Some g) legal = (legal.0, tt)
-
-pub behind_reuse : (s : History) (seat : Seat) (f : ℕ) (ws : List What) (o : Option Page) → AreLegal s.config s.past seat.0 (reuse_first o f ws) → AreLegal (made_in seat (reuse_first o f []) s).config (made_in seat (reuse_first o f []) s).past seat.0 ws
-behind_reuse s seat f ws None legal = legal
-behind_reuse s seat f ws (Some g) legal = legal.1
-
-module _ (s : History) (seat : Seat) (f : Pfn) (head : IsHead (pager s).free f.0) where
-  pub head_within : IsWellFormed s.config → IsRun s.config s.past → f.0 < s.config.frames
-  head_within formed run = (free_is s.config s.past (pager s) f.0 (run_kept s.config s.past formed run) (head_counts (pager s).free f.0 head)).within
-
-  pub may_reuse : (g : Page) → (pager s).page f.0 ≡ Some g → AreLegal s.config s.past seat.0 (reuse_first ((pager s).page f.0) f.0 []) → owed s.past + 2 ≤ s.spare → MayAdd s (entry_by seat (what.Reuse f g))
-  may_reuse g holds legal paid = record {
-    legal = (subst (λ (o : Option Page). AreLegal s.config s.past seat.0 (reuse_first o f.0 [])) holds legal).0;
-    paid = paid_after s.past (entry_by seat (what.Reuse f g)) s.spare 1 refl refl (omega (arith, paid));
-  }
 
 -- ---- a demand zero page
 module _ (s : History) (seat : Seat) (r : Ref) (g : Page) (f : Pfn) (head : IsHead (pager s).free f.0) (start : Addr) (start_is : start ≡ page_address (vpn_of r)) where
@@ -172,11 +141,11 @@ module _ (s : History) (seat : Seat) (r : Ref) (g : Page) (f : Pfn) (head : IsHe
   pub may_first : MayGive s seat (at_frame s seat r g None) → AreLegal s.config s.past seat.0 (reuse_first ((pager s).page f.0) f.0 [])
   may_first may = reuse_alone s.config s.past seat.0 f.0 zero_made ((pager s).page f.0) (may_as s seat _ _ zeros may).legal
 
-  paid_behind : (o : Option Page) → owed s.past + 64 ≤ s.spare → owed (made_in seat (reuse_first o f.0 []) s).past + 60 ≤ (made_in seat (reuse_first o f.0 []) s).spare
+  paid_behind : (o : Option Page) → owed s.past + 64 ≤ s.spare → owed (added_each seat (reuse_first o f.0 []) s).past + 60 ≤ (added_each seat (reuse_first o f.0 []) s).spare
   paid_behind None room = omega (arith, room)
   paid_behind (Some x) room = let paid = paid_first s seat (what.Reuse f x) 62 (omega arith) refl refl room in omega (arith, paid)
 
-  module _ (s1 : History) (first : s1 ≡ made_in seat (reuse_first ((pager s).page f.0) f.0 []) s) (may : MayGive s seat (at_frame s seat r g None)) where
+  module _ (s1 : History) (first : s1 ≡ added_each seat (reuse_first ((pager s).page f.0) f.0 []) s) (may : MayGive s seat (at_frame s seat r g None)) where
     rest : AreLegal s1.config s1.past seat.0 zero_made
     rest = subst (λ (x : History). AreLegal x.config x.past seat.0 zero_made) (sym first) (behind_reuse s seat f.0 zero_made ((pager s).page f.0) (may_as s seat _ _ zeros may).legal)
 

@@ -24,11 +24,13 @@ use Rattle.vm_state.specs.ProcessReadings.{pending_in}
 use Rattle.vm_state.specs.Shown.{frame_number}
 use Rattle.vm_state.specs.declared.found.Found.{Found}
 use Rattle.vm_state.specs.declared.open_read.OpenRead.{OpenRead}
+use Rattle.call_steps.proofs.Branches.{if_false, if_true}
+use Rattle.call_steps.proofs.Steps.{paid_first}
 use Rattle.fault_core.specs.Cases.{at_entry, at_fault, at_first, at_frame, at_held, at_map, at_out, at_read, at_refusal, at_replace, at_room, vpn_of}
 use Rattle.fault_core.specs.Gives.{MayGive}
-use Rattle.fault_core.specs.ReadySeat.{IsReadySeat}
-use Rattle.fault_core.proofs.Branches.{entry_missing, entry_some, first_pending, first_settled, found_no_page, found_page, if_false, if_true, out_busy, out_still, read_none, read_other, read_own, room_charging, room_full}
-use Rattle.fault_core.proofs.Steps.{may_as, paid_first}
+use Rattle.call_steps.specs.ReadySeat.{IsReadySeat}
+use Rattle.fault_core.proofs.Branches.{entry_missing, entry_some, first_pending, first_settled, found_no_page, found_page, out_busy, out_still, read_none, read_other, read_own, room_charging, room_full}
+use Rattle.fault_core.proofs.Steps.{may_as}
 
 module _ (s : History) (seat : Seat) (r : Ref) where
   -- ---- the adjustment

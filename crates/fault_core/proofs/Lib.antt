@@ -3,7 +3,6 @@ pub mod Steps
 pub mod Firsts
 pub mod Replaces
 pub mod Comes
-pub mod OneReads
 pub mod ClusterReads
 pub mod ClusterLengths
 pub mod Windows

@@ -10,48 +10,23 @@ use Rattle.vm_journal.specs.declared.entry.Entry.{Entry}
 use Rattle.vm_journal.specs.declared.entry.EvictWhy.TheVariants as evict
 use Rattle.vm_journal.specs.declared.entry.What.TheVariants as what
 use Rattle.pager_model.specs.Advance.{again_modified_full, gives_again, next_more, replace_seen}
-use Rattle.pager_model.specs.Evict.{evicted_to, victim_of}
+use Rattle.pager_model.specs.Evict.{victim_of}
 use Rattle.pager_model.specs.Given.{eviction, given, goes_to, is_stopped, page_address, seen_by, seen_in, seen_page}
 use Rattle.pager_model.specs.Lookups.{entry_of, slot_of}
 use Rattle.pager_model.specs.Maps.{proc}
 use Rattle.pager_model.specs.Pager.{Pager, Valid}
 use Rattle.state_fits.proofs.ValidEntries.{IsValidAt, valid_at_page}
-use Rattle.state_fits.specs.Frames.{frame_row}
 use Rattle.vm_state.specs.History.{History, MayAdd, entry_by, pager}
 use Rattle.vm_state.specs.ProcessReadings.{slot_by, slot_in, slot_with}
-use Rattle.vm_state.specs.Readings.{row_at}
 use Rattle.vm_state.specs.declared.found.Slot.{Slot}
 use Rattle.call_laws.proofs.WaitsLegal.{kept, mapped_small}
+use Rattle.call_steps.proofs.Branches.{if_false, if_true}
+use Rattle.call_steps.proofs.Steps.{paid_first}
 use Rattle.fault_core.specs.Cases.{at_replace}
 use Rattle.fault_core.specs.Gives.{MayGive}
-use Rattle.fault_core.specs.ReadySeat.{IsReadySeat}
-use Rattle.fault_core.proofs.Branches.{if_false, if_true}
-use Rattle.fault_core.proofs.Steps.{may_as, paid_first, ready_of}
-
--- an empty slot shows nothing
-seen_none : (a : Pager) (p : ℕ) (o : Option Held) → None ≡ slot_with a.valid p o → seen_in a p o ≡ None
-seen_none a p None is = refl
-seen_none a p (Some held) is = by (entry_of a.valid p held.vpn) is
-  where
-    by : (o : Option Valid) → None ≡ slot_by held o → seen_by a held o ≡ None
-    by None is = refl
-    by (Some e) is = absurd (none-some _ is)
-
--- the entry of a page in a slot
-record IsSlotOf (a : Pager) (p : ℕ) (x : Slot) : Type 0 where
-  pub entry : Valid
-  pub valid : entry_of a.valid p x.vpn ≡ Some entry
-  pub frame : (x.frame).0 ≡ entry.frame
-
-slot_entry : (a : Pager) (p : ℕ) (x : Slot) (o : Option Held) → Some x ≡ slot_with a.valid p o → IsSlotOf a p x
-slot_entry a p x None is = absurd (none-some _ (sym is))
-slot_entry a p x (Some held) is = by (entry_of a.valid p held.vpn) refl is
-  where
-    by : (o : Option Valid) → entry_of a.valid p held.vpn ≡ o → Some x ≡ slot_by held o → IsSlotOf a p x
-    by None at is = absurd (none-some _ (sym is))
-    by (Some e) at is =
-        let same = same_Some x _ is in
-        record { entry = e; valid = subst (λ (v : ℕ). entry_of a.valid p v ≡ Some e) (sym (ap (λ (y : Slot). y.vpn) same)) at; frame = ap (λ (y : Slot). (y.frame).0) same }
+use Rattle.call_steps.specs.ReadySeat.{IsReadySeat}
+use Rattle.call_steps.proofs.Slots.{IsSlotOf, seen_none, slot_entry}
+use Rattle.fault_core.proofs.Steps.{may_as, ready_of}
 
 seen_some : (config : Config) (past : List Entry) (a : Pager) (p : ℕ) (x : Slot) (e : Valid) (g : Page) (o : Option Held) → entry_of a.valid p x.vpn ≡ Some e → a.page e.frame ≡ Some g → Some x ≡ slot_with a.valid p o
     → replace_seen config past a p (seen_in a p o) ≡ cond (is_stopped config past a (x.frame).0) (gives_again again_modified_full) (given (eviction past a p x.vpn (x.frame).0 evict.Replace ∷ []) next_more)
@@ -69,19 +44,6 @@ seen_some config past a p x e g (Some held) valid holds is = by (entry_of a.vali
         let page : a.page d.frame ≡ Some g = ap (λ (y : Valid). a.page y.frame) one ∙ holds in
         ap (λ (o : Option Page). replace_seen config past a p (seen_page held d.frame o)) page
         ∙ (λ i. cond (is_stopped config past a (sym frame i)) (gives_again again_modified_full) (given (eviction past a p (sym vpn i) (sym frame i) evict.Replace ∷ []) next_more))
-
--- where a frame goes, by its row
-pub row_goes : (s : History) (f : ℕ) → evicted_to (row_at s f).shares (row_at s f).flights (row_at s f).modify ≡ goes_to s.past (pager s) f
-unfolding frame_row
-row_goes s f = refl
-
-pub row_state : (s : History) (f : ℕ) → (row_at s f).state ≡ (pager s).state f
-unfolding frame_row
-row_state s f = refl
-
-pub row_page : (s : History) (f : ℕ) → (row_at s f).page ≡ (pager s).page f
-unfolding frame_row
-row_page s f = refl
 
 module _ (s : History) (seat : Seat) (ready : IsReadySeat s seat) where
   abbrev n : ℕ

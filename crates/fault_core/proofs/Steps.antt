@@ -1,5 +1,5 @@
 -- What a step leaves, by what was given for it.
-use Rattle.std.proofs.Common.{◌≡◌, ℕ, ◌+◌, ◌*◌, ◌≤◌, Bool, true, false, cond, List, [], ◌∷◌, Option, Some, None, length, refl, sym, ap, ◌∙◌, subst, arith}
+use Rattle.std.proofs.Common.{◌≡◌, ℕ, ◌+◌, ◌≤◌, Bool, true, false, List, [], ◌∷◌, Option, Some, None, refl, sym, ap, ◌∙◌, subst, arith}
 use Rattle.std.proofs.lemmas.Option.{none-some}
 use Rattle.vm_types.specs.declared.names.Addr.{Addr}
 use Rattle.vm_types.specs.declared.names.Page.{Page}
@@ -9,7 +9,6 @@ use Rattle.vm_types.specs.declared.reference.Ref.{Ref}
 use Rattle.vm_types.specs.declared.reply.Reply.{Reply}
 use Rattle.vm_types.specs.declared.reply.Reply.TheVariants as reply
 use Rattle.vm_types.specs.declared.reply.Why.{Why}
-use Rattle.vm_journal.specs.declared.entry.Entry.{Entry}
 use Rattle.vm_journal.specs.declared.entry.What.{What}
 use Rattle.vm_journal.specs.declared.entry.What.TheVariants as what
 use Rattle.pager_model.specs.Advance.{AgainWhy as Reason, GivenNext, NextIs, gives_again, next_again, next_answered, next_carry, next_more}
@@ -21,8 +20,10 @@ use Rattle.call_laws.specs.AreLegal.{IsLegalNext}
 use Rattle.call_laws.specs.Ready.{IsReady}
 use Rattle.vm_state.specs.CarrierView.{CarrierView}
 use Rattle.vm_state.specs.History.{History, MayAnswer, added, entry_by, owed}
-use Rattle.fault_core.specs.Gives.{Gives, MayGive, again_of, made_in, returned}
-use Rattle.fault_core.specs.ReadySeat.{IsReadySeat}
+use Rattle.vm_state.specs.LiftsLand.{added_each}
+use Rattle.fault_core.specs.Gives.{Gives, MayGive, again_of, returned}
+use Rattle.call_steps.specs.ReadySeat.{IsReadySeat}
+use Rattle.call_steps.proofs.Steps.{paid_first}
 use Rattle.fault_core.specs.declared.next.Next.{Next}
 use Rattle.fault_core.specs.declared.next.Next.TheVariants.{Again, Answered, More, Room}
 
@@ -38,18 +39,6 @@ ready_of s seat ready = record {
 -- ---- what may be made
 pub may_as : (s : History) (seat : Seat) (g g' : GivenNext) → g ≡ g' → MayGive s seat g → MayGive s seat g'
 may_as s seat g g' same may = subst (λ (x : GivenNext). MayGive s seat x) same may
-
--- an entry that begins and ends no transfer leaves what is due
-pub paid_after : (past : List Entry) (e : Entry) (spare k : ℕ) → open_flights (e ∷ past) ≡ open_flights past → fails_read e.what ≡ false → owed past + k ≤ spare → owed (e ∷ past) + k ≤ spare
-paid_after past e spare k flights calm enough =
-    let most : owed (e ∷ past) ≤ owed past = go (fails_read e.what) calm in omega (arith, most, enough)
-  where
-    go : (b : Bool) → b ≡ false → 2 * length (open_flights (e ∷ past)) + cond b 1 0 ≤ owed past
-    go true is = absurd (cc)
-    go false is = let same = ap (λ xs. length xs) flights in omega (arith, same)
-
-pub enough : (past : List Entry) (spare k : ℕ) → k ≤ 64 → owed past + 64 ≤ spare → owed past + k ≤ spare
-enough past spare k few room = omega (arith, few, room)
 
 abbrev pub IsFlat : Bool → History → Seat → Ref → Reply → Type 0
 IsFlat tells s seat r shown = tells ≡ true → shown ≡ flat_reply s.config (flat_after s.config s.past) seat.0 r
@@ -82,11 +71,6 @@ never_room next_answered (Some x) is = cc
 never_room next_carry shown is = cc
 never_room next_more shown is = cc
 never_room (next_again reason) shown is = cc
-
--- ---- the first entry of those that are given
-module _ (s : History) (seat : Seat) where
-  pub paid_first : (w : What) (k : ℕ) → k ≤ 64 → open_flights (entry_by seat w ∷ s.past) ≡ open_flights s.past → fails_read w ≡ false → owed s.past + 64 ≤ s.spare → owed (entry_by seat w ∷ s.past) + k ≤ s.spare
-  paid_first w k few flights calm room = paid_after s.past (entry_by seat w) s.spare k flights calm (enough s.past s.spare k few room)
 
 -- a reference that is answered behind one entry
 pub may_answer_then : (s s' : History) (seat : Seat) (w : What) (r : Ref) → s' ≡ added s (entry_by seat w) → IsLegalNext s.config (by_seat seat.0 w ∷ s.past) seat.0 (what.Done r unsaid)
@@ -132,14 +116,14 @@ module _ {B : Type 0} {content plan : B → Option (List ℕ)} {reads writes fau
 
   -- it is answered behind a page of zeros
   pub answered_zero : (s s1 s2 after : History) (seat : Seat) (n : ℕ) (o : Option Page) (address : Addr) (f : Pfn) (r : Ref) (shown : Reply) (c : CarrierView B) (g : GivenNext)
-      → g ≡ given (reuse_first o n (what.Zero address f ∷ what.Done r unsaid ∷ [])) next_answered → s1 ≡ made_in seat (reuse_first o n []) s → s2 ≡ added s1 (entry_by seat (what.Zero address f))
+      → g ≡ given (reuse_first o n (what.Zero address f ∷ what.Done r unsaid ∷ [])) next_answered → s1 ≡ added_each seat (reuse_first o n []) s → s2 ≡ added s1 (entry_by seat (what.Zero address f))
       → after ≡ added s2 (entry_by seat (what.Done r shown)) → IsFlat tells s2 seat r shown → Gives content plan reads writes faults tells tells_plan s after seat r g (Answered shown) c c
   answered_zero s s1 s2 after seat n o address f r shown c g same first second made flat = subst (λ (x : GivenNext). Gives content plan reads writes faults tells tells_plan s after seat r x (Answered shown) c c) (sym same) (by o first)
     where
       reached : (x : History) → s1 ≡ x → s2 ≡ added x (entry_by seat (what.Zero address f))
       reached x is = second ∙ ap (λ (y : History). added y (entry_by seat (what.Zero address f))) is
 
-      by : (o : Option Page) → s1 ≡ made_in seat (reuse_first o n []) s → Gives content plan reads writes faults tells tells_plan s after seat r (given (reuse_first o n (what.Zero address f ∷ what.Done r unsaid ∷ [])) next_answered) (Answered shown) c c
+      by : (o : Option Page) → s1 ≡ added_each seat (reuse_first o n []) s → Gives content plan reads writes faults tells tells_plan s after seat r (given (reuse_first o n (what.Zero address f ∷ what.Done r unsaid ∷ [])) next_answered) (Answered shown) c c
       by None is = record {
         given = record { shown = shown; history = made ∙ ap (λ (x : History). added x (entry_by seat (what.Done r shown))) (reached s is); answer = refl };
         right = λ t. subst (λ (x : History). IsFlat tells x seat r shown) (reached s is) flat t;

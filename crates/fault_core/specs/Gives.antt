@@ -15,17 +15,13 @@ use Rattle.pager_model.specs.Given.{with_reply}
 use Rattle.pager_model.specs.Spoken.{flat_after}
 use Rattle.call_laws.specs.AreLegal.{AreLegal}
 use Rattle.vm_state.specs.CarrierView.{CarrierView}
-use Rattle.vm_state.specs.History.{History, added, entry_by, owed}
+use Rattle.vm_state.specs.History.{History, owed}
+use Rattle.vm_state.specs.LiftsLand.{added_each}
 use Rattle.fault_core.specs.Lifted.{IsCarrying}
 use Rattle.fault_core.specs.declared.next.AgainWhy.{AgainWhy}
 use Rattle.fault_core.specs.declared.next.AgainWhy.TheVariants.{BlockBusy, Charging, Collided, ModifiedFull, NoFrame, NotResident}
 use Rattle.fault_core.specs.declared.next.Next.{Next}
 use Rattle.fault_core.specs.declared.next.Next.TheVariants.{Again, Answered, Carry, More}
-
--- the history after a seat has added these entries
-abbrev pub made_in : Seat → List What → History → History
-made_in seat [] s = s
-made_in seat (w ∷ ws) s = made_in seat ws (added s (entry_by seat w))
 
 -- the reply that an entry shows
 abbrev pub reply_shown : What → Option Reply
@@ -57,7 +53,7 @@ returned (next_again reason) shown = Some (Again (again_of reason))
 -- the entries are those that are given, with some reply in place of the open one, and so is what is returned
 pub record IsGiven (before after : History) (seat : Seat) (g : GivenNext) (next : Next) : Type 0 where
   pub shown : Reply
-  pub history : after ≡ made_in seat (map (with_reply shown) g.made) before
+  pub history : after ≡ added_each seat (map (with_reply shown) g.made) before
   pub answer : Some next ≡ returned g.answer (last_reply (map (with_reply shown) g.made))
 
 -- a reply is that of memory without frames and disk

@@ -1,5 +1,4 @@
 pub mod Gives
-pub mod ReadySeat
 pub mod SoughtPage
 pub mod Cases
 pub mod Lifted

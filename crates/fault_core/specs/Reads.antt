@@ -1,17 +1,13 @@
 -- The window of a read cluster, and what one read of it makes. This project's own.
-use Rattle.std.specs.Prelude.{◌≡◌, ℕ, ◌-◌, ◌≤◌, List, [], ◌∷◌, Option, Some, if◌then◌else◌, map}
+use Rattle.std.specs.Prelude.{◌≡◌, ℕ, ◌-◌, ◌≤◌, List, ◌∷◌, Option, Some, if◌then◌else◌, map}
 use Rattle.std.specs.List.{range_with_len}
 use Rattle.vm_types.specs.declared.config.Config.{Config}
 use Rattle.vm_types.specs.declared.names.BlockId.{BlockId}
 use Rattle.vm_types.specs.declared.names.BlockId.TheVariants as block
 use Rattle.vm_types.specs.declared.names.Page.{Page}
 use Rattle.vm_types.specs.declared.names.Page.TheVariants.{Private, Shared}
-use Rattle.vm_journal.specs.declared.entry.Role.{Role}
-use Rattle.vm_journal.specs.declared.entry.What.{What}
 use Rattle.pager_model.specs.Advance.{following, is_uncharged}
-use Rattle.pager_model.specs.Given.{reads_made}
 use Rattle.pager_model.specs.Pager.{Pager}
-use Rattle.vm_state.specs.History.{History, pager}
 
 -- the place of a block in its section, in the page file, or among the swap blocks of its process
 abbrev pub block_place : BlockId → ℕ
@@ -32,7 +28,3 @@ reach_of config a g = if is_uncharged a g then 1 else config.params.pfc
 pub record IsWindow (config : Config) (a : Pager) (g : Page) (b : BlockId) (pages : List (Option Page)) : Type 0 where
   pub each : pages ≡ Some g ∷ map (following config a g b) (range_with_len 1 (reach_of config a g - 1))
   pub few : reach_of config a g ≤ 8
-
--- the entries of one read, of a block into the free list's head, which gives up the page that it holds
-abbrev pub one_read : History → BlockId → Role → List What
-one_read s block role = reads_made (pager s).page (pager s).free (record { block = block; role = role } ∷ [])

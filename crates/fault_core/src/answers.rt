@@ -1,8 +1,9 @@
 ghost use Rattle.std.specs.Prelude.{◌≡◌};
 ghost use Rattle.vm_types.specs.WellFormed.{IsWellFormedReference};
+ghost use Rattle.call_steps.specs.MayBegin.{empty};
 ghost use Rattle.fault_core.specs.Cases.{at_entry, at_refusal};
 ghost use Rattle.fault_core.specs.Gives.{Gives, MayGive};
-ghost use Rattle.fault_core.specs.ReadySeat.{IsReadySeat, empty};
+ghost use Rattle.call_steps.specs.ReadySeat.{IsReadySeat};
 
 use crate::faults::mapped;
 use crate::next::Next;

@@ -5,10 +5,11 @@ ghost use Rattle.pager_model.specs.Advance.{is_uncharged};
 ghost use Rattle.pager_model.specs.Lookups.{section_of};
 ghost use Rattle.pager_model.specs.Maps.{is_private};
 ghost use Rattle.vm_state.specs.History.{pager};
+ghost use Rattle.call_steps.specs.MayBegin.{empty};
 ghost use Rattle.fault_core.specs.Cases.{at_fault, at_map, at_room};
 ghost use Rattle.fault_core.specs.SoughtPage.{IsSought};
 ghost use Rattle.fault_core.specs.Gives.{Gives, MayGive};
-ghost use Rattle.fault_core.specs.ReadySeat.{IsReadySeat, empty};
+ghost use Rattle.call_steps.specs.ReadySeat.{IsReadySeat};
 
 use crate::fetches::held;
 use crate::next::{AgainWhy, Next};

@@ -9,17 +9,19 @@ ghost use Rattle.pager_model.specs.Lookups.{IsHead};
 ghost use Rattle.pager_model.specs.Maps.{is_private};
 ghost use Rattle.call_laws.specs.AreLegal.{AreLegal};
 ghost use Rattle.vm_state.specs.History.{owed, pager};
+ghost use Rattle.vm_state.specs.LiftsLand.{added_each};
+ghost use Rattle.call_steps.specs.MayBegin.{empty};
 ghost use Rattle.fault_core.specs.Cases.{at_frame, at_held, at_out, vpn_of};
-ghost use Rattle.fault_core.specs.Gives.{made_in};
 ghost use Rattle.fault_core.specs.SoughtPage.{IsSought};
 ghost use Rattle.fault_core.specs.Gives.{Gives, MayGive};
-ghost use Rattle.fault_core.specs.ReadySeat.{IsReadySeat, empty};
+ghost use Rattle.call_steps.specs.ReadySeat.{IsReadySeat};
 
 use crate::faults::is_uncharged;
 use crate::next::{AgainWhy, Next};
 use crate::reads::read_in;
 use crate::sought::Sought;
 use crate::waits::page_start;
+use call_steps::reuse_first;
 use disk_trait::Block;
 use page_lists::ListName;
 use vm_state::{Carrier, State};
@@ -143,21 +145,6 @@ fn frame<B: Block>(
             None => zero(state, seat, r, x, f, carrier),
         },
         None => Next::Again(AgainWhy::NoFrame),
-    }
-}
-
-/// The free list's head gives up the page that it holds.
-pub fn reuse_first<B: Block>(state: &mut State<B>, seat: Seat, f: Pfn)
-    requires head { IsHead (pager state.old).free f.0 }
-    requires may { AreLegal state.old.config state.old.past seat.0 (reuse_first ((pager state.old).page f.0) f.0 []) }
-    requires paid { owed state.old.past + 2 ≤ state.old.spare }
-    ensures { state.new ≡ made_in seat (reuse_first ((pager state.old).page f.0) f.0 []) state.old }
-{
-    state.run_law();
-    let row = state.frame(f);
-    match row.page {
-        Some(page) => state.reuse(seat, f, page),
-        None => {}
     }
 }
 

@@ -3,20 +3,21 @@ ghost use Rattle.vm_types.specs.Configuration.{IsBlock};
 ghost use Rattle.vm_types.specs.WellFormed.{IsWellFormedReference};
 ghost use Rattle.call_laws.specs.AreLegal.{AreLegal};
 ghost use Rattle.vm_state.specs.History.{owed, pager};
+ghost use Rattle.vm_state.specs.LiftsLand.{added_each};
+ghost use Rattle.call_steps.specs.Lifted.{HasBegunLifts, place_of, places_in};
+ghost use Rattle.call_steps.specs.MayBegin.{empty};
+ghost use Rattle.call_steps.specs.OneRead.{one_read};
 ghost use Rattle.fault_core.specs.Cases.{at_frame};
-ghost use Rattle.fault_core.specs.Lifted.{HasBegunLifts, place_of, reads_in};
-ghost use Rattle.fault_core.specs.Reads.{one_read};
 ghost use Rattle.fault_core.specs.SoughtPage.{IsSought};
-ghost use Rattle.fault_core.specs.Gives.{Gives, MayGive, made_in};
-ghost use Rattle.fault_core.specs.ReadySeat.{IsReadySeat, empty};
+ghost use Rattle.fault_core.specs.Gives.{Gives, MayGive};
+ghost use Rattle.call_steps.specs.ReadySeat.{IsReadySeat};
 
 use crate::cluster::{block_after, cluster};
-use crate::fetches::reuse_first;
 use crate::next::Next;
 use crate::sought::Sought;
 use crate::waits::page_start;
+use call_steps::read_one;
 use disk_trait::Block;
-use page_lists::ListName;
 use vm_journal::Role;
 use vm_state::{Carrier, State};
 use vm_types::{BlockId, Proc, Ref, Seat};
@@ -59,32 +60,4 @@ pub fn read_in<B: Block>(
         }
     }
     Next::Carry
-}
-
-/// A block is read into the free list's head, which gives up the page that it holds.
-fn read_one<B: Block>(
-    state: &mut State<B>,
-    seat: Seat,
-    block: BlockId,
-    role: Role,
-    carrier: &mut Carrier<B>,
-)
-    requires may { AreLegal state.old.config state.old.past seat.0 (one_read state.old block role) }
-    requires paid { owed state.old.past + 4 ≤ state.old.spare }
-    requires few { length carrier.old.lifts < 16 }
-    requires begun { HasBegunLifts B.content B.plan B.reads B.writes B.faults B.tells_content B.tells_plan state.old seat carrier.old }
-    ensures made { state.new ≡ made_in seat (one_read state.old block role) state.old }
-    ensures begun { HasBegunLifts B.content B.plan B.reads B.writes B.faults B.tells_content B.tells_plan state.new seat carrier.new }
-    ensures each { map place_of carrier.new.lifts ≡ map place_of carrier.old.lifts ++ reads_in (one_read state.old block role) }
-    ensures few { length carrier.new.lifts ≤ length carrier.old.lifts + 1 }
-    ensures paid { owed state.new.past + state.old.spare ≤ owed state.old.past + state.new.spare + 4 }
-{
-    state.run_law();
-    match state.head(ListName::Free) {
-        Some(f) => {
-            reuse_first(state, seat, f);
-            state.begin_in(seat, f, block, role, carrier);
-        }
-        None => {}
-    }
 }

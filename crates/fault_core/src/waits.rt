@@ -10,19 +10,20 @@ ghost use Rattle.pager_model.specs.Forget.{holder};
 ghost use Rattle.pager_model.specs.Given.{goes_to, is_stopped, page_address};
 ghost use Rattle.pager_model.specs.Maps.{page_number};
 ghost use Rattle.vm_state.specs.History.{pager};
+ghost use Rattle.call_steps.specs.MayBegin.{empty};
 ghost use Rattle.fault_core.specs.Cases.{at_read, at_replace};
 ghost use Rattle.fault_core.specs.SoughtPage.{IsSought};
 ghost use Rattle.fault_core.specs.Gives.{Gives, MayGive};
-ghost use Rattle.fault_core.specs.ReadySeat.{IsReadySeat, empty};
+ghost use Rattle.call_steps.specs.ReadySeat.{IsReadySeat};
 
 use crate::faults::room;
 use crate::next::{AgainWhy, Next};
 use crate::sought::Sought;
+use call_steps::{goes_to, is_stopped};
 use disk_trait::Block;
-use pfn_database::Row;
 use vm_journal::EvictWhy;
 use vm_state::{Carrier, OpenRead, State};
-use vm_types::{Addr, FrameState, Pfn, Proc, Ref, Seat};
+use vm_types::{Addr, Pfn, Proc, Ref, Seat};
 use working_set::Choice;
 
 /// The first address of the page that is referred to.
@@ -116,29 +117,6 @@ fn victim_of(choice: Choice) -> u32
         Choice::Victim(n) => n,
         _ => 0,
     }
-}
-
-/// Where a frame goes that loses one of its entries.
-fn goes_to(row: Row) -> FrameState
-    ensures { result ≡ evicted_to row.shares row.flights row.modify }
-{
-    if row.shares > 1 {
-        FrameState::Active
-    } else if row.flights > 0 {
-        FrameState::ReleasePending
-    } else if row.modify {
-        FrameState::Modified
-    } else {
-        FrameState::Free
-    }
-}
-
-/// Whether a frame that goes there has to wait for the modified list.
-fn is_stopped<B: Block>(state: &State<B>, f: Pfn, to: FrameState) -> bool
-    requires { to ≡ goes_to state.now.past (pager state.now) f.0 }
-    ensures { result ≡ is_stopped state.now.config state.now.past (pager state.now) f.0 }
-{
-    matches!(to, FrameState::Modified) && state.config().params.waitlimit <= state.modified_len()
 }
 
 /// As many pages are in the working set as its limit allows: the ring's victim leaves it.

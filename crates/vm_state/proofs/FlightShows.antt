@@ -256,3 +256,11 @@ module _ {B : Type 0} {content plan : B → Option (List ℕ)} {reads writes fau
       by true c there back = sym (there refl)
       by false true there back = back refl
       by false false there back = refl
+
+  -- nor does one if no transfer is open
+  pub none_comes : (p : ℕ) → fields.in_flight ≡ 0 → has_come p (open_flights past) ≡ false
+  none_comes p none = by (open_flights past) (sym before.parts.seats.total ∙ none)
+    where
+      by : (flights : List Flight) → length flights ≡ 0 → has_come p flights ≡ false
+      by [] none = refl
+      by (x ∷ xs) none = absurd (omega (arith, none))

@@ -32,6 +32,7 @@ use Rattle.content_laws.specs.Put.{PutsBlock}
 use Rattle.content_laws.proofs.AtHome.{block_is_home, buffer_home}
 use Rattle.content_laws.proofs.CarriedFits.{few_calls}
 use Rattle.content_laws.proofs.ContentStays.{write_begins}
+use Rattle.content_laws.proofs.LiftsStay.{lifts_stay}
 use Rattle.frame_store.specs.Blocks.{block_at, blocks_of, held_at, number_in, number_of}
 use Rattle.frame_store.specs.LiftView.{LiftView, begun}
 use Rattle.frame_store.specs.StoreView.{StoreView, lifted_out}
@@ -44,7 +45,7 @@ use Rattle.state_fits.proofs.OutCan.{CanBeginWrite, can_begin_write}
 use Rattle.state_fits.proofs.OutParts.{listed_writable, swap_writable}
 use Rattle.vm_state.specs.History.{History, entry_by}
 use Rattle.vm_state.specs.LiftsBegin.{HasBegun}
-use Rattle.vm_state.specs.LiftsFit.{LiftFits}
+use Rattle.vm_state.specs.LiftsFit.{LiftFits, lift_seen}
 use Rattle.vm_state.specs.StateKept.{IsState, IsStoreOf, home_in, is_writing}
 use Rattle.vm_state.proofs.Closing.{kept, right}
 use Rattle.vm_state.proofs.SeatFlights.{few_writes}
@@ -152,6 +153,10 @@ module _ {B : Type 0} {content plan : B → Option (List ℕ)} {reads writes fau
 
   pub few : 1 ≤ spare → IfSome (held_at store.blocks (number_in store.ids b)) (λ (x : B). reads x + writes x < 2 ^ 48)
   few some = subst (λ (o : Option B). IfSome o (λ (x : B). reads x + writes x < 2 ^ 48)) (sym block_here) (called_little found_bytes.0 found_bytes.1 found_block.0 block_here some)
+
+  -- every other lift that fits still does
+  pub other_fits : (lift : LiftView B) → LiftFits content plan reads writes faults tells tells_plan config past lift → LiftFits content plan reads writes faults tells tells_plan config (record { seat = seat; what = what.Out f b } ∷ past) lift
+  other_fits lift fit = lifts_stay tells tells_plan config past (record { seat = seat; what = what.Out f b }) (lift_seen content plan reads writes faults lift) before.formed (before.run, legal) refl fit
 
   -- ---- the store after it
   module _ (frames' : Frames) (k : ℕ) where

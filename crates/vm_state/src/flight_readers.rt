@@ -43,11 +43,11 @@ impl<B: Block> State<B> {
     }
 
     /// Whether a page of a process (any number) is being read back from its swap block. Looks at each
-    /// frame.
+    /// frame if some transfer is open.
     pub fn has_come(&self, p: Proc) -> bool
         ensures { result ≡ has_come p.0 (open_flights self.now.past) }
     {
-        any_comes(&self.roles, p)
+        self.in_flight > 0 && any_comes(&self.roles, p)
     }
 
     /// Whether no open transfer is on a block of the configuration.

@@ -1,4 +1,4 @@
-ghost use Rattle.std.specs.Prelude.{◌≡◌, ◌<◌, ◌+◌, true, length, reverse, slice_get};
+ghost use Rattle.std.specs.Prelude.{◌≡◌, ◌≢◌, ◌<◌, ◌+◌, ℕ, true, length, reverse, slice_get};
 ghost use Rattle.pager_model.specs.Flights.{is_busy, open_flights};
 ghost use Rattle.state_fits.specs.File.{owner_in};
 ghost use Rattle.state_fits.specs.Seats.{start_on};
@@ -167,6 +167,17 @@ impl<B: Block> State<B> {
         ensures { result ≡ length (pager self.now).assigned }
     {
         self.file.assigned()
+    }
+
+    /// The lowest block of the page file that is assigned to no page. More blocks are charged than
+    /// assigned.
+    pub fn lowest(&self) -> u32
+        requires { length (pager self.now).assigned < length (pager self.now).charged }
+        ensures exists { result < self.now.config.pagefile }
+        ensures free { owner_in (pager self.now).assigned result ≡ None }
+        ensures least { (n : ℕ) → n < result → owner_in (pager self.now).assigned n ≢ None }
+    {
+        self.file.lowest()
     }
 
     /// The page that a block of the page file is assigned to.

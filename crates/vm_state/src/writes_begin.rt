@@ -12,11 +12,14 @@ use write_moves::give_block;
 impl<B: Block> State<B> {
     ghost use Rattle.frame_store.specs.LiftView.{LiftView};
     ghost use Rattle.vm_journal.specs.declared.entry.What.{What};
+    ghost use Rattle.vm_state.specs.Beginnings.{LiftsFit};
     ghost use Rattle.vm_state.specs.CarrierView.{CanTake, taking};
     ghost use Rattle.vm_state.specs.History.{MayAdd, added, entry_by};
     ghost use Rattle.vm_state.specs.LiftsBegin.{HasBegun};
+    ghost use Rattle.vm_state.specs.LiftsFit.{LiftFits};
 
-    /// A write of the page in a frame begins; the seat's carrier takes its lift.
+    /// A write of the page in a frame begins; the seat's carrier takes its lift. If the lifts of the
+    /// carrier fit the journal, they still do.
     pub fn begin_out(&mut self, seat: Seat, f: Pfn, block: BlockId, carrier: &mut Carrier<B>)
         requires may { MayAdd self.old (entry_by seat (What.Out f block)) }
         requires room { CanTake carrier.old seat }
@@ -25,6 +28,8 @@ impl<B: Block> State<B> {
             × HasBegun B.content B.plan B.reads B.writes B.faults B.tells_content B.tells_plan
             self.old seat (What.Out f block) f.0 block false lift
             × (carrier.new ≡ taking carrier.old lift) }
+        ensures fit { LiftsFit B.content B.plan B.reads B.writes B.faults B.tells_content B.tells_plan self.old carrier.old
+            → LiftsFit B.content B.plan B.reads B.writes B.faults B.tells_content B.tells_plan self.new carrier.new }
     {
         let lift = self.lift_out(seat, f, block);
         carrier.take(lift);
@@ -36,6 +41,9 @@ impl<B: Block> State<B> {
         ensures state { self.new ≡ added self.old (entry_by seat (What.Out f block)) }
         ensures lift { HasBegun B.content B.plan B.reads B.writes B.faults B.tells_content B.tells_plan
             self.old seat (What.Out f block) f.0 block false result }
+        ensures others { (lift : LiftView B)
+            → LiftFits B.content B.plan B.reads B.writes B.faults B.tells_content B.tells_plan self.old.config self.old.past lift
+            → LiftFits B.content B.plan B.reads B.writes B.faults B.tells_content B.tells_plan self.new.config self.new.past lift }
     {
         let start = self.journal.entries().len() as u64 + 1;
         let kept = self.store.frames().row(f);

@@ -1,10 +1,13 @@
-use Rattle.std.proofs.Common.{◌≡◌, ℕ, ◌+◌, ◌<◌, refl, sym, ap, ◌∙◌, subst, length, arith}
+use Rattle.std.proofs.Common.{◌≡◌, ℕ, ◌+◌, ◌<◌, List, refl, sym, ap, ◌∙◌, subst, length, arith}
 use Rattle.std.specs.Prelude.{IsSome}
 use Rattle.pfn_database.specs.Frames.{Frames, row_of}
 use Rattle.pfn_database.specs.declared.row.Row.{Row}
+use Rattle.vm_journal.specs.declared.entry.Entry.{Entry}
 use Rattle.vm_journal.specs.declared.entry.What.TheVariants as what
 use Rattle.vm_state.specs.History.{entry_by}
-use Rattle.vm_state.proofs.Closing.{may_before, next_number, pushed}
+use Rattle.vm_state.specs.LiftsFit.{LiftFits}
+use Rattle.vm_state.proofs.Closing.{may_before, newest_first, next_number, pushed}
+use Rattle.vm_state.proofs.ReadLands.{fits_before}
 use Rattle.vm_state.proofs.OutCloses as close
 use Rattle.vm_state.proofs.WriteBegins as begin
 use Rattle.vm_state.proofs.state.State.lift_out.Goals as goal
@@ -78,3 +81,8 @@ returns-clause-lift g c =
     _ (next_number _ c.entries.result.now c.entries.ensures.entries) c.lift_out-lift.result c.lift_out-lift.ensures.lift in
     close.begun_before g.B.Block.content g.B.Block.plan g.B.Block.reads g.B.Block.writes g.B.Block.faults g.B.Block.tells_content g.B.Block.tells_plan c.args.seat c.args.f c.args.block c.lift_out-lift.result c.self.view_is
     (record { begins = its.0; fits = its.1 })
+
+pub returns-clause-others : goal.returns-clause-others
+returns-clause-others g c = λ lift fit.
+    subst (λ (past : List Entry). LiftFits g.B.Block.content g.B.Block.plan g.B.Block.reads g.B.Block.writes g.B.Block.faults g.B.Block.tells_content g.B.Block.tells_plan c.self.inside.config past lift) (sym (newest_first _ c.push.new.self _ (entry_by c.args.seat (what.Out c.args.f c.args.block)) c.push.ensures))
+    (begin.other_fits c.self.invariant c.args.seat c.args.f c.args.block (may_before c.self.view_is c.requires).legal lift (fits_before g.B.Block.content g.B.Block.plan g.B.Block.reads g.B.Block.writes g.B.Block.faults g.B.Block.tells_content g.B.Block.tells_plan lift c.self.view_is fit))

@@ -1,0 +1,4 @@
+pub mod MayBegin
+pub mod ReadySeat
+pub mod Lifted
+pub mod OneRead

@@ -1,0 +1,10 @@
+pub mod Reversed
+pub mod SeatLandings
+pub mod LandingsAgree
+pub mod CarrierIsWhole
+pub mod CarriedLifts
+pub mod AllLand
+pub mod Paid
+pub mod Failures
+pub mod BegunFlights
+pub mod WholeCarriers

@@ -1,0 +1,2 @@
+pub mod SeatFlights
+pub mod HaveLanded

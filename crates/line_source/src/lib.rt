@@ -1,0 +1,10 @@
+//! The lines of a source, one after another, with no memory taken: a line of more than 255 bytes is
+//! handed out as its first 256.
+#![tactic(auto)]
+
+mod lines;
+
+pub use lines::{Line, Lines};
+
+#[cfg(test)]
+mod tests;

@@ -1,0 +1,21 @@
+use Rattle.std.proofs.Common.{◌≡◌, ℕ, ◌+◌, ◌∙◌, Bool, ap, cond, nat_lt}
+use Rattle.std.specs.Prelude.{is_some}
+use Rattle.pager_model.specs.Flights.{open_flights}
+use Rattle.pager_model.specs.Lookups.{shares}
+use Rattle.pager_model.specs.Transfers.{reads_on, writes_on}
+use Rattle.state_fits.proofs.FrameRows.{row_is}
+use Rattle.vm_state.specs.History.{pager}
+use Rattle.vm_state.proofs.Owed.{byte_is}
+use Rattle.pfn_report.proofs.FrameFits.{one_flight}
+use Rattle.pfn_report.proofs.rows.frame_row.Goals as goal
+
+pub returns : goal.returns
+returns g c =
+    let s = c.args.state.now in
+    let a = pager c.args.state.now in
+    let f = (c.args.f).0 in
+    let seen = c.frame-row.ensures ∙ row_is a.state a.page a.modify a.valid a.ring (open_flights s.past) f in
+    let shared : c.from.result ≡ cond (nat_lt 0 (shares a.valid f)) 1 0 = c.from.ensures ∙ (byte_is (nat_lt 0 c.args.count) ∙ ap (λ (n : ℕ). cond {A = ℕ} (nat_lt 0 n) 1 0) c.requires.shares) in
+    let open_on : c.from-2.result ≡ reads_on f (open_flights s.past) + writes_on f (open_flights s.past) =
+    c.from-2.ensures ∙ (byte_is c.is_some.result ∙ (ap (λ (b : Bool). cond {A = ℕ} b 1 0) (c.is_some.ensures ∙ ap is_some c.flight-flight.ensures) ∙ one_flight s.config s.past f c.run_law.ensures.formed c.run_law.ensures.run)) in
+    λ i. record { state = (seen i).state; page = (seen i).page; modify = (seen i).modify; refs = shared i + open_on i; shares = c.requires.shares i }

@@ -1,0 +1,3 @@
+pub mod Counts
+pub mod Printable
+pub mod Rows

@@ -1,0 +1,46 @@
+ghost use Rattle.std.specs.Prelude.{◌≡◌, IfOk, replicate};
+ghost use Rattle.pager_model.specs.Report.{report_of};
+ghost use Rattle.vm_state.specs.History.{pager};
+ghost use Rattle.pfn_report.specs.Printable.{IsPrintable};
+
+use crate::report::Report;
+use crate::rows::{frame_rows, process_rows};
+use crate::states::count_states;
+use disk_trait::Block;
+use std::alloc::Global;
+use vm_state::State;
+use vm_types::NoMemory;
+
+/// No count yet of so many frames.
+fn no_counts(alloc: Global, frames: u32) -> Result<Vec<u32>, NoMemory>
+    ensures { IfOk result (λ v. v.items ≡ replicate frames 0) }
+{
+    Ok(vec![in alloc; 0; frames as usize]?)
+}
+
+/// The report of a state, counted anew: a frame's shares are the slots of working sets whose entries
+/// name it, its references come from these and from its transfer, and the states are counted frame by
+/// frame. The report has a text. Looks once at each slot of each process and at each frame.
+///
+/// # Errors
+/// `NoMemory` if out of memory.
+pub fn recount<B: Block>(alloc: Global, state: &State<B>) -> Result<Report, NoMemory>
+    ensures report { IfOk result (λ r. r ≡ report_of state.now.config state.now.past (pager state.now)) }
+    ensures printable { IfOk result (IsPrintable state.now.config.sections) }
+{
+    state.run_law();
+    let config = state.config();
+    let mut counts = no_counts(alloc, config.frames)?;
+    let processes = process_rows(alloc, state, &mut counts)?;
+    let frames = frame_rows(alloc, state, &counts)?;
+    let states = count_states(alloc, frames.items())?;
+    Ok(Report {
+        at: state.entries().len() as u64,
+        states,
+        frames,
+        size: config.pagefile,
+        charged: state.charged(),
+        assigned: state.assigned(),
+        processes,
+    })
+}

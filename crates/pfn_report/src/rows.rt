@@ -1,0 +1,77 @@
+//! The rows of a report.
+
+ghost use Rattle.std.specs.Prelude.{◌≡◌, ◌<◌, IfOk, OnOk, length, map};
+ghost use Rattle.std.specs.List.{range_with_len};
+ghost use Rattle.pager_model.specs.Lookups.{shares};
+ghost use Rattle.pager_model.specs.Report.{frame_row, frame_rows, process_row};
+ghost use Rattle.vm_state.specs.History.{pager};
+ghost use Rattle.pfn_report.specs.Counts.{AreCounts};
+ghost use Rattle.pfn_report.specs.Rows.{frame_view, process_view};
+
+use crate::report::{FrameRow, ProcessRow};
+use crate::slots::count_slots;
+use disk_trait::Block;
+use std::alloc::Global;
+use vm_state::State;
+use vm_types::{Listed, NoMemory, Pfn, Proc};
+
+/// The processes by number; each page in their working sets is added to the shares of its frame.
+pub fn process_rows<B: Block>(
+    alloc: Global,
+    state: &State<B>,
+    counts: &mut [u32],
+) -> Result<Listed<ProcessRow>, NoMemory>
+    requires { AreCounts state.now.config.frames (λ f. 0) counts.old }
+    ensures rows { IfOk result (λ rows. map process_view rows
+        ≡ map (process_row (pager state.now)) (range_with_len 0 (length state.now.config.procs))) }
+    ensures counts { OnOk result (AreCounts state.now.config.frames (shares (pager state.now).valid) counts.new) }
+{
+    state.run_law();
+    let mut rows = Listed::new(alloc);
+    for number in 0..state.config().procs.items().len() as u32 {
+        let p = Proc(number);
+        let count = count_slots(state, p, counts);
+        let status = state.status(p);
+        let limit = state.limit_of(p);
+        rows.push(ProcessRow {
+            status,
+            count,
+            limit,
+        })?;
+    }
+    Ok(rows)
+}
+
+/// A frame of the configuration, with this many shares.
+fn frame_row<B: Block>(state: &State<B>, f: Pfn, count: u32) -> FrameRow
+    requires there { f.0 < state.now.config.frames }
+    requires shares { count ≡ shares (pager state.now).valid f.0 }
+    ensures { frame_view result ≡ frame_row state.now.past (pager state.now) f.0 }
+{
+    state.run_law();
+    let row = state.frame(f);
+    let flight = state.flight(f);
+    FrameRow {
+        state: row.state,
+        page: row.page,
+        modify: row.modify,
+        refs: u32::from(count > 0) + u32::from(flight.is_some()),
+        shares: count,
+    }
+}
+
+/// The frames by number, with these shares.
+pub fn frame_rows<B: Block>(
+    alloc: Global,
+    state: &State<B>,
+    counts: &[u32],
+) -> Result<Listed<FrameRow>, NoMemory>
+    requires { AreCounts state.now.config.frames (shares (pager state.now).valid) counts.now }
+    ensures { IfOk result (λ rows. map frame_view rows ≡ frame_rows state.now.config state.now.past (pager state.now)) }
+{
+    let mut rows = Listed::new(alloc);
+    for f in 0..state.config().frames {
+        rows.push(frame_row(state, Pfn(f), counts[f as usize]))?;
+    }
+    Ok(rows)
+}

@@ -1,0 +1,5 @@
+use Rattle.serial_laws.proofs.Refusals.{refusal_legal}
+use Rattle.serial_laws.proofs.laws.refusal_is_legal.Goals as goal
+
+pub returns : goal.returns
+returns c = refusal_legal

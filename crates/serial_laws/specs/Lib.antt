@@ -1,0 +1,3 @@
+pub mod Between
+pub mod Controlled
+pub mod Laws

@@ -1,0 +1,4 @@
+pub mod Serves
+pub mod Cases
+pub mod Lowest
+pub mod OwnFlights

@@ -1,0 +1,10 @@
+pub mod Ranges
+pub mod EarliestSpoken
+pub mod SlotsSeen
+pub mod SwapBlocks
+pub mod Gathered
+pub mod Makes
+pub mod Leaves
+pub mod Comes
+pub mod ReadsLeft
+pub mod RunTransfers

@@ -1,0 +1,52 @@
+-- What a step leaves, by what was given for it.
+use Rattle.std.proofs.Common.{◌≡◌, ℕ, Bool, List, [], ◌∷◌, Option, refl, sym, subst, arith}
+use Rattle.vm_types.specs.declared.names.Seat.{Seat}
+use Rattle.vm_journal.specs.declared.entry.What.{What}
+use Rattle.pager_model.specs.Given.{given}
+use Rattle.pager_model.specs.Swap.{GivenSwap, SwapIs, SwapWhy as Reason, swap_again, swap_carry, swap_more, swap_settled}
+use Rattle.call_laws.specs.Ready.{MayWork}
+use Rattle.pager_model.specs.Run.{IsRun}
+use Rattle.vm_types.specs.Configuration.{IsWellFormed}
+use Rattle.call_steps.specs.Lifted.{HasLifts}
+use Rattle.call_steps.specs.MayBegin.{MayBegin}
+use Rattle.vm_state.specs.CarrierView.{CarrierView}
+use Rattle.vm_state.specs.History.{History, added, entry_by}
+use Rattle.vm_state.specs.LiftsLand.{added_each}
+use Rattle.vm_swapper.specs.Swaps.{MaySwap, Swaps, again_of, returned}
+use Rattle.vm_swapper.specs.declared.swap.Swap.{Swap}
+use Rattle.vm_swapper.specs.declared.swap.Swap.TheVariants.{Again, Carry, More, Room}
+
+pub may_work : (s : History) (seat : Seat) → MayBegin s seat → IsWellFormed s.config → IsRun s.config s.past → MayWork s.config s.past seat.0
+may_work s seat may formed run = record {
+  formed = formed;
+  run = run;
+  free = record { idle = may.idle; calm = may.calm };
+  seat_there = let there = may.there in omega (arith, there);
+}
+
+pub may_as : (s : History) (seat : Seat) (g g' : GivenSwap) → g ≡ g' → MaySwap s seat g → MaySwap s seat g'
+may_as s seat g g' same may = subst (λ (x : GivenSwap). MaySwap s seat x) same may
+
+-- room isn't an answer of the rule
+pub never_room : (is : SwapIs) → Room ≡ returned is → ⊥
+never_room swap_carry same = cc
+never_room swap_more same = cc
+never_room swap_settled same = cc
+never_room (swap_again reason) same = cc
+
+module _ {B : Type 0} {content plan : B → Option (List ℕ)} {reads writes faults : B → ℕ} {tells tells_plan : Bool} (s after : History) (seat : Seat) where
+  pub swaps_as : {swap : Swap} {old new : CarrierView B} (g g' : GivenSwap) → g ≡ g' → Swaps content plan reads writes faults tells tells_plan s after seat g' swap old new → Swaps content plan reads writes faults tells tells_plan s after seat g swap old new
+  swaps_as {swap} {old} {new} g g' same is = subst (λ (x : GivenSwap). Swaps content plan reads writes faults tells tells_plan s after seat x swap old new) (sym same) is
+
+  -- nothing is made
+  pub waits : (reason : Reason) (c : CarrierView B) (g : GivenSwap) → g ≡ given [] (swap_again reason) → after ≡ s → Swaps content plan reads writes faults tells tells_plan s after seat g (Again (again_of reason)) c c
+  waits reason c g same made = swaps_as g (given [] (swap_again reason)) same (record { history = made; answer = refl; carrier = refl })
+
+  -- an entry is made, and the call is made again
+  pub goes_on : (w : What) (c : CarrierView B) (g : GivenSwap) → g ≡ given (w ∷ []) swap_more → after ≡ added s (entry_by seat w) → Swaps content plan reads writes faults tells tells_plan s after seat g More c c
+  goes_on w c g same made = swaps_as g (given (w ∷ []) swap_more) same (record { history = made; answer = refl; carrier = refl })
+
+  -- transfers begin
+  pub carries : (made : List What) (old new : CarrierView B) (g : GivenSwap) → g ≡ given made swap_carry → after ≡ added_each seat made s → HasLifts content plan reads writes faults tells tells_plan after seat made new
+      → Swaps content plan reads writes faults tells tells_plan s after seat g Carry old new
+  carries made old new g same is lifts = swaps_as g (given made swap_carry) same (record { history = is; answer = refl; carrier = lifts })

@@ -1,0 +1,12 @@
+use Rattle.std.proofs.Common.{arith}
+use Rattle.call_laws.proofs.LeaveLegal.{leave_legal}
+use Rattle.vm_swapper.proofs.Makes.{may_work}
+use Rattle.vm_swapper.proofs.leave.leave_some.Goals as goal
+
+pub leave-requires-clause-may : goal.leave-requires-clause-may
+leave-requires-clause-may g c κs within = record {
+  legal =
+      leave_legal c.args.state.now.config c.args.state.now.past (c.args.seat).0 (c.args.p).0 (may_work c.args.state.now c.args.seat c.requires.idle c.run_law.ensures.formed c.run_law.ensures.run)
+      c.requires.process c.requires.leaving;
+  room = let spare = c.spare.ensures in let owed = c.owed.ensures in let paid = c.run_law.ensures.paid in omega (arith, spare, owed, paid);
+}

@@ -1,0 +1,166 @@
+ghost use Rattle.std.specs.Prelude.{◌≡◌, ◌+◌, ◌<◌, ◌≤◌, ◌↔◌, length};
+ghost use Rattle.pager_model.specs.Swap.{leave_gives};
+ghost use Rattle.vm_types.specs.declared.names.ProcStatus.TheVariants as status;
+ghost use Rattle.call_steps.specs.MayBegin.{MayBegin, empty};
+ghost use Rattle.vm_state.specs.History.{owed, pager};
+ghost use Rattle.vm_swapper.specs.Cases.{at_gone, at_leave, at_private, at_slot, at_unsaved, at_writes};
+ghost use Rattle.vm_swapper.specs.Swaps.{MaySwap, Swaps};
+ghost use Rattle.vm_swapper.specs.declared.swap.Swap.{Swap};
+
+use crate::looks::{Look, first};
+use crate::runs::frames_from;
+use crate::seen::see;
+use crate::swap::{Swap, SwapWhy};
+use crate::transfers::write_all;
+use call_steps::{goes_to, is_stopped};
+use disk_trait::Block;
+use vm_journal::EvictWhy;
+use vm_state::{Carrier, State};
+use vm_types::{Addr, Proc, ProcStatus, Seat};
+
+/// Makes the next entries for a process that leaves memory, by any seat without an open transfer: by the
+/// first case that applies. There may be room for too few entries; else a shared page is evicted, then a
+/// private page that is saved in its slot's swap block; then a run of private pages is written there; and
+/// a process without pages is gone. Doesn't allocate.
+pub fn leave_some<B: Block>(
+    state: &mut State<B>,
+    seat: Seat,
+    p: Proc,
+    carrier: &mut Carrier<B>,
+) -> Swap
+    requires idle { MayBegin state.old seat }
+    requires process { p.0 < length state.old.config.procs }
+    requires leaving { (pager state.old).status p.0 ≡ status.Leaving }
+    requires carrier { carrier.old ≡ empty seat }
+    ensures room { (result ≡ Swap.Room) ↔ (state.old.spare < owed state.old.past + 64) }
+    ensures same { result ≡ Swap.Room → (state.new ≡ state.old) × (carrier.new ≡ carrier.old) }
+    ensures gives { owed state.old.past + 64 ≤ state.old.spare
+        → Swaps B.content B.plan B.reads B.writes B.faults B.tells_content B.tells_plan
+        state.old state.new seat (leave_gives state.old.config state.old.past (pager state.old) p.0) result
+        carrier.old carrier.new }
+{
+    state.run_law();
+    if state.spare() - state.owed() < 64 {
+        return Swap::Room;
+    }
+    leave(state, seat, p, carrier)
+}
+
+/// A shared page is evicted first.
+fn leave<B: Block>(state: &mut State<B>, seat: Seat, p: Proc, carrier: &mut Carrier<B>) -> Swap
+    requires process { p.0 < length state.old.config.procs }
+    requires may { MaySwap state.old seat (at_leave state.old p.0) }
+    requires carrier { carrier.old ≡ empty seat }
+    ensures { Swaps B.content B.plan B.reads B.writes B.faults B.tells_content B.tells_plan
+        state.old state.new seat (at_leave state.old p.0) result carrier.old carrier.new }
+{
+    match first(state, p, Look::Shared) {
+        Some(n) => evict_at(state, seat, p, n, carrier),
+        None => leave_private(state, seat, p, carrier),
+    }
+}
+
+/// No shared page is in a slot: a page that is saved is evicted next.
+fn leave_private<B: Block>(
+    state: &mut State<B>,
+    seat: Seat,
+    p: Proc,
+    carrier: &mut Carrier<B>,
+) -> Swap
+    requires process { p.0 < length state.old.config.procs }
+    requires may { MaySwap state.old seat (at_private state.old p.0) }
+    requires carrier { carrier.old ≡ empty seat }
+    ensures { Swaps B.content B.plan B.reads B.writes B.faults B.tells_content B.tells_plan
+        state.old state.new seat (at_private state.old p.0) result carrier.old carrier.new }
+{
+    match first(state, p, Look::Saved) {
+        Some(n) => evict_at(state, seat, p, n, carrier),
+        None => leave_unsaved(state, seat, p, carrier),
+    }
+}
+
+/// No page that may be evicted is in a slot: those that aren't saved are written.
+fn leave_unsaved<B: Block>(
+    state: &mut State<B>,
+    seat: Seat,
+    p: Proc,
+    carrier: &mut Carrier<B>,
+) -> Swap
+    requires process { p.0 < length state.old.config.procs }
+    requires may { MaySwap state.old seat (at_unsaved state.old p.0) }
+    requires carrier { carrier.old ≡ empty seat }
+    ensures { Swaps B.content B.plan B.reads B.writes B.faults B.tells_content B.tells_plan
+        state.old state.new seat (at_unsaved state.old p.0) result carrier.old carrier.new }
+{
+    match first(state, p, Look::Unsaved) {
+        Some(n) => write_from(state, seat, p, n, carrier),
+        None => turn_gone(state, seat, p, carrier),
+    }
+}
+
+/// The page in a slot is evicted, unless it would add to a modified list that is at its wait limit.
+fn evict_at<B: Block>(
+    state: &mut State<B>,
+    seat: Seat,
+    p: Proc,
+    n: u32,
+    carrier: &mut Carrier<B>,
+) -> Swap
+    requires process { p.0 < length state.old.config.procs }
+    requires may { MaySwap state.old seat (at_slot state.old p.0 n) }
+    requires carrier { carrier.old ≡ empty seat }
+    ensures { Swaps B.content B.plan B.reads B.writes B.faults B.tells_content B.tells_plan
+        state.old state.new seat (at_slot state.old p.0 n) result carrier.old carrier.new }
+{
+    match see(state, p, n) {
+        Some(x) => {
+            let row = state.frame(x.frame);
+            let to = goes_to(row);
+            if is_stopped(state, x.frame, to) {
+                Swap::Again(SwapWhy::ModifiedFull)
+            } else {
+                let a = Addr(512 * x.vpn);
+                state.evict(seat, p, a, x.frame, EvictWhy::Leave, to);
+                Swap::More
+            }
+        }
+        None => Swap::Again(SwapWhy::InFlight),
+    }
+}
+
+/// The private pages in the slots from this one on are written to the swap blocks.
+fn write_from<B: Block>(
+    state: &mut State<B>,
+    seat: Seat,
+    p: Proc,
+    n: u32,
+    carrier: &mut Carrier<B>,
+) -> Swap
+    requires process { p.0 < length state.old.config.procs }
+    requires slot { n < 1024 }
+    requires may { MaySwap state.old seat (at_writes state.old p.0 n) }
+    requires carrier { carrier.old ≡ empty seat }
+    ensures { Swaps B.content B.plan B.reads B.writes B.faults B.tells_content B.tells_plan
+        state.old state.new seat (at_writes state.old p.0 n) result carrier.old carrier.new }
+{
+    state.run_law();
+    let frames = frames_from(state, p, n, state.config().params.wrtcluster);
+    write_all(state, seat, p, n, frames.as_slice(), carrier);
+    Swap::Carry
+}
+
+/// A process without pages is gone; one whose pages are in flight waits for them.
+fn turn_gone<B: Block>(state: &mut State<B>, seat: Seat, p: Proc, carrier: &mut Carrier<B>) -> Swap
+    requires process { p.0 < length state.old.config.procs }
+    requires may { MaySwap state.old seat (at_gone state.old p.0) }
+    requires carrier { carrier.old ≡ empty seat }
+    ensures { Swaps B.content B.plan B.reads B.writes B.faults B.tells_content B.tells_plan
+        state.old state.new seat (at_gone state.old p.0) result carrier.old carrier.new }
+{
+    if state.count(p) > 0 {
+        Swap::Again(SwapWhy::InFlight)
+    } else {
+        state.turn(seat, p, ProcStatus::Gone);
+        Swap::Settled
+    }
+}

@@ -1,0 +1,17 @@
+//! The swapper: which process leaves memory, and the steps of one that leaves or comes back.
+#![tactic(auto)]
+
+mod come;
+mod leave;
+mod looks;
+mod runs;
+mod seen;
+mod slots;
+mod swap;
+mod transfers;
+mod victims;
+
+pub use come::come_some;
+pub use leave::leave_some;
+pub use swap::{Swap, SwapWhy};
+pub use victims::victim;
