@@ -11,12 +11,14 @@ use Rattle.vm_types.specs.Same.{same_page}
 use Rattle.vm_types.specs.declared.names.Page.{Page}
 use Rattle.vm_types.specs.declared.config.Config.{Config}
 use Rattle.pager_model.specs.Flat.{FlatState, flat_with, touched_with, is_untouched, shared_bytes}
-use Rattle.flat_model.specs.FlatMachine.{IsFlat, AreTablesOf, stored_of, is_of, is_touch, bytes_or}
+use Rattle.flat_model.specs.FlatMachine.{IsFlat, AreTablesOf, stored_of, is_of, is_touch, is_touch_of, bytes_or}
 use Rattle.pager_model.specs.Maps.{is_private}
 use Rattle.pager_model.specs.Sets.{has_page, with_page}
+use Rattle.flat_model.specs.Behind.{mapped_in}
+use Rattle.flat_model.specs.declared.tables.Tables.{Tables}
 use Rattle.flat_model.specs.declared.flat.Flat.{Flat}
 use Rattle.flat_model.specs.declared.flat.Stored.{Stored}
-use Rattle.pager_rules.proofs.Basics.{same_page_refl, pages_equal, same_from_equal, has_page_first}
+use Rattle.pager_rules.proofs.Basics.{same_page_refl, pages_equal, same_from_equal, has_page_first, count_cons}
 use Rattle.flat_model.proofs.Found.{found_passes}
 
 -- ---- the entry of each page
@@ -94,14 +96,14 @@ untouched_none config state flat page h entry = ap (λ (b : Bool). is_private pa
     go true = refl
     go false = refl
 
-pub flat_kept : (config : Config) (state : FlatState) (old new : Flat) (e : Stored) → IsFlat config state old → new.tables ≡ old.tables → IsWith old.stored.items e new.stored.items → length (touched_with state.touched e.page) ≡ count_by is_touch new.stored.items → IsFlat config (flat_with state e.page e.bytes) new
+pub flat_kept : (config : Config) (state : FlatState) (old new : Flat) (e : Stored) → IsFlat config state old → new.tables ≡ old.tables → IsWith old.stored.items e new.stored.items → ((test : Page → Bool) → count_by test (touched_with state.touched e.page) ≡ count_by (is_touch_of test) new.stored.items) → IsFlat config (flat_with state e.page e.bytes) new
 flat_kept config state old new e h same entries counted =
     record {
       tables = subst (AreTablesOf config) (sym same) h.tables;
-      map = h.map;
+      map = λ p v. h.map p v ∙ ap (λ (t : Tables). mapped_in t.pages.items p v) (sym same);
       touched = λ q. has q (same_page e.page q) refl ∙ ap (λ (o : Option Stored). is_private q && is_some o) (sym (entries q));
-      count = counted;
-      stored = λ q. bytes q (same_page e.page q) ∙ ap (bytes_or (shared_bytes config q)) (sym (entries q));
+      counts = counted;
+      stored = λ q u. bytes q (same_page e.page q) refl u ∙ ap (bytes_or (shared_bytes config q)) (sym (entries q));
     }
   where
     has : (q : Page) (b : Bool) → same_page e.page q ≡ b → has_page (touched_with state.touched e.page) q ≡ (is_private q && is_some (cond b (Some e) (stored_of old.stored.items q)))
@@ -112,33 +114,34 @@ flat_kept config state old new e h same entries counted =
         of_page true private = touched_same state.touched e.page private ∙ ap (λ (b : Bool). b && true) (sym private)
         of_page false shared = ap (λ (b : Bool). has_page (cond b (with_page state.touched e.page) state.touched) e.page) shared ∙ (h.touched e.page ∙ (ap (λ (b : Bool). b && is_some (stored_of old.stored.items e.page)) shared ∙ ap (λ (b : Bool). b && true) (sym shared)))
 
-    bytes : (q : Page) (b : Bool) → cond b e.bytes (state.stored q) ≡ bytes_or (shared_bytes config q) (cond b (Some e) (stored_of old.stored.items q))
-    bytes q true = refl
-    bytes q false = h.stored q
+    bytes : (q : Page) (b : Bool) → same_page e.page q ≡ b → is_untouched (flat_with state e.page e.bytes) q ≡ false → cond b e.bytes (state.stored q) ≡ bytes_or (shared_bytes config q) (cond b (Some e) (stored_of old.stored.items q))
+    bytes q true on u = refl
+    bytes q false apart u = h.stored q (ap (λ (b : Bool). is_private q && not b) (sym (touched_other state.touched e.page q apart)) ∙ u)
 
 -- one more entry
 pub flat_pushed : (config : Config) (state : FlatState) (old new : Flat) (e : Stored) → IsFlat config state old → new.tables ≡ old.tables → stored_of old.stored.items e.page ≡ None → new.stored.items ≡ old.stored.items ++ e ∷ [] → IsFlat config (flat_with state e.page e.bytes) new
 flat_pushed config state old new e h same absent items =
     flat_kept config state old new e h same
     (subst (IsWith old.stored.items e) (sym items) (with_pushed old.stored.items e absent))
-    (counts ∙ ap (count_by is_touch) (sym items))
+    (λ test. counts test ∙ ap (count_by (is_touch_of test)) (sym items))
   where
-    go : (b : Bool) → length (cond b (e.page ∷ state.touched) state.touched) ≡ length state.touched + cond b 1 0
-    go true = omega arith
-    go false = omega arith
+    go : (test : Page → Bool) (b : Bool) → count_by test (cond b (e.page ∷ state.touched) state.touched) ≡ count_by test state.touched + cond (b && test e.page) 1 0
+    go test true = omega (arith, count_cons test e.page state.touched)
+    go test false = omega arith
 
-    more : length (touched_with state.touched e.page) ≡ length state.touched + cond (is_private e.page) 1 0
-    more = ap (λ (b : Bool). length (cond (is_private e.page) (cond b state.touched (e.page ∷ state.touched)) state.touched)) (none_touched config state old e.page h absent) ∙ go (is_private e.page)
+    more : (test : Page → Bool) → count_by test (touched_with state.touched e.page) ≡ count_by test state.touched + cond (is_touch_of test e) 1 0
+    more test =
+        ap (λ (b : Bool). count_by test (cond (is_private e.page) (cond b state.touched (e.page ∷ state.touched)) state.touched)) (none_touched config state old e.page h absent) ∙ go test (is_private e.page)
 
-    counts : length (touched_with state.touched e.page) ≡ count_by is_touch (old.stored.items ++ e ∷ [])
-    counts = more ∙ (ap (λ (n : ℕ). n + cond (is_private e.page) 1 0) h.count ∙ sym (sum_by_push (λ (x : Stored). cond (is_touch x) 1 0) old.stored.items e))
+    counts : (test : Page → Bool) → count_by test (touched_with state.touched e.page) ≡ count_by (is_touch_of test) (old.stored.items ++ e ∷ [])
+    counts test = more test ∙ (ap (λ (n : ℕ). n + cond (is_touch_of test e) 1 0) (h.counts test) ∙ sym (sum_by_push (λ (x : Stored). cond (is_touch_of test x) 1 0) old.stored.items e))
 
 -- one entry written
 pub flat_written : (config : Config) (state : FlatState) (old new : Flat) (i : ℕ) (e : Stored) → IsFlat config state old → new.tables ≡ old.tables → i < length old.stored.items → i ≡ position_or_len (is_of e.page) old.stored.items → new.stored.items ≡ slice_set old.stored.items i e → IsFlat config (flat_with state e.page e.bytes) new
 flat_written config state old new i e h same within place items =
     flat_kept config state old new e h same
     (subst (IsWith old.stored.items e) (sym items) (with_written old.stored.items i e within place))
-    (ap length (unchanged (is_private e.page) refl) ∙ (h.count ∙ (counts ∙ ap (count_by is_touch) (sym items))))
+    (λ test. ap (count_by test) (unchanged (is_private e.page) refl) ∙ (h.counts test ∙ (counts test ∙ ap (count_by (is_touch_of test)) (sym items))))
   where
     entry : stored_of old.stored.items e.page ≡ Some (slice_index_or old.stored.items i e)
     entry = entry_at old.stored.items i e.page e within place
@@ -150,8 +153,24 @@ flat_written config state old new i e h same within place items =
     unchanged false shared = ap (λ (b : Bool). cond b (with_page state.touched e.page) state.touched) shared
     unchanged true private = ap (λ (b : Bool). cond b (with_page state.touched e.page) state.touched) private ∙ ap (λ (b : Bool). cond b state.touched (e.page ∷ state.touched)) (has_it ∙ ap (λ (b : Bool). b && true) private)
 
-    counts : count_by is_touch old.stored.items ≡ count_by is_touch (slice_set old.stored.items i e)
-    counts =
-        let whole = sum_by-set (λ (x : Stored). cond (is_touch x) 1 0) old.stored.items i e e within in
-        let there : cond {A = ℕ} (is_touch (slice_index_or old.stored.items i e)) 1 0 ≡ cond (is_touch e) 1 0 = ap (λ (x : Page). cond {A = ℕ} (is_private x) 1 0) (page_at_place old.stored.items i e.page e within place) in
+    counts : (test : Page → Bool) → count_by (is_touch_of test) old.stored.items ≡ count_by (is_touch_of test) (slice_set old.stored.items i e)
+    counts test =
+        let whole = sum_by-set (λ (x : Stored). cond (is_touch_of test x) 1 0) old.stored.items i e e within in
+        let there : cond {A = ℕ} (is_touch_of test (slice_index_or old.stored.items i e)) 1 0 ≡ cond (is_touch_of test e) 1 0 = ap (λ (x : Page). cond {A = ℕ} (is_private x && test x) 1 0) (page_at_place old.stored.items i e.page e within place) in
         omega arith
+
+-- how many pages are touched
+all_count : {X : Type 0} (xs : List X) → length xs ≡ count_by (λ x. true) xs
+all_count [] = refl
+all_count {X} (x ∷ xs) = let test : X → Bool = λ y. true in omega (arith, all_count xs, count_cons test x xs)
+
+own_count : (es : List Stored) → count_by (is_touch_of (λ page. true)) es ≡ count_by is_touch es
+own_count [] = refl
+own_count (e ∷ es) = count_cons (is_touch_of (λ page. true)) e es ∙ (ap (λ (n : ℕ). n + count_by (is_touch_of (λ page. true)) es) (go (is_private e.page)) ∙ (ap (λ (n : ℕ). cond (is_touch e) 1 0 + n) (own_count es) ∙ sym (count_cons is_touch e es)))
+  where
+    go : (b : Bool) → cond {A = ℕ} (b && true) 1 0 ≡ cond b 1 0
+    go true = refl
+    go false = refl
+
+pub touched_count : (config : Config) (state : FlatState) (flat : Flat) → IsFlat config state flat → length state.touched ≡ count_by is_touch flat.stored.items
+touched_count config state flat h = all_count state.touched ∙ (h.counts (λ page. true) ∙ own_count flat.stored.items)

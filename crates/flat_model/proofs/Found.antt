@@ -1,5 +1,5 @@
 -- What a search finds, and what the tables of a well-formed configuration have.
-use Rattle.std.proofs.Common.{◌≡◌, ℕ, ◌+◌, ◌-◌, ◌<◌, ◌≤◌, Bool, true, false, cond, List, [], ◌∷◌, Option, Some, None, length, find, refl, sym, ap, ◌∙◌, subst, arith}
+use Rattle.std.proofs.Common.{◌≡◌, ℕ, ◌+◌, ◌-◌, ◌*◌, ◌<◌, ◌≤◌, Bool, true, false, cond, List, [], ◌∷◌, Option, Some, None, length, find, refl, sym, ap, ◌∙◌, subst, arith, lit<, lit≤}
 use Rattle.std.specs.Prelude.{sum_by, slice_get, slice_index_or, All}
 use Rattle.std.specs.List.{position_or_len}
 use Rattle.std.proofs.lemmas.Bool.{and_parts, leb-true, ltb-true}
@@ -12,9 +12,11 @@ use Rattle.vm_types.specs.declared.config.Mapping.{Mapping}
 use Rattle.vm_types.specs.declared.config.Origin.{Origin}
 use Rattle.vm_types.specs.declared.config.Origin.TheVariants as origin
 use Rattle.vm_types.specs.declared.config.Section.{Section}
-use Rattle.vm_types.specs.declared.names.SecId.{SecId}
 use Rattle.pager_model.specs.Maps.{covers, page_number}
-use Rattle.flat_model.specs.Usable.{IsUsable, pages_of, end_of, limit_of}
+use Rattle.std.specs.Option.{option_map}
+use Rattle.vm_types.specs.Behind.{origin_after}
+use Rattle.flat_model.specs.Behind.{behind_by, CanLay, FitsPage}
+use Rattle.flat_model.specs.Usable.{IsUsable, IsOrigin, pages_of, end_of, limit_of}
 
 pub found_passes : {X : Type 0} (p : X → Bool) (xs : List X) (x : X) → find p xs ≡ Some x → p x ≡ true
 found_passes p [] x e = absurd (cc)
@@ -37,10 +39,6 @@ in_range p v m e =
     let range = (and_parts _ _ (and_parts _ _ e).1) in
     (leb-true _ _ range.0, ltb-true _ _ range.1)
 
--- a usable mapping of a section lies in it
-pub in_section : (sections : List Section) (m : Mapping) (s : SecId) (first : ℕ) → m.from ≡ origin.Section s first → IsUsable sections m → (first + m.pages ≤ pages_of (slice_get sections s.0)) × (first + m.pages ≤ 16384)
-in_section sections m s first e usable = subst (λ (o : Origin). (end_of o m.pages ≤ limit_of sections o) × (end_of o m.pages ≤ 16384)) e (usable.1, usable.2)
-
 pub section_page : (sections : List Section) (s page : ℕ) → page < pages_of (slice_get sections s) → IsSectionPage sections s page
 section_page sections s page h = go (slice_get sections s) refl h
   where
@@ -48,32 +46,48 @@ section_page sections s page h = go (slice_get sections s) refl h
     go None e less = absurd (omega arith)
     go (Some section) e less = (section, e, less)
 
--- where a covered page is in its section
-pub covered : (sections : List Section) (maps : List Mapping) (p v : ℕ) (m : Mapping) (s : SecId) (first : ℕ) → find (covers p v) maps ≡ Some m → All (IsUsable sections) maps → m.from ≡ origin.Section s first
-    → (page_number (m.at).0 ≤ v) × (first + (v - page_number (m.at).0) < pages_of (slice_get sections s.0)) × (first + (v - page_number (m.at).0) < 16384)
-covered sections maps p v m s first found usable from =
-    let range = in_range p v m (found_passes (covers p v) maps m found) in
-    let inside = in_section sections m s first from (found_has (IsUsable sections) (covers p v) maps m found usable) in
-    (range.0, omega (arith, range.0, range.1, inside.0), omega (arith, range.0, range.1, inside.1))
+-- what lies in a section is one of its pages
+pub origin_there : (sections : List Section) (o : Origin) → end_of o ≤ limit_of sections o → IsOrigin sections o
+origin_there sections origin.Zero h = tt
+origin_there sections (origin.Section s page) h = section_page sections s.0 page (omega (arith, h))
 
+-- what a mapping says of one of its pages
+inside : (sections : List Section) (from : Origin) (pages n : ℕ) → HasPages sections from pages → n < pages → end_of (origin_after from n) ≤ limit_of sections (origin_after from n)
+inside sections origin.Zero pages n has less = omega arith
+inside sections (origin.Section s first) pages n has less =
+    let limit : pages_of (slice_get sections s.0) ≡ section_pages has.0 = ap pages_of has.1 in
+    omega (arith, limit, has.2, less)
+
+found_usable : (procs : ℕ) (sections : List Section) (p v : ℕ) (m : Mapping) → IsMapping procs sections m → covers p v m ≡ true → IsUsable sections (Some (behind_by v m))
+found_usable procs sections p v m h e =
+    let range = in_range p v m e in
+    (h.code.small, inside sections m.from m.pages (v - page_number (m.at).0) h.origin (omega (arith, range.0, range.1)))
+
+-- each page of a well-formed configuration is mapped to what lies in its section
+pub first_usable : (config : Config) → IsWellFormed config → (sections : List Section) → sections ≡ config.sections → (p v : ℕ) → IsUsable sections (option_map (behind_by v) (find (covers p v) config.maps))
+first_usable config formed sections same p v =
+    subst (λ (ss : List Section). IsUsable ss (option_map (behind_by v) (find (covers p v) config.maps))) (sym same) (go (find (covers p v) config.maps) refl)
+  where
+    go : (o : Option Mapping) → find (covers p v) config.maps ≡ o → IsUsable config.sections (option_map (behind_by v) o)
+    go None e = (lit< tt, lit≤ tt)
+    go (Some m) e =
+        found_usable (length config.procs) config.sections p v m
+        (found_has (IsMapping (length config.procs) config.sections) (covers p v) config.maps m e formed.maps) (found_passes (covers p v) config.maps m e)
+
+-- the tables of a well-formed configuration have a place for each page of its mappings
 one_of_sum : {X : Type 0} (f : X → ℕ) (xs : List X) (k : ℕ) (x : X) → slice_get xs k ≡ Some x → f x ≤ sum_by f xs
 one_of_sum f xs k x e =
     let part = sum_by_more_le f xs k x (slice_get_within xs k x e) in
     let same = ap f (get_or_from_slice_get xs k x x e) in
     omega arith
 
-usable_mapping : (procs : ℕ) (sections : List Section) (m : Mapping) → sum_by section_pages sections ≤ 16384 → IsMapping procs sections m → IsUsable sections m
-usable_mapping procs sections m few h = let inside = go m.from h.origin in (h.code.small, inside.0, inside.1)
-  where
-    go : (o : Origin) → HasPages sections o m.pages → (end_of o m.pages ≤ limit_of sections o) × (end_of o m.pages ≤ 16384)
-    go origin.Zero inside = (omega arith, omega arith)
-    go (origin.Section s first) inside =
-        let limit : pages_of (slice_get sections s.0) ≡ section_pages inside.0 = ap pages_of inside.1 in
-        let part = one_of_sum section_pages sections s.0 inside.0 inside.1 in
-        (omega (arith, limit, inside.2), omega (arith, part, few, inside.2))
+fits_sections : (sections : List Section) (from : Origin) (pages : ℕ) → sum_by section_pages sections ≤ 16384 → HasPages sections from pages → FitsPage from pages
+fits_sections sections origin.Zero pages few has = tt
+fits_sections sections (origin.Section s first) pages few has =
+    let part = one_of_sum section_pages sections s.0 has.0 has.1 in
+    omega (arith, part, few, has.2)
 
-pub all_usable : (config : Config) → IsWellFormed config → (maps : List Mapping) (sections : List Section) → maps ≡ config.maps → sections ≡ config.sections → All (IsUsable sections) maps
-all_usable config formed maps sections same_maps same_sections =
-    subst (λ (ms : List Mapping). All (IsUsable sections) ms) (sym same_maps)
-    (subst (λ (ss : List Section). All (IsUsable ss) config.maps) (sym same_sections)
-    (λ k d h. usable_mapping (length config.procs) config.sections (slice_index_or config.maps k d) formed.sections.pages (formed.maps k d h)))
+pub can_lay_all : (config : Config) → IsWellFormed config → (places : ℕ) → places ≡ length config.procs * 5120 → All (CanLay places) config.maps
+can_lay_all config formed places is k d below =
+    let h = formed.maps k d below in
+    record { range = h.range; room = omega (arith, h.proc, is); fits = fits_sections config.sections (slice_index_or config.maps k d).from (slice_index_or config.maps k d).pages formed.sections.pages h.origin }

@@ -19,3 +19,4 @@ pub mod Found
 pub mod Entries
 pub mod Told
 pub mod TestConfig
+pub mod Changing

@@ -1,5 +1,5 @@
 -- The flat reply and the next state of a reference, by what is known of its page.
-use Rattle.std.proofs.Common.{◌≡◌, ℕ, ◌-◌, ◌<◌, ◌&&◌, not, Bool, true, false, cond, List, [], ◌∷◌, ◌++◌, Option, Some, None, length, find, count_by, nat_eq, refl, sym, ap, ◌∙◌, subst}
+use Rattle.std.proofs.Common.{◌≡◌, ℕ, ◌<◌, ◌&&◌, not, Bool, true, false, cond, List, [], ◌∷◌, ◌++◌, Option, Some, None, length, count_by, nat_eq, refl, sym, ap, ◌∙◌, subst}
 use Rattle.std.specs.Prelude.{slice_get, slice_set, slice_index_or}
 use Rattle.std.specs.Option.{option_map}
 use Rattle.std.specs.List.{position_or_len}
@@ -8,7 +8,6 @@ use Rattle.vm_types.specs.Access.{is_allowed}
 use Rattle.vm_types.specs.declared.names.Page.{Page}
 use Rattle.vm_types.specs.declared.names.Page.TheVariants.{Private, Shared}
 use Rattle.vm_types.specs.declared.config.Config.{Config}
-use Rattle.vm_types.specs.declared.config.Mapping.{Mapping}
 use Rattle.vm_types.specs.declared.config.Origin.{Origin}
 use Rattle.vm_types.specs.declared.config.Origin.TheVariants as origin
 use Rattle.vm_types.specs.declared.reference.Ref.{Ref}
@@ -18,10 +17,14 @@ use Rattle.vm_types.specs.declared.reply.Why.{Why}
 use Rattle.vm_types.specs.declared.reply.Why.TheVariants as why
 use Rattle.pager_model.specs.Flat.{FlatState, flat_with, flat_reply, flat_next, flat_refusal, refusal_at, found_at, answered_at, next_unless, reply_unless, reply_from, bytes_after, offset_in_page, page_bytes, is_untouched, is_page_file_full, is_change, mapping_of, shared_bytes}
 use Rattle.flat_model.specs.FlatMachine.{IsFlat, IsAllowedAt, stored_of, is_of, is_touch, bytes_or}
-use Rattle.pager_model.specs.Maps.{Mapped, mapped_by, covers, origin_after, is_private, page_behind, page_number, shared_of, first_bytes}
+use Rattle.pager_model.specs.Maps.{Mapped, is_private, page_behind, page_number, shared_of, first_bytes}
 use Rattle.flat_model.specs.declared.flat.Flat.{Flat}
 use Rattle.flat_model.specs.declared.flat.Stored.{Stored}
-use Rattle.flat_model.proofs.Entries.{flat_pushed, flat_written, entry_at, untouched_some, untouched_none}
+use Rattle.flat_model.proofs.Entries.{flat_pushed, flat_written, entry_at, untouched_some, untouched_none, touched_count}
+use Rattle.vm_types.specs.PagePlaces.{item_at}
+use Rattle.pager_model.specs.Sets.{has_page}
+use Rattle.flat_model.specs.Behind.{as_mapped}
+use Rattle.flat_model.specs.declared.behind.Behind.{Behind}
 
 -- ---- by the refusal
 abbrev pub IsTold : Config → FlatState → Flat → ℕ → Ref → Reply → Type 0
@@ -55,21 +58,14 @@ told_protected config state new p r m mapped denied h =
     (ap (refusal_at config state p r) mapped ∙ ap (λ (b : Bool). cond (not b) (Some why.Protected) (cond (is_page_file_full config state (page_behind config p (page_number (r.addr).0) m.origin)) (Some why.PageFileFull) None)) denied) h
 
 -- the mapping of a page is that of the tables
-pub mapping_from : (config : Config) (state : FlatState) (flat : Flat) (p : ℕ) (r : Ref) (o : Option Mapping) → IsFlat config state flat → o ≡ find (covers p (page_number (r.addr).0)) flat.tables.maps → mapping_of state p r ≡ option_map (mapped_by (page_number (r.addr).0)) o
-mapping_from config state flat p r o h found =
-    ap (λ (f : ℕ → ℕ → Option Mapped). f p (page_number (r.addr).0)) h.map
-    ∙ ap (option_map (mapped_by (page_number (r.addr).0))) (sym (found ∙ ap (find (covers p (page_number (r.addr).0))) h.tables.maps))
+pub mapping_from : (config : Config) (state : FlatState) (flat : Flat) (p : ℕ) (r : Ref) (o : Option Behind) → IsFlat config state flat → o ≡ item_at flat.tables.pages.items p (page_number (r.addr).0) → mapping_of state p r ≡ option_map as_mapped o
+mapping_from config state flat p r o h found = h.map p (page_number (r.addr).0) ∙ ap (option_map as_mapped) (sym found)
 
-pub allowed_at : (config : Config) (state : FlatState) (flat : Flat) (p : ℕ) (r : Ref) (mapping : Mapping) (origin : Origin) (page : Page) → IsFlat config state flat
-    → Some mapping ≡ find (covers p (page_number (r.addr).0)) flat.tables.maps → origin ≡ origin_after mapping.from (page_number (r.addr).0 - page_number (mapping.at).0)
-    → is_allowed mapping.prot r.mode (is_change r.op) ≡ true → page ≡ page_behind config p (page_number (r.addr).0) origin → IsAllowedAt config state p r origin page
-allowed_at config state flat p r mapping origin page h found from right behind =
-    record {
-      prot = mapping.prot;
-      mapped = mapping_from config state flat p r (Some mapping) h found ∙ ap (λ (o : Origin). Some (record { origin = o; prot = mapping.prot })) (sym from);
-      right = right;
-      behind = sym behind;
-    }
+pub allowed_at : (config : Config) (state : FlatState) (flat : Flat) (p : ℕ) (r : Ref) (behind : Behind) (page : Page) → IsFlat config state flat
+    → Some behind ≡ item_at flat.tables.pages.items p (page_number (r.addr).0) → is_allowed behind.prot r.mode (is_change r.op) ≡ true
+    → page ≡ page_behind config p (page_number (r.addr).0) behind.origin → IsAllowedAt config state p r behind.origin page
+allowed_at config state flat p r behind page h found right on =
+    record { prot = behind.prot; mapped = mapping_from config state flat p r (Some behind) h found; right = right; behind = sym on }
 
 -- ---- with the right
 module _ (config : Config) (state : FlatState) (new : Flat) (p : ℕ) (r : Ref) (origin : Origin) (page : Page) (at : IsAllowedAt config state p r origin page) where
@@ -106,7 +102,7 @@ pub told_written : (config : Config) (state : FlatState) (old new : Flat) (p : �
 told_written config state old new p r origin page e d i answer on at h within there same bytes tables items =
     told_bytes config state new p r origin e.page (subst (IsAllowedAt config state p r origin) (sym on) at) (slice_index_or old.stored.items i d).bytes answer
     (ap (λ (b : Bool). b && nat_eq (length state.touched) config.pagefile) touched)
-    (ap (λ (b : Bool). cond b (first_bytes config origin) (state.stored e.page)) touched ∙ (h.stored e.page ∙ ap (bytes_or (shared_bytes config e.page)) entry))
+    (ap (λ (b : Bool). cond b (first_bytes config origin) (state.stored e.page)) touched ∙ (h.stored e.page touched ∙ ap (bytes_or (shared_bytes config e.page)) entry))
     same
     (subst (λ (bs : List ℕ). IsFlat config (flat_with state e.page bs) new) bytes (flat_written config state old new i e h tables within place items))
   where
@@ -132,7 +128,7 @@ behind_shared config p v (origin.Section s i) shared = go (shared_of (slice_get 
 pub full_from : (config : Config) (state : FlatState) (old : Flat) (page : Page) → IsFlat config state old → stored_of old.stored.items page ≡ None → is_page_file_full config state page ≡ (is_private page && nat_eq (count_by is_touch old.stored.items) old.tables.pagefile)
 full_from config state old page h absent =
     ap (λ (b : Bool). b && nat_eq (length state.touched) config.pagefile) (untouched_none config state old page h absent)
-    ∙ (ap (λ (n : ℕ). is_private page && nat_eq n config.pagefile) h.count
+    ∙ (ap (λ (n : ℕ). is_private page && nat_eq n config.pagefile) (touched_count config state old h)
     ∙ ap (λ (n : ℕ). is_private page && nat_eq (count_by is_touch old.stored.items) n) (sym h.tables.pagefile))
 
 first_found : (config : Config) (state : FlatState) (old : Flat) (p : ℕ) (r : Ref) (origin : Origin) (page : Page) → IsAllowedAt config state p r origin page → IsFlat config state old → stored_of old.stored.items page ≡ None → page_bytes config state page origin ≡ first_bytes config origin
@@ -142,7 +138,7 @@ first_found config state old p r origin page at h absent =
     go : (b : Bool) → is_private page ≡ b → cond b (first_bytes config origin) (state.stored page) ≡ first_bytes config origin
     go true private = refl
     go false shared =
-        h.stored page ∙ (ap (bytes_or (shared_bytes config page)) absent
+        h.stored page (ap (λ (b : Bool). b && not (has_page state.touched page)) shared) ∙ (ap (bytes_or (shared_bytes config page)) absent
         ∙ subst (λ (x : Page). is_private x ≡ false → shared_bytes config x ≡ first_bytes config origin) at.behind (behind_shared config p (page_number (r.addr).0) origin) shared)
 
 pub told_pushed : (config : Config) (state : FlatState) (old new : Flat) (p : ℕ) (r : Ref) (origin : Origin) (e : Stored) (answer : Reply) → IsAllowedAt config state p r origin e.page

@@ -1,5 +1,5 @@
 -- What the flat machine keeps, and how it answers. This project's own.
-use Rattle.std.specs.Prelude.{◌≡◌, ℕ, Bool, true, ◌&&◌, List, Option, Some, None, Result, ◌<◌, find, length, is_some, count_by, MatchResult}
+use Rattle.std.specs.Prelude.{◌≡◌, ℕ, ◌*◌, vec_len, Bool, true, false, ◌&&◌, List, Option, Some, None, Result, ◌<◌, find, length, is_some, count_by, not, MatchResult}
 use Rattle.std.specs.List.{position_or_len}
 use Rattle.vm_types.specs.Access.{is_allowed}
 use Rattle.vm_types.specs.Configuration.{IsWellFormed}
@@ -10,9 +10,13 @@ use Rattle.vm_types.specs.declared.config.Origin.{Origin}
 use Rattle.vm_types.specs.declared.faults.NoMemory.{NoMemory}
 use Rattle.vm_types.specs.declared.reference.Ref.{Ref}
 use Rattle.vm_types.specs.declared.reply.Reply.{Reply}
-use Rattle.pager_model.specs.Flat.{FlatState, shared_bytes, flat_reply, flat_next, mapping_of, is_change}
-use Rattle.pager_model.specs.Maps.{first_map, is_private, page_behind, page_number}
+use Rattle.pager_model.specs.Flat.{FlatState, shared_bytes, flat_reply, flat_next, mapping_of, is_change, is_untouched}
+use Rattle.pager_model.specs.Maps.{is_private, page_behind, page_number}
 use Rattle.pager_model.specs.Sets.{has_page}
+use Rattle.vm_types.specs.declared.service.Service.{Service}
+use Rattle.vm_types.specs.declared.reply.Answer.TheVariants.{Good}
+use Rattle.pager_model.specs.FlatService.{flat_service, is_private_in}
+use Rattle.flat_model.specs.Behind.{mapped_in}
 use Rattle.flat_model.specs.declared.tables.Tables.{Tables}
 use Rattle.flat_model.specs.declared.flat.Flat.{Flat}
 use Rattle.flat_model.specs.declared.flat.Stored.{Stored}
@@ -24,6 +28,10 @@ is_of page entry = same_page entry.page page
 abbrev pub is_touch : Stored → Bool
 is_touch entry = is_private entry.page
 
+-- whether an entry is of no private page of a process's range
+abbrev pub is_kept : ℕ → ℕ → ℕ → Stored → Bool
+is_kept p address pages entry = not (is_private_in p address pages entry.page)
+
 -- the entry of a page
 abbrev pub stored_of : List Stored → Page → Option Stored
 stored_of stored page = find (is_of page) stored
@@ -33,22 +41,27 @@ abbrev pub bytes_or : List ℕ → Option Stored → List ℕ
 bytes_or others None = others
 bytes_or others (Some entry) = entry.bytes
 
--- the tables of a well-formed configuration
+-- what the tables keep of a well-formed configuration, and a place for each page of its processes
 pub record AreTablesOf (config : Config) (tables : Tables) : Type 0 where
   pub well_formed : IsWellFormed config
   pub pagefile : tables.pagefile ≡ config.pagefile
-  pub maps : tables.maps ≡ config.maps
   pub sections : tables.sections ≡ config.sections
+  pub places : vec_len tables.pages ≡ length config.procs * 5120
 
--- the machine stands for a state of a well-formed configuration: it has the configuration's tables,
--- the touched pages are the private pages that have an entry, and a page's bytes are those of its
--- entry or, where it has none, those that the configuration gives
+-- whether an entry is of a private page that passes a test
+abbrev pub is_touch_of : (Page → Bool) → Stored → Bool
+is_touch_of test entry = is_private entry.page && test entry.page
+
+-- the machine stands for a state of a well-formed configuration: its tables are of the configuration and
+-- have the state's maps, the touched pages are the private pages that have an entry, each once, and the
+-- bytes of a shared or touched page are those of its entry or, where it has none, those that the
+-- configuration gives
 pub record IsFlat (config : Config) (state : FlatState) (flat : Flat) : Type 0 where
   pub tables : AreTablesOf config flat.tables
-  pub map : state.map ≡ first_map config
+  pub map : (p v : ℕ) → state.map p v ≡ mapped_in flat.tables.pages.items p v
   pub touched : (page : Page) → has_page state.touched page ≡ (is_private page && is_some (stored_of flat.stored.items page))
-  pub count : length state.touched ≡ count_by is_touch flat.stored.items
-  pub stored : (page : Page) → state.stored page ≡ bytes_or (shared_bytes config page) (stored_of flat.stored.items page)
+  pub counts : (test : Page → Bool) → count_by test state.touched ≡ count_by (is_touch_of test) flat.stored.items
+  pub stored : (page : Page) → is_untouched state page ≡ false → state.stored page ≡ bytes_or (shared_bytes config page) (stored_of flat.stored.items page)
 
 -- the reply is the flat reply, and the machine stands for the next state; without memory it stands
 -- for the same state
@@ -77,3 +90,9 @@ AnswersNew old new page origin r result =
 abbrev pub IsPlace : List Stored → Page → Option ℕ → Type 0
 IsPlace stored page None = stored_of stored page ≡ None
 IsPlace stored page (Some place) = (place < length stored) × (place ≡ position_or_len (is_of page) stored)
+
+-- whichever configuration and state the machine stood for, it stands for that state changed by a service of
+-- one of the configuration's processes that answers Good
+abbrev pub ChangesAsFlat : Flat → Flat → ℕ → Service → Type 0
+ChangesAsFlat old new p s =
+    (config : Config) (state : FlatState) → IsFlat config state old → p < length config.procs → IsFlat config (flat_service state p s Good) new

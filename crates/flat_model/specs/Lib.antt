@@ -13,5 +13,6 @@ pub mod Order
 pub mod Policy
 pub mod Laws
 pub mod Text
+pub mod Behind
 pub mod Usable
 pub mod FlatMachine

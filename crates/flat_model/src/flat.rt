@@ -1,20 +1,22 @@
 //! The flat machine: it answers references by its tables and the bytes of the pages that were
 //! referred to, and scans lists for both.
 
-ghost use Rattle.std.specs.Prelude.{◌≡◌, ◌&&◌, count_by, nat_eq, IfOk};
+ghost use Rattle.std.specs.Prelude.{◌≡◌, ◌&&◌, count_by, filter, nat_eq, IfOk};
 ghost use Rattle.vm_types.specs.Configuration.{IsWellFormed};
 ghost use Rattle.vm_types.specs.Same.{same_page};
-ghost use Rattle.vm_types.specs.WellFormed.{IsWellFormedReference};
+ghost use Rattle.vm_types.specs.WellFormed.{IsWellFormedReference, IsWellFormedService};
 ghost use Rattle.pager_model.specs.Flat.{flat_start, is_change};
+ghost use Rattle.pager_model.specs.FlatService.{is_private_in};
 ghost use Rattle.pager_model.specs.Maps.{is_private};
-ghost use Rattle.flat_model.specs.FlatMachine.{IsFlat, AnswersAsFlat, AnswersNew, IsPlace, is_touch};
+ghost use Rattle.flat_model.specs.FlatMachine.{IsFlat, AnswersAsFlat, AnswersNew, ChangesAsFlat, IsPlace, is_kept, is_touch};
 ghost use Rattle.flat_model.specs.Usable.{IsOrigin};
 
-use crate::lookups::{bytes_at, covering, origin_at, page_at, tables_of};
+use crate::behind::Behind;
+use crate::lookups::{bytes_at, page_at, tables_of};
 use crate::page::apply;
 use crate::tables::Tables;
 use std::alloc::Global;
-use vm_types::{Config, NoMemory, Op, Origin, Page, Proc, Ref, Reply, Why, allowed};
+use vm_types::{Addr, Config, NoMemory, Op, Origin, Page, Proc, Ref, Reply, Service, Why, allowed};
 
 /// A page that was referred to, and its bytes.
 #[derive(Clone, Copy, Debug)]
@@ -85,6 +87,35 @@ fn touched(stored: &[Stored]) -> usize
     count
 }
 
+/// Whether the page is a private one of a process's range.
+fn is_own_in(page: Page, p: Proc, at: Addr, pages: u32) -> bool
+    ensures { result ≡ is_private_in p.0 at.0 pages page }
+{
+    match page {
+        Page::Private(q, v) => {
+            let first = at.0 / 512;
+            p.0 == q.0 && first <= v && v - first < pages
+        }
+        Page::Shared(_, _) => false,
+    }
+}
+
+/// Takes the entries of a process's range away.
+fn forget(stored: &mut Vec<Stored>, p: Proc, at: Addr, pages: u32)
+    ensures { stored.new.items ≡ filter (is_kept p.0 at.0 pages) stored.old.items }
+{
+    let count = stored.len();
+    let mut kept = 0;
+    for i in 0..count {
+        let entry = stored[i];
+        if !is_own_in(entry.page, p, at, pages) {
+            stored[kept] = entry;
+            kept += 1;
+        }
+    }
+    stored.truncate(kept);
+}
+
 impl Flat {
     /// The flat machine of a configuration before its first request.
     ///
@@ -134,17 +165,47 @@ impl Flat {
         ensures told { AnswersAsFlat self.old self.new p.0 r result }
     {
         let number = r.addr.0 / 512;
-        let Some(mapping) = covering(self.tables.maps.items(), p, number) else {
+        let Some(behind) = self.tables.look(p, number) else {
             return Ok(Reply::Refused(Why::Unmapped));
         };
-        if !allowed(mapping.prot, r.mode, changes(r.op)) {
+        if !allowed(behind.prot, r.mode, changes(r.op)) {
             return Ok(Reply::Refused(Why::Protected));
         }
-        let origin = origin_at(&self.tables, &mapping, p, number);
+        let origin = behind.origin;
         let page = page_at(self.tables.sections.items(), p, number, origin);
         match place_of(&self.stored, page) {
             Some(place) => Ok(apply(&mut self.stored[place].bytes, r)),
             None => self.answer_new(page, origin, r),
+        }
+    }
+
+    /// Changes the maps, and forgets pages, as a service of a process that answers Good does: a creation
+    /// maps demand zero pages, a deletion removes mappings and forgets private pages, a change of
+    /// protection sets the codes; no other service changes anything. Doesn't allocate.
+    pub fn change(&mut self, p: Proc, s: Service)
+        requires { IsWellFormedService s }
+        ensures { ChangesAsFlat self.old self.new p.0 s }
+    {
+        if !self.tables.has(p) {
+            return;
+        }
+        match s {
+            Service::Create { at, pages, prot } => {
+                let zeros = Behind {
+                    origin: Origin::Zero,
+                    prot,
+                };
+                self.tables.set(p, at, pages, Some(zeros));
+            }
+            Service::Delete { at, pages } => {
+                self.tables.set(p, at, pages, None);
+                forget(&mut self.stored, p, at, pages);
+            }
+            Service::Protect { at, pages, prot } => self.tables.protect(p, at, pages, prot),
+            Service::Lock { .. }
+            | Service::Unlock { .. }
+            | Service::Purge { .. }
+            | Service::Adjust { .. } => {}
         }
     }
 }

@@ -2,8 +2,10 @@
 //! runs and soundness; the laws that hold of them; and a plain flat machine that computes.
 #![tactic(auto)]
 
+mod behind;
 mod flat;
 mod laws;
+mod laying;
 mod lookups;
 mod page;
 mod tables;

@@ -1,15 +1,21 @@
-//! Copies of a configuration's tables, and what is found in them.
+//! The tables of a configuration, and what is found in them.
 
-ghost use Rattle.std.specs.Prelude.{◌≡◌, ◌-◌, find, slice_get, IfOk, Some};
+ghost use Rattle.std.specs.Prelude.{◌≡◌, ℕ, ◌*◌, find, length, slice_get, vec_len, IfOk};
+ghost use Rattle.std.specs.Option.{option_map};
+ghost use Rattle.vm_types.specs.Behind.{covers};
+ghost use Rattle.vm_types.specs.PagePlaces.{item_at};
 ghost use Rattle.vm_types.specs.Configuration.{IsWellFormed};
 ghost use Rattle.vm_types.specs.declared.config.Config.{Config};
-ghost use Rattle.pager_model.specs.Maps.{covers, page_number, shared_of, page_behind, first_bytes, origin_after};
+ghost use Rattle.pager_model.specs.Maps.{first_map, shared_of, page_behind, first_bytes};
 ghost use Rattle.flat_model.specs.FlatMachine.{AreTablesOf};
+ghost use Rattle.flat_model.specs.Behind.{behind_by, mapped_in};
 ghost use Rattle.flat_model.specs.Usable.{IsOrigin};
 
+use crate::behind::Behind;
+use crate::laying::lay_all;
 use crate::tables::Tables;
 use std::alloc::Global;
-use vm_types::{Config, Listed, Mapping, NoMemory, Origin, Page, Proc, SecId, Section};
+use vm_types::{Config, Listed, NoMemory, Origin, Page, Proc, SecId, Section};
 
 /// A copy of the bytes.
 fn copied(alloc: Global, bytes: &[u8]) -> Result<Listed<u8>, NoMemory>
@@ -40,48 +46,28 @@ fn sections_copy(alloc: Global, sections: &[Section]) -> Result<Listed<Section>,
     Ok(copy)
 }
 
+/// What each page of the processes is mapped to.
+fn pages_of(alloc: Global, config: &Config) -> Result<Vec<Option<Behind>>, NoMemory>
+    requires { IsWellFormed config.now }
+    ensures count { IfOk result (λ pages. vec_len pages ≡ length config.now.procs * 5120) }
+    ensures pages { IfOk result (λ pages. (p v : ℕ) → item_at pages.items p v ≡ option_map (behind_by v) (find (covers p v) config.now.maps)) }
+{
+    let mut pages = vec![in alloc; None; config.procs.items().len() * 5120]?;
+    lay_all(&mut pages, config.maps.items());
+    Ok(pages)
+}
+
 /// The tables of a configuration.
 pub fn tables_of(alloc: Global, config: &Config) -> Result<Tables, NoMemory>
     requires { IsWellFormed config.now }
-    ensures { IfOk result (AreTablesOf config.now) }
+    ensures tables { IfOk result (AreTablesOf config.now) }
+    ensures map { IfOk result (λ tables. (p v : ℕ) → first_map config.now p v ≡ mapped_in tables.pages.items p v) }
 {
     Ok(Tables {
         pagefile: config.pagefile,
-        maps: Listed::of(Vec::from_slice(alloc, config.maps.items())?),
+        pages: pages_of(alloc, config)?,
         sections: sections_copy(alloc, config.sections.items())?,
     })
-}
-
-/// Whether a mapping has the page of a process.
-fn has(mapping: &Mapping, p: Proc, number: u32) -> bool
-    ensures { result ≡ covers p.0 number mapping.now }
-{
-    let first = mapping.at.0 / 512;
-    mapping.proc.0 == p.0 && first <= number && number - first < mapping.pages
-}
-
-/// The mapping that has the page of a process.
-pub fn covering(maps: &[Mapping], p: Proc, number: u32) -> Option<Mapping>
-    ensures { result ≡ find (covers p.0 number) maps.now }
-{
-    for mapping in maps {
-        if has(mapping, p, number) {
-            return Some(*mapping);
-        }
-    }
-    None
-}
-
-/// What is behind a page that a mapping of the tables has.
-pub fn origin_at(tables: &Tables, mapping: &Mapping, p: Proc, number: u32) -> Origin
-    requires { find (covers p.0 number) tables.now.maps ≡ Some mapping.now }
-    ensures value { result ≡ origin_after mapping.now.from (number - page_number (mapping.now.at).0) }
-    ensures inside { IsOrigin tables.now.sections result }
-{
-    match mapping.from {
-        Origin::Zero => Origin::Zero,
-        Origin::Section(s, first) => Origin::Section(s, first + (number - mapping.at.0 / 512)),
-    }
 }
 
 /// Whether a section is shared; one that is not there isn't.

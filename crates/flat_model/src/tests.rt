@@ -8,7 +8,7 @@ use std::process::Abort;
 use std::test::Fail;
 use vm_types::{
     Addr, Config, Listed, Mapping, Mode, NoMemory, Op, Origin, Params, Proc, ProcSpec, Ref, Reply,
-    SecId, Section, Why, Width,
+    SecId, Section, Service, Why, Width,
 };
 
 const PARAMS: Params = Params {
@@ -161,4 +161,53 @@ fn answers_by_hand(rt: HostRuntime) -> Result<(), Fail> {
             (0, 0, byte, Reply::Refused(Why::PageFileFull)),
         ],
     )
+}
+
+/// What the first process reads at an address, in user mode.
+fn byte_of(rt: &impl Abort, flat: &mut Flat, addr: u32) -> Result<Reply, Fail> {
+    let r = Ref {
+        mode: Mode::U,
+        addr: Addr(addr),
+        op: Op::Read(Width::One),
+    };
+    assert!(rt; is_formed(r));
+    Ok(flat.answer(Proc(0), r)?)
+}
+
+#[test]
+fn deletes_and_creates_again(rt: HostRuntime) -> Result<(), Fail> {
+    let mut flat = Flat::new(rt.alloc(), &config(rt.alloc(), 1)?)?;
+    let at = Addr(512);
+    let write = Ref {
+        mode: Mode::U,
+        addr: at,
+        op: Op::Write(Width::One, 7),
+    };
+    assert!(rt; is_formed(write));
+    assert_eq!(rt; flat.answer(Proc(0), write)?, Reply::Written);
+    assert_eq!(rt;
+        byte_of(&rt, &mut flat, 0)?,
+        Reply::Refused(Why::PageFileFull)
+    );
+    flat.change(Proc(0), Service::Delete { at, pages: 1 });
+    assert_eq!(rt;
+        byte_of(&rt, &mut flat, 512)?,
+        Reply::Refused(Why::Unmapped)
+    );
+    assert_eq!(rt; byte_of(&rt, &mut flat, 1024)?, Reply::Value(7));
+    let prot = 4;
+    flat.change(Proc(0), Service::Create { at, pages: 1, prot });
+    assert_eq!(rt; byte_of(&rt, &mut flat, 512)?, Reply::Value(0));
+    let prot = 2;
+    flat.change(Proc(0), Service::Protect { at, pages: 1, prot });
+    assert_eq!(rt;
+        byte_of(&rt, &mut flat, 512)?,
+        Reply::Refused(Why::Protected)
+    );
+    flat.change(Proc(0), Service::Purge { at, pages: 1 });
+    assert_eq!(rt;
+        byte_of(&rt, &mut flat, 1536)?,
+        Reply::Refused(Why::PageFileFull)
+    );
+    Ok(())
 }

@@ -1,7 +1,8 @@
-//! The program: the process's words, standard input, standard output and standard error, handed to
-//! `run_and_explain`.
+//! The program: the process's words, standard input, standard output, standard error and a depot in
+//! memory, handed to `run_and_explain`.
 #![tactic(auto)]
 
+use disk_trait::MemoryDepot;
 use outside_io::{StdSink, StdSource};
 use program_call::{EnvArguments, FirstBytes, LineSource, run_and_explain};
 use std::io::Input;
@@ -12,12 +13,14 @@ fn main(rt: HostRuntime) -> ExitCode {
     let mut source = LineSource::new(StdSource::new(rt.reader()));
     let mut output = FirstBytes::new(StdSink::new(rt.stdout()));
     let mut messages = StdSink::new(rt.stderr());
+    let mut depot = MemoryDepot::new(rt.alloc(), Vec::new(rt.alloc()));
     let status = run_and_explain(
         rt.alloc(),
         &mut arguments,
         &mut source,
         &mut output,
         &mut messages,
+        &mut depot,
     );
     ExitCode::from(status.0)
 }

@@ -9,7 +9,7 @@ use Rattle.program_ends.specs.FaultText.{fault_text}
 
 -- beside status 1
 abbrev pub usage_text : List ℕ
-usage_text = codes "usage: neqysbar serial < TRACE\n       neqysbar study --process X --frames K < TRACE\n"
+usage_text = codes "usage: neqysbar serial < TRACE\n       neqysbar study --process X --frames K < TRACE\n       neqysbar make --seed N --procs N --refs N\n"
 
 -- the rule that a line breaks, in words
 abbrev pub rule_text : Cause → List ℕ

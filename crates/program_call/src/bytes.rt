@@ -2,8 +2,10 @@ ghost use Rattle.std.specs.Prelude.{◌≡◌, ◌≢◌, ◌⊎◌, [], List, �
 ghost use Rattle.outside_io.specs.Views.{source_view};
 ghost use Rattle.outside_io.specs.KeptIsLast.{all_is_handed_on};
 ghost use Rattle.replay_cli.specs.Commands.{Told};
-ghost use Rattle.program_call.specs.ProgramTells.{AsksForTrace};
+ghost use Rattle.pager_model.specs.Asked.{Retired};
+ghost use Rattle.program_call.specs.ProgramTells.{AsksWithInput, memory_view};
 
+use crate::sure_depot::SureDepot;
 use outside_io::{Sink, Source};
 use program_ends::Status;
 use replay_cli::run_one;
@@ -92,24 +94,27 @@ impl Sink for BytesSink {
     ghost kept_is_last = { λ s. all_is_handed_on s.bytes.items };
 }
 
-/// Runs the command that the words name over the bytes, and returns its status and the bytes that it
-/// writes. No read and no write fails, so the status is neither 3 nor 4.
+/// Runs the command that the words name over the bytes and over blocks in memory, and returns its
+/// status and the bytes that it writes. No read and no write fails and each block is made, so the
+/// status is none of 3, 4 and 6.
 ///
 /// # Errors
 /// `NoMemory` if memory ran out for the bytes that are written.
 pub fn run_bytes(alloc: Global, words: &[&str], input: &[u8]) -> Result<(Status, Vec<u8>), NoMemory>
-    // The headline: what is written is the text that goes with the status, by the words and the bytes.
-    ensures told { IfOk result (λ run. (rest : List ℕ) × Told (map (λ word. word.now) words.now)
-        (source_view (Some input.now) 0) (source_view (Some rest) 0) run.0.0 run.1.items) }
-    // If the words ask for a command and the bytes are a trace that it reads, the status is 0, or
-    // memory ran out.
-    ensures complete { AsksForTrace (map (λ word. word.now) words.now) (source_view (Some input.now) 0)
-        → IfOk result (λ run. (run.0.0 ≡ 0) ⊎ (run.0.0 ≡ 7)) }
-    ensures no_failure { IfOk result (λ run. (run.0.0 ≢ 3) × (run.0.0 ≢ 4)) }
+    // The headline: what is written is the text that goes with the status, by the words, the bytes and
+    // the blocks that were given back.
+    ensures told { IfOk result (λ run. (rest : List ℕ) × ((blocks : List Retired) × Told (map (λ word. word.now) words.now)
+        (source_view (Some input.now) 0) (source_view (Some rest) 0) (memory_view []) (memory_view blocks) run.0.0 run.1.items)) }
+    // If the words ask for a command and the bytes are what it reads, it did what was asked, with dirty
+    // pages left or with none, or memory ran out.
+    ensures complete { AsksWithInput (map (λ word. word.now) words.now) (source_view (Some input.now) 0)
+        → IfOk result (λ run. (run.0.0 ≡ 0) ⊎ ((run.0.0 ≡ 5) ⊎ (run.0.0 ≡ 7))) }
+    ensures no_failure { IfOk result (λ run. (run.0.0 ≢ 3) × (run.0.0 ≢ 4) × (run.0.0 ≢ 6)) }
 {
     let mut source = BytesSource::new(input);
     let mut sink = BytesSink::new(alloc);
-    let status = run_one(alloc, words, &mut source, &mut sink);
+    let mut depot = SureDepot::new(alloc);
+    let status = run_one(alloc, words, &mut source, &mut sink, &mut depot);
     if status.0 == 4 {
         return Err(NoMemory);
     }

@@ -13,7 +13,7 @@ use trace_reader::Cause;
 use vm_text::{after, push_count, push_word};
 
 const USAGE: &[u8] =
-    b"usage: neqysbar serial < TRACE\n       neqysbar study --process X --frames K < TRACE\n";
+    b"usage: neqysbar serial < TRACE\n       neqysbar study --process X --frames K < TRACE\n       neqysbar make --seed N --procs N --refs N\n";
 
 const UNFINISHED: &[u8] = b"neqysbar: the trace ends before its line END\n";
 

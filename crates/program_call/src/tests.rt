@@ -1,6 +1,7 @@
 use crate::{
     EnvArguments, FirstBytes, LineSource, ListedArguments, run_and_explain, run_bytes, run_program,
 };
+use disk_trait::MemoryDepot;
 use outside_io::{MemorySink, MemorySource};
 use program_ends::Status;
 use std::alloc::Global;
@@ -21,7 +22,8 @@ fn outcome(alloc: Global, words: &[&[u8]], fails: &[u32]) -> Result<(Status, Vec
     let mut source = MemorySource::new(Vec::from_slice(alloc, TRACE)?, Vec::new(alloc));
     let fails = Vec::from_slice(alloc, fails)?;
     let mut output = MemorySink::new(alloc, 1000, fails, Vec::new(alloc))?;
-    let status = run_program(alloc, &mut arguments, &mut source, &mut output);
+    let mut depot = MemoryDepot::new(alloc, Vec::new(alloc));
+    let status = run_program(alloc, &mut arguments, &mut source, &mut output, &mut depot);
     Ok((status, Vec::from_slice(alloc, output.taken())?))
 }
 
@@ -63,7 +65,8 @@ fn takes_the_words_of_the_process(rt: HostRuntime) -> Result<(), Fail> {
     let mut arguments = EnvArguments::new(&rt);
     let mut source = MemorySource::new(Vec::from_slice(alloc, TRACE)?, Vec::new(alloc));
     let mut output = MemorySink::new(alloc, 1000, Vec::new(alloc), Vec::new(alloc))?;
-    let status = run_program(alloc, &mut arguments, &mut source, &mut output);
+    let mut depot = MemoryDepot::new(alloc, Vec::new(alloc));
+    let status = run_program(alloc, &mut arguments, &mut source, &mut output, &mut depot);
     assert_eq!(rt; status, Status(1));
     Ok(())
 }
@@ -75,7 +78,7 @@ fn explains(rt: HostRuntime) -> Result<(), Fail> {
     let name = b"neqysbar".as_slice();
     let command = b"serial".as_slice();
     let usage =
-        b"usage: neqysbar serial < TRACE\n       neqysbar study --process X --frames K < TRACE\n".as_slice();
+        b"usage: neqysbar serial < TRACE\n       neqysbar study --process X --frames K < TRACE\n       neqysbar make --seed N --procs N --refs N\n".as_slice();
     let table: [(&[&[u8]], &[u8], u8, &[u8]); 5] = [
         (&[name, command], TRACE, 0, b""),
         (&[name], TRACE, 1, usage),
@@ -107,12 +110,14 @@ fn explains(rt: HostRuntime) -> Result<(), Fail> {
         let output = MemorySink::new(alloc, 1000, Vec::new(alloc), Vec::new(alloc))?;
         let mut output = FirstBytes::new(output);
         let mut messages = MemorySink::new(alloc, 1000, Vec::new(alloc), Vec::new(alloc))?;
+        let mut depot = MemoryDepot::new(alloc, Vec::new(alloc));
         let ended = run_and_explain(
             alloc,
             &mut arguments,
             &mut source,
             &mut output,
             &mut messages,
+            &mut depot,
         );
         assert_eq!(rt; ended, Status(status));
         assert_eq!(rt; messages.taken(), message);

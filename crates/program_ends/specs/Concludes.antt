@@ -1,6 +1,6 @@
 -- What is written, by the status that a call answers. `tells status text` says which text goes with
 -- which status. Source: this project's own.
-use Rattle.std.specs.Prelude.{◌⊎◌, ℕ, ◌<◌, List, length, take}
+use Rattle.std.specs.Prelude.{◌≡◌, ◌⊎◌, ℕ, ◌<◌, List, length, take}
 use Rattle.std.specs.Io.KnownBytes.{Appends}
 use Rattle.outside_io.specs.Views.{SinkView}
 use Rattle.pager_model.specs.Text.{status_line}
@@ -22,6 +22,18 @@ pub record Concludes (tells : ℕ → List ℕ → Type 0) (before after : SinkV
   pub tells_it : tells status text
   pub ends : Ends before after status text result
 
--- the outcome of a configuration: an answer with status 0, or status 7 because memory ran out
-abbrev pub EndsAnswered : (List ℕ → Type 0) → SinkView → SinkView → ℕ → Type 0
-EndsAnswered answer before after result = ((text : List ℕ) × answer text × Ends before after 0 text result) ⊎ Ends before after 7 (status_line 7) result
+-- the statuses of a command that was carried out (0, or 5 if it left pages dirty) or had no blocks (6)
+abbrev pub IsOutcome : ℕ → Type 0
+IsOutcome status = (status ≡ 0) ⊎ ((status ≡ 5) ⊎ (status ≡ 6))
+
+-- a configuration was answered, with a status and a text
+pub record IsAnsweredBy (answer : ℕ → List ℕ → Type 0) (before after : SinkView) (result : ℕ) : Type 0 where
+  pub status : ℕ
+  pub text : List ℕ
+  pub outcome : IsOutcome status
+  pub answers : answer status text
+  pub ends : Ends before after status text result
+
+-- the outcome of a configuration: an answer with its status, or status 7 because memory ran out
+abbrev pub EndsAnswered : (ℕ → List ℕ → Type 0) → SinkView → SinkView → ℕ → Type 0
+EndsAnswered answer before after result = IsAnsweredBy answer before after result ⊎ Ends before after 7 (status_line 7) result

@@ -9,6 +9,7 @@ use Rattle.trace_reader.specs.Answer.{IsTaken, HasShown}
 use Rattle.trace_reader.specs.Meaning.{Configuration, Faulty, trace_of, shows_no_fault}
 use Rattle.trace_reader.specs.Meaning as meaning
 use Rattle.pager_model.specs.Text.{status_line}
+use Rattle.program_ends.specs.Concludes.{IsOutcome}
 use Rattle.program_ends.specs.FaultText.{fault_text, unfinished_text}
 
 -- if the source tells its bytes, they stand for the configuration and were read to their end
@@ -27,11 +28,11 @@ IsUnfinished built before after = IfSome before.left (λ text. (trace_of built t
 abbrev pub IsFaultless : Built → SourceView → SourceView → Type 0
 IsFaultless built before after = IfSome before.left (λ text. (taken : List ℕ) × IsTaken text taken after.left × (shows_no_fault built taken ≡ true))
 
--- the text that goes with a status, each with its cause. With status 0 it is an answer to the
--- configuration; the source's count of failures rises with status 3 alone
-pub data Tells (built : Built) (answer : Config → List ℕ → Type 0) (before after : SourceView) : ℕ → List ℕ → Type 0 where
-  answered : (config : Config) (text : List ℕ) → after.failures ≡ before.failures → Reads built before after config → answer config text
-      → Tells built answer before after 0 text
+-- the text that goes with a status, each with its cause. With a status of an outcome it is an answer
+-- to the configuration; the source's count of failures rises with status 3 alone
+pub data Tells (built : Built) (answer : Config → ℕ → List ℕ → Type 0) (before after : SourceView) : ℕ → List ℕ → Type 0 where
+  answered : (config : Config) (status : ℕ) (text : List ℕ) → IsOutcome status → after.failures ≡ before.failures → Reads built before after config → answer config status text
+      → Tells built answer before after status text
   faulty : (n : ℕ) (cause : Cause) → after.failures ≡ before.failures → HasFault built before after n cause
       → Tells built answer before after 2 (fault_text n cause ++ status_line 2)
   unfinished : after.failures ≡ before.failures → IsUnfinished built before after

@@ -9,7 +9,8 @@ use arrayvec::ArrayVec;
 use outside_io::{Sink, WriteFault};
 
 /// The status with which a command ends: 0 if it did what was asked, 1 for a faulty command line, 2
-/// for input that is no trace, 3 for a failed read, 4 for a failed write, 7 if memory ran out.
+/// for input that is no trace, 3 for a failed read, 4 for a failed write, 5 if a run left shared pages
+/// dirty, 6 if a block could not be made, 7 if memory ran out.
 #[derive(Clone, Copy, Debug, PartialEq, Eq)]
 pub struct Status(pub u8);
 

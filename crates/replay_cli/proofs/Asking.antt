@@ -1,15 +1,28 @@
--- Words that begin with `study` and go on with no study ask for nothing.
-use Rattle.std.proofs.Common.{◌≡◌, ℕ, List, ◌∷◌, sym, ◌∙◌, subst, codes}
+-- Words that begin with a command's name and go on with no options of it ask for nothing.
+use Rattle.std.proofs.Common.{◌≡◌, ℕ, List, [], ◌∷◌, sym, ◌∙◌, subst, arith, codes}
 use Rattle.study_command.specs.CommandLine.{AsksFor}
 use Rattle.study_command.specs.declared.words.Study.{Study as Wanted}
 use Rattle.replay_cli.specs.Commands.{Asks}
+use Rattle.replay_cli.specs.MakeLine.{AsksToMake}
+use Rattle.replay_cli.specs.declared.make_words.Make.{Make as Made}
 use Rattle.replay_cli.specs.declared.words.Command.{Command}
-use Rattle.replay_cli.specs.declared.words.Command.TheVariants.{Serial, Study}
+use Rattle.replay_cli.specs.declared.words.Command.TheVariants.{Serial, Study, Make}
 
 heads : {x y : List ℕ} {xs ys : List (List ℕ)} → x ∷ xs ≡ y ∷ ys → (x ≡ y) × (xs ≡ ys)
 heads e = (cc, cc)
 
-pub no_study : (words rest : List (List ℕ)) (first : List ℕ) → words ≡ first ∷ rest → (codes "serial" ≡ first → ⊥) → ((study : Wanted) → AsksFor rest study → ⊥)
+-- two names differ
+pub study_or_make : codes "study" ≡ codes "make" → ⊥
+study_or_make e = absurd (omega (arith, first e)) where
+  first : {a b : ℕ} {xs ys : List ℕ} → a ∷ xs ≡ b ∷ ys → a ≡ b
+  first e = cc
+
+-- the first word is none of the names, or what follows the name is none of its options
+pub no_command : (words rest : List (List ℕ)) (first : List ℕ) → words ≡ first ∷ rest → (codes "serial" ≡ first → rest ≡ [] → ⊥)
+    → (codes "study" ≡ first → (study : Wanted) → AsksFor rest study → ⊥) → (codes "make" ≡ first → (make : Made) → AsksToMake rest make → ⊥)
     → (command : Command) → Asks words command → ⊥
-no_study words rest first begin other none Serial asks = other (heads (sym asks ∙ begin)).0
-no_study words rest first begin other none (Study study) asks = none study (subst (λ options. AsksFor options study) (heads (sym asks.1 ∙ begin)).1 asks.2)
+no_command words rest first begin one two three Serial asks = let both = heads (sym asks ∙ begin) in one both.0 (sym both.1)
+no_command words rest first begin one two three (Study study) asks =
+    let both = heads (sym asks.1 ∙ begin) in two both.0 study (subst (λ options. AsksFor options study) both.1 asks.2)
+no_command words rest first begin one two three (Make make) asks =
+    let both = heads (sym asks.1 ∙ begin) in three both.0 make (subst (λ options. AsksToMake options make) both.1 asks.2)

@@ -1,43 +1,54 @@
 -- The command lines, and what each command answers. A further command is a case more of each.
 -- Source: this project's own.
-use Rattle.std.specs.Prelude.{◌≡◌, ℕ, ◌≤◌, List, [], ◌∷◌, codes}
-use Rattle.vm_types.specs.declared.config.Config.{Config}
+use Rattle.std.specs.Prelude.{◌≡◌, ◌⊎◌, ℕ, ◌≤◌, List, [], ◌∷◌, codes}
 use Rattle.outside_io.specs.Views.{SourceView}
-use Rattle.trace_lines.specs.declared.built.Built.{Built}
-use Rattle.trace_lines.specs.declared.built.Built.TheVariants.{FirstPath, All}
+use Rattle.trace_lines.specs.declared.built.Built.TheVariants.{All}
 use Rattle.pager_model.specs.Text.{status_line}
-use Rattle.program_ends.specs.Tells.{Tells}
+use Rattle.program_ends.specs.Tells.{IsTrace, Tells}
 use Rattle.study_command.specs.CommandLine.{AsksFor}
-use Rattle.study_command.specs.StudyText.{IsStudyText}
-use Rattle.replay_cli.specs.SerialRun.{IsSerialText}
+use Rattle.study_command.specs.StudyText.{IsStudyAnswer}
+use Rattle.replay_cli.specs.DepotView.{DepotView}
+use Rattle.replay_cli.specs.MakeAnswer.{MakeTells}
+use Rattle.replay_cli.specs.MakeLine.{AsksToMake, IsMakeable}
+use Rattle.replay_cli.specs.SerialAnswer.{IsSerialAnswer}
 use Rattle.replay_cli.specs.declared.words.Command.{Command}
-use Rattle.replay_cli.specs.declared.words.Command.TheVariants.{Serial, Study}
+use Rattle.replay_cli.specs.declared.words.Command.TheVariants.{Serial, Study, Make}
 
--- the words ask for the command: `serial` alone, or `study` and its options
+-- the words ask for the command: `serial` alone, or `study` or `make` and its options
 abbrev pub Asks : List (List ℕ) → Command → Type 0
 Asks words Serial = words ≡ codes "serial" ∷ []
 Asks words (Study study) = (options : List (List ℕ)) × (words ≡ codes "study" ∷ options) × AsksFor options study
+Asks words (Make make) = (options : List (List ℕ)) × (words ≡ codes "make" ∷ options) × AsksToMake options make
 
--- its number of frames is one that it takes
+-- its numbers are ones that it takes
 abbrev pub IsBounded : Command → Type 0
 IsBounded Serial = Unit {0}
 IsBounded (Study study) = (1 ≤ study.frames) × (study.frames ≤ 1024)
+IsBounded (Make make) = IsMakeable make
 
--- which traces it reads
-abbrev pub traces_of : Command → Built
-traces_of Serial = FirstPath
-traces_of (Study study) = All
+-- the source tells what it reads: a trace, or nothing
+abbrev pub HasInput : Command → SourceView → Type 0
+HasInput Serial before = IsTrace All before
+HasInput (Study study) before = IsTrace All before
+HasInput (Make make) before = Unit {0}
 
--- the text is its answer to a configuration
-abbrev pub IsAnswer : Command → Config → List ℕ → Type 0
-IsAnswer Serial config text = IsSerialText config text
-IsAnswer (Study study) config text = IsStudyText study config text
+-- what `serial` tells: no block is made for input that is no trace or can't be read
+pub record SerialTells (before after : SourceView) (depot depot' : DepotView) (status : ℕ) (text : List ℕ) : Type 0 where
+  pub tells : Tells All (IsSerialAnswer depot depot') before after status text
+  pub keeps : (status ≡ 2) ⊎ (status ≡ 3) → depot' ≡ depot
+
+-- what the command tells with a status, by what is seen of the source and of the depot before and after; a study
+-- makes no block, and `make` reads nothing
+abbrev pub Obeys : Command → SourceView → SourceView → DepotView → DepotView → ℕ → List ℕ → Type 0
+Obeys Serial before after depot depot' status text = SerialTells before after depot depot' status text
+Obeys (Study study) before after depot depot' status text = Tells All (IsStudyAnswer study) before after status text × (depot' ≡ depot)
+Obeys (Make make) before after depot depot' status text = MakeTells make depot depot' status text × (after ≡ before)
 
 -- the text that goes with a status, each with its cause: by the words, and by what is seen of the
--- source before and after
-pub data Told (words : List (List ℕ)) (before after : SourceView) : ℕ → List ℕ → Type 0 where
-  -- no command line: nothing is read
-  usage : ((command : Command) → Asks words command → ⊥) → after ≡ before → Told words before after 1 (status_line 1)
+-- source and of the depot before and after
+pub data Told (words : List (List ℕ)) (before after : SourceView) (depot depot' : DepotView) : ℕ → List ℕ → Type 0 where
+  -- no command line: nothing is read, and no block is made
+  usage : ((command : Command) → Asks words command → ⊥) → after ≡ before → depot' ≡ depot → Told words before after depot depot' 1 (status_line 1)
   -- what the command tells
-  obeyed : (command : Command) (status : ℕ) (text : List ℕ) → Asks words command → Tells (traces_of command) (IsAnswer command) before after status text
-      → Told words before after status text
+  obeyed : (command : Command) (status : ℕ) (text : List ℕ) → Asks words command → Obeys command before after depot depot' status text
+      → Told words before after depot depot' status text

@@ -1,8 +1,6 @@
-pub mod Mirror
-pub mod Stands
-pub mod HasRun
-pub mod ReportView
-pub mod RunReport
-pub mod Reports
-pub mod SerialRun
+pub mod DepotView
+pub mod SerialAnswer
+pub mod MakeLine
+pub mod MakeText
+pub mod MakeAnswer
 pub mod Commands

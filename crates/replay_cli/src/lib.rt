@@ -1,17 +1,16 @@
-//! The program over a source and a sink: `serial` reads a trace, runs it, and writes the entry lines,
-//! the report and the status; `study` reads one and writes what a process's references cost.
+//! The program over a source, a sink and a depot: `serial` reads a trace, runs it over blocks of the
+//! depot, and writes the entry lines, the report, the dirty pages and the status; `study` reads one and
+//! writes what a process's references cost; `make` makes a trace, runs it, and counts the entries.
 #![tactic(auto)]
 
-mod answer;
 mod cli;
-mod entry_lines;
-mod machine;
-mod recount;
-mod report;
-mod run;
+mod counting;
+mod make_run;
+mod make_words;
 mod words;
 
 pub use cli::run_one;
+pub use make_words::Make;
 pub use program_ends::Status;
 pub use words::{Command, command_of};
 

@@ -2,6 +2,7 @@ ghost use Rattle.std.specs.Prelude.{IfSome, IfNone, map};
 ghost use Rattle.replay_cli.specs.Commands.{Asks, IsBounded};
 ghost use Rattle.replay_cli.specs.declared.words.Command.{Command};
 
+use crate::make_words::{Make, make_of};
 use study_command::{Study, first_word, study_of};
 use vm_text::is;
 
@@ -12,10 +13,12 @@ pub enum Command {
     Serial,
     /// Read a trace, run nothing, and write what the references of a process cost.
     Study(Study),
+    /// Make a trace, answer its requests in order, and write how many entries of each kind there are.
+    Make(Make),
 }
 
-/// The command for which the words ask: the one word `serial`, or `study` and its two options. None if
-/// they are no command line. Doesn't allocate.
+/// The command for which the words ask: the one word `serial`, or `study` and its two options, or
+/// `make` and its three. None if they are no command line. Doesn't allocate.
 pub fn command_of(words: &[&str]) -> Option<Command>
     ensures some { IfSome result (Asks (map (λ word. word.now) words.now)) }
     ensures none { IfNone result ((command : Command) → Asks (map (λ word. word.now) words.now) command → ⊥) }
@@ -29,9 +32,13 @@ pub fn command_of(words: &[&str]) -> Option<Command>
             None
         };
     }
-    if !is(first, b"study") {
+    if is(first, b"study") {
+        let study = study_of(rest)?;
+        return Some(Command::Study(study));
+    }
+    if !is(first, b"make") {
         return None;
     }
-    let study = study_of(rest)?;
-    Some(Command::Study(study))
+    let make = make_of(rest)?;
+    Some(Command::Make(make))
 }

@@ -1,3 +1,4 @@
 pub mod Options
+pub mod ThreeOptions
 pub mod Printed
 pub mod Answering

@@ -1,7 +1,9 @@
 -- An option is told from the words that begin with it.
-use Rattle.std.proofs.Common.{◌≡◌, Bor, ℕ, List, [], ◌∷◌, ◌++◌, length, sym, ◌∙◌, ap, inl, inr, arith, length-append, codes}
+use Rattle.std.proofs.Common.{◌≡◌, Bor, ℕ, List, [], ◌∷◌, ◌++◌, length, get_or, sym, ◌∙◌, ap, inl, inr, arith, length-append, codes}
 use Rattle.std.specs.Prelude.{Option, Some, None, IfNone, map}
-use Rattle.study_command.specs.CommandLine.{BeginsOption, HasOptions}
+use Rattle.std.proofs.lemmas.List.{get_or_append_left}
+use Rattle.study_command.specs.CommandLine.{HasOptions}
+use Rattle.study_command.specs.Options.{AreApart, AreOptions, BeginsOption, HasTwo}
 
 longer : (name value : List ℕ) → name ≡ name ++ (61 ∷ value) → ⊥
 longer name value e = omega (arith, ap length e, length-append name (61 ∷ value))
@@ -28,36 +30,42 @@ same_option name value value' words rest rest' (inr one) (inr one') =
     let both = heads (sym one ∙ one') in
     (same_value value value' (same_tail name (61 ∷ value) (61 ∷ value') both.0), both.1)
 
--- the names differ in their third byte
-apart : (xs ys : List ℕ) → 45 ∷ 45 ∷ 112 ∷ xs ≡ 45 ∷ 45 ∷ 102 ∷ ys → ⊥
-apart xs ys e = absurd (omega (arith, third 112 102 xs ys e)) where
-  third : (a b : ℕ) (xs ys : List ℕ) → 45 ∷ 45 ∷ a ∷ xs ≡ 45 ∷ 45 ∷ b ∷ ys → a ≡ b
-  third a b xs ys e = cc
-
--- words don't begin with two options
-pub one_option : (value value' : List ℕ) (words rest rest' : List (List ℕ)) → BeginsOption (codes "--process") value words rest → BeginsOption (codes "--frames") value' words rest' → ⊥
-one_option value value' words rest rest' (inl two) (inl two') = apart _ _ (heads (sym two ∙ two')).0
-one_option value value' words rest rest' (inl two) (inr one') = apart _ _ (heads (sym two ∙ one')).0
-one_option value value' words rest rest' (inr one) (inl two') = apart _ _ (heads (sym one ∙ two')).0
-one_option value value' words rest rest' (inr one) (inr one') = apart _ _ (heads (sym one ∙ one')).0
+-- words don't begin with two options whose names are apart
+pub one_option : (one two value value' : List ℕ) (words rest rest' : List (List ℕ)) → AreApart one two → BeginsOption one value words rest → BeginsOption two value' words rest' → ⊥
+one_option one two value value' words rest rest' far (inl two_words) (inl two_words') = far.differ (ap (λ w. get_or w 2 0) (heads (sym two_words ∙ two_words')).0)
+one_option one two value value' words rest rest' far (inl two_words) (inr one_word') =
+    far.differ (ap (λ w. get_or w 2 0) (heads (sym two_words ∙ one_word')).0 ∙ get_or_append_left two (61 ∷ value') 0 2 far.other_long)
+one_option one two value value' words rest rest' far (inr one_word) (inl two_words') =
+    far.differ (sym (get_or_append_left one (61 ∷ value) 0 2 far.long) ∙ ap (λ w. get_or w 2 0) (heads (sym one_word ∙ two_words')).0)
+one_option one two value value' words rest rest' far (inr one_word) (inr one_word') =
+    far.differ (sym (get_or_append_left one (61 ∷ value) 0 2 far.long) ∙ ap (λ w. get_or w 2 0) (heads (sym one_word ∙ one_word')).0 ∙ get_or_append_left two (61 ∷ value') 0 2 far.other_long)
 
 -- the same words in other words
 pub along : (name value : List ℕ) (words words' rest : List (List ℕ)) → words ≡ words' → BeginsOption name value words rest → BeginsOption name value words' rest
 along name value words words' rest e (inl two) = inl (sym e ∙ two)
 along name value words words' rest e (inr one) = inr (sym e ∙ one)
 
--- two options are told from the words
-pub same_options : (words : List (List ℕ)) (letter letter' number number' : List ℕ) → HasOptions words letter number → HasOptions words letter' number' → (letter ≡ letter') × (number ≡ number')
-same_options words letter letter' number number' (inl a) (inl b) =
-    let first = same_option (codes "--process") letter letter' words a.0 b.0 a.1.0 b.1.0 in
-    let second = same_option (codes "--frames") number number' b.0 [] [] (along (codes "--frames") number a.0 b.0 [] first.1 a.1.1) b.1.1 in
+-- one option and then another, by another reading of the first
+behind : (one two : List ℕ) (words : List (List ℕ)) (value value' other other' : List ℕ) → AreOptions one value two other words → AreOptions one value' two other' words
+    → (value ≡ value') × (other ≡ other')
+behind one two words value value' other other' a b =
+    let first = same_option one value value' words a.0 b.0 a.1.0 b.1.0 in
+    let second = same_option two other other' b.0 [] [] (along two other a.0 b.0 [] first.1 a.1.1) b.1.1 in
     (first.0, second.0)
-same_options words letter letter' number number' (inl a) (inr b) = absurd (one_option letter number' words a.0 b.0 a.1.0 b.1.0)
-same_options words letter letter' number number' (inr a) (inl b) = absurd (one_option letter' number words b.0 a.0 b.1.0 a.1.0)
-same_options words letter letter' number number' (inr a) (inr b) =
-    let first = same_option (codes "--frames") number number' words a.0 b.0 a.1.0 b.1.0 in
-    let second = same_option (codes "--process") letter letter' b.0 [] [] (along (codes "--process") letter a.0 b.0 [] first.1 a.1.1) b.1.1 in
-    (second.0, first.0)
+
+-- two options are told from the words
+pub same_two : (one two : List ℕ) (words : List (List ℕ)) (value value' other other' : List ℕ) → AreApart one two → HasTwo one value two other words → HasTwo one value' two other' words
+    → (value ≡ value') × (other ≡ other')
+same_two one two words value value' other other' far (inl a) (inl b) = behind one two words value value' other other' a b
+same_two one two words value value' other other' far (inl a) (inr b) = absurd (one_option one two value other' words a.0 b.0 far a.1.0 b.1.0)
+same_two one two words value value' other other' far (inr a) (inl b) = absurd (one_option one two value' other words b.0 a.0 far b.1.0 a.1.0)
+same_two one two words value value' other other' far (inr a) (inr b) = let both = behind two one words other other' value value' a b in (both.1, both.0)
+
+far_options : AreApart (codes "--process") (codes "--frames")
+far_options = record { long = omega arith; other_long = omega arith; differ = λ e. omega (arith, e) }
+
+pub same_options : (words : List (List ℕ)) (letter letter' number number' : List ℕ) → HasOptions words letter number → HasOptions words letter' number' → (letter ≡ letter') × (number ≡ number')
+same_options words letter letter' number number' a b = same_two (codes "--process") (codes "--frames") words letter letter' number number' far_options a b
 
 -- words as texts
 abbrev pub texts : List (Bor (List ℕ)) → List (List ℕ)
@@ -76,23 +84,23 @@ not_begun name first behind value words more rest begin front no_mark other (inr
     no_mark value (same_tail name behind (61 ∷ value) (sym front ∙ (heads (sym begin ∙ one)).0))
 
 -- words that begin with one option and don't go on with the other are not both
-pub no_frames : (letter letter' number' : List ℕ) (words rest : List (List ℕ)) → BeginsOption (codes "--process") letter words rest
-    → ((value : List ℕ) → BeginsOption (codes "--frames") value rest [] → ⊥) → HasOptions words letter' number' → ⊥
-no_frames letter letter' number' words rest begins none (inl a) =
-    none number' (along (codes "--frames") number' a.0 rest [] (sym (same_option (codes "--process") letter letter' words rest a.0 begins a.1.0).1) a.1.1)
-no_frames letter letter' number' words rest begins none (inr a) = one_option letter number' words rest a.0 begins a.1.0
+pub no_second : (one two value value' other' : List ℕ) (words rest : List (List ℕ)) → AreApart one two → BeginsOption one value words rest
+    → ((other : List ℕ) → BeginsOption two other rest [] → ⊥) → HasTwo one value' two other' words → ⊥
+no_second one two value value' other' words rest far begins none (inl a) =
+    none other' (along two other' a.0 rest [] (sym (same_option one value value' words rest a.0 begins a.1.0).1) a.1.1)
+no_second one two value value' other' words rest far begins none (inr a) = one_option one two value other' words rest a.0 far begins a.1.0
 
-pub no_process : (number letter' number' : List ℕ) (words rest : List (List ℕ)) → BeginsOption (codes "--frames") number words rest
-    → ((value : List ℕ) → BeginsOption (codes "--process") value rest [] → ⊥) → HasOptions words letter' number' → ⊥
-no_process number letter' number' words rest begins none (inl a) = one_option letter' number words a.0 rest a.1.0 begins
-no_process number letter' number' words rest begins none (inr a) =
-    none letter' (along (codes "--process") letter' a.0 rest [] (sym (same_option (codes "--frames") number number' words rest a.0 begins a.1.0).1) a.1.1)
+pub no_first : (one two other value' other' : List ℕ) (words rest : List (List ℕ)) → AreApart one two → BeginsOption two other words rest
+    → ((value : List ℕ) → BeginsOption one value rest [] → ⊥) → HasTwo one value' two other' words → ⊥
+no_first one two other value' other' words rest far begins none (inl a) = one_option one two value' other words a.0 rest far a.1.0 begins
+no_first one two other value' other' words rest far begins none (inr a) =
+    none value' (along one value' a.0 rest [] (sym (same_option two other other' words rest a.0 begins a.1.0).1) a.1.1)
 
 -- words that begin with neither
-pub no_options : (letter' number' : List ℕ) (words : List (List ℕ)) → ((value : List ℕ) (rest : List (List ℕ)) → BeginsOption (codes "--process") value words rest → ⊥)
-    → ((value : List ℕ) (rest : List (List ℕ)) → BeginsOption (codes "--frames") value words rest → ⊥) → HasOptions words letter' number' → ⊥
-no_options letter' number' words none none' (inl a) = none letter' a.0 a.1.0
-no_options letter' number' words none none' (inr a) = none' number' a.0 a.1.0
+pub no_options : (one two value' other' : List ℕ) (words : List (List ℕ)) → ((value : List ℕ) (rest : List (List ℕ)) → BeginsOption one value words rest → ⊥)
+    → ((other : List ℕ) (rest : List (List ℕ)) → BeginsOption two other words rest → ⊥) → HasTwo one value' two other' words → ⊥
+no_options one two value' other' words none none' (inl a) = none value' a.0 a.1.0
+no_options one two value' other' words none none' (inr a) = none' other' a.0 a.1.0
 
 -- a value that is read as nothing
 pub no_value : (f : List ℕ → Option ℕ) (word word' : List ℕ) (n : ℕ) → word ≡ word' → None ≡ f word → f word' ≡ Some n → ⊥

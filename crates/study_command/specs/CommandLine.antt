@@ -2,6 +2,7 @@
 use Rattle.std.specs.Prelude.{◌≡◌, ◌⊎◌, ℕ, ◌-◌, ◌&&◌, nat_le, List, [], ◌∷◌, ◌++◌, Option, Some, None, Result, Ok, Err, codes, if◌then◌else◌}
 use Rattle.trace_words.specs.declared.cause.Cause.{Cause}
 use Rattle.trace_words.specs.Number.{decimal_within}
+use Rattle.study_command.specs.Options.{HasTwo}
 use Rattle.study_command.specs.declared.words.Study.{Study}
 
 -- a letter, A to P
@@ -17,19 +18,9 @@ if_right (Err cause) = None
 abbrev pub frames_named : List ℕ → Option ℕ
 frames_named word = if_right (decimal_within 1 1024 word)
 
--- the words begin with the option and its value, which are two words, or one with = between them, and
--- the rest follows
-abbrev pub BeginsOption : List ℕ → List ℕ → List (List ℕ) → List (List ℕ) → Type 0
-BeginsOption name value words rest = (words ≡ name ∷ value ∷ rest) ⊎ (words ≡ (name ++ (codes "=" ++ value)) ∷ rest)
-
--- one option and then the other, and nothing else
-abbrev pub AreOptions : List ℕ → List ℕ → List ℕ → List ℕ → List (List ℕ) → Type 0
-AreOptions first value second other words = (rest : List (List ℕ)) × (BeginsOption first value words rest × BeginsOption second other rest [])
-
 -- the two options in either order
 abbrev pub HasOptions : List (List ℕ) → List ℕ → List ℕ → Type 0
-HasOptions words letter number =
-    AreOptions (codes "--process") letter (codes "--frames") number words ⊎ AreOptions (codes "--frames") number (codes "--process") letter words
+HasOptions words letter number = HasTwo (codes "--process") letter (codes "--frames") number words
 
 pub record AsksFor (words : List (List ℕ)) (study : Study) : Type 0 where
   pub letter : List ℕ

@@ -56,3 +56,7 @@ pub record IsStudyText (study : Study) (config : Config) (text : List ℕ) : Typ
   pub cuts : List ℕ
   pub least : IsLeast (page_string (study.process).0 config.body) study.frames kept cuts
   pub lines : text ≡ study_lines (page_string (study.process).0 config.body) study.frames kept cuts ++ status_line 0
+
+-- the answer of the command to a configuration: the text of a study, with status 0
+abbrev pub IsStudyAnswer : Study → Config → ℕ → List ℕ → Type 0
+IsStudyAnswer study config status text = (status ≡ 0) × IsStudyText study config text

@@ -6,7 +6,7 @@ ghost use Rattle.program_ends.specs.Concludes.{Concludes, EndsAnswered, HasTold,
 ghost use Rattle.program_ends.specs.Ends.{Ends};
 ghost use Rattle.program_ends.specs.Tells.{IsTrace, Tells};
 ghost use Rattle.pager_model.specs.Text.{status_line};
-ghost use Rattle.study_command.specs.StudyText.{IsStudyText, answer_lines};
+ghost use Rattle.study_command.specs.StudyText.{IsStudyAnswer, answer_lines};
 
 use crate::answers::{Answers, answers_of};
 use crate::printing::print_answers;
@@ -35,7 +35,7 @@ fn end_answers<K: Sink>(answers: &Answers, frames: u32, sink: &mut K) -> Status
 fn study_config<K: Sink>(alloc: Global, config: &Config, study: Study, sink: &mut K) -> Status
     requires frames { (1 ≤ study.frames) × (study.frames ≤ 1024) }
     requires formed { IsWellFormed config.now }
-    ensures { EndsAnswered (IsStudyText study config.now) (sink_view (K.taken sink.old) (K.faults sink.old) (K.stalls sink.old))
+    ensures { EndsAnswered (IsStudyAnswer study config.now) (sink_view (K.taken sink.old) (K.faults sink.old) (K.stalls sink.old))
         (sink_view (K.taken sink.new) (K.faults sink.new) (K.stalls sink.new)) result.0 }
 {
     match answers_of(alloc, config, study) {
@@ -47,7 +47,7 @@ fn study_config<K: Sink>(alloc: Global, config: &Config, study: Study, sink: &mu
 // The outcome of the command.
 fn conclude<S: Source, K: Sink>(alloc: Global, study: Study, source: &mut S, sink: &mut K) -> Status
     requires { (1 ≤ study.frames) × (study.frames ≤ 1024) }
-    ensures outcome { Concludes (Tells Built.All (IsStudyText study) (source_view (S.left source.old) (S.faults source.old)) (source_view (S.left source.new) (S.faults source.new)))
+    ensures outcome { Concludes (Tells Built.All (IsStudyAnswer study) (source_view (S.left source.old) (S.faults source.old)) (source_view (S.left source.new) (S.faults source.new)))
         (sink_view (K.taken sink.old) (K.faults sink.old) (K.stalls sink.old)) (sink_view (K.taken sink.new) (K.faults sink.new) (K.stalls sink.new)) result.0 }
     ensures faults_later { S.faults source.old ≤ S.faults source.new }
 {
@@ -75,15 +75,15 @@ pub fn study_trace<S: Source, K: Sink>(
 ) -> Status
     requires { (1 ≤ study.frames) × (study.frames ≤ 1024) }
     // A status with the text that goes with it, and how the text was written.
-    ensures outcome { Concludes (Tells Built.All (IsStudyText study) (source_view (S.left source.old) (S.faults source.old)) (source_view (S.left source.new) (S.faults source.new)))
+    ensures outcome { Concludes (Tells Built.All (IsStudyAnswer study) (source_view (S.left source.old) (S.faults source.old)) (source_view (S.left source.new) (S.faults source.new)))
         (sink_view (K.taken sink.old) (K.faults sink.old) (K.stalls sink.old)) (sink_view (K.taken sink.new) (K.faults sink.new) (K.stalls sink.new)) result.0 }
     // So with every status but 4 what was written is the text that goes with it, and no count of the
     // sink changed.
-    ensures told { result.0 ≢ 4 → HasTold (Tells Built.All (IsStudyText study) (source_view (S.left source.old) (S.faults source.old)) (source_view (S.left source.new) (S.faults source.new)))
+    ensures told { result.0 ≢ 4 → HasTold (Tells Built.All (IsStudyAnswer study) (source_view (S.left source.old) (S.faults source.old)) (source_view (S.left source.new) (S.faults source.new)))
         (sink_view (K.taken sink.old) (K.faults sink.old) (K.stalls sink.old)) (sink_view (K.taken sink.new) (K.faults sink.new) (K.stalls sink.new)) result.0 }
     ensures unfailed { result.0 ≢ 4 → (K.faults sink.new ≡ K.faults sink.old) × (K.stalls sink.new ≡ K.stalls sink.old) }
     // With status 4 it is a proper prefix of a text that goes with another status.
-    ensures cut { result.0 ≡ 4 → WasCut (Tells Built.All (IsStudyText study) (source_view (S.left source.old) (S.faults source.old)) (source_view (S.left source.new) (S.faults source.new)))
+    ensures cut { result.0 ≡ 4 → WasCut (Tells Built.All (IsStudyAnswer study) (source_view (S.left source.old) (S.faults source.old)) (source_view (S.left source.new) (S.faults source.new)))
         (sink_view (K.taken sink.old) (K.faults sink.old) (K.stalls sink.old)) (sink_view (K.taken sink.new) (K.faults sink.new) (K.stalls sink.new)) }
     ensures read_fault { result.0 ≡ 3 → Rose (S.faults source.old) (S.faults source.new) }
     ensures write_fault { result.0 ≡ 4 → Rose (K.faults sink.old) (K.faults sink.new) ⊎ Rose (K.stalls sink.old) (K.stalls sink.new) }

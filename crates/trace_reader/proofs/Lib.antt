@@ -13,3 +13,5 @@ pub mod Judging
 pub mod Pieces
 pub mod Reading
 pub mod LawsHold
+pub mod HeadLines
+pub mod HeadReads

@@ -6,3 +6,6 @@ pub mod Meaning
 pub mod Answer
 pub mod Stream
 pub mod Laws
+pub mod Head
+pub mod HeadAnswer
+pub mod LogWord

@@ -106,16 +106,16 @@ fn keep_last(buffer: &mut [u8], filled: usize, held: usize)
 
 // What the lines taken so far declare, and the number of the next line.
 #[derive(Drop)]
-struct Reader {
-    alloc: Global,
-    built: Built,
-    draft: Draft,
-    number: u32,
+pub(crate) struct Reader {
+    pub(crate) alloc: Global,
+    pub(crate) built: Built,
+    pub(crate) draft: Draft,
+    pub(crate) number: u32,
 }
 
 impl Reader {
     // Takes the next line.
-    fn take_line(&mut self, line: &[u8]) -> Result<(), TraceFault>
+    pub(crate) fn take_line(&mut self, line: &[u8]) -> Result<(), TraceFault>
         requires { IsReading self.old.built self.old.draft self.old.number }
         ensures built { self.new.built ≡ self.old.built }
         ensures ok { OnOk result (HasTaken self.old.built self.old.draft self.old.number line.now self.new.draft self.new.number) }

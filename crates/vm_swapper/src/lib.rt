@@ -13,5 +13,8 @@ mod victims;
 
 pub use come::come_some;
 pub use leave::leave_some;
+pub use looks::slot_count;
+pub use seen::{Seen, see};
+pub use slots::has_shared;
 pub use swap::{Swap, SwapWhy};
 pub use victims::victim;

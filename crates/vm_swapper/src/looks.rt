@@ -22,8 +22,8 @@ pub enum Look {
     Out,
 }
 
-/// How many slots a process of the configuration has.
-fn slots<B: Block>(state: &State<B>, p: Proc) -> u32
+/// How many slots a process of the configuration has. Doesn't allocate.
+pub fn slot_count<B: Block>(state: &State<B>, p: Proc) -> u32
     requires { p.0 < length state.now.config.procs }
     ensures count { result ≡ length ((pager state.now).ring p.0).slots }
     ensures few { result ≤ 1024 }
@@ -53,7 +53,7 @@ pub fn first<B: Block>(state: &State<B>, p: Proc, look: Look) -> Option<u32>
     ensures first { result ≡ first state.now.config state.now.past (pager state.now) p.0 look }
     ensures few { IfSome result (λ n. n < 1024) }
 {
-    for n in 0..slots(state, p) {
+    for n in 0..slot_count(state, p) {
         if has(state, p, n, look) {
             return Some(n);
         }

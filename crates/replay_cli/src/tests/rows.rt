@@ -1,30 +1,6 @@
-use crate::{Status, run_one};
-use outside_io::{MemorySink, MemorySource};
-use std::alloc::Global;
+use super::{FIRST_RUN, FIRST_RUN_TEXT, outcome};
+use crate::Status;
 use std::test::Fail;
-use vm_types::NoMemory;
-
-const FIRST_RUN: &str = "VMTRACE 1\n\
-FRAMES 8\n\
-PAGEFILE 4\n\
-PROCESS A 4 4 4 0\n\
-MAPZERO A 00000000 4 UW\n\
-BODY\n\
-A W4 00000000 0000002A\n\
-A R4 00000000\n\
-A R1 00000800\n\
-END\n";
-
-const FIRST_RUN_TEXT: &str = "1 A ZERO 00000000 F0\n\
-2 A DONE W4 00000000 0000002A\n\
-3 A DONE R4 00000000 0000002A\n\
-4 A DENIED R1 00000800 UNMAPPED\n\
-PFN AT 4\n\
-FREE 7 MODIFIED 0 BAD 0 RELEASE 0 READERROR 0 WRITING 0 READING 0 ACTIVE 1\n\
-FRAME 0 ACTIVE A/00000000 MODIFY 1 REFS 1 SHARES 1\n\
-PAGEFILE 4 CHARGED 1 ASSIGNED 0\n\
-PROCESS A RESIDENT COUNT 1 LIMIT 4\n\
-STATUS 0\n";
 
 const NO_REQUESTS: &str = "VMTRACE 1\n\
 FRAMES 8\n\
@@ -100,31 +76,13 @@ MAPZERO A 00000000 5 UW\n\
 BODY\n\
 END\n";
 
-// What the program answers and writes, with devices whose calls of these numbers fail or take nothing.
-fn outcome(
-    alloc: Global,
-    words: &[&str],
-    text: &str,
-    read_fails: &[u32],
-    write_fails: &[u32],
-    write_stalls: &[u32],
-) -> Result<(Status, Vec<u8>), NoMemory> {
-    let bytes = Vec::from_slice(alloc, text.as_bytes())?;
-    let mut source = MemorySource::new(bytes, Vec::from_slice(alloc, read_fails)?);
-    let fails = Vec::from_slice(alloc, write_fails)?;
-    let stalls = Vec::from_slice(alloc, write_stalls)?;
-    let mut sink = MemorySink::new(alloc, 100_000, fails, stalls)?;
-    let status = run_one(alloc, words, &mut source, &mut sink);
-    Ok((status, Vec::from_slice(alloc, sink.taken())?))
-}
-
-// The rows with ample memory and devices that don't fail: words, trace, status and text.
+// Ample memory and devices that don't fail: words, trace, status and text.
 #[test]
 fn writes_the_rows(rt: HostRuntime) -> Result<(), Fail> {
     let table: [(&[&str], &str, u8, &str); 12] = [
         (&["serial"], FIRST_RUN, 0, FIRST_RUN_TEXT),
         (&["serial"], NO_REQUESTS, 0, NO_REQUESTS_TEXT),
-        (&["serial"], FIVE_PAGES, 2, "TRACE 5 NOTBUILT\nSTATUS 2\n"),
+        (&["serial"], FIVE_PAGES, 0, NO_REQUESTS_TEXT),
         (&["serial"], "", 2, "TRACE UNFINISHED\nSTATUS 2\n"),
         (
             &["serial"],
@@ -171,7 +129,7 @@ fn writes_the_rows(rt: HostRuntime) -> Result<(), Fail> {
         (&["parallel"], FIRST_RUN, 1, "STATUS 1\n"),
     ];
     for (words, text, status, written) in table {
-        let told = outcome(rt.alloc(), words, text, &[], &[], &[])?;
+        let told = outcome(rt.alloc(), words, text.as_bytes(), &[], &[], &[], &[])?;
         assert_eq!(rt; told.0, Status(status));
         assert_eq!(rt; told.1.as_slice(), written.as_bytes());
     }
@@ -198,7 +156,7 @@ fn refuses_other_words(rt: HostRuntime) -> Result<(), Fail> {
         &["study", "--", "--process", "A", "--frames", "1"],
     ];
     for words in table {
-        let told = outcome(rt.alloc(), words, TWICE, &[], &[], &[])?;
+        let told = outcome(rt.alloc(), words, TWICE.as_bytes(), &[], &[], &[], &[])?;
         assert_eq!(rt; told.0, Status(1));
         assert_eq!(rt; told.1.as_slice(), b"STATUS 1\n".as_slice());
     }
@@ -207,33 +165,9 @@ fn refuses_other_words(rt: HostRuntime) -> Result<(), Fail> {
 
 #[test]
 fn denies_a_full_page_file(rt: HostRuntime) -> Result<(), Fail> {
-    let told = outcome(rt.alloc(), &["serial"], FULL, &[], &[], &[])?;
+    let told = outcome(rt.alloc(), &["serial"], FULL.as_bytes(), &[], &[], &[], &[])?;
     assert_eq!(rt; told.0, Status(0));
     assert!(rt; told.1.as_slice().starts_with(FULL_LINES.as_bytes()));
-    Ok(())
-}
-
-// A third write that fails, and one that takes nothing, leave the first two lines.
-#[test]
-fn ends_at_a_failed_write(rt: HostRuntime) -> Result<(), Fail> {
-    let two = b"1 A ZERO 00000000 F0\n2 A DONE W4 00000000 0000002A\n".as_slice();
-    let failed = outcome(rt.alloc(), &["serial"], FIRST_RUN, &[], &[3], &[])?;
-    assert_eq!(rt; failed.0, Status(4));
-    assert_eq!(rt; failed.1.as_slice(), two);
-    let stalled = outcome(rt.alloc(), &["serial"], FIRST_RUN, &[], &[], &[3])?;
-    assert_eq!(rt; stalled.0, Status(4));
-    assert_eq!(rt; stalled.1.as_slice(), two);
-    Ok(())
-}
-
-// A first and a later read that fail.
-#[test]
-fn ends_at_a_failed_read(rt: HostRuntime) -> Result<(), Fail> {
-    for fails in [[1], [2]] {
-        let told = outcome(rt.alloc(), &["serial"], FIRST_RUN, &fails, &[], &[])?;
-        assert_eq!(rt; told.0, Status(3));
-        assert_eq!(rt; told.1.as_slice(), b"STATUS 3\n".as_slice());
-    }
     Ok(())
 }
 
@@ -241,10 +175,10 @@ fn ends_at_a_failed_read(rt: HostRuntime) -> Result<(), Fail> {
 #[test]
 fn ends_a_study_at_a_failure(rt: HostRuntime) -> Result<(), Fail> {
     let words = ["study", "--process", "A", "--frames", "2"];
-    let unread = outcome(rt.alloc(), &words, TWICE, &[2], &[], &[])?;
+    let unread = outcome(rt.alloc(), &words, TWICE.as_bytes(), &[2], &[], &[], &[])?;
     assert_eq!(rt; unread.0, Status(3));
     assert_eq!(rt; unread.1.as_slice(), b"STATUS 3\n".as_slice());
-    let failed = outcome(rt.alloc(), &words, TWICE, &[], &[3], &[])?;
+    let failed = outcome(rt.alloc(), &words, TWICE.as_bytes(), &[], &[3], &[], &[])?;
     assert_eq!(rt; failed.0, Status(4));
     assert_eq!(rt;
         failed.1.as_slice(),

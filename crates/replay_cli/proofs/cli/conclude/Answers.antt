@@ -1,12 +1,13 @@
 use Rattle.std.proofs.Common.{refl}
-use Rattle.flat_model.specs.Text.{status_line}
+use Rattle.pager_model.specs.Text.{status_line}
 use Rattle.program_ends.proofs.Concluding.{concludes_as}
 use Rattle.replay_cli.specs.Commands.{usage, obeyed}
-use Rattle.replay_cli.specs.declared.words.Command.TheVariants.{Serial, Study}
+use Rattle.replay_cli.specs.declared.words.Command.TheVariants.{Serial, Study, Make}
+use Rattle.replay_cli.proofs.Making.{concludes_made}
 use Rattle.replay_cli.proofs.cli.conclude.Goals as goal
 
 pub returns-in-None-clause-outcome : goal.returns-in-None-clause-outcome
-returns-in-None-clause-outcome g c = record { status = 1; text = status_line 1; tells_it = usage c.in-None.ensures.none refl; ends = c.end_with.ensures }
+returns-in-None-clause-outcome g c = record { status = 1; text = status_line 1; tells_it = usage c.in-None.ensures.none refl refl; ends = c.end_with.ensures }
 
 pub returns-in-Some-Serial-clause-outcome : goal.returns-in-Some-Serial-clause-outcome
 returns-in-Some-Serial-clause-outcome g c =
@@ -16,4 +17,9 @@ returns-in-Some-Serial-clause-outcome g c =
 pub returns-in-Some-Study-clause-outcome : goal.returns-in-Some-Study-clause-outcome
 returns-in-Some-Study-clause-outcome g c =
     let asks = rw c.in-Some-Study.field-0-is at c.in-Some-Study.ensures.some in
-    concludes_as (λ status text told. obeyed (Study c.in-Some-Study.study) status text asks told) c.study_trace.ensures.outcome
+    concludes_as (λ status text told. obeyed (Study c.in-Some-Study.study) status text asks (told, refl)) c.study_trace.ensures.outcome
+
+pub returns-in-Some-Make-clause-outcome : goal.returns-in-Some-Make-clause-outcome
+returns-in-Some-Make-clause-outcome g c =
+    let asks = rw c.in-Some-Make.field-0-is at c.in-Some-Make.ensures.some in
+    concludes_as (λ status text told. obeyed (Make c.in-Some-Make.make) status text asks (told, refl)) (concludes_made c.run_made.ensures.outcome)

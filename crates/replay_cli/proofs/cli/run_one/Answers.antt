@@ -1,5 +1,5 @@
 use Rattle.program_ends.proofs.Concluding.{has_told, was_cut, faulty_write, no_failed_write}
-use Rattle.replay_cli.proofs.Obeying.{not_four, usage_status, no_usage_status, read_status, complete_status}
+use Rattle.replay_cli.proofs.Obeying.{not_four, usage_status, no_usage_status, read_status, depot_status, complete_status}
 use Rattle.replay_cli.proofs.cli.run_one.Goals as goal
 
 pub returns-clause-told : goal.returns-clause-told
@@ -19,6 +19,9 @@ returns-clause-no_usage g c = no_usage_status c.conclude.ensures.outcome
 
 pub returns-clause-read_fault : goal.returns-clause-read_fault
 returns-clause-read_fault g c = read_status c.conclude.ensures.outcome
+
+pub returns-clause-depot_fault : goal.returns-clause-depot_fault
+returns-clause-depot_fault g c = depot_status c.conclude.ensures.outcome
 
 pub returns-clause-complete : goal.returns-clause-complete
 returns-clause-complete g c = complete_status c.conclude.ensures.outcome

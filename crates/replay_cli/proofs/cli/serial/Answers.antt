@@ -1,8 +1,8 @@
-use Rattle.program_ends.proofs.Telling.{concludes_answered, concludes_fault}
+use Rattle.replay_cli.proofs.Serving.{concludes_run, concludes_unread}
 use Rattle.replay_cli.proofs.cli.serial.Goals as goal
 
 pub returns-in-Ok-clause-outcome : goal.returns-in-Ok-clause-outcome
-returns-in-Ok-clause-outcome g c = concludes_answered c.in-Ok.config c.in-Ok.ensures.text c.in-Ok.ensures.faults c.run_config.ensures
+returns-in-Ok-clause-outcome g c = concludes_run c.in-Ok.config c.in-Ok.ensures.text c.in-Ok.ensures.faults c.run_config.ensures.outcome
 
 pub returns-in-Err-clause-outcome : goal.returns-in-Err-clause-outcome
-returns-in-Err-clause-outcome g c = concludes_fault c.in-Err.fault c.in-Err.ensures.text c.in-Err.ensures.faults c.end_fault.ensures
+returns-in-Err-clause-outcome g c = concludes_unread c.in-Err.fault c.in-Err.ensures.text c.in-Err.ensures.faults c.end_fault.ensures

@@ -1,4 +1,4 @@
-use Rattle.std.proofs.Common.{inl, arith}
+use Rattle.std.proofs.Common.{inl, refl, arith}
 use Rattle.study_command.proofs.Answering.{lru_few, study_text}
 use Rattle.paging_study.specs.PageString.{page_string}
 use Rattle.study_command.proofs.command.study_config.Goals as goal
@@ -8,4 +8,11 @@ end_answers-requires g c =
     omega (arith, lru_few (page_string (c.args.study.process).0 c.args.config.now.body) c.in-Ok.answers.lru.items c.args.study.frames c.in-Ok.ensures.lru, c.requires.frames.1)
 
 pub returns-in-Ok : goal.returns-in-Ok
-returns-in-Ok g c = inl (_, study_text c.args.study c.args.config.now c.in-Ok.answers c.in-Ok.ensures, c.end_answers.ensures)
+returns-in-Ok g c =
+    inl (record {
+      status = 0;
+      text = _;
+      outcome = inl refl;
+      answers = (refl, study_text c.args.study c.args.config.now c.in-Ok.answers c.in-Ok.ensures);
+      ends = c.end_answers.ensures;
+    })

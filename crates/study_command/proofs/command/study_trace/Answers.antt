@@ -1,5 +1,6 @@
+use Rattle.std.proofs.Common.{◌≡◌}
 use Rattle.program_ends.proofs.Concluding.{has_told, was_cut, faulty_write, no_failed_write}
-use Rattle.program_ends.proofs.Telling.{not_four, read_status, complete_status}
+use Rattle.program_ends.proofs.Telling.{answered_status, not_four, read_status}
 use Rattle.study_command.proofs.command.study_trace.Goals as goal
 
 pub returns-clause-told : goal.returns-clause-told
@@ -18,4 +19,4 @@ pub returns-clause-write_fault : goal.returns-clause-write_fault
 returns-clause-write_fault g c = faulty_write c.conclude.ensures.outcome not_four
 
 pub returns-clause-complete : goal.returns-clause-complete
-returns-clause-complete g c = complete_status c.conclude.ensures.outcome
+returns-clause-complete g c = answered_status c.conclude.ensures.outcome (λ status. status ≡ 0) (λ config status text outcome answer. answer.0)

@@ -8,4 +8,4 @@ pub loop-n-preserved : goal.loop-n-preserved
 loop-n-preserved g c =
     c.loop-n.invariant
     ∙ find_next (has c.args.state.now.config c.args.state.now.past (pager c.args.state.now) (c.args.p).0 c.args.look) c.loop-n.n (length ((pager c.args.state.now).ring (c.args.p).0).slots)
-    (let test = c.loop-n-test.true in let count = c.slots-n-end.ensures.count in omega (arith, test, count)) (sym c.has.ensures ∙ c.if-has.false)
+    (let test = c.loop-n-test.true in let count = c.slot_count-n-end.ensures.count in omega (arith, test, count)) (sym c.has.ensures ∙ c.if-has.false)

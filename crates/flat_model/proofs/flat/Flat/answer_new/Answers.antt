@@ -1,6 +1,6 @@
 use Rattle.std.proofs.Common.{sym, ◌∙◌, refl, ap}
 use Rattle.pager_model.specs.Flat.{reply_from, bytes_after, offset_in_page}
-use Rattle.flat_model.proofs.Told.{told_pushed, full_from}
+use Rattle.flat_model.proofs.Told.{told_pushed, told_full, full_from}
 use Rattle.flat_model.proofs.flat.Flat.answer_new.Goals as goal
 
 pub returns : goal.returns
@@ -12,3 +12,7 @@ returns c = λ config state p h at absent.
     (c.apply-reply.ensures.reply ∙ ap (λ bytes. reply_from c.args.r.op bytes (offset_in_page c.args.r)) first)
     (c.apply-reply.ensures.bytes ∙ ap (λ bytes. bytes_after c.args.r.op bytes (offset_in_page c.args.r)) first)
     refl c.in_ok-push.ensures.items
+
+pub returns-then-is_full : goal.returns-then-is_full
+returns-then-is_full c = λ config state p h at absent.
+    told_full config state c.args.self.now p c.args.r c.args.origin c.args.page at (full_from config state c.args.self.now c.args.page h absent ∙ (sym c.is_full.ensures ∙ c.if-is_full.true)) h

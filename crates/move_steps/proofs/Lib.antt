@@ -1,0 +1,6 @@
+pub mod Mute
+pub mod Shapes
+pub mod Entries
+pub mod Moving
+pub mod WrittenClusters
+pub mod CarriersLand

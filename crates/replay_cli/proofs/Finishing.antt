@@ -1,0 +1,74 @@
+-- A run that has ended is an answer to its configuration.
+use Rattle.std.proofs.Common.{◌≡◌, ℕ, Bool, true, false, List, ◌++◌, length, map, refl, sym, ◌∙◌, ap, subst, inl, inr}
+use Rattle.std.specs.Prelude.{◌⊎◌, Option, nat_eq, if◌then◌else◌}
+use Rattle.std.proofs.lemmas.List.{map-append}
+use Rattle.vm_types.specs.Configuration.{IsWellFormed}
+use Rattle.vm_types.specs.declared.config.Config.{Config}
+use Rattle.vm_types.specs.declared.names.BlockId.{BlockId}
+use Rattle.vm_types.specs.declared.names.Page.{Page}
+use Rattle.vm_journal.specs.declared.entry.Entry.{Entry}
+use Rattle.pager_model.specs.Text.{run_text}
+use Rattle.pager_laws.specs.Laws.{RunsAreSound}
+use Rattle.program_ends.specs.Concludes.{IsOutcome}
+use Rattle.run_text.specs.Parts.{run_status}
+use Rattle.run_text.specs.Reported.{AreParts, IsReported}
+use Rattle.serial_run.specs.Ended.{IsFinished, given_back}
+use Rattle.serial_run.specs.declared.finished.Finished.{Finished}
+use Rattle.replay_cli.specs.DepotView.{depot_view}
+use Rattle.replay_cli.specs.SerialAnswer.{IsFinishedRun, IsRunOver}
+
+abbrev status_by : Bool → ℕ
+status_by none = if none then 0 else 5
+
+-- the status of a run is 0 or 5
+pub run_ends : (dirty : List Page) → (run_status dirty ≡ 0) ⊎ (run_status dirty ≡ 5)
+run_ends dirty = by (nat_eq (length dirty) 0) where
+  by : (none : Bool) → (status_by none ≡ 0) ⊎ (status_by none ≡ 5)
+  by true = inl refl
+  by false = inr refl
+
+pub run_outcome : (dirty : List Page) → IsOutcome (run_status dirty)
+run_outcome dirty = elim (run_ends dirty) [ inl zero ↦ inl zero | inr five ↦ inr (inl five) ]
+
+module _ {B : Type 0} (content plan : B → Option (List ℕ)) (reads writes faults : B → ℕ) (tells_content tells_plan : Bool)
+    (config : Config) (taken : List (BlockId × B)) (f : Finished) (entries : List Entry) (dirty : List Page)
+    (formed : IsWellFormed config) (ended : IsFinished content plan reads writes faults tells_content tells_plan config taken f)
+    (all : entries ≡ (f.entries).items) (left : dirty ≡ (f.dirty).items) where
+  pub are_parts : AreParts entries f.at ended.past ended.rest
+  are_parts = record { all = all ∙ ended.all; place = ended.at }
+
+  pub is_reported : IsReported f.config entries f.at f.report dirty
+  is_reported =
+      subst (λ (x : Config). IsReported x entries f.at f.report dirty) (sym ended.same)
+      (record {
+        past = ended.past;
+        rest = ended.rest;
+        parts = are_parts;
+        formed = formed;
+        legal = ended.run.run;
+        recount = ended.report;
+        printable = ended.printable;
+        last = left ∙ ended.dirty;
+      })
+
+  module _ (got got' : List (BlockId × B)) (count count' : ℕ) (longer : got' ≡ got ++ taken) (sound : RunsAreSound) where
+    pub run_over : IsRunOver (depot_view content plan reads writes faults tells_content tells_plan got count) (depot_view content plan reads writes faults tells_content tells_plan got' count')
+        config ended.past ended.rest
+    run_over = record {
+      run = ended.run;
+      sound = sound config (ended.rest ++ ended.past) formed ended.run.run;
+      taken = map (given_back content plan reads writes faults) taken;
+      longer = ap (map (given_back content plan reads writes faults)) longer ∙ map-append (given_back content plan reads writes faults) got taken;
+      asked = ended.asked;
+      written = ended.written;
+    }
+
+    pub finished_run : IsFinishedRun (depot_view content plan reads writes faults tells_content tells_plan got count) (depot_view content plan reads writes faults tells_content tells_plan got' count')
+        config (run_status dirty) (run_text f.config ended.past ended.rest (run_status dirty))
+    finished_run = record {
+      past = ended.past;
+      rest = ended.rest;
+      over = run_over;
+      ending = ap run_status (left ∙ ended.dirty);
+      lines = ap (λ (x : Config). run_text x ended.past ended.rest (run_status dirty)) ended.same;
+    }

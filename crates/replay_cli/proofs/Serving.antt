@@ -1,0 +1,62 @@
+-- What `serial` tells, by what reading and running answer.
+use Rattle.std.proofs.Common.{◌≡◌, ℕ, List, refl, arith, inl, inr}
+use Rattle.std.specs.Prelude.{◌⊎◌, IfSome, Ok, Err}
+use Rattle.vm_types.specs.declared.config.Config.{Config}
+use Rattle.outside_io.specs.Views.{SinkView, SourceView}
+use Rattle.trace_lines.specs.declared.built.Built.TheVariants.{All}
+use Rattle.trace_reader.specs.Answer.{Answers, FaultsBy}
+use Rattle.trace_reader.specs.declared.fault.TraceFault.{TraceFault}
+use Rattle.pager_model.specs.Text.{status_line}
+use Rattle.program_ends.specs.Concludes.{Concludes, EndsAnswered, IsOutcome}
+use Rattle.program_ends.specs.Ends.{Ends}
+use Rattle.program_ends.specs.FaultText.{fault_status, fault_told}
+use Rattle.program_ends.specs.Tells.{answered, no_memory}
+use Rattle.program_ends.proofs.Telling.{fault_tells}
+use Rattle.replay_cli.specs.Commands.{SerialTells}
+use Rattle.replay_cli.specs.DepotView.{DepotView}
+use Rattle.replay_cli.specs.SerialAnswer.{IsSerialAnswer}
+
+-- an outcome isn't that of input that is no trace or can't be read
+not_early : (status : ℕ) → IsOutcome status → (status ≡ 2) ⊎ (status ≡ 3) → ⊥
+not_early status outcome early =
+    elim outcome [
+      | inl zero ↦ elim early [ inl two ↦ omega (arith, zero, two) | inr three ↦ omega (arith, zero, three) ]
+      | inr more ↦ elim more [
+        | inl five ↦ elim early [ inl two ↦ omega (arith, five, two) | inr three ↦ omega (arith, five, three) ]
+        | inr six ↦ elim early [ inl two ↦ omega (arith, six, two) | inr three ↦ omega (arith, six, three) ]
+      ]
+    ]
+
+module _ {before after : SourceView} {depot depot' : DepotView} {sink sink' : SinkView} {result : ℕ} where
+  -- the trace was read, and its configuration was answered
+  pub concludes_run : (config : Config) → IfSome before.left (λ text. Answers All (Ok config) text after.left) → FaultsBy (Ok config) before.failures after.failures
+      → EndsAnswered (IsSerialAnswer depot depot' config) sink sink' result → Concludes (SerialTells before after depot depot') sink sink' result
+  concludes_run config means counts (inl told) = record {
+    status = told.status;
+    text = told.text;
+    tells_it = record {
+      tells = answered config told.status told.text told.outcome counts means told.answers;
+      keeps = λ early. absurd (not_early told.status told.outcome early);
+    };
+    ends = told.ends;
+  }
+  concludes_run config means counts (inr none) = record {
+    status = 7;
+    text = status_line 7;
+    tells_it = record {
+      tells = no_memory counts;
+      keeps = λ early. absurd (elim early [ inl two ↦ omega (arith, two) | inr three ↦ omega (arith, three) ]);
+    };
+    ends = none;
+  }
+
+-- there is no configuration, and no block was made
+pub concludes_unread : {before after : SourceView} {depot : DepotView} {sink sink' : SinkView} {result : ℕ} (f : TraceFault)
+    → IfSome before.left (λ text. Answers All (Err f) text after.left) → FaultsBy (Err f) before.failures after.failures
+    → Ends sink sink' (fault_status f) (fault_told f) result → Concludes (SerialTells before after depot depot) sink sink' result
+concludes_unread {depot = depot} f means counts ends = record {
+  status = fault_status f;
+  text = fault_told f;
+  tells_it = record { tells = fault_tells (IsSerialAnswer depot depot) f means counts; keeps = λ early. refl };
+  ends = ends;
+}

@@ -1,0 +1,70 @@
+//! The command `make`.
+
+ghost use Rattle.std.specs.Prelude.{◌≡◌, ◌≤◌, ◌++◌};
+ghost use Rattle.outside_io.specs.Views.{sink_view};
+ghost use Rattle.pager_model.specs.Text.{status_line};
+ghost use Rattle.program_ends.specs.Concludes.{EndsAnswered};
+ghost use Rattle.program_ends.specs.Ends.{Ends};
+ghost use Rattle.run_text.specs.Parts.{run_status};
+ghost use Rattle.replay_cli.specs.DepotView.{depot_view};
+ghost use Rattle.replay_cli.specs.MakeAnswer.{IsMakeAnswer};
+ghost use Rattle.replay_cli.specs.MakeLine.{IsMakeable};
+ghost use Rattle.replay_cli.specs.MakeText.{make_lines};
+
+use crate::counting::print_counts;
+use crate::make_words::Make;
+use disk_trait::{Block, Depot};
+use outside_io::Sink;
+use pager_laws::runs_are_sound;
+use program_ends::{Status, end_with};
+use serial_run::{RunFault, run_serial};
+use std::alloc::Global;
+use trace_maker::make_trace;
+use vm_journal::Entry;
+use vm_types::Page;
+
+/// The status of a run that left these pages dirty. Doesn't allocate.
+fn status_of(dirty: &[Page]) -> u8
+    ensures { result ≡ run_status dirty.now }
+{
+    if dirty.is_empty() { 0 } else { 5 }
+}
+
+/// Writes the counts and the status.
+fn end_made<K: Sink>(make: Make, entries: &[Entry], dirty: &[Page], sink: &mut K) -> Status
+    ensures { Ends (sink_view (K.taken sink.old) (K.faults sink.old) (K.stalls sink.old))
+        (sink_view (K.taken sink.new) (K.faults sink.new) (K.stalls sink.new)) (run_status dirty.now)
+        (make_lines make entries.now ++ status_line (run_status dirty.now)) result.0 }
+{
+    match print_counts(make, entries, sink) {
+        Ok(()) => end_with(status_of(dirty), sink),
+        Err(_) => Status(4),
+    }
+}
+
+/// Makes a trace, runs it over blocks of the depot, and writes how many entries of each kind its run
+/// has.
+pub(crate) fn run_made<K: Sink, D: Depot>(
+    alloc: Global,
+    make: Make,
+    sink: &mut K,
+    depot: &mut D,
+) -> Status
+    requires { IsMakeable make }
+    ensures outcome { let seen = depot_view D.Block.content D.Block.plan D.Block.reads D.Block.writes D.Block.faults D.Block.tells_content D.Block.tells_plan in
+        EndsAnswered (IsMakeAnswer make (seen (D.retired depot.old) (D.faults depot.old)) (seen (D.retired depot.new) (D.faults depot.new)))
+        (sink_view (K.taken sink.old) (K.faults sink.old) (K.stalls sink.old)) (sink_view (K.taken sink.new) (K.faults sink.new) (K.stalls sink.new)) result.0 }
+    ensures depot_later { D.faults depot.old ≤ D.faults depot.new }
+{
+    let Ok(config) = make_trace(alloc, u64::from(make.seed), make.procs, make.refs) else {
+        return end_with(7, sink);
+    };
+    match run_serial(alloc, config, depot) {
+        Ok(finished) => {
+            runs_are_sound();
+            end_made(make, &finished.entries, &finished.dirty, sink)
+        }
+        Err(RunFault::NoMemory) => end_with(7, sink),
+        Err(RunFault::DepotFault) => end_with(6, sink),
+    }
+}

@@ -1,0 +1,4 @@
+mod DirtyPages
+mod LinesLeft
+mod RunParts
+mod TestRun

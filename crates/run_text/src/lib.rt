@@ -1,0 +1,12 @@
+//! The text of a finished run: the entries before the report, the report, the entries after it, the
+//! dirty pages and the status.
+#![tactic(auto)]
+
+mod dirty_lines;
+mod entry_lines;
+mod run;
+
+pub use run::print_run;
+
+#[cfg(test)]
+mod tests;

@@ -1,0 +1,103 @@
+ghost use Rattle.std.specs.Prelude.{◌≡◌, ◌+◌, ◌^◌, ◌<◌, ◌++◌, List, length, All};
+ghost use Rattle.vm_text.specs.Named.{AreNames, IsPrintablePage};
+ghost use Rattle.vm_journal.specs.HasLine.{HasLine};
+ghost use Rattle.vm_journal.specs.declared.entry.Entry.{Entry};
+ghost use Rattle.outside_io.specs.Views.{sink_view};
+ghost use Rattle.outside_io.specs.Writes.{Writes};
+ghost use Rattle.pager_model.specs.Text.{run_text, status_line};
+ghost use Rattle.pfn_report.specs.Printable.{IsPrintable};
+ghost use Rattle.program_ends.specs.Ends.{Ends};
+ghost use Rattle.run_text.specs.Parts.{parts_text, run_status};
+ghost use Rattle.run_text.specs.Reported.{AreParts, IsReported};
+
+use crate::dirty_lines::print_dirty;
+use crate::entry_lines::print_entries;
+use outside_io::{Sink, WriteFault};
+use pfn_report::{Report, print};
+use program_ends::{Status, end_with};
+use vm_journal::Entry;
+use vm_types::{Config, Page, Section};
+
+/// Writes both parts of the entries with the report between them, and the dirty pages. Doesn't allocate.
+fn print_parts<K: Sink>(
+    before: &[Entry],
+    report: &Report,
+    after: &[Entry],
+    dirty: &[Page],
+    procs: u32,
+    names: &[Section],
+    sink: &mut K,
+) -> Result<(), WriteFault>
+    requires numbers { length before.now + length after.now + 1 < 2 ^ 64 }
+    requires names { AreNames procs names.now }
+    requires before_lines { All (HasLine procs names.now) before.now }
+    requires report { IsPrintable names.now report.now }
+    requires after_lines { All (HasLine procs names.now) after.now }
+    requires dirty { All (IsPrintablePage names.now) dirty.now }
+    ensures { Writes (sink_view (K.taken sink.old) (K.faults sink.old) (K.stalls sink.old))
+        (sink_view (K.taken sink.new) (K.faults sink.new) (K.stalls sink.new)) result
+        (parts_text procs names.now before.now report.now after.now dirty.now) }
+{
+    let next = before.len() as u64 + 1;
+    print_entries(1, before, procs, names, sink)?;
+    print(report, names, sink)?;
+    print_entries(next, after, procs, names, sink)?;
+    print_dirty(dirty, names, sink)
+}
+
+fn run_status(dirty: &[Page]) -> u8
+    ensures { result ≡ run_status dirty.now }
+{
+    if dirty.is_empty() { 0 } else { 5 }
+}
+
+/// Writes these parts and the status. Doesn't allocate.
+fn end_parts<K: Sink>(
+    before: &[Entry],
+    report: &Report,
+    after: &[Entry],
+    dirty: &[Page],
+    procs: u32,
+    names: &[Section],
+    sink: &mut K,
+) -> Status
+    requires numbers { length before.now + length after.now + 1 < 2 ^ 64 }
+    requires names { AreNames procs names.now }
+    requires before_lines { All (HasLine procs names.now) before.now }
+    requires report { IsPrintable names.now report.now }
+    requires after_lines { All (HasLine procs names.now) after.now }
+    requires dirty { All (IsPrintablePage names.now) dirty.now }
+    ensures { Ends (sink_view (K.taken sink.old) (K.faults sink.old) (K.stalls sink.old))
+        (sink_view (K.taken sink.new) (K.faults sink.new) (K.stalls sink.new)) (run_status dirty.now)
+        (parts_text procs names.now before.now report.now after.now dirty.now ++ status_line (run_status dirty.now)) result.0 }
+{
+    match print_parts(before, report, after, dirty, procs, names, sink) {
+        Err(_) => Status(4),
+        Ok(()) => end_with(run_status(dirty), sink),
+    }
+}
+
+/// Writes the text of a finished run, each line in one write of a whole text: the lines of the first
+/// `at` entries, the report, the lines of the other entries, a line for each page of a shared section
+/// that is still held with its modify bit set, and the status. `entries` has the oldest first, `at` is
+/// at most their number, and `dirty` is in order of section and page. The status is 5 if there is a
+/// dirty page, and else 0; it is 4 if a write failed or took nothing, and then a proper prefix of the
+/// text was taken. Doesn't allocate.
+pub fn print_run<K: Sink>(
+    config: &Config,
+    entries: &[Entry],
+    at: u64,
+    report: &Report,
+    dirty: &[Page],
+    sink: &mut K,
+) -> Status
+    requires { IsReported config.now entries.now at report.now dirty.now }
+    ensures { (past rest : List Entry) → AreParts entries.now at past rest → Ends (sink_view (K.taken sink.old) (K.faults sink.old) (K.stalls sink.old))
+        (sink_view (K.taken sink.new) (K.faults sink.new) (K.stalls sink.new)) (run_status dirty.now)
+        (run_text config.now past rest (run_status dirty.now)) result.0 }
+{
+    let names = config.sections.items();
+    let procs = config.procs.items().len() as u32;
+    let (before, after) = entries.split_at(at as usize);
+    end_parts(before, report, after, dirty, procs, names, sink)
+}

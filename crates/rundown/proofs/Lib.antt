@@ -1,0 +1,10 @@
+pub mod SharedListed
+pub mod SharedPlaces
+pub mod WrittenOnce
+pub mod PlacesCleaned
+pub mod RoundsGo
+pub mod MovesMade
+pub mod Fronts
+pub mod Unspoken
+pub mod RunningDown
+pub mod DirtyHeld

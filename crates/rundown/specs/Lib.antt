@@ -1,0 +1,4 @@
+pub mod Cleanings
+pub mod Places
+pub mod Cleans
+pub mod DirtyPages

@@ -1,0 +1,113 @@
+ghost use Rattle.std.specs.Prelude.{◌≡◌, IfOk, OnErr, length};
+ghost use Rattle.std.specs.Option.{option_map};
+ghost use Rattle.pager_model.specs.Cleaning.{evicting};
+ghost use Rattle.pager_model.specs.Order.{IsAnswered};
+ghost use Rattle.pager_model.specs.Policy.{move_of};
+ghost use Rattle.pager_model.specs.Rundown.{cleaning_move, later_move};
+ghost use Rattle.vm_state.specs.History.{pager};
+ghost use Rattle.call_steps.specs.MayBegin.{empty};
+ghost use Rattle.serial_laws.specs.Between.{IsBetween};
+ghost use Rattle.move_steps.specs.Moved.{IsSameBut, MovesTo};
+ghost use Rattle.rundown.specs.Cleanings.{control_at};
+ghost use Rattle.rundown.specs.Cleans.{CanClean, move_at, writer_seat};
+ghost use Rattle.rundown.specs.Places.{IsThere, place_as};
+
+use crate::cleaning::Cleaning;
+use crate::evictions::clean_at;
+use crate::places::{Place, shared_place};
+use crate::rounds::{ROUNDS, write_rounds};
+use disk_trait::Block;
+use move_steps::prepare;
+use vm_state::{Carrier, State};
+use vm_types::{NoMemory, Proc};
+
+/// What is made at the next place after this one, where no carrier has failed yet.
+fn clean_later<B: Block>(
+    state: &mut State<B>,
+    at: Place,
+    carrier: &mut Carrier<B>,
+) -> Option<Cleaning>
+    requires can { CanClean state.old }
+    requires there { IsThere state.old at }
+    requires carrier { carrier.old ≡ empty (writer_seat state.old) }
+    ensures carrier { carrier.new ≡ carrier.old }
+    ensures moved { MovesTo B.tells_content state.old state.new
+        (later_move state.old.config state.old.past (pager state.old) (place_as at)) (option_map control_at result) }
+{
+    match shared_place(state, at.process, at.slot + 1) {
+        Some(next) => clean_at(state, next, false, carrier),
+        None => write_rounds(state, ROUNDS, 0, carrier),
+    }
+}
+
+/// What is made at a place, or else at the next one.
+fn clean_from<B: Block>(
+    state: &mut State<B>,
+    at: Place,
+    failed: bool,
+    carrier: &mut Carrier<B>,
+) -> Option<Cleaning>
+    requires can { CanClean state.old }
+    requires there { IsThere state.old at }
+    requires carrier { carrier.old ≡ empty (writer_seat state.old) }
+    ensures carrier { carrier.new ≡ carrier.old }
+    ensures moved { MovesTo B.tells_content state.old state.new
+        (move_at state.old (place_as at) failed (later_move state.old.config state.old.past (pager state.old) (place_as at)))
+        (option_map control_at result) }
+{
+    match clean_at(state, at, failed, carrier) {
+        Some(next) => Some(next),
+        None => clean_later(state, at, carrier),
+    }
+}
+
+/// What is made from a slot of a process (any numbers) on, whose carrier has failed or not.
+fn evict_from<B: Block>(
+    state: &mut State<B>,
+    p: Proc,
+    n: u32,
+    failed: bool,
+    carrier: &mut Carrier<B>,
+) -> Option<Cleaning>
+    requires can { CanClean state.old }
+    requires carrier { carrier.old ≡ empty (writer_seat state.old) }
+    ensures carrier { carrier.new ≡ carrier.old }
+    ensures moved { MovesTo B.tells_content state.old state.new
+        (cleaning_move state.old.config state.old.past (pager state.old) (evicting p.0 n failed)) (option_map control_at result) }
+{
+    match shared_place(state, p, n) {
+        Some(at) => clean_from(state, at, failed, carrier),
+        None => write_rounds(state, ROUNDS, 0, carrier),
+    }
+}
+
+/// Makes the rundown's next move, between two of which no transfer is open, and says where the rundown
+/// is then; none if it is over, and then no entry was made. The carrier is the modified page writer's,
+/// and has no lifts, before it and afterwards.
+///
+/// # Errors
+/// `NoMemory` if out of memory; then no entry was made.
+pub fn make_move<B: Block>(
+    state: &mut State<B>,
+    at: Cleaning,
+    carrier: &mut Carrier<B>,
+) -> Result<Option<Cleaning>, NoMemory>
+    requires between { IsBetween state.old.config state.old.past }
+    requires answered { IsAnswered state.old.config state.old.past }
+    requires carrier { carrier.old ≡ empty (record { 0 = length state.old.config.procs }) }
+    ensures carrier { carrier.new ≡ carrier.old }
+    ensures moved { IfOk result (λ goes. MovesTo B.tells_content state.old state.new
+        (move_of state.old.config state.old.past (control_at at)) (option_map control_at goes)) }
+    ensures same { IsSameBut state.old state.new }
+    ensures none_made { OnErr result (state.new.past ≡ state.old.past) }
+{
+    prepare(state)?;
+    match at {
+        Cleaning::Evicting {
+            process,
+            slot,
+            failed,
+        } => Ok(evict_from(state, process, slot, failed, carrier)),
+        Cleaning::Rounds { following, left } => Ok(write_rounds(state, following, left, carrier)),
+    }
+}

@@ -1,0 +1,16 @@
+pub mod SpokenSums
+pub mod SteadySeats
+pub mod LandedCarriers
+pub mod NextTasks
+pub mod Answered
+pub mod LeftProcesses
+pub mod Refused
+pub mod CameProcesses
+pub mod TurnedMoves
+pub mod AskedMoves
+pub mod ReferenceMoves
+pub mod ServiceMoves
+pub mod FoundFrames
+pub mod IdleCarriers
+pub mod AfterAnswers
+pub mod PreparedMoves

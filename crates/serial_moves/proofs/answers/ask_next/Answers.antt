@@ -1,0 +1,37 @@
+use Rattle.std.proofs.Common.{Some, None, sym}
+use Rattle.std.specs.Option.{option_map}
+use Rattle.vm_state.specs.History.{pager}
+use Rattle.serial_laws.proofs.Walks.{task_formed}
+use Rattle.serial_moves.specs.Controls.{number_of}
+use Rattle.serial_moves.proofs.AfterAnswers.{asks_task, here_as, moved_as, rests_here, task_seat}
+use Rattle.serial_moves.proofs.IdleCarriers.{carrier_there, empty_at, kept_at}
+use Rattle.serial_moves.proofs.answers.ask_next.Goals as goal
+
+pub bounds-carriers-task : goal.bounds-carriers-task
+bounds-carriers-task g c =
+    carrier_there c.args.state.now c.args.carriers.now c.requires.carriers (c.in-Some.task.proc).0 (task_seat c.args.state.now c.in-Some.task c.requires.steady (sym c.in-Some.ensures))
+
+pub ask-requires-clause-process : goal.ask-requires-clause-process
+ask-requires-clause-process g c κs within = (task_formed c.args.state.now.config c.args.state.now.past c.in-Some.task c.requires.steady.between.formed (sym c.in-Some.ensures)).0
+
+pub ask-requires-clause-formed : goal.ask-requires-clause-formed
+ask-requires-clause-formed g c κs within = (task_formed c.args.state.now.config c.args.state.now.past c.in-Some.task c.requires.steady.between.formed (sym c.in-Some.ensures)).1
+
+pub ask-requires-clause-carrier : goal.ask-requires-clause-carrier
+ask-requires-clause-carrier g c κs within =
+    empty_at c.args.state.now c.args.carriers.now c.requires.carriers (c.in-Some.task.proc).0 c.index-carriers-task.result (task_seat c.args.state.now c.in-Some.task c.requires.steady (sym c.in-Some.ensures))
+
+pub ask-requires-clause-here : goal.ask-requires-clause-here
+ask-requires-clause-here g c κs within =
+    here_as c.args.state.now _ _ (asks_task c.args.state.now.config c.args.state.now.past (pager c.args.state.now) (option_map number_of c.args.leaving) (Some c.in-Some.task) c.in-Some.ensures) c.requires.here
+
+pub returns-in-Some-clause-carriers : goal.returns-in-Some-clause-carriers
+returns-in-Some-clause-carriers g c = kept_at c.args.state.now c.args.carriers.now c.requires.carriers (c.in-Some.task.proc).0 c.index-carriers-task.result c.ask.new.carrier c.ask.ensures.carrier
+
+pub returns-in-Some-clause-moved : goal.returns-in-Some-clause-moved
+returns-in-Some-clause-moved g c =
+    moved_as g.B.Block.tells_content c.args.state.now c.ask.new.state _ _ c.ask.result
+    (asks_task c.args.state.now.config c.args.state.now.past (pager c.args.state.now) (option_map number_of c.args.leaving) (Some c.in-Some.task) c.in-Some.ensures) c.ask.ensures.moved
+
+pub returns-in-None-clause-moved : goal.returns-in-None-clause-moved
+returns-in-None-clause-moved g c = rests_here c.args.state.now _ (asks_task c.args.state.now.config c.args.state.now.past (pager c.args.state.now) (option_map number_of c.args.leaving) None c.in-None.ensures)

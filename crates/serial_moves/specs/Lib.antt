@@ -1,0 +1,4 @@
+pub mod Controls
+pub mod Finders
+pub mod Requests
+pub mod Carriers

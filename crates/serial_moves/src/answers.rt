@@ -1,0 +1,189 @@
+ghost use Rattle.std.specs.Prelude.{◌≡◌, ◌<◌, ◌&&◌, true, None, IfOk, IfSome, length};
+ghost use Rattle.std.specs.Option.{option_map};
+ghost use Rattle.pager_model.specs.Policy.{asking_move, freeing_move, is_freeing, is_saving, saving_move};
+ghost use Rattle.vm_state.specs.History.{pager};
+ghost use Rattle.serial_laws.specs.Controlled.{IsLeft};
+ghost use Rattle.call_steps.specs.MayBegin.{empty};
+ghost use Rattle.serial_moves.specs.Carriers.{AreIdle};
+ghost use Rattle.move_steps.specs.CarriedOn.{IsCarriedOn, IsLoaded, MayRefuse, after_saving};
+ghost use Rattle.serial_moves.specs.Controls.{Moves, control_in, number_of};
+ghost use Rattle.move_steps.specs.Moved.{IsMoveHere, IsSteady};
+
+use crate::carrying::carry_on;
+use crate::control::{Control, Doing, Ends};
+use crate::finding::{find_frame, processes, who_finds};
+use crate::leaving::leave;
+use crate::requests::{ASKING, ask};
+use crate::tasks::next_task;
+use disk_trait::Block;
+use modified_writer::{Begin, Reason, begin};
+use vm_state::{Carrier, State};
+use vm_types::{NoMemory, Proc, Seat};
+
+/// The next step for the next request; none if each was answered.
+///
+/// # Errors
+/// `NoMemory` if out of memory.
+pub fn ask_next<B: Block>(
+    state: &mut State<B>,
+    leaving: Option<Proc>,
+    carriers: &mut [Carrier<B>],
+) -> Result<Option<Control>, NoMemory>
+    requires steady { IsSteady state.old }
+    requires left { IfSome leaving (λ q. IsLeft state.old.config (pager state.old) q.0) }
+    requires carriers { AreIdle state.old carriers.old }
+    requires here { IsMoveHere state.old (asking_move state.old.config state.old.past (pager state.old) (option_map number_of leaving)) }
+    ensures carriers { carriers.new ≡ carriers.old }
+    ensures moved { IfOk result (Moves B.tells_content state.old state.new
+        (asking_move state.old.config state.old.past (pager state.old) (option_map number_of leaving))) }
+{
+    match next_task(state) {
+        Some(task) => ask(state, leaving, task, &mut carriers[task.proc.0 as usize]),
+        None => Ok(None),
+    }
+}
+
+/// Whether the free list is shorter than the swapper wants.
+fn is_freeing<B: Block>(state: &State<B>, begun: bool) -> bool
+    ensures { result ≡ is_freeing state.now.config (pager state.now) begun }
+{
+    if begun {
+        state.free_len() < state.config().params.freegoal
+    } else {
+        state.free_len() < state.config().params.freelim
+    }
+}
+
+/// Whether the swapper's part goes on, or begins.
+fn is_short<B: Block>(state: &State<B>, begun: bool) -> bool
+    ensures { result ≡ (is_freeing state.now.config (pager state.now) begun && is_freeing state.now.config (pager state.now) true) }
+{
+    if is_freeing(state, begun) {
+        is_freeing(state, true)
+    } else {
+        false
+    }
+}
+
+/// The swapper's part after an answer to a process.
+///
+/// # Errors
+/// `NoMemory` if out of memory.
+pub fn free<B: Block>(
+    state: &mut State<B>,
+    leaving: Option<Proc>,
+    begun: bool,
+    p: Proc,
+    carriers: &mut [Carrier<B>],
+) -> Result<Option<Control>, NoMemory>
+    requires steady { IsSteady state.old }
+    requires process { p.0 < length state.old.config.procs }
+    requires left { IfSome leaving (λ q. IsLeft state.old.config (pager state.old) q.0) }
+    requires carriers { AreIdle state.old carriers.old }
+    requires here { IsMoveHere state.old (freeing_move state.old.config state.old.past (pager state.old) (option_map number_of leaving) begun p.0) }
+    ensures carriers { carriers.new ≡ carriers.old }
+    ensures moved { IfOk result (Moves B.tells_content state.old state.new
+        (freeing_move state.old.config state.old.past (pager state.old) (option_map number_of leaving) begun p.0)) }
+{
+    let seat = Seat(processes(state) + 1);
+    let doing = Doing::Freeing {
+        begun: true,
+        process: p,
+    };
+    match leaving {
+        Some(q) => leave(
+            state,
+            seat,
+            q,
+            Ends::Part(ASKING),
+            doing,
+            &mut carriers[seat.0 as usize],
+        ),
+        None => {
+            if is_short(state, begun) {
+                match who_finds(state, p) {
+                    Some(found) => find_frame(
+                        state,
+                        seat,
+                        found,
+                        Ends::Part(ASKING),
+                        doing,
+                        &mut carriers[seat.0 as usize],
+                    ),
+                    None => ask_next(state, None, carriers),
+                }
+            } else {
+                ask_next(state, None, carriers)
+            }
+        }
+    }
+}
+
+/// Whether the writer's part goes on, or begins.
+fn is_saving<B: Block>(state: &State<B>, begun: bool) -> bool
+    ensures { result ≡ is_saving state.now.config (pager state.now) begun }
+{
+    begun || state.config().params.hilimit < state.modified_len()
+}
+
+/// The modified page writer's part after an answer to a process.
+///
+/// # Errors
+/// `NoMemory` if out of memory.
+pub fn save<B: Block>(
+    state: &mut State<B>,
+    begun: bool,
+    p: Proc,
+    carriers: &mut [Carrier<B>],
+) -> Result<Option<Control>, NoMemory>
+    requires steady { IsSteady state.old }
+    requires process { p.0 < length state.old.config.procs }
+    requires carriers { AreIdle state.old carriers.old }
+    requires here { IsMoveHere state.old (saving_move state.old.config state.old.past (pager state.old) begun p.0) }
+    ensures carriers { carriers.new ≡ carriers.old }
+    ensures moved { IfOk result (Moves B.tells_content state.old state.new
+        (saving_move state.old.config state.old.past (pager state.old) begun p.0)) }
+{
+    if !is_saving(state, begun) {
+        return free(state, None, false, p, carriers);
+    }
+    let seat = Seat(processes(state));
+    match begin(state, seat, Reason::High, &mut carriers[seat.0 as usize]) {
+        Begin::Carry => Ok(Some(save_on(state, seat, p, &mut carriers[seat.0 as usize])?)),
+        Begin::Nothing => free(state, None, false, p, carriers),
+        Begin::Room => unreachable!(),
+    }
+}
+
+/// The writer's cluster is carried and lands.
+///
+/// # Errors
+/// `NoMemory` if out of memory.
+fn save_on<B: Block>(
+    state: &mut State<B>,
+    seat: Seat,
+    p: Proc,
+    carrier: &mut Carrier<B>,
+) -> Result<Control, NoMemory>
+    requires loaded { IsLoaded B.content B.plan B.reads B.writes B.faults B.tells_content B.tells_plan
+        state.old seat carrier.old }
+    requires may { MayRefuse state.old.config state.old.past seat.0 (after_saving p.0) }
+    ensures carrier { carrier.new ≡ empty seat }
+    ensures carried { IfOk result (λ c. IsCarriedOn B.tells_content state.old state.new seat.0 (after_saving p.0) (control_in c)) }
+{
+    let failed = Control {
+        doing: Doing::Freeing {
+            begun: false,
+            process: p,
+        },
+        leaving: None,
+    };
+    let next = Control {
+        doing: Doing::Saving {
+            begun: true,
+            process: p,
+        },
+        leaving: None,
+    };
+    carry_on(state, seat, Ends::Part(failed), next, carrier)
+}

@@ -1,0 +1,145 @@
+ghost use Rattle.std.specs.Prelude.{◌≡◌, ◌+◌, ◌<◌, [], false, IfOk, length};
+ghost use Rattle.pager_model.specs.Flights.{awaits_reuse, open_flights};
+ghost use Rattle.pager_model.specs.Moves.{control, saving};
+ghost use Rattle.pager_model.specs.Policy.{unless_all_failed, unless_first_failed, writing_move};
+ghost use Rattle.pager_model.specs.Serial.{refusal_of};
+ghost use Rattle.vm_state.specs.History.{MayAdd, added, entry_by, pager};
+ghost use Rattle.call_steps.specs.MayBegin.{empty};
+ghost use Rattle.serial_laws.specs.Laws.{IsRefusedLegally};
+ghost use Rattle.move_steps.specs.CarriedOn.{IsCarriedOn, IsLoaded, IsRefusedThere, MayRefuse};
+ghost use Rattle.serial_moves.specs.Controls.{control_in, ends_in};
+ghost use Rattle.move_steps.specs.Moved.{IsMoveHere, IsMoved, IsSteady};
+
+use crate::control::{Control, Doing, Ends};
+use crate::tasks::next_task;
+use carried_landings::carry_and_land;
+use disk_trait::Block;
+use modified_writer::{Reason, begin};
+use move_steps::prepare;
+use vm_services::refuse_service;
+use vm_state::{Carrier, State};
+use vm_types::{NoMemory, Request, Seat, Task};
+
+/// After an answer to a process.
+pub fn answered(task: Task) -> Control
+    ensures { control_in result ≡ control (saving false (task.proc).0) }
+{
+    Control {
+        doing: Doing::Saving {
+            begun: false,
+            process: task.proc,
+        },
+        leaving: None,
+    }
+}
+
+/// A request is refused for a lost carrier. Doesn't allocate.
+fn refuse_task<B: Block>(state: &mut State<B>, seat: Seat, task: Task)
+    requires own { seat.0 ≡ (task.proc).0 }
+    requires may { MayAdd state.old (entry_by seat (refusal_of task)) }
+    ensures { state.new ≡ added state.old (entry_by seat (refusal_of task)) }
+{
+    match task.request {
+        Request::Reference(r) => fault_core::refuse(state, seat, task.proc, r),
+        Request::Service(s) => refuse_service(state, seat, task.proc, s),
+    }
+}
+
+/// The next request is refused, for its carrier was lost.
+///
+/// # Errors
+/// `NoMemory` if out of memory.
+pub fn refuse<B: Block>(state: &mut State<B>, seat: Seat) -> Result<Control, NoMemory>
+    requires landed { open_flights state.old.past ≡ [] }
+    requires reused { awaits_reuse state.old.past ≡ false }
+    requires legal { IsRefusedLegally state.old.config state.old.past seat.0 }
+    ensures { IfOk result (λ c. IsRefusedThere B.tells_content state.old state.new (control_in c)) }
+{
+    prepare(state)?;
+    match next_task(state) {
+        Some(task) => {
+            refuse_task(state, seat, task);
+            Ok(answered(task))
+        }
+        None => unreachable!(),
+    }
+}
+
+/// What a seat has begun is carried and lands. Unless each lift failed the policy goes on there.
+///
+/// # Errors
+/// `NoMemory` if out of memory.
+pub fn carry_on<B: Block>(
+    state: &mut State<B>,
+    seat: Seat,
+    ends: Ends,
+    next: Control,
+    carrier: &mut Carrier<B>,
+) -> Result<Control, NoMemory>
+    requires loaded { IsLoaded B.content B.plan B.reads B.writes B.faults B.tells_content B.tells_plan
+        state.old seat carrier.old }
+    requires may { MayRefuse state.old.config state.old.past seat.0 (unless_all_failed (ends_in ends) (control_in next)) }
+    ensures carrier { carrier.new ≡ empty seat }
+    ensures carried { IfOk result (λ c. IsCarriedOn B.tells_content state.old state.new seat.0
+        (unless_all_failed (ends_in ends) (control_in next)) (control_in c)) }
+{
+    let landed = carry_and_land(state, carrier);
+    state.run_law();
+    if landed.all_failed {
+        match ends {
+            Ends::Request => refuse(state, seat),
+            Ends::Part(other) => Ok(other),
+        }
+    } else {
+        Ok(next)
+    }
+}
+
+/// The reads of a reference are carried and land. Unless the first one failed the policy goes on there.
+///
+/// # Errors
+/// `NoMemory` if out of memory.
+pub fn carry_reads<B: Block>(
+    state: &mut State<B>,
+    seat: Seat,
+    next: Control,
+    carrier: &mut Carrier<B>,
+) -> Result<Control, NoMemory>
+    requires loaded { IsLoaded B.content B.plan B.reads B.writes B.faults B.tells_content B.tells_plan
+        state.old seat carrier.old }
+    requires may { MayRefuse state.old.config state.old.past seat.0 (unless_first_failed (control_in next)) }
+    ensures carrier { carrier.new ≡ empty seat }
+    ensures carried { IfOk result (λ c. IsCarriedOn B.tells_content state.old state.new seat.0
+        (unless_first_failed (control_in next)) (control_in c)) }
+{
+    let landed = carry_and_land(state, carrier);
+    state.run_law();
+    if landed.first_failed {
+        refuse(state, seat)
+    } else {
+        Ok(next)
+    }
+}
+
+/// One write cluster is written, because room is needed.
+///
+/// # Errors
+/// `NoMemory` if out of memory.
+pub fn write_for_room<B: Block>(
+    state: &mut State<B>,
+    seat: Seat,
+    ends: Ends,
+    next: Control,
+    carrier: &mut Carrier<B>,
+) -> Result<Control, NoMemory>
+    requires steady { IsSteady state.old }
+    requires seat { seat.0 < length state.old.config.procs + 2 }
+    requires carrier { carrier.old ≡ empty seat }
+    requires here { IsMoveHere state.old (writing_move state.old.config (pager state.old) seat.0 (ends_in ends) (control_in next)) }
+    ensures carrier { carrier.new ≡ carrier.old }
+    ensures moved { IfOk result (λ c. IsMoved B.tells_content state.old state.new
+        (writing_move state.old.config (pager state.old) seat.0 (ends_in ends) (control_in next)) (control_in c)) }
+{
+    begin(state, seat, Reason::Need, carrier);
+    carry_on(state, seat, ends, next, carrier)
+}

@@ -1,0 +1,29 @@
+use vm_types::Proc;
+
+/// Where the serial policy is between two moves, up to the report's place.
+#[derive(Clone, Copy, Debug, PartialEq, Eq)]
+pub enum Doing {
+    /// At the next request.
+    Asking,
+    /// After an answer, in the modified page writer's part, which may have begun; and the process that
+    /// was answered.
+    Saving { begun: bool, process: Proc },
+    /// After an answer, in the swapper's part, which may have begun; and the process that was answered.
+    Freeing { begun: bool, process: Proc },
+}
+
+/// Where the serial policy is between two moves, and the process that is being left until it is gone.
+#[derive(Clone, Copy, Debug, PartialEq, Eq)]
+pub struct Control {
+    pub doing: Doing,
+    pub leaving: Option<Proc>,
+}
+
+/// What a carrier ends of which each lift failed.
+#[derive(Clone, Copy, Debug, PartialEq, Eq)]
+pub enum Ends {
+    /// The request, which is refused.
+    Request,
+    /// A part of the work after an answer: the policy goes on here.
+    Part(Control),
+}

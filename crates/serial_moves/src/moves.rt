@@ -1,0 +1,38 @@
+ghost use Rattle.std.specs.Prelude.{◌≡◌, IfOk};
+ghost use Rattle.pager_model.specs.Policy.{move_of};
+ghost use Rattle.serial_laws.specs.Between.{IsBetween};
+ghost use Rattle.serial_laws.specs.Controlled.{IsControlled};
+ghost use Rattle.serial_moves.specs.Carriers.{AreIdle};
+ghost use Rattle.serial_moves.specs.Controls.{Moves, control_in};
+
+use crate::answers::{ask_next, free, save};
+use crate::control::{Control, Doing};
+use disk_trait::Block;
+use move_steps::prepare;
+use vm_state::{Carrier, State};
+use vm_types::NoMemory;
+
+/// Makes the serial policy's next move, between two of which no transfer is open, and says where the
+/// policy goes on; none if it rests, and then no entry was made. The carriers are those of all seats,
+/// and have no lifts, before it and afterwards.
+///
+/// # Errors
+/// `NoMemory` if out of memory.
+pub fn make_move<B: Block>(
+    state: &mut State<B>,
+    c: Control,
+    carriers: &mut [Carrier<B>],
+) -> Result<Option<Control>, NoMemory>
+    requires between { IsBetween state.old.config state.old.past }
+    requires fits { IsControlled state.old.config state.old.past (control_in c) }
+    requires carriers { AreIdle state.old carriers.old }
+    ensures carriers { carriers.new ≡ carriers.old }
+    ensures moved { IfOk result (Moves B.tells_content state.old state.new (move_of state.old.config state.old.past (control_in c))) }
+{
+    prepare(state)?;
+    match c.doing {
+        Doing::Asking => ask_next(state, c.leaving, carriers),
+        Doing::Saving { begun, process } => save(state, begun, process, carriers),
+        Doing::Freeing { begun, process } => free(state, c.leaving, begun, process, carriers),
+    }
+}

@@ -1,0 +1,265 @@
+ghost use Rattle.std.specs.Prelude.{◌≡◌, ◌+◌, ◌<◌, None, IfOk, IfSome, length};
+ghost use Rattle.std.specs.Option.{option_map};
+ghost use Rattle.vm_types.specs.WellFormed.{IsWellFormedReference, IsWellFormedRequest, IsWellFormedService};
+ghost use Rattle.vm_types.specs.declared.names.ProcStatus.TheVariants as status;
+ghost use Rattle.vm_types.specs.declared.service.Request.{Request};
+ghost use Rattle.pager_model.specs.Lookups.{is_coming};
+ghost use Rattle.pager_model.specs.Policy.{asked_move, coming_process, gone_move, resident_move};
+ghost use Rattle.vm_state.specs.History.{pager};
+ghost use Rattle.call_steps.specs.MayBegin.{empty};
+ghost use Rattle.serial_moves.specs.Controls.{Moves, number_of};
+ghost use Rattle.move_steps.specs.Moved.{IsMoveHere, IsSteady};
+ghost use Rattle.serial_laws.specs.Controlled.{IsLeft};
+ghost use Rattle.serial_moves.specs.Requests.{come_move, finding_for};
+
+use crate::carrying::{answered, carry_on, carry_reads, write_for_room};
+use crate::control::{Control, Doing, Ends};
+use crate::finding::{find_frame, processes, who_finds};
+use crate::leaving::leave;
+use disk_trait::Block;
+use fault_core::{AgainWhy, Next, advance};
+use vm_services::{ServeNext, ServeWhy, serve};
+use vm_state::{Carrier, State};
+use vm_swapper::{Swap, SwapWhy, come_some};
+use vm_types::{NoMemory, Proc, ProcStatus, Ref, Request, Seat, Service, Task};
+
+/// At the next request, and nothing is left.
+pub const ASKING: Control = Control {
+    doing: Doing::Asking,
+    leaving: None,
+};
+
+/// Whether a process with this status is coming back.
+fn is_coming(status: ProcStatus) -> bool
+    ensures { result ≡ is_coming status }
+{
+    matches!(status, ProcStatus::Coming)
+}
+
+/// The process that is coming; none if none is.
+fn coming_process<B: Block>(state: &State<B>) -> Option<Proc>
+    ensures { option_map number_of result ≡ coming_process state.now.config (pager state.now) }
+{
+    for q in 0..processes(state) {
+        if is_coming(state.status(Proc(q))) {
+            return Some(Proc(q));
+        }
+    }
+    None
+}
+
+/// A process that is gone turns to coming; one that is coming already turns to leaving first.
+fn gone<B: Block>(state: &mut State<B>, seat: Seat) -> Option<Control>
+    requires steady { IsSteady state.old }
+    requires here { IsMoveHere state.old (gone_move seat.0 (coming_process state.old.config (pager state.old))) }
+    ensures { Moves B.tells_content state.old state.new (gone_move seat.0 (coming_process state.old.config (pager state.old))) result }
+{
+    match coming_process(state) {
+        Some(q) => {
+            state.turn(seat, q, ProcStatus::Leaving);
+            Some(Control {
+                doing: Doing::Asking,
+                leaving: Some(q),
+            })
+        }
+        None => {
+            state.turn(seat, Proc(seat.0), ProcStatus::Coming);
+            Some(ASKING)
+        }
+    }
+}
+
+/// A process that is coming comes on.
+///
+/// # Errors
+/// `NoMemory` if out of memory.
+fn come<B: Block>(
+    state: &mut State<B>,
+    seat: Seat,
+    carrier: &mut Carrier<B>,
+) -> Result<Option<Control>, NoMemory>
+    requires steady { IsSteady state.old }
+    requires process { seat.0 < length state.old.config.procs }
+    requires coming { (pager state.old).status seat.0 ≡ status.Coming }
+    requires carrier { carrier.old ≡ empty seat }
+    requires here { IsMoveHere state.old (come_move state.old seat.0) }
+    ensures carrier { carrier.new ≡ carrier.old }
+    ensures moved { IfOk result (Moves B.tells_content state.old state.new (come_move state.old seat.0)) }
+{
+    match come_some(state, seat, Proc(seat.0), carrier) {
+        Swap::Carry => Ok(Some(carry_on(state, seat, Ends::Request, ASKING, carrier)?)),
+        Swap::More => Ok(Some(ASKING)),
+        Swap::Settled => Ok(Some(ASKING)),
+        Swap::Again(why) => match why {
+            SwapWhy::NoFrame => find_for_request(state, seat, carrier),
+            SwapWhy::InFlight => Ok(None),
+            SwapWhy::ModifiedFull => Ok(None),
+        },
+        Swap::Room => unreachable!(),
+    }
+}
+
+/// A frame is found for the request of the seat's process.
+///
+/// # Errors
+/// `NoMemory` if out of memory.
+fn find_for_request<B: Block>(
+    state: &mut State<B>,
+    seat: Seat,
+    carrier: &mut Carrier<B>,
+) -> Result<Option<Control>, NoMemory>
+    requires steady { IsSteady state.old }
+    requires seat { seat.0 < length state.old.config.procs + 2 }
+    requires carrier { carrier.old ≡ empty seat }
+    requires here { IsMoveHere state.old (finding_for state.old seat.0) }
+    ensures carrier { carrier.new ≡ carrier.old }
+    ensures moved { IfOk result (Moves B.tells_content state.old state.new (finding_for state.old seat.0)) }
+{
+    match who_finds(state, Proc(seat.0)) {
+        Some(found) => find_frame(state, seat, found, Ends::Request, Doing::Asking, carrier),
+        None => Ok(None),
+    }
+}
+
+/// The next step for a reference of a process that is resident.
+///
+/// # Errors
+/// `NoMemory` if out of memory.
+fn refer<B: Block>(
+    state: &mut State<B>,
+    seat: Seat,
+    task: Task,
+    r: Ref,
+    carrier: &mut Carrier<B>,
+) -> Result<Option<Control>, NoMemory>
+    requires steady { IsSteady state.old }
+    requires own { seat.0 ≡ (task.proc).0 }
+    requires process { seat.0 < length state.old.config.procs }
+    requires formed { IsWellFormedReference r }
+    requires carrier { carrier.old ≡ empty seat }
+    requires here { IsMoveHere state.old (resident_move state.old.config state.old.past (pager state.old) seat.0 (Request.Reference r)) }
+    ensures carrier { carrier.new ≡ carrier.old }
+    ensures moved { IfOk result (Moves B.tells_content state.old state.new
+        (resident_move state.old.config state.old.past (pager state.old) seat.0 (Request.Reference r))) }
+{
+    match advance(state, seat, task.proc, r, carrier) {
+        Next::Answered(_) => Ok(Some(answered(task))),
+        Next::Carry => Ok(Some(carry_reads(state, seat, ASKING, carrier)?)),
+        Next::More => Ok(Some(ASKING)),
+        Next::Again(why) => match why {
+            AgainWhy::ModifiedFull => Ok(Some(write_for_room(
+                state,
+                seat,
+                Ends::Request,
+                ASKING,
+                carrier,
+            )?)),
+            AgainWhy::NoFrame => find_for_request(state, seat, carrier),
+            _ => Ok(None),
+        },
+        Next::Room => unreachable!(),
+    }
+}
+
+/// The next step for a service of a process that is resident.
+///
+/// # Errors
+/// `NoMemory` if out of memory.
+fn serve_next<B: Block>(
+    state: &mut State<B>,
+    seat: Seat,
+    task: Task,
+    s: Service,
+    carrier: &mut Carrier<B>,
+) -> Result<Option<Control>, NoMemory>
+    requires steady { IsSteady state.old }
+    requires own { seat.0 ≡ (task.proc).0 }
+    requires process { seat.0 < length state.old.config.procs }
+    requires formed { IsWellFormedService s }
+    requires carrier { carrier.old ≡ empty seat }
+    requires here { IsMoveHere state.old (resident_move state.old.config state.old.past (pager state.old) seat.0 (Request.Service s)) }
+    ensures carrier { carrier.new ≡ carrier.old }
+    ensures moved { IfOk result (Moves B.tells_content state.old state.new
+        (resident_move state.old.config state.old.past (pager state.old) seat.0 (Request.Service s))) }
+{
+    match serve(state, seat, task.proc, s) {
+        ServeNext::Answered(_) => Ok(Some(answered(task))),
+        ServeNext::More => Ok(Some(ASKING)),
+        ServeNext::Again(why) => match why {
+            ServeWhy::ModifiedFull => Ok(Some(write_for_room(
+                state,
+                seat,
+                Ends::Request,
+                ASKING,
+                carrier,
+            )?)),
+            _ => Ok(None),
+        },
+        ServeNext::Room => unreachable!(),
+    }
+}
+
+/// The next step for a request, by the status of its process.
+///
+/// # Errors
+/// `NoMemory` if out of memory.
+fn by_status<B: Block>(
+    state: &mut State<B>,
+    seat: Seat,
+    task: Task,
+    carrier: &mut Carrier<B>,
+) -> Result<Option<Control>, NoMemory>
+    requires steady { IsSteady state.old }
+    requires own { seat.0 ≡ (task.proc).0 }
+    requires process { seat.0 < length state.old.config.procs }
+    requires formed { IsWellFormedRequest task.request }
+    requires carrier { carrier.old ≡ empty seat }
+    requires here { IsMoveHere state.old (asked_move state.old.config state.old.past (pager state.old) None seat.0 task.request) }
+    ensures carrier { carrier.new ≡ carrier.old }
+    ensures moved { IfOk result (Moves B.tells_content state.old state.new
+        (asked_move state.old.config state.old.past (pager state.old) None seat.0 task.request)) }
+{
+    match state.status(task.proc) {
+        ProcStatus::Resident => match task.request {
+            Request::Reference(r) => refer(state, seat, task, r, carrier),
+            Request::Service(s) => serve_next(state, seat, task, s, carrier),
+        },
+        ProcStatus::Leaving => leave(
+            state,
+            seat,
+            task.proc,
+            Ends::Request,
+            Doing::Asking,
+            carrier,
+        ),
+        ProcStatus::Gone => Ok(gone(state, seat)),
+        ProcStatus::Coming => come(state, seat, carrier),
+    }
+}
+
+/// The next step for a request: a process that is being left comes first.
+///
+/// # Errors
+/// `NoMemory` if out of memory.
+pub fn ask<B: Block>(
+    state: &mut State<B>,
+    leaving: Option<Proc>,
+    task: Task,
+    carrier: &mut Carrier<B>,
+) -> Result<Option<Control>, NoMemory>
+    requires steady { IsSteady state.old }
+    requires process { (task.proc).0 < length state.old.config.procs }
+    requires formed { IsWellFormedRequest task.request }
+    requires left { IfSome leaving (λ q. IsLeft state.old.config (pager state.old) q.0) }
+    requires carrier { carrier.old ≡ empty (record { 0 = (task.proc).0 }) }
+    requires here { IsMoveHere state.old (asked_move state.old.config state.old.past (pager state.old) (option_map number_of leaving) (task.proc).0 task.request) }
+    ensures carrier { carrier.new ≡ carrier.old }
+    ensures moved { IfOk result (Moves B.tells_content state.old state.new
+        (asked_move state.old.config state.old.past (pager state.old) (option_map number_of leaving) (task.proc).0 task.request)) }
+{
+    let seat = Seat(task.proc.0);
+    match leaving {
+        Some(q) => leave(state, seat, q, Ends::Request, Doing::Asking, carrier),
+        None => by_status(state, seat, task, carrier),
+    }
+}

@@ -1,0 +1,5 @@
+pub mod SeatCarriers
+pub mod BodyRuns
+pub mod AskedOnce
+pub mod RunsEnd
+pub mod RunsFinish

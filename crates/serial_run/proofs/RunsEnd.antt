@@ -1,0 +1,56 @@
+-- A run whose body and rundown are done.
+use Rattle.std.proofs.Common.{◌≡◌, ℕ, Bool, true, List, [], ◌++◌, length, refl, sym, ap, ◌∙◌, subst}
+use Rattle.std.proofs.lemmas.List.{append-nil}
+use Rattle.vm_types.specs.declared.config.Config.{Config}
+use Rattle.vm_journal.specs.declared.entry.Entry.{Entry}
+use Rattle.pager_model.specs.Order.{IsAnswered, IsInOrder, answered}
+use Rattle.pager_model.specs.Report.{report_of}
+use Rattle.pager_model.specs.Run.{IsRun, pager_after}
+use Rattle.pager_model.specs.Serial.{IsRundown, IsSerial}
+use Rattle.pager_model.specs.Spoken.{IsRight}
+use Rattle.pager_model.specs.Text.{dirty_pages}
+use Rattle.pager_laws.proofs.SerialInOrder.{serial_answered}
+use Rattle.pfn_report.specs.Printable.{IsPrintable}
+use Rattle.serial_laws.specs.Between.{IsBetween}
+use Rattle.move_steps.specs.Moved.{IsSameBut}
+use Rattle.vm_state.specs.History.{History}
+use Rattle.serial_run.specs.Ended.{HasEnded}
+use Rattle.serial_run.specs.declared.run.Ending.{Ending}
+
+-- where the policy rests every request is answered
+pub answered_there : (s : History) → IsSerial s.config s.past → IsAnswered s.config s.past
+answered_there s serial = serial_answered s.config s.past serial.control serial.reached serial.none_left
+
+module _ (tells : Bool) (mid s : History) (ending : Ending) (same : IsSameBut mid s) where
+  config_is : s.config ≡ mid.config
+  config_is = ap (λ (x : History). x.config) same
+
+  there : (P : Config → Type 0) → P mid.config → P s.config
+  there P = subst P (sym config_is)
+
+  pub has_ended : IsBetween mid.config mid.past → IsSerial mid.config mid.past → IsBetween s.config s.past → IsAnswered s.config s.past → (tells ≡ true → IsRight s.config s.past)
+      → (rest : List Entry) × (s.past ≡ rest ++ mid.past) × IsRundown mid.config mid.past rest
+      → ending.at ≡ length mid.past → ending.report ≡ report_of mid.config mid.past (pager_after mid.config mid.past) → IsPrintable mid.config.sections ending.report
+      → (ending.dirty).items ≡ dirty_pages s.config (pager_after s.config s.past) → HasEnded tells s ending
+  has_ended begun serial ended all right down at report printable dirty = record {
+    past = mid.past;
+    rest = down.0;
+    all = down.1;
+    landed = ended.landed;
+    run = record {
+      run = subst (λ (p : List Entry). IsRun s.config p) down.1 ended.run;
+      right = λ told. subst (IsRight s.config) down.1 (right told);
+      in_order = subst (λ (p : List Entry). IsInOrder s.config p) down.1 (λ p. ([], append-nil (answered p s.past) ∙ all p));
+      serial = there (λ (k : Config). IsSerial k mid.past) serial;
+      whole = record {
+        answered = there (λ (k : Config). IsAnswered k mid.past) (answered_there mid serial);
+        landed = begun.landed;
+        reused = begun.reused;
+        rundown = there (λ (k : Config). IsRundown k mid.past down.0) down.2;
+      };
+    };
+    at = at;
+    report = there (λ (k : Config). ending.report ≡ report_of k mid.past (pager_after k mid.past)) report;
+    printable = there (λ (k : Config). IsPrintable k.sections ending.report) printable;
+    dirty = subst (λ (p : List Entry). (ending.dirty).items ≡ dirty_pages s.config (pager_after s.config p)) down.1 dirty;
+  }

@@ -1,0 +1,43 @@
+-- A run that has ended, once its blocks are given back.
+use Rattle.std.proofs.Common.{◌≡◌, ℕ, Bool, List, ◌++◌, Option, length, map, reverse, refl, sym, ap, ◌∙◌, subst}
+use Rattle.vm_types.specs.declared.config.Config.{Config}
+use Rattle.vm_types.specs.declared.names.BlockId.{BlockId}
+use Rattle.vm_journal.specs.declared.entry.Entry.{Entry}
+use Rattle.pager_model.specs.Asked.{IsAsked}
+use Rattle.pager_model.specs.Report.{Report, report_of}
+use Rattle.pager_model.specs.Run.{pager_after}
+use Rattle.pager_model.specs.Text.{dirty_pages}
+use Rattle.pager_model.specs.WrittenBack.{AreWrittenBack}
+use Rattle.pfn_report.specs.Printable.{IsPrintable}
+use Rattle.frame_store.specs.Blocks.{blocks_of}
+use Rattle.vm_state.specs.Ends.{AreGivenBack}
+use Rattle.vm_state.specs.History.{History}
+use Rattle.serial_run.specs.Ended.{HasEnded, IsFinished, IsWholeRun, given_back}
+use Rattle.serial_run.specs.declared.finished.Finished.{Finished}
+use Rattle.serial_run.specs.declared.run.Ending.{Ending}
+use Rattle.serial_run.proofs.AskedOnce.{asked, written}
+
+module _ {B : Type 0} (content plan : B → Option (List ℕ)) (reads writes faults : B → ℕ) (tells tells_plan : Bool) where
+  pub is_finished : (config : Config) (s : History) (ending : Ending) (f : Finished) (taken : List (BlockId × B)) → s.config ≡ config → HasEnded tells s ending
+      → f.config ≡ s.config → (f.entries).items ≡ reverse s.past → f.at ≡ ending.at → f.report ≡ ending.report → (f.dirty).items ≡ (ending.dirty).items
+      → map (λ (p : BlockId × B). p.0) taken ≡ blocks_of s.config → AreGivenBack content plan reads writes faults tells tells_plan s.config s.past taken
+      → IsFinished content plan reads writes faults tells tells_plan config taken f
+  is_finished config s ending f taken same ended own entries at report dirty names given = record {
+    past = ended.past;
+    rest = ended.rest;
+    same = own ∙ same;
+    all = entries ∙ ap reverse ended.all;
+    run = subst (λ (k : Config). IsWholeRun tells k ended.past ended.rest) same ended.run;
+    at = at ∙ ended.at;
+    report = report ∙ (ended.report ∙ ap (λ (k : Config). report_of k ended.past (pager_after k ended.past)) same);
+    printable = subst (IsPrintable config.sections) (sym report) (subst (λ (k : Config). IsPrintable k.sections ending.report) same ended.printable);
+    dirty = dirty ∙ (ended.dirty ∙ ap (λ (k : Config). dirty_pages k (pager_after k (ended.rest ++ ended.past))) same);
+    asked =
+        subst (λ (k : Config). IsAsked tells_plan k (ended.rest ++ ended.past) (map (given_back content plan reads writes faults) taken)) same
+        (subst (λ (p : List Entry). IsAsked tells_plan s.config p (map (given_back content plan reads writes faults) taken)) ended.all
+        (asked content plan reads writes faults tells tells_plan s.config s.past taken names given));
+    written =
+        subst (λ (k : Config). AreWrittenBack tells k (ended.rest ++ ended.past) (map (given_back content plan reads writes faults) taken)) same
+        (subst (λ (p : List Entry). AreWrittenBack tells s.config p (map (given_back content plan reads writes faults) taken)) ended.all
+        (written content plan reads writes faults tells tells_plan s.config s.past taken names given));
+  }

@@ -1,0 +1,62 @@
+-- A serial run that has ended. A past is a journal's list of entries, the newest first. This project's own.
+use Rattle.std.specs.Prelude.{◌≡◌, ℕ, Bool, true, List, [], ◌++◌, Option, length, map, reverse}
+use Rattle.vm_types.specs.declared.config.Config.{Config}
+use Rattle.vm_types.specs.declared.names.BlockId.{BlockId}
+use Rattle.vm_types.specs.declared.names.Page.{Page}
+use Rattle.vm_journal.specs.declared.entry.Entry.{Entry}
+use Rattle.pager_model.specs.Asked.{IsAsked, Retired}
+use Rattle.pager_model.specs.Fits.{told_of}
+use Rattle.pager_model.specs.Order.{IsInOrder}
+use Rattle.pager_model.specs.Report.{report_of}
+use Rattle.pager_model.specs.Run.{IsRun, pager_after}
+use Rattle.pager_model.specs.Serial.{IsSerial, IsWhole}
+use Rattle.pager_model.specs.Spoken.{IsRight}
+use Rattle.pager_model.specs.Text.{dirty_pages}
+use Rattle.pager_model.specs.WrittenBack.{AreWrittenBack}
+use Rattle.pager_model.specs.Flights.{open_flights}
+use Rattle.pfn_report.specs.Printable.{IsPrintable}
+use Rattle.serial_run.specs.declared.finished.Finished.{Finished}
+use Rattle.serial_run.specs.declared.run.Ending.{Ending}
+use Rattle.vm_state.specs.History.{History}
+
+-- the entries up to the report's place and those after it are one legal run with right values where blocks tell
+-- their content, each process's requests once and in order; up to the report's place they are what the serial policy makes,
+-- every request is answered there, and the others are the rundown
+pub record IsWholeRun (tells : Bool) (config : Config) (past rest : List Entry) : Type 0 where
+  pub run : IsRun config (rest ++ past)
+  pub right : tells ≡ true → IsRight config (rest ++ past)
+  pub in_order : IsInOrder config (rest ++ past)
+  pub serial : IsSerial config past
+  pub whole : IsWhole config past rest
+
+-- the history is that of a whole run, no flight is open, and this was read off it
+pub record HasEnded (tells : Bool) (s : History) (ending : Ending) : Type 0 where
+  pub past : List Entry
+  pub rest : List Entry
+  pub all : s.past ≡ rest ++ past
+  pub landed : open_flights s.past ≡ []
+  pub run : IsWholeRun tells s.config past rest
+  pub at : ending.at ≡ length past
+  pub report : ending.report ≡ report_of s.config past (pager_after s.config past)
+  pub printable : IsPrintable s.config.sections ending.report
+  pub dirty : (ending.dirty).items ≡ dirty_pages s.config (pager_after s.config (rest ++ past))
+
+module _ {B : Type 0} (content plan : B → Option (List ℕ)) (reads writes faults : B → ℕ) where
+  -- a block with its name as it was given back
+  abbrev pub given_back : BlockId × B → Retired
+  given_back p = record { block = p.0; told = told_of content plan reads writes faults p.1 }
+
+  -- the run of a configuration has ended, and these blocks were given back: each block of the configuration once, and
+  -- counted; where blocks tell their content they are written back
+  pub record IsFinished (tells tells_plan : Bool) (config : Config) (taken : List (BlockId × B)) (f : Finished) : Type 0 where
+    pub past : List Entry
+    pub rest : List Entry
+    pub same : f.config ≡ config
+    pub all : (f.entries).items ≡ reverse (rest ++ past)
+    pub run : IsWholeRun tells config past rest
+    pub at : f.at ≡ length past
+    pub report : f.report ≡ report_of config past (pager_after config past)
+    pub printable : IsPrintable config.sections f.report
+    pub dirty : (f.dirty).items ≡ dirty_pages config (pager_after config (rest ++ past))
+    pub asked : IsAsked tells_plan config (rest ++ past) (map given_back taken)
+    pub written : AreWrittenBack tells config (rest ++ past) (map given_back taken)

@@ -1,0 +1,11 @@
+//! A whole serial run: each request answered in the order of the body, the report, the rundown, and the
+//! blocks given back.
+#![tactic(auto)]
+
+mod body;
+mod carriers;
+mod finished;
+mod run;
+
+pub use finished::{Finished, RunFault};
+pub use run::run_serial;

@@ -1,0 +1,75 @@
+ghost use Rattle.std.specs.Prelude.{◌≡◌, ◌≤◌, ◌++◌, [], IfOk, IsErrOf, List, OnOk};
+ghost use Rattle.disk_trait.specs.Causes.{Rose};
+ghost use Rattle.vm_types.specs.Configuration.{IsWellFormed};
+ghost use Rattle.vm_types.specs.declared.names.BlockId.{BlockId};
+ghost use Rattle.move_steps.specs.Moved.{IsSameBut};
+ghost use Rattle.serial_run.specs.Ended.{HasEnded, IsFinished};
+ghost use Rattle.serial_run.specs.declared.finished.RunFault.{RunFault};
+
+use crate::body::run_body;
+use crate::carriers::all_carriers;
+use crate::finished::{Finished, RunFault};
+use disk_trait::{Block, Depot};
+use pfn_report::{Report, recount};
+use run_blocks::{make_blocks, retire_blocks};
+use rundown::rundown;
+use std::alloc::Global;
+use vm_state::State;
+use vm_types::{Config, NoMemory, Page};
+
+/// What is read off a run besides its entries: how many of them stand before the report, the report
+/// there, and the shared pages that were left dirty.
+#[derive(Debug, Drop)]
+pub struct Ending {
+    pub at: u64,
+    pub report: Report,
+    pub dirty: Vec<Page>,
+}
+
+/// Runs a state from its first entry on.
+///
+/// # Errors
+/// `NoMemory` if out of memory.
+fn run_state<B: Block>(alloc: Global, state: &mut State<B>) -> Result<Ending, NoMemory>
+    requires { state.old.past ≡ [] }
+    ensures same { OnOk result (IsSameBut state.old state.new) }
+    ensures ended { IfOk result (HasEnded B.tells_content state.new) }
+{
+    state.run_law();
+    let mut carriers = all_carriers(alloc, state)?;
+    run_body(state, &mut carriers)?;
+    let at = state.entries().len() as u64;
+    let report = recount(alloc, state)?;
+    let dirty = rundown(alloc, state)?;
+    Ok(Ending { at, report, dirty })
+}
+
+/// Runs a configuration: makes its blocks by a depot, answers its requests one after another, counts the
+/// report, writes the shared pages back, and gives each block back to the depot.
+///
+/// # Errors
+/// `NoMemory` if out of memory. `DepotFault` only if the depot's count of faults rose.
+pub fn run_serial<D: Depot>(
+    alloc: Global,
+    config: Config,
+    depot: &mut D,
+) -> Result<Finished, RunFault>
+    requires { IsWellFormed config }
+    ensures finished { IfOk result (λ f. (taken : List (BlockId × D.Block)) × (D.retired depot.new ≡ D.retired depot.old ++ taken)
+        × IsFinished D.Block.content D.Block.plan D.Block.reads D.Block.writes D.Block.faults D.Block.tells_content D.Block.tells_plan config taken f) }
+    ensures failed { IsErrOf result RunFault.DepotFault → Rose (D.faults depot.old) (D.faults depot.new) }
+    ensures later { D.faults depot.old ≤ D.faults depot.new }
+{
+    let blocks = make_blocks(alloc, &config, depot)?;
+    let mut state = State::start(alloc, config, blocks)?;
+    let ending = run_state(alloc, &mut state)?;
+    let (config, entries, blocks) = state.finish();
+    retire_blocks(blocks, depot)?;
+    Ok(Finished {
+        config,
+        entries,
+        at: ending.at,
+        report: ending.report,
+        dirty: ending.dirty,
+    })
+}

@@ -1,0 +1,19 @@
+use Rattle.std.proofs.Common.{◌≡◌, ◌-◌}
+use Rattle.std.specs.Prelude.{IsSome}
+use Rattle.line_source.specs.BytesLeft.{bytes_left}
+use Rattle.trace_reader.specs.Stream.{IsReading}
+use Rattle.trace_reader.specs.HeadAnswer.{IsTold}
+use Rattle.trace_reader.proofs.head.read_head.Given as goal
+
+abbrev pub invariant-front : goal.invariant-front
+invariant-front g l = record {
+  same_reference : l.lines.source.ghost_name ≡ l.fn.lines.source.ghost_name;
+  built : l.reader.built ≡ l.fn.built;
+  reading : IsReading l.reader.built l.reader.draft l.reader.number;
+  told : IsTold l.reader.built (bytes_left g.S.Source.left l.fn.lines) l.reader.draft.part l.reader.number (bytes_left g.S.Source.left l.lines);
+  still_told : IsSome (g.S.Source.left l.fn.lines.source.now) → IsSome (g.S.Source.left l.lines.source.now);
+  faults : g.S.Source.faults l.lines.source.now ≡ g.S.Source.faults l.fn.lines.source.now;
+}
+
+abbrev pub decreases-front : goal.decreases-front
+decreases-front g l = 200010 - l.reader.number

@@ -1,0 +1,182 @@
+//! The front of a text that has a trace and then a log.
+
+ghost use Rattle.std.specs.Prelude.{◌≡◌, ◌≤◌, ℕ, IfOk, IfErr, IfSome, IsSome, OnOk, if◌then◌else◌};
+ghost use Rattle.line_source.specs.BytesLeft.{bytes_left};
+ghost use Rattle.trace_words.specs.Words.{words};
+ghost use Rattle.trace_lines.specs.Grammar.{content};
+ghost use Rattle.trace_reader.specs.Accepted.{IsRead};
+ghost use Rattle.trace_reader.specs.Answer.{FaultsBy};
+ghost use Rattle.trace_reader.specs.Head.{by_log_word, head_line};
+ghost use Rattle.trace_reader.specs.HeadAnswer.{HeadAnswers, HasTakenHead, IsHeadLineAtFault, AnswersNext, AnswersLine, IsKeptNext, CountsBy};
+ghost use Rattle.trace_reader.specs.LogWord.{said_by_words, plain};
+ghost use Rattle.trace_reader.specs.Meaning.{next_line};
+ghost use Rattle.trace_reader.specs.Stream.{IsReading};
+
+use crate::draft::Draft;
+use crate::fault::TraceFault;
+use crate::read::Reader;
+use arrayvec::ArrayVec;
+use line_source::{Line, Lines};
+use outside_io::Source;
+use std::alloc::Global;
+use trace_lines::{Built, Place, judge};
+use trace_words::{Cause, is, next_word};
+use vm_types::Config;
+
+// A line after END whose first word no line of a trace has, by its words.
+enum AfterEnd {
+    // The one word LOG.
+    Log,
+    // LOG and more words.
+    Misplaced,
+    // Another first word.
+    Unknown,
+}
+
+// The line without a byte 13 at its end.
+fn without_return(line: &[u8]) -> &[u8]
+    ensures { result.now ≡ content line.now }
+{
+    let count = line.len();
+    if count > 0 && line[count - 1] == b'\r' {
+        line.split_at(count - 1).0
+    } else {
+        line
+    }
+}
+
+fn by_words(line: &[u8]) -> AfterEnd
+    ensures { said_by_words result ≡ by_log_word (words (content line.now)) }
+{
+    let Some((first, rest)) = next_word(without_return(line)) else {
+        return AfterEnd::Unknown;
+    };
+    if !is(first, b"LOG") {
+        return AfterEnd::Unknown;
+    }
+    match next_word(rest) {
+        None => AfterEnd::Log,
+        Some(_) => AfterEnd::Misplaced,
+    }
+}
+
+// Whether the next line stands after END, and no line of a trace has its first word.
+fn is_unknown(reader: &Reader, line: &[u8]) -> bool
+    requires { IsReading reader.now.built reader.now.draft reader.now.number }
+    ensures { head_line reader.now.built reader.now.number reader.now.draft.part line.now
+        ≡ (if result then by_log_word (words (content line.now)) else plain (next_line reader.now.built reader.now.number reader.now.draft.part line.now)) }
+{
+    match reader.draft.part.place {
+        Place::Ended => match judge(
+            reader.built,
+            reader.number,
+            &reader.draft.part,
+            &reader.draft.seen,
+            line,
+        ) {
+            Err(Cause::UnknownWord) => true,
+            _ => false,
+        },
+        _ => false,
+    }
+}
+
+// Takes the next line, and says whether it begins the log.
+fn take_head_line(reader: &mut Reader, line: &[u8]) -> Result<bool, TraceFault>
+    requires { IsReading reader.old.built reader.old.draft reader.old.number }
+    ensures built { reader.new.built ≡ reader.old.built }
+    ensures ok { IfOk result (HasTakenHead reader.old.built reader.old.draft reader.old.number line.now reader.new.draft reader.new.number) }
+    ensures err { IfErr result (IsHeadLineAtFault reader.old.built reader.old.draft.part reader.old.number line.now) }
+{
+    if is_unknown(reader, line) {
+        return match by_words(line) {
+            AfterEnd::Log => Ok(true),
+            AfterEnd::Misplaced => Err(TraceFault::Line(reader.number, Cause::Misplaced)),
+            AfterEnd::Unknown => Err(TraceFault::Line(reader.number, Cause::UnknownWord)),
+        };
+    }
+    match reader.take_line(line) {
+        Ok(()) => Ok(false),
+        Err(fault) => Err(fault),
+    }
+}
+
+// Takes a line, which byte 10 ended or the text's end.
+fn take_ended(reader: &mut Reader, line: &[u8], ended: bool) -> Result<bool, TraceFault>
+    requires { IsReading reader.old.built reader.old.draft reader.old.number }
+    ensures built { reader.new.built ≡ reader.old.built }
+    ensures kept { IfOk result (IsKeptNext reader.old.built reader.new.draft reader.old.number reader.new.number) }
+    ensures line { AnswersLine reader.old.built reader.old.draft.part reader.old.number ended line.now reader.new.draft.part reader.new.number result }
+    ensures no_read { (count : ℕ) → CountsBy result count count }
+{
+    match take_head_line(reader, line) {
+        Ok(true) => Ok(true),
+        Ok(false) => {
+            if ended {
+                Ok(false)
+            } else {
+                Err(TraceFault::Unfinished)
+            }
+        }
+        Err(fault) => Err(fault),
+    }
+}
+
+// Reads the next line, and says whether it begins the log.
+fn next_front<S: Source>(
+    lines: &mut Lines<'_, S>,
+    reader: &mut Reader,
+    out: &mut ArrayVec<u8, 256>,
+) -> Result<bool, TraceFault>
+    requires { IsReading reader.old.built reader.old.draft reader.old.number }
+    ensures built { reader.new.built ≡ reader.old.built }
+    ensures kept { IfOk result (IsKeptNext reader.old.built reader.new.draft reader.old.number reader.new.number) }
+    ensures text { AnswersNext reader.old.built reader.old.draft.part reader.old.number (bytes_left S.left lines.old) reader.new.draft.part reader.new.number (bytes_left S.left lines.new) result }
+    ensures told { IsSome (S.left lines.old.source.now) → IsSome (S.left lines.new.source.now) }
+    ensures faults { CountsBy result (S.faults lines.old.source.now) (S.faults lines.new.source.now) }
+    ensures faults_later { S.faults lines.old.source.now ≤ S.faults lines.new.source.now }
+    ensures same_reference { lines.new.source.ghost_name ≡ lines.old.source.ghost_name }
+{
+    match lines.next(out) {
+        Ok(Line::Text { ended }) => take_ended(reader, out.as_slice(), ended),
+        Ok(Line::Long) => Err(TraceFault::Line(reader.number, Cause::LineTooLong)),
+        Ok(Line::End) => Err(TraceFault::Unfinished),
+        Err(_) => Err(TraceFault::ReadFault),
+    }
+}
+
+/// The configuration of a trace behind which a log stands: the part up to and with its line LOG, which is
+/// judged as a line of the trace. The bytes of the log are left.
+///
+/// # Errors
+/// `Line` is the first faulty line with the first rule that it breaks; after END each line that isn't
+/// skipped and isn't the one word LOG is faulty. `Unfinished` if the text ends before LOG. `ReadFault`
+/// only if the source's count of failures rose, and no line taken before is at fault. `NoMemory` if memory
+/// ran out at a line that isn't at fault.
+pub fn read_head<S: Source>(
+    lines: &mut Lines<'_, S>,
+    alloc: Global,
+    built: Built,
+) -> Result<Config, TraceFault>
+    ensures accepted { IfOk result (IsRead built) }
+    ensures text { IfSome (bytes_left S.left lines.old) (λ text. HeadAnswers built result text (bytes_left S.left lines.new)) }
+    ensures told { IsSome (S.left lines.old.source.now) → IsSome (S.left lines.new.source.now) }
+    ensures faults { FaultsBy result (S.faults lines.old.source.now) (S.faults lines.new.source.now) }
+    ensures faults_later { S.faults lines.old.source.now ≤ S.faults lines.new.source.now }
+    ensures same_reference { lines.new.source.ghost_name ≡ lines.old.source.ghost_name }
+{
+    let mut reader = Reader {
+        alloc,
+        built,
+        draft: Draft::new(alloc),
+        number: 1,
+    };
+    let mut out = ArrayVec::new();
+    'front: loop {
+        match next_front(lines, &mut reader, &mut out) {
+            Ok(true) => return Ok(reader.draft.part.config),
+            Ok(false) => {}
+            Err(fault) => return Err(fault),
+        }
+    }
+}
