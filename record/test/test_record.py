@@ -5,7 +5,6 @@ What needs valgrind or the built program is left out where they aren't there, an
 """
 
 import pathlib
-import re
 import shutil
 import subprocess
 import sys
@@ -265,9 +264,6 @@ class RealPrograms(Case):
             with self.subTest(path.name):
                 done = subprocess.run([PROGRAM, "serial"], input=path.read_bytes(),
                                       capture_output=True, check=False)
-                last = done.stdout.decode().splitlines()[-2:]
-                if last and re.fullmatch(r"TRACE \d+ NOTBUILT", last[0]):
-                    self.skipTest(f"the program doesn't read all of {path.name} yet")
                 self.assertEqual(done.returncode, 0)
 
     def test_examples_keep_the_format(self):

@@ -5,3 +5,5 @@ pub mod Rows
 pub mod Slots
 pub mod OneReads
 pub mod OneWrites
+pub mod ReadsLeft
+pub mod ReadySeats

@@ -1,8 +1,6 @@
 -- What a reference's next step gives may be made, if there is room.
-use Rattle.std.proofs.Common.{◌≡◌, ◌+◌, ◌≤◌, true, false, refl, arith}
+use Rattle.std.proofs.Common.{◌≡◌, ◌+◌, ◌≤◌, false, arith}
 use Rattle.vm_types.specs.WellFormed.{IsWellFormedReference}
-use Rattle.vm_types.specs.declared.names.ProcStatus.{ProcStatus}
-use Rattle.vm_types.specs.declared.names.ProcStatus.TheVariants as status
 use Rattle.vm_types.specs.declared.names.Seat.{Seat}
 use Rattle.vm_types.specs.declared.reference.Ref.{Ref}
 use Rattle.pager_model.specs.Advance.{again_not_resident, gives_again}
@@ -13,13 +11,7 @@ use Rattle.fault_core.specs.Cases.{at_first}
 use Rattle.fault_core.specs.Gives.{MayGive}
 use Rattle.call_steps.specs.ReadySeat.{IsReadySeat}
 use Rattle.fault_core.proofs.Branches.{first_absent}
-use Rattle.fault_core.proofs.Steps.{ready_of}
-
-pub is_in_memory : (x : ProcStatus) → is_resident x ≡ true → x ≡ status.Resident
-is_in_memory status.Resident is = refl
-is_in_memory status.Leaving is = absurd (cc)
-is_in_memory status.Gone is = absurd (cc)
-is_in_memory status.Coming is = absurd (cc)
+use Rattle.call_steps.proofs.ReadySeats.{ready_of}
 
 pub may_advance : (s : History) (seat : Seat) (r : Ref) → IsReadySeat s seat → IsWellFormedReference r → owed s.past + 64 ≤ s.spare → MayGive s seat (at_first s seat r)
 may_advance s seat r ready formed room = record {

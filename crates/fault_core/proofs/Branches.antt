@@ -112,10 +112,6 @@ found_no_page config p v valid None is = refl
 found_no_page config p v valid (Some m) is = absurd (none-some _ is)
 
 -- ---- the frame
-pub frame_some : (f : Pfn) (o : Option ℕ) → Some f ≡ option_map pfn o → o ≡ Some f.0
-frame_some f None is = absurd (none-some _ (sym is))
-frame_some f (Some n) is = ap (λ (x : Pfn). Some x.0) (sym (same_Some f (pfn n) is))
-
 pub frame_none : (o : Option ℕ) → None ≡ option_map pfn o → o ≡ None
 frame_none None is = refl
 frame_none (Some n) is = absurd (none-some _ is)

@@ -50,8 +50,9 @@ use Rattle.call_steps.proofs.Heads.{behind_reuse, none_there, reuse_alone}
 use Rattle.fault_core.specs.SoughtPage.{IsSought}
 use Rattle.fault_core.specs.declared.next.Next.TheVariants.{Answered}
 use Rattle.fault_core.specs.declared.sought.Sought.{Sought}
-use Rattle.fault_core.proofs.Branches.{frame_none, frame_some, uncharged_is}
-use Rattle.fault_core.proofs.Steps.{answered_then, may_answer_then, may_as, ready_of}
+use Rattle.fault_core.proofs.Branches.{frame_none, uncharged_is}
+use Rattle.call_steps.proofs.ReadySeats.{frame_some, ready_of}
+use Rattle.fault_core.proofs.Steps.{answered_then, may_answer_then, may_as}
 
 known_page : (config : Config) (g : Page) → IsPageOf config g → IsKnown config g
 known_page config (Private p v) of = tt

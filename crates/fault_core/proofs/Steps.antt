@@ -17,24 +17,13 @@ use Rattle.pager_model.specs.Flights.{fails_read, open_flights}
 use Rattle.pager_model.specs.Given.{by_seat, given, pfn, reuse_first, unsaid, with_reply}
 use Rattle.pager_model.specs.Spoken.{flat_after}
 use Rattle.call_laws.specs.AreLegal.{IsLegalNext}
-use Rattle.call_laws.specs.Ready.{IsReady}
 use Rattle.vm_state.specs.CarrierView.{CarrierView}
 use Rattle.vm_state.specs.History.{History, MayAnswer, added, entry_by, owed}
 use Rattle.vm_state.specs.LiftsLand.{added_each}
 use Rattle.fault_core.specs.Gives.{Gives, MayGive, again_of, returned}
-use Rattle.call_steps.specs.ReadySeat.{IsReadySeat}
 use Rattle.call_steps.proofs.Steps.{paid_first}
 use Rattle.fault_core.specs.declared.next.Next.{Next}
 use Rattle.fault_core.specs.declared.next.Next.TheVariants.{Again, Answered, More, Room}
-
-pub ready_of : (s : History) (seat : Seat) → IsReadySeat s seat → IsReady s.config s.past seat.0
-ready_of s seat ready = record {
-  formed = ready.formed;
-  run = ready.run;
-  few = let short = ready.short in omega (arith, short);
-  free = record { idle = ready.seat_is.idle; calm = ready.seat_is.calm };
-  own = record { process = ready.seat_is.process; resident = ready.resident };
-}
 
 -- ---- what may be made
 pub may_as : (s : History) (seat : Seat) (g g' : GivenNext) → g ≡ g' → MayGive s seat g → MayGive s seat g'

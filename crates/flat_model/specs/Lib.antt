@@ -4,15 +4,6 @@ pub use Rattle.pager_model.specs.Flat
 pub use Rattle.pager_model.specs.FlatService
 pub use Rattle.pager_model.specs.Spoken
 pub use Rattle.pager_model.specs.Flights
-pub mod Pager
-pub mod Step
-pub mod Run
-pub mod Sound
-pub mod Counts
-pub mod Order
-pub mod Policy
-pub mod Laws
-pub mod Text
 pub mod Behind
 pub mod Usable
 pub mod FlatMachine

@@ -67,9 +67,11 @@ parts_blankless procs names (what.Evict p a f why to) are h = (letter_above p.0 
 parts_blankless procs names (what.Limit n faults) are h = (decimal_above n (omega (arith, h.0)), (decimal_above faults h.1, tt))
 parts_blankless procs names (what.Turn p status) are h = (letter_above p.0 [] refl, (status_above status, tt))
 
+-- no word of an entry has a blank
+pub entry_blankless : (procs : ℕ) (names : List Section) (e : Entry) → AreNames procs names → HasLine procs names e → Blankless (entry_words procs names e)
+entry_blankless procs names e are has = (seat_above procs (e.seat).0 has.seat, (kind_above (kind_of e.what), parts_blankless procs names e.what are has.what))
+
 -- what stands between the blanks of a line
 pub line_words : (procs : ℕ) (names : List Section) (number : ℕ) (e : Entry) → AreNames procs names → IsEntryNumber number → HasLine procs names e
     → words (line_text number e procs names) ≡ decimal number ∷ entry_words procs names e
-line_words procs names number e are small has =
-    words_spaced (decimal number) (entry_words procs names e) (decimal_above number small)
-    (seat_above procs (e.seat).0 has.seat, (kind_above (kind_of e.what), parts_blankless procs names e.what are has.what))
+line_words procs names number e are small has = words_spaced (decimal number) (entry_words procs names e) (decimal_above number small) (entry_blankless procs names e are has)

@@ -1,9 +1,8 @@
 -- Where the policy goes on after a carrier has landed.
-use Rattle.std.proofs.Common.{◌≡◌, ℕ, Bool, true, false, cond, List, [], ◌∷◌, length, refl, sym, ap, ◌∙◌, subst}
+use Rattle.std.proofs.Common.{◌≡◌, Bool, true, false, cond, List, refl, sym, ap, ◌∙◌, subst}
 use Rattle.vm_types.specs.declared.config.Config.{Config}
 use Rattle.vm_types.specs.declared.names.Seat.{Seat}
 use Rattle.vm_journal.specs.declared.entry.Entry.{Entry}
-use Rattle.pager_model.specs.Flights.{awaits_reuse, open_flights}
 use Rattle.pager_model.specs.Given.{unsaid}
 use Rattle.pager_model.specs.Landings.{all_bad, carrier_of, first_bad, landed_by}
 use Rattle.pager_model.specs.Moves.{After, Control as ControlIs, goes, refuses}

@@ -1,22 +1,17 @@
 -- What entries of a shape leave of a history: its flights, its right values, and who may reuse.
-use Rattle.std.proofs.Common.{◌≡◌, ℕ, ◌-◌, Bool, true, false, List, [], ◌∷◌, map, refl, sym, ap, ◌∙◌, subst}
+use Rattle.std.proofs.Common.{◌≡◌, ℕ, false, List, [], ◌∷◌, refl, ◌∙◌}
 use Rattle.std.specs.List.{AllByRecursion}
-use Rattle.vm_types.specs.declared.config.Config.{Config}
 use Rattle.vm_types.specs.declared.names.Seat.{Seat}
-use Rattle.vm_types.specs.declared.reference.Ref.{Ref}
-use Rattle.vm_types.specs.declared.reply.Reply.{Reply}
 use Rattle.vm_journal.specs.declared.entry.Entry.{Entry}
 use Rattle.vm_journal.specs.declared.entry.What.{What}
 use Rattle.vm_journal.specs.declared.entry.What.TheVariants as what
-use Rattle.pager_model.specs.Flat.{FlatState, flat_reply}
-use Rattle.pager_model.specs.Flights.{Flight, awaits_reuse, open_flights}
-use Rattle.pager_model.specs.Given.{by_seat, made_by, with_reply}
-use Rattle.pager_model.specs.Spoken.{IsRight, flat_after}
+use Rattle.pager_model.specs.Flights.{awaits_reuse, open_flights}
+use Rattle.pager_model.specs.Given.{by_seat, made_by}
 use Rattle.carried_landings.proofs.BegunFlights.{LandsNone}
 use Rattle.vm_state.specs.History.{History, added, entry_by}
 use Rattle.vm_state.specs.LiftsLand.{added_each}
-use Rattle.move_steps.proofs.Mute.{IsMute, mute_right, mute_same}
-use Rattle.move_steps.proofs.Shapes.{AreQuiet, AreStarts, EndsIn, IsQuiet, IsServedOnce, IsStart}
+use Rattle.move_steps.proofs.Mute.{IsMute}
+use Rattle.move_steps.proofs.Shapes.{AreQuiet, AreStarts, IsQuiet, IsServedOnce, IsStart}
 
 -- ---- the history after a seat's entries
 pub each_past : (seat : Seat) (ws : List What) (s : History) → (added_each seat ws s).past ≡ made_by seat.0 ws s.past

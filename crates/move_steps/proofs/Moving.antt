@@ -1,5 +1,5 @@
 -- A move that is made of a seat's entries, and one whose carrier lands behind them.
-use Rattle.std.proofs.Common.{◌≡◌, ℕ, ◌+◌, ◌<◌, ◌≤◌, Bool, true, false, List, [], ◌∷◌, Option, length, map, refl, sym, ap, ◌∙◌, subst}
+use Rattle.std.proofs.Common.{◌≡◌, ℕ, Bool, false, List, [], ◌∷◌, Option, map, refl, sym, ap, ◌∙◌, subst}
 use Rattle.std.specs.List.{AllByRecursion}
 use Rattle.vm_types.specs.declared.config.Config.{Config}
 use Rattle.vm_types.specs.declared.names.Seat.{Seat}
@@ -8,11 +8,10 @@ use Rattle.vm_journal.specs.declared.entry.What.{What}
 use Rattle.pager_model.specs.Flights.{awaits_reuse, open_flights}
 use Rattle.pager_model.specs.Given.{made_by, unsaid}
 use Rattle.pager_model.specs.Landings.{carrier_of}
-use Rattle.pager_model.specs.Moves.{After, Control as ControlIs, Move, carries, makes}
-use Rattle.pager_model.specs.Run.{IsRun}
+use Rattle.pager_model.specs.Moves.{After, Control as ControlIs, carries, makes}
 use Rattle.pager_model.specs.Serial.{IsCarried}
 use Rattle.pager_model.specs.Spoken.{IsRight, flat_after}
-use Rattle.call_steps.specs.Lifted.{HasLifts, place_of}
+use Rattle.call_steps.specs.Lifted.{HasLifts}
 use Rattle.carried_landings.specs.SeatFlights.{flight_place, of_others}
 use Rattle.carried_landings.proofs.BegunFlights.{none_of_others, only_own, whole_made}
 use Rattle.serial_laws.specs.Between.{IsBetween}

@@ -1,7 +1,7 @@
 -- What the entries that a call of the pager's logic gives look like, by its answer: transfers that begin, entries that begin
 -- and end none, or an answer.
 use Rattle.std.proofs.Common.{◌≡◌, ℕ, zero, suc, ◌+◌, Bool, true, false, cond, ◌&&◌, ◌||◌, List, [], ◌∷◌, ◌++◌, Option, Some, None, find, length, nat_eq, nat_le, nat_lt, not, slice_get, refl}
-use Rattle.std.specs.List.{AllByRecursion, list_any}
+use Rattle.std.specs.List.{AllByRecursion}
 use Rattle.vm_types.specs.Ring.{choose, filled, locked}
 use Rattle.vm_types.specs.declared.names.Addr.{Addr}
 use Rattle.vm_types.specs.declared.names.BlockId.{BlockId}
@@ -9,7 +9,6 @@ use Rattle.vm_types.specs.declared.names.Page.{Page}
 use Rattle.vm_types.specs.declared.config.Config.{Config}
 use Rattle.vm_types.specs.declared.config.ProcSpec.{ProcSpec}
 use Rattle.vm_types.specs.declared.reference.Ref.{Ref}
-use Rattle.vm_types.specs.declared.reply.Answer.{Answer}
 use Rattle.vm_types.specs.declared.reply.Why.{Why}
 use Rattle.vm_types.specs.declared.service.Service.{Service}
 use Rattle.vm_types.specs.declared.service.Service.TheVariants as service
@@ -22,7 +21,7 @@ use Rattle.pager_model.specs.Evict.{victim_of}
 use Rattle.pager_model.specs.Flat.{flat_refusal}
 use Rattle.pager_model.specs.Flights.{Flight, open_flights}
 use Rattle.pager_model.specs.Forget.{holder}
-use Rattle.pager_model.specs.Given.{Given, Seen, Target, given, is_stopped, page_address, pfn, reads_made, reuse_first, seen_at, unsaid}
+use Rattle.pager_model.specs.Given.{Seen, Target, given, is_stopped, page_address, pfn, reads_made, reuse_first, seen_at, unsaid}
 use Rattle.pager_model.specs.Lookups.{entry_of, is_pending, is_resident, page_by}
 use Rattle.pager_model.specs.Maps.{page_number}
 use Rattle.pager_model.specs.Pager.{Pager, Valid}

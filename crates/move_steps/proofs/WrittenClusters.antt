@@ -1,18 +1,15 @@
 -- One write cluster, and what its carrying and landing makes of it: a move of writing.
-use Rattle.std.proofs.Common.{◌≡◌, ℕ, ◌+◌, ◌<◌, ◌≤◌, Bool, List, [], ◌∷◌, Option, length, map, refl, sym, ap, ◌∙◌, subst}
-use Rattle.std.specs.List.{AllByRecursion}
+use Rattle.std.proofs.Common.{◌≡◌, ℕ, Bool, List, [], Option, refl, sym, ◌∙◌, subst}
 use Rattle.vm_types.specs.declared.names.Seat.{Seat}
 use Rattle.vm_journal.specs.declared.entry.What.{What}
-use Rattle.pager_model.specs.Given.{Given}
-use Rattle.pager_model.specs.Moves.{Control as ControlIs, carries}
+use Rattle.pager_model.specs.Moves.{Control as ControlIs}
 use Rattle.pager_model.specs.Policy.{Ends, unless_all_failed, writing_move}
 use Rattle.pager_model.specs.WriteCluster.{BeginIs, Reason as GivenReason, begin_carry, begin_gives, begin_nothing, reason_need}
-use Rattle.call_steps.specs.Lifted.{HasLifts, IsBegun, place_of, places_in}
+use Rattle.call_steps.specs.Lifted.{HasLifts}
 use Rattle.call_steps.specs.MayBegin.{empty}
 use Rattle.modified_writer.specs.Begins.{Begins, begin_of}
 use Rattle.modified_writer.specs.declared.begun.Begin.{Begin}
 use Rattle.modified_writer.specs.declared.begun.Begin.TheVariants.{Carry, Nothing, Room}
-use Rattle.serial_laws.specs.Between.{IsBetween}
 use Rattle.vm_state.specs.CarrierView.{CarrierView}
 use Rattle.vm_state.specs.History.{History, pager}
 use Rattle.move_steps.specs.CarriedOn.{IsCarriedOn, IsLoaded, MayRefuse}

@@ -1,6 +1,5 @@
 -- What the landing of a seat's carrier leaves, and where the policy goes on. This project's own.
 use Rattle.std.specs.Prelude.{◌≡◌, ℕ, Bool, true, false, List, [], Option, length, map}
-use Rattle.std.specs.List.{AllByRecursion}
 use Rattle.vm_types.specs.declared.config.Config.{Config}
 use Rattle.vm_types.specs.declared.names.Seat.{Seat}
 use Rattle.vm_journal.specs.declared.entry.Entry.{Entry}

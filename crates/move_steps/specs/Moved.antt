@@ -1,6 +1,5 @@
 -- What one move of the serial policy leaves of a history. This project's own.
 use Rattle.std.specs.Prelude.{◌≡◌, Bool, true, ◌≤◌, Option, Some, None}
-use Rattle.vm_types.specs.declared.config.Config.{Config}
 use Rattle.pager_model.specs.Moves.{Control as ControlIs, Move, rests}
 use Rattle.pager_model.specs.Policy.{move_of}
 use Rattle.pager_model.specs.Serial.{Heard, IsMade}

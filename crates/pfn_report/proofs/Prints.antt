@@ -1,7 +1,6 @@
 -- The report of a run has a text: what its frames hold has a name.
-use Rattle.std.proofs.Common.{◌≡◌, inl, inr, ℕ, ◌^◌, ◌<◌, ◌≤◌, List, Option, Some, None, get_or, length, map, refl, sym, ap, subst, arith}
+use Rattle.std.proofs.Common.{◌≡◌, inl, inr, ℕ, ◌^◌, ◌<◌, ◌≤◌, List, Option, Some, None, length, refl, sym, subst, arith}
 use Rattle.std.specs.Prelude.{IfSome, IsSomeAnd, All}
-use Rattle.std.specs.List.{range_with_len}
 use Rattle.std.proofs.lemmas.List.FromFn.{get_or-map-range_with_len, length-map-range_with_len}
 use Rattle.std.proofs.lemmas.Option.{get_or_from_slice_get, slice_get_within}
 use Rattle.vm_types.specs.Configuration.{IsSection, IsSectionPage, IsWellFormed}
@@ -12,7 +11,7 @@ use Rattle.vm_types.specs.declared.names.Page.TheVariants.{Private, Shared}
 use Rattle.vm_text.specs.Named.{IsPrintablePage, IsShortSection}
 use Rattle.vm_journal.specs.declared.entry.Entry.{Entry}
 use Rattle.pager_model.specs.OfConfig.{IsMappable, IsPageOf}
-use Rattle.pager_model.specs.Report.{FrameRow, frame_row, frame_rows, process_row, report_of}
+use Rattle.pager_model.specs.Report.{frame_row, frame_rows, process_row, report_of}
 use Rattle.pager_model.specs.Run.{IsRun, pager_after}
 use Rattle.pager_laws.proofs.OfConfigKept.{run_right}
 use Rattle.pfn_report.specs.Printable.{IsPrintable, IsPrintableRow}

@@ -5,7 +5,7 @@ use Rattle.std.specs.List.{AllByRecursion}
 use Rattle.std.proofs.lemmas.Bool.{and_from, eq-eqb, eqb-false, eqb-true, le-ltb, lt-ltb, ltb-false, ltb-true, ne_eqb}
 use Rattle.std.proofs.lemmas.List.Sums.{sum_by-cons}
 use Rattle.vm_types.specs.Ring.{Held}
-use Rattle.pager_model.specs.Lookups.{entries_at, entry_of, has_vpn, is_entry, shares}
+use Rattle.pager_model.specs.Lookups.{entries_at, has_vpn, is_entry, shares}
 use Rattle.pager_model.specs.Pager.{Valid}
 use Rattle.pager_rules.proofs.Basics.{count_cons, count_cons_no, count_cons_yes, each_weaker, nat_eq_refl}
 use Rattle.pfn_report.specs.Counts.{is_named, is_share_below, is_slot_for, shares_below}

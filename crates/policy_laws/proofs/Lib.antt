@@ -1,3 +1,4 @@
 pub mod Counting
 pub mod AloneInMemory
 pub mod LostCarriers
+pub mod RefusedOnce

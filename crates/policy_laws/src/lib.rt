@@ -4,4 +4,4 @@
 
 mod laws;
 
-pub use laws::{alone_finds_a_page, failed_carriers_are_lost};
+pub use laws::{alone_finds_a_page, failed_carriers_are_lost, failures_refuse_once};

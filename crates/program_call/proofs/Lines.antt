@@ -1,9 +1,9 @@
 -- A part of a line, and the first bytes of a text.
-use Rattle.std.proofs.Common.{◌≡◌, ◌≢◌, ℕ, ◌+◌, ◌-◌, ◌<◌, ◌≤◌, List, [], ◌∷◌, ◌++◌, length, get_or, take, drop, min, sym, ◌∙◌, ap, subst, arith, All, length-take, length-append}
+use Rattle.std.proofs.Common.{◌≡◌, ◌≢◌, ℕ, ◌+◌, ◌-◌, ◌≤◌, List, [], ◌++◌, length, take, drop, min, sym, ◌∙◌, ap, subst, arith, All, length-take}
 use Rattle.std.specs.List.{slice_range}
 use Rattle.std.specs.Io.{StopsAt}
 use Rattle.std.proofs.Math.Seq.{take-append-add}
-use Rattle.std.proofs.Transfers.{StopsAt-take, StopsAt-of_All}
+use Rattle.std.proofs.Transfers.{StopsAt-take}
 use Rattle.std.proofs.lemmas.List.{drop-take, drop-drop, take-take, take_min, take-append-drop}
 use Rattle.std.proofs.lemmas.List.Elements.{All-take}
 

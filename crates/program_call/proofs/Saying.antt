@@ -1,8 +1,7 @@
 -- What is said of a message.
-use Rattle.std.proofs.Common.{◌≡◌, ℕ, ◌≤◌, List, length, take, refl, sym, subst, arith, inl, inr, Ok, Err}
+use Rattle.std.proofs.Common.{◌≡◌, ℕ, List, length, refl, arith, inl, inr, Err}
 use Rattle.std.specs.declared.option.Option.{Option}
 use Rattle.std.specs.Io.KnownBytes.{Appends, Keeps}
-use Rattle.outside_io.specs.Causes.{Rose, raised}
 use Rattle.outside_io.specs.Views.{sink_view}
 use Rattle.outside_io.specs.WholeWrite.{TakesText, FaultsBy, stalls_by}
 use Rattle.outside_io.specs.declared.whole.WriteFault.{WriteFault}

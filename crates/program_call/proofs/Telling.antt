@@ -1,19 +1,17 @@
 -- What the program tells, from what its command tells.
 use Rattle.std.proofs.Common.{◌≡◌, ◌≢◌, ℕ, ◌<◌, ◌≤◌, List, [], ◌∷◌, length, take, drop, refl, sym, ◌∙◌, subst, arith, inl, inr, All}
-use Rattle.std.specs.Prelude.{◌⊎◌, None, Some, IfSome}
+use Rattle.std.specs.Prelude.{None, Some, IfSome}
 use Rattle.std.specs.declared.option.Option.{Option}
 use Rattle.std.specs.Str.{IsUtf8}
 use Rattle.std.specs.Io.KnownBytes.{Appends, Keeps}
 use Rattle.std.proofs.KnownBytes.{Appends-kept}
 use Rattle.std.proofs.lemmas.List.{take_all}
-use Rattle.outside_io.specs.Causes.{Rose}
 use Rattle.outside_io.specs.Views.{SourceView, SinkView}
 use Rattle.pager_model.specs.Text.{status_line}
 use Rattle.program_ends.specs.Ends.{Ends}
 use Rattle.replay_cli.specs.Commands.{Told}
 use Rattle.replay_cli.specs.DepotView.{DepotView}
-use Rattle.program_call.specs.Words.{HandsOver}
-use Rattle.program_call.specs.ProgramTells.{ProgramTells, IsPartly, ran, no_words}
+use Rattle.program_call.specs.ProgramTells.{ProgramTells, ran, no_words}
 
 -- all words of which these are those after the program's own name
 all_words : (told : Option (List (List ℕ))) (copied : List (List ℕ)) → IfSome told (λ all. copied ≡ drop 1 all)

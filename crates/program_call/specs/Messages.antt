@@ -1,10 +1,10 @@
 -- What goes to standard error beside the program's output. Source: this project's own.
-use Rattle.std.specs.Prelude.{◌≡◌, ◌≢◌, ◌⊎◌, ℕ, ◌≤◌, Bool, ◌&&◌, nat_le, List, [], ◌∷◌, ◌++◌, length, take, filter, codes, decimal}
+use Rattle.std.specs.Prelude.{◌≡◌, ◌≢◌, ◌⊎◌, ℕ, ◌≤◌, Bool, ◌&&◌, nat_le, List, [], ◌++◌, length, take, filter, codes, decimal}
 use Rattle.std.specs.Io.KnownBytes.{Appends}
 use Rattle.outside_io.specs.Causes.{Rose}
 use Rattle.outside_io.specs.Views.{SinkView}
 use Rattle.trace_words.specs.declared.cause.Cause.{Cause}
-use Rattle.trace_words.specs.declared.cause.Cause.TheVariants.{LineTooLong, NotAscii, TooMany, UnknownWord, Misplaced, NoSuch, BadNumber, OutOfRange, Unaligned, Repeated, NotBuilt}
+use Rattle.trace_words.specs.declared.cause.Cause.TheVariants.{LineTooLong, NotAscii, TooMany, UnknownWord, Misplaced, NoSuch, BadNumber, OutOfRange, Unaligned, Repeated}
 use Rattle.program_ends.specs.FaultText.{fault_text}
 
 -- beside status 1
@@ -23,7 +23,6 @@ rule_text BadNumber = codes "a word stands in the place of a number and is none"
 rule_text OutOfRange = codes "a number is out of its range, or doesn't fit the other numbers"
 rule_text Unaligned = codes "an address isn't a multiple of the page size or of the width of the reference"
 rule_text Repeated = codes "what the line declares was declared before"
-rule_text NotBuilt = codes "the line is correct, but the program can't run such a trace yet"
 
 abbrev pub is_printable : ℕ → Bool
 is_printable byte = nat_le 32 byte && nat_le byte 126

@@ -36,7 +36,6 @@ fn rule_of(cause: Cause) -> &'static [u8]
         Cause::Unaligned =>
             b"an address isn't a multiple of the page size or of the width of the reference",
         Cause::Repeated => b"what the line declares was declared before",
-        Cause::NotBuilt => b"the line is correct, but the program can't run such a trace yet",
     }
 }
 
@@ -91,9 +90,6 @@ fn cause_told(first: &[u8], number: u32) -> Option<Cause>
     }
     if tells(first, number, Cause::Repeated) {
         return Some(Cause::Repeated);
-    }
-    if tells(first, number, Cause::NotBuilt) {
-        return Some(Cause::NotBuilt);
     }
     None
 }

@@ -5,7 +5,6 @@ use Rattle.vm_types.specs.declared.config.Config.{Config}
 use Rattle.outside_io.specs.Causes.{Rose}
 use Rattle.outside_io.specs.Views.{SinkView, SourceView}
 use Rattle.trace_words.specs.declared.cause.Cause.{Cause}
-use Rattle.trace_lines.specs.declared.built.Built.{Built}
 use Rattle.trace_reader.specs.Answer.{Answers, FaultsBy, HasShown}
 use Rattle.trace_reader.specs.Meaning.{Configuration, Faulty, Trace, trace_of}
 use Rattle.trace_reader.specs.Meaning as meaning
@@ -31,7 +30,7 @@ other_number status (inr (inl five)) = (λ e. omega (arith, five, e), λ e. omeg
 other_number status (inr (inr six)) = (λ e. omega (arith, six, e), λ e. omega (arith, six, e), λ e. omega (arith, six, e))
 
 -- no text goes with status 4
-pub not_four : {built : Built} {answer : Config → ℕ → List ℕ → Type 0} {before after : SourceView} (status : ℕ) (text : List ℕ) → Tells built answer before after status text → status ≢ 4
+pub not_four : {answer : Config → ℕ → List ℕ → Type 0} {before after : SourceView} (status : ℕ) (text : List ℕ) → Tells answer before after status text → status ≢ 4
 not_four status text (answered config own told outcome quiet reads right) e = (other_number status outcome).2 e
 not_four status text (faulty n cause quiet shown) e = absurd (omega arith)
 not_four status text (unfinished quiet short) e = absurd (omega arith)
@@ -39,7 +38,7 @@ not_four status text (unread rose faultless) e = absurd (omega arith)
 not_four status text (no_memory quiet) e = absurd (omega arith)
 
 -- nor with status 1
-pub not_one : {built : Built} {answer : Config → ℕ → List ℕ → Type 0} {before after : SourceView} (status : ℕ) (text : List ℕ) → Tells built answer before after status text → status ≢ 1
+pub not_one : {answer : Config → ℕ → List ℕ → Type 0} {before after : SourceView} (status : ℕ) (text : List ℕ) → Tells answer before after status text → status ≢ 1
 not_one status text (answered config own told outcome quiet reads right) e = (other_number status outcome).0 e
 not_one status text (faulty n cause quiet shown) e = absurd (omega arith)
 not_one status text (unfinished quiet short) e = absurd (omega arith)
@@ -47,7 +46,7 @@ not_one status text (unread rose faultless) e = absurd (omega arith)
 not_one status text (no_memory quiet) e = absurd (omega arith)
 
 -- with status 3 a read failed
-pub told_read : {built : Built} {answer : Config → ℕ → List ℕ → Type 0} {before after : SourceView} (status : ℕ) (text : List ℕ) → Tells built answer before after status text → status ≡ 3 → Rose before.failures after.failures
+pub told_read : {answer : Config → ℕ → List ℕ → Type 0} {before after : SourceView} (status : ℕ) (text : List ℕ) → Tells answer before after status text → status ≡ 3 → Rose before.failures after.failures
 told_read status text (answered config own told outcome quiet reads right) e = absurd ((other_number status outcome).1 e)
 told_read status text (faulty n cause quiet shown) e = absurd (omega arith)
 told_read status text (unfinished quiet short) e = absurd (omega arith)
@@ -55,25 +54,25 @@ told_read status text (unread rose faultless) e = rose
 told_read status text (no_memory quiet) e = absurd (omega arith)
 
 -- over a trace that is read without a failure the status is that of an answer, or 7
-pub told_answered : {built : Built} {answer : Config → ℕ → List ℕ → Type 0} {before after : SourceView} (P : ℕ → Type 0)
+pub told_answered : {answer : Config → ℕ → List ℕ → Type 0} {before after : SourceView} (P : ℕ → Type 0)
     → ((config : Config) (status : ℕ) (text : List ℕ) → IsOutcome status → answer config status text → P status)
-    → (status : ℕ) (text : List ℕ) → Tells built answer before after status text → IsTrace built before → (Rose before.failures after.failures → ⊥) → P status ⊎ (status ≡ 7)
+    → (status : ℕ) (text : List ℕ) → Tells answer before after status text → IsTrace before → (Rose before.failures after.failures → ⊥) → P status ⊎ (status ≡ 7)
 told_answered P its status text (answered config own told outcome quiet reads right) trace unfailed = inl (its config status text outcome right)
-told_answered {built} {after = after} P its status text (faulty n cause quiet shown) trace unfailed =
-    absurd (one_meaning n cause trace.1.0 _ trace.1.2 (subst (λ b. IfSome b (λ t. (trace_of built t ≡ Faulty n cause) × HasShown built t after.left)) trace.1.1 shown).0)
-told_answered {built} {after = after} P its status text (unfinished quiet short) trace unfailed =
-    absurd (not_short trace.1.0 _ trace.1.2 (subst (λ b. IfSome b (λ t. (trace_of built t ≡ meaning.Unfinished) × (after.left ≡ Some []))) trace.1.1 short).0)
+told_answered {after = after} P its status text (faulty n cause quiet shown) trace unfailed =
+    absurd (one_meaning n cause trace.1.0 _ trace.1.2 (subst (λ b. IfSome b (λ t. (trace_of t ≡ Faulty n cause) × HasShown t after.left)) trace.1.1 shown).0)
+told_answered {after = after} P its status text (unfinished quiet short) trace unfailed =
+    absurd (not_short trace.1.0 _ trace.1.2 (subst (λ b. IfSome b (λ t. (trace_of t ≡ meaning.Unfinished) × (after.left ≡ Some []))) trace.1.1 short).0)
 told_answered P its status text (unread rose faultless) trace unfailed = absurd (unfailed rose)
 told_answered P its status text (no_memory quiet) trace unfailed = inr refl
 
 -- so it is that of an outcome, or 7
-pub told_complete : {built : Built} {answer : Config → ℕ → List ℕ → Type 0} {before after : SourceView} (status : ℕ) (text : List ℕ) → Tells built answer before after status text
-    → IsTrace built before → (Rose before.failures after.failures → ⊥) → IsOutcome status ⊎ (status ≡ 7)
+pub told_complete : {answer : Config → ℕ → List ℕ → Type 0} {before after : SourceView} (status : ℕ) (text : List ℕ) → Tells answer before after status text
+    → IsTrace before → (Rose before.failures after.failures → ⊥) → IsOutcome status ⊎ (status ≡ 7)
 told_complete status text tells trace unfailed = told_answered IsOutcome (λ config own told outcome right. outcome) status text tells trace unfailed
 
 -- the same of the status that is answered
-module _ {built : Built} {answer : Config → ℕ → List ℕ → Type 0} {before after : SourceView} {sink sink' : SinkView} {result : ℕ}
-    (c : Concludes (Tells built answer before after) sink sink' result) where
+module _ {answer : Config → ℕ → List ℕ → Type 0} {before after : SourceView} {sink sink' : SinkView} {result : ℕ}
+    (c : Concludes (Tells answer before after) sink sink' result) where
   pub read_status : result ≡ 3 → Rose before.failures after.failures
   read_status three =
       elim (its_status c) [
@@ -82,31 +81,31 @@ module _ {built : Built} {answer : Config → ℕ → List ℕ → Type 0} {befo
       ]
 
   pub answered_status : (P : ℕ → Type 0) → ((config : Config) (status : ℕ) (text : List ℕ) → IsOutcome status → answer config status text → P status)
-      → IsTrace built before → (Rose before.failures after.failures → ⊥) → (Rose sink.failures sink'.failures → ⊥) → (Rose sink.stalls sink'.stalls → ⊥) → P result ⊎ (result ≡ 7)
+      → IsTrace before → (Rose before.failures after.failures → ⊥) → (Rose sink.failures sink'.failures → ⊥) → (Rose sink.stalls sink'.stalls → ⊥) → P result ⊎ (result ≡ 7)
   answered_status P its trace unfailed written kept =
       let is = unfailed_status c written kept in
       elim (told_answered P its c.status c.text c.tells_it trace unfailed) [ inl right ↦ inl (subst P (sym is) right) | inr seven ↦ inr (is ∙ seven) ]
 
-  pub complete_status : IsTrace built before → (Rose before.failures after.failures → ⊥) → (Rose sink.failures sink'.failures → ⊥) → (Rose sink.stalls sink'.stalls → ⊥)
+  pub complete_status : IsTrace before → (Rose before.failures after.failures → ⊥) → (Rose sink.failures sink'.failures → ⊥) → (Rose sink.stalls sink'.stalls → ⊥)
       → IsOutcome result ⊎ (result ≡ 7)
   complete_status = answered_status IsOutcome (λ config own told outcome right. outcome)
 
 -- what the answer of the reader tells
-pub fault_tells : {built : Built} (answer : Config → ℕ → List ℕ → Type 0) {before after : SourceView} (f : TraceFault)
-    → IfSome before.left (λ text. Answers built (Err f) text after.left) → FaultsBy (Err f) before.failures after.failures → Tells built answer before after (fault_status f) (fault_told f)
+pub fault_tells : (answer : Config → ℕ → List ℕ → Type 0) {before after : SourceView} (f : TraceFault)
+    → IfSome before.left (λ text. Answers (Err f) text after.left) → FaultsBy (Err f) before.failures after.failures → Tells answer before after (fault_status f) (fault_told f)
 fault_tells answer (fault.Line n cause) means counts = faulty n cause counts means
 fault_tells answer fault.Unfinished means counts = unfinished counts means
 fault_tells answer fault.ReadFault means counts = unread counts means
 fault_tells answer fault.NoMemory means counts = no_memory counts
 
 -- the outcome of a configuration that was read, and that of a trace that gives none
-pub concludes_answered : {built : Built} {answer : Config → ℕ → List ℕ → Type 0} {before after : SourceView} {sink sink' : SinkView} {result : ℕ} (config : Config)
-    → IfSome before.left (λ text. Answers built (Ok config) text after.left) → FaultsBy (Ok config) before.failures after.failures
-    → EndsAnswered (answer config) sink sink' result → Concludes (Tells built answer before after) sink sink' result
+pub concludes_answered : {answer : Config → ℕ → List ℕ → Type 0} {before after : SourceView} {sink sink' : SinkView} {result : ℕ} (config : Config)
+    → IfSome before.left (λ text. Answers (Ok config) text after.left) → FaultsBy (Ok config) before.failures after.failures
+    → EndsAnswered (answer config) sink sink' result → Concludes (Tells answer before after) sink sink' result
 concludes_answered config means counts (inl told) = record { status = told.status; text = told.text; tells_it = answered config told.status told.text told.outcome counts means told.answers; ends = told.ends }
 concludes_answered config means counts (inr none) = record { status = 7; text = status_line 7; tells_it = no_memory counts; ends = none }
 
-pub concludes_fault : {built : Built} {answer : Config → ℕ → List ℕ → Type 0} {before after : SourceView} {sink sink' : SinkView} {result : ℕ} (f : TraceFault)
-    → IfSome before.left (λ text. Answers built (Err f) text after.left) → FaultsBy (Err f) before.failures after.failures
-    → Ends sink sink' (fault_status f) (fault_told f) result → Concludes (Tells built answer before after) sink sink' result
+pub concludes_fault : {answer : Config → ℕ → List ℕ → Type 0} {before after : SourceView} {sink sink' : SinkView} {result : ℕ} (f : TraceFault)
+    → IfSome before.left (λ text. Answers (Err f) text after.left) → FaultsBy (Err f) before.failures after.failures
+    → Ends sink sink' (fault_status f) (fault_told f) result → Concludes (Tells answer before after) sink sink' result
 concludes_fault {answer = answer} f means counts ends = record { status = fault_status f; text = fault_told f; tells_it = fault_tells answer f means counts; ends = ends }

@@ -1,7 +1,7 @@
 -- The lines that say what is wrong with a trace. Source: this project's own.
 use Rattle.std.specs.Prelude.{ℕ, List, ◌++◌, codes, decimal}
 use Rattle.trace_words.specs.declared.cause.Cause.{Cause}
-use Rattle.trace_words.specs.declared.cause.Cause.TheVariants.{LineTooLong, NotAscii, TooMany, UnknownWord, Misplaced, NoSuch, BadNumber, OutOfRange, Unaligned, Repeated, NotBuilt}
+use Rattle.trace_words.specs.declared.cause.Cause.TheVariants.{LineTooLong, NotAscii, TooMany, UnknownWord, Misplaced, NoSuch, BadNumber, OutOfRange, Unaligned, Repeated}
 use Rattle.trace_reader.specs.declared.fault.TraceFault.{TraceFault}
 use Rattle.trace_reader.specs.declared.fault.TraceFault.TheVariants as fault
 use Rattle.pager_model.specs.Text.{ended, status_line}
@@ -18,7 +18,6 @@ cause_text BadNumber = codes "BADNUMBER"
 cause_text OutOfRange = codes "OUTOFRANGE"
 cause_text Unaligned = codes "UNALIGNED"
 cause_text Repeated = codes "REPEATED"
-cause_text NotBuilt = codes "NOTBUILT"
 
 abbrev pub fault_text : ℕ → Cause → List ℕ
 fault_text n cause = ended (codes "TRACE " ++ decimal n ++ codes " " ++ cause_text cause)

@@ -28,7 +28,6 @@ pub fn name_of(cause: Cause) -> &'static [u8]
         Cause::OutOfRange => b"OUTOFRANGE",
         Cause::Unaligned => b"UNALIGNED",
         Cause::Repeated => b"REPEATED",
-        Cause::NotBuilt => b"NOTBUILT",
     }
 }
 

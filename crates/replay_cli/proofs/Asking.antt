@@ -4,7 +4,7 @@ use Rattle.study_command.specs.CommandLine.{AsksFor}
 use Rattle.study_command.specs.declared.words.Study.{Study as Wanted}
 use Rattle.replay_cli.specs.Commands.{Asks}
 use Rattle.replay_cli.specs.MakeLine.{AsksToMake}
-use Rattle.replay_cli.specs.declared.make_words.Make.{Make as Made}
+use Rattle.make_summary.specs.declared.make.Make.{Make as Made}
 use Rattle.replay_cli.specs.declared.words.Command.{Command}
 use Rattle.replay_cli.specs.declared.words.Command.TheVariants.{Serial, Study, Make}
 

@@ -1,6 +1,6 @@
 -- A made trace's run is an answer.
-use Rattle.std.proofs.Common.{◌≡◌, ℕ, Bool, List, ◌++◌, refl, ◌∙◌, ap, subst, inl, inr}
-use Rattle.std.specs.Prelude.{◌⊎◌, Option, reverse}
+use Rattle.std.proofs.Common.{◌≡◌, ℕ, Bool, List, ◌++◌, ◌∙◌, ap, subst, inl, inr}
+use Rattle.std.specs.Prelude.{Option}
 use Rattle.vm_types.specs.Configuration.{IsWellFormed}
 use Rattle.vm_types.specs.declared.config.Config.{Config}
 use Rattle.vm_types.specs.declared.names.BlockId.{BlockId}
@@ -16,9 +16,9 @@ use Rattle.serial_run.specs.declared.finished.Finished.{Finished}
 use Rattle.trace_maker.specs.Made.{made_config}
 use Rattle.replay_cli.specs.DepotView.{DepotView, depot_view}
 use Rattle.replay_cli.specs.MakeAnswer.{IsCountedRun, IsMakeAnswer, MakeTells, made, no_memory}
-use Rattle.replay_cli.specs.MakeText.{make_lines}
+use Rattle.make_summary.specs.MakeText.{make_lines}
 use Rattle.replay_cli.specs.SerialAnswer.{IsRunOver, status_of}
-use Rattle.replay_cli.specs.declared.make_words.Make.{Make}
+use Rattle.make_summary.specs.declared.make.Make.{Make}
 use Rattle.replay_cli.proofs.Finishing.{run_over}
 
 -- what `make` tells, by how it ends

@@ -1,21 +1,20 @@
 -- What follows from what the program tells.
-use Rattle.std.proofs.Common.{◌≡◌, ◌≢◌, ℕ, List, [], ◌∷◌, ◌++◌, refl, sym, ◌∙◌, subst, arith, inl, inr, codes}
+use Rattle.std.proofs.Common.{◌≡◌, ◌≢◌, ℕ, List, ◌∷◌, ◌++◌, refl, sym, ◌∙◌, subst, arith, inl, inr}
 use Rattle.std.specs.Prelude.{◌⊎◌}
 use Rattle.vm_types.specs.declared.config.Config.{Config}
 use Rattle.outside_io.specs.Causes.{Rose}
 use Rattle.outside_io.specs.Views.{SinkView, SourceView}
-use Rattle.trace_lines.specs.declared.built.Built.TheVariants.{All}
 use Rattle.pager_model.specs.Run.{pager_after}
 use Rattle.pager_model.specs.Text.{dirty_pages}
 use Rattle.trace_maker.specs.Made.{made_config}
-use Rattle.program_ends.specs.Concludes.{Concludes, IsOutcome}
+use Rattle.program_ends.specs.Concludes.{Concludes}
 use Rattle.program_ends.specs.Tells.{IsTrace, Tells, answered, faulty, unfinished, unread, no_memory}
 use Rattle.program_ends.proofs.Concluding.{its_status, unfailed_status}
 use Rattle.program_ends.proofs.Telling as telling
 use Rattle.study_command.specs.StudyText.{IsStudyAnswer}
 use Rattle.replay_cli.specs.Commands.{Asks, HasInput, Obeys, Told, usage, obeyed}
 use Rattle.replay_cli.specs.MakeAnswer.{IsMakeAnswer, MakeTells, made as counted, no_memory as memory_out}
-use Rattle.replay_cli.specs.declared.make_words.Make.{Make}
+use Rattle.make_summary.specs.declared.make.Make.{Make}
 use Rattle.replay_cli.specs.DepotView.{DepotView}
 use Rattle.replay_cli.specs.SerialAnswer.{IsSerialAnswer}
 use Rattle.replay_cli.specs.declared.words.Command.{Command}
@@ -77,14 +76,14 @@ unfailed_ending depot depot' status made (inr none) = absurd (made none.1)
 
 module _ (depot depot' : DepotView) {before after : SourceView} (answer : Config → ℕ → List ℕ → Type 0)
     (ending : (config : Config) (status : ℕ) (text : List ℕ) → answer config status text → HasEnding depot depot' status) where
-  told_made : (status : ℕ) (text : List ℕ) → Tells All answer before after status text → status ≡ 6 → Rose depot.failures depot'.failures
+  told_made : (status : ℕ) (text : List ℕ) → Tells answer before after status text → status ≡ 6 → Rose depot.failures depot'.failures
   told_made status text (answered config own t outcome quiet reads right) e = six depot depot' status (ending config status text right) e
   told_made status text (faulty n cause quiet shown) e = absurd (omega arith)
   told_made status text (unfinished quiet short) e = absurd (omega arith)
   told_made status text (unread rose faultless) e = absurd (omega arith)
   told_made status text (no_memory quiet) e = absurd (omega arith)
 
-  tells_holds : (status : ℕ) (text : List ℕ) → Tells All answer before after status text → Holds (IsTrace All before) before after depot depot' status
+  tells_holds : (status : ℕ) (text : List ℕ) → Tells answer before after status text → Holds (IsTrace before) before after depot depot' status
   tells_holds status text told = record {
     not_four = telling.not_four status text told;
     not_one = telling.not_one status text told;

@@ -1,9 +1,8 @@
 -- What `serial` tells, by what reading and running answer.
-use Rattle.std.proofs.Common.{◌≡◌, ℕ, List, refl, arith, inl, inr}
+use Rattle.std.proofs.Common.{◌≡◌, ℕ, refl, arith, inl, inr}
 use Rattle.std.specs.Prelude.{◌⊎◌, IfSome, Ok, Err}
 use Rattle.vm_types.specs.declared.config.Config.{Config}
 use Rattle.outside_io.specs.Views.{SinkView, SourceView}
-use Rattle.trace_lines.specs.declared.built.Built.TheVariants.{All}
 use Rattle.trace_reader.specs.Answer.{Answers, FaultsBy}
 use Rattle.trace_reader.specs.declared.fault.TraceFault.{TraceFault}
 use Rattle.pager_model.specs.Text.{status_line}
@@ -29,7 +28,7 @@ not_early status outcome early =
 
 module _ {before after : SourceView} {depot depot' : DepotView} {sink sink' : SinkView} {result : ℕ} where
   -- the trace was read, and its configuration was answered
-  pub concludes_run : (config : Config) → IfSome before.left (λ text. Answers All (Ok config) text after.left) → FaultsBy (Ok config) before.failures after.failures
+  pub concludes_run : (config : Config) → IfSome before.left (λ text. Answers (Ok config) text after.left) → FaultsBy (Ok config) before.failures after.failures
       → EndsAnswered (IsSerialAnswer depot depot' config) sink sink' result → Concludes (SerialTells before after depot depot') sink sink' result
   concludes_run config means counts (inl told) = record {
     status = told.status;
@@ -52,7 +51,7 @@ module _ {before after : SourceView} {depot depot' : DepotView} {sink sink' : Si
 
 -- there is no configuration, and no block was made
 pub concludes_unread : {before after : SourceView} {depot : DepotView} {sink sink' : SinkView} {result : ℕ} (f : TraceFault)
-    → IfSome before.left (λ text. Answers All (Err f) text after.left) → FaultsBy (Err f) before.failures after.failures
+    → IfSome before.left (λ text. Answers (Err f) text after.left) → FaultsBy (Err f) before.failures after.failures
     → Ends sink sink' (fault_status f) (fault_told f) result → Concludes (SerialTells before after depot depot) sink sink' result
 concludes_unread {depot = depot} f means counts ends = record {
   status = fault_status f;

@@ -2,7 +2,6 @@
 -- Source: this project's own.
 use Rattle.std.specs.Prelude.{◌≡◌, ◌⊎◌, ℕ, ◌≤◌, List, [], ◌∷◌, codes}
 use Rattle.outside_io.specs.Views.{SourceView}
-use Rattle.trace_lines.specs.declared.built.Built.TheVariants.{All}
 use Rattle.pager_model.specs.Text.{status_line}
 use Rattle.program_ends.specs.Tells.{IsTrace, Tells}
 use Rattle.study_command.specs.CommandLine.{AsksFor}
@@ -28,20 +27,20 @@ IsBounded (Make make) = IsMakeable make
 
 -- the source tells what it reads: a trace, or nothing
 abbrev pub HasInput : Command → SourceView → Type 0
-HasInput Serial before = IsTrace All before
-HasInput (Study study) before = IsTrace All before
+HasInput Serial before = IsTrace before
+HasInput (Study study) before = IsTrace before
 HasInput (Make make) before = Unit {0}
 
 -- what `serial` tells: no block is made for input that is no trace or can't be read
 pub record SerialTells (before after : SourceView) (depot depot' : DepotView) (status : ℕ) (text : List ℕ) : Type 0 where
-  pub tells : Tells All (IsSerialAnswer depot depot') before after status text
+  pub tells : Tells (IsSerialAnswer depot depot') before after status text
   pub keeps : (status ≡ 2) ⊎ (status ≡ 3) → depot' ≡ depot
 
 -- what the command tells with a status, by what is seen of the source and of the depot before and after; a study
 -- makes no block, and `make` reads nothing
 abbrev pub Obeys : Command → SourceView → SourceView → DepotView → DepotView → ℕ → List ℕ → Type 0
 Obeys Serial before after depot depot' status text = SerialTells before after depot depot' status text
-Obeys (Study study) before after depot depot' status text = Tells All (IsStudyAnswer study) before after status text × (depot' ≡ depot)
+Obeys (Study study) before after depot depot' status text = Tells (IsStudyAnswer study) before after status text × (depot' ≡ depot)
 Obeys (Make make) before after depot depot' status text = MakeTells make depot depot' status text × (after ≡ before)
 
 -- the text that goes with a status, each with its cause: by the words, and by what is seen of the

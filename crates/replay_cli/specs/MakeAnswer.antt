@@ -6,9 +6,9 @@ use Rattle.pager_model.specs.Text.{status_line}
 use Rattle.trace_maker.specs.Made.{made_config}
 use Rattle.program_ends.specs.Concludes.{IsOutcome}
 use Rattle.replay_cli.specs.DepotView.{DepotView}
-use Rattle.replay_cli.specs.MakeText.{make_lines}
+use Rattle.make_summary.specs.MakeText.{make_lines}
 use Rattle.replay_cli.specs.SerialAnswer.{HasNoBlocks, IsRunOver, status_of}
-use Rattle.replay_cli.specs.declared.make_words.Make.{Make}
+use Rattle.make_summary.specs.declared.make.Make.{Make}
 
 -- the lines of the one finished run of the configuration that is made, its rundown included
 pub record IsCountedRun (make : Make) (before after : DepotView) (status : ℕ) (text : List ℕ) : Type 0 where

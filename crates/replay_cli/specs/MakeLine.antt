@@ -3,7 +3,7 @@ use Rattle.std.specs.Prelude.{◌≡◌, ℕ, ◌≤◌, List, Option, Some, cod
 use Rattle.trace_words.specs.Number.{decimal_within}
 use Rattle.study_command.specs.CommandLine.{if_right}
 use Rattle.study_command.specs.Options.{HasThree}
-use Rattle.replay_cli.specs.declared.make_words.Make.{Make}
+use Rattle.make_summary.specs.declared.make.Make.{Make}
 
 -- one to ten digits, in the range
 abbrev pub if_number : ℕ → ℕ → List ℕ → Option ℕ

@@ -20,7 +20,7 @@ use run_text::print_run;
 use serial_run::{RunFault, run_serial};
 use std::alloc::Global;
 use study_command::study_trace;
-use trace_reader::{Built, read_trace};
+use trace_reader::read_trace;
 use vm_types::Config;
 
 /// Runs a configuration over blocks of the depot, and writes what it did.
@@ -67,7 +67,7 @@ fn serial<S: Source, K: Sink, D: Depot>(
     ensures faults_later { S.faults source.old ≤ S.faults source.new }
     ensures depot_later { D.faults depot.old ≤ D.faults depot.new }
 {
-    match read_trace(source, alloc, Built::All) {
+    match read_trace(source, alloc) {
         Ok(config) => run_config(alloc, config, sink, depot),
         Err(fault) => end_fault(fault, sink),
     }

@@ -4,13 +4,12 @@
 #![tactic(auto)]
 
 mod cli;
-mod counting;
 mod make_run;
 mod make_words;
 mod words;
 
 pub use cli::run_one;
-pub use make_words::Make;
+pub use make_summary::Make;
 pub use program_ends::Status;
 pub use words::{Command, command_of};
 

@@ -6,14 +6,13 @@ ghost use Rattle.pager_model.specs.Text.{status_line};
 ghost use Rattle.program_ends.specs.Concludes.{EndsAnswered};
 ghost use Rattle.program_ends.specs.Ends.{Ends};
 ghost use Rattle.run_text.specs.Parts.{run_status};
+ghost use Rattle.make_summary.specs.MakeText.{make_lines};
 ghost use Rattle.replay_cli.specs.DepotView.{depot_view};
 ghost use Rattle.replay_cli.specs.MakeAnswer.{IsMakeAnswer};
 ghost use Rattle.replay_cli.specs.MakeLine.{IsMakeable};
-ghost use Rattle.replay_cli.specs.MakeText.{make_lines};
 
-use crate::counting::print_counts;
-use crate::make_words::Make;
 use disk_trait::{Block, Depot};
+use make_summary::{Make, print_summary};
 use outside_io::Sink;
 use pager_laws::runs_are_sound;
 use program_ends::{Status, end_with};
@@ -36,7 +35,7 @@ fn end_made<K: Sink>(make: Make, entries: &[Entry], dirty: &[Page], sink: &mut K
         (sink_view (K.taken sink.new) (K.faults sink.new) (K.stalls sink.new)) (run_status dirty.now)
         (make_lines make entries.now ++ status_line (run_status dirty.now)) result.0 }
 {
-    match print_counts(make, entries, sink) {
+    match print_summary(make, entries, sink) {
         Ok(()) => end_with(status_of(dirty), sink),
         Err(_) => Status(4),
     }

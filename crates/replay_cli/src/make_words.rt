@@ -1,20 +1,10 @@
 ghost use Rattle.std.specs.Prelude.{◌≡◌, ◌≤◌, ℕ, List, IfSome, IfNone, map};
 ghost use Rattle.replay_cli.specs.MakeLine.{AsksToMake, IsMakeable, if_number};
-ghost use Rattle.replay_cli.specs.declared.make_words.Make.{Make};
+ghost use Rattle.make_summary.specs.declared.make.Make.{Make};
 
+use make_summary::Make;
 use study_command::three_options;
 use trace_words::decimal_within;
-
-/// Which trace to make.
-#[derive(Clone, Copy, Debug, PartialEq, Eq)]
-pub struct Make {
-    /// The state in which the generator begins.
-    pub seed: u32,
-    /// Processes, 1 to 16.
-    pub procs: u32,
-    /// References, 1 to 100,000.
-    pub refs: u32,
-}
 
 // The number, if it is in the range.
 fn number_of(low: u32, high: u32, word: &[u8]) -> Option<u32>

@@ -7,6 +7,7 @@ mod rows;
 mod sections;
 mod services;
 mod several_processes;
+mod sizes;
 mod swapping;
 
 use crate::{Status, run_one};

@@ -2,7 +2,8 @@ ghost use Rattle.std.specs.Prelude.{IfSome, IfNone, map};
 ghost use Rattle.replay_cli.specs.Commands.{Asks, IsBounded};
 ghost use Rattle.replay_cli.specs.declared.words.Command.{Command};
 
-use crate::make_words::{Make, make_of};
+use crate::make_words::make_of;
+use make_summary::Make;
 use study_command::{Study, first_word, study_of};
 use vm_text::is;
 

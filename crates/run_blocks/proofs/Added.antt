@@ -1,18 +1,14 @@
 -- What one block more, and some blocks more, make of those that were made.
-use Rattle.std.proofs.Common.{◌≡◌, ℕ, ◌+◌, ◌≤◌, Bool, true, false, List, [], ◌∷◌, ◌++◌, Option, Some, None, map, refl, sym, ap, ◌∙◌, subst, append_assoc, append-nil, arith}
+use Rattle.std.proofs.Common.{◌≡◌, ℕ, ◌+◌, ◌≤◌, Bool, true, false, List, [], ◌∷◌, ◌++◌, Option, Some, map, refl, sym, ap, ◌∙◌, subst, append_assoc, append-nil, arith}
 use Rattle.std.specs.List.{range_with_len}
 use Rattle.std.proofs.lemmas.List.FromFn.{map-range_with_len_more}
-use Rattle.std.specs.Prelude.{All, min}
 use Rattle.std.proofs.lemmas.List.{map-append}
 use Rattle.std.proofs.lemmas.List.Elements.{All-push}
 use Rattle.vm_types.specs.declared.config.Config.{Config}
 use Rattle.vm_types.specs.declared.names.BlockId.{BlockId}
-use Rattle.vm_types.specs.declared.names.BlockId.TheVariants as block
-use Rattle.vm_types.specs.declared.names.SecId.{SecId}
 use Rattle.disk_trait.specs.Causes.{Rose}
 use Rattle.disk_trait.specs.Told.{told}
 use Rattle.pager_model.specs.Fits.{told_of}
-use Rattle.pager_model.specs.Maps.{section_bytes}
 use Rattle.pager_model.specs.Told.{plan_of, told_plan}
 use Rattle.run_blocks.specs.Adds.{Adds, AreFirst, AreMade, names_of}
 use Rattle.vm_state.specs.Made.{IsMade}

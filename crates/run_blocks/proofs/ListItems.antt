@@ -1,5 +1,5 @@
 -- Items of a list: one that is read, and the first that passes a test, while those before it are passed.
-use Rattle.std.proofs.Common.{◌≡◌, ℕ, ◌+◌, ◌<◌, ◌≤◌, Bool, true, false, cond, List, ◌∷◌, Option, Some, None, drop, find, get_or, length, refl, ap, ◌∙◌, sym, subst, add-one, drop-cons}
+use Rattle.std.proofs.Common.{◌≡◌, ℕ, ◌+◌, ◌<◌, ◌≤◌, Bool, true, false, List, ◌∷◌, Some, None, drop, find, get_or, length, ap, ◌∙◌, sym, subst, add-one, drop-cons}
 use Rattle.std.proofs.lemmas.List.{drop_all}
 use Rattle.std.proofs.lemmas.Option.{get_or_from_slice_get, slice_get-get_or}
 use Rattle.pager_rules.proofs.Basics.{find_cons_no, find_cons_yes}

@@ -1,9 +1,8 @@
 -- Blocks that are made one after another. This project's own.
-use Rattle.std.specs.Prelude.{◌≡◌, ℕ, Bool, true, List, ◌++◌, Option, All, map}
+use Rattle.std.specs.Prelude.{◌≡◌, ℕ, Bool, List, ◌++◌, Option, All, map}
 use Rattle.vm_types.specs.declared.config.Config.{Config}
 use Rattle.vm_types.specs.declared.names.BlockId.{BlockId}
 use Rattle.vm_types.specs.declared.names.BlockId.TheVariants as block
-use Rattle.vm_types.specs.declared.names.SecId.{SecId}
 use Rattle.pager_model.specs.Fits.{told_of}
 use Rattle.pager_model.specs.Maps.{section_bytes}
 use Rattle.vm_state.specs.Made.{IsMade}

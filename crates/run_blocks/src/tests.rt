@@ -6,7 +6,7 @@ use disk_trait::{Block, MakeFault, MemoryDepot};
 use outside_io::MemorySource;
 use std::alloc::Global;
 use std::test::Fail;
-use trace_reader::{Built, read_trace};
+use trace_reader::read_trace;
 use vm_types::{BlockId, Config, Proc, SecId};
 
 /// A section of two pages, a page file of one block, and processes with two and three swap blocks. The
@@ -19,7 +19,7 @@ fn small(alloc: Global) -> Result<Config, Fail>
     ensures { IfOk result IsWellFormed }
 {
     let mut source = MemorySource::new(SMALL.to_vec(alloc)?, Vec::new(alloc));
-    match read_trace(&mut source, alloc, Built::All) {
+    match read_trace(&mut source, alloc) {
         Ok(config) => Ok(config),
         Err(_) => Err(Fail::from("a trace")),
     }

@@ -16,8 +16,7 @@ use Rattle.pager_model.specs.Flights.{is_busy}
 use Rattle.call_steps.specs.MayBegin.{MayBegin, empty}
 use Rattle.serial_laws.specs.Controlled.{IsLeft}
 use Rattle.serial_laws.proofs.Walks.{task_formed}
-use Rattle.modified_writer.specs.Begins.{Begins, IsCarrying, begin_of}
-use Rattle.modified_writer.specs.declared.begun.Begin.{Begin}
+use Rattle.modified_writer.specs.Begins.{Begins, begin_of}
 use Rattle.modified_writer.specs.declared.begun.Begin.TheVariants.{Carry, Nothing, Room}
 use Rattle.vm_state.specs.CarrierView.{CarrierView}
 use Rattle.vm_state.specs.History.{History, owed, pager}

@@ -1,8 +1,7 @@
 -- A step of a process that comes back, as a move of the serial policy.
-use Rattle.std.proofs.Common.{◌≡◌, ℕ, Bool, List, [], Option, refl, sym, ap, ◌∙◌, subst}
+use Rattle.std.proofs.Common.{◌≡◌, ℕ, Bool, List, Option, refl, sym, ap, subst}
 use Rattle.vm_types.specs.declared.names.Seat.{Seat}
-use Rattle.vm_journal.specs.declared.entry.What.{What}
-use Rattle.pager_model.specs.Moves.{After, Control as ControlIs, Move, asking, carries, control, makes, rests}
+use Rattle.pager_model.specs.Moves.{After, Control as ControlIs, Move, asking, carries, control, makes}
 use Rattle.pager_model.specs.Policy.{come_move_by, ends_request, unless_all_failed}
 use Rattle.pager_model.specs.Swap.{GivenSwap, SwapIs, come_gives, swap_again, swap_carry, swap_in_flight, swap_modified_full, swap_more, swap_no_frame, swap_settled}
 use Rattle.vm_swapper.specs.Swaps.{Swaps}
@@ -16,7 +15,7 @@ use Rattle.move_steps.specs.CarriedOn.{IsCarriedOn, IsLoaded, MayRefuse}
 use Rattle.move_steps.specs.Moved.{IsMoveHere, IsMoved, IsResting, IsSteady}
 use Rattle.move_steps.proofs.Entries.{quiet_mute, starts_mute}
 use Rattle.move_steps.proofs.Moving.{carries_move, loaded, makes_move, may_refuse}
-use Rattle.move_steps.proofs.Shapes.{AreQuiet, AreStarts, SwapShape, come_shape}
+use Rattle.move_steps.proofs.Shapes.{AreQuiet, SwapShape, come_shape}
 use Rattle.serial_moves.specs.Requests.{come_move, finding_for}
 use Rattle.serial_moves.proofs.LeftProcesses.{carry_is, full_is, in_flight_is, more_is, no_frame_is, settled_is}
 use Rattle.serial_moves.proofs.SteadySeats.{rests_there, unchanged}

@@ -1,5 +1,5 @@
 -- Who finds a frame, and its move.
-use Rattle.std.proofs.Common.{◌≡◌, ℕ, suc, ◌+◌, ◌-◌, ◌<◌, ◌≤◌, Bool, true, false, cond, ◌&&◌, not, List, [], ◌∷◌, Option, Some, None, find, length, nat_eq, nat_lt, refl, sym, ap, ◌∙◌, subst, arith}
+use Rattle.std.proofs.Common.{◌≡◌, ℕ, suc, ◌+◌, ◌-◌, ◌<◌, ◌≤◌, Bool, true, false, cond, not, List, [], ◌∷◌, Option, Some, None, find, length, nat_eq, nat_lt, refl, sym, ap, ◌∙◌, arith}
 use Rattle.std.specs.List.{range_with_len}
 use Rattle.std.specs.Option.{option_map}
 use Rattle.std.proofs.lemmas.Bool.{and_parts, false≢true, le-ltb, lt-ltb}
@@ -20,7 +20,7 @@ use Rattle.pager_rules.proofs.Lists.{found_passes}
 use Rattle.call_steps.proofs.Steps.{paid_after}
 use Rattle.serial_laws.proofs.Finds.{found_in_range}
 use Rattle.serial_laws.proofs.Kept.{turns_legal}
-use Rattle.vm_state.specs.History.{History, MayAdd, added, entry_by, owed, pager}
+use Rattle.vm_state.specs.History.{History, MayAdd, added, entry_by, pager}
 use Rattle.move_steps.specs.Moved.{IsMoveHere, IsMoved, IsSteady}
 use Rattle.move_steps.proofs.Moving.{makes_move}
 use Rattle.serial_moves.specs.Controls.{number_of}

@@ -1,5 +1,5 @@
 -- The next step of a reference, as a move of the serial policy.
-use Rattle.std.proofs.Common.{◌≡◌, ℕ, Bool, true, false, List, [], ◌∷◌, Option, Some, None, map, refl, sym, ap, ◌∙◌, subst}
+use Rattle.std.proofs.Common.{◌≡◌, ℕ, Bool, true, false, List, [], Option, Some, None, map, refl, sym, ap, ◌∙◌, subst}
 use Rattle.std.specs.List.{AllByRecursion}
 use Rattle.std.proofs.lemmas.Option.{none-some, same_Some}
 use Rattle.vm_types.specs.declared.names.Seat.{Seat}
@@ -9,15 +9,15 @@ use Rattle.vm_types.specs.declared.service.Request.TheVariants as request
 use Rattle.vm_journal.specs.declared.entry.What.{What}
 use Rattle.pager_model.specs.Advance.{AgainWhy as Reason, GivenNext, NextIs, advance_gives, again_block_busy, again_charging, again_collided, again_modified_full, again_no_frame, again_not_resident, next_again, next_answered, next_carry, next_more}
 use Rattle.pager_model.specs.Flat.{flat_reply}
-use Rattle.pager_model.specs.Given.{made_by, with_reply}
-use Rattle.pager_model.specs.Moves.{After, Control as ControlIs, Move, asking, carries, control, makes, rests, saving}
-use Rattle.pager_model.specs.Policy.{advance_move_by, ends_request, finding_move, resident_move, unless_first_failed, writing_move}
+use Rattle.pager_model.specs.Given.{with_reply}
+use Rattle.pager_model.specs.Moves.{After, Control as ControlIs, Move, asking, carries, control, rests, saving}
+use Rattle.pager_model.specs.Policy.{advance_move_by, ends_request, resident_move, unless_first_failed, writing_move}
 use Rattle.pager_model.specs.Spoken.{IsRight, flat_after}
-use Rattle.fault_core.specs.Gives.{Gives, IsGiven, IsRightNext, again_of, last_reply, returned}
+use Rattle.fault_core.specs.Gives.{Gives, again_of, last_reply, returned}
 use Rattle.fault_core.specs.declared.next.AgainWhy.{AgainWhy}
 use Rattle.fault_core.specs.declared.next.AgainWhy.TheVariants.{BlockBusy, Charging, Collided, ModifiedFull, NoFrame, NotResident}
 use Rattle.fault_core.specs.declared.next.Next.{Next}
-use Rattle.fault_core.specs.declared.next.Next.TheVariants.{Again, Answered, Carry, More, Room}
+use Rattle.fault_core.specs.declared.next.Next.TheVariants.{Again, Answered, Carry, More}
 use Rattle.vm_state.specs.CarrierView.{CarrierView}
 use Rattle.vm_state.specs.History.{History, pager}
 use Rattle.vm_state.specs.LiftsLand.{added_each}
@@ -28,7 +28,7 @@ use Rattle.move_steps.proofs.Moving.{carries_move, loaded, makes_move, may_refus
 use Rattle.move_steps.proofs.Mute.{IsMute, mute_same}
 use Rattle.move_steps.proofs.Shapes.{AreStarts, EndsIn, NextShape, advance_shape}
 use Rattle.serial_moves.specs.Requests.{finding_for}
-use Rattle.serial_moves.proofs.Answered.{IsFlatShown, ends_right}
+use Rattle.serial_moves.proofs.Answered.{ends_right}
 use Rattle.serial_moves.proofs.SteadySeats.{rests_there, unchanged}
 
 -- ---- the answer of the model that a returned one stands for

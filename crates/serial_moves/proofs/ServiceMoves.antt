@@ -1,17 +1,16 @@
 -- The next step of a service, as a move of the serial policy.
-use Rattle.std.proofs.Common.{◌≡◌, ℕ, Bool, false, List, [], ◌∷◌, Option, Some, None, refl, sym, ap, ◌∙◌, subst}
+use Rattle.std.proofs.Common.{◌≡◌, ℕ, Bool, false, Option, Some, None, refl, sym, ap, ◌∙◌, subst}
 use Rattle.std.proofs.lemmas.Option.{none-some}
 use Rattle.vm_types.specs.declared.names.Seat.{Seat}
 use Rattle.vm_types.specs.declared.reply.Answer.{Answer}
 use Rattle.vm_types.specs.declared.service.Request.TheVariants as request
 use Rattle.vm_types.specs.declared.service.Service.{Service}
-use Rattle.vm_journal.specs.declared.entry.What.{What}
-use Rattle.pager_model.specs.Moves.{Control as ControlIs, Move, asking, control, makes, rests, saving}
+use Rattle.pager_model.specs.Moves.{Control as ControlIs, Move, asking, control, rests, saving}
 use Rattle.pager_model.specs.Policy.{ends_request, resident_move, serve_move_by, writing_move}
 use Rattle.pager_model.specs.Serve.{GivenServe, ServeIs, ServeWhy as Reason, serve_again, serve_answered, serve_gives, serve_in_flight, serve_modified_full, serve_more, serve_not_resident}
 use Rattle.vm_services.specs.Serves.{Serves, again_of, last_answer, returned}
 use Rattle.vm_services.specs.declared.next.ServeNext.{ServeNext}
-use Rattle.vm_services.specs.declared.next.ServeNext.TheVariants.{Again, Answered, More, Room}
+use Rattle.vm_services.specs.declared.next.ServeNext.TheVariants.{Again, Answered, More}
 use Rattle.vm_services.specs.declared.next.ServeWhy.{ServeWhy}
 use Rattle.vm_services.specs.declared.next.ServeWhy.TheVariants.{InFlight, ModifiedFull, NotResident}
 use Rattle.vm_state.specs.History.{History, pager}

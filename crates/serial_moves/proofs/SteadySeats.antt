@@ -1,5 +1,5 @@
 -- What a seat may begin between two moves of the serial policy, and what is left where it makes nothing.
-use Rattle.std.proofs.Common.{◌≡◌, ℕ, ◌+◌, ◌*◌, ◌<◌, ◌≤◌, Bool, cond, List, [], Option, Some, IfOk, length, refl, sym, ap, ◌∙◌, subst, arith}
+use Rattle.std.proofs.Common.{◌≡◌, ℕ, ◌+◌, ◌*◌, ◌<◌, ◌≤◌, Bool, cond, List, [], Option, IfOk, length, refl, sym, ap, ◌∙◌, subst, arith}
 use Rattle.std.specs.declared.result.Result.{Result}
 use Rattle.vm_types.specs.declared.faults.NoMemory.{NoMemory}
 use Rattle.vm_types.specs.declared.names.Seat.{Seat}

@@ -1,5 +1,5 @@
 -- One turn of a process, as a move of the serial policy.
-use Rattle.std.proofs.Common.{◌≡◌, ◌+◌, ◌≤◌, Bool, List, [], ◌∷◌, refl, sym, ◌∙◌, subst, arith}
+use Rattle.std.proofs.Common.{◌≡◌, Bool, [], ◌∷◌, refl, sym, ◌∙◌, subst, arith}
 use Rattle.vm_types.specs.declared.names.Proc.{Proc}
 use Rattle.vm_types.specs.declared.names.ProcStatus.{ProcStatus}
 use Rattle.vm_types.specs.declared.names.Seat.{Seat}
@@ -7,7 +7,7 @@ use Rattle.vm_journal.specs.declared.entry.What.TheVariants as what
 use Rattle.pager_model.specs.Moves.{Control as ControlIs, Move, makes}
 use Rattle.call_steps.proofs.Steps.{paid_after}
 use Rattle.serial_laws.proofs.Kept.{turns_legal}
-use Rattle.vm_state.specs.History.{History, MayAdd, added, entry_by, owed}
+use Rattle.vm_state.specs.History.{History, MayAdd, added, entry_by}
 use Rattle.move_steps.specs.Moved.{IsMoveHere, IsMoved, IsSteady}
 use Rattle.move_steps.proofs.Moving.{makes_move}
 use Rattle.serial_moves.proofs.SteadySeats.{nothing_due}

@@ -1,21 +1,19 @@
 -- The blocks that are given back are those of the configuration, each once.
-use Rattle.std.proofs.Common.{◌≡◌, ℕ, zero, suc, ◌+◌, ◌<◌, ◌≤◌, Bool, true, false, List, [], ◌∷◌, All, Option, Some, None, length, map, count_by, slice_get, slice_index_or, refl, sym, ap, ◌∙◌, subst, arith}
+use Rattle.std.proofs.Common.{◌≡◌, ℕ, zero, suc, ◌+◌, ◌<◌, Bool, true, false, List, [], ◌∷◌, Option, Some, length, map, count_by, slice_get, slice_index_or, refl, sym, ap, ◌∙◌, arith}
 use Rattle.std.specs.List.{AllByRecursion}
-use Rattle.std.proofs.lemmas.Bool.{false≢true}
 use Rattle.vm_types.specs.Same.{same_block}
 use Rattle.vm_types.specs.Configuration.{IsBlock}
 use Rattle.vm_types.specs.declared.config.Config.{Config}
 use Rattle.vm_types.specs.declared.names.BlockId.{BlockId}
 use Rattle.vm_journal.specs.declared.entry.Entry.{Entry}
 use Rattle.pager_model.specs.Asked.{IsAsked, Retired, is_retired}
-use Rattle.pager_model.specs.Fits.{told_of}
 use Rattle.pager_model.specs.Told.{IsCountedBlock}
 use Rattle.pager_model.specs.WrittenBack.{AreWrittenBack, IsUnwritten, IsWrittenBack}
 use Rattle.pager_rules.proofs.Basics.{count_cons_no, count_cons_yes}
 use Rattle.frame_store.specs.Blocks.{blocks_of, number_of}
 use Rattle.frame_store.proofs.Blocks.{is_block, number_only, number_there}
 use Rattle.frame_store.proofs.Places.{block_itself, blocks_equal}
-use Rattle.vm_state.specs.Ends.{AreGivenBack, IsGivenBack}
+use Rattle.vm_state.specs.Ends.{AreGivenBack}
 use Rattle.serial_run.specs.Ended.{given_back}
 
 -- ---- what is in one place alone is counted once

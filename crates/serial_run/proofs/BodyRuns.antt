@@ -1,13 +1,12 @@
 -- The moves of the body one after another.
-use Rattle.std.proofs.Common.{◌≡◌, ℕ, ◌<◌, ◌+◌, Bool, true, List, [], ◌∷◌, Option, Some, None, length, refl, sym, ap, ◌∙◌, subst}
+use Rattle.std.proofs.Common.{◌≡◌, ◌<◌, ◌+◌, Bool, true, List, [], ◌∷◌, length, refl, sym, ap, ◌∙◌, subst}
 use Rattle.vm_types.specs.declared.config.Config.{Config}
 use Rattle.vm_types.specs.Configuration.{IsWellFormed}
 use Rattle.vm_journal.specs.declared.entry.Entry.{Entry}
-use Rattle.pager_model.specs.Flights.{open_flights}
-use Rattle.pager_model.specs.Moves.{Control as ControlIs, asking, control, rests}
-use Rattle.pager_model.specs.Policy.{move_of, next_task}
+use Rattle.pager_model.specs.Moves.{Control as ControlIs, asking, control}
+use Rattle.pager_model.specs.Policy.{move_of}
 use Rattle.pager_model.specs.Run.{IsRun}
-use Rattle.pager_model.specs.Serial.{Heard, IsMade, IsMove, IsReached, IsSerial, IsSerialTo}
+use Rattle.pager_model.specs.Serial.{IsMove, IsSerial, IsSerialTo}
 use Rattle.pager_model.specs.Spoken.{IsRight}
 use Rattle.serial_laws.specs.Between.{IsBetween}
 use Rattle.serial_laws.specs.Controlled.{IsControlled, IsInBody}
@@ -17,8 +16,7 @@ use Rattle.vm_state.specs.History.{History}
 use Rattle.move_steps.specs.Moved.{IsMoved, IsResting, IsSameBut}
 use Rattle.move_steps.proofs.Moving.{same_then}
 use Rattle.serial_moves.specs.Carriers.{AreIdle}
-use Rattle.serial_moves.specs.Controls.{control_in, doing_in}
-use Rattle.serial_moves.specs.declared.control.Control.{Control}
+use Rattle.serial_moves.specs.Controls.{doing_in}
 use Rattle.serial_moves.specs.declared.control.Doing.{Doing}
 use Rattle.serial_moves.specs.declared.control.Doing.TheVariants.{Asking, Freeing, Saving}
 

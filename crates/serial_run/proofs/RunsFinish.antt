@@ -1,10 +1,10 @@
 -- A run that has ended, once its blocks are given back.
-use Rattle.std.proofs.Common.{◌≡◌, ℕ, Bool, List, ◌++◌, Option, length, map, reverse, refl, sym, ap, ◌∙◌, subst}
+use Rattle.std.proofs.Common.{◌≡◌, ℕ, Bool, List, ◌++◌, Option, map, reverse, sym, ap, ◌∙◌, subst}
 use Rattle.vm_types.specs.declared.config.Config.{Config}
 use Rattle.vm_types.specs.declared.names.BlockId.{BlockId}
 use Rattle.vm_journal.specs.declared.entry.Entry.{Entry}
 use Rattle.pager_model.specs.Asked.{IsAsked}
-use Rattle.pager_model.specs.Report.{Report, report_of}
+use Rattle.pager_model.specs.Report.{report_of}
 use Rattle.pager_model.specs.Run.{pager_after}
 use Rattle.pager_model.specs.Text.{dirty_pages}
 use Rattle.pager_model.specs.WrittenBack.{AreWrittenBack}

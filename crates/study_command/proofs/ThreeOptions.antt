@@ -1,6 +1,5 @@
 -- Three options are told from the words.
-use Rattle.std.proofs.Common.{◌≡◌, ℕ, List, sym, ◌∙◌, subst, inl, inr}
-use Rattle.std.specs.Prelude.{◌⊎◌}
+use Rattle.std.proofs.Common.{◌≡◌, ℕ, List, sym, subst, inl, inr}
 use Rattle.study_command.specs.Options.{AreApart, BeginsOption, BeginsThree, HasThree, HasTwo}
 use Rattle.study_command.proofs.Options.{one_option, same_option, same_two}
 

@@ -14,7 +14,7 @@ use crate::words::Study;
 use outside_io::{Sink, Source};
 use program_ends::{Status, end_fault, end_with};
 use std::alloc::Global;
-use trace_reader::{Built, read_trace};
+use trace_reader::read_trace;
 use vm_types::Config;
 
 // Writes the lines and the status 0.
@@ -47,11 +47,11 @@ fn study_config<K: Sink>(alloc: Global, config: &Config, study: Study, sink: &mu
 // The outcome of the command.
 fn conclude<S: Source, K: Sink>(alloc: Global, study: Study, source: &mut S, sink: &mut K) -> Status
     requires { (1 ≤ study.frames) × (study.frames ≤ 1024) }
-    ensures outcome { Concludes (Tells Built.All (IsStudyAnswer study) (source_view (S.left source.old) (S.faults source.old)) (source_view (S.left source.new) (S.faults source.new)))
+    ensures outcome { Concludes (Tells (IsStudyAnswer study) (source_view (S.left source.old) (S.faults source.old)) (source_view (S.left source.new) (S.faults source.new)))
         (sink_view (K.taken sink.old) (K.faults sink.old) (K.stalls sink.old)) (sink_view (K.taken sink.new) (K.faults sink.new) (K.stalls sink.new)) result.0 }
     ensures faults_later { S.faults source.old ≤ S.faults source.new }
 {
-    match read_trace(source, alloc, Built::All) {
+    match read_trace(source, alloc) {
         Ok(config) => study_config(alloc, &config, study, sink),
         Err(fault) => end_fault(fault, sink),
     }
@@ -75,20 +75,20 @@ pub fn study_trace<S: Source, K: Sink>(
 ) -> Status
     requires { (1 ≤ study.frames) × (study.frames ≤ 1024) }
     // A status with the text that goes with it, and how the text was written.
-    ensures outcome { Concludes (Tells Built.All (IsStudyAnswer study) (source_view (S.left source.old) (S.faults source.old)) (source_view (S.left source.new) (S.faults source.new)))
+    ensures outcome { Concludes (Tells (IsStudyAnswer study) (source_view (S.left source.old) (S.faults source.old)) (source_view (S.left source.new) (S.faults source.new)))
         (sink_view (K.taken sink.old) (K.faults sink.old) (K.stalls sink.old)) (sink_view (K.taken sink.new) (K.faults sink.new) (K.stalls sink.new)) result.0 }
     // So with every status but 4 what was written is the text that goes with it, and no count of the
     // sink changed.
-    ensures told { result.0 ≢ 4 → HasTold (Tells Built.All (IsStudyAnswer study) (source_view (S.left source.old) (S.faults source.old)) (source_view (S.left source.new) (S.faults source.new)))
+    ensures told { result.0 ≢ 4 → HasTold (Tells (IsStudyAnswer study) (source_view (S.left source.old) (S.faults source.old)) (source_view (S.left source.new) (S.faults source.new)))
         (sink_view (K.taken sink.old) (K.faults sink.old) (K.stalls sink.old)) (sink_view (K.taken sink.new) (K.faults sink.new) (K.stalls sink.new)) result.0 }
     ensures unfailed { result.0 ≢ 4 → (K.faults sink.new ≡ K.faults sink.old) × (K.stalls sink.new ≡ K.stalls sink.old) }
     // With status 4 it is a proper prefix of a text that goes with another status.
-    ensures cut { result.0 ≡ 4 → WasCut (Tells Built.All (IsStudyAnswer study) (source_view (S.left source.old) (S.faults source.old)) (source_view (S.left source.new) (S.faults source.new)))
+    ensures cut { result.0 ≡ 4 → WasCut (Tells (IsStudyAnswer study) (source_view (S.left source.old) (S.faults source.old)) (source_view (S.left source.new) (S.faults source.new)))
         (sink_view (K.taken sink.old) (K.faults sink.old) (K.stalls sink.old)) (sink_view (K.taken sink.new) (K.faults sink.new) (K.stalls sink.new)) }
     ensures read_fault { result.0 ≡ 3 → Rose (S.faults source.old) (S.faults source.new) }
     ensures write_fault { result.0 ≡ 4 → Rose (K.faults sink.old) (K.faults sink.new) ⊎ Rose (K.stalls sink.old) (K.stalls sink.new) }
     // If the input is a trace and no count rises, the status is 0, or memory ran out.
-    ensures complete { IsTrace Built.All (source_view (S.left source.old) (S.faults source.old))
+    ensures complete { IsTrace (source_view (S.left source.old) (S.faults source.old))
         → (Rose (S.faults source.old) (S.faults source.new) → ⊥) → (Rose (K.faults sink.old) (K.faults sink.new) → ⊥)
         → (Rose (K.stalls sink.old) (K.stalls sink.new) → ⊥) → (result.0 ≡ 0) ⊎ (result.0 ≡ 7) }
     ensures faults_later { S.faults source.old ≤ S.faults source.new }

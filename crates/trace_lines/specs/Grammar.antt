@@ -2,16 +2,14 @@
 use Rattle.std.specs.Prelude.{ℕ, ◌-◌, ◌==◌, Bool, ◌&&◌, ◌||◌, nat_le, nat_lt, slice_index, length, take, List, [], ◌∷◌, Option, Some, None, Result, Ok, Err, if◌then◌else◌}
 use Rattle.std.specs.List.{list_all}
 use Rattle.trace_words.specs.declared.cause.Cause.{Cause}
-use Rattle.trace_words.specs.declared.cause.Cause.TheVariants.{LineTooLong, NotAscii, TooMany, UnknownWord, Misplaced, NotBuilt}
-use Rattle.trace_words.specs.Judged.{◌>>=◌, owed}
+use Rattle.trace_words.specs.declared.cause.Cause.TheVariants.{LineTooLong, NotAscii, TooMany, UnknownWord, Misplaced}
+use Rattle.trace_words.specs.Judged.{owed}
 use Rattle.trace_words.specs.Name.{is_capital}
 use Rattle.trace_words.specs.Words.{words}
-use Rattle.trace_lines.specs.declared.built.Built.{Built}
 use Rattle.trace_lines.specs.declared.keywords.Keyword.{Keyword}
 use Rattle.trace_lines.specs.declared.keywords.Keyword.TheVariants.{Version, Frames, PageFile, Param, Bad, Section, Data, Process, MapZero, MapSection, Fail, Body, End}
 use Rattle.trace_lines.specs.declared.part.Part.{Part}
 use Rattle.trace_lines.specs.declared.places.Place.TheVariants.{Requests}
-use Rattle.trace_lines.specs.Built.{is_built}
 use Rattle.trace_lines.specs.Declarations.{section_line, data_line, process_line}
 use Rattle.trace_lines.specs.Fails.{fail_line}
 use Rattle.trace_lines.specs.Headers.{version_line, frames_line, pagefile_line, param_line, bad_line}
@@ -73,13 +71,9 @@ content line = if ends_with_return line then take (length line - 1) line else li
 abbrev pub is_text : ℕ → Bool
 is_text b = (b == 9) || (nat_le 32 b && nat_le b 126)
 
--- what the line of this number says, by the whole grammar
-abbrev pub read : ℕ → Part → List ℕ → Result Says Cause
-read number part line =
+-- what the line of this number says, or the first rule that it breaks
+abbrev pub judged : ℕ → Part → List ℕ → Result Says Cause
+judged number part line =
     owed (nat_le (length line) 255) LineTooLong
     (owed (list_all is_text (content line)) NotAscii
     (owed (nat_le number 200000) TooMany (by_words part (words (content line)))))
-
--- what it says, if the program can run it
-abbrev pub judged : Built → ℕ → Part → List ℕ → Result Says Cause
-judged built number part line = read number part line >>= λ says. owed (is_built built part.config says) NotBuilt (Ok says)

@@ -8,7 +8,6 @@ pub mod Declarations
 pub mod Mappings
 pub mod Fails
 pub mod Requests
-pub mod Built
 pub mod Grammar
 pub mod Keys
 pub mod Seen

@@ -1,11 +1,10 @@
 ghost use Rattle.std.specs.Prelude.{◌≡◌, nat_le};
 ghost use Rattle.std.specs.List.{list_all};
 ghost use Rattle.trace_words.specs.Words.{words};
-ghost use Rattle.trace_lines.specs.Grammar.{by_keyword, is_letter, is_comment, by_first, by_words, content, is_text, read, judged};
+ghost use Rattle.trace_lines.specs.Grammar.{by_keyword, is_letter, is_comment, by_first, by_words, content, is_text, judged};
 ghost use Rattle.trace_lines.specs.Says.{said, meant};
 ghost use Rattle.trace_lines.specs.Seen.{IsSeen, IsBounded};
 
-use crate::built::{Built, is_built};
 use crate::declarations::{data, process, section};
 use crate::fails::fail;
 use crate::headers::{bad, frames, pagefile, param, version};
@@ -108,11 +107,14 @@ fn are_text(line: &[u8]) -> bool
     line.iter().all(|b| is_text(*b))
 }
 
-// What the line of this number says, by the whole grammar.
-fn read<'a>(number: u32, part: &Part, seen: &Seen, line: &'a [u8]) -> Result<Line<'a>, Cause>
+/// What the line of this number says, after these declarations. Doesn't allocate.
+///
+/// # Errors
+/// The first rule that the line breaks.
+pub fn judge<'a>(number: u32, part: &Part, seen: &Seen, line: &'a [u8]) -> Result<Line<'a>, Cause>
     requires seen { IsSeen seen.now part.now.config }
     requires bounded { IsBounded part.now.config }
-    ensures { said result ≡ read number part.now line.now }
+    ensures { said result ≡ judged number part.now line.now }
 {
     if line.len() > 255 {
         return Err(Cause::LineTooLong);
@@ -127,28 +129,5 @@ fn read<'a>(number: u32, part: &Part, seen: &Seen, line: &'a [u8]) -> Result<Lin
     match next_word(line) {
         None => Ok(Line::Nothing),
         Some((first, rest)) => by_first(part, seen, first, rest),
-    }
-}
-
-/// What the line of this number says, after these declarations. Doesn't allocate.
-///
-/// # Errors
-/// The first rule that the line breaks; `NotBuilt` if it breaks none and the program can't run it.
-pub fn judge<'a>(
-    built: Built,
-    number: u32,
-    part: &Part,
-    seen: &Seen,
-    line: &'a [u8],
-) -> Result<Line<'a>, Cause>
-    requires seen { IsSeen seen.now part.now.config }
-    requires bounded { IsBounded part.now.config }
-    ensures { said result ≡ judged built number part.now line.now }
-{
-    let line = read(number, part, seen, line)?;
-    if is_built(built, &part.config, &line) {
-        Ok(line)
-    } else {
-        Err(Cause::NotBuilt)
     }
 }

@@ -2,10 +2,8 @@
 //! breaks first. Nothing here takes memory.
 #![tactic(auto)]
 
-mod built;
 mod declarations;
 mod fails;
-mod first_path;
 mod headers;
 mod judging;
 mod keywords;
@@ -19,7 +17,6 @@ mod ranges;
 mod requests;
 mod seen;
 
-pub use built::Built;
 pub use judging::judge;
 pub use keywords::Keyword;
 pub use line::Line;

@@ -1,5 +1,5 @@
 -- The declarations so far keep what makes a configuration well formed.
-use Rattle.std.proofs.Common.{◌≡◌, ◌≢◌, ℕ, zero, suc, ◌+◌, ◌<◌, ◌≤◌, true, leb, ◌&&◌, List, [], ◌∷◌, length, Some, Ok, refl, ap, subst, arith, lit≤}
+use Rattle.std.proofs.Common.{◌≡◌, ◌≢◌, ℕ, zero, suc, ◌+◌, ◌<◌, ◌≤◌, true, leb, ◌&&◌, List, [], ◌∷◌, length, Some, Ok, refl, subst, arith, lit≤}
 use Rattle.std.specs.Prelude.{IfOk, AllPairs, sum_by, slice_get}
 use Rattle.std.specs.List.{list_all, AllByRecursion}
 use Rattle.std.proofs.lemmas.Bool.{and_parts, leb-true}
@@ -8,15 +8,11 @@ use Rattle.std.proofs.lemmas.Option.{slice_get_within}
 use Rattle.vm_types.specs.Configuration.{AreParams, IsProcess, IsSection, IsMapping, AreApart, IsBlock, AreFails, IsTask, IsWellFormed, section_pages}
 use Rattle.vm_types.specs.declared.config.Config.{Config}
 use Rattle.vm_types.specs.declared.config.Fails.{Fails}
-use Rattle.vm_types.specs.declared.config.Mapping.{Mapping}
 use Rattle.vm_types.specs.declared.config.Params.{Params}
 use Rattle.vm_types.specs.declared.config.ProcSpec.{ProcSpec}
 use Rattle.vm_types.specs.declared.config.Section.{Section as Held}
-use Rattle.vm_types.specs.declared.config.Task.{Task}
 use Rattle.vm_types.specs.declared.names.BlockId.{BlockId}
 use Rattle.vm_types.specs.declared.names.BlockId.TheVariants as block
-use Rattle.trace_lines.specs.declared.built.Built.{Built}
-use Rattle.trace_lines.specs.declared.built.Built.TheVariants.{FirstPath, All as Whole}
 use Rattle.trace_lines.specs.declared.part.Part.{Part}
 use Rattle.trace_lines.specs.declared.places.Place.{Place}
 use Rattle.trace_lines.specs.declared.places.Place.TheVariants.{Ended}
@@ -25,16 +21,14 @@ use Rattle.trace_lines.specs.Places.{rank}
 use Rattle.trace_lines.specs.Requests.{params_agree}
 use Rattle.trace_lines.specs.Says.{Says}
 use Rattle.trace_lines.specs.Seen.{IsBounded, IsKeyed, IsPaged}
-use Rattle.trace_reader.specs.Accepted.{IsRead, IsAccepted, IsAcceptedRequest, AreAcceptedMaps}
 use Rattle.trace_reader.specs.Changes.{start, changed}
-use Rattle.trace_reader.specs.Drafts.{AreInRange, AreSound, IsPlaced, AreMapsOf, IsRunnable, IsRunnableBy, IsDraft}
+use Rattle.trace_reader.specs.Drafts.{AreInRange, AreSound, IsPlaced, IsDraft}
 use Rattle.trace_reader.specs.Meaning.{next_line}
 use Rattle.trace_reader.specs.Right.{IsRight, IsOrdered}
 use Rattle.trace_reader.proofs.Giving.{bind_gives}
 use Rattle.trace_reader.proofs.Judged.{IsJudged, judged_gives, at_ok}
 use Rattle.trace_reader.proofs.SoundNext.{sound_next}
 use Rattle.trace_reader.proofs.PlacedNext.{placed_next}
-use Rattle.trace_reader.proofs.RunnableNext.{runnable_by}
 use Rattle.trace_reader.proofs.Listing.{page_of_all}
 
 -- before the first line
@@ -63,12 +57,8 @@ start_sound = record {
 start_placed : IsPlaced 0 start.config
 start_placed = record { no_bad = λ h. refl; no_fails = λ h. refl; frames = λ h. absurd (omega (arith, h)); pagefile = λ h. absurd (omega (arith, h)); some_process = λ h. absurd (omega (arith, h)); agree = λ h. absurd (omega (arith, h)); room = λ h. absurd (omega (arith, h)) }
 
-start_runnable : (built : Built) → IsRunnableBy built start.config
-start_runnable FirstPath = record { frames = lit≤ tt; bad = refl; params = refl; sections = refl; procs = lit≤ tt; maps = tt; fails = refl; body = All-nil (λ (task : Task). IsAcceptedRequest task.request) }
-start_runnable Whole = tt
-
-pub start_draft : (built : Built) → IsDraft built start
-start_draft built = record { sound = start_sound; placed = start_placed; runnable = start_runnable built }
+pub start_draft : IsDraft start
+start_draft = record { sound = start_sound; placed = start_placed }
 
 -- the limits on which the keys rest
 
@@ -89,8 +79,8 @@ keyed c s (block.Swap p n) h =
     let there = slice_get_within c.procs p.0 h.0 h.1 in
     omega (arith, h.2, extent_at c.procs p.0 h.0 (recursion_from_All IsOrdered c.procs s.procs) h.1)
 
-pub bounded : (built : Built) (part : Part) → IsDraft built part → IsBounded part.config
-bounded built part d =
+pub bounded : (part : Part) → IsDraft part → IsBounded part.config
+bounded part d =
     let s = d.sound in
     record {
       pagefile = s.pagefile;
@@ -103,21 +93,21 @@ bounded built part d =
 
 -- the next line
 
-pub right_line : (built : Built) (number : ℕ) (part : Part) (line : List ℕ) (said : Says) → judged built number part line ≡ Ok said → IsRight part said × (number ≤ 200000)
-right_line built number part line said e =
-    let h = at_ok (judged built number part line) said (IsJudged built number part) (judged_gives built number part line) e in
+pub right_line : (number : ℕ) (part : Part) (line : List ℕ) (said : Says) → judged number part line ≡ Ok said → IsRight part said × (number ≤ 200000)
+right_line number part line said e =
+    let h = at_ok (judged number part line) said (IsJudged number part) (judged_gives number part line) e in
     (h.right, h.few)
 
-next_keeps : (built : Built) (number : ℕ) (part : Part) (line : List ℕ) → IsDraft built part → IfOk (next_line built number part line) (λ next. IsDraft built next × (number ≤ 200000))
-next_keeps built number part line d =
-    bind_gives (judged built number part line) (λ said. Ok (changed part said)) (IsJudged built number part) (λ next. IsDraft built next × (number ≤ 200000)) (judged_gives built number part line) (λ said h.
-    (record { sound = sound_next part said d.sound d.placed h.right; placed = placed_next part said d.placed h.right; runnable = runnable_by built part said d.runnable h.right h.built_yet }, h.few))
+next_keeps : (number : ℕ) (part : Part) (line : List ℕ) → IsDraft part → IfOk (next_line number part line) (λ next. IsDraft next × (number ≤ 200000))
+next_keeps number part line d =
+    bind_gives (judged number part line) (λ said. Ok (changed part said)) (IsJudged number part) (λ next. IsDraft next × (number ≤ 200000)) (judged_gives number part line) (λ said h.
+    (record { sound = sound_next part said d.sound d.placed h.right; placed = placed_next part said d.placed h.right }, h.few))
 
-pub next_draft : (built : Built) (number : ℕ) (part next : Part) (line : List ℕ) → IsDraft built part → next_line built number part line ≡ Ok next → IsDraft built next
-next_draft built number part next line d e = (at_ok (next_line built number part line) next (λ next. IsDraft built next × (number ≤ 200000)) (next_keeps built number part line d) e).0
+pub next_draft : (number : ℕ) (part next : Part) (line : List ℕ) → IsDraft part → next_line number part line ≡ Ok next → IsDraft next
+next_draft number part next line d e = (at_ok (next_line number part line) next (λ next. IsDraft next × (number ≤ 200000)) (next_keeps number part line d) e).0
 
-pub next_number : (built : Built) (number : ℕ) (part next : Part) (line : List ℕ) → IsDraft built part → next_line built number part line ≡ Ok next → number ≤ 200000
-next_number built number part next line d e = (at_ok (next_line built number part line) next (λ next. IsDraft built next × (number ≤ 200000)) (next_keeps built number part line d) e).1
+pub next_number : (number : ℕ) (part next : Part) (line : List ℕ) → IsDraft part → next_line number part line ≡ Ok next → number ≤ 200000
+next_number number part next line d e = (at_ok (next_line number part line) next (λ next. IsDraft next × (number ≤ 200000)) (next_keeps number part line d) e).1
 
 -- after END
 
@@ -155,37 +145,5 @@ whole c s p = record {
   body = s.body;
 }
 
-one_process : (procs : List ProcSpec) → 1 ≤ length procs → length procs ≤ 1 → (spec : ProcSpec) × (procs ≡ spec ∷ [])
-one_process [] some few = absurd (omega (arith, some))
-one_process (spec ∷ []) some few = (spec, refl)
-one_process (spec ∷ other ∷ more) some few = absurd (omega (arith, few))
-
-its_maps : (spec : ProcSpec) (maps : List Mapping) → AreMapsOf (spec ∷ []) maps → AreAcceptedMaps spec maps
-its_maps spec [] h = tt
-its_maps spec (m ∷ []) h = h
-its_maps spec (m ∷ n ∷ more) h = absurd h
-
-accepted : (c : Config) → IsWellFormed c → IsRunnable c → IsAccepted c
-accepted c w s =
-    let one = one_process c.procs w.some_process.0 s.procs in
-    let count : length c.procs ≡ 1 = ap (λ (ps : List ProcSpec). length ps) one.1 in
-    record {
-      well_formed = w;
-      frames = s.frames;
-      bad = s.bad;
-      params = s.params;
-      sections = s.sections;
-      spec = one.0;
-      procs = one.1;
-      maps = its_maps one.0 c.maps (subst (λ (ps : List ProcSpec). AreMapsOf ps c.maps) one.1 s.maps);
-      fails = s.fails;
-      body = λ k d lt. (let task = w.body k d lt in let there = task.proc in record { proc = omega (arith, there, count); request = s.body k d lt });
-    }
-
-read_by : (built : Built) (c : Config) → IsWellFormed c → IsRunnableBy built c → IsRead built c
-read_by FirstPath c w s = accepted c w s
-read_by Whole c w s = w
-
-pub read_whole : (built : Built) (part : Part) → IsDraft built part → part.place ≡ Ended → IsRead built part.config
-read_whole built part d e =
-    read_by built part.config (whole part.config d.sound (subst (λ (p : Place). IsPlaced (rank p) part.config) e d.placed)) d.runnable
+pub read_whole : (part : Part) → IsDraft part → part.place ≡ Ended → IsWellFormed part.config
+read_whole part d e = whole part.config d.sound (subst (λ (p : Place). IsPlaced (rank p) part.config) e d.placed)

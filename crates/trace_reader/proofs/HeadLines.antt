@@ -1,29 +1,23 @@
 -- The lines before a log, one after another.
-use Rattle.std.proofs.Common.{◌≡◌, ◌≢◌, ℕ, ◌+◌, ◌<◌, ◌≤◌, Bool, true, false, List, [], ◌∷◌, ◌++◌, length, All, Option, Some, None, Result, Ok, Err, refl, sym, ap, ◌∙◌, append_assoc, append-nil, arith}
-use Rattle.std.specs.Prelude.{IfSome, IsOk}
+use Rattle.std.proofs.Common.{◌≡◌, ◌≢◌, ℕ, ◌+◌, ◌<◌, Bool, true, false, List, [], ◌∷◌, ◌++◌, length, Result, Ok, Err, refl, sym, ap, ◌∙◌, append_assoc, arith}
 use Rattle.std.specs.List.{join_with_byte}
 use Rattle.std.proofs.lemmas.List.{length-append}
 use Rattle.std.proofs.lemmas.List.Splits.{join_with_byte-slice_split}
-use Rattle.vm_types.specs.declared.config.Config.{Config}
-use Rattle.vm_types.specs.declared.faults.Failed.{Failed}
 use Rattle.trace_words.specs.declared.cause.Cause.{Cause}
-use Rattle.trace_words.specs.declared.cause.Cause.TheVariants.{LineTooLong, NotAscii, TooMany, UnknownWord, Misplaced}
+use Rattle.trace_words.specs.declared.cause.Cause.TheVariants.{LineTooLong, UnknownWord}
 use Rattle.trace_words.specs.Words.{words}
-use Rattle.trace_lines.specs.declared.built.Built.{Built}
 use Rattle.trace_lines.specs.declared.part.Part.{Part}
 use Rattle.trace_lines.specs.declared.places.Place.{Place}
 use Rattle.trace_lines.specs.declared.places.Place.TheVariants.{Version, Frames, PageFile, Declarations, Requests, Ended}
 use Rattle.trace_lines.specs.Grammar.{content}
-use Rattle.line_source.specs.declared.lines.Line.TheVariants.{Text, Long, End}
-use Rattle.line_source.specs.HandedOut.{IsInLine, HandsOut, Parts, Takes}
-use Rattle.trace_reader.specs.declared.fault.TraceFault.{TraceFault}
-use Rattle.trace_reader.specs.declared.fault.TraceFault.TheVariants as fault
+use Rattle.line_source.specs.declared.lines.Line.TheVariants.{Text}
+use Rattle.line_source.specs.HandedOut.{IsInLine, HandsOut, Parts}
 use Rattle.trace_reader.specs.Changes.{start}
 use Rattle.trace_reader.specs.Head.{Head, Configured, Faulty, HeadLine, begins_log, goes_on, is_faulty, by_trace, head_line, head_of, judge_head, head_at_end, after_line}
 use Rattle.trace_reader.specs.Head as head
-use Rattle.trace_reader.specs.HeadAnswer.{HasGone, HasRightLine, IsCutShort, HeadAnswers, IsHeadLineAtFault}
+use Rattle.trace_reader.specs.HeadAnswer.{HasGone}
 use Rattle.trace_reader.specs.LogWord.{plain}
-use Rattle.trace_reader.specs.Meaning.{lines, next_line}
+use Rattle.trace_reader.specs.Meaning.{lines}
 use Rattle.trace_reader.proofs.Judging.{first_line, begun, too_long}
 use Rattle.trace_reader.proofs.Splitting.{lines_none, lines_at, some_line}
 
@@ -38,80 +32,80 @@ before_end (Err UnknownWord) Requests ws h = refl
 before_end (Err UnknownWord) Ended ws h = absurd (h refl)
 before_end (Err cause) place ws h = refl
 
-pub gone_first : (built : Built) (text : List ℕ) → HasGone built text start 1 text
-gone_first built text = record { front = []; whole = refl; goes = λ more. refl }
+pub gone_first : (text : List ℕ) → HasGone text start 1 text
+gone_first text = record { front = []; whole = refl; goes = λ more. refl }
 
 moved : (text front rest line back : List ℕ) → text ≡ front ++ rest → rest ≡ line ++ 10 ∷ back → text ≡ (front ++ (line ++ 10 ∷ [])) ++ back
 moved text front rest line back whole cut =
     whole ∙ ap (λ (r : List ℕ). front ++ r) (cut ∙ sym (append_assoc line (10 ∷ []) back)) ∙ sym (append_assoc front (line ++ 10 ∷ []) back)
 
 -- a whole line, behind which there is always one more
-along : (built : Built) (part : Part) (number : ℕ) (line first : List ℕ) (others : List (List ℕ)) (x : HeadLine) → head_line built number part line ≡ x
-    → judge_head built number part (line ∷ first ∷ others) ≡ after_line x number part (join_with_byte 10 (first ∷ others)) (λ p. judge_head built (number + 1) p (first ∷ others))
-along built part number line first others x e = ap (λ (y : HeadLine). after_line y number part (join_with_byte 10 (first ∷ others)) (λ p. judge_head built (number + 1) p (first ∷ others))) e
+along : (part : Part) (number : ℕ) (line first : List ℕ) (others : List (List ℕ)) (x : HeadLine) → head_line number part line ≡ x
+    → judge_head number part (line ∷ first ∷ others) ≡ after_line x number part (join_with_byte 10 (first ∷ others)) (λ p. judge_head (number + 1) p (first ∷ others))
+along part number line first others x e = ap (λ (y : HeadLine). after_line y number part (join_with_byte 10 (first ∷ others)) (λ p. judge_head (number + 1) p (first ∷ others))) e
 
-pub line_goes : (built : Built) (text : List ℕ) (part next : Part) (number : ℕ) (rest line back : List ℕ) → HasGone built text part number rest → rest ≡ line ++ 10 ∷ back → IsInLine line
-    → head_line built number part line ≡ goes_on next → HasGone built text next (number + 1) back
-line_goes built text part next number rest line back h cut other e = record {
+pub line_goes : (text : List ℕ) (part next : Part) (number : ℕ) (rest line back : List ℕ) → HasGone text part number rest → rest ≡ line ++ 10 ∷ back → IsInLine line
+    → head_line number part line ≡ goes_on next → HasGone text next (number + 1) back
+line_goes text part next number rest line back h cut other e = record {
   front = h.front ++ (line ++ 10 ∷ []);
   whole = moved text h.front rest line back h.whole cut;
   goes = λ more.
       let some = first_line line [] more other in
-      ap (head_of built) (append_assoc h.front (line ++ 10 ∷ []) more) ∙ h.goes ((line ++ 10 ∷ []) ++ more) ∙ ap (judge_head built number part) some.2
-      ∙ along built part number line some.0 some.1 (goes_on next) e ∙ sym (ap (judge_head built (number + 1) next) some.3);
+      ap head_of (append_assoc h.front (line ++ 10 ∷ []) more) ∙ h.goes ((line ++ 10 ∷ []) ++ more) ∙ ap (judge_head number part) some.2
+      ∙ along part number line some.0 some.1 (goes_on next) e ∙ sym (ap (judge_head (number + 1) next) some.3);
 }
 
 -- the whole text, by the line behind what was taken
-at_rest : (built : Built) (text : List ℕ) (part : Part) (number : ℕ) (rest : List ℕ) → HasGone built text part number rest → head_of built text ≡ judge_head built number part (lines rest)
-at_rest built text part number rest h = ap (head_of built) h.whole ∙ h.goes rest
+at_rest : (text : List ℕ) (part : Part) (number : ℕ) (rest : List ℕ) → HasGone text part number rest → head_of text ≡ judge_head number part (lines rest)
+at_rest text part number rest h = ap head_of h.whole ∙ h.goes rest
 
-at_line : (built : Built) (text : List ℕ) (part : Part) (number : ℕ) (rest line back : List ℕ) (x : HeadLine) → HasGone built text part number rest → rest ≡ line ++ 10 ∷ back → IsInLine line → head_line built number part line ≡ x
-    → head_of built text ≡ after_line x number part back (λ p. judge_head built (number + 1) p (lines back))
-at_line built text part number rest line back x h cut other e =
+at_line : (text : List ℕ) (part : Part) (number : ℕ) (rest line back : List ℕ) (x : HeadLine) → HasGone text part number rest → rest ≡ line ++ 10 ∷ back → IsInLine line → head_line number part line ≡ x
+    → head_of text ≡ after_line x number part back (λ p. judge_head (number + 1) p (lines back))
+at_line text part number rest line back x h cut other e =
     let some = some_line back in
-    at_rest built text part number rest h ∙ ap (λ (r : List ℕ). judge_head built number part (lines r)) cut ∙ ap (judge_head built number part) (lines_at line back other)
-    ∙ ap (λ (ls : List (List ℕ)). judge_head built number part (line ∷ ls)) some.2 ∙ along built part number line some.0 some.1 x e
-    ∙ ap (λ (ls : List (List ℕ)). after_line x number part (join_with_byte 10 ls) (λ p. judge_head built (number + 1) p ls)) (sym some.2)
-    ∙ ap (λ (b : List ℕ). after_line x number part b (λ p. judge_head built (number + 1) p (lines back))) (join_with_byte-slice_split 10 back)
+    at_rest text part number rest h ∙ ap (λ (r : List ℕ). judge_head number part (lines r)) cut ∙ ap (judge_head number part) (lines_at line back other)
+    ∙ ap (λ (ls : List (List ℕ)). judge_head number part (line ∷ ls)) some.2 ∙ along part number line some.0 some.1 x e
+    ∙ ap (λ (ls : List (List ℕ)). after_line x number part (join_with_byte 10 ls) (λ p. judge_head (number + 1) p ls)) (sym some.2)
+    ∙ ap (λ (b : List ℕ). after_line x number part b (λ p. judge_head (number + 1) p (lines back))) (join_with_byte-slice_split 10 back)
 
-last_is : (built : Built) (part : Part) (number : ℕ) (line : List ℕ) (x : HeadLine) → line ≢ [] → head_line built number part line ≡ x → head_at_end built number part line ≡ after_line x number part [] (λ next. head.Unfinished)
-last_is built part number [] x some e = absurd (some refl)
-last_is built part number (b ∷ bytes) x some e = ap (λ (y : HeadLine). after_line y number part [] (λ next. head.Unfinished)) e
+last_is : (part : Part) (number : ℕ) (line : List ℕ) (x : HeadLine) → line ≢ [] → head_line number part line ≡ x → head_at_end number part line ≡ after_line x number part [] (λ next. head.Unfinished)
+last_is part number [] x some e = absurd (some refl)
+last_is part number (b ∷ bytes) x some e = ap (λ (y : HeadLine). after_line y number part [] (λ next. head.Unfinished)) e
 
-at_last : (built : Built) (text : List ℕ) (part : Part) (number : ℕ) (rest line : List ℕ) (x : HeadLine) → HasGone built text part number rest → rest ≡ line → IsInLine line → line ≢ [] → head_line built number part line ≡ x
-    → head_of built text ≡ after_line x number part [] (λ next. head.Unfinished)
-at_last built text part number rest line x h cut other some e =
-    at_rest built text part number rest h ∙ ap (λ (r : List ℕ). judge_head built number part (lines r)) cut ∙ ap (judge_head built number part) (lines_none line other) ∙ last_is built part number line x some e
+at_last : (text : List ℕ) (part : Part) (number : ℕ) (rest line : List ℕ) (x : HeadLine) → HasGone text part number rest → rest ≡ line → IsInLine line → line ≢ [] → head_line number part line ≡ x
+    → head_of text ≡ after_line x number part [] (λ next. head.Unfinished)
+at_last text part number rest line x h cut other some e =
+    at_rest text part number rest h ∙ ap (λ (r : List ℕ). judge_head number part (lines r)) cut ∙ ap (judge_head number part) (lines_none line other) ∙ last_is part number line x some e
 
 -- a line that begins the log, or is at fault
-pub line_answers : (built : Built) (text : List ℕ) (part : Part) (number : ℕ) (rest line back : List ℕ) (ended : Bool) (x : HeadLine) → HasGone built text part number rest → HandsOut (Text ended) line → Parts (Text ended) rest line back
-    → head_line built number part line ≡ x → ((p : Part) → x ≡ goes_on p → ⊥) → head_of built text ≡ after_line x number part back (λ p. head.Unfinished)
-line_answers built text part number rest line back true begins_log h out cut e never = at_line built text part number rest line back begins_log h cut out.0 e
-line_answers built text part number rest line back true (goes_on p) h out cut e never = absurd (never p refl)
-line_answers built text part number rest line back true (is_faulty cause) h out cut e never = at_line built text part number rest line back (is_faulty cause) h cut out.0 e
-line_answers built text part number rest line back false x h out cut e never =
-    at_last built text part number rest line x h cut.0 out.0 out.2 e ∙ ap (λ (b : List ℕ). after_line x number part b (λ p. head.Unfinished)) (sym cut.1)
+pub line_answers : (text : List ℕ) (part : Part) (number : ℕ) (rest line back : List ℕ) (ended : Bool) (x : HeadLine) → HasGone text part number rest → HandsOut (Text ended) line → Parts (Text ended) rest line back
+    → head_line number part line ≡ x → ((p : Part) → x ≡ goes_on p → ⊥) → head_of text ≡ after_line x number part back (λ p. head.Unfinished)
+line_answers text part number rest line back true begins_log h out cut e never = at_line text part number rest line back begins_log h cut out.0 e
+line_answers text part number rest line back true (goes_on p) h out cut e never = absurd (never p refl)
+line_answers text part number rest line back true (is_faulty cause) h out cut e never = at_line text part number rest line back (is_faulty cause) h cut out.0 e
+line_answers text part number rest line back false x h out cut e never =
+    at_last text part number rest line x h cut.0 out.0 out.2 e ∙ ap (λ (b : List ℕ). after_line x number part b (λ p. head.Unfinished)) (sym cut.1)
 
-pub last_goes : (built : Built) (text : List ℕ) (part next : Part) (number : ℕ) (rest line back : List ℕ) → HasGone built text part number rest → HandsOut (Text false) line → Parts (Text false) rest line back
-    → head_line built number part line ≡ goes_on next → head_of built text ≡ head.Unfinished
-last_goes built text part next number rest line back h out cut e = at_last built text part number rest line (goes_on next) h cut.0 out.0 out.2 e
+pub last_goes : (text : List ℕ) (part next : Part) (number : ℕ) (rest line back : List ℕ) → HasGone text part number rest → HandsOut (Text false) line → Parts (Text false) rest line back
+    → head_line number part line ≡ goes_on next → head_of text ≡ head.Unfinished
+last_goes text part next number rest line back h out cut e = at_last text part number rest line (goes_on next) h cut.0 out.0 out.2 e
 
-pub none_left : (built : Built) (text : List ℕ) (part : Part) (number : ℕ) (rest : List ℕ) → HasGone built text part number rest → rest ≡ [] → head_of built text ≡ head.Unfinished
-none_left built text part number rest h e = at_rest built text part number rest h ∙ ap (λ (r : List ℕ). judge_head built number part (lines r)) e
+pub none_left : (text : List ℕ) (part : Part) (number : ℕ) (rest : List ℕ) → HasGone text part number rest → rest ≡ [] → head_of text ≡ head.Unfinished
+none_left text part number rest h e = at_rest text part number rest h ∙ ap (λ (r : List ℕ). judge_head number part (lines r)) e
 
 -- a line of more than 255 bytes
-refused : (built : Built) (part : Part) (number : ℕ) (cause : Cause) (line : List ℕ) (others : List (List ℕ)) → 0 < length line → head_line built number part line ≡ is_faulty cause → judge_head built number part (line ∷ others) ≡ Faulty number cause
-refused built part number cause [] others some e = absurd (omega (arith, some))
-refused built part number cause (b ∷ line) [] some e = last_is built part number (b ∷ line) (is_faulty cause) (λ none. absurd cc) e
-refused built part number cause (b ∷ line) (first ∷ others) some e = along built part number (b ∷ line) first others (is_faulty cause) e
+refused : (part : Part) (number : ℕ) (cause : Cause) (line : List ℕ) (others : List (List ℕ)) → 0 < length line → head_line number part line ≡ is_faulty cause → judge_head number part (line ∷ others) ≡ Faulty number cause
+refused part number cause [] others some e = absurd (omega (arith, some))
+refused part number cause (b ∷ line) [] some e = last_is part number (b ∷ line) (is_faulty cause) (λ none. absurd cc) e
+refused part number cause (b ∷ line) (first ∷ others) some e = along part number (b ∷ line) first others (is_faulty cause) e
 
-pub long_line : (built : Built) (text : List ℕ) (part : Part) (number : ℕ) (rest front back : List ℕ) → HasGone built text part number rest → rest ≡ front ++ back → IsInLine front → length front ≡ 256 → head_of built text ≡ Faulty number LineTooLong
-long_line built text part number rest front back h cut other long =
+pub long_line : (text : List ℕ) (part : Part) (number : ℕ) (rest front back : List ℕ) → HasGone text part number rest → rest ≡ front ++ back → IsInLine front → length front ≡ 256 → head_of text ≡ Faulty number LineTooLong
+long_line text part number rest front back h cut other long =
     let tail = begun front back other in
     let longer : 255 < length (front ++ tail.0) = rw length-append (omega arith) in
-    at_rest built text part number rest h ∙ ap (λ (r : List ℕ). judge_head built number part (lines r)) cut ∙ ap (judge_head built number part) tail.2
-    ∙ refused built part number LineTooLong (front ++ tail.0) tail.1 (omega arith)
-    (ap (λ (r : Result Part Cause). by_trace r part.place (words (content (front ++ tail.0)))) (too_long built part number (front ++ tail.0) longer))
+    at_rest text part number rest h ∙ ap (λ (r : List ℕ). judge_head number part (lines r)) cut ∙ ap (judge_head number part) tail.2
+    ∙ refused part number LineTooLong (front ++ tail.0) tail.1 (omega arith)
+    (ap (λ (r : Result Part Cause). by_trace r part.place (words (content (front ++ tail.0)))) (too_long part number (front ++ tail.0) longer))
 
 -- the first line of what is left
 pub first_of : (rest line back : List ℕ) (ended : Bool) → HandsOut (Text ended) line → Parts (Text ended) rest line back → (others : List (List ℕ)) × (lines rest ≡ line ∷ others)

@@ -1,5 +1,5 @@
 -- What a line that breaks no rule says fits the declarations, and stands there.
-use Rattle.std.proofs.Common.{◌≡◌, ℕ, ◌≤◌, true, eqb, leb, List, [], ◌∷◌, length, Option, Some, None, Result, Ok, refl, sym, subst, ◌∙◌}
+use Rattle.std.proofs.Common.{◌≡◌, ℕ, ◌≤◌, eqb, leb, List, [], ◌∷◌, length, Option, Some, None, Result, Ok, refl, sym, subst, ◌∙◌}
 use Rattle.std.specs.Prelude.{IfOk}
 use Rattle.std.specs.List.{list_all}
 use Rattle.std.proofs.lemmas.Bool.{leb-true, eqb-true}
@@ -7,19 +7,17 @@ use Rattle.trace_words.specs.declared.cause.Cause.{Cause}
 use Rattle.trace_words.specs.declared.cause.Cause.TheVariants.{Misplaced}
 use Rattle.trace_words.specs.Judged.{owed}
 use Rattle.trace_words.specs.Words.{words}
-use Rattle.trace_lines.specs.declared.built.Built.{Built}
 use Rattle.trace_lines.specs.declared.keywords.Keyword.{Keyword}
 use Rattle.trace_lines.specs.declared.keywords.Keyword.TheVariants.{Version, Frames, PageFile, Param, Bad, Section, Data, Process, MapZero, MapSection, Fail, Body, End}
 use Rattle.trace_lines.specs.declared.part.Part.{Part}
 use Rattle.trace_lines.specs.declared.places.Place.TheVariants.{Requests}
-use Rattle.trace_lines.specs.Built.{is_built}
-use Rattle.trace_lines.specs.Grammar.{by_keyword, placed, is_letter, is_comment, by_first, by_words, content, is_text, read, judged}
+use Rattle.trace_lines.specs.Grammar.{by_keyword, placed, is_letter, is_comment, by_first, by_words, content, is_text, judged}
 use Rattle.trace_lines.specs.Keywords.{keyword_of, place_of}
 use Rattle.trace_lines.specs.Places.{rank}
 use Rattle.trace_lines.specs.Requests.{request_line}
 use Rattle.trace_lines.specs.Says.{Says, Nothing}
 use Rattle.trace_reader.specs.Right.{IsRight}
-use Rattle.trace_reader.proofs.Giving.{owed_gives, bind_gives, if_gives, weaker}
+use Rattle.trace_reader.proofs.Giving.{owed_gives, if_gives, weaker}
 use Rattle.trace_reader.proofs.LinesRight.{Gives, version_gives, frames_gives, pagefile_gives, param_gives, bad_gives, section_gives, data_gives, process_gives, mapzero_gives, mapsec_gives, fail_gives, body_gives, end_gives, request_gives}
 
 keyword_gives : (part : Part) (args : List (List ℕ)) (keyword : Keyword) → IfOk (by_keyword part args keyword) (Gives part (rank (place_of keyword)))
@@ -61,21 +59,15 @@ words_give part [] = record { here = refl; fits = tt }
 words_give part (first ∷ args) = first_gives part first args
 
 -- what a judged line says
-pub record IsJudged (built : Built) (number : ℕ) (part : Part) (said : Says) : Type 0 where
+pub record IsJudged (number : ℕ) (part : Part) (said : Says) : Type 0 where
   pub right : IsRight part said
   pub few : number ≤ 200000
-  pub built_yet : is_built built part.config said ≡ true
 
-read_gives : (number : ℕ) (part : Part) (line : List ℕ) → IfOk (read number part line) (λ said. IsRight part said × (number ≤ 200000))
-read_gives number part line =
-    owed_gives (leb (length line) 255) _ _ (λ said. IsRight part said × (number ≤ 200000)) (λ _. owed_gives (list_all is_text (content line)) _ _ (λ said. IsRight part said × (number ≤ 200000)) (λ _.
-    owed_gives (leb number 200000) _ (by_words part (words (content line))) (λ said. IsRight part said × (number ≤ 200000)) (λ e.
-    weaker (by_words part (words (content line))) (IsRight part) (λ said. IsRight part said × (number ≤ 200000)) (words_give part (words (content line))) (λ said r. (r, leb-true number 200000 e)))))
-
-pub judged_gives : (built : Built) (number : ℕ) (part : Part) (line : List ℕ) → IfOk (judged built number part line) (IsJudged built number part)
-judged_gives built number part line =
-    bind_gives (read number part line) _ (λ said. IsRight part said × (number ≤ 200000)) (IsJudged built number part) (read_gives number part line) (λ said h.
-    owed_gives (is_built built part.config said) _ (Ok said) (IsJudged built number part) (λ e. record { right = h.0; few = h.1; built_yet = e }))
+pub judged_gives : (number : ℕ) (part : Part) (line : List ℕ) → IfOk (judged number part line) (IsJudged number part)
+judged_gives number part line =
+    owed_gives (leb (length line) 255) _ _ (IsJudged number part) (λ _. owed_gives (list_all is_text (content line)) _ _ (IsJudged number part) (λ _.
+    owed_gives (leb number 200000) _ (by_words part (words (content line))) (IsJudged number part) (λ e.
+    weaker (by_words part (words (content line))) (IsRight part) (IsJudged number part) (words_give part (words (content line))) (λ said r. record { right = r; few = leb-true number 200000 e }))))
 
 pub at_ok : {A : Type 0} (r : Result A Cause) (x : A) (P : A → Type 0) → IfOk r P → r ≡ Ok x → P x
 at_ok {A} r x P h e = subst (λ (s : Result A Cause). IfOk s P) e h

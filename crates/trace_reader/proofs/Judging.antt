@@ -6,7 +6,6 @@ use Rattle.std.proofs.lemmas.List.Elements.{recursion_from_All}
 use Rattle.std.specs.List.{AllByRecursion}
 use Rattle.trace_words.specs.declared.cause.Cause.{Cause}
 use Rattle.trace_words.specs.declared.cause.Cause.TheVariants.{LineTooLong}
-use Rattle.trace_lines.specs.declared.built.Built.{Built}
 use Rattle.trace_lines.specs.declared.part.Part.{Part}
 use Rattle.trace_reader.specs.Meaning.{Faulty, next_line, judge, is_open, lines}
 use Rattle.trace_reader.specs.Stream.{Follows}
@@ -14,17 +13,17 @@ use Rattle.trace_reader.proofs.Splitting.{lines_none, lines_at, some_line}
 
 -- one line
 
-judge_one : (built : Built) (part next : Part) (number : ℕ) (line first : List ℕ) (more : List (List ℕ)) → next_line built number part line ≡ Ok next → judge built number part (line ∷ first ∷ more) ≡ judge built (number + 1) next (first ∷ more)
-judge_one built part next number line first more e = rw e refl
+judge_one : (part next : Part) (number : ℕ) (line first : List ℕ) (more : List (List ℕ)) → next_line number part line ≡ Ok next → judge number part (line ∷ first ∷ more) ≡ judge (number + 1) next (first ∷ more)
+judge_one part next number line first more e = rw e refl
 
-open_one : (built : Built) (part next : Part) (number : ℕ) (line first : List ℕ) (more : List (List ℕ)) → next_line built number part line ≡ Ok next → is_open built number part (line ∷ first ∷ more) ≡ is_open built (number + 1) next (first ∷ more)
-open_one built part next number line first more e = rw e refl
+open_one : (part next : Part) (number : ℕ) (line first : List ℕ) (more : List (List ℕ)) → next_line number part line ≡ Ok next → is_open number part (line ∷ first ∷ more) ≡ is_open (number + 1) next (first ∷ more)
+open_one part next number line first more e = rw e refl
 
-fault_one : (built : Built) (part : Part) (number : ℕ) (cause : Cause) (line first : List ℕ) (more : List (List ℕ)) → next_line built number part line ≡ Err cause → judge built number part (line ∷ first ∷ more) ≡ Faulty number cause
-fault_one built part number cause line first more e = rw e refl
+fault_one : (part : Part) (number : ℕ) (cause : Cause) (line first : List ℕ) (more : List (List ℕ)) → next_line number part line ≡ Err cause → judge number part (line ∷ first ∷ more) ≡ Faulty number cause
+fault_one part number cause line first more e = rw e refl
 
-shut_one : (built : Built) (part : Part) (number : ℕ) (cause : Cause) (line first : List ℕ) (more : List (List ℕ)) → next_line built number part line ≡ Err cause → is_open built number part (line ∷ first ∷ more) ≡ false
-shut_one built part number cause line first more e = rw e refl
+shut_one : (part : Part) (number : ℕ) (cause : Cause) (line first : List ℕ) (more : List (List ℕ)) → next_line number part line ≡ Err cause → is_open number part (line ∷ first ∷ more) ≡ false
+shut_one part number cause line first more e = rw e refl
 
 -- the lines of a text whose front has no byte 10, whatever comes next
 rejoin : (line back more : List ℕ) → (line ++ 10 ∷ back) ++ more ≡ line ++ 10 ∷ (back ++ more)
@@ -35,37 +34,37 @@ first_line line back more other =
     let some = some_line (back ++ more) in
     (some.0, some.1, ap lines (rejoin line back more) ∙ lines_at line (back ++ more) other ∙ ap (λ (ps : List (List ℕ)). line ∷ ps) some.2, some.2)
 
-pub follows_line : (built : Built) (part next : Part) (number : ℕ) (line back : List ℕ) → All (λ b. b ≢ 10) line → next_line built number part line ≡ Ok next → Follows built part number (line ++ 10 ∷ back) next (number + 1) back
-follows_line built part next number line back other e = record {
+pub follows_line : (part next : Part) (number : ℕ) (line back : List ℕ) → All (λ b. b ≢ 10) line → next_line number part line ≡ Ok next → Follows part number (line ++ 10 ∷ back) next (number + 1) back
+follows_line part next number line back other e = record {
   judged = λ more.
       let some = first_line line back more other in
-      ap (judge built number part) some.2 ∙ judge_one built part next number line some.0 some.1 e ∙ sym (ap (judge built (number + 1) next) some.3);
+      ap (judge number part) some.2 ∙ judge_one part next number line some.0 some.1 e ∙ sym (ap (judge (number + 1) next) some.3);
   opened = λ more.
       let some = first_line line back more other in
-      ap (is_open built number part) some.2 ∙ open_one built part next number line some.0 some.1 e ∙ sym (ap (is_open built (number + 1) next) some.3);
+      ap (is_open number part) some.2 ∙ open_one part next number line some.0 some.1 e ∙ sym (ap (is_open (number + 1) next) some.3);
 }
 
-pub fault_line : (built : Built) (part : Part) (number : ℕ) (cause : Cause) (line back more : List ℕ) → All (λ b. b ≢ 10) line → next_line built number part line ≡ Err cause → judge built number part (lines ((line ++ 10 ∷ back) ++ more)) ≡ Faulty number cause
-fault_line built part number cause line back more other e =
+pub fault_line : (part : Part) (number : ℕ) (cause : Cause) (line back more : List ℕ) → All (λ b. b ≢ 10) line → next_line number part line ≡ Err cause → judge number part (lines ((line ++ 10 ∷ back) ++ more)) ≡ Faulty number cause
+fault_line part number cause line back more other e =
     let some = first_line line back more other in
-    ap (judge built number part) some.2 ∙ fault_one built part number cause line some.0 some.1 e
+    ap (judge number part) some.2 ∙ fault_one part number cause line some.0 some.1 e
 
-pub shut_line : (built : Built) (part : Part) (number : ℕ) (cause : Cause) (line back more : List ℕ) → All (λ b. b ≢ 10) line → next_line built number part line ≡ Err cause → is_open built number part (lines ((line ++ 10 ∷ back) ++ more)) ≡ false
-shut_line built part number cause line back more other e =
+pub shut_line : (part : Part) (number : ℕ) (cause : Cause) (line back more : List ℕ) → All (λ b. b ≢ 10) line → next_line number part line ≡ Err cause → is_open number part (lines ((line ++ 10 ∷ back) ++ more)) ≡ false
+shut_line part number cause line back more other e =
     let some = first_line line back more other in
-    ap (is_open built number part) some.2 ∙ shut_one built part number cause line some.0 some.1 e
+    ap (is_open number part) some.2 ∙ shut_one part number cause line some.0 some.1 e
 
-pub follows_same : (built : Built) (part : Part) (number : ℕ) (text : List ℕ) → Follows built part number text part number text
-follows_same built part number text = record { judged = λ more. refl; opened = λ more. refl }
+pub follows_same : (part : Part) (number : ℕ) (text : List ℕ) → Follows part number text part number text
+follows_same part number text = record { judged = λ more. refl; opened = λ more. refl }
 
-pub follows_then : (built : Built) (a b c : Part) (i j k : ℕ) (x y z : List ℕ) → Follows built a i x b j y → Follows built b j y c k z → Follows built a i x c k z
-follows_then built a b c i j k x y z p q = record { judged = λ more. p.judged more ∙ q.judged more; opened = λ more. p.opened more ∙ q.opened more }
+pub follows_then : (a b c : Part) (i j k : ℕ) (x y z : List ℕ) → Follows a i x b j y → Follows b j y c k z → Follows a i x c k z
+follows_then a b c i j k x y z p q = record { judged = λ more. p.judged more ∙ q.judged more; opened = λ more. p.opened more ∙ q.opened more }
 
 -- more bytes come
-pub follows_more : (built : Built) (a b : Part) (i j : ℕ) (x y bytes : List ℕ) → Follows built a i x b j y → Follows built a i (x ++ bytes) b j (y ++ bytes)
-follows_more built a b i j x y bytes p = record {
-  judged = λ more. ap (λ (t : List ℕ). judge built i a (lines t)) (append_assoc x bytes more) ∙ p.judged (bytes ++ more) ∙ ap (λ (t : List ℕ). judge built j b (lines t)) (sym (append_assoc y bytes more));
-  opened = λ more. ap (λ (t : List ℕ). is_open built i a (lines t)) (append_assoc x bytes more) ∙ p.opened (bytes ++ more) ∙ ap (λ (t : List ℕ). is_open built j b (lines t)) (sym (append_assoc y bytes more));
+pub follows_more : (a b : Part) (i j : ℕ) (x y bytes : List ℕ) → Follows a i x b j y → Follows a i (x ++ bytes) b j (y ++ bytes)
+follows_more a b i j x y bytes p = record {
+  judged = λ more. ap (λ (t : List ℕ). judge i a (lines t)) (append_assoc x bytes more) ∙ p.judged (bytes ++ more) ∙ ap (λ (t : List ℕ). judge j b (lines t)) (sym (append_assoc y bytes more));
+  opened = λ more. ap (λ (t : List ℕ). is_open i a (lines t)) (append_assoc x bytes more) ∙ p.opened (bytes ++ more) ∙ ap (λ (t : List ℕ). is_open j b (lines t)) (sym (append_assoc y bytes more));
 }
 
 -- a line that has begun
@@ -81,25 +80,25 @@ begun_by (b ∷ front) more other =
 pub begun : (front more : List ℕ) → All (λ b. b ≢ 10) front → (rest : List ℕ) × (others : List (List ℕ)) × (lines (front ++ more) ≡ (front ++ rest) ∷ others)
 begun front more other = begun_by front more (recursion_from_All (λ b. b ≢ 10) front other)
 
-pub too_long : (built : Built) (part : Part) (number : ℕ) (line : List ℕ) → 255 < length line → next_line built number part line ≡ Err LineTooLong
-too_long built part number line h = rw (lt-leb (length line) 255 h) refl
+pub too_long : (part : Part) (number : ℕ) (line : List ℕ) → 255 < length line → next_line number part line ≡ Err LineTooLong
+too_long part number line h = rw (lt-leb (length line) 255 h) refl
 
-pub refused : (built : Built) (part : Part) (number : ℕ) (cause : Cause) (line : List ℕ) (others : List (List ℕ)) → 0 < length line → next_line built number part line ≡ Err cause → judge built number part (line ∷ others) ≡ Faulty number cause
-refused built part number cause [] others some e = absurd (omega (arith, some))
-refused built part number cause (b ∷ line) [] some e = rw e refl
-refused built part number cause (b ∷ line) (first ∷ more) some e = fault_one built part number cause (b ∷ line) first more e
+pub refused : (part : Part) (number : ℕ) (cause : Cause) (line : List ℕ) (others : List (List ℕ)) → 0 < length line → next_line number part line ≡ Err cause → judge number part (line ∷ others) ≡ Faulty number cause
+refused part number cause [] others some e = absurd (omega (arith, some))
+refused part number cause (b ∷ line) [] some e = rw e refl
+refused part number cause (b ∷ line) (first ∷ more) some e = fault_one part number cause (b ∷ line) first more e
 
-pub fault_long : (built : Built) (part : Part) (number : ℕ) (front more : List ℕ) → All (λ b. b ≢ 10) front → 255 < length front → judge built number part (lines (front ++ more)) ≡ Faulty number LineTooLong
-fault_long built part number front more other long =
+pub fault_long : (part : Part) (number : ℕ) (front more : List ℕ) → All (λ b. b ≢ 10) front → 255 < length front → judge number part (lines (front ++ more)) ≡ Faulty number LineTooLong
+fault_long part number front more other long =
     let tail = begun front more other in
     let longer : 255 < length (front ++ tail.0) = rw length-append (omega arith) in
-    ap (judge built number part) tail.2 ∙ refused built part number LineTooLong (front ++ tail.0) tail.1 (omega arith) (too_long built part number (front ++ tail.0) longer)
+    ap (judge number part) tail.2 ∙ refused part number LineTooLong (front ++ tail.0) tail.1 (omega arith) (too_long part number (front ++ tail.0) longer)
 
 -- a begun line of so many bytes isn't open
-pub shut_long : (built : Built) (part : Part) (number : ℕ) (line : List ℕ) (others : List (List ℕ)) → 255 < length line → is_open built number part (line ∷ others) ≡ false
-shut_long built part number line [] long = lt-leb (length line) 255 long
-shut_long built part number line (first ∷ more) long = shut_one built part number LineTooLong line first more (too_long built part number line long)
+pub shut_long : (part : Part) (number : ℕ) (line : List ℕ) (others : List (List ℕ)) → 255 < length line → is_open number part (line ∷ others) ≡ false
+shut_long part number line [] long = lt-leb (length line) 255 long
+shut_long part number line (first ∷ more) long = shut_one part number LineTooLong line first more (too_long part number line long)
 
 -- the last line of a text
-pub last_line : (built : Built) (part : Part) (number : ℕ) (line : List ℕ) → All (λ b. b ≢ 10) line → length line ≤ 255 → is_open built number part (lines line) ≡ true
-last_line built part number line other few = ap (is_open built number part) (lines_none line other) ∙ le-leb (length line) 255 few
+pub last_line : (part : Part) (number : ℕ) (line : List ℕ) → All (λ b. b ≢ 10) line → length line ≤ 255 → is_open number part (lines line) ≡ true
+last_line part number line other few = ap (is_open number part) (lines_none line other) ∙ le-leb (length line) 255 few

@@ -2,14 +2,13 @@
 use Rattle.std.proofs.Common.{◌≡◌, ℕ, ◌+◌, ◌<◌, Bool, true, false, eqb, List, [], ◌∷◌, ◌++◌, length, Result, Ok, Err, refl, sym, ap, subst, ◌∙◌, arith}
 use Rattle.std.proofs.lemmas.Bool.{leb-false}
 use Rattle.std.proofs.lemmas.List.{length-append}
+use Rattle.vm_types.specs.Configuration.{IsWellFormed}
 use Rattle.vm_types.specs.declared.config.Config.{Config}
 use Rattle.trace_words.specs.declared.cause.Cause.{Cause}
 use Rattle.trace_words.specs.declared.cause.Cause.TheVariants.{LineTooLong}
-use Rattle.trace_lines.specs.declared.built.Built.{Built}
 use Rattle.trace_lines.specs.declared.part.Part.{Part}
 use Rattle.trace_lines.specs.declared.places.Place.{Place}
 use Rattle.trace_lines.specs.declared.places.Place.TheVariants.{Version, Frames, PageFile, Declarations, Requests, Ended}
-use Rattle.trace_reader.specs.Accepted.{IsRead}
 use Rattle.trace_reader.specs.Changes.{start}
 use Rattle.trace_reader.specs.Drafts.{IsDraft}
 use Rattle.trace_reader.specs.Laws.{ReadIsWellFormed, FaultStays}
@@ -29,33 +28,33 @@ not_faulty n cause config e = cc
 same_configuration : (a b : Config) → Configuration a ≡ Configuration b → a ≡ b
 same_configuration a b e = cc
 
-finished_read : (built : Built) (part : Part) (place : Place) (config : Config) → IsDraft built part → part.place ≡ place → finished place part.config ≡ Configuration config → IsRead built config
-finished_read built part Version config d p e = absurd (not_finished config e)
-finished_read built part Frames config d p e = absurd (not_finished config e)
-finished_read built part PageFile config d p e = absurd (not_finished config e)
-finished_read built part Declarations config d p e = absurd (not_finished config e)
-finished_read built part Requests config d p e = absurd (not_finished config e)
-finished_read built part Ended config d p e = subst (IsRead built) (same_configuration part.config config e) (read_whole built part d p)
+finished_read : (part : Part) (place : Place) (config : Config) → IsDraft part → part.place ≡ place → finished place part.config ≡ Configuration config → IsWellFormed config
+finished_read part Version config d p e = absurd (not_finished config e)
+finished_read part Frames config d p e = absurd (not_finished config e)
+finished_read part PageFile config d p e = absurd (not_finished config e)
+finished_read part Declarations config d p e = absurd (not_finished config e)
+finished_read part Requests config d p e = absurd (not_finished config e)
+finished_read part Ended config d p e = subst IsWellFormed (same_configuration part.config config e) (read_whole part d p)
 
-after_read : (built : Built) (number : ℕ) (part : Part) (line : List ℕ) (config : Config) (rest : Part → Trace) → IsDraft built part
-    → ((next : Part) → IsDraft built next → rest next ≡ Configuration config → IsRead built config)
-    → (r : Result Part Cause) → next_line built number part line ≡ r → after number r rest ≡ Configuration config → IsRead built config
-after_read built number part line config rest d h (Ok next) is e = h next (next_draft built number part next line d is) e
-after_read built number part line config rest d h (Err cause) is e = absurd (not_faulty number cause config e)
+after_read : (number : ℕ) (part : Part) (line : List ℕ) (config : Config) (rest : Part → Trace) → IsDraft part
+    → ((next : Part) → IsDraft next → rest next ≡ Configuration config → IsWellFormed config)
+    → (r : Result Part Cause) → next_line number part line ≡ r → after number r rest ≡ Configuration config → IsWellFormed config
+after_read number part line config rest d h (Ok next) is e = h next (next_draft number part next line d is) e
+after_read number part line config rest d h (Err cause) is e = absurd (not_faulty number cause config e)
 
-end_read : (built : Built) (number : ℕ) (part : Part) (last : List ℕ) (config : Config) → IsDraft built part → at_end built number part last ≡ Configuration config → IsRead built config
-end_read built number part [] config d e = finished_read built part part.place config d refl e
-end_read built number part (b ∷ last) config d e =
-    after_read built number part (b ∷ last) config (λ p. finished p.place p.config) d (λ next n f. finished_read built next next.place config n refl f) (next_line built number part (b ∷ last)) refl e
+end_read : (number : ℕ) (part : Part) (last : List ℕ) (config : Config) → IsDraft part → at_end number part last ≡ Configuration config → IsWellFormed config
+end_read number part [] config d e = finished_read part part.place config d refl e
+end_read number part (b ∷ last) config d e =
+    after_read number part (b ∷ last) config (λ p. finished p.place p.config) d (λ next n f. finished_read next next.place config n refl f) (next_line number part (b ∷ last)) refl e
 
-judge_read : (built : Built) (number : ℕ) (part : Part) (all : List (List ℕ)) (config : Config) → IsDraft built part → judge built number part all ≡ Configuration config → IsRead built config
-judge_read built number part [] config d e = end_read built number part [] config d e
-judge_read built number part (last ∷ []) config d e = end_read built number part last config d e
-judge_read built number part (line ∷ next ∷ more) config d e =
-    after_read built number part line config (λ p. judge built (number + 1) p (next ∷ more)) d (λ p n f. judge_read built (number + 1) p (next ∷ more) config n f) (next_line built number part line) refl e
+judge_read : (number : ℕ) (part : Part) (all : List (List ℕ)) (config : Config) → IsDraft part → judge number part all ≡ Configuration config → IsWellFormed config
+judge_read number part [] config d e = end_read number part [] config d e
+judge_read number part (last ∷ []) config d e = end_read number part last config d e
+judge_read number part (line ∷ next ∷ more) config d e =
+    after_read number part line config (λ p. judge (number + 1) p (next ∷ more)) d (λ p n f. judge_read (number + 1) p (next ∷ more) config n f) (next_line number part line) refl e
 
 pub read_is_well_formed : ReadIsWellFormed
-read_is_well_formed built text config e = judge_read built 1 start (lines text) config (start_draft built) e
+read_is_well_formed text config e = judge_read 1 start (lines text) config start_draft e
 
 -- a text that goes on
 
@@ -103,44 +102,44 @@ lines_append (b ∷ text) more = by_byte b text more (eqb b 10) refl (lines_appe
 
 -- what is shut stays so
 
-abbrev Stays : Built → ℕ → Part → List (List ℕ) → List (List ℕ) → Type 0
-Stays built number part all more = ((n : ℕ) × ((cause : Cause) × (judge built number part all ≡ Faulty n cause))) × (judge built number part (joined all more) ≡ judge built number part all)
+abbrev Stays : ℕ → Part → List (List ℕ) → List (List ℕ) → Type 0
+Stays number part all more = ((n : ℕ) × ((cause : Cause) × (judge number part all ≡ Faulty n cause))) × (judge number part (joined all more) ≡ judge number part all)
 
 never : true ≡ false → ⊥
 never e = cc
 
-long_stays : (built : Built) (number : ℕ) (part : Part) (last : List ℕ) (more : List (List ℕ)) → 255 < length last → Stays built number part (last ∷ []) more
+long_stays : (number : ℕ) (part : Part) (last : List ℕ) (more : List (List ℕ)) → 255 < length last → Stays number part (last ∷ []) more
 unfolding joined
-long_stays built number part last [] long = let fault = refused built part number LineTooLong last [] (omega arith) (too_long built part number last long) in ((number, (LineTooLong, fault)), refl)
-long_stays built number part last (m ∷ more) long =
-    let fault = refused built part number LineTooLong last [] (omega arith) (too_long built part number last long) in
+long_stays number part last [] long = let fault = refused part number LineTooLong last [] (omega arith) (too_long part number last long) in ((number, (LineTooLong, fault)), refl)
+long_stays number part last (m ∷ more) long =
+    let fault = refused part number LineTooLong last [] (omega arith) (too_long part number last long) in
     let longer : 255 < length (last ++ m) = rw length-append (omega arith) in
-    ((number, (LineTooLong, fault)), refused built part number LineTooLong (last ++ m) more (omega arith) (too_long built part number (last ++ m) longer) ∙ sym fault)
+    ((number, (LineTooLong, fault)), refused part number LineTooLong (last ++ m) more (omega arith) (too_long part number (last ++ m) longer) ∙ sym fault)
 
-line_stays : (built : Built) (number : ℕ) (part : Part) (line next : List ℕ) (all more : List (List ℕ))
-    → ((p : Part) → is_open built (number + 1) p (next ∷ all) ≡ false → Stays built (number + 1) p (next ∷ all) more)
-    → (r : Result Part Cause) → next_line built number part line ≡ r → open_after r (λ p. is_open built (number + 1) p (next ∷ all)) ≡ false → Stays built number part (line ∷ next ∷ all) more
+line_stays : (number : ℕ) (part : Part) (line next : List ℕ) (all more : List (List ℕ))
+    → ((p : Part) → is_open (number + 1) p (next ∷ all) ≡ false → Stays (number + 1) p (next ∷ all) more)
+    → (r : Result Part Cause) → next_line number part line ≡ r → open_after r (λ p. is_open (number + 1) p (next ∷ all)) ≡ false → Stays number part (line ∷ next ∷ all) more
 unfolding joined
-line_stays built number part line next all more rest (Ok p) is shut =
+line_stays number part line next all more rest (Ok p) is shut =
     let tail = rest p shut in
     let head = joined_head 0 next all more in
-    let here : judge built number part (line ∷ next ∷ all) ≡ judge built (number + 1) p (next ∷ all) = rw is refl in
-    let there : judge built number part (line ∷ joined (next ∷ all) more) ≡ judge built (number + 1) p (joined (next ∷ all) more) =
-    ap (λ (ls : List (List ℕ)). judge built number part (line ∷ ls)) head.2 ∙ (rw is refl) ∙ ap (judge built (number + 1) p) (sym head.2) in
+    let here : judge number part (line ∷ next ∷ all) ≡ judge (number + 1) p (next ∷ all) = rw is refl in
+    let there : judge number part (line ∷ joined (next ∷ all) more) ≡ judge (number + 1) p (joined (next ∷ all) more) =
+    ap (λ (ls : List (List ℕ)). judge number part (line ∷ ls)) head.2 ∙ (rw is refl) ∙ ap (judge (number + 1) p) (sym head.2) in
     ((tail.0.0, (tail.0.1.0, here ∙ tail.0.1.1)), there ∙ tail.1 ∙ sym here)
-line_stays built number part line next all more rest (Err cause) is shut =
+line_stays number part line next all more rest (Err cause) is shut =
     let head = joined_head 0 next all more in
-    let here : judge built number part (line ∷ next ∷ all) ≡ Faulty number cause = rw is refl in
-    let there : judge built number part (line ∷ joined (next ∷ all) more) ≡ Faulty number cause =
-    ap (λ (ls : List (List ℕ)). judge built number part (line ∷ ls)) head.2 ∙ (rw is refl) in
+    let here : judge number part (line ∷ next ∷ all) ≡ Faulty number cause = rw is refl in
+    let there : judge number part (line ∷ joined (next ∷ all) more) ≡ Faulty number cause =
+    ap (λ (ls : List (List ℕ)). judge number part (line ∷ ls)) head.2 ∙ (rw is refl) in
     ((number, (cause, here)), there ∙ sym here)
 
-stays : (built : Built) (number : ℕ) (part : Part) (all more : List (List ℕ)) → is_open built number part all ≡ false → Stays built number part all more
-stays built number part [] more shut = absurd (never shut)
-stays built number part (last ∷ []) more shut = long_stays built number part last more (leb-false (length last) 255 shut)
-stays built number part (line ∷ next ∷ all) more shut = line_stays built number part line next all more (λ p h. stays built (number + 1) p (next ∷ all) more h) (next_line built number part line) refl shut
+stays : (number : ℕ) (part : Part) (all more : List (List ℕ)) → is_open number part all ≡ false → Stays number part all more
+stays number part [] more shut = absurd (never shut)
+stays number part (last ∷ []) more shut = long_stays number part last more (leb-false (length last) 255 shut)
+stays number part (line ∷ next ∷ all) more shut = line_stays number part line next all more (λ p h. stays (number + 1) p (next ∷ all) more h) (next_line number part line) refl shut
 
 pub fault_stays : FaultStays
-fault_stays built text more shut =
-    let h = stays built 1 start (lines text) (lines more) shut in
-    (h.0, ap (judge built 1 start) (lines_append text more) ∙ h.1)
+fault_stays text more shut =
+    let h = stays 1 start (lines text) (lines more) shut in
+    (h.0, ap (judge 1 start) (lines_append text more) ∙ h.1)

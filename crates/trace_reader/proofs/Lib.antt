@@ -7,7 +7,6 @@ pub mod Listing
 pub mod Sounding
 pub mod SoundNext
 pub mod PlacedNext
-pub mod RunnableNext
 pub mod Drafting
 pub mod Judging
 pub mod Pieces

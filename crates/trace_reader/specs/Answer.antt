@@ -2,7 +2,6 @@
 use Rattle.std.specs.Prelude.{◌≡◌, ◌⊎◌, ℕ, ◌≤◌, true, false, List, [], ◌++◌, length, Option, Some, Result, Ok, Err}
 use Rattle.vm_types.specs.declared.config.Config.{Config}
 use Rattle.outside_io.specs.Causes.{Rose}
-use Rattle.trace_lines.specs.declared.built.Built.{Built}
 use Rattle.trace_reader.specs.declared.fault.TraceFault.{TraceFault}
 use Rattle.trace_reader.specs.declared.fault.TraceFault.TheVariants.{NoMemory, ReadFault, Line, Unfinished}
 use Rattle.trace_reader.specs.Meaning.{Configuration, Faulty, trace_of, shows_no_fault}
@@ -15,27 +14,27 @@ pub record IsTaken (text taken : List ℕ) (left : Option (List ℕ)) : Type 0 w
   pub left_over : left ≡ Some rest
 
 -- the bytes taken show the fault, or they are the whole text
-pub record HasShown (built : Built) (text : List ℕ) (left : Option (List ℕ)) : Type 0 where
+pub record HasShown (text : List ℕ) (left : Option (List ℕ)) : Type 0 where
   pub taken : List ℕ
   pub split : IsTaken text taken left
-  pub shown : (shows_no_fault built taken ≡ false) ⊎ (left ≡ Some [])
+  pub shown : (shows_no_fault taken ≡ false) ⊎ (left ≡ Some [])
 
 -- no line that was judged is at fault: the bytes taken show none, but for the last 8192 at most, which
 -- came in one piece
-pub record IsRightSoFar (built : Built) (text : List ℕ) (left : Option (List ℕ)) : Type 0 where
+pub record IsRightSoFar (text : List ℕ) (left : Option (List ℕ)) : Type 0 where
   pub judged : List ℕ
   pub piece : List ℕ
   pub split : IsTaken text (judged ++ piece) left
   pub few : length piece ≤ 8192
-  pub right : shows_no_fault built judged ≡ true
+  pub right : shows_no_fault judged ≡ true
 
 -- what the answer says of the whole text, and of what is left of it
-abbrev pub Answers : Built → Result Config TraceFault → List ℕ → Option (List ℕ) → Type 0
-Answers built (Ok config) text left = (trace_of built text ≡ Configuration config) × (left ≡ Some [])
-Answers built (Err (Line n cause)) text left = (trace_of built text ≡ Faulty n cause) × HasShown built text left
-Answers built (Err Unfinished) text left = (trace_of built text ≡ meaning.Unfinished) × (left ≡ Some [])
-Answers built (Err ReadFault) text left = (taken : List ℕ) × IsTaken text taken left × (shows_no_fault built taken ≡ true)
-Answers built (Err NoMemory) text left = IsRightSoFar built text left
+abbrev pub Answers : Result Config TraceFault → List ℕ → Option (List ℕ) → Type 0
+Answers (Ok config) text left = (trace_of text ≡ Configuration config) × (left ≡ Some [])
+Answers (Err (Line n cause)) text left = (trace_of text ≡ Faulty n cause) × HasShown text left
+Answers (Err Unfinished) text left = (trace_of text ≡ meaning.Unfinished) × (left ≡ Some [])
+Answers (Err ReadFault) text left = (taken : List ℕ) × IsTaken text taken left × (shows_no_fault taken ≡ true)
+Answers (Err NoMemory) text left = IsRightSoFar text left
 
 -- the count of failures rose at `ReadFault`, and is else unchanged
 abbrev pub FaultsBy : Result Config TraceFault → ℕ → ℕ → Type 0

@@ -1,20 +1,14 @@
 -- What the lines so far keep. Source: this project's own.
-use Rattle.std.specs.Prelude.{◌≡◌, ◌≢◌, ℕ, ◌<◌, ◌≤◌, true, List, [], ◌∷◌, length, All, AllPairs, Result, Err, IsOk}
+use Rattle.std.specs.Prelude.{◌≡◌, ◌≢◌, ℕ, ◌<◌, ◌≤◌, true, [], length, All, AllPairs, Result, Err, IsOk}
 use Rattle.vm_types.specs.Configuration.{AreSections, IsMapping, AreApart, AreFails, IsTask}
 use Rattle.vm_types.specs.declared.config.Config.{Config}
-use Rattle.vm_types.specs.declared.config.Mapping.{Mapping}
 use Rattle.vm_types.specs.declared.config.Params.{Params}
-use Rattle.vm_types.specs.declared.config.ProcSpec.{ProcSpec}
 use Rattle.trace_words.specs.declared.cause.Cause.{Cause}
-use Rattle.trace_lines.specs.declared.built.Built.{Built}
-use Rattle.trace_lines.specs.declared.built.Built.TheVariants.{FirstPath, All as Whole}
 use Rattle.trace_lines.specs.declared.part.Part.{Part}
-use Rattle.trace_lines.specs.ParamWords.{default_params}
 use Rattle.trace_lines.specs.Places.{rank}
 use Rattle.trace_lines.specs.Requests.{params_agree, has_frames}
 use Rattle.trace_reader.specs.declared.draft.Refused.{Refused}
 use Rattle.trace_reader.specs.declared.draft.Refused.TheVariants.{Fault, NoMemory}
-use Rattle.trace_reader.specs.Accepted.{IsAcceptedMap, IsAcceptedRequest}
 use Rattle.trace_reader.specs.Right.{IsOrdered}
 
 -- the ranges of the parameters
@@ -61,32 +55,10 @@ pub record IsPlaced (place : ℕ) (config : Config) : Type 0 where
   pub agree : 4 ≤ place → params_agree config.params ≡ true
   pub room : 4 ≤ place → has_frames config ≡ true
 
--- at most one mapping, of the first process
-abbrev pub AreMapsOf : List ProcSpec → List Mapping → Type 0
-AreMapsOf procs [] = Unit {0}
-AreMapsOf [] (m ∷ []) = ⊥
-AreMapsOf (spec ∷ procs) (m ∷ []) = IsAcceptedMap spec m
-AreMapsOf procs (m ∷ n ∷ rest) = ⊥
-
--- what the program can run
-pub record IsRunnable (config : Config) : Type 0 where
-  pub frames : config.frames ≤ 64
-  pub bad : config.bad ≡ []
-  pub params : config.params ≡ default_params
-  pub sections : config.sections ≡ []
-  pub procs : length config.procs ≤ 1
-  pub maps : AreMapsOf config.procs config.maps
-  pub fails : config.fails ≡ []
-  pub body : All (λ task. IsAcceptedRequest task.request) config.body
-
-abbrev pub IsRunnableBy : Built → Config → Type 0
-IsRunnableBy FirstPath config = IsRunnable config
-IsRunnableBy Whole config = Unit {0}
-
-pub record IsDraft (built : Built) (part : Part) : Type 0 where
+-- what the lines up to this place keep
+pub record IsDraft (part : Part) : Type 0 where
   pub sound : AreSound part.config
   pub placed : IsPlaced (rank part.place) part.config
-  pub runnable : IsRunnableBy built part.config
 
 -- why a line that gives this wasn't taken
 abbrev pub IsRefused : Result Part Cause → Refused → Type 0

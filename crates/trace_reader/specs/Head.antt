@@ -6,7 +6,6 @@ use Rattle.vm_types.specs.declared.config.Config.{Config}
 use Rattle.trace_words.specs.declared.cause.Cause.{Cause}
 use Rattle.trace_words.specs.declared.cause.Cause.TheVariants.{UnknownWord, Misplaced}
 use Rattle.trace_words.specs.Words.{is, words}
-use Rattle.trace_lines.specs.declared.built.Built.{Built}
 use Rattle.trace_lines.specs.declared.part.Part.{Part}
 use Rattle.trace_lines.specs.declared.places.Place.{Place}
 use Rattle.trace_lines.specs.declared.places.Place.TheVariants.{Ended}
@@ -35,8 +34,8 @@ by_trace (Ok next) place ws = goes_on next
 by_trace (Err UnknownWord) Ended ws = by_log_word ws
 by_trace (Err cause) place ws = is_faulty cause
 
-abbrev pub head_line : Built → ℕ → Part → List ℕ → HeadLine
-head_line built number part line = by_trace (next_line built number part line) part.place (words (content line))
+abbrev pub head_line : ℕ → Part → List ℕ → HeadLine
+head_line number part line = by_trace (next_line number part line) part.place (words (content line))
 
 pub data Head : Type 0 where
   Configured : Config → List ℕ → Head
@@ -50,16 +49,16 @@ after_line (goes_on next) number part behind rest = rest next
 after_line (is_faulty cause) number part behind rest = Faulty number cause
 
 -- the text ends with this part of a line: if it isn't empty it is the last line
-abbrev pub head_at_end : Built → ℕ → Part → List ℕ → Head
-head_at_end built number part [] = Unfinished
-head_at_end built number part (b ∷ bytes) = after_line (head_line built number part (b ∷ bytes)) number part [] (λ next. Unfinished)
+abbrev pub head_at_end : ℕ → Part → List ℕ → Head
+head_at_end number part [] = Unfinished
+head_at_end number part (b ∷ bytes) = after_line (head_line number part (b ∷ bytes)) number part [] (λ next. Unfinished)
 
 -- the lines from this number on, one after another
-abbrev pub judge_head : Built → ℕ → Part → List (List ℕ) → Head
-judge_head built number part [] = Unfinished
-judge_head built number part (last ∷ []) = head_at_end built number part last
-judge_head built number part (line ∷ next ∷ more) =
-    after_line (head_line built number part line) number part (join_with_byte 10 (next ∷ more)) (λ p. judge_head built (number + 1) p (next ∷ more))
+abbrev pub judge_head : ℕ → Part → List (List ℕ) → Head
+judge_head number part [] = Unfinished
+judge_head number part (last ∷ []) = head_at_end number part last
+judge_head number part (line ∷ next ∷ more) =
+    after_line (head_line number part line) number part (join_with_byte 10 (next ∷ more)) (λ p. judge_head (number + 1) p (next ∷ more))
 
-abbrev pub head_of : Built → List ℕ → Head
-head_of built text = judge_head built 1 start (lines text)
+abbrev pub head_of : List ℕ → Head
+head_of text = judge_head 1 start (lines text)

@@ -1,4 +1,3 @@
-pub mod Accepted
 pub mod Right
 pub mod Changes
 pub mod Drafts

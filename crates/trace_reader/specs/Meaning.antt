@@ -5,7 +5,6 @@ use Rattle.std.specs.List.{slice_split}
 use Rattle.vm_types.specs.declared.config.Config.{Config}
 use Rattle.trace_words.specs.declared.cause.Cause.{Cause}
 use Rattle.trace_words.specs.Judged.{◌>>=◌}
-use Rattle.trace_lines.specs.declared.built.Built.{Built}
 use Rattle.trace_lines.specs.declared.part.Part.{Part}
 use Rattle.trace_lines.specs.declared.places.Place.{Place}
 use Rattle.trace_lines.specs.declared.places.Place.TheVariants.{Version, Frames, PageFile, Declarations, Requests, Ended}
@@ -19,8 +18,8 @@ pub data Trace : Type 0 where
   Unfinished : Trace
 
 -- the declarations after the line of this number
-abbrev pub next_line : Built → ℕ → Part → List ℕ → Result Part Cause
-next_line built number part line = judged built number part line >>= λ says. Ok (changed part says)
+abbrev pub next_line : ℕ → Part → List ℕ → Result Part Cause
+next_line number part line = judged number part line >>= λ says. Ok (changed part says)
 
 -- the text ends after whole lines
 abbrev pub finished : Place → Config → Trace
@@ -37,23 +36,23 @@ after number (Ok part) rest = rest part
 after number (Err cause) rest = Faulty number cause
 
 -- the text ends with this part of a line: if it isn't empty it is the last line
-abbrev pub at_end : Built → ℕ → Part → List ℕ → Trace
-at_end built number part [] = finished part.place part.config
-at_end built number part (b ∷ bytes) = after number (next_line built number part (b ∷ bytes)) (λ p. finished p.place p.config)
+abbrev pub at_end : ℕ → Part → List ℕ → Trace
+at_end number part [] = finished part.place part.config
+at_end number part (b ∷ bytes) = after number (next_line number part (b ∷ bytes)) (λ p. finished p.place p.config)
 
 -- the lines from this number on, one after another
-abbrev pub judge : Built → ℕ → Part → List (List ℕ) → Trace
-judge built number part [] = at_end built number part []
-judge built number part (last ∷ []) = at_end built number part last
-judge built number part (line ∷ next ∷ more) = after number (next_line built number part line) (λ p. judge built (number + 1) p (next ∷ more))
+abbrev pub judge : ℕ → Part → List (List ℕ) → Trace
+judge number part [] = at_end number part []
+judge number part (last ∷ []) = at_end number part last
+judge number part (line ∷ next ∷ more) = after number (next_line number part line) (λ p. judge (number + 1) p (next ∷ more))
 
 -- what stands between the bytes 10, and at the text's ends
 abbrev pub lines : List ℕ → List (List ℕ)
 lines text = slice_split (λ b. b == 10) text
 
 -- lines end with byte 10, the last may end with the text
-abbrev pub trace_of : Built → List ℕ → Trace
-trace_of built text = judge built 1 start (lines text)
+abbrev pub trace_of : List ℕ → Trace
+trace_of text = judge 1 start (lines text)
 
 -- no line is at fault so far
 abbrev pub open_after : Result Part Cause → (Part → Bool) → Bool
@@ -61,11 +60,11 @@ open_after (Ok part) rest = rest part
 open_after (Err cause) rest = false
 
 -- a line that has begun is at fault once it has 256 bytes
-abbrev pub is_open : Built → ℕ → Part → List (List ℕ) → Bool
-is_open built number part [] = true
-is_open built number part (last ∷ []) = nat_le (length last) 255
-is_open built number part (line ∷ next ∷ more) = open_after (next_line built number part line) (λ p. is_open built (number + 1) p (next ∷ more))
+abbrev pub is_open : ℕ → Part → List (List ℕ) → Bool
+is_open number part [] = true
+is_open number part (last ∷ []) = nat_le (length last) 255
+is_open number part (line ∷ next ∷ more) = open_after (next_line number part line) (λ p. is_open (number + 1) p (next ∷ more))
 
 -- no line of the text is at fault, whatever comes after it
-abbrev pub shows_no_fault : Built → List ℕ → Bool
-shows_no_fault built text = is_open built 1 start (lines text)
+abbrev pub shows_no_fault : List ℕ → Bool
+shows_no_fault text = is_open 1 start (lines text)

@@ -2,7 +2,6 @@
 -- Source: this project's own.
 use Rattle.std.specs.Prelude.{◌≡◌, ◌≢◌, ℕ, ◌+◌, ◌-◌, ◌≤◌, true, false, List, [], ◌++◌, length, drop, All, Option, Result, Ok, Err, IsOk}
 use Rattle.vm_types.specs.declared.config.Config.{Config}
-use Rattle.trace_lines.specs.declared.built.Built.{Built}
 use Rattle.trace_lines.specs.declared.part.Part.{Part}
 use Rattle.trace_lines.specs.Seen.{IsSeen}
 use Rattle.trace_reader.specs.declared.draft.Draft.{Draft}
@@ -15,66 +14,66 @@ use Rattle.trace_reader.specs.Meaning.{Trace, Configuration, Faulty, next_line, 
 use Rattle.trace_reader.specs.Meaning as meaning
 
 -- what is known before the line of this number
-pub record IsReading (built : Built) (held : Draft) (number : ℕ) : Type 0 where
+pub record IsReading (held : Draft) (number : ℕ) : Type 0 where
   pub seen : IsSeen held.seen held.part.config
-  pub draft : IsDraft built held.part
+  pub draft : IsDraft held.part
   pub few : number ≤ 200001
 
 -- the line was taken
-pub record HasTaken (built : Built) (before : Draft) (number : ℕ) (line : List ℕ) (after : Draft) (next : ℕ) : Type 0 where
-  pub taken : next_line built number before.part line ≡ Ok after.part
+pub record HasTaken (before : Draft) (number : ℕ) (line : List ℕ) (after : Draft) (next : ℕ) : Type 0 where
+  pub taken : next_line number before.part line ≡ Ok after.part
   pub counted : next ≡ number + 1
-  pub reading : IsReading built after next
+  pub reading : IsReading after next
 
 -- why the line wasn't taken
-abbrev pub IsLineAtFault : Built → Part → ℕ → List ℕ → TraceFault → Type 0
-IsLineAtFault built part number line fault.NoMemory = IsOk (next_line built number part line)
-IsLineAtFault built part number line fault.ReadFault = ⊥
-IsLineAtFault built part number line (fault.Line n cause) = (n ≡ number) × (next_line built number part line ≡ Err cause)
-IsLineAtFault built part number line fault.Unfinished = ⊥
+abbrev pub IsLineAtFault : Part → ℕ → List ℕ → TraceFault → Type 0
+IsLineAtFault part number line fault.NoMemory = IsOk (next_line number part line)
+IsLineAtFault part number line fault.ReadFault = ⊥
+IsLineAtFault part number line (fault.Line n cause) = (n ≡ number) × (next_line number part line ≡ Err cause)
+IsLineAtFault part number line fault.Unfinished = ⊥
 
 -- whatever comes next, the text from before is judged as the rest is from after
-pub record Follows (built : Built) (before : Part) (first : ℕ) (text : List ℕ) (after : Part) (next : ℕ) (rest : List ℕ) : Type 0 where
-  pub judged : (more : List ℕ) → judge built first before (lines (text ++ more)) ≡ judge built next after (lines (rest ++ more))
-  pub opened : (more : List ℕ) → is_open built first before (lines (text ++ more)) ≡ is_open built next after (lines (rest ++ more))
+pub record Follows (before : Part) (first : ℕ) (text : List ℕ) (after : Part) (next : ℕ) (rest : List ℕ) : Type 0 where
+  pub judged : (more : List ℕ) → judge first before (lines (text ++ more)) ≡ judge next after (lines (rest ++ more))
+  pub opened : (more : List ℕ) → is_open first before (lines (text ++ more)) ≡ is_open next after (lines (rest ++ more))
 
 -- a front of the text has no line at fault
-pub record IsOpenFront (built : Built) (part : Part) (number : ℕ) (text : List ℕ) : Type 0 where
+pub record IsOpenFront (part : Part) (number : ℕ) (text : List ℕ) : Type 0 where
   pub front : List ℕ
   pub rest : List ℕ
   pub whole : text ≡ front ++ rest
-  pub opened : is_open built number part (lines front) ≡ true
+  pub opened : is_open number part (lines front) ≡ true
 
 -- whatever comes next, the text has the fault; or memory ran out at a line that is right
-abbrev pub IsAtFault : Built → Part → ℕ → List ℕ → TraceFault → Type 0
-IsAtFault built part number text fault.NoMemory = IsOpenFront built part number text
-IsAtFault built part number text fault.ReadFault = ⊥
-IsAtFault built part number text (fault.Line n cause) =
-    ((more : List ℕ) → judge built number part (lines (text ++ more)) ≡ Faulty n cause) × (is_open built number part (lines text) ≡ false)
-IsAtFault built part number text fault.Unfinished = ⊥
+abbrev pub IsAtFault : Part → ℕ → List ℕ → TraceFault → Type 0
+IsAtFault part number text fault.NoMemory = IsOpenFront part number text
+IsAtFault part number text fault.ReadFault = ⊥
+IsAtFault part number text (fault.Line n cause) =
+    ((more : List ℕ) → judge number part (lines (text ++ more)) ≡ Faulty n cause) × (is_open number part (lines text) ≡ false)
+IsAtFault part number text fault.Unfinished = ⊥
 
 -- the answer is what the text means; or memory ran out at its last line, which is right
-abbrev pub Means : Built → ℕ → Part → List ℕ → Result Config TraceFault → Trace → Type 0
-Means built number part line (Ok config) trace = trace ≡ Configuration config
-Means built number part line (Err fault.NoMemory) trace = IsOk (next_line built number part line)
-Means built number part line (Err fault.ReadFault) trace = ⊥
-Means built number part line (Err (fault.Line n cause)) trace = trace ≡ Faulty n cause
-Means built number part line (Err fault.Unfinished) trace = trace ≡ meaning.Unfinished
+abbrev pub Means : ℕ → Part → List ℕ → Result Config TraceFault → Trace → Type 0
+Means number part line (Ok config) trace = trace ≡ Configuration config
+Means number part line (Err fault.NoMemory) trace = IsOk (next_line number part line)
+Means number part line (Err fault.ReadFault) trace = ⊥
+Means number part line (Err (fault.Line n cause)) trace = trace ≡ Faulty n cause
+Means number part line (Err fault.Unfinished) trace = trace ≡ meaning.Unfinished
 
 -- of the text this much was taken: whole lines, and a part of the next one
-pub record IsHeld (built : Built) (text : List ℕ) (left : Option (List ℕ)) (part : Part) (number : ℕ) (pending : List ℕ) : Type 0 where
+pub record IsHeld (text : List ℕ) (left : Option (List ℕ)) (part : Part) (number : ℕ) (pending : List ℕ) : Type 0 where
   pub done : List ℕ
   pub split : IsTaken text (done ++ pending) left
-  pub follows : Follows built start 1 done part number []
+  pub follows : Follows start 1 done part number []
 
 -- the whole lines of the piece were taken, and this much behind them is left
-pub record IsPieceTaken (built : Built) (before : Part) (first : ℕ) (piece : List ℕ) (after : Draft) (next held : ℕ) : Type 0 where
+pub record IsPieceTaken (before : Part) (first : ℕ) (piece : List ℕ) (after : Draft) (next held : ℕ) : Type 0 where
   pub bound : held ≤ length piece
   pub front : List ℕ
   pub split : piece ≡ front ++ drop (length piece - held) piece
-  pub follows : Follows built before first front after.part next []
+  pub follows : Follows before first front after.part next []
   pub one_line : All (λ b. b ≢ 10) (drop (length piece - held) piece)
   pub few : held ≤ 255
-  pub reading : IsReading built after next
+  pub reading : IsReading after next
   pub later : first ≤ next
   pub same : next ≡ first → held ≡ length piece

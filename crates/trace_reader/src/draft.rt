@@ -8,7 +8,7 @@ ghost use Rattle.trace_reader.specs.Right.{IsRight};
 
 use crate::store::{add, add_range, blank, fails_of, write_bytes};
 use std::alloc::Global;
-use trace_lines::{Built, DEFAULTS, Line, Part, Place, Seen, block_key, judge, page_key};
+use trace_lines::{DEFAULTS, Line, Part, Place, Seen, block_key, judge, page_key};
 use trace_words::Cause;
 use vm_types::{BlockId, Config, Listed, Mapping, NoMemory};
 
@@ -160,21 +160,15 @@ impl Draft {
     }
 
     // Takes the line of this number, if it breaks no rule: it is judged before anything is kept.
-    pub(crate) fn accept(
-        &mut self,
-        alloc: Global,
-        built: Built,
-        number: u32,
-        line: &[u8],
-    ) -> Result<(), Refused>
+    pub(crate) fn accept(&mut self, alloc: Global, number: u32, line: &[u8]) -> Result<(), Refused>
         requires seen { IsSeen self.old.seen self.old.part.config }
-        requires draft { IsDraft built self.old.part }
+        requires draft { IsDraft self.old.part }
         ensures value { MatchResult result
-            (λ _. next_line built number self.old.part line.now ≡ Ok self.new.part)
-            (λ e. IsRefused (next_line built number self.old.part line.now) e) }
+            (λ _. next_line number self.old.part line.now ≡ Ok self.new.part)
+            (λ e. IsRefused (next_line number self.old.part line.now) e) }
         ensures seen { OnOk result (IsSeen self.new.seen self.new.part.config) }
     {
-        let line = judge(built, number, &self.part, &self.seen, line)?;
+        let line = judge(number, &self.part, &self.seen, line)?;
         self.store(alloc, &line)?;
         Ok(())
     }

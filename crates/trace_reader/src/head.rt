@@ -1,10 +1,10 @@
 //! The front of a text that has a trace and then a log.
 
 ghost use Rattle.std.specs.Prelude.{◌≡◌, ◌≤◌, ℕ, IfOk, IfErr, IfSome, IsSome, OnOk, if◌then◌else◌};
+ghost use Rattle.vm_types.specs.Configuration.{IsWellFormed};
 ghost use Rattle.line_source.specs.BytesLeft.{bytes_left};
 ghost use Rattle.trace_words.specs.Words.{words};
 ghost use Rattle.trace_lines.specs.Grammar.{content};
-ghost use Rattle.trace_reader.specs.Accepted.{IsRead};
 ghost use Rattle.trace_reader.specs.Answer.{FaultsBy};
 ghost use Rattle.trace_reader.specs.Head.{by_log_word, head_line};
 ghost use Rattle.trace_reader.specs.HeadAnswer.{HeadAnswers, HasTakenHead, IsHeadLineAtFault, AnswersNext, AnswersLine, IsKeptNext, CountsBy};
@@ -19,7 +19,7 @@ use arrayvec::ArrayVec;
 use line_source::{Line, Lines};
 use outside_io::Source;
 use std::alloc::Global;
-use trace_lines::{Built, Place, judge};
+use trace_lines::{Place, judge};
 use trace_words::{Cause, is, next_word};
 use vm_types::Config;
 
@@ -62,18 +62,12 @@ fn by_words(line: &[u8]) -> AfterEnd
 
 // Whether the next line stands after END, and no line of a trace has its first word.
 fn is_unknown(reader: &Reader, line: &[u8]) -> bool
-    requires { IsReading reader.now.built reader.now.draft reader.now.number }
-    ensures { head_line reader.now.built reader.now.number reader.now.draft.part line.now
-        ≡ (if result then by_log_word (words (content line.now)) else plain (next_line reader.now.built reader.now.number reader.now.draft.part line.now)) }
+    requires { IsReading reader.now.draft reader.now.number }
+    ensures { head_line reader.now.number reader.now.draft.part line.now
+        ≡ (if result then by_log_word (words (content line.now)) else plain (next_line reader.now.number reader.now.draft.part line.now)) }
 {
     match reader.draft.part.place {
-        Place::Ended => match judge(
-            reader.built,
-            reader.number,
-            &reader.draft.part,
-            &reader.draft.seen,
-            line,
-        ) {
+        Place::Ended => match judge(reader.number, &reader.draft.part, &reader.draft.seen, line) {
             Err(Cause::UnknownWord) => true,
             _ => false,
         },
@@ -83,10 +77,9 @@ fn is_unknown(reader: &Reader, line: &[u8]) -> bool
 
 // Takes the next line, and says whether it begins the log.
 fn take_head_line(reader: &mut Reader, line: &[u8]) -> Result<bool, TraceFault>
-    requires { IsReading reader.old.built reader.old.draft reader.old.number }
-    ensures built { reader.new.built ≡ reader.old.built }
-    ensures ok { IfOk result (HasTakenHead reader.old.built reader.old.draft reader.old.number line.now reader.new.draft reader.new.number) }
-    ensures err { IfErr result (IsHeadLineAtFault reader.old.built reader.old.draft.part reader.old.number line.now) }
+    requires { IsReading reader.old.draft reader.old.number }
+    ensures ok { IfOk result (HasTakenHead reader.old.draft reader.old.number line.now reader.new.draft reader.new.number) }
+    ensures err { IfErr result (IsHeadLineAtFault reader.old.draft.part reader.old.number line.now) }
 {
     if is_unknown(reader, line) {
         return match by_words(line) {
@@ -103,10 +96,9 @@ fn take_head_line(reader: &mut Reader, line: &[u8]) -> Result<bool, TraceFault>
 
 // Takes a line, which byte 10 ended or the text's end.
 fn take_ended(reader: &mut Reader, line: &[u8], ended: bool) -> Result<bool, TraceFault>
-    requires { IsReading reader.old.built reader.old.draft reader.old.number }
-    ensures built { reader.new.built ≡ reader.old.built }
-    ensures kept { IfOk result (IsKeptNext reader.old.built reader.new.draft reader.old.number reader.new.number) }
-    ensures line { AnswersLine reader.old.built reader.old.draft.part reader.old.number ended line.now reader.new.draft.part reader.new.number result }
+    requires { IsReading reader.old.draft reader.old.number }
+    ensures kept { IfOk result (IsKeptNext reader.new.draft reader.old.number reader.new.number) }
+    ensures line { AnswersLine reader.old.draft.part reader.old.number ended line.now reader.new.draft.part reader.new.number result }
     ensures no_read { (count : ℕ) → CountsBy result count count }
 {
     match take_head_line(reader, line) {
@@ -128,10 +120,9 @@ fn next_front<S: Source>(
     reader: &mut Reader,
     out: &mut ArrayVec<u8, 256>,
 ) -> Result<bool, TraceFault>
-    requires { IsReading reader.old.built reader.old.draft reader.old.number }
-    ensures built { reader.new.built ≡ reader.old.built }
-    ensures kept { IfOk result (IsKeptNext reader.old.built reader.new.draft reader.old.number reader.new.number) }
-    ensures text { AnswersNext reader.old.built reader.old.draft.part reader.old.number (bytes_left S.left lines.old) reader.new.draft.part reader.new.number (bytes_left S.left lines.new) result }
+    requires { IsReading reader.old.draft reader.old.number }
+    ensures kept { IfOk result (IsKeptNext reader.new.draft reader.old.number reader.new.number) }
+    ensures text { AnswersNext reader.old.draft.part reader.old.number (bytes_left S.left lines.old) reader.new.draft.part reader.new.number (bytes_left S.left lines.new) result }
     ensures told { IsSome (S.left lines.old.source.now) → IsSome (S.left lines.new.source.now) }
     ensures faults { CountsBy result (S.faults lines.old.source.now) (S.faults lines.new.source.now) }
     ensures faults_later { S.faults lines.old.source.now ≤ S.faults lines.new.source.now }
@@ -153,13 +144,9 @@ fn next_front<S: Source>(
 /// skipped and isn't the one word LOG is faulty. `Unfinished` if the text ends before LOG. `ReadFault`
 /// only if the source's count of failures rose, and no line taken before is at fault. `NoMemory` if memory
 /// ran out at a line that isn't at fault.
-pub fn read_head<S: Source>(
-    lines: &mut Lines<'_, S>,
-    alloc: Global,
-    built: Built,
-) -> Result<Config, TraceFault>
-    ensures accepted { IfOk result (IsRead built) }
-    ensures text { IfSome (bytes_left S.left lines.old) (λ text. HeadAnswers built result text (bytes_left S.left lines.new)) }
+pub fn read_head<S: Source>(lines: &mut Lines<'_, S>, alloc: Global) -> Result<Config, TraceFault>
+    ensures well_formed { IfOk result IsWellFormed }
+    ensures text { IfSome (bytes_left S.left lines.old) (λ text. HeadAnswers result text (bytes_left S.left lines.new)) }
     ensures told { IsSome (S.left lines.old.source.now) → IsSome (S.left lines.new.source.now) }
     ensures faults { FaultsBy result (S.faults lines.old.source.now) (S.faults lines.new.source.now) }
     ensures faults_later { S.faults lines.old.source.now ≤ S.faults lines.new.source.now }
@@ -167,7 +154,6 @@ pub fn read_head<S: Source>(
 {
     let mut reader = Reader {
         alloc,
-        built,
         draft: Draft::new(alloc),
         number: 1,
     };

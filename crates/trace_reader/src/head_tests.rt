@@ -20,7 +20,7 @@ fn head(
     text.extend_from_slice(behind)?;
     let mut source = MemorySource::new(text, fails);
     let mut lines = Lines::new(&mut source);
-    let answer = read_head(&mut lines, alloc, Built::All);
+    let answer = read_head(&mut lines, alloc);
     let mut out = arrayvec::ArrayVec::new();
     let mut left = 0;
     for n in 1..10 {

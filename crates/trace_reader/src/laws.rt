@@ -1,7 +1,6 @@
 ghost use Rattle.trace_reader.specs.Laws.{ReadIsWellFormed, FaultStays};
 
-/// The law that what is read is well formed, and of the form that the program can run where that is
-/// asked. It does nothing.
+/// The law that what is read is well formed. It does nothing.
 pub fn what_is_read_is_well_formed()
     ensures { ReadIsWellFormed }
 {}

@@ -12,7 +12,6 @@ pub use fault::TraceFault;
 pub use head::read_head;
 pub use laws::{a_shown_fault_stays, what_is_read_is_well_formed};
 pub use read::read_trace;
-pub use trace_lines::Built;
 pub use trace_words::Cause;
 
 #[cfg(test)]

@@ -1,8 +1,8 @@
 ghost use Rattle.std.specs.Prelude.{◌≡◌, ◌+◌, ◌-◌, ◌<◌, ◌≤◌, ◌↔◌, length, take, drop, IfOk, IfErr, OnOk, OnErr, IfSome, IsSome, IsTrue};
 ghost use Rattle.std.specs.Io.KnownBytes.{Keeps, Consumes, IsAtEnd};
+ghost use Rattle.vm_types.specs.Configuration.{IsWellFormed};
 ghost use Rattle.outside_io.specs.Causes.{HasCause};
 ghost use Rattle.trace_lines.specs.Seen.{IsSeen};
-ghost use Rattle.trace_reader.specs.Accepted.{IsRead};
 ghost use Rattle.trace_reader.specs.Answer.{Answers, FaultsBy};
 ghost use Rattle.trace_reader.specs.Changes.{start};
 ghost use Rattle.trace_reader.specs.Meaning.{at_end};
@@ -12,7 +12,7 @@ use crate::draft::{Draft, Refused};
 use crate::fault::TraceFault;
 use outside_io::Source;
 use std::alloc::Global;
-use trace_lines::{Built, Place};
+use trace_lines::Place;
 use trace_words::{Cause, parted};
 use vm_types::{Config, Failed};
 
@@ -20,8 +20,7 @@ use vm_types::{Config, Failed};
 const ROOM: usize = 8192;
 
 /// The configuration of a trace: the source is read to its end, in pieces of at most 8192 bytes, up
-/// to the first faulty line. With `Built::All` the whole grammar is read, with `Built::FirstPath` a
-/// line that the program can't run yet is a fault too.
+/// to the first faulty line.
 ///
 /// # Errors
 /// `Line` is the first faulty line with the first rule that it breaks, as soon as the bytes taken
@@ -29,13 +28,9 @@ const ROOM: usize = 8192;
 /// without `END`. `ReadFault` only if the source's count of failures rose, and no line taken before is
 /// at fault. `NoMemory` if memory ran out; no line that was judged is at fault then: the bytes taken
 /// show no fault, but for those of the last piece, at most 8192.
-pub fn read_trace<S: Source>(
-    source: &mut S,
-    alloc: Global,
-    built: Built,
-) -> Result<Config, TraceFault>
-    ensures accepted { IfOk result (IsRead built) }
-    ensures text { IfSome (S.left source.old) (λ text. Answers built result text (S.left source.new)) }
+pub fn read_trace<S: Source>(source: &mut S, alloc: Global) -> Result<Config, TraceFault>
+    ensures well_formed { IfOk result IsWellFormed }
+    ensures text { IfSome (S.left source.old) (λ text. Answers result text (S.left source.new)) }
     ensures told { IsSome (S.left source.old) → IsSome (S.left source.new) }
     ensures faults { FaultsBy result (S.faults source.old) (S.faults source.new) }
     ensures faults_later { S.faults source.old ≤ S.faults source.new }
@@ -43,7 +38,6 @@ pub fn read_trace<S: Source>(
     let mut buffer = vec![in alloc; 0; ROOM]?;
     let reader = Reader {
         alloc,
-        built,
         draft: Draft::new(alloc),
         number: 1,
     };
@@ -60,8 +54,8 @@ fn read_pieces<S: Source>(
     requires first { reader.number ≡ 1 }
     requires seen { IsSeen reader.draft.seen reader.draft.part.config }
     requires room { length buffer.old ≡ 8192 }
-    ensures accepted { IfOk result (IsRead reader.built) }
-    ensures text { IfSome (S.left source.old) (λ text. Answers reader.built result text (S.left source.new)) }
+    ensures well_formed { IfOk result IsWellFormed }
+    ensures text { IfSome (S.left source.old) (λ text. Answers result text (S.left source.new)) }
     ensures told { IsSome (S.left source.old) → IsSome (S.left source.new) }
     ensures faults { FaultsBy result (S.faults source.old) (S.faults source.new) }
     ensures faults_later { S.faults source.old ≤ S.faults source.new }
@@ -108,7 +102,6 @@ fn keep_last(buffer: &mut [u8], filled: usize, held: usize)
 #[derive(Drop)]
 pub(crate) struct Reader {
     pub(crate) alloc: Global,
-    pub(crate) built: Built,
     pub(crate) draft: Draft,
     pub(crate) number: u32,
 }
@@ -116,12 +109,11 @@ pub(crate) struct Reader {
 impl Reader {
     // Takes the next line.
     pub(crate) fn take_line(&mut self, line: &[u8]) -> Result<(), TraceFault>
-        requires { IsReading self.old.built self.old.draft self.old.number }
-        ensures built { self.new.built ≡ self.old.built }
-        ensures ok { OnOk result (HasTaken self.old.built self.old.draft self.old.number line.now self.new.draft self.new.number) }
-        ensures err { IfErr result (IsLineAtFault self.old.built self.old.draft.part self.old.number line.now) }
+        requires { IsReading self.old.draft self.old.number }
+        ensures ok { OnOk result (HasTaken self.old.draft self.old.number line.now self.new.draft self.new.number) }
+        ensures err { IfErr result (IsLineAtFault self.old.draft.part self.old.number line.now) }
     {
-        match self.draft.accept(self.alloc, self.built, self.number, line) {
+        match self.draft.accept(self.alloc, self.number, line) {
             Ok(()) => {
                 self.number += 1;
                 Ok(())
@@ -133,10 +125,9 @@ impl Reader {
 
     // Takes the whole lines of the piece, and says how many bytes are left behind them.
     fn take_piece(&mut self, piece: &[u8]) -> Result<usize, TraceFault>
-        requires { IsReading self.old.built self.old.draft self.old.number }
-        ensures built { self.new.built ≡ self.old.built }
-        ensures ok { IfOk result (IsPieceTaken self.old.built self.old.draft.part self.old.number piece.now self.new.draft self.new.number) }
-        ensures err { IfErr result (IsAtFault self.old.built self.old.draft.part self.old.number piece.now) }
+        requires { IsReading self.old.draft self.old.number }
+        ensures ok { IfOk result (IsPieceTaken self.old.draft.part self.old.number piece.now self.new.draft self.new.number) }
+        ensures err { IfErr result (IsAtFault self.old.draft.part self.old.number piece.now) }
     {
         let mut rest = piece;
         while let Some((line, after)) = parted(rest, b'\n') {
@@ -151,9 +142,9 @@ impl Reader {
 
     // The answer at the end of the text, with what stands behind the last whole line.
     fn end(mut self, rest: &[u8]) -> Result<Config, TraceFault>
-        requires { IsReading self.built self.draft self.number }
-        ensures means { Means self.built self.number self.draft.part rest.now result (at_end self.built self.number self.draft.part rest.now) }
-        ensures accepted { IfOk result (IsRead self.built) }
+        requires { IsReading self.draft self.number }
+        ensures means { Means self.number self.draft.part rest.now result (at_end self.number self.draft.part rest.now) }
+        ensures well_formed { IfOk result IsWellFormed }
     {
         if !rest.is_empty() {
             self.take_line(rest)?;

@@ -55,7 +55,7 @@ fn joined(alloc: Global, head: &[u8], tail: &[u8]) -> Result<Vec<u8>, AllocError
     Ok(text)
 }
 
-// The answer to a text by the whole grammar, read at once; it is the same byte by byte.
+// The answer to a text, read at once; it is the same byte by byte.
 fn fault(
     rt: &impl std::process::Abort,
     alloc: Global,
@@ -63,9 +63,9 @@ fn fault(
     tail: &[u8],
 ) -> Result<Option<TraceFault>, AllocError> {
     let mut pieces = dripping(joined(alloc, head, tail)?, 0);
-    let slow = read_trace(&mut pieces, alloc, Built::All).err();
+    let slow = read_trace(&mut pieces, alloc).err();
     let mut source = MemorySource::new(joined(alloc, head, tail)?, Vec::new(alloc));
-    let fast = read_trace(&mut source, alloc, Built::All).err();
+    let fast = read_trace(&mut source, alloc).err();
     assert_eq!(rt; fast, slow);
     Ok(fast)
 }
@@ -95,9 +95,7 @@ BODY\nA KR2 00000200\nB A4 7FFFFFFC ff\n! another\nA CRETVA 00001000 3 NA\nB ADJ
 fn reads_a_whole_trace(rt: HostRuntime) -> Result<(), Fail> {
     let alloc = rt.alloc();
     let mut source = MemorySource::new(WHOLE.to_vec(alloc)?, Vec::new(alloc));
-    let config = read_trace(&mut source, alloc, Built::All)
-        .ok()
-        .ok_or("a trace")?;
+    let config = read_trace(&mut source, alloc).ok().ok_or("a trace")?;
     assert!(rt; config.frames == 40 && config.pagefile == 16 && config.params.pfc == 8);
     assert_eq!(rt; config.bad.items(), [39].as_slice());
     let sections = config.sections.items();
@@ -172,7 +170,7 @@ fn finds_the_faults_of_the_worked_row(rt: HostRuntime) -> Result<(), Fail> {
     let twice = b"SECTION LIB SHARED 1\nSECTION LIB SHARED 1\n";
     assert_eq!(rt; fault(&rt, alloc, HEAD, twice)?, line(6, Cause::Repeated));
     let mut source = MemorySource::new(HEAD.to_vec(alloc)?, [1u32].to_vec(alloc)?);
-    let answer = read_trace(&mut source, alloc, Built::All).err();
+    let answer = read_trace(&mut source, alloc).err();
     assert_eq!(rt; answer, Some(TraceFault::ReadFault));
     Ok(())
 }
@@ -282,9 +280,7 @@ fn gives_the_defaults(rt: HostRuntime) -> Result<(), Fail> {
     let alloc = rt.alloc();
     let text = joined(alloc, HEAD, b"BODY\nEND")?;
     let mut source = MemorySource::new(text, Vec::new(alloc));
-    let config = read_trace(&mut source, alloc, Built::All)
-        .ok()
-        .ok_or("a trace")?;
+    let config = read_trace(&mut source, alloc).ok().ok_or("a trace")?;
     let defaults = Params {
         pfc: 4,
         hilimit: 128,
@@ -474,40 +470,6 @@ fn judges_requests(rt: HostRuntime) -> Result<(), Fail> {
 }
 
 #[test]
-fn says_what_is_not_built(rt: HostRuntime) -> Result<(), Fail> {
-    let alloc = rt.alloc();
-    let end: &[u8] = b"BODY\nEND\n";
-    let table: [(&[u8], &[u8], Option<TraceFault>); 12] = [
-        (
-            b"MAPZERO A 00000000 4 UW\n",
-            b"BODY\r\n!\n A R4 0\nEND",
-            None,
-        ),
-        (b"MAPZERO A 00000000 5 UW\n", end, line(5, Cause::NotBuilt)),
-        (b"MAPZERO A 00000000 1 UR\n", end, line(5, Cause::NotBuilt)),
-        (b"MAPZERO A 7FFFFE00 1 UW\n", end, line(5, Cause::NotBuilt)),
-        (b"PARAM PFC 1\n", end, line(5, Cause::NotBuilt)),
-        (b"PROCESS B 2 2 2 0\n", end, line(5, Cause::NotBuilt)),
-        (b"PROCESS B 2 2 1 0\n", end, line(5, Cause::OutOfRange)),
-        (b"BODY\n", b"A R2 0\n", line(6, Cause::NotBuilt)),
-        (b"BODY\n", b"A R2 1\n", line(6, Cause::Unaligned)),
-        (b"BODY\n", b"A KR1 0\n", line(6, Cause::NotBuilt)),
-        (b"BODY\n", b"A A4 0 0\n", line(6, Cause::NotBuilt)),
-        (b"BODY\n", b"A PURGWS 0 1\n", line(6, Cause::NotBuilt)),
-    ];
-    for (middle, tail, answer) in table {
-        let head = joined(alloc, HEAD, middle)?;
-        let text = joined(alloc, head.as_slice(), tail)?;
-        let mut source = MemorySource::new(text, Vec::new(alloc));
-        assert_eq!(rt;
-            read_trace(&mut source, alloc, Built::FirstPath).err(),
-            answer
-        );
-    }
-    Ok(())
-}
-
-#[test]
 fn answers_in_the_order_of_the_bytes(rt: HostRuntime) -> Result<(), Fail> {
     let alloc = rt.alloc();
     let long = [b'x'; 300];
@@ -523,7 +485,7 @@ fn answers_in_the_order_of_the_bytes(rt: HostRuntime) -> Result<(), Fail> {
     ];
     for (text, fails, answer) in table {
         let mut source = dripping(text.to_vec(alloc)?, fails);
-        assert_eq!(rt; read_trace(&mut source, alloc, Built::All).err(), answer);
+        assert_eq!(rt; read_trace(&mut source, alloc).err(), answer);
     }
     what_is_read_is_well_formed();
     a_shown_fault_stays();
@@ -540,18 +502,18 @@ fn counts_lines_and_requests(rt: HostRuntime) -> Result<(), Fail> {
     }
     let full = joined(alloc, text.as_slice(), b"A R1 0")?;
     let mut source = MemorySource::new(full, Vec::new(alloc));
-    let answer = read_trace(&mut source, alloc, Built::All).err();
+    let answer = read_trace(&mut source, alloc).err();
     assert_eq!(rt; answer, line(100_006, Cause::TooMany));
     for _ in 0..99_995 {
         text.extend_from_slice(b"\n")?;
     }
     let all = joined(alloc, text.as_slice(), b"")?;
     let mut source = MemorySource::new(all, Vec::new(alloc));
-    let answer = read_trace(&mut source, alloc, Built::All).err();
+    let answer = read_trace(&mut source, alloc).err();
     assert_eq!(rt; answer, Some(TraceFault::Unfinished));
     text.extend_from_slice(b"!")?;
     let mut source = MemorySource::new(text, Vec::new(alloc));
-    let answer = read_trace(&mut source, alloc, Built::All).err();
+    let answer = read_trace(&mut source, alloc).err();
     assert_eq!(rt; answer, line(200_001, Cause::TooMany));
     Ok(())
 }

@@ -6,9 +6,8 @@ use Rattle.vm_text.specs.Spaced.{spaced}
 use Rattle.trace_words.specs.declared.cause.Cause.TheVariants.{LineTooLong, NotAscii, TooMany}
 use Rattle.trace_words.specs.Judged.{owed}
 use Rattle.trace_words.specs.Words.{words}
-use Rattle.trace_lines.specs.declared.built.Built.TheVariants.{All as Whole}
 use Rattle.trace_lines.specs.declared.part.Part.{Part}
-use Rattle.trace_lines.specs.Grammar.{is_text, content, by_words, read, judged}
+use Rattle.trace_lines.specs.Grammar.{is_text, content, by_words, judged}
 use Rattle.trace_lines.specs.Says.{Says}
 use Rattle.trace_reader.specs.Changes.{changed}
 use Rattle.trace_reader.specs.Meaning.{next_line, judge}
@@ -55,7 +54,7 @@ line_of ns word more h few = record {
   short = omega (arith, length-append word (spaced more), short_spaced ns (word ∷ more) h);
 }
 
-line_read : (number : ℕ) (part : Part) (line : Line) (says : Says) → IsLine line → number ≤ 200000 → by_words part line ≡ Ok says → judged Whole number part (line_text line) ≡ Ok says
+line_read : (number : ℕ) (part : Part) (line : Line) (says : Says) → IsLine line → number ≤ 200000 → by_words part line ≡ Ok says → judged number part (line_text line) ≡ Ok says
 line_read number part [] says is few e = absurd (omega (arith, is.some))
 line_read number part (word ∷ more) says is few e =
     let drawn = line_drawn word more is.words in
@@ -63,12 +62,10 @@ line_read number part (word ∷ more) says is few e =
     let ascii : list_all is_text (content (word ++ spaced more)) ≡ true = ap (list_all is_text) same ∙ drawn_texts (word ++ spaced more) drawn in
     let parted : words (content (word ++ spaced more)) ≡ word ∷ more = ap words same ∙ words_line word more is.words in
     let said : by_words part (words (content (word ++ spaced more))) ≡ Ok says = ap (by_words part) parted ∙ e in
-    let whole : read number part (word ++ spaced more) ≡ Ok says =
     owed_passes (leb (length (word ++ spaced more)) 255) LineTooLong (owed (list_all is_text (content (word ++ spaced more))) NotAscii (owed (leb number 200000) TooMany (by_words part (words (content (word ++ spaced more)))))) (le-leb (length (word ++ spaced more)) 255 is.short)
     ∙ owed_passes (list_all is_text (content (word ++ spaced more))) NotAscii (owed (leb number 200000) TooMany (by_words part (words (content (word ++ spaced more))))) ascii
     ∙ owed_passes (leb number 200000) TooMany (by_words part (words (content (word ++ spaced more)))) (le-leb number 200000 few)
-    ∙ said in
-    rw whole refl
+    ∙ said
 
 abbrev pub AreLines : List Line → Type 0
 AreLines [] = Unit {0}
@@ -82,19 +79,19 @@ lines_append (x ∷ xs) ys a b = (a.0, lines_append xs ys a.1 b)
 pub record Leads (part : Part) (lines : List Line) (after : Part) : Type 0 where
   pub printed : AreLines lines
   pub judged : (number : ℕ) (rest : List (List ℕ)) → 0 < length rest → number + length lines ≤ 200001
-      → judge Whole number part (map line_text lines ++ rest) ≡ judge Whole (number + length lines) after rest
+      → judge number part (map line_text lines ++ rest) ≡ judge (number + length lines) after rest
 
 pub leads_none : (part : Part) → Leads part [] part
 leads_none part = record {
   printed = tt;
-  judged = λ number rest some few. (let same : number ≡ number + 0 = omega arith in ap (λ (n : ℕ). judge Whole n part rest) same);
+  judged = λ number rest some few. (let same : number ≡ number + 0 = omega arith in ap (λ (n : ℕ). judge n part rest) same);
 }
 
 line_judged : (part : Part) (line : Line) (says : Says) → IsLine line → by_words part line ≡ Ok says → (number : ℕ) (rest : List (List ℕ)) → 0 < length rest → number + length (line ∷ []) ≤ 200001
-    → judge Whole number part (line_text line ∷ rest) ≡ judge Whole (number + length (line ∷ [])) (changed part says) rest
+    → judge number part (line_text line ∷ rest) ≡ judge (number + length (line ∷ [])) (changed part says) rest
 line_judged part line says is e number [] some few = absurd (omega arith)
 line_judged part line says is e number (next ∷ more) some few =
-    let here : next_line Whole number part (line_text line) ≡ Ok (changed part says) = rw (line_read number part line says is (omega arith) e) refl in
+    let here : next_line number part (line_text line) ≡ Ok (changed part says) = rw (line_read number part line says is (omega arith) e) refl in
     rw here refl
 
 pub leads_line : (part : Part) (line : Line) (says : Says) → IsLine line → by_words part line ≡ Ok says → Leads part (line ∷ []) (changed part says)
@@ -112,10 +109,10 @@ leads_append p q r xs ys h k = record {
       ap (λ (ls : List (List ℕ)). ls ++ rest) (map-append line_text xs ys) ∙ append_assoc (map line_text xs) (map line_text ys) rest in
       let more : 0 < length (map line_text ys ++ rest) = omega (arith, length-append (map line_text ys) rest) in
       let count : (number + length xs) + length ys ≡ number + length (xs ++ ys) = omega arith in
-      ap (judge Whole number p) texts
+      ap (judge number p) texts
       ∙ h.judged number (map line_text ys ++ rest) more (omega arith)
       ∙ k.judged (number + length xs) rest some (omega arith)
-      ∙ ap (λ (n : ℕ). judge Whole n r rest) count);
+      ∙ ap (λ (n : ℕ). judge n r rest) count);
 }
 
 -- a line for each element

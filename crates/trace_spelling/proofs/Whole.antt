@@ -3,7 +3,6 @@ use Rattle.std.proofs.Common.{◌≡◌, ℕ, ◌<◌, true, false, List, [], �
 use Rattle.std.specs.Prelude.{codes}
 use Rattle.vm_types.specs.Configuration.{IsWellFormed}
 use Rattle.vm_types.specs.declared.config.Config.{Config}
-use Rattle.trace_lines.specs.declared.built.Built.TheVariants.{All as Built}
 use Rattle.trace_lines.specs.declared.places.Place.TheVariants as place
 use Rattle.trace_lines.specs.ParamWords.{default_params}
 use Rattle.trace_reader.specs.Changes.{start}
@@ -77,4 +76,4 @@ pub spelling_is_read : SpellingIsRead
 unfolding spelling
 spelling_is_read c w t few =
     let h = all_lead c w t in
-    ap (judge Built 1 start) (text_lines (lines_of c) h.printed) ∙ h.judged 1 ([] ∷ []) (omega arith) (omega arith)
+    ap (judge 1 start) (text_lines (lines_of c) h.printed) ∙ h.judged 1 ([] ∷ []) (omega arith) (omega arith)

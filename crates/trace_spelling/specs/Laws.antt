@@ -2,7 +2,6 @@
 use Rattle.std.specs.Prelude.{◌≡◌, ◌^◌, ◌<◌, ◌≤◌, length, All}
 use Rattle.vm_types.specs.Configuration.{IsWellFormed}
 use Rattle.vm_types.specs.declared.config.Config.{Config}
-use Rattle.trace_lines.specs.declared.built.Built.TheVariants.{All as Whole}
 use Rattle.trace_reader.specs.Meaning.{Configuration, trace_of}
 use Rattle.trace_spelling.specs.Spelling.{lines_of, spelling}
 
@@ -13,4 +12,4 @@ pub record IsTyped (config : Config) : Type 0 where
 
 -- the plain spelling is read as what it spells, if it has no more lines than a trace may have
 abbrev pub SpellingIsRead : Type 0
-SpellingIsRead = (config : Config) → IsWellFormed config → IsTyped config → length (lines_of config) ≤ 200000 → trace_of Whole (spelling config) ≡ Configuration config
+SpellingIsRead = (config : Config) → IsWellFormed config → IsTyped config → length (lines_of config) ≤ 200000 → trace_of (spelling config) ≡ Configuration config

@@ -33,7 +33,4 @@ pub enum Cause {
     /// What the line declares was declared before.
     #[error("what the line declares was declared before")]
     Repeated,
-    /// The line is correct, but the program can't run such a trace yet.
-    #[error("the line is correct, but the program can't run such a trace yet")]
-    NotBuilt,
 }

@@ -22,7 +22,8 @@ use Rattle.vm_state.specs.Shown.{frame_number}
 use Rattle.vm_services.specs.Cases.{at_evict}
 use Rattle.call_steps.specs.ReadySeat.{IsReadySeat}
 use Rattle.vm_services.specs.Serves.{MayServe}
-use Rattle.vm_services.proofs.Steps.{may_as, ready_of}
+use Rattle.vm_services.proofs.Steps.{may_as}
+use Rattle.call_steps.proofs.ReadySeats.{ready_of}
 
 -- the entry that shows a frame
 entry_with : (f : Pfn) (o : Option Valid) → option_map frame_number (Some f) ≡ option_map frame_of o → (e : Valid) × (o ≡ Some e) × (f.0 ≡ e.frame)

@@ -3,16 +3,14 @@ use Rattle.std.proofs.Common.{◌≡◌, ℕ, ◌+◌, ◌-◌, ◌<◌, ◌||�
 use Rattle.std.specs.List.{list_any, range_with_len}
 use Rattle.std.specs.Option.{is_some, option_map}
 use Rattle.std.proofs.lemmas.Bool.{lt-ltb}
-use Rattle.std.proofs.lemmas.Option.{none-some, same_Some}
 use Rattle.vm_types.specs.Configuration.{IsWellFormed}
 use Rattle.vm_types.specs.declared.config.Config.{Config}
 use Rattle.vm_types.specs.declared.names.Page.{Page}
-use Rattle.vm_types.specs.declared.names.Pfn.{Pfn}
 use Rattle.vm_journal.specs.declared.entry.Entry.{Entry}
 use Rattle.pager_model.specs.Around.{past_view}
 use Rattle.pager_model.specs.Flights.{Flight, open_flights}
 use Rattle.pager_model.specs.Forget.{holder, own_pages, range_of, with_private}
-use Rattle.pager_model.specs.Given.{passes, pfn}
+use Rattle.pager_model.specs.Given.{passes}
 use Rattle.pager_model.specs.Lookups.{entry_of, is_entry, page_by}
 use Rattle.pager_model.specs.Maps.{is_private, page_number}
 use Rattle.pager_model.specs.Pager.{Pager, Valid}
@@ -79,10 +77,6 @@ flies_from config past a p address pages =
     whole = omega arith
 
 -- ---- the frame that holds a page
-pub frame_some : (f : Pfn) (o : Option ℕ) → Some f ≡ option_map pfn o → o ≡ Some f.0
-frame_some f None is = absurd (none-some _ (sym is))
-frame_some f (Some n) is = ap (λ (x : Pfn). Some x.0) (sym (same_Some f (pfn n) is))
-
 pub held_within : (config : Config) (past : List Entry) (g : Page) (f : ℕ) → IsWellFormed config → IsRun config past → holder config (pager_after config past).page g ≡ Some f → f < config.frames
 held_within config past g f formed run holds = holds_within config (past_view past) (pager_after config past) f g (run_kept config past formed run) (holder_holds config (pager_after config past).page g f holds)
 

@@ -1,8 +1,6 @@
 -- What a step of a service leaves, by what was given for it.
-use Rattle.std.proofs.Common.{◌≡◌, ◌+◌, ◌≤◌, true, [], ◌∷◌, refl, sym, ap, subst, arith}
+use Rattle.std.proofs.Common.{◌≡◌, ◌+◌, ◌≤◌, [], ◌∷◌, refl, sym, ap, subst, arith}
 use Rattle.vm_types.specs.WellFormed.{IsWellFormedService}
-use Rattle.vm_types.specs.declared.names.ProcStatus.{ProcStatus}
-use Rattle.vm_types.specs.declared.names.ProcStatus.TheVariants as status
 use Rattle.vm_types.specs.declared.names.Seat.{Seat}
 use Rattle.vm_types.specs.declared.reply.Answer.{Answer}
 use Rattle.vm_types.specs.declared.service.Service.{Service}
@@ -12,7 +10,6 @@ use Rattle.pager_model.specs.Given.{given}
 use Rattle.pager_model.specs.Lookups.{is_resident}
 use Rattle.pager_model.specs.Serve.{GivenServe, ServeWhy as Reason, serve_again, serve_more, served_with}
 use Rattle.call_laws.specs.AreLegal.{AreLegal}
-use Rattle.call_laws.specs.Ready.{IsReady}
 use Rattle.call_laws.proofs.ServeLegal.{serve_legal}
 use Rattle.call_steps.proofs.Branches.{if_true}
 use Rattle.call_steps.proofs.Steps.{paid_first}
@@ -20,23 +17,9 @@ use Rattle.vm_state.specs.History.{History, MayAdd, added, entry_by, owed, pager
 use Rattle.vm_services.specs.Cases.{at_service}
 use Rattle.call_steps.specs.ReadySeat.{IsReadySeat}
 use Rattle.vm_services.specs.Serves.{MayServe, Serves, again_of}
+use Rattle.call_steps.proofs.ReadySeats.{ready_of}
 use Rattle.vm_services.specs.declared.next.ServeNext.{ServeNext}
 use Rattle.vm_services.specs.declared.next.ServeNext.TheVariants.{Again, Answered, More}
-
-pub ready_of : (s : History) (seat : Seat) → IsReadySeat s seat → IsReady s.config s.past seat.0
-ready_of s seat ready = record {
-  formed = ready.formed;
-  run = ready.run;
-  few = let short = ready.short in omega (arith, short);
-  free = record { idle = ready.seat_is.idle; calm = ready.seat_is.calm };
-  own = record { process = ready.seat_is.process; resident = ready.resident };
-}
-
-pub is_in_memory : (x : ProcStatus) → is_resident x ≡ true → x ≡ status.Resident
-is_in_memory status.Resident is = refl
-is_in_memory status.Leaving is = absurd (cc)
-is_in_memory status.Gone is = absurd (cc)
-is_in_memory status.Coming is = absurd (cc)
 
 -- what is given for a service of a resident process may be made, if there is room
 pub may_serve : (s : History) (seat : Seat) (x : Service) → IsReadySeat s seat → IsWellFormedService x → owed s.past + 64 ≤ s.spare → MayServe s seat (at_service s seat x)

@@ -6,5 +6,4 @@ pub mod Gathered
 pub mod Makes
 pub mod Leaves
 pub mod Comes
-pub mod ReadsLeft
 pub mod RunTransfers

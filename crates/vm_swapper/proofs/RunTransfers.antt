@@ -16,7 +16,7 @@ use Rattle.vm_state.specs.CarrierView.{CarrierView}
 use Rattle.vm_state.specs.History.{History, owed, pager}
 use Rattle.vm_state.specs.LiftsLand.{added_each}
 use Rattle.vm_swapper.specs.Runs.{reads_from, writes_from}
-use Rattle.vm_swapper.proofs.ReadsLeft.{IsReading, may_one, next_read, read_all}
+use Rattle.call_steps.proofs.ReadsLeft.{IsReading, may_one, next_read, read_all}
 
 module _ {B : Type 0} (content plan : B → Option (List ℕ)) (reads writes faults : B → ℕ) (tells tells_plan : Bool) (s₀ : History) (seat : Seat) (p : ℕ) where
   -- so many writes were begun, and these are left, from this slot on

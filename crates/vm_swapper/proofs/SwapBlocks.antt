@@ -1,19 +1,15 @@
 -- The pages that lie in the swap blocks of a process.
-use Rattle.std.proofs.Common.{◌≡◌, ℕ, ◌<◌, true, List, Option, Some, None, refl, sym, ap, arith}
-use Rattle.std.specs.Option.{option_map}
+use Rattle.std.proofs.Common.{◌≡◌, ℕ, ◌<◌, true, List, Some, refl, arith}
 use Rattle.std.proofs.lemmas.Bool.{false≢true}
-use Rattle.std.proofs.lemmas.Option.{none-some, same_Some}
 use Rattle.vm_types.specs.Configuration.{IsWellFormed}
 use Rattle.vm_types.specs.declared.config.Config.{Config}
 use Rattle.vm_types.specs.declared.names.BlockId.TheVariants as block
 use Rattle.vm_types.specs.declared.names.Page.{Page}
 use Rattle.vm_types.specs.declared.names.Page.TheVariants.{Private, Shared}
-use Rattle.vm_types.specs.declared.names.Pfn.{Pfn}
 use Rattle.vm_journal.specs.declared.entry.Entry.{Entry}
 use Rattle.pager_model.specs.Advance.{lies_in}
 use Rattle.pager_model.specs.Around.{past_view}
 use Rattle.pager_model.specs.Forget.{holder}
-use Rattle.pager_model.specs.Given.{pfn}
 use Rattle.pager_model.specs.Lookups.{is_of}
 use Rattle.pager_model.specs.Maps.{proc}
 use Rattle.pager_model.specs.Pager.{Pager}
@@ -59,8 +55,3 @@ module _ (config : Config) (past : List Entry) (formed : IsWellFormed config) (r
 
   pub held_within : (g : Page) (f : ℕ) → holder config a.page g ≡ Some f → f < config.frames
   held_within g f held = holds_within config (past_view past) a f g kept (holder_holds config a.page g f held)
-
--- ---- the frame of a page
-pub frame_some : (f : Pfn) (o : Option ℕ) → Some f ≡ option_map pfn o → o ≡ Some f.0
-frame_some f None is = absurd (none-some f (sym is))
-frame_some f (Some n) is = ap (λ (x : Pfn). Some x.0) (sym (same_Some f (pfn n) is))

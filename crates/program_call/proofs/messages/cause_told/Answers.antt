@@ -1,25 +1,24 @@
 use Rattle.std.proofs.Common.{◌≡◌, ◌≢◌, ◌++◌, ℕ, List, Bool, true, false}
 use Rattle.trace_words.specs.declared.cause.Cause.{Cause}
-use Rattle.trace_words.specs.declared.cause.Cause.TheVariants.{LineTooLong, NotAscii, TooMany, UnknownWord, Misplaced, NoSuch, BadNumber, OutOfRange, Unaligned, Repeated, NotBuilt}
+use Rattle.trace_words.specs.declared.cause.Cause.TheVariants.{LineTooLong, NotAscii, TooMany, UnknownWord, Misplaced, NoSuch, BadNumber, OutOfRange, Unaligned, Repeated}
 use Rattle.program_ends.specs.FaultText.{fault_text}
 use Rattle.program_call.proofs.messages.cause_told.Goals as goal
 
 differ : {b : Bool} → b ≡ false → b ≡ true → ⊥
 differ e f = cc
 
-by_cause : (P : Cause → Type 0) → P LineTooLong → P NotAscii → P TooMany → P UnknownWord → P Misplaced → P NoSuch → P BadNumber → P OutOfRange → P Unaligned → P Repeated → P NotBuilt
+by_cause : (P : Cause → Type 0) → P LineTooLong → P NotAscii → P TooMany → P UnknownWord → P Misplaced → P NoSuch → P BadNumber → P OutOfRange → P Unaligned → P Repeated
     → (cause : Cause) → P cause
-by_cause P a b c d e f g h i j k LineTooLong = a
-by_cause P a b c d e f g h i j k NotAscii = b
-by_cause P a b c d e f g h i j k TooMany = c
-by_cause P a b c d e f g h i j k UnknownWord = d
-by_cause P a b c d e f g h i j k Misplaced = e
-by_cause P a b c d e f g h i j k NoSuch = f
-by_cause P a b c d e f g h i j k BadNumber = g
-by_cause P a b c d e f g h i j k OutOfRange = h
-by_cause P a b c d e f g h i j k Unaligned = i
-by_cause P a b c d e f g h i j k Repeated = j
-by_cause P a b c d e f g h i j k NotBuilt = k
+by_cause P a b c d e f g h i j LineTooLong = a
+by_cause P a b c d e f g h i j NotAscii = b
+by_cause P a b c d e f g h i j TooMany = c
+by_cause P a b c d e f g h i j UnknownWord = d
+by_cause P a b c d e f g h i j Misplaced = e
+by_cause P a b c d e f g h i j NoSuch = f
+by_cause P a b c d e f g h i j BadNumber = g
+by_cause P a b c d e f g h i j OutOfRange = h
+by_cause P a b c d e f g h i j Unaligned = i
+by_cause P a b c d e f g h i j Repeated = j
 
 pub returns-clause-none : goal.returns-clause-none
 returns-clause-none c =
@@ -34,4 +33,3 @@ returns-clause-none c =
     (c.tells-8.ensures.no (differ c.if-tells-8.false))
     (c.tells-9.ensures.no (differ c.if-tells-9.false))
     (c.tells-10.ensures.no (differ c.if-tells-10.false))
-    (c.tells-11.ensures.no (differ c.if-tells-11.false))

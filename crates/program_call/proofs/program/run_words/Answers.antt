@@ -1,4 +1,4 @@
-use Rattle.std.proofs.Common.{◌≡◌, ◌∙◌, ap, map, List, ℕ, Bor, [], refl, sym, subst, All}
+use Rattle.std.proofs.Common.{◌∙◌, ap, map, List, ℕ, Bor, [], refl, sym, subst, All}
 use Rattle.std.specs.Str.{IsUtf8}
 use Rattle.program_call.proofs.Texts.{if_some, if_none}
 use Rattle.program_call.proofs.Telling.{run_tells, none_tells, no_words_told, no_words_cut}

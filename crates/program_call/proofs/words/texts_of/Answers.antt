@@ -1,4 +1,4 @@
-use Rattle.std.proofs.Common.{rules, ◌∙◌, sym, subst, All, Bor, ℕ, List}
+use Rattle.std.proofs.Common.{◌∙◌, sym, subst, All, Bor, ℕ, List}
 use Rattle.std.specs.Str.{IsUtf8}
 use Rattle.program_call.proofs.Texts.{parts_more, utf8_more, parts_all, one_is_none}
 use Rattle.program_call.proofs.words.texts_of.Goals as goal

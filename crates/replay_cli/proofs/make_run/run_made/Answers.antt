@@ -2,7 +2,7 @@ use Rattle.std.proofs.Common.{ℕ, ◌++◌, ◌∙◌, ap, inl}
 use Rattle.pager_model.specs.Text.{status_line}
 use Rattle.run_text.specs.Parts.{run_status}
 use Rattle.trace_maker.specs.Made.{made_config}
-use Rattle.replay_cli.specs.MakeText.{make_lines}
+use Rattle.make_summary.specs.MakeText.{make_lines}
 use Rattle.replay_cli.proofs.Finishing.{run_outcome}
 use Rattle.replay_cli.proofs.Making.{counted_run}
 use Rattle.replay_cli.proofs.make_run.run_made.Goals as goal

@@ -1,6 +1,6 @@
 use Rattle.study_command.proofs.Options.{texts, if_none}
 use Rattle.replay_cli.specs.MakeLine.{AsksToMake}
-use Rattle.replay_cli.specs.declared.make_words.Make.{Make}
+use Rattle.make_summary.specs.declared.make.Make.{Make}
 use Rattle.replay_cli.proofs.make_words.make_of.Goals as goal
 
 pub returns-in_err-seed-clause-none : goal.returns-in_err-seed-clause-none

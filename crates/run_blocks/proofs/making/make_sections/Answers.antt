@@ -1,4 +1,4 @@
-use Rattle.std.proofs.Common.{ℕ, ◌<◌, ◌∙◌, length, List, subst, arith}
+use Rattle.std.proofs.Common.{◌<◌, ◌∙◌, length, List, subst, arith}
 use Rattle.vm_types.specs.Configuration.{section_pages}
 use Rattle.vm_types.specs.declared.config.Section.{Section}
 use Rattle.frame_store.specs.Blocks.{section_block}

@@ -1,4 +1,4 @@
-use Rattle.std.proofs.Common.{ℕ, ◌<◌, ◌∙◌, get_or, length, List, subst, arith}
+use Rattle.std.proofs.Common.{◌<◌, ◌∙◌, get_or, length, List, subst, arith}
 use Rattle.vm_types.specs.declared.config.ProcSpec.{ProcSpec}
 use Rattle.frame_store.specs.Blocks.{swap_block}
 use Rattle.frame_store.proofs.TestRows.{row_more}

@@ -1,4 +1,4 @@
-use Rattle.std.proofs.Common.{◌≡◌, ◌<◌, ◌≤◌, ◌∙◌, List, Option, ap, length, sym, subst}
+use Rattle.std.proofs.Common.{◌<◌, ◌≤◌, ◌∙◌, List, ap, length, sym, subst}
 use Rattle.vm_types.specs.Same.{same_block}
 use Rattle.vm_types.specs.declared.config.Fails.{Fails}
 use Rattle.pager_model.specs.Told.{calls_of}

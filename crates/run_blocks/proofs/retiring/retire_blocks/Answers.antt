@@ -1,4 +1,4 @@
-use Rattle.std.proofs.Common.{◌≡◌, ◌++◌, ◌∙◌, length, take, sym, ap, map-id, List}
+use Rattle.std.proofs.Common.{◌++◌, ◌∙◌, length, sym, ap, map-id}
 use Rattle.std.specs.Prelude.{OnErr, Result, Ok, Err}
 use Rattle.std.proofs.lemmas.Iterator.Adapters.{YieldsList-from_vec}
 use Rattle.std.proofs.lemmas.Iterator.Consumers.{YieldsList-so_far, YieldsList-turn}

@@ -1,4 +1,4 @@
-use Rattle.std.proofs.Common.{ℕ, ◌+◌, ◌<◌, true, Option, None, length, sym, ap, ◌∙◌, arith}
+use Rattle.std.proofs.Common.{ℕ, ◌+◌, true, None, sym, ap, ◌∙◌, arith}
 use Rattle.pager_model.specs.Moves.{asking, control, freeing}
 use Rattle.pager_model.specs.Policy.{asking_move, ends_part}
 use Rattle.vm_state.specs.History.{pager}

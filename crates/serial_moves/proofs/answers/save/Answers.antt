@@ -1,5 +1,4 @@
-use Rattle.std.proofs.Common.{ℕ, ◌<◌, length, sym, ap, ◌∙◌, subst, arith}
-use Rattle.vm_types.specs.declared.names.Seat.{Seat}
+use Rattle.std.proofs.Common.{◌<◌, length, sym, ap, ◌∙◌, subst, arith}
 use Rattle.pager_model.specs.WriteCluster.{begin_gives, reason_high}
 use Rattle.vm_state.specs.History.{History, pager}
 use Rattle.serial_moves.specs.Controls.{control_in}

@@ -1,9 +1,9 @@
-use Rattle.std.proofs.Common.{Option, Some, sym, subst}
+use Rattle.std.proofs.Common.{sym, subst}
 use Rattle.vm_types.specs.declared.names.ProcStatus.TheVariants as status
 use Rattle.pager_model.specs.Moves.{while_leaving}
 use Rattle.vm_state.specs.History.{pager}
-use Rattle.move_steps.specs.Moved.{IsMoveHere, IsMoved}
-use Rattle.serial_moves.specs.Controls.{Moves, control_in, doing_in, ends_in}
+use Rattle.move_steps.specs.Moved.{IsMoved}
+use Rattle.serial_moves.specs.Controls.{control_in, doing_in, ends_in}
 use Rattle.serial_moves.specs.Finders.{IsFinder, finding_by}
 use Rattle.serial_moves.specs.declared.finding.Finder.{Finder}
 use Rattle.serial_moves.proofs.AfterAnswers.{here_as, moved_as}

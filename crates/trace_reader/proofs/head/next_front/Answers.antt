@@ -1,6 +1,5 @@
-use Rattle.std.proofs.Common.{◌≡◌, ℕ, List, Option, Result, Ok, sym, subst}
+use Rattle.std.proofs.Common.{ℕ, List, Ok, sym, subst}
 use Rattle.std.specs.Prelude.{IfSome}
-use Rattle.vm_types.specs.declared.faults.Failed.{Failed}
 use Rattle.line_source.specs.declared.lines.Line.{Line}
 use Rattle.line_source.specs.declared.lines.Line.TheVariants.{Text}
 use Rattle.line_source.specs.HandedOut.{HandsOut, Takes}
@@ -20,6 +19,6 @@ returns-in-Ok-Text-clause-faults g c = quiet_counts c.take_ended.result _ _ c.in
 
 pub returns-in-Ok-Long-clause-text : goal.returns-in-Ok-Long-clause-text
 returns-in-Ok-Long-clause-text g c =
-    λ told h. told_long c.args.reader.now.built told (bytes_left g.S.Source.left c.args.lines.now) (bytes_left g.S.Source.left c.next.new.self) c.args.reader.now.draft.part c.args.reader.now.number c.next.new.out.items h
+    λ told h. told_long told (bytes_left g.S.Source.left c.args.lines.now) (bytes_left g.S.Source.left c.next.new.self) c.args.reader.now.draft.part c.args.reader.now.number c.next.new.out.items h
     (subst (λ (x : Line). HandsOut x c.next.new.out.items) c.in-Ok-Long.field-0-is c.in-Ok-Long.ensures.gives)
     (subst (λ (x : Line). IfSome (bytes_left g.S.Source.left c.args.lines.now) (λ text. Takes (Ok x) text c.next.new.out.items (bytes_left g.S.Source.left c.next.new.self))) c.in-Ok-Long.field-0-is c.in-Ok-Long.ensures.takes)

@@ -8,9 +8,8 @@ use Rattle.trace_reader.proofs.head.read_head.Given as goal
 abbrev pub invariant-front : goal.invariant-front
 invariant-front g l = record {
   same_reference : l.lines.source.ghost_name ≡ l.fn.lines.source.ghost_name;
-  built : l.reader.built ≡ l.fn.built;
-  reading : IsReading l.reader.built l.reader.draft l.reader.number;
-  told : IsTold l.reader.built (bytes_left g.S.Source.left l.fn.lines) l.reader.draft.part l.reader.number (bytes_left g.S.Source.left l.lines);
+  reading : IsReading l.reader.draft l.reader.number;
+  told : IsTold (bytes_left g.S.Source.left l.fn.lines) l.reader.draft.part l.reader.number (bytes_left g.S.Source.left l.lines);
   still_told : IsSome (g.S.Source.left l.fn.lines.source.now) → IsSome (g.S.Source.left l.lines.source.now);
   faults : g.S.Source.faults l.lines.source.now ≡ g.S.Source.faults l.fn.lines.source.now;
 }

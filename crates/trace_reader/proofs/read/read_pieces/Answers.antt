@@ -1,57 +1,52 @@
-use Rattle.std.proofs.Common.{◌≡◌, ◌∙◌, ◌+◌, ◌-◌, ◌≤◌, ℕ, Err, refl, sym, ap, subst, length, take, drop, arith}
+use Rattle.std.proofs.Common.{◌≡◌, ◌∙◌, ◌+◌, ◌-◌, ◌≤◌, ℕ, Err, refl, sym, ap, length, take, drop, arith}
 use Rattle.std.proofs.lemmas.List.{length-take-le}
-use Rattle.trace_lines.specs.declared.built.Built.{Built}
 use Rattle.trace_reader.specs.declared.fault.TraceFault.{TraceFault}
-use Rattle.trace_reader.specs.Stream.{IsAtFault, IsPieceTaken, Means}
-use Rattle.trace_reader.specs.Meaning.{at_end}
 use Rattle.std.proofs.lemmas.Result.{err_from_is_err_and}
 use Rattle.trace_reader.proofs.Reading.{from_start, read_failed, text_ended, came, piece_fault, answers_along, went_on}
 use Rattle.trace_reader.proofs.read.read_pieces.Goals as goal
 
 pub loop-count-init : goal.loop-count-init
 loop-count-init g c = record {
-  built = refl;
-  between = from_start c.args.reader.built (g.S.Source.left c.args.source.now) c.args.buffer.now c.args.reader.draft c.args.reader.number c.requires.room c.requires.start c.requires.first c.requires.seen;
+  between = from_start (g.S.Source.left c.args.source.now) c.args.buffer.now c.args.reader.draft c.args.reader.number c.requires.room c.requires.start c.requires.first c.requires.seen;
   faults = refl;
 }
 
 pub returns-in_default-clause-text : goal.returns-in_default-clause-text
 returns-in_default-clause-text g c =
-    read_failed c.args.reader.built (g.S.Source.left c.args.source.now) (g.S.Source.left c.loop-count.source) (g.S.Source.left c.fill.new.source)
+    read_failed (g.S.Source.left c.args.source.now) (g.S.Source.left c.loop-count.source) (g.S.Source.left c.fill.new.source)
     c.loop-count.buffer c.loop-count.reader.draft c.loop-count.reader.number c.loop-count.held c.loop-count.invariant.between c.in_default.ensures.failed
 
 pub returns-then-count-eq0-clause-text : goal.returns-then-count-eq0-clause-text
 returns-then-count-eq0-clause-text g c =
-    text_ended c.args.reader.built c.end.result (g.S.Source.left c.args.source.now) (g.S.Source.left c.loop-count.source) (g.S.Source.left c.fill.new.source)
+    text_ended c.end.result (g.S.Source.left c.args.source.now) (g.S.Source.left c.loop-count.source) (g.S.Source.left c.fill.new.source)
     c.loop-count.buffer c.fill.new.buffer c.loop-count.reader.draft c.loop-count.reader.number c.loop-count.held c.in-Ok.count c.loop-count.invariant.between
     c.in-Ok.ensures.kept c.if-count-eq0.true c.in-Ok.ensures.bytes (c.in-Ok.ensures.end c.if-count-eq0.true)
-    (subst (λ (b : Built). Means b c.loop-count.reader.number c.loop-count.reader.draft.part (take c.loop-count.held c.fill.new.buffer) c.end.result (at_end b c.loop-count.reader.number c.loop-count.reader.draft.part (take c.loop-count.held c.fill.new.buffer))) c.loop-count.invariant.built c.end.ensures.means)
+    c.end.ensures.means
 
 pub returns-in_err-held-clause-text : goal.returns-in_err-held-clause-text
 returns-in_err-held-clause-text g c =
     let p = err_from_is_err_and c.from_residual.result c.from_residual.ensures.1 in
-    let held = came c.args.reader.built (g.S.Source.left c.args.source.now) (g.S.Source.left c.loop-count.source) (g.S.Source.left c.fill.new.source)
+    let held = came (g.S.Source.left c.args.source.now) (g.S.Source.left c.loop-count.source) (g.S.Source.left c.fill.new.source)
     c.loop-count.buffer c.fill.new.buffer c.loop-count.reader.draft c.loop-count.reader.number c.loop-count.held c.in-Ok.count c.loop-count.invariant.between
     c.in-Ok.ensures.kept c.in-Ok.ensures.bytes in
     let room : length c.loop-count.buffer ≡ 8192 = c.loop-count.invariant.between.room in
     let few : length (take (c.loop-count.held + c.in-Ok.count) c.fill.new.buffer) ≤ 8192 = rw (length-take-le (c.loop-count.held + c.in-Ok.count) c.fill.new.buffer (omega (arith, c.in-Ok.ensures.bound))) (omega (arith, c.in-Ok.ensures.bound)) in
-    answers_along c.args.reader.built (g.S.Source.left c.args.source.now) (g.S.Source.left c.fill.new.source) c.from_residual.result (Err c.in_err-held.field-0.0) (p.1 ∙ ap (λ (f : TraceFault). Err f) p.2)
-    (piece_fault c.args.reader.built (g.S.Source.left c.args.source.now) (g.S.Source.left c.fill.new.source) (take (c.loop-count.held + c.in-Ok.count) c.fill.new.buffer)
+    answers_along (g.S.Source.left c.args.source.now) (g.S.Source.left c.fill.new.source) c.from_residual.result (Err c.in_err-held.field-0.0) (p.1 ∙ ap (λ (f : TraceFault). Err f) p.2)
+    (piece_fault (g.S.Source.left c.args.source.now) (g.S.Source.left c.fill.new.source) (take (c.loop-count.held + c.in-Ok.count) c.fill.new.buffer)
     c.loop-count.reader.draft.part c.loop-count.reader.number c.in_err-held.field-0.0 few held
-    (subst (λ (b : Built). IsAtFault b c.loop-count.reader.draft.part c.loop-count.reader.number (take (c.loop-count.held + c.in-Ok.count) c.fill.new.buffer) c.in_err-held.field-0.0) c.loop-count.invariant.built c.in_err-held.ensures.err))
+    c.in_err-held.ensures.err)
 
 pub loop-count-preserved : goal.loop-count-preserved
 loop-count-preserved g c =
-    let held = came c.args.reader.built (g.S.Source.left c.args.source.now) (g.S.Source.left c.loop-count.source) (g.S.Source.left c.fill.new.source)
+    let held = came (g.S.Source.left c.args.source.now) (g.S.Source.left c.loop-count.source) (g.S.Source.left c.fill.new.source)
     c.loop-count.buffer c.fill.new.buffer c.loop-count.reader.draft c.loop-count.reader.number c.loop-count.held c.in-Ok.count c.loop-count.invariant.between
     c.in-Ok.ensures.kept c.in-Ok.ensures.bytes in
     let whole : length (take (c.loop-count.held + c.in-Ok.count) c.fill.new.buffer) ≡ c.loop-count.held + c.in-Ok.count =
     length-take-le (c.loop-count.held + c.in-Ok.count) c.fill.new.buffer (omega (arith, c.in-Ok.ensures.bound)) in
     record {
-      built = c.take_piece.ensures.built ∙ c.loop-count.invariant.built;
-      between = went_on c.args.reader.built (g.S.Source.left c.args.source.now) (g.S.Source.left c.fill.new.source) (take (c.loop-count.held + c.in-Ok.count) c.fill.new.buffer) c.keep_last.new.buffer
+      between = went_on (g.S.Source.left c.args.source.now) (g.S.Source.left c.fill.new.source) (take (c.loop-count.held + c.in-Ok.count) c.fill.new.buffer) c.keep_last.new.buffer
           c.loop-count.reader.draft.part c.take_piece.new.self.draft c.loop-count.reader.number c.take_piece.new.self.number c.in_ok-held.held held
-          (subst (λ (b : Built). IsPieceTaken b c.loop-count.reader.draft.part c.loop-count.reader.number (take (c.loop-count.held + c.in-Ok.count) c.fill.new.buffer) c.take_piece.new.self.draft c.take_piece.new.self.number c.in_ok-held.held) c.loop-count.invariant.built c.in_ok-held.ensures.ok) (omega arith)
+          c.in_ok-held.ensures.ok (omega arith)
           (c.keep_last.ensures ∙ ap (λ (n : ℕ). drop (n - c.in_ok-held.held) (take (c.loop-count.held + c.in-Ok.count) c.fill.new.buffer)) (sym whole));
       faults = c.in-Ok.ensures.quiet ∙ c.loop-count.invariant.faults;
     }

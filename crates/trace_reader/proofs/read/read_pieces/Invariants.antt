@@ -4,8 +4,7 @@ use Rattle.trace_reader.proofs.read.read_pieces.Given as goal
 
 abbrev pub invariant-loop-count : goal.invariant-loop-count
 invariant-loop-count g l = record {
-  built : l.reader.built ≡ l.initial.reader.built;
-  between : IsBetween l.initial.reader.built (g.S.Source.left l.fn.source) (g.S.Source.left l.source) l.buffer l.reader.draft l.reader.number l.held;
+  between : IsBetween (g.S.Source.left l.fn.source) (g.S.Source.left l.source) l.buffer l.reader.draft l.reader.number l.held;
   faults : g.S.Source.faults l.source ≡ g.S.Source.faults l.fn.source;
 }
 

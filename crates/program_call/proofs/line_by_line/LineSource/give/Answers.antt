@@ -1,4 +1,4 @@
-use Rattle.std.proofs.Common.{arith, sym, subst, ◌≤◌, take, min, length, length-take}
+use Rattle.std.proofs.Common.{arith, ◌≤◌, length-take}
 use Rattle.std.specs.List.{slice_range}
 use Rattle.program_call.proofs.Lines.{given, given_stops}
 use Rattle.program_call.proofs.line_by_line.LineSource.give.Goals as goal

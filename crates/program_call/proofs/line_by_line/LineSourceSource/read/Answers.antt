@@ -1,4 +1,4 @@
-use Rattle.std.proofs.Common.{◌≡◌, ◌<◌, ◌∙◌, ℕ, arith, sym, subst, take, length}
+use Rattle.std.proofs.Common.{◌≡◌, ◌<◌, arith, sym, subst, take, length}
 use Rattle.std.specs.List.{slice_range}
 use Rattle.std.specs.Io.KnownBytes.{Keeps, IsAtEnd, prepend_known}
 use Rattle.std.proofs.KnownBytes.{prepend_known-read}

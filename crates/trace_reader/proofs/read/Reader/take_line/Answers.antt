@@ -8,7 +8,7 @@ returns-in-Ok-clause-ok c = record {
   counted = refl;
   reading = record {
     seen = c.in-Ok.ensures.seen;
-    draft = next_draft c.args.self.now.built c.args.self.now.number c.args.self.now.draft.part c.accept.new.self.part c.args.line.now c.requires.draft c.in-Ok.ensures.value;
-    few = omega (arith, next_number c.args.self.now.built c.args.self.now.number c.args.self.now.draft.part c.accept.new.self.part c.args.line.now c.requires.draft c.in-Ok.ensures.value);
+    draft = next_draft c.args.self.now.number c.args.self.now.draft.part c.accept.new.self.part c.args.line.now c.requires.draft c.in-Ok.ensures.value;
+    few = omega (arith, next_number c.args.self.now.number c.args.self.now.draft.part c.accept.new.self.part c.args.line.now c.requires.draft c.in-Ok.ensures.value);
   };
 }

@@ -1,0 +1,9 @@
+pub mod Texts
+pub mod EntryLines
+pub mod Quiet
+pub mod RunsRead
+pub mod LinesFound
+pub mod OneWay
+pub mod Verdicts
+pub mod Cuts
+pub mod Judged

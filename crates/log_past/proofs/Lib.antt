@@ -1,0 +1,6 @@
+mod Counting
+mod Frames
+mod Lefts
+mod Standing
+mod TestConfig
+mod Walks

@@ -1,0 +1,70 @@
+ghost use Rattle.std.specs.Prelude.{◌≡◌, ◌+◌, find, count_by, filter};
+ghost use Rattle.std.specs.List.{list_any};
+ghost use Rattle.pager_model.specs.Flights.{is_busy, without_flight};
+ghost use Rattle.pager_model.specs.Transfers.{has_come, is_on_block, reads_on, starts, writes_on};
+
+use crate::blocks::is_same;
+use crate::flight::Flight;
+use vm_types::{BlockId, Pfn, Proc, Seat};
+
+/// The flight that began in the entry of this number.
+pub(crate) fn find_start(flights: &[Flight], k: u64) -> Option<Flight>
+    ensures { result ≡ find (starts k) flights.now }
+{
+    flights.iter().find(|x| x.start() == k).copied()
+}
+
+/// Whether the seat has one.
+pub(crate) fn any_by(flights: &[Flight], seat: Seat) -> bool
+    ensures { result ≡ is_busy seat.0 flights.now }
+{
+    flights.iter().any(|x| x.seat().0 == seat.0)
+}
+
+/// How many are reads into the frame.
+pub(crate) fn count_reads(flights: &[Flight], f: Pfn) -> usize
+    ensures { result ≡ reads_on f.0 flights.now }
+{
+    flights
+        .iter()
+        .filter(|x| x.frame().0 == f.0 && x.direction().is_reading())
+        .count()
+}
+
+/// How many are writes from the frame.
+pub(crate) fn count_writes(flights: &[Flight], f: Pfn) -> usize
+    ensures { result ≡ writes_on f.0 flights.now }
+{
+    flights
+        .iter()
+        .filter(|x| x.frame().0 == f.0 && !x.direction().is_reading())
+        .count()
+}
+
+/// How many are reads into the frame or writes from it.
+pub(crate) fn count_frame(flights: &[Flight], f: Pfn) -> usize
+    ensures { result ≡ reads_on f.0 flights.now + writes_on f.0 flights.now }
+{
+    flights.iter().filter(|x| x.frame().0 == f.0).count()
+}
+
+/// How many are on the block.
+pub(crate) fn count_on(flights: &[Flight], block: BlockId) -> usize
+    ensures { result ≡ count_by (is_on_block block) flights.now }
+{
+    flights.iter().filter(|x| is_same(block, x.block())).count()
+}
+
+/// Whether one brings back a page of the process.
+pub(crate) fn any_come(flights: &[Flight], p: Proc) -> bool
+    ensures { result ≡ has_come p.0 flights.now }
+{
+    flights.iter().any(|x| x.direction().is_come(p))
+}
+
+/// Leaves those that didn't begin in the entry of this number.
+pub(crate) fn land(flights: &mut Vec<Flight>, k: u64)
+    ensures { flights.new.items ≡ without_flight k flights.old.items }
+{
+    flights.retain(|x| x.start() != k);
+}

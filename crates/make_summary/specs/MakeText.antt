@@ -1,0 +1,75 @@
+-- The lines of a made trace's run: how many entries of each kind it has. Source: this project's own.
+use Rattle.std.specs.Prelude.{ℕ, Bool, true, false, List, ◌++◌, length, count_by, codes, decimal}
+use Rattle.vm_journal.specs.declared.entry.Entry.{Entry}
+use Rattle.vm_journal.specs.declared.entry.Kind.{Kind}
+use Rattle.vm_journal.specs.declared.entry.Kind.TheVariants as kind
+use Rattle.vm_journal.specs.declared.entry.What.{What}
+use Rattle.vm_journal.specs.declared.entry.What.TheVariants as what
+use Rattle.pager_model.specs.Text.{ended}
+use Rattle.make_summary.specs.declared.counts.Counts.{Counts}
+use Rattle.make_summary.specs.declared.make.Make.{Make}
+
+-- an entry is of the kind
+abbrev pub is_kind : Kind → What → Bool
+is_kind kind.Done (what.Done r reply) = true
+is_kind kind.Denied (what.Denied r why) = true
+is_kind kind.Served (what.Served s answer) = true
+is_kind kind.Reuse (what.Reuse f page) = true
+is_kind kind.Zero (what.Zero a f) = true
+is_kind kind.Back (what.Back p a f from) = true
+is_kind kind.Collide (what.Collide a f k) = true
+is_kind kind.In (what.In f block role) = true
+is_kind kind.InOk (what.InOk f k) = true
+is_kind kind.InFail (what.InFail f k c d) = true
+is_kind kind.Out (what.Out f block) = true
+is_kind kind.OutOk (what.OutOk f k) = true
+is_kind kind.OutFail (what.OutFail f k c d) = true
+is_kind kind.Evict (what.Evict p a f why to) = true
+is_kind kind.Limit (what.Limit n faults) = true
+is_kind kind.Turn (what.Turn p status) = true
+is_kind other w = false
+
+abbrev pub count_of : Kind → List Entry → ℕ
+count_of wanted entries = count_by (λ (e : Entry). is_kind wanted e.what) entries
+
+-- each kind that is counted
+abbrev pub counts_of : List Entry → Counts
+counts_of entries = record {
+  done = count_of kind.Done entries;
+  denied = count_of kind.Denied entries;
+  zeros = count_of kind.Zero entries;
+  backs = count_of kind.Back entries;
+  reads = count_of kind.In entries;
+  writes = count_of kind.Out entries;
+  evictions = count_of kind.Evict entries;
+  turns = count_of kind.Turn entries;
+  limits = count_of kind.Limit entries;
+}
+
+-- which trace was made
+abbrev pub made_line : Make → List ℕ
+made_line make = ended (codes "MADE " ++ decimal make.seed ++ codes " " ++ decimal make.procs ++ codes " " ++ decimal make.refs)
+
+-- references
+abbrev pub answered_line : Counts → List ℕ
+answered_line counts = ended (codes "DONE " ++ decimal counts.done ++ codes " DENIED " ++ decimal counts.denied)
+
+-- pages that came into frames and left working sets, and transfers
+abbrev pub paged_line : Counts → List ℕ
+paged_line counts =
+    ended (codes "ZERO " ++ decimal counts.zeros ++ codes " BACK " ++ decimal counts.backs ++ codes " IN " ++ decimal counts.reads
+    ++ codes " OUT " ++ decimal counts.writes ++ codes " EVICT " ++ decimal counts.evictions)
+
+-- statuses and limits
+abbrev pub managed_line : Counts → List ℕ
+managed_line counts = ended (codes "TURN " ++ decimal counts.turns ++ codes " LIMIT " ++ decimal counts.limits)
+
+abbrev pub entries_line : List Entry → List ℕ
+entries_line entries = ended (codes "ENTRIES " ++ decimal (length entries))
+
+-- the lines before the status line, by these counts
+abbrev pub summary_lines : Make → Counts → List Entry → List ℕ
+summary_lines make counts entries = made_line make ++ answered_line counts ++ paged_line counts ++ managed_line counts ++ entries_line entries
+
+abbrev pub make_lines : Make → List Entry → List ℕ
+make_lines make entries = summary_lines make (counts_of entries) entries

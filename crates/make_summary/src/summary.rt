@@ -1,0 +1,111 @@
+ghost use Rattle.std.specs.Prelude.{◌≡◌, ◌+◌, ◌≤◌, ◌++◌, length, decimal};
+ghost use Rattle.arrayvec.specs.ArrayVec.{array_vec_len};
+ghost use Rattle.outside_io.specs.Views.{sink_view};
+ghost use Rattle.outside_io.specs.Writes.{Writes};
+ghost use Rattle.make_summary.specs.MakeText.{answered_line, entries_line, made_line, make_lines, managed_line, paged_line, summary_lines};
+
+use crate::counts::{Counts, count_entries};
+use crate::make::Make;
+use arrayvec::ArrayVec;
+use outside_io::{Sink, WriteFault};
+use program_ends::write_line;
+use vm_journal::Entry;
+use vm_text::{push_decimal, push_word};
+
+/// Adds a word of at most 140 bytes together with those before it, and a number in decimal digits.
+fn push_number(out: &mut ArrayVec<u8, 160>, word: &[u8], number: u64)
+    requires { array_vec_len out.old + length word.now ≤ 140 }
+    ensures items { out.new.items ≡ out.old.items ++ word.now ++ decimal number }
+    ensures len { array_vec_len out.new ≤ array_vec_len out.old + length word.now + 20 }
+{
+    push_word(out, word);
+    push_decimal(out, number);
+}
+
+/// Which trace was made.
+fn print_made<K: Sink>(make: Make, sink: &mut K) -> Result<(), WriteFault>
+    ensures { Writes (sink_view (K.taken sink.old) (K.faults sink.old) (K.stalls sink.old))
+        (sink_view (K.taken sink.new) (K.faults sink.new) (K.stalls sink.new)) result (made_line make) }
+{
+    let mut out = ArrayVec::new();
+    push_number(&mut out, b"MADE ", u64::from(make.seed));
+    push_number(&mut out, b" ", u64::from(make.procs));
+    push_number(&mut out, b" ", u64::from(make.refs));
+    write_line(out, sink)
+}
+
+/// How many references were answered, and how many refused.
+fn print_answered<K: Sink>(counts: &Counts, sink: &mut K) -> Result<(), WriteFault>
+    ensures { Writes (sink_view (K.taken sink.old) (K.faults sink.old) (K.stalls sink.old))
+        (sink_view (K.taken sink.new) (K.faults sink.new) (K.stalls sink.new)) result (answered_line counts.now) }
+{
+    let mut out = ArrayVec::new();
+    push_number(&mut out, b"DONE ", counts.done);
+    push_number(&mut out, b" DENIED ", counts.denied);
+    write_line(out, sink)
+}
+
+/// How many pages came into frames and left working sets, and how many transfers began.
+fn print_paged<K: Sink>(counts: &Counts, sink: &mut K) -> Result<(), WriteFault>
+    ensures { Writes (sink_view (K.taken sink.old) (K.faults sink.old) (K.stalls sink.old))
+        (sink_view (K.taken sink.new) (K.faults sink.new) (K.stalls sink.new)) result (paged_line counts.now) }
+{
+    let mut out = ArrayVec::new();
+    push_number(&mut out, b"ZERO ", counts.zeros);
+    push_number(&mut out, b" BACK ", counts.backs);
+    push_number(&mut out, b" IN ", counts.reads);
+    push_number(&mut out, b" OUT ", counts.writes);
+    push_number(&mut out, b" EVICT ", counts.evictions);
+    write_line(out, sink)
+}
+
+/// How often a process changed its status, and how often a limit was adjusted.
+fn print_managed<K: Sink>(counts: &Counts, sink: &mut K) -> Result<(), WriteFault>
+    ensures { Writes (sink_view (K.taken sink.old) (K.faults sink.old) (K.stalls sink.old))
+        (sink_view (K.taken sink.new) (K.faults sink.new) (K.stalls sink.new)) result (managed_line counts.now) }
+{
+    let mut out = ArrayVec::new();
+    push_number(&mut out, b"TURN ", counts.turns);
+    push_number(&mut out, b" LIMIT ", counts.limits);
+    write_line(out, sink)
+}
+
+/// How many entries there are.
+fn print_all<K: Sink>(entries: &[Entry], sink: &mut K) -> Result<(), WriteFault>
+    ensures { Writes (sink_view (K.taken sink.old) (K.faults sink.old) (K.stalls sink.old))
+        (sink_view (K.taken sink.new) (K.faults sink.new) (K.stalls sink.new)) result (entries_line entries.now) }
+{
+    let mut out = ArrayVec::new();
+    push_number(&mut out, b"ENTRIES ", entries.len() as u64);
+    write_line(out, sink)
+}
+
+/// The lines, by the counts of the entries.
+fn print_lines<K: Sink>(
+    make: Make,
+    counts: &Counts,
+    entries: &[Entry],
+    sink: &mut K,
+) -> Result<(), WriteFault>
+    ensures { Writes (sink_view (K.taken sink.old) (K.faults sink.old) (K.stalls sink.old))
+        (sink_view (K.taken sink.new) (K.faults sink.new) (K.stalls sink.new)) result (summary_lines make counts.now entries.now) }
+{
+    print_made(make, sink)?;
+    print_answered(counts, sink)?;
+    print_paged(counts, sink)?;
+    print_managed(counts, sink)?;
+    print_all(entries, sink)
+}
+
+/// Writes how many of the entries of a made trace's run are of each kind that is counted, each line in
+/// one write of a whole text. Goes over the entries once, and doesn't allocate.
+///
+/// # Errors
+/// `Failed` only if the sink's count of failures rose. `NoneTaken` exactly if its count of stalls
+/// rose. After either the sink has taken less than the lines, a prefix of them.
+pub fn print_summary<K: Sink>(make: Make, entries: &[Entry], sink: &mut K) -> Result<(), WriteFault>
+    ensures { Writes (sink_view (K.taken sink.old) (K.faults sink.old) (K.stalls sink.old))
+        (sink_view (K.taken sink.new) (K.faults sink.new) (K.stalls sink.new)) result (make_lines make entries.now) }
+{
+    print_lines(make, &count_entries(entries), entries, sink)
+}

@@ -1,0 +1,17 @@
+pub mod Order
+pub mod Numbers
+pub mod Places
+pub mod Singles
+pub mod WriteSteps
+pub mod WriteCarriers
+pub mod LeavesLower
+pub mod FindsLower
+pub mod ServesLower
+pub mod ReadSteps
+pub mod ComesLower
+pub mod FaultReads
+pub mod AdvancesLower
+pub mod WalksLower
+pub mod Small
+pub mod Digits
+pub mod Chains
