@@ -1,0 +1,10 @@
+pub mod Same
+pub mod Tables
+pub mod Lies
+pub mod Places
+pub mod First
+pub mod Landed
+pub mod Ranges
+pub mod Forgotten
+pub mod Whole
+pub mod Answered

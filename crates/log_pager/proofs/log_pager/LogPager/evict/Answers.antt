@@ -1,0 +1,19 @@
+use Rattle.std.proofs.Common.{refl, ap, ◌∙◌}
+use Rattle.pager_model.specs.Changes.{pushed_if}
+use Rattle.log_pager.specs.Shown.{shown}
+use Rattle.log_pager.proofs.Same.{same_shown, same_pager}
+use Rattle.log_pager.proofs.Tables.{set_evicted, set_state}
+use Rattle.log_pager.proofs.log_pager.LogPager.evict.Goals as goal
+
+pub returns : goal.returns
+unfolding shown
+returns c =
+    let s = c.args.self.now in
+    let f = c.args.f.0 in
+    let p = c.args.p.0 in
+    same_shown _ (shown s) _ refl refl
+    (same_pager _ _ (set_state s f c.requires.frame _) refl refl
+    (c.in_ok-push_if.ensures ∙ ap (λ b. pushed_if b s.free.items f) c.is_free.ensures)
+    (c.in_ok-push_if-2.ensures ∙ ap (λ b. pushed_if b s.modified.items f) c.is_modified.ensures)
+    refl (set_evicted s p c.requires.process _ _ _ _ _ c.index_mut-2.ensures.value c.index.ensures c.evict.ensures) refl refl refl refl
+    refl c.remove_entry.ensures refl refl refl refl)

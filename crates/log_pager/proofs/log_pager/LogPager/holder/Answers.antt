@@ -1,0 +1,17 @@
+use Rattle.std.proofs.Common.{◌≡◌, None, ap, arith, find, length, position, ◌∙◌}
+use Rattle.std.specs.Prelude.{slice_index_or}
+use Rattle.std.specs.List.{range_with_len}
+use Rattle.pager_model.specs.Forget.{holds_page}
+use Rattle.log_pager.specs.Shown.{shown}
+use Rattle.log_pager.proofs.Ranges.{found_first}
+use Rattle.log_pager.proofs.log_pager.LogPager.holder.Goals as goal
+
+pub returns-clause-holds : goal.returns-clause-holds
+unfolding shown
+returns-clause-holds c = λ config same.
+    let s = c.args.self.now in
+    let frames : length s.held.items ≡ config.frames = omega (arith, s.held.ok.0, s.each_held, same) in
+    c.holder_in.ensures.holds
+    ∙ (ap (position (holds_page c.args.page)) c.deref.ensures.value
+    ∙ (found_first (holds_page c.args.page) None s.held.items
+    ∙ ap (λ n. find (λ f. holds_page c.args.page (slice_index_or s.held.items f None)) (range_with_len 0 n)) frames))

@@ -1,0 +1,17 @@
+use Rattle.std.proofs.Common.{◌∷◌, refl, false, ap, ◌∙◌}
+use Rattle.pager_model.specs.Flights.{failed_flight}
+use Rattle.log_pager.specs.Shown.{shown}
+use Rattle.log_pager.proofs.Same.{same_shown, same_pager}
+use Rattle.log_pager.proofs.Tables.{set_modify, set_page, set_state}
+use Rattle.log_pager.proofs.log_pager.LogPager.reuse.Goals as goal
+
+pub returns : goal.returns
+unfolding shown
+returns c = λ past failed.
+    let s = c.args.self.now in
+    let f = c.args.f.0 in
+    same_shown _ (shown s) _ refl refl
+    (same_pager _ _ (set_state s f c.requires _) (set_page s f c.requires _) (set_modify s f c.requires false)
+    (c.in_ok-put_first.ensures ∙ ap (λ xs. f ∷ xs) c.remove.ensures) refl
+    refl refl refl refl refl refl
+    refl refl (c.uncharge.ensures (failed_flight past) failed) refl refl refl)

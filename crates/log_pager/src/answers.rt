@@ -1,0 +1,105 @@
+//! A frame is emptied, and references and services are answered.
+#![tactic(auto, unfolding(crate::specs::Shown::shown))]
+
+ghost use Rattle.std.specs.Prelude.{◌≡◌, ◌<◌, List, Option, Some, OnOk};
+ghost use Rattle.std.specs.Option.{option_map};
+ghost use Rattle.vm_journal.specs.declared.entry.Entry.{Entry};
+ghost use Rattle.pager_model.specs.Done.{after_done, touched_at};
+ghost use Rattle.pager_model.specs.Flat.{is_change};
+ghost use Rattle.pager_model.specs.Flights.{Flight, failed_flight};
+ghost use Rattle.pager_model.specs.Lookups.{entry_of};
+ghost use Rattle.pager_model.specs.Maps.{page_number};
+ghost use Rattle.pager_model.specs.Pager.{Valid};
+ghost use Rattle.pager_model.specs.Reuse.{after_reuse, charged_reused};
+ghost use Rattle.pager_model.specs.Sets.{has_page};
+
+use crate::changes::more;
+use crate::lists::{is_of_section, is_own, is_same, put_first, remove, remove_page};
+use crate::log_pager::LogPager;
+use vm_types::{BlockId, Config, FrameState, NoMemory, Op, Page, Pfn, Proc, Ref};
+
+/// A copy on reference page whose read from its section block failed is no longer charged.
+fn uncharge(charged: &mut Vec<Page>, page: Page, failed: Option<BlockId>)
+    ensures { (o : Option Flight) → option_map (λ (x : Flight). x.block) o ≡ failed → charged.new.items ≡ charged_reused o page charged.old.items }
+{
+    if let Some(block) = failed {
+        if is_own(page) && is_of_section(block) {
+            remove_page(charged, page);
+        }
+    }
+}
+
+/// Whether an operation changes a page.
+fn changes(op: Op) -> bool
+    ensures { result ≡ is_change op }
+{
+    match op {
+        Op::Read(_) => false,
+        Op::Write(_, _) | Op::Add(_) => true,
+    }
+}
+
+/// Whether a page is in a list.
+fn has(pages: &[Page], page: Page) -> bool
+    ensures { result ≡ has_page pages.now page }
+{
+    pages.iter().any(|other| is_same(page, *other))
+}
+
+/// A private page is touched.
+fn touch(touched: &mut Vec<Page>, page: Option<Page>) -> Result<(), NoMemory>
+    ensures { OnOk result (touched.new.items ≡ touched_at touched.old.items page) }
+{
+    let Some(page) = page else {
+        return Ok(());
+    };
+    if is_own(page) && !has(touched, page) {
+        put_first(touched, page)?;
+    }
+    Ok(())
+}
+
+impl LogPager {
+    ghost use Rattle.log_pager.specs.Shown.{shown, with_pager};
+
+    /// A frame gives up a page; with the block of the read that failed just before, if one did.
+    ///
+    /// # Errors
+    /// `NoMemory` if out of memory; the state is then not to be used again.
+    pub fn reuse(&mut self, f: Pfn, page: Page, failed: Option<BlockId>) -> Result<(), NoMemory>
+        requires { f.0 < (shown self.old).frames }
+        ensures { OnOk result ((past : List Entry) → option_map (λ (x : Flight). x.block) (failed_flight past) ≡ failed →
+            shown self.new ≡ with_pager (shown self.old) (after_reuse past (shown self.old).pager f.0 page)) }
+    {
+        let frame = f.0 as usize;
+        remove(&mut self.free, f.0);
+        put_first(&mut self.free, f.0)?;
+        uncharge(&mut self.charged, page, failed);
+        self.states[frame] = FrameState::Free;
+        self.held[frame] = None;
+        self.marks[frame] = false;
+        Ok(())
+    }
+
+    /// A reference is answered. The frame of the page's valid entry is there.
+    ///
+    /// # Errors
+    /// `NoMemory` if out of memory or if a count is full; the state is then not to be used again.
+    pub fn done(&mut self, config: &Config, p: Proc, r: Ref) -> Result<(), NoMemory>
+        requires process { p.0 < (shown self.old).processes }
+        requires frame { (e : Valid) → entry_of (shown self.old).pager.valid p.0 (page_number (r.addr).0) ≡ Some e → e.frame < (shown self.old).frames }
+        ensures { OnOk result (shown self.new ≡ with_pager (shown self.old) (after_done config.now (shown self.old).pager p.0 r)) }
+    {
+        let process = p.0 as usize;
+        let v = r.addr.0 / 512;
+        let page = self.page_of(config, p, v);
+        self.references[process] = more(self.references[process])?;
+        touch(&mut self.touched, page)?;
+        if changes(r.op) {
+            if let Some(entry) = self.entry(p, v) {
+                self.marks[entry.frame().0 as usize] = true;
+            }
+        }
+        Ok(())
+    }
+}

@@ -1,0 +1,129 @@
+//! Frames give up pages, and take them back.
+#![tactic(auto, unfolding(crate::specs::Shown::shown))]
+
+ghost use Rattle.std.specs.Prelude.{◌≡◌, ◌<◌, OnOk};
+ghost use Rattle.pager_model.specs.Back.{after_any_back, after_back, after_back_coming};
+ghost use Rattle.pager_model.specs.Changes.{pushed_if, without_entry};
+ghost use Rattle.pager_model.specs.Evict.{after_evict};
+ghost use Rattle.pager_model.specs.Lookups.{is};
+
+use crate::changes::more;
+use crate::lists::{lay_nowhere, put_first, remove, slot_lying};
+use crate::log_pager::LogPager;
+use crate::valid_entry::ValidEntry;
+use vm_journal::EvictWhy;
+use vm_types::{Addr, FrameState, NoMemory, Pfn, Proc, ProcStatus};
+
+/// Adds a frame at the end of a list, where it is to be.
+pub(crate) fn push_if(there: bool, list: &mut Vec<u32>, f: Pfn) -> Result<(), NoMemory>
+    ensures { OnOk result (list.new.items ≡ pushed_if there list.old.items f.0) }
+{
+    if there {
+        list.push(f.0)?;
+    }
+    Ok(())
+}
+
+impl LogPager {
+    ghost use Rattle.log_pager.specs.Shown.{shown, with_pager};
+
+    /// A page of a coming process comes back.
+    fn back_coming(&mut self, q: Proc, a: Addr, f: Pfn) -> Result<(), NoMemory>
+        requires process { q.0 < (shown self.old).processes }
+        requires frame { f.0 < (shown self.old).frames }
+        ensures { OnOk result (shown self.new ≡ with_pager (shown self.old) (after_back_coming (shown self.old).pager q.0 a.0 f.0)) }
+    {
+        let (process, frame) = (q.0 as usize, f.0 as usize);
+        let v = a.0 / 512;
+        let slot = slot_lying(&self.lies, self.held[frame]);
+        put_first(&mut self.valid, ValidEntry::new(q, v, f))?;
+        lay_nowhere(&mut self.lies, self.held[frame])?;
+        self.states[frame] = FrameState::Active;
+        self.marks[frame] = true;
+        remove(&mut self.free, f.0);
+        self.rings[process].put(slot, v);
+        Ok(())
+    }
+
+    /// A page of a process comes back on a fault.
+    fn back_faulted(&mut self, q: Proc, a: Addr, f: Pfn) -> Result<(), NoMemory>
+        requires process { q.0 < (shown self.old).processes }
+        requires frame { f.0 < (shown self.old).frames }
+        ensures { OnOk result (shown self.new ≡ with_pager (shown self.old) (after_back (shown self.old).pager q.0 a.0 f.0)) }
+    {
+        let (process, frame) = (q.0 as usize, f.0 as usize);
+        let v = a.0 / 512;
+        self.faults[process] = more(self.faults[process])?;
+        put_first(&mut self.valid, ValidEntry::new(q, v, f))?;
+        self.states[frame] = FrameState::Active;
+        remove(&mut self.free, f.0);
+        remove(&mut self.modified, f.0);
+        self.rings[process].place(self.limits[process], v);
+        Ok(())
+    }
+
+    /// A page that is still in a frame becomes valid.
+    ///
+    /// # Errors
+    /// `NoMemory` if out of memory or if a count is full; the state is then not to be used again.
+    pub fn back(&mut self, q: Proc, a: Addr, f: Pfn) -> Result<(), NoMemory>
+        requires process { q.0 < (shown self.old).processes }
+        requires frame { f.0 < (shown self.old).frames }
+        ensures { OnOk result (shown self.new ≡ with_pager (shown self.old)
+            (after_any_back (shown self.old).pager ((shown self.old).pager.status q.0) q.0 a.0 f.0)) }
+    {
+        match self.status(q) {
+            ProcStatus::Coming => self.back_coming(q, a, f),
+            ProcStatus::Resident | ProcStatus::Leaving | ProcStatus::Gone => {
+                self.back_faulted(q, a, f)
+            }
+        }
+    }
+
+    /// A page leaves a working set, and its frame goes to this state.
+    ///
+    /// # Errors
+    /// `NoMemory` if out of memory; the state is then not to be used again.
+    pub fn evict(
+        &mut self,
+        why: EvictWhy,
+        p: Proc,
+        a: Addr,
+        f: Pfn,
+        to: FrameState,
+    ) -> Result<(), NoMemory>
+        requires process { p.0 < (shown self.old).processes }
+        requires frame { f.0 < (shown self.old).frames }
+        ensures { OnOk result (shown self.new ≡ with_pager (shown self.old) (after_evict (shown self.old).pager why p.0 a.0 f.0 to)) }
+    {
+        let process = p.0 as usize;
+        let v = a.0 / 512;
+        push_if(is_free(to), &mut self.free, f)?;
+        push_if(is_modified(to), &mut self.modified, f)?;
+        self.states[f.0 as usize] = to;
+        self.rings[process].evict(why, self.limits[process], v);
+        remove_entry(&mut self.valid, p, v);
+        Ok(())
+    }
+}
+
+/// Takes the entries of a process for a page away.
+fn remove_entry(valid: &mut Vec<ValidEntry>, p: Proc, v: u32)
+    ensures { valid.new.items ≡ without_entry valid.old.items p.0 v }
+{
+    valid.retain(|entry| !entry.is_of(p, v));
+}
+
+/// Whether the state is that of a free frame.
+fn is_free(to: FrameState) -> bool
+    ensures { result ≡ is FrameState.Free to }
+{
+    to == FrameState::Free
+}
+
+/// Whether the state is that of a frame on the modified list.
+fn is_modified(to: FrameState) -> bool
+    ensures { result ≡ is FrameState.Modified to }
+{
+    to == FrameState::Modified
+}

@@ -1,0 +1,240 @@
+//! What is read off the tables.
+#![tactic(auto, unfolding(crate::specs::Shown::shown))]
+
+ghost use Rattle.std.specs.Prelude.{◌≡◌, ◌<◌, ◌↔◌, IsTrue, count_by, find, length};
+ghost use Rattle.pager_model.specs.Lookups.{IsHead, block_of, count_page, entries_at, entry_of, is_assigned_to, is_owner, page_by, shares};
+ghost use Rattle.pager_model.specs.Sets.{has_page};
+
+use crate::assigned_block::AssignedBlock;
+use crate::behind::Behind;
+use crate::lists::{is_same, lies_in, page_behind};
+use crate::log_pager::LogPager;
+use crate::ring::Ring;
+use crate::valid_entry::ValidEntry;
+use vm_types::{BlockId, Config, FrameState, Page, Pfn, Proc, ProcStatus, page_place};
+
+impl LogPager {
+    ghost use Rattle.log_pager.specs.Shown.{shown};
+
+    /// Whether there is a frame of this number.
+    pub fn has_frame(&self, f: Pfn) -> bool
+        ensures { IsTrue result ↔ (f.0 < (shown self.now).frames) }
+    {
+        (f.0 as usize) < self.states.len()
+    }
+
+    /// Whether there is a process of this number.
+    pub fn has_process(&self, p: Proc) -> bool
+        ensures { IsTrue result ↔ (p.0 < (shown self.now).processes) }
+    {
+        (p.0 as usize) < self.statuses.len()
+    }
+
+    /// The state of a frame; one that isn't there is bad.
+    pub fn state(&self, f: Pfn) -> FrameState
+        ensures { result ≡ (shown self.now).pager.state f.0 }
+    {
+        self.states
+            .get(f.0 as usize)
+            .copied()
+            .unwrap_or(FrameState::Bad)
+    }
+
+    /// The page that a frame holds.
+    pub fn page(&self, f: Pfn) -> Option<Page>
+        ensures { result ≡ (shown self.now).pager.page f.0 }
+    {
+        self.held.get(f.0 as usize).copied().unwrap_or(None)
+    }
+
+    /// Whether a frame's modify mark is set.
+    pub fn is_modified(&self, f: Pfn) -> bool
+        ensures { result ≡ (shown self.now).pager.modify f.0 }
+    {
+        self.marks.get(f.0 as usize).copied().unwrap_or(false)
+    }
+
+    /// Whether a frame heads the free list.
+    pub fn heads_free(&self, f: Pfn) -> bool
+        ensures { IsTrue result ↔ IsHead (shown self.now).pager.free f.0 }
+    {
+        heads(&self.free, f)
+    }
+
+    /// Whether a frame heads the modified list.
+    pub fn heads_modified(&self, f: Pfn) -> bool
+        ensures { IsTrue result ↔ IsHead (shown self.now).pager.modified f.0 }
+    {
+        heads(&self.modified, f)
+    }
+
+    /// How many frames are free.
+    pub fn free_frames(&self) -> usize
+        ensures { result ≡ length (shown self.now).pager.free }
+    {
+        self.free.len()
+    }
+
+    /// How many frames are modified.
+    pub fn modified_frames(&self) -> usize
+        ensures { result ≡ length (shown self.now).pager.modified }
+    {
+        self.modified.len()
+    }
+
+    /// The status of a process.
+    pub fn status(&self, p: Proc) -> ProcStatus
+        ensures { result ≡ (shown self.now).pager.status p.0 }
+    {
+        self.statuses
+            .get(p.0 as usize)
+            .copied()
+            .unwrap_or(ProcStatus::Resident)
+    }
+
+    /// The working set limit of a process.
+    pub fn limit_of(&self, p: Proc) -> u32
+        ensures { result ≡ (shown self.now).pager.limit p.0 }
+    {
+        self.limits.get(p.0 as usize).copied().unwrap_or(0)
+    }
+
+    /// A process's references since its limit was last adjusted.
+    pub fn references(&self, p: Proc) -> u64
+        ensures { result ≡ (shown self.now).pager.references p.0 }
+    {
+        self.references.get(p.0 as usize).copied().unwrap_or(0)
+    }
+
+    /// A process's faults since its limit was last adjusted.
+    pub fn faults(&self, p: Proc) -> u64
+        ensures { result ≡ (shown self.now).pager.faults p.0 }
+    {
+        self.faults.get(p.0 as usize).copied().unwrap_or(0)
+    }
+
+    /// The read that the process's last collision named.
+    pub fn collided(&self, p: Proc) -> Option<u64>
+        ensures { result ≡ (shown self.now).pager.collided p.0 }
+    {
+        self.collided.get(p.0 as usize).copied().unwrap_or(None)
+    }
+
+    /// The working set list of a process that is there.
+    pub fn ring(&self, p: Proc) -> &Ring
+        requires { p.0 < (shown self.now).processes }
+        ensures { result.now ≡ (shown self.now).pager.ring p.0 }
+    {
+        &self.rings[p.0 as usize]
+    }
+
+    /// What a page of a process is mapped to.
+    pub fn mapping(&self, p: Proc, v: u32) -> Option<Behind>
+        ensures { result ≡ (shown self.now).pager.map p.0 v }
+    {
+        self.pages.get(page_place(p, v)?).copied().flatten()
+    }
+
+    /// The page that a process has at a page number.
+    pub fn page_of(&self, config: &Config, p: Proc, v: u32) -> Option<Page>
+        ensures { result ≡ page_by config.now (shown self.now).pager.map p.0 v }
+    {
+        Some(page_behind(config, p, v, self.mapping(p, v)?.origin()))
+    }
+
+    /// The valid entry of a process for a page.
+    pub fn entry(&self, p: Proc, v: u32) -> Option<ValidEntry>
+        ensures { result ≡ entry_of (shown self.now).pager.valid p.0 v }
+    {
+        self.valid.iter().copied().find(|entry| entry.is_of(p, v))
+    }
+
+    /// How many valid entries a process has for a page.
+    pub fn entries(&self, p: Proc, v: u32) -> usize
+        ensures { result ≡ entries_at (shown self.now).pager.valid p.0 v }
+    {
+        self.valid.iter().filter(|entry| entry.is_of(p, v)).count()
+    }
+
+    /// How many valid entries there are for a frame.
+    pub fn shares(&self, f: Pfn) -> usize
+        ensures { result ≡ shares (shown self.now).pager.valid f.0 }
+    {
+        self.valid
+            .iter()
+            .filter(|entry| entry.frame().0 == f.0)
+            .count()
+    }
+
+    /// How many pages are charged.
+    pub fn charged_pages(&self) -> usize
+        ensures { result ≡ length (shown self.now).pager.charged }
+    {
+        self.charged.len()
+    }
+
+    /// How often a page is charged.
+    pub fn charges(&self, page: Page) -> usize
+        ensures { result ≡ count_page (shown self.now).pager.charged page }
+    {
+        self.charged
+            .iter()
+            .filter(|other| is_same(page, **other))
+            .count()
+    }
+
+    /// Whether a page is touched.
+    pub fn is_touched(&self, page: Page) -> bool
+        ensures { result ≡ has_page (shown self.now).pager.touched page }
+    {
+        self.touched.iter().any(|other| is_same(page, *other))
+    }
+
+    /// The block in which a page lies.
+    pub fn lies(&self, page: Page) -> Option<BlockId>
+        ensures { result ≡ (shown self.now).pager.lies page }
+    {
+        lies_in(&self.lies, page)
+    }
+
+    /// The page file block that is assigned to a page.
+    pub fn block_of(&self, page: Page) -> Option<u32>
+        ensures { result ≡ block_of (shown self.now).pager.assigned page }
+    {
+        Some(assigned_to(&self.assigned, page)?.block())
+    }
+
+    /// How many page file blocks are assigned.
+    pub fn assigned_blocks(&self) -> usize
+        ensures { result ≡ length (shown self.now).pager.assigned }
+    {
+        self.assigned.len()
+    }
+
+    /// To how many pages a block is assigned.
+    pub fn owners(&self, block: BlockId) -> usize
+        ensures { result ≡ count_by (is_owner block) (shown self.now).pager.assigned }
+    {
+        self.assigned
+            .iter()
+            .filter(|given| given.is_at(block))
+            .count()
+    }
+}
+
+/// Whether a frame heads a list.
+fn heads(list: &[u32], f: Pfn) -> bool
+    ensures { IsTrue result ↔ IsHead list.now f.0 }
+{
+    match list.first() {
+        Some(first) => *first == f.0,
+        None => false,
+    }
+}
+
+/// The first assignment to a page.
+fn assigned_to(assigned: &[AssignedBlock], page: Page) -> Option<AssignedBlock>
+    ensures { result ≡ find (is_assigned_to page) assigned.now }
+{
+    assigned.iter().copied().find(|given| given.is_of(page))
+}
