@@ -4,11 +4,11 @@ use Rattle.disk_trait.specs.declared.memory_block.MemoryBlock.{MemoryBlock}
 
 -- its bytes
 abbrev pub bytes_of : MemoryBlock → List ℕ
-bytes_of block = block.bytes.items
+bytes_of block = block.bytes
 
 -- the numbers of the calls that fail
 abbrev pub plan_of : MemoryBlock → List ℕ
-plan_of block = block.fails.items
+plan_of block = block.fails
 
 -- how often it was read
 abbrev pub reads_of : MemoryBlock → ℕ

@@ -9,6 +9,7 @@ mod memory_block;
 mod memory_depot;
 mod never_fails;
 mod plain_block;
+mod plan;
 
 pub use block::Block;
 pub use depot::{Depot, MakeFault};

@@ -1,18 +1,24 @@
-ghost use Rattle.std.specs.Prelude.{◌≡◌, ◌+◌, ◌^◌, ◌<◌, ◌≤◌, ◌++◌, ◌↔◌, length, take, drop, Some, true, refl, IsTrue, IsErr, IfOk, OnOk, OnErr, Contains};
+ghost use Rattle.std.specs.Prelude.{◌≡◌, ◌+◌, ◌^◌, ◌<◌, ◌≤◌, ◌++◌, ◌↔◌, length, replicate, take, drop, Some, true, refl, IsTrue, IsErr, IfOk, OnOk, OnErr, Contains};
 
 use crate::block::Block;
+use crate::plan::Plan;
+use page_pool::LazyBuf;
 use std::alloc::Global;
 use vm_types::{Failed, NoMemory};
 
-/// A block in memory, which fails at the calls that it was made to fail at and at no other.
+/// The bytes of a new page.
+const ZEROS: [u8; 512] = [0; 512];
+
+/// A block in memory, which fails at the calls that it was made to fail at and at no other. Its memory
+/// isn't touched as long as its bytes are zeros that no call wrote.
 #[derive(Drop)]
 pub struct MemoryBlock {
-    bytes: Vec<u8>,
-    fails: Vec<u32>,
+    bytes: LazyBuf,
+    fails: Plan,
     reads: u64,
     writes: u64,
     faults: u64,
-    ghost whole: { length bytes.items ≡ 512 },
+    ghost whole: { length bytes ≡ 512 },
     ghost few_calls: { reads + writes ≤ 2 ^ 48 },
     ghost few_faults: { faults ≤ reads + writes },
 }
@@ -21,20 +27,26 @@ impl MemoryBlock {
     ghost use Rattle.disk_trait.specs.MemoryBlock.{bytes_of, plan_of, reads_of, writes_of, faults_of, IsDueToFail};
 
     /// A block of these 512 bytes, not read or written so far, which is to fail at the calls
-    /// `fails`.
+    /// `fails`. The buffer has zeros, and gets the bytes.
     ///
     /// # Errors
     /// `NoMemory` for want of memory.
-    pub(crate) fn new(alloc: Global, bytes: &[u8], fails: &[u32]) -> Result<MemoryBlock, NoMemory>
-        requires { length bytes.now ≡ 512 }
+    pub(crate) fn new(
+        alloc: Global,
+        buf: LazyBuf,
+        bytes: &[u8],
+        fails: &[u32],
+    ) -> Result<MemoryBlock, NoMemory>
+        requires size { length bytes.now ≡ 512 }
+        requires zeros { buf ≡ replicate 512 0 }
         ensures bytes { IfOk result (λ b. bytes_of b ≡ bytes.now) }
         ensures plan { IfOk result (λ b. plan_of b ≡ fails.now) }
         ensures reads { IfOk result (λ b. reads_of b ≡ 0) }
         ensures writes { IfOk result (λ b. writes_of b ≡ 0) }
         ensures faults { IfOk result (λ b. faults_of b ≡ 0) }
     {
-        let bytes = Vec::from_slice(alloc, bytes)?;
-        let fails = Vec::from_slice(alloc, fails)?;
+        let bytes = holding(buf, bytes);
+        let fails = Plan::new(alloc, fails)?;
         Ok(MemoryBlock {
             bytes,
             fails,
@@ -49,7 +61,7 @@ impl MemoryBlock {
         ensures bytes { result.now ≡ bytes_of self.now }
         ensures size { length result.now ≡ 512 }
     {
-        &self.bytes
+        self.bytes.bytes()
     }
 
     /// How often it was read. Takes no memory.
@@ -71,24 +83,30 @@ impl MemoryBlock {
         requires { reads_of self.now + writes_of self.now < 2 ^ 48 }
         ensures { IsTrue result ↔ IsDueToFail self.now }
     {
-        is_due(&self.fails, self.reads + self.writes + 1)
+        self.fails.has(self.reads + self.writes + 1)
     }
 }
 
-/// Whether a call with this number is to fail.
-pub(crate) fn is_due(fails: &[u32], call: u64) -> bool
-    ensures { IsTrue result ↔ Contains fails.now call }
+/// The buffer with these bytes. It is not written if they are its own.
+fn holding(mut buf: LazyBuf, bytes: &[u8]) -> LazyBuf
+    requires size { length bytes.now ≡ 512 }
+    requires zeros { buf ≡ replicate 512 0 }
+    ensures { result ≡ bytes.now }
 {
-    fails.iter().any(|number| u64::from(*number) == call)
+    if bytes != ZEROS.as_slice() {
+        buf.write(bytes);
+    }
+    buf
 }
 
 /// Writes the first 256 of the bytes, and leaves the rest of the block.
-fn write_half(block: &mut [u8], bytes: &[u8])
+fn write_half(block: &mut LazyBuf, bytes: &[u8])
     requires block_size { length block.old ≡ 512 }
     requires size { length bytes.now ≡ 512 }
-    ensures { block.new ≡ take 256 bytes.now ++ drop 256 block.old }
+    ensures bytes { block.new ≡ take 256 bytes.now ++ drop 256 block.old }
+    ensures size { length block.new ≡ 512 }
 {
-    block[..256].copy_from_slice(&bytes[..256]);
+    block.write(&bytes[..256]);
 }
 
 impl Block for MemoryBlock {
@@ -134,7 +152,7 @@ impl Block for MemoryBlock {
             self.faults += 1;
             return Err(Failed);
         }
-        buf.copy_from_slice(&self.bytes);
+        buf.copy_from_slice(self.bytes.bytes());
         Ok(())
     }
 
@@ -158,7 +176,7 @@ impl Block for MemoryBlock {
             write_half(&mut self.bytes, bytes);
             return Err(Failed);
         }
-        self.bytes.copy_from_slice(bytes);
+        self.bytes.write(bytes);
         Ok(())
     }
 

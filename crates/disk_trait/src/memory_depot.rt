@@ -1,16 +1,22 @@
-ghost use Rattle.std.specs.Prelude.{◌≡◌, ◌+◌, ◌-◌, ◌^◌, ◌≤◌, ◌↔◌, [], ◌∷◌, ◌++◌, length, min, map, IsSome, IfSome, IfOk, IsErrOf, OnOk, OnErr, Contains};
+ghost use Rattle.std.specs.Prelude.{◌≡◌, ◌+◌, ◌-◌, ◌^◌, ◌≤◌, ◌↔◌, [], ◌∷◌, ◌++◌, length, min, map, IsSome, IfSome, IfOk, IsErrOf, OnOk, OnErr, Contains, replicate};
 
 use crate::depot::{Depot, MakeFault};
-use crate::memory_block::{MemoryBlock, is_due};
+use crate::memory_block::MemoryBlock;
+use crate::plan::is_due;
+use page_pool::{LazyBuf, Pool};
 use std::alloc::Global;
 use std::marker::Model;
 use vm_types::{BlockId, NoMemory};
 
+/// How many blocks have their memory in one region.
+const BLOCKS_PER_REGION: u32 = 2048;
+
 /// A depot in memory, which fails at the calls of `make` that it was made to fail at and at no
-/// other.
+/// other. Its blocks' memory is in regions, which are left where they are when it is dropped.
 #[derive(Drop)]
 pub struct MemoryDepot {
     alloc: Global,
+    region: Option<Pool>,
     fail_makes: Vec<u32>,
     makes: u64,
     faults: u64,
@@ -42,6 +48,7 @@ impl MemoryDepot {
     {
         MemoryDepot {
             alloc,
+            region: None,
             fail_makes,
             makes: 0,
             faults: 0,
@@ -56,6 +63,21 @@ impl MemoryDepot {
     {
         find_block(&self.retired, id)
     }
+}
+
+/// A buffer of zeros in the region, or in a new one if there is none with room.
+fn new_buf(alloc: Global, region: &mut Option<Pool>) -> Result<LazyBuf, NoMemory>
+    ensures { IfOk result (λ buf. buf ≡ replicate 512 0) }
+{
+    if let Some(pool) = region {
+        if let Some(buf) = pool.take_lazy() {
+            return Ok(buf);
+        }
+    }
+    let mut pool = Pool::new(alloc, BLOCKS_PER_REGION)?;
+    let buf = pool.take_lazy().unwrap();
+    *region = Some(pool);
+    Ok(buf)
 }
 
 /// A block of that name in the list.
@@ -101,7 +123,8 @@ impl Depot for MemoryDepot {
             self.faults = self.faults.saturating_add(1);
             return Err(MakeFault::Failed);
         }
-        Ok(MemoryBlock::new(self.alloc, bytes, fails)?)
+        let buf = new_buf(self.alloc, &mut self.region)?;
+        Ok(MemoryBlock::new(self.alloc, buf, bytes, fails)?)
     }
 
     fn retire(&mut self, id: BlockId, block: MemoryBlock) -> Result<(), NoMemory>

@@ -30,57 +30,28 @@ fn make_and_retire<D: Depot>(depot: &mut D, id: BlockId, bytes: &[u8]) -> Result
 }
 
 #[test]
-fn a_failed_write_leaves_the_second_half(rt: HostRuntime) -> Result<(), Fail> {
-    let mut depot = MemoryDepot::new(rt.alloc(), Vec::new(rt.alloc()));
+fn blocks_fail_as_planned(rt: HostRuntime) -> Result<(), Fail> {
+    let mut depot = MemoryDepot::new(rt.alloc(), vec![in rt.alloc(); 1]?);
+    for expected in [Err(MakeFault::Failed), Ok(())] {
+        let made = make_and_retire(&mut depot, BlockId::PageFile(3), &[5; 512]);
+        assert_eq!(rt; made, expected);
+    }
+    let found = depot.retired(BlockId::PageFile(3)).ok_or("it was retired")?;
+    assert_eq!(rt; found.bytes(), [5; 512].as_slice());
+    assert!(rt; depot.retired(BlockId::Swap(Proc(0), 3)).is_none());
     let mut block = depot.make(BlockId::PageFile(0), &[0; 512], &[2])?;
     let mut buf = [7; 512];
     block.read(&mut buf)?;
     assert_eq!(rt; buf, [0; 512]);
     assert_eq!(rt; block.write(&[1; 512]), Err(Failed));
-    block.read(&mut buf)?;
-    assert_eq!(rt; &buf[..256], [1; 256].as_slice());
-    assert_eq!(rt; &buf[256..], [0; 256].as_slice());
-    assert_eq!(rt; (block.reads(), block.writes(), block.faults()), (2, 1, 1));
-    Ok(())
-}
-
-#[test]
-fn the_first_make_fails(rt: HostRuntime) -> Result<(), Fail> {
-    let mut depot = MemoryDepot::new(rt.alloc(), vec![in rt.alloc(); 1]?);
-    assert_eq!(rt;
-        make_and_retire(&mut depot, BlockId::PageFile(3), &[5; 512]),
-        Err(MakeFault::Failed)
-    );
-    assert_eq!(rt;
-        make_and_retire(&mut depot, BlockId::PageFile(3), &[5; 512]),
-        Ok(())
-    );
-    let found = depot.retired(BlockId::PageFile(3)).ok_or("it was retired")?;
-    assert_eq!(rt; found.bytes(), [5; 512].as_slice());
-    assert!(rt; depot.retired(BlockId::Swap(Proc(0), 3)).is_none());
-    Ok(())
-}
-
-#[test]
-fn other_blocks_never_fail(rt: HostRuntime) -> Result<(), Fail> {
-    let mut depot = NeverFails::new(rt.alloc());
-    assert_eq!(rt;
-        make_and_retire(&mut depot, BlockId::PageFile(0), &[1; 512]),
-        Ok(())
-    );
-    let mut block = depot.make(BlockId::PageFile(1), &[2; 512], &[1, 2])?;
-    let mut buf = [0; 512];
+    assert_eq!(rt; &block.bytes()[..256], [1; 256].as_slice());
+    assert_eq!(rt; &block.bytes()[256..], [0; 256].as_slice());
     assert_eq!(rt; write_and_read(&mut block, &[3; 512], &mut buf), Ok(()));
     assert_eq!(rt; buf, [3; 512]);
-    assert_eq!(rt; block.faults(), 0);
-    let mut memory = MemoryDepot::new(rt.alloc(), Vec::new(rt.alloc()));
-    let mut failing = memory.make(BlockId::PageFile(1), &[2; 512], &[1])?;
-    assert_eq!(rt;
-        write_and_read(&mut failing, &[4; 512], &mut buf),
-        Err(Failed)
-    );
-    assert_eq!(rt; write_and_read(&mut failing, &[4; 512], &mut buf), Ok(()));
-    assert_eq!(rt; buf, [4; 512]);
+    assert_eq!(rt; (block.reads(), block.writes(), block.faults()), (2, 2, 1));
+    let mut other = NeverFails::new(rt.alloc()).make(BlockId::PageFile(1), &[2; 512], &[1])?;
+    assert_eq!(rt; write_and_read(&mut other, &[4; 512], &mut buf), Ok(()));
+    assert_eq!(rt; (buf[511], other.faults()), (4, 0));
     Ok(())
 }
 

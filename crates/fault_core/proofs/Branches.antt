@@ -1,14 +1,13 @@
 -- The branch of the rule that each test of the code leads to.
 use Rattle.std.proofs.Common.{◌≡◌, ℕ, zero, suc, ◌<◌, ◌&&◌, Bool, true, false, cond, not, List, [], ◌∷◌, Option, Some, None, length, nat_eq, nat_le, nat_lt, slice_get, refl, sym, ap, ◌∙◌, arith}
-use Rattle.std.specs.Option.{option_map}
-use Rattle.std.proofs.lemmas.Bool.{ltb-false, ne_eqb}
+use Rattle.std.specs.Option.{is_some, option_map}
+use Rattle.std.proofs.lemmas.Bool.{false≢true, ltb-false, ne_eqb}
 use Rattle.std.proofs.lemmas.Option.{none-some, same_Some}
 use Rattle.vm_types.specs.Ring.{filled}
 use Rattle.vm_types.specs.declared.config.Config.{Config}
 use Rattle.vm_types.specs.declared.config.ProcSpec.{ProcSpec}
 use Rattle.vm_types.specs.declared.names.BlockId.{BlockId}
 use Rattle.vm_types.specs.declared.names.Page.{Page}
-use Rattle.vm_types.specs.declared.names.Pfn.{Pfn}
 use Rattle.vm_types.specs.declared.reference.Ref.{Ref}
 use Rattle.vm_journal.specs.declared.entry.Entry.{Entry}
 use Rattle.vm_journal.specs.declared.entry.What.TheVariants as what
@@ -21,10 +20,9 @@ use Rattle.pager_model.specs.Maps.{Mapped, is_private, page_number}
 use Rattle.pager_model.specs.Pager.{Pager, Valid}
 use Rattle.pager_model.specs.Spoken.{flat_after}
 use Rattle.vm_state.specs.FlightReadings.{read_by}
-use Rattle.vm_state.specs.PageReadings.{found_with, frame_of}
+use Rattle.vm_state.specs.PageReadings.{found_with}
 use Rattle.vm_state.specs.ProcessReadings.{adjusted_for, pending_in}
-use Rattle.vm_state.specs.Shown.{frame_number}
-use Rattle.vm_state.specs.declared.found.Found.{Found}
+use Rattle.page_states.specs.declared.found.Found.{Found}
 use Rattle.vm_state.specs.declared.open_read.OpenRead.{OpenRead}
 use Rattle.call_steps.proofs.Branches.{if_false, if_true, item_there}
 
@@ -62,9 +60,9 @@ module _ (config : Config) (past : List Entry) (a : Pager) (p : ℕ) (r : Ref) w
       by false is = refl
 
   -- ---- the valid entry
-  pub entry_some : (f : Pfn) (o : Option Valid) → option_map frame_number (Some f) ≡ option_map frame_of o → entry_given config past a p r o ≡ given (what.Done r unsaid ∷ []) next_answered
-  entry_some f None is = absurd (none-some f.0 (sym is))
-  entry_some f (Some e) is = refl
+  pub entry_some : (o : Option Valid) → is_some o ≡ true → entry_given config past a p r o ≡ given (what.Done r unsaid ∷ []) next_answered
+  entry_some None is = absurd (false≢true is)
+  entry_some (Some e) is = refl
 
   -- ---- the read of another seat
   pub read_none : (g : Page) (f : ℕ) (o : Option Flight) → None ≡ option_map read_by o → read_given config past a p r g f o ≡ room_given config past a p r g
@@ -97,19 +95,19 @@ module _ (config : Config) (past : List Entry) (a : Pager) (p : ℕ) (r : Ref) w
   pub out_still : (g : Page) (o : Option BlockId) → is_busy_block past o ≡ false → out_given config past a p r g o ≡ frame_given config a p r g o a.free
   out_still g o is = if_false (is_busy_block past o) _ _ is
 
--- a look that shows no frame finds no entry
-pub entry_missing : (o : Option Valid) → option_map frame_number None ≡ option_map frame_of o → o ≡ None
+-- there is no entry, or one
+pub entry_missing : (o : Option Valid) → is_some o ≡ false → o ≡ None
 entry_missing None is = refl
-entry_missing (Some e) is = absurd (none-some _ is)
+entry_missing (Some e) is = absurd (false≢true (sym is))
 
 -- ---- the mapping
 pub found_page : (config : Config) (p v : ℕ) (valid : Bool) (o : Option Mapped) (x : Found) → Some x ≡ found_with config p v valid o → (page_at config p v o ≡ Some x.page) × (section_of x.from ≡ section_at o)
 found_page config p v valid None x is = absurd (none-some _ (sym is))
 found_page config p v valid (Some m) x is = let same = same_Some x _ is in (ap (λ (y : Found). Some y.page) (sym same), ap (λ (y : Found). section_of y.from) same)
 
-pub found_no_page : (config : Config) (p v : ℕ) (valid : Bool) (o : Option Mapped) → None ≡ found_with config p v valid o → page_at config p v o ≡ None
-found_no_page config p v valid None is = refl
-found_no_page config p v valid (Some m) is = absurd (none-some _ is)
+pub found_valid : (config : Config) (p v : ℕ) (valid : Bool) (o : Option Mapped) (x : Found) → Some x ≡ found_with config p v valid o → x.valid ≡ valid
+found_valid config p v valid None x is = absurd (none-some _ (sym is))
+found_valid config p v valid (Some m) x is = ap (λ (y : Found). y.valid) (same_Some x _ is)
 
 -- ---- the frame
 pub frame_none : (o : Option ℕ) → None ≡ option_map pfn o → o ≡ None

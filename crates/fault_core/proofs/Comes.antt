@@ -35,8 +35,8 @@ use Rattle.vm_state.specs.History.{History, MayAdd, MayAnswer, added, entry_by, 
 use Rattle.vm_state.specs.PageReadings.{IsKnown}
 use Rattle.vm_state.specs.CarrierView.{CarrierView}
 use Rattle.vm_state.specs.Readings.{row_at}
-use Rattle.vm_state.specs.Shown.{frame_number}
-use Rattle.vm_state.specs.declared.found.Backing.{Backing}
+use Rattle.page_states.specs.Shown.{frame_number}
+use Rattle.page_states.specs.declared.found.Backing.{Backing}
 use Rattle.call_laws.specs.AreLegal.{AreLegal}
 use Rattle.call_laws.proofs.ReadsLegal.{lying_block}
 use Rattle.call_laws.proofs.WaitsLegal.{kept, right}

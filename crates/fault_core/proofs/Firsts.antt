@@ -9,7 +9,7 @@ use Rattle.vm_types.specs.declared.names.Seat.{Seat}
 use Rattle.vm_types.specs.declared.reference.Ref.{Ref}
 use Rattle.vm_types.specs.declared.reply.Why.{Why}
 use Rattle.vm_journal.specs.declared.entry.What.TheVariants as what
-use Rattle.pager_model.specs.Advance.{again_block_busy, again_charging, again_collided, again_not_resident, entry_given, fault_given, gives_again, held_given, is_busy_block, is_named, is_uncharged, mapped_given, out_given, source_of, next_answered, next_more, refused_given}
+use Rattle.pager_model.specs.Advance.{again_block_busy, again_charging, again_collided, entry_given, fault_given, gives_again, held_given, is_busy_block, is_named, is_uncharged, mapped_given, out_given, source_of, next_answered, next_more, refused_given}
 use Rattle.pager_model.specs.Flat.{flat_refusal}
 use Rattle.pager_model.specs.Flights.{open_flights}
 use Rattle.pager_model.specs.Forget.{holder}
@@ -19,17 +19,16 @@ use Rattle.pager_model.specs.Spoken.{flat_after}
 use Rattle.pager_model.specs.Transfers.{is_read_on}
 use Rattle.vm_state.specs.FlightReadings.{read_by}
 use Rattle.vm_state.specs.History.{History, MayAdd, MayAnswer, entry_by, pager}
-use Rattle.vm_state.specs.PageReadings.{found_in, frame_of}
+use Rattle.vm_state.specs.PageReadings.{found_in}
 use Rattle.vm_state.specs.ProcessReadings.{pending_in}
-use Rattle.vm_state.specs.Shown.{frame_number}
-use Rattle.vm_state.specs.declared.found.Found.{Found}
+use Rattle.page_states.specs.declared.found.Found.{Found}
 use Rattle.vm_state.specs.declared.open_read.OpenRead.{OpenRead}
 use Rattle.call_steps.proofs.Branches.{if_false, if_true}
 use Rattle.call_steps.proofs.Steps.{paid_first}
 use Rattle.fault_core.specs.Cases.{at_entry, at_fault, at_first, at_frame, at_held, at_map, at_out, at_read, at_refusal, at_replace, at_room, vpn_of}
 use Rattle.fault_core.specs.Gives.{MayGive}
 use Rattle.call_steps.specs.ReadySeat.{IsReadySeat}
-use Rattle.fault_core.proofs.Branches.{entry_missing, entry_some, first_pending, first_settled, found_no_page, found_page, out_busy, out_still, read_none, read_other, read_own, room_charging, room_full}
+use Rattle.fault_core.proofs.Branches.{entry_missing, entry_some, first_pending, first_settled, found_page, found_valid, out_busy, out_still, read_none, read_other, read_own, room_charging, room_full}
 use Rattle.fault_core.proofs.Steps.{may_as}
 
 module _ (s : History) (seat : Seat) (r : Ref) where
@@ -58,16 +57,19 @@ module _ (s : History) (seat : Seat) (r : Ref) where
   goes_by is = ap (refused_given s.config s.past (pager s) seat.0 r) (sym is)
 
   -- ---- the answer
-  pub answers : (f : Pfn) → option_map frame_number (Some f) ≡ option_map frame_of (entry_of (pager s).valid seat.0 (vpn_of r)) → at_entry s seat r ≡ given (what.Done r unsaid ∷ []) next_answered
-  answers f is = entry_some s.config s.past (pager s) seat.0 r f (entry_of (pager s).valid seat.0 (vpn_of r)) is
+  valid_there : (x : Found) → Some x ≡ found_in s.config (pager s) seat.0 (vpn_of r) → is_some (entry_of (pager s).valid seat.0 (vpn_of r)) ≡ x.valid
+  valid_there x is = sym (found_valid s.config seat.0 (vpn_of r) (is_some (entry_of (pager s).valid seat.0 (vpn_of r))) ((pager s).map seat.0 (vpn_of r)) x is)
 
-  pub may_answer : (f : Pfn) → option_map frame_number (Some f) ≡ option_map frame_of (entry_of (pager s).valid seat.0 (vpn_of r)) → MayGive s seat (at_entry s seat r) → MayAnswer s seat r
-  may_answer f is may =
-      let m = may_as s seat _ _ (answers f is) may in
+  pub answers : (x : Found) → Some x ≡ found_in s.config (pager s) seat.0 (vpn_of r) → x.valid ≡ true → at_entry s seat r ≡ given (what.Done r unsaid ∷ []) next_answered
+  answers x is valid = entry_some s.config s.past (pager s) seat.0 r (entry_of (pager s).valid seat.0 (vpn_of r)) (valid_there x is ∙ valid)
+
+  pub may_answer : (x : Found) → Some x ≡ found_in s.config (pager s) seat.0 (vpn_of r) → x.valid ≡ true → MayGive s seat (at_entry s seat r) → MayAnswer s seat r
+  may_answer x is valid may =
+      let m = may_as s seat _ _ (answers x is valid) may in
       record { legal = m.legal.0; paid = let room = m.room in omega (arith, room) }
 
-  pub passes_on : option_map frame_number None ≡ option_map frame_of (entry_of (pager s).valid seat.0 (vpn_of r)) → at_entry s seat r ≡ at_map s seat r
-  passes_on is = ap (entry_given s.config s.past (pager s) seat.0 r) (entry_missing (entry_of (pager s).valid seat.0 (vpn_of r)) is)
+  pub passes_on : (x : Found) → Some x ≡ found_in s.config (pager s) seat.0 (vpn_of r) → x.valid ≡ false → at_entry s seat r ≡ at_map s seat r
+  passes_on x is invalid = ap (entry_given s.config s.past (pager s) seat.0 r) (entry_missing (entry_of (pager s).valid seat.0 (vpn_of r)) (valid_there x is ∙ invalid))
 
   -- ---- the mapping
   pub mapped_to : (x : Found) → Some x ≡ found_in s.config (pager s) seat.0 (vpn_of r) → (page_by s.config (pager s).map seat.0 (vpn_of r) ≡ Some x.page) × (section_of x.from ≡ section_at ((pager s).map seat.0 (vpn_of r)))
@@ -75,9 +77,6 @@ module _ (s : History) (seat : Seat) (r : Ref) where
 
   pub faults_on : (x : Found) → Some x ≡ found_in s.config (pager s) seat.0 (vpn_of r) → at_map s seat r ≡ at_fault s seat r x.page
   faults_on x is = ap (mapped_given s.config s.past (pager s) seat.0 r) (mapped_to x is).0
-
-  pub unmapped : None ≡ found_in s.config (pager s) seat.0 (vpn_of r) → at_map s seat r ≡ gives_again again_not_resident
-  unmapped is = ap (mapped_given s.config s.past (pager s) seat.0 r) (found_no_page s.config seat.0 (vpn_of r) (is_some (entry_of (pager s).valid seat.0 (vpn_of r))) ((pager s).map seat.0 (vpn_of r)) is)
 
   -- ---- the frame
   pub held_by : (g : Page) (f : Pfn) → holder s.config (pager s).page g ≡ Some f.0 → at_fault s seat r g ≡ at_read s seat r g f.0

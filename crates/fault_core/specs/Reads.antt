@@ -1,5 +1,5 @@
 -- The window of a read cluster, and what one read of it makes. This project's own.
-use Rattle.std.specs.Prelude.{◌≡◌, ℕ, ◌-◌, ◌≤◌, List, ◌∷◌, Option, Some, if◌then◌else◌, map}
+use Rattle.std.specs.Prelude.{◌≡◌, ℕ, ◌-◌, ◌≤◌, List, ◌∷◌, Option, Some, length, if◌then◌else◌, map}
 use Rattle.std.specs.List.{range_with_len}
 use Rattle.vm_types.specs.declared.config.Config.{Config}
 use Rattle.vm_types.specs.declared.names.BlockId.{BlockId}
@@ -24,7 +24,9 @@ page_place (Shared s i) = i
 abbrev pub reach_of : Config → Pager → Page → ℕ
 reach_of config a g = if is_uncharged a g then 1 else config.params.pfc
 
--- the faulting page, and the pages that may follow it: as many places as the rule looks at, which are at most 8
+-- the faulting page, and the pages that may follow it: some of the places that the rule looks at, from the first one
+-- on; the rule looks at 8 places at most
 pub record IsWindow (config : Config) (a : Pager) (g : Page) (b : BlockId) (pages : List (Option Page)) : Type 0 where
-  pub each : pages ≡ Some g ∷ map (following config a g b) (range_with_len 1 (reach_of config a g - 1))
+  pub each : pages ≡ Some g ∷ map (following config a g b) (range_with_len 1 (length pages - 1))
+  pub within : length pages ≤ reach_of config a g
   pub few : reach_of config a g ≤ 8

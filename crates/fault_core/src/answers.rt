@@ -1,13 +1,16 @@
-ghost use Rattle.std.specs.Prelude.{◌≡◌};
+ghost use Rattle.std.specs.Prelude.{◌≡◌, Some};
 ghost use Rattle.vm_types.specs.WellFormed.{IsWellFormedReference};
 ghost use Rattle.call_steps.specs.MayBegin.{empty};
-ghost use Rattle.fault_core.specs.Cases.{at_entry, at_refusal};
+ghost use Rattle.vm_state.specs.History.{pager};
+ghost use Rattle.vm_state.specs.PageReadings.{found_in};
+ghost use Rattle.fault_core.specs.Cases.{at_entry, at_refusal, vpn_of};
 ghost use Rattle.fault_core.specs.Gives.{Gives, MayGive};
 ghost use Rattle.call_steps.specs.ReadySeat.{IsReadySeat};
 
 use crate::faults::mapped;
 use crate::next::Next;
 use disk_trait::Block;
+use page_states::Found;
 use vm_state::{Carrier, State};
 use vm_types::{Proc, Ref, Reply, Seat};
 
@@ -20,17 +23,25 @@ pub fn answer<B: Block>(state: &mut State<B>, seat: Seat, r: Ref, carrier: &mut 
     ensures { Gives B.content B.plan B.reads B.writes B.faults B.tells_content B.tells_plan
         state.old state.new seat r (at_refusal state.old seat r) result carrier.old carrier.new }
 {
-    match state.refusal(Proc(seat.0), r) {
+    let there = state.found(Proc(seat.0), r.addr.0 / 512);
+    match state.refusal(Proc(seat.0), r, there) {
         Some(why) => {
             state.denied(seat, r, why);
             Next::Answered(Reply::Refused(why))
         }
-        None => entry(state, seat, r, carrier),
+        None => entry(state, seat, r, there.unwrap(), carrier),
     }
 }
 
 /// The reference isn't refused.
-fn entry<B: Block>(state: &mut State<B>, seat: Seat, r: Ref, carrier: &mut Carrier<B>) -> Next
+fn entry<B: Block>(
+    state: &mut State<B>,
+    seat: Seat,
+    r: Ref,
+    found: Found,
+    carrier: &mut Carrier<B>,
+) -> Next
+    requires found { Some found ≡ found_in state.old.config (pager state.old) seat.0 (vpn_of r) }
     requires ready { IsReadySeat state.old seat }
     requires formed { IsWellFormedReference r }
     requires may { MayGive state.old seat (at_entry state.old seat r) }
@@ -38,8 +49,9 @@ fn entry<B: Block>(state: &mut State<B>, seat: Seat, r: Ref, carrier: &mut Carri
     ensures { Gives B.content B.plan B.reads B.writes B.faults B.tells_content B.tells_plan
         state.old state.new seat r (at_entry state.old seat r) result carrier.old carrier.new }
 {
-    match state.valid_frame(Proc(seat.0), r.addr.0 / 512) {
-        Some(_) => Next::Answered(state.done(seat, r)),
-        None => mapped(state, seat, r, carrier),
+    if found.valid {
+        Next::Answered(state.done(seat, r))
+    } else {
+        mapped(state, seat, r, found, carrier)
     }
 }

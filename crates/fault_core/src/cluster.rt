@@ -1,4 +1,4 @@
-ghost use Rattle.std.specs.Prelude.{◌≡◌, ◌+◌, ◌≤◌, ◌<◌, ◌^◌, ◌&&◌, Some, length, not, slice_get, true};
+ghost use Rattle.std.specs.Prelude.{◌≡◌, ◌+◌, ◌≤◌, ◌<◌, ◌^◌, ◌&&◌, Some, length, nat_lt, not, slice_get, true};
 ghost use Rattle.vm_types.specs.Configuration.{IsBlock, IsWellFormed};
 ghost use Rattle.vm_types.specs.declared.names.BlockId.TheVariants as block;
 ghost use Rattle.vm_types.specs.declared.names.Page.{Page};
@@ -124,7 +124,16 @@ fn reach<B: Block>(state: &State<B>, x: Sought) -> u32
     }
 }
 
-/// The faulting page and the pages that may follow it, and how many of them are read together.
+/// Whether a next place is looked at: the page of the last one was out, and fewer places were looked at
+/// than a cluster may reach.
+fn goes_on(is_out: bool, places: u32, reach: u32) -> bool
+    ensures { result ≡ (is_out && nat_lt places reach) }
+{
+    is_out && places < reach
+}
+
+/// The faulting page and the pages that may follow it, up to the first that isn't out, and how many of
+/// them are read together.
 pub fn cluster<B: Block>(
     state: &State<B>,
     x: Sought,
@@ -136,7 +145,7 @@ pub fn cluster<B: Block>(
     requires charge { (is_private x.page && not (x.backing).charged) ≡ is_uncharged (pager state.now) x.page }
     requires free { 1 ≤ length (pager state.now).free }
     ensures pages { IsWindow state.now.config (pager state.now) x.page b (result.0).items }
-    ensures within { result.1 ≤ reach_of state.now.config (pager state.now) x.page }
+    ensures within { result.1 ≤ length (result.0).items }
     ensures length { result.1 ≡ cluster_length (window state.now.config (pager state.now) x.page b)
         state.now.config.params.pfc (length (pager state.now).free) }
 {
@@ -146,10 +155,15 @@ pub fn cluster<B: Block>(
     let mut out = ArrayVec::<bool, 8>::new();
     pages.push(Some(x.page));
     out.push(true);
-    for places in 1..reach {
+    let mut places = 1;
+    let mut more = goes_on(true, places, reach);
+    while more {
         let page = following(state, x.page, b, places);
-        out.push(is_out(state, page));
+        let here = is_out(state, page);
+        out.push(here);
         pages.push(page);
+        places += 1;
+        more = goes_on(here, places, reach);
     }
     let length = choose(out.as_slice(), pfc, state.free_len());
     (pages, length)

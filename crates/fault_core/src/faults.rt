@@ -1,12 +1,13 @@
-ghost use Rattle.std.specs.Prelude.{◌≡◌, ◌<◌, ◌&&◌, length, nat_eq, nat_le, not};
+ghost use Rattle.std.specs.Prelude.{◌≡◌, ◌<◌, ◌&&◌, Some, length, nat_eq, nat_le, not};
 ghost use Rattle.vm_types.specs.WellFormed.{IsWellFormedReference};
 ghost use Rattle.vm_types.specs.Ring.{filled};
 ghost use Rattle.pager_model.specs.Advance.{is_uncharged};
 ghost use Rattle.pager_model.specs.Lookups.{section_of};
 ghost use Rattle.pager_model.specs.Maps.{is_private};
 ghost use Rattle.vm_state.specs.History.{pager};
+ghost use Rattle.vm_state.specs.PageReadings.{found_in};
 ghost use Rattle.call_steps.specs.MayBegin.{empty};
-ghost use Rattle.fault_core.specs.Cases.{at_fault, at_map, at_room};
+ghost use Rattle.fault_core.specs.Cases.{at_fault, at_map, at_room, vpn_of};
 ghost use Rattle.fault_core.specs.SoughtPage.{IsSought};
 ghost use Rattle.fault_core.specs.Gives.{Gives, MayGive};
 ghost use Rattle.call_steps.specs.ReadySeat.{IsReadySeat};
@@ -16,6 +17,7 @@ use crate::next::{AgainWhy, Next};
 use crate::sought::Sought;
 use crate::waits::{read, replace};
 use disk_trait::Block;
+use page_states::Found;
 use vm_state::{Carrier, State};
 use vm_types::{BlockId, Origin, Page, Proc, Ref, Seat};
 
@@ -30,7 +32,14 @@ fn section_of(from: Origin) -> Option<BlockId>
 }
 
 /// The page's entry isn't valid.
-pub fn mapped<B: Block>(state: &mut State<B>, seat: Seat, r: Ref, carrier: &mut Carrier<B>) -> Next
+pub fn mapped<B: Block>(
+    state: &mut State<B>,
+    seat: Seat,
+    r: Ref,
+    found: Found,
+    carrier: &mut Carrier<B>,
+) -> Next
+    requires found { Some found ≡ found_in state.old.config (pager state.old) seat.0 (vpn_of r) }
     requires ready { IsReadySeat state.old seat }
     requires formed { IsWellFormedReference r }
     requires may { MayGive state.old seat (at_map state.old seat r) }
@@ -38,19 +47,14 @@ pub fn mapped<B: Block>(state: &mut State<B>, seat: Seat, r: Ref, carrier: &mut 
     ensures { Gives B.content B.plan B.reads B.writes B.faults B.tells_content B.tells_plan
         state.old state.new seat r (at_map state.old seat r) result carrier.old carrier.new }
 {
-    match state.found(Proc(seat.0), r.addr.0 / 512) {
-        Some(found) => {
-            let behind = section_of(found.from);
-            let backing = state.backing(found.page);
-            let x = Sought {
-                page: found.page,
-                behind,
-                backing,
-            };
-            fault(state, seat, r, x, carrier)
-        }
-        None => Next::Again(AgainWhy::NotResident),
-    }
+    let behind = section_of(found.from);
+    let backing = state.backing(found.page);
+    let x = Sought {
+        page: found.page,
+        behind,
+        backing,
+    };
+    fault(state, seat, r, x, carrier)
 }
 
 /// A page that is mapped isn't valid.

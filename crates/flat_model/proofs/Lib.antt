@@ -1,5 +1,4 @@
 pub mod Found
 pub mod Entries
 pub mod Told
-pub mod TestConfig
 pub mod Changing

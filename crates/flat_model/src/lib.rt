@@ -11,6 +11,3 @@ mod tables;
 
 pub use flat::Flat;
 pub use page::apply;
-
-#[cfg(test)]
-mod tests;

@@ -9,6 +9,3 @@ mod writes;
 pub use entries::{enter, leave};
 pub use reads::{begin_read, end_read, end_read_free, fail_read};
 pub use writes::{begin_write, end_write};
-
-#[cfg(test)]
-mod tests;

@@ -4,6 +4,3 @@
 mod globals;
 
 pub use globals::Globals;
-
-#[cfg(test)]
-mod tests;

@@ -21,6 +21,3 @@ pub use stage::Stage;
 pub use turn::Turn;
 pub use turns::Turns;
 pub use view::View;
-
-#[cfg(test)]
-mod tests;

@@ -5,6 +5,3 @@ mod entry_line;
 mod parts;
 
 pub use entry_line::line;
-
-#[cfg(test)]
-mod tests;

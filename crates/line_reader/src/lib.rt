@@ -7,6 +7,3 @@ mod requests;
 mod take;
 
 pub use entry_read::{BadLine, lines_are_one_to_one, read_line};
-
-#[cfg(test)]
-mod tests;

@@ -5,6 +5,3 @@
 mod lines;
 
 pub use lines::{Line, Lines};
-
-#[cfg(test)]
-mod tests;

@@ -7,3 +7,8 @@ pub mod OneWay
 pub mod Verdicts
 pub mod Cuts
 pub mod Judged
+pub mod Rooms
+pub mod Widths
+pub mod EntryWidths
+pub mod ShortTexts
+pub mod ShortLines

@@ -1,8 +1,10 @@
 -- The laws of logs, as statements. This project's own.
-use Rattle.std.specs.Prelude.{◌≡◌, ◌≢◌, ◌⊎◌, ℕ, ◌+◌, ◌≤◌, List, [], ◌++◌, count_by, nat_eq}
+use Rattle.std.specs.Prelude.{◌≡◌, ◌≢◌, ◌⊎◌, ℕ, ◌+◌, ◌≤◌, List, [], ◌++◌, count_by, length, nat_eq}
 use Rattle.vm_types.specs.Configuration.{IsWellFormed}
 use Rattle.vm_types.specs.declared.config.Config.{Config}
-use Rattle.log_model.specs.Log.{IsAtFault, IsLegalLog, IsTextOfRun, IsTooLong, most_lines}
+use Rattle.log_model.specs.Log.{AreLegal, IsAtFault, IsLegalLog, IsTextOfRun, IsTooLong, most_lines}
+use Rattle.log_model.specs.NextLine.{IsNext}
+use Rattle.log_model.specs.Stand.{Stand}
 use Rattle.log_laws.specs.Verdict.{IsJudged, IsLines, Verdict}
 
 -- how many lines of the text are ended
@@ -51,3 +53,9 @@ abbrev pub CutLogsAreAtFault : Type 0
 CutLogsAreAtFault =
     (config : Config) (front rest : List ℕ) (n : ℕ) → IsWellFormed config → IsLegalLog config (front ++ rest) n → rest ≢ []
     → IsAtFault config front (lines_in front + 1)
+
+-- a legal next line after no more legal lines than a log may have has at most 255 bytes
+abbrev pub LegalLinesAreShort : Type 0
+LegalLinesAreShort =
+    (config : Config) (lines : List (List ℕ)) (line : List ℕ) (stand after : Stand) → IsWellFormed config → AreLegal config lines stand
+    → IsNext config stand line after → length lines ≤ most_lines → length line ≤ 255

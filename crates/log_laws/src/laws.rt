@@ -2,6 +2,7 @@ ghost use Rattle.log_laws.specs.Laws.{
   CutLogsAreAtFault,
   FaultsAreNoRuns,
   FaultsStand,
+  LegalLinesAreShort,
   LegalLogsAreRuns,
   LegalLogsAreShort,
   NoneIsUnjudged,
@@ -41,4 +42,10 @@ pub fn a_fault_stands()
 /// A legal log that is cut short is at fault at the line after its last whole one.
 pub fn cut_logs_are_at_fault()
     ensures { CutLogsAreAtFault }
+{}
+
+/// For a well-formed configuration a line that is a legal next one after legal lines, which are no more than
+/// a log may have, has at most 255 bytes.
+pub fn legal_lines_are_short()
+    ensures { LegalLinesAreShort }
 {}

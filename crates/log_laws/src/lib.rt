@@ -5,5 +5,6 @@
 mod laws;
 
 pub use laws::{
-    a_fault_stands, cut_logs_are_at_fault, legal_logs_are_runs, one_verdict, runs_are_legal_logs,
+    a_fault_stands, cut_logs_are_at_fault, legal_lines_are_short, legal_logs_are_runs, one_verdict,
+    runs_are_legal_logs,
 };

@@ -1,6 +1,6 @@
 mod Counting
 mod Frames
 mod Lefts
+mod Ordered
 mod Standing
-mod TestConfig
 mod Walks

@@ -1,6 +1,6 @@
-ghost use Rattle.std.specs.Prelude.{◌≡◌, ◌+◌, [], length, find, count_by, nat_eq, IsSome, OnOk, OnErr};
+ghost use Rattle.std.specs.Prelude.{◌≡◌, ◌+◌, [], length, filter, find, count_by, nat_eq, reverse, IfOk, IsSome, OnOk, OnErr};
 ghost use Rattle.pager_model.specs.Flights.{begun_by, flights_with, is_busy, without_flight};
-ghost use Rattle.pager_model.specs.Transfers.{has_come, is_on_block, reads_on, starts, writes_on};
+ghost use Rattle.pager_model.specs.Transfers.{has_come, is_by, is_on_block, reads_on, starts, writes_on};
 ghost use Rattle.log_past.specs.Landed.{failed_read_in, landed_flight};
 
 use crate::flight::Flight;
@@ -110,6 +110,28 @@ impl Flights {
         ensures { result ≡ has_come p.0 self.now }
     {
         open::any_come(&self.open, p)
+    }
+
+    /// The flights of a seat after an entry of it with this number, in the order in which they were begun.
+    ///
+    /// # Errors
+    /// `NoMemory` if out of memory.
+    pub(crate) fn by_seat_with(
+        &self,
+        alloc: Global,
+        number: u64,
+        seat: Seat,
+        what: What,
+    ) -> Result<Vec<Flight>, NoMemory>
+        ensures { IfOk result (λ v. v.items ≡ reverse (filter (is_by seat.0) (flights_with number seat.0 what self.now))) }
+    {
+        let mut own = open::by_seat(alloc, &self.open, seat)?;
+        if let Some(x) = Flight::begun_by(number, seat, what) {
+            own.push(x)?;
+        } else if let Some(k) = landed_flight(what) {
+            open::land(&mut own, k);
+        }
+        Ok(own)
     }
 
     /// Whether none is open.

@@ -15,12 +15,10 @@ mod open;
 mod orders;
 mod past;
 mod readers;
+mod rundown_readers;
 mod spoken;
 
 pub use carrying::Carrying;
 pub use direction::Direction;
 pub use flight::Flight;
 pub use log_past::LogPast;
-
-#[cfg(test)]
-mod tests;

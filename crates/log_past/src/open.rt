@@ -1,11 +1,12 @@
-ghost use Rattle.std.specs.Prelude.{◌≡◌, ◌+◌, find, count_by, filter};
+ghost use Rattle.std.specs.Prelude.{◌≡◌, ◌+◌, IfOk, find, count_by, filter, reverse};
 ghost use Rattle.std.specs.List.{list_any};
 ghost use Rattle.pager_model.specs.Flights.{is_busy, without_flight};
-ghost use Rattle.pager_model.specs.Transfers.{has_come, is_on_block, reads_on, starts, writes_on};
+ghost use Rattle.pager_model.specs.Transfers.{has_come, is_on_block, is_by, reads_on, starts, writes_on};
 
 use crate::blocks::is_same;
 use crate::flight::Flight;
-use vm_types::{BlockId, Pfn, Proc, Seat};
+use std::alloc::Global;
+use vm_types::{BlockId, NoMemory, Pfn, Proc, Seat};
 
 /// The flight that began in the entry of this number.
 pub(crate) fn find_start(flights: &[Flight], k: u64) -> Option<Flight>
@@ -67,4 +68,24 @@ pub(crate) fn land(flights: &mut Vec<Flight>, k: u64)
     ensures { flights.new.items ≡ without_flight k flights.old.items }
 {
     flights.retain(|x| x.start() != k);
+}
+
+/// Those of the seat, the last one first.
+///
+/// # Errors
+/// `NoMemory` if out of memory.
+pub(crate) fn by_seat(
+    alloc: Global,
+    flights: &[Flight],
+    seat: Seat,
+) -> Result<Vec<Flight>, NoMemory>
+    ensures { IfOk result (λ v. v.items ≡ reverse (filter (is_by seat.0) flights.now)) }
+{
+    let mut own: Vec<Flight> = flights
+        .iter()
+        .copied()
+        .filter(|x| x.seat().0 == seat.0)
+        .collect(alloc)?;
+    own.reverse();
+    Ok(own)
 }

@@ -1,5 +1,5 @@
 -- The lines of a made trace's run: how many entries of each kind it has. Source: this project's own.
-use Rattle.std.specs.Prelude.{ℕ, Bool, true, false, List, ◌++◌, length, count_by, codes, decimal}
+use Rattle.std.specs.Prelude.{ℕ, Bool, true, false, ◌+◌, ◌<◌, List, ◌++◌, length, count_by, codes, decimal, if◌then◌else◌}
 use Rattle.vm_journal.specs.declared.entry.Entry.{Entry}
 use Rattle.vm_journal.specs.declared.entry.Kind.{Kind}
 use Rattle.vm_journal.specs.declared.entry.Kind.TheVariants as kind
@@ -44,6 +44,32 @@ counts_of entries = record {
   evictions = count_of kind.Evict entries;
   turns = count_of kind.Turn entries;
   limits = count_of kind.Limit entries;
+}
+
+-- each count is below a bound
+pub record AreBelow (counts : Counts) (bound : ℕ) : Type 0 where
+  pub done : counts.done < bound
+  pub denied : counts.denied < bound
+  pub zeros : counts.zeros < bound
+  pub backs : counts.backs < bound
+  pub reads : counts.reads < bound
+  pub writes : counts.writes < bound
+  pub evictions : counts.evictions < bound
+  pub turns : counts.turns < bound
+  pub limits : counts.limits < bound
+
+-- the counts with one entry more
+abbrev pub counted : Counts → What → Counts
+counted counts w = record {
+  done = counts.done + (if is_kind kind.Done w then 1 else 0);
+  denied = counts.denied + (if is_kind kind.Denied w then 1 else 0);
+  zeros = counts.zeros + (if is_kind kind.Zero w then 1 else 0);
+  backs = counts.backs + (if is_kind kind.Back w then 1 else 0);
+  reads = counts.reads + (if is_kind kind.In w then 1 else 0);
+  writes = counts.writes + (if is_kind kind.Out w then 1 else 0);
+  evictions = counts.evictions + (if is_kind kind.Evict w then 1 else 0);
+  turns = counts.turns + (if is_kind kind.Turn w then 1 else 0);
+  limits = counts.limits + (if is_kind kind.Limit w then 1 else 0);
 }
 
 -- which trace was made

@@ -1,5 +1,5 @@
-ghost use Rattle.std.specs.Prelude.{◌≡◌};
-ghost use Rattle.make_summary.specs.MakeText.{counts_of};
+ghost use Rattle.std.specs.Prelude.{◌≡◌, ◌-◌, ◌^◌};
+ghost use Rattle.make_summary.specs.MakeText.{AreBelow, counted, counts_of};
 
 use vm_journal::{Entry, What};
 
@@ -38,21 +38,38 @@ const NONE: Counts = Counts {
     limits: 0,
 };
 
+/// Counts one entry more.
+fn count_one(counts: &mut Counts, e: &Entry)
+    requires { AreBelow counts.old (2 ^ 64 - 1) }
+    ensures { counts.new ≡ counted counts.old e.now.what }
+{
+    match e.what {
+        What::Done { .. } => counts.done += 1,
+        What::Denied { .. } => counts.denied += 1,
+        What::Zero { .. } => counts.zeros += 1,
+        What::Back { .. } => counts.backs += 1,
+        What::In { .. } => counts.reads += 1,
+        What::Out { .. } => counts.writes += 1,
+        What::Evict { .. } => counts.evictions += 1,
+        What::Turn { .. } => counts.turns += 1,
+        What::Limit { .. } => counts.limits += 1,
+        What::Served { .. }
+        | What::Reuse { .. }
+        | What::Collide { .. }
+        | What::InOk { .. }
+        | What::InFail { .. }
+        | What::OutOk { .. }
+        | What::OutFail { .. } => {}
+    }
+}
+
 /// The counts of the entries. Goes over them once.
 pub(crate) fn count_entries(entries: &[Entry]) -> Counts
     ensures { result ≡ counts_of entries.now }
 {
     let mut counts = NONE;
     for e in entries {
-        counts.done += u64::from(matches!(e.what, What::Done { .. }));
-        counts.denied += u64::from(matches!(e.what, What::Denied { .. }));
-        counts.zeros += u64::from(matches!(e.what, What::Zero { .. }));
-        counts.backs += u64::from(matches!(e.what, What::Back { .. }));
-        counts.reads += u64::from(matches!(e.what, What::In { .. }));
-        counts.writes += u64::from(matches!(e.what, What::Out { .. }));
-        counts.evictions += u64::from(matches!(e.what, What::Evict { .. }));
-        counts.turns += u64::from(matches!(e.what, What::Turn { .. }));
-        counts.limits += u64::from(matches!(e.what, What::Limit { .. }));
+        count_one(&mut counts, e);
     }
     counts
 }

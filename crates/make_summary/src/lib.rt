@@ -7,6 +7,3 @@ mod summary;
 
 pub use make::Make;
 pub use summary::print_summary;
-
-#[cfg(test)]
-mod tests;

@@ -20,6 +20,3 @@ pub use std_sink::StdSink;
 pub use std_source::StdSource;
 pub use steady_write::SteadyWrite;
 pub use whole::{WriteFault, write_whole};
-
-#[cfg(test)]
-mod tests;

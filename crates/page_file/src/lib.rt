@@ -6,6 +6,3 @@ mod full;
 
 pub use file::PageFile;
 pub use full::Full;
-
-#[cfg(test)]
-mod tests;

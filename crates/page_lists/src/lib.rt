@@ -10,6 +10,3 @@ mod lists;
 pub use faults::NoMemory;
 pub use list_name::ListName;
 pub use lists::Lists;
-
-#[cfg(test)]
-mod tests;

@@ -1,8 +1,8 @@
 -- What a page must have before its places move: its number, its entry, its row. This project's own.
-use Rattle.std.specs.Prelude.{◌≡◌, ℕ, ◌+◌, ◌-◌, ◌^◌, ◌<◌, List, None, length, slice_index, slice_set}
+use Rattle.std.specs.Prelude.{◌≡◌, ℕ, ◌+◌, ◌^◌, ◌<◌, List, None, length, slice_index}
 use Rattle.vm_types.specs.declared.names.Page.{Page}
 use Rattle.vm_types.specs.declared.names.Page.TheVariants.{Private, Shared}
-use Rattle.global_pages.specs.GlobalPages.{GlobalPages, IsGlobalPage, count_of}
+use Rattle.global_pages.specs.GlobalPages.{GlobalPages, IsGlobalPage}
 use Rattle.page_file.specs.Blocks.{Blocks}
 use Rattle.page_tables.specs.PageTables.{IsMapped, PageTables}
 use Rattle.state_parts.specs.ChargedTable.{ChargedTable, HasPage, charged_at}
@@ -23,12 +23,3 @@ MayHold tables globals f number (Shared s i) = IsGlobalPage globals number
 abbrev pub MayCharge : ChargedTable → Blocks → Page → Type 0
 MayCharge pages file (Private p v) = HasPage pages p.0 v × (charged_at pages p.0 v ≡ None → file.charged < length file.owners)
 MayCharge pages file (Shared s i) = Unit {0}
-
--- one valid entry more is for the page, which has this number if it is shared
-abbrev pub shared_at : Page → ℕ → GlobalPages → GlobalPages
-shared_at (Private p v) number table = table
-shared_at (Shared s i) number table = record table { counts = slice_set table.counts number (count_of table number + 1) }
-
-abbrev pub MayShare : GlobalPages → ℕ → Page → Type 0
-MayShare table number (Private p v) = Unit {0}
-MayShare table number (Shared s i) = IsGlobalPage table number × (count_of table number < 2 ^ 32 - 1)

@@ -5,9 +5,5 @@
 mod reading;
 
 pub use reading::{
-    charge_page, first_read, global_number, hold_page, mapped_page, share_page, slot_of_block,
-    slot_of_page,
+    charge_page, first_read, global_number, hold_page, mapped_page, page_over, slot_of_block,
 };
-
-#[cfg(test)]
-mod tests;

@@ -7,9 +7,8 @@ ghost use Rattle.pager_model.specs.Maps.{page_behind};
 ghost use Rattle.section_table.specs.SectionTable.{behind_of};
 ghost use Rattle.pager_model.specs.InOk.{is_first_read};
 ghost use Rattle.state_parts.specs.ChargedTable.{charged_at};
-ghost use Rattle.state_fits.specs.Changes.{page_slot};
 ghost use Rattle.state_fits.specs.ReadBegins.{charged_in, charged_now, entry_held, file_charged, held_at, one_charge};
-ghost use Rattle.page_moves.specs.Moves.{HasNumber, MayCharge, MayHold, MayShare, number_by, shared_at};
+ghost use Rattle.page_moves.specs.Moves.{HasNumber, MayCharge, MayHold, number_by};
 
 use global_pages::Globals;
 use page_file::PageFile;
@@ -41,8 +40,8 @@ pub fn mapped_page(config: &Config, sections: &Sections, p: Proc, vpn: u32) -> O
     }
 }
 
-/// The page that a process has over this.
-fn page_over(config: &Config, p: Proc, vpn: u32, origin: Origin) -> Page
+/// The page that a process has over what is behind it.
+pub fn page_over(config: &Config, p: Proc, vpn: u32, origin: Origin) -> Page
     ensures { result ≡ page_behind config.now p.0 vpn origin }
 {
     match origin {
@@ -136,26 +135,5 @@ pub fn slot_of_block(block: BlockId) -> u32
     match block {
         BlockId::Swap(_, n) => n,
         _ => 0,
-    }
-}
-
-/// The slot that the row of the page's frame has, for a page that took this ring slot: none for a
-/// shared page.
-pub fn slot_of_page(page: Page, slot: u32) -> u32
-    ensures { result ≡ page_slot page slot }
-{
-    match page {
-        Page::Private(..) => slot,
-        Page::Shared(..) => 0,
-    }
-}
-
-/// One valid entry more is for the page, which has the number if it is shared.
-pub fn share_page(globals: &mut Globals, page: Page, number: u32)
-    requires { MayShare globals.old number page }
-    ensures { globals.new ≡ shared_at page number globals.old }
-{
-    if let Page::Shared(..) = page {
-        globals.share(number);
     }
 }

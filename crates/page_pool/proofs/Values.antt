@@ -26,6 +26,7 @@ use Rattle.core.proofs.cell.Inside.{Good}
 use Rattle.page_pool.specs.Region.{Page}
 use Rattle.page_pool.specs.contracts.part.Part as part
 use Rattle.page_pool.specs.contracts.region.Region as region
+use Rattle.page_pool.specs.contracts.spare.Spare as spare
 
 abbrev pub part_val : Ptr → ℕ → Val
 part_val p n = vstruct (vcons (ptr_val p) (vcons (vint w32 n) vnil))
@@ -45,6 +46,16 @@ part_told p n vs s = (s.1.0 ∙ (λ i. vstruct (of_list (s.1.1.0 i ++ (s.1.1.1.0
 
 pub part_made : {M : Type 1} {𝓤 : Ura M} (𝓛 : Logic 𝓤) (p : Ptr) (n : ℕ) → n < 2 ^ 32 → ent 𝓤 (emp 𝓤) (sem 𝓛 (Part.own_val (p, (n, tt)) (part_val p n ∷ [])))
 part_made 𝓛 p n f = makes_shadow 𝓛 (Part.own_val (p, (n, tt)) (part_val p n ∷ [])) (λ _. (tt, (tt, ((tt, tt), tt)))) ((ptr_val p ∷ [], (vint w32 n ∷ [], tt)), (refl, (refl, ((refl, f), tt))))
+
+-- a part that isn't written yet has the same fields
+abbrev pub Spare : RattleType
+Spare = Struct (shape spare.the_type)
+
+pub spare_told : (p : Ptr) (n : ℕ) (vs : List Val) → Is Spare (p, (n, tt)) vs → (vs ≡ part_val p n ∷ []) × (n < 2 ^ 32)
+spare_told p n vs s = (s.1.0 ∙ (λ i. vstruct (of_list (s.1.1.0 i ++ (s.1.1.1.0.0 i ++ []))) ∷ []), s.1.1.1.0.1)
+
+pub spare_made : {M : Type 1} {𝓤 : Ura M} (𝓛 : Logic 𝓤) (p : Ptr) (n : ℕ) → n < 2 ^ 32 → ent 𝓤 (emp 𝓤) (sem 𝓛 (Spare.own_val (p, (n, tt)) (part_val p n ∷ [])))
+spare_made 𝓛 p n f = makes_shadow 𝓛 (Spare.own_val (p, (n, tt)) (part_val p n ∷ [])) (λ _. (tt, (tt, ((tt, tt), tt)))) ((ptr_val p ∷ [], (vint w32 n ∷ [], tt)), (refl, (refl, ((refl, f), tt))))
 
 pub part_opened : {M : Type 1} {𝓤 : Ura M} (𝓛 : Logic 𝓤) → Opens 𝓛 Part
 part_opened {M} {𝓤 = 𝓤} 𝓛 = (Struct-Copied 𝓛 (shape part.the_type) (refl, (refl, tt)) (RawPtr-copy.copied M 𝓤 𝓛, (u32-copy.copied M 𝓤 𝓛, tt))).opens

@@ -34,3 +34,7 @@ region_owns name size start numbers = fsep (tickets_own name start numbers) (par
 -- a part that is out, with its bytes and its ticket
 abbrev pub part_owns : ℕ → ℕ → Ptr → Ptr → List ℕ → Fml
 part_owns name number start at bytes = fsep (lies_at Page full_share at bytes) (tickets_own name start (number ∷ []))
+
+-- a part that is out and isn't written yet, with its ticket
+abbrev pub spare_owns : ℕ → ℕ → Ptr → Ptr → Fml
+spare_owns name number start at = fsep (room_for page_type at) (tickets_own name start (number ∷ []))

@@ -1,11 +1,14 @@
 //! A pool of page buffers of 512 bytes, which are parts of one region.
 #![tactic(auto)]
 
+mod lazy_buf;
 mod page_buf;
 mod part;
 mod pool;
 mod region;
+mod spare;
 
+pub use lazy_buf::LazyBuf;
 pub use page_buf::PageBuf;
 pub use pool::Pool;
 

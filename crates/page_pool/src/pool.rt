@@ -1,5 +1,6 @@
-ghost use Rattle.std.specs.Prelude.{◌≡◌, ◌+◌, ◌≤◌, ◌↔◌, IsNone, IfSome, OnSome, IfNone, IfOk, length};
+ghost use Rattle.std.specs.Prelude.{◌≡◌, ◌+◌, ◌≤◌, ◌↔◌, IsNone, IfSome, OnSome, IfNone, IfOk, length, replicate};
 
+use crate::lazy_buf::LazyBuf;
 use crate::page_buf::PageBuf;
 use crate::region::{Deed, Region};
 use std::alloc::Global;
@@ -72,6 +73,19 @@ impl Pool {
         // The proof learns here that there are 512 bytes.
         let _ = buf.bytes();
         Some(buf)
+    }
+
+    /// Takes a buffer of zeros out whose memory isn't touched, or returns `None` if none is left. It doesn't
+    /// come back. Doesn't allocate.
+    pub fn take_lazy(&mut self) -> Option<LazyBuf>
+        ensures none { IsNone result ↔ (self.old.left ≡ 0) }
+        ensures zeros { IfSome result (λ buf. buf ≡ replicate 512 0) }
+        ensures some { OnSome result (self.new.left + 1 ≡ self.old.left) }
+        ensures unchanged { IfNone result (self.new ≡ self.old) }
+        ensures name { self.new.name ≡ self.old.name }
+    {
+        let number = self.free.pop()?;
+        Some(LazyBuf::new(self.region.lend(number)))
     }
 
     /// Takes a buffer of this pool back. Doesn't allocate.

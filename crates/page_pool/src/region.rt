@@ -5,6 +5,7 @@ ghost use denote.RawPtr.{Ptr, block_ptr, block_of, count_of};
 ghost use Rattle.page_pool.specs.Region.{region_owns, pages_type};
 
 use crate::part::Part;
+use crate::spare::Spare;
 use std::alloc::Allocator;
 use std::marker::{Model, PhantomData};
 
@@ -62,6 +63,18 @@ impl Region {
             let at = self.start.add(number as usize);
             *at = bytes;
             Part { at, number }
+        }
+    }
+
+    /// Lends the part that came in last, and leaves its bytes unwritten.
+    pub(crate) fn lend(&mut self, number: u32) -> Spare
+        requires { (rest : List ℕ) × (self.old.numbers ≡ rest ++ number ∷ []) }
+        ensures numbers { self.old.numbers ≡ self.new.numbers ++ number ∷ [] }
+        ensures same { (self.new.start ≡ self.old.start) × (self.new.size ≡ self.old.size) × (self.new.name ≡ self.old.name) }
+    {
+        unsafe {
+            let at = self.start.add(number as usize);
+            Spare { at, number }
         }
     }
 

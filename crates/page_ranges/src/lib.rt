@@ -7,6 +7,3 @@ mod ranges;
 
 pub use forgetting::{empty_frame, uncharge};
 pub use ranges::{create_zeros, protect};
-
-#[cfg(test)]
-mod tests;

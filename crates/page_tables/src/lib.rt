@@ -7,6 +7,3 @@ mod tables;
 
 pub use look::Look;
 pub use tables::Tables;
-
-#[cfg(test)]
-mod tests;

@@ -21,6 +21,3 @@ pub use least::{Least, least_faults};
 pub use lru::lru_faults;
 pub use references::page_string;
 pub use ring::ring_faults;
-
-#[cfg(test)]
-mod tests;

@@ -9,6 +9,3 @@ mod row;
 pub use page_lists::ListName;
 pub use pfns::Pfns;
 pub use row::Row;
-
-#[cfg(test)]
-mod tests;

@@ -6,10 +6,11 @@ use Rattle.outside_io.specs.Views.{SinkView}
 use Rattle.trace_words.specs.declared.cause.Cause.{Cause}
 use Rattle.trace_words.specs.declared.cause.Cause.TheVariants.{LineTooLong, NotAscii, TooMany, UnknownWord, Misplaced, NoSuch, BadNumber, OutOfRange, Unaligned, Repeated}
 use Rattle.program_ends.specs.FaultText.{fault_text}
+use Rattle.check_command.specs.CheckText.{too_long_line}
 
 -- beside status 1
 abbrev pub usage_text : List ℕ
-usage_text = codes "usage: neqysbar serial < TRACE\n       neqysbar study --process X --frames K < TRACE\n       neqysbar make --seed N --procs N --refs N\n"
+usage_text = codes "usage: neqysbar serial < TRACE\n       neqysbar study --process X --frames K < TRACE\n       neqysbar make --seed N --procs N --refs N\n       neqysbar check < TRACE-AND-LOG\n"
 
 -- the rule that a line breaks, in words
 abbrev pub rule_text : Cause → List ℕ
@@ -27,21 +28,36 @@ rule_text Repeated = codes "what the line declares was declared before"
 abbrev pub is_printable : ℕ → Bool
 is_printable byte = nat_le 32 byte && nat_le byte 126
 
--- beside a faulty line: its number, the rule and the printable bytes of its text
+-- of a line: its number, what is wrong and the printable bytes of its text
+abbrev pub line_message : ℕ → List ℕ → List ℕ → List ℕ
+line_message number wrong text =
+    codes "neqysbar: line " ++ decimal number ++ codes ": " ++ wrong ++ codes ": " ++ filter is_printable text ++ codes "\n"
+
+-- beside a faulty line
 abbrev pub fault_message : ℕ → Cause → List ℕ → List ℕ
-fault_message number cause text =
-    codes "neqysbar: line " ++ decimal number ++ codes ": " ++ rule_text cause ++ codes ": " ++ filter is_printable text ++ codes "\n"
+fault_message number cause text = line_message number (rule_text cause) text
+
+-- beside a log that isn't legal
+abbrev pub log_message : ℕ → List ℕ → List ℕ
+log_message number text = line_message number (codes "the log isn't legal here, or ends too early behind this line") text
+
+-- beside a log that goes on after as many lines as a log may have
+abbrev pub too_long_message : List ℕ
+too_long_message = codes "neqysbar: the log has more lines than a log may have\n"
 
 -- beside a trace without a faulty line
 abbrev pub unfinished_message : List ℕ
-unfinished_message = codes "neqysbar: the trace ends before its line END\n"
+unfinished_message = codes "neqysbar: the trace ends before its line END, or before the line LOG that check reads\n"
 
 -- the message beside a status, by the last line that was read and the first bytes that were written
 pub data IsMessage (number : ℕ) (text first : List ℕ) : ℕ → List ℕ → Type 0 where
   usage : IsMessage number text first 1 usage_text
   faulty : (cause : Cause) (rest : List ℕ) → first ≡ fault_text number cause ++ rest → IsMessage number text first 2 (fault_message number cause text)
-  unfinished : ((cause : Cause) → (rest : List ℕ) → first ≢ fault_text number cause ++ rest) → IsMessage number text first 2 unfinished_message
-  no_message : (status : ℕ) → status ≢ 1 → status ≢ 2 → IsMessage number text first status []
+  too_long : (rest : List ℕ) → first ≡ too_long_line ++ rest → IsMessage number text first 2 too_long_message
+  unfinished : ((cause : Cause) → (rest : List ℕ) → first ≢ fault_text number cause ++ rest) → ((rest : List ℕ) → first ≢ too_long_line ++ rest)
+      → IsMessage number text first 2 unfinished_message
+  in_log : IsMessage number text first 8 (log_message number text)
+  no_message : (status : ℕ) → status ≢ 1 → status ≢ 2 → status ≢ 8 → IsMessage number text first status []
 
 -- a prefix of the message was taken, and the whole unless a call failed or took nothing
 abbrev pub IsSaid : SinkView → SinkView → List ℕ → Type 0

@@ -6,14 +6,9 @@ use Rattle.outside_io.specs.Causes.{Rose}
 use Rattle.outside_io.specs.Views.{SourceView, SinkView}
 use Rattle.pager_model.specs.Asked.{Retired}
 use Rattle.pager_model.specs.Text.{status_line}
-use Rattle.replay_cli.specs.Commands.{Asks, HasInput, Told}
+use Rattle.replay_cli.specs.Commands.{Told}
 use Rattle.replay_cli.specs.DepotView.{DepotView}
-use Rattle.replay_cli.specs.declared.words.Command.{Command}
 use Rattle.program_call.specs.Words.{HandsOver}
-
--- the words ask for a command, and the source tells what it reads
-abbrev pub AsksWithInput : List (List ℕ) → SourceView → Type 0
-AsksWithInput words before = (command : Command) × Asks words command × HasInput command before
 
 -- the text that goes with a status of the program; `told` are all words, if they are told
 pub data ProgramTells (told : Option (List (List ℕ))) (before after : SourceView) (depot depot' : DepotView) : ℕ → List ℕ → Type 0 where

@@ -1,9 +1,10 @@
 ghost use Rattle.std.specs.Prelude.{◌≡◌, ◌≢◌, ◌⊎◌, [], List, ℕ, Some, IfOk, map, refl};
 ghost use Rattle.outside_io.specs.Views.{source_view};
 ghost use Rattle.outside_io.specs.KeptIsLast.{all_is_handed_on};
-ghost use Rattle.replay_cli.specs.Commands.{Told};
+ghost use Rattle.replay_cli.specs.Commands.{Asks, HasInput, IsDone, Told};
+ghost use Rattle.replay_cli.specs.declared.words.Command.{Command};
 ghost use Rattle.pager_model.specs.Asked.{Retired};
-ghost use Rattle.program_call.specs.ProgramTells.{AsksWithInput, memory_view};
+ghost use Rattle.program_call.specs.ProgramTells.{memory_view};
 
 use crate::sure_depot::SureDepot;
 use outside_io::{Sink, Source};
@@ -106,9 +107,9 @@ pub fn run_bytes(alloc: Global, words: &[&str], input: &[u8]) -> Result<(Status,
     ensures told { IfOk result (λ run. (rest : List ℕ) × ((blocks : List Retired) × Told (map (λ word. word.now) words.now)
         (source_view (Some input.now) 0) (source_view (Some rest) 0) (memory_view []) (memory_view blocks) run.0.0 run.1.items)) }
     // If the words ask for a command and the bytes are what it reads, it did what was asked, with dirty
-    // pages left or with none, or memory ran out.
-    ensures complete { AsksWithInput (map (λ word. word.now) words.now) (source_view (Some input.now) 0)
-        → IfOk result (λ run. (run.0.0 ≡ 0) ⊎ ((run.0.0 ≡ 5) ⊎ (run.0.0 ≡ 7))) }
+    // pages left or with none, or found a line of a log that isn't legal, or memory ran out.
+    ensures complete { (command : Command) → Asks (map (λ word. word.now) words.now) command → HasInput command (source_view (Some input.now) 0)
+        → IfOk result (λ run. IsDone command run.0.0) }
     ensures no_failure { IfOk result (λ run. (run.0.0 ≢ 3) × (run.0.0 ≢ 4) × (run.0.0 ≢ 6)) }
 {
     let mut source = BytesSource::new(input);

@@ -2,7 +2,7 @@ ghost use Rattle.std.specs.Prelude.{◌≡◌, ◌≢◌, ◌+◌, ◌≤◌, �
 ghost use Rattle.arrayvec.specs.ArrayVec.{array_vec_len};
 ghost use Rattle.outside_io.specs.Views.{sink_view};
 ghost use Rattle.program_ends.specs.FaultText.{fault_text};
-ghost use Rattle.program_call.specs.Messages.{IsMessage, IsSaid, fault_message, is_printable, rule_text};
+ghost use Rattle.program_call.specs.Messages.{IsMessage, IsSaid, is_printable, line_message, rule_text};
 
 use crate::last_line::LastLine;
 use crate::room::add;
@@ -13,9 +13,15 @@ use trace_reader::Cause;
 use vm_text::{after, push_count, push_word};
 
 const USAGE: &[u8] =
-    b"usage: neqysbar serial < TRACE\n       neqysbar study --process X --frames K < TRACE\n       neqysbar make --seed N --procs N --refs N\n";
+    b"usage: neqysbar serial < TRACE\n       neqysbar study --process X --frames K < TRACE\n       neqysbar make --seed N --procs N --refs N\n       neqysbar check < TRACE-AND-LOG\n";
 
-const UNFINISHED: &[u8] = b"neqysbar: the trace ends before its line END\n";
+const UNFINISHED: &[u8] =
+    b"neqysbar: the trace ends before its line END, or before the line LOG that check reads\n";
+
+const TOO_LONG: &[u8] = b"neqysbar: the log has more lines than a log may have\n";
+
+// What is wrong with a log at the last line that was read.
+const IN_LOG: &[u8] = b"the log isn't legal here, or ends too early behind this line";
 
 // The rule that a line breaks, in words.
 fn rule_of(cause: Cause) -> &'static [u8]
@@ -107,9 +113,10 @@ fn add_printable(out: &mut ArrayVec<u8, 320>, bytes: &[u8])
     }
 }
 
-// The message beside a faulty line.
-fn message_of(last: &LastLine, cause: Cause) -> ArrayVec<u8, 320>
-    ensures { result.items ≡ fault_message last.now.number cause last.now.text.items }
+// The message about the last line.
+fn message_of(last: &LastLine, wrong: &[u8]) -> ArrayVec<u8, 320>
+    requires { length wrong.now ≤ 100 }
+    ensures { result.items ≡ line_message last.now.number wrong.now last.now.text.items }
 {
     let mut place = ArrayVec::new();
     push_word(&mut place, b"neqysbar: line ");
@@ -117,7 +124,7 @@ fn message_of(last: &LastLine, cause: Cause) -> ArrayVec<u8, 320>
     push_word(&mut place, b": ");
     let mut out = ArrayVec::new();
     add(&mut out, place.as_slice());
-    add(&mut out, rule_of(cause));
+    add(&mut out, wrong);
     add(&mut out, b": ");
     add_printable(&mut out, last.text.as_slice());
     add(&mut out, b"\n");
@@ -138,8 +145,9 @@ fn say<M: Sink>(message: &[u8], messages: &mut M)
 }
 
 /// Writes the message that goes with a status: usage beside 1; beside 2 the number of the faulty line,
-/// the rule that it breaks and its text, or that the trace is unfinished; nothing beside others. The
-/// last line that was read and the first bytes that were written tell which. Doesn't allocate.
+/// the rule that it breaks and its text, or that a log is too long, or that the trace is unfinished; beside
+/// 8 the number and the text of the line at which or behind which a log isn't legal; nothing beside others.
+/// The last line that was read and the first bytes that were written tell which. Doesn't allocate.
 pub(crate) fn explain<M: Sink>(status: u8, last: &LastLine, first: &[u8], messages: &mut M)
     ensures { (message : List ℕ) × IsMessage last.now.number last.now.text.items first.now status message
         × IsSaid (sink_view (M.taken messages.old) (M.faults messages.old) (M.stalls messages.old))
@@ -148,9 +156,13 @@ pub(crate) fn explain<M: Sink>(status: u8, last: &LastLine, first: &[u8], messag
     match status {
         1 => say(USAGE, messages),
         2 => match cause_told(first, last.number) {
-            Some(cause) => say(message_of(last, cause).as_slice(), messages),
-            None => say(UNFINISHED, messages),
+            Some(cause) => say(message_of(last, rule_of(cause)).as_slice(), messages),
+            None => match after(first, b"LOG TOOMANY\n") {
+                Some(_) => say(TOO_LONG, messages),
+                None => say(UNFINISHED, messages),
+            },
         },
+        8 => say(message_of(last, IN_LOG).as_slice(), messages),
         _ => {}
     }
 }

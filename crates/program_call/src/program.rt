@@ -98,7 +98,9 @@ pub fn run_program<A: Arguments, S: Source, K: Sink, D: Depot>(
 
 /// As `run_program`, with messages beside the output: usage beside status 1; beside status 2 a line
 /// with the number of the faulty line, the rule that it breaks in words, and the printable ones of its
-/// first 80 bytes, or that the trace is unfinished. Messages that can't be written change nothing.
+/// first 80 bytes, or that the trace is unfinished, or that a log is too long; beside status 8 a line with
+/// the number and the text of the input line that was read last, at which a log isn't legal or behind which it
+/// ends too early. Messages that can't be written change nothing.
 pub fn run_and_explain<A: Arguments, S: Source, K: Sink, M: Sink, D: Depot>(
     alloc: Global,
     arguments: &mut A,

@@ -78,8 +78,8 @@ fn explains(rt: HostRuntime) -> Result<(), Fail> {
     let name = b"neqysbar".as_slice();
     let command = b"serial".as_slice();
     let usage =
-        b"usage: neqysbar serial < TRACE\n       neqysbar study --process X --frames K < TRACE\n       neqysbar make --seed N --procs N --refs N\n".as_slice();
-    let table: [(&[&[u8]], &[u8], u8, &[u8]); 5] = [
+        b"usage: neqysbar serial < TRACE\n       neqysbar study --process X --frames K < TRACE\n       neqysbar make --seed N --procs N --refs N\n       neqysbar check < TRACE-AND-LOG\n".as_slice();
+    let table: [(&[&[u8]], &[u8], u8, &[u8]); 7] = [
         (&[name, command], TRACE, 0, b""),
         (&[name], TRACE, 1, usage),
         (
@@ -92,13 +92,25 @@ fn explains(rt: HostRuntime) -> Result<(), Fail> {
             &[name, command],
             b"VMTRACE 1\nFRAMES 8\n",
             2,
-            b"neqysbar: the trace ends before its line END\n",
+            b"neqysbar: the trace ends before its line END, or before the line LOG that check reads\n",
         ),
         (
             &[name, command],
             b"VMTRACE 2",
             2,
             b"neqysbar: line 1: a number is out of its range, or doesn't fit the other numbers: VMTRACE 2\n",
+        ),
+        (
+            &[name, b"check"],
+            b"VMTRACE 1\nFRAMES 7\n",
+            2,
+            b"neqysbar: line 2: a number is out of its range, or doesn't fit the other numbers: FRAMES 7\n",
+        ),
+        (
+            &[name, b"check"],
+            b"VMTRACE 1\nFRAMES 8\nPAGEFILE 4\nPROCESS A 4 4 4 0\nBODY\nEND\nLOG\nPFN AT 0\nFREE 7\n",
+            8,
+            b"neqysbar: line 9: the log isn't legal here, or ends too early behind this line: FREE 7\n",
         ),
     ];
     for (words, trace, status, message) in table {

@@ -9,6 +9,3 @@ mod status;
 pub use fault::{end_fault, name_of};
 pub use line::{push_counted, write_line};
 pub use status::{Status, end_with};
-
-#[cfg(test)]
-mod tests;

@@ -8,6 +8,3 @@ mod word;
 pub use laws::words_are_apart;
 pub use pte::{BadPte, Place, Pte};
 pub use word::{from_word, to_word};
-
-#[cfg(test)]
-mod tests;

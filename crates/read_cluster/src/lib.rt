@@ -6,6 +6,3 @@ mod laws;
 
 pub use cluster::choose;
 pub use laws::cluster_has_one_length;
-
-#[cfg(test)]
-mod tests;

@@ -6,7 +6,7 @@ use Rattle.replay_cli.specs.Commands.{Asks}
 use Rattle.replay_cli.specs.MakeLine.{AsksToMake}
 use Rattle.make_summary.specs.declared.make.Make.{Make as Made}
 use Rattle.replay_cli.specs.declared.words.Command.{Command}
-use Rattle.replay_cli.specs.declared.words.Command.TheVariants.{Serial, Study, Make}
+use Rattle.replay_cli.specs.declared.words.Command.TheVariants.{Serial, Study, Make, Check}
 
 heads : {x y : List ℕ} {xs ys : List (List ℕ)} → x ∷ xs ≡ y ∷ ys → (x ≡ y) × (xs ≡ ys)
 heads e = (cc, cc)
@@ -19,10 +19,11 @@ study_or_make e = absurd (omega (arith, first e)) where
 
 -- the first word is none of the names, or what follows the name is none of its options
 pub no_command : (words rest : List (List ℕ)) (first : List ℕ) → words ≡ first ∷ rest → (codes "serial" ≡ first → rest ≡ [] → ⊥)
-    → (codes "study" ≡ first → (study : Wanted) → AsksFor rest study → ⊥) → (codes "make" ≡ first → (make : Made) → AsksToMake rest make → ⊥)
+    → (codes "check" ≡ first → rest ≡ [] → ⊥) → (codes "study" ≡ first → (study : Wanted) → AsksFor rest study → ⊥) → (codes "make" ≡ first → (make : Made) → AsksToMake rest make → ⊥)
     → (command : Command) → Asks words command → ⊥
-no_command words rest first begin one two three Serial asks = let both = heads (sym asks ∙ begin) in one both.0 (sym both.1)
-no_command words rest first begin one two three (Study study) asks =
+no_command words rest first begin one four two three Serial asks = let both = heads (sym asks ∙ begin) in one both.0 (sym both.1)
+no_command words rest first begin one four two three Check asks = let both = heads (sym asks ∙ begin) in four both.0 (sym both.1)
+no_command words rest first begin one four two three (Study study) asks =
     let both = heads (sym asks.1 ∙ begin) in two both.0 study (subst (λ options. AsksFor options study) both.1 asks.2)
-no_command words rest first begin one two three (Make make) asks =
+no_command words rest first begin one four two three (Make make) asks =
     let both = heads (sym asks.1 ∙ begin) in three both.0 make (subst (λ options. AsksToMake options make) both.1 asks.2)

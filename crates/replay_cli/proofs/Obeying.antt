@@ -11,14 +11,16 @@ use Rattle.program_ends.specs.Concludes.{Concludes}
 use Rattle.program_ends.specs.Tells.{IsTrace, Tells, answered, faulty, unfinished, unread, no_memory}
 use Rattle.program_ends.proofs.Concluding.{its_status, unfailed_status}
 use Rattle.program_ends.proofs.Telling as telling
+use Rattle.check_command.specs.CheckTells.{CheckTells, HasCheckInput}
+use Rattle.check_command.proofs.Telling as checking
 use Rattle.study_command.specs.StudyText.{IsStudyAnswer}
-use Rattle.replay_cli.specs.Commands.{Asks, HasInput, Obeys, Told, usage, obeyed}
+use Rattle.replay_cli.specs.Commands.{Asks, HasInput, IsDone, Obeys, Told, usage, obeyed}
 use Rattle.replay_cli.specs.MakeAnswer.{IsMakeAnswer, MakeTells, made as counted, no_memory as memory_out}
 use Rattle.make_summary.specs.declared.make.Make.{Make}
 use Rattle.replay_cli.specs.DepotView.{DepotView}
 use Rattle.replay_cli.specs.SerialAnswer.{IsSerialAnswer}
 use Rattle.replay_cli.specs.declared.words.Command.{Command}
-use Rattle.replay_cli.specs.declared.words.Command.TheVariants.{Serial, Study, Make as MakeCommand}
+use Rattle.replay_cli.specs.declared.words.Command.TheVariants.{Serial, Study, Make as MakeCommand, Check}
 use Rattle.replay_cli.proofs.Finishing.{run_ends}
 
 -- a status of an answer: 0 or 5, or the depot failed and it is 6
@@ -39,31 +41,62 @@ make_ending make depot depot' status text (inl run) =
     inl (subst (λ n. (n ≡ 0) ⊎ (n ≡ 5)) (sym run.ending) (run_ends (dirty_pages config (pager_after config (run.rest ++ run.past)))))
 make_ending make depot depot' status text (inr none) = inr (none.ending, none.failed)
 
--- the words of `make` begin with another byte than those of the commands that read
-apart : {words xs ys : List (List ℕ)} {x y : List ℕ} → words ≡ (115 ∷ x) ∷ xs → words ≡ (109 ∷ y) ∷ ys → ⊥
-apart one two = absurd (omega (arith, first (sym one ∙ two))) where
+-- words that begin with two bytes
+apart : {words xs ys : List (List ℕ)} {x y : List ℕ} (a b : ℕ) → (a ≡ b → ⊥) → words ≡ (a ∷ x) ∷ xs → words ≡ (b ∷ y) ∷ ys → ⊥
+apart p q differ one two = differ (first (sym one ∙ two)) where
   first : {a b : ℕ} {x y : List ℕ} {xs ys : List (List ℕ)} → (a ∷ x) ∷ xs ≡ (b ∷ y) ∷ ys → a ≡ b
   first e = cc
 
--- words ask for commands that read the same
-same_input : (words : List (List ℕ)) (before : SourceView) (one two : Command) → Asks words one → Asks words two → HasInput one before → HasInput two before
-same_input words before Serial Serial a b input = input
-same_input words before Serial (Study s) a b input = input
-same_input words before Serial (MakeCommand m) a b input = tt
-same_input words before (Study s) Serial a b input = input
-same_input words before (Study s) (Study t) a b input = input
-same_input words before (Study s) (MakeCommand m) a b input = tt
-same_input words before (MakeCommand m) Serial a b input = absurd (apart b a.1)
-same_input words before (MakeCommand m) (Study s) a b input = absurd (apart b.1 a.1)
-same_input words before (MakeCommand m) (MakeCommand n) a b input = tt
+-- `check` and `make` begin with another byte than each other and than `serial` and `study`
+no_make : {words xs ys : List (List ℕ)} {x y : List ℕ} → words ≡ (115 ∷ x) ∷ xs → words ≡ (109 ∷ y) ∷ ys → ⊥
+no_make = apart 115 109 (λ e. omega (arith, e))
+
+no_check : {words xs ys : List (List ℕ)} {x y : List ℕ} → words ≡ (115 ∷ x) ∷ xs → words ≡ (99 ∷ y) ∷ ys → ⊥
+no_check = apart 115 99 (λ e. omega (arith, e))
+
+make_or_check : {words xs ys : List (List ℕ)} {x y : List ℕ} → words ≡ (109 ∷ x) ∷ xs → words ≡ (99 ∷ y) ∷ ys → ⊥
+make_or_check = apart 109 99 (λ e. omega (arith, e))
+
+-- of commands for which the same words ask the input of the first is that of the second, and what is done of the
+-- second is done of the first
+record AreSame (before : SourceView) (one two : Command) : Type 0 where
+  input : HasInput one before → HasInput two before
+  done : (status : ℕ) → IsDone two status → IsDone one status
+
+same : (words : List (List ℕ)) (before : SourceView) (one two : Command) → Asks words one → Asks words two → AreSame before one two
+same words before Serial Serial a b = record { input = λ i. i; done = λ status d. d }
+same words before Serial (Study s) a b = record { input = λ i. i; done = λ status d. d }
+same words before Serial (MakeCommand m) a b = absurd (no_make a b.1)
+same words before Serial Check a b = absurd (no_check a b)
+same words before (Study s) Serial a b = record { input = λ i. i; done = λ status d. d }
+same words before (Study s) (Study t) a b = record { input = λ i. i; done = λ status d. d }
+same words before (Study s) (MakeCommand m) a b = absurd (no_make a.1 b.1)
+same words before (Study s) Check a b = absurd (no_check a.1 b)
+same words before (MakeCommand m) Serial a b = absurd (no_make b a.1)
+same words before (MakeCommand m) (Study s) a b = absurd (no_make b.1 a.1)
+same words before (MakeCommand m) (MakeCommand n) a b = record { input = λ i. i; done = λ status d. d }
+same words before (MakeCommand m) Check a b = absurd (make_or_check a.1 b)
+same words before Check Serial a b = absurd (no_check b a)
+same words before Check (Study s) a b = absurd (no_check b.1 a)
+same words before Check (MakeCommand m) a b = absurd (make_or_check b.1 a)
+same words before Check Check a b = record { input = λ i. i; done = λ status d. d }
 
 -- what holds of the status with which a command's text goes
-record Holds (Input : Type 0) (before after : SourceView) (depot depot' : DepotView) (status : ℕ) : Type 0 where
+record Holds (Input : Type 0) (Done : ℕ → Type 0) (before after : SourceView) (depot depot' : DepotView) (status : ℕ) : Type 0 where
   not_four : status ≡ 4 → ⊥
   not_one : status ≡ 1 → ⊥
   read : status ≡ 3 → Rose before.failures after.failures
   made : status ≡ 6 → Rose depot.failures depot'.failures
-  complete : Input → (Rose before.failures after.failures → ⊥) → (Rose depot.failures depot'.failures → ⊥) → ((status ≡ 0) ⊎ (status ≡ 5)) ⊎ (status ≡ 7)
+  complete : Input → (Rose before.failures after.failures → ⊥) → (Rose depot.failures depot'.failures → ⊥) → Done status
+
+-- a status of a run, or 7
+abbrev HasRun : ℕ → Type 0
+HasRun status = (status ≡ 0) ⊎ ((status ≡ 5) ⊎ (status ≡ 7))
+
+has_run : (status : ℕ) → ((status ≡ 0) ⊎ (status ≡ 5)) ⊎ (status ≡ 7) → HasRun status
+has_run status (inl (inl zero)) = inl zero
+has_run status (inl (inr five)) = inr (inl five)
+has_run status (inr seven) = inr (inr seven)
 
 six : (depot depot' : DepotView) (status : ℕ) → HasEnding depot depot' status → status ≡ 6 → Rose depot.failures depot'.failures
 six depot depot' status (inl (inl zero)) e = absurd (omega (arith, zero, e))
@@ -83,18 +116,18 @@ module _ (depot depot' : DepotView) {before after : SourceView} (answer : Config
   told_made status text (unread rose faultless) e = absurd (omega arith)
   told_made status text (no_memory quiet) e = absurd (omega arith)
 
-  tells_holds : (status : ℕ) (text : List ℕ) → Tells answer before after status text → Holds (IsTrace before) before after depot depot' status
+  tells_holds : (status : ℕ) (text : List ℕ) → Tells answer before after status text → Holds (IsTrace before) HasRun before after depot depot' status
   tells_holds status text told = record {
     not_four = telling.not_four status text told;
     not_one = telling.not_one status text told;
     read = telling.told_read status text told;
     made = told_made status text told;
     complete = λ trace unfailed made.
-        telling.told_answered (λ m. (m ≡ 0) ⊎ (m ≡ 5)) (λ config n t outcome right. unfailed_ending depot depot' n made (ending config n t right)) status text told trace unfailed;
+        has_run status (telling.told_answered (λ m. (m ≡ 0) ⊎ (m ≡ 5)) (λ config n t outcome right. unfailed_ending depot depot' n made (ending config n t right)) status text told trace unfailed);
   }
 
 module _ {before after : SourceView} {depot depot' : DepotView} where
-  told_by_make : (make : Make) (status : ℕ) (text : List ℕ) → MakeTells make depot depot' status text → Holds (Unit {0}) before after depot depot' status
+  told_by_make : (make : Make) (status : ℕ) (text : List ℕ) → MakeTells make depot depot' status text → Holds (Unit {0}) HasRun before after depot depot' status
   told_by_make make status text (counted own t outcome right) =
       let ends = make_ending make depot depot' status text right in
       record {
@@ -102,20 +135,31 @@ module _ {before after : SourceView} {depot depot' : DepotView} where
         not_one = (telling.other_number status outcome).0;
         read = λ e. absurd ((telling.other_number status outcome).1 e);
         made = six depot depot' status ends;
-        complete = λ none unfailed failed. inl (unfailed_ending depot depot' status failed ends);
+        complete = λ none unfailed failed. has_run status (inl (unfailed_ending depot depot' status failed ends));
       }
   told_by_make make status text memory_out = record {
     not_four = λ e. omega (arith, e);
     not_one = λ e. omega (arith, e);
     read = λ e. absurd (omega (arith, e));
     made = λ e. absurd (omega (arith, e));
-    complete = λ none unfailed failed. inr refl;
+    complete = λ none unfailed failed. inr (inr refl);
   }
 
-  obeys_holds : (command : Command) (status : ℕ) (text : List ℕ) → Obeys command before after depot depot' status text → Holds (HasInput command before) before after depot depot' status
+  told_by_check : (status : ℕ) (text : List ℕ) → CheckTells before after status text → Holds (HasCheckInput before) (IsDone Check) before after depot depot' status
+  told_by_check status text told = record {
+    not_four = checking.not_four status text told;
+    not_one = checking.not_one status text told;
+    read = checking.told_read status text told;
+    made = λ e. absurd (checking.not_six status text told e);
+    complete = λ input unfailed failed. checking.told_complete status text told input unfailed;
+  }
+
+  obeys_holds : (command : Command) (status : ℕ) (text : List ℕ) → Obeys command before after depot depot' status text
+      → Holds (HasInput command before) (IsDone command) before after depot depot' status
   obeys_holds Serial status text obeys = tells_holds depot depot' (IsSerialAnswer depot depot') (serial_ending depot depot') status text obeys.tells
   obeys_holds (Study study) status text obeys = tells_holds depot depot' (IsStudyAnswer study) (λ config n t answer. study_ending depot depot' n answer.0) status text obeys.0
   obeys_holds (MakeCommand make) status text obeys = told_by_make make status text obeys.0
+  obeys_holds Check status text obeys = told_by_check status text obeys.0
 
 -- no text goes with status 4
 pub not_four : {words : List (List ℕ)} {before after : SourceView} {depot depot' : DepotView} (status : ℕ) (text : List ℕ) → Told words before after depot depot' status text → status ≢ 4
@@ -142,9 +186,10 @@ module _ {words : List (List ℕ)} {before after : SourceView} {depot depot' : D
   told_depot status text (obeyed command n t asks obeys) e = (obeys_holds command n t obeys).made e
 
   told_complete : (status : ℕ) (text : List ℕ) → Told words before after depot depot' status text → (command : Command) → Asks words command → HasInput command before
-      → (Rose before.failures after.failures → ⊥) → (Rose depot.failures depot'.failures → ⊥) → ((status ≡ 0) ⊎ (status ≡ 5)) ⊎ (status ≡ 7)
-  told_complete status text (usage other same kept) command asks input unfailed made = absurd (other command asks)
-  told_complete status text (obeyed own n t own_asks obeys) command asks input unfailed made = (obeys_holds own n t obeys).complete (same_input words before command own asks own_asks input) unfailed made
+      → (Rose before.failures after.failures → ⊥) → (Rose depot.failures depot'.failures → ⊥) → IsDone command status
+  told_complete status text (usage other same_source kept) command asks input unfailed made = absurd (other command asks)
+  told_complete status text (obeyed own n t own_asks obeys) command asks input unfailed made =
+      let are = same words before command own asks own_asks in are.done n ((obeys_holds own n t obeys).complete (are.input input) unfailed made)
 
   -- the same of the status that is answered
   module _ {sink sink' : SinkView} {result : ℕ} (c : Concludes (Told words before after depot depot') sink sink' result) where
@@ -170,10 +215,6 @@ module _ {words : List (List ℕ)} {before after : SourceView} {depot depot' : D
     ]
 
     pub complete_status : (command : Command) → Asks words command → HasInput command before → (Rose before.failures after.failures → ⊥)
-        → (Rose sink.failures sink'.failures → ⊥) → (Rose sink.stalls sink'.stalls → ⊥) → (Rose depot.failures depot'.failures → ⊥) → (result ≡ 0) ⊎ ((result ≡ 5) ⊎ (result ≡ 7))
+        → (Rose sink.failures sink'.failures → ⊥) → (Rose sink.stalls sink'.stalls → ⊥) → (Rose depot.failures depot'.failures → ⊥) → IsDone command result
     complete_status command asks input unfailed written kept made =
-        let is = unfailed_status c written kept in
-        elim (told_complete c.status c.text c.tells_it command asks input unfailed made) [
-          | inl ran ↦ elim ran [ inl zero ↦ inl (is ∙ zero) | inr five ↦ inr (inl (is ∙ five)) ]
-          | inr seven ↦ inr (inr (is ∙ seven))
-        ]
+        subst (IsDone command) (sym (unfailed_status c written kept)) (told_complete c.status c.text c.tells_it command asks input unfailed made)

@@ -3,6 +3,7 @@
 use Rattle.std.specs.Prelude.{◌≡◌, ◌⊎◌, ℕ, ◌≤◌, List, [], ◌∷◌, codes}
 use Rattle.outside_io.specs.Views.{SourceView}
 use Rattle.pager_model.specs.Text.{status_line}
+use Rattle.check_command.specs.CheckTells.{CheckTells, HasCheckInput}
 use Rattle.program_ends.specs.Tells.{IsTrace, Tells}
 use Rattle.study_command.specs.CommandLine.{AsksFor}
 use Rattle.study_command.specs.StudyText.{IsStudyAnswer}
@@ -11,25 +12,36 @@ use Rattle.replay_cli.specs.MakeAnswer.{MakeTells}
 use Rattle.replay_cli.specs.MakeLine.{AsksToMake, IsMakeable}
 use Rattle.replay_cli.specs.SerialAnswer.{IsSerialAnswer}
 use Rattle.replay_cli.specs.declared.words.Command.{Command}
-use Rattle.replay_cli.specs.declared.words.Command.TheVariants.{Serial, Study, Make}
+use Rattle.replay_cli.specs.declared.words.Command.TheVariants.{Serial, Study, Make, Check}
 
--- the words ask for the command: `serial` alone, or `study` or `make` and its options
+-- the words ask for the command: `serial` or `check` alone, or `study` or `make` and its options
 abbrev pub Asks : List (List ℕ) → Command → Type 0
 Asks words Serial = words ≡ codes "serial" ∷ []
 Asks words (Study study) = (options : List (List ℕ)) × (words ≡ codes "study" ∷ options) × AsksFor options study
 Asks words (Make make) = (options : List (List ℕ)) × (words ≡ codes "make" ∷ options) × AsksToMake options make
+Asks words Check = words ≡ codes "check" ∷ []
 
 -- its numbers are ones that it takes
 abbrev pub IsBounded : Command → Type 0
 IsBounded Serial = Unit {0}
 IsBounded (Study study) = (1 ≤ study.frames) × (study.frames ≤ 1024)
 IsBounded (Make make) = IsMakeable make
+IsBounded Check = Unit {0}
 
--- the source tells what it reads: a trace, or nothing
+-- the source tells what it reads: a trace, a trace and a log that isn't too long, or nothing
 abbrev pub HasInput : Command → SourceView → Type 0
 HasInput Serial before = IsTrace before
 HasInput (Study study) before = IsTrace before
 HasInput (Make make) before = Unit {0}
+HasInput Check before = HasCheckInput before
+
+-- its status if it has its input and nothing fails: 0, or 5 with pages left dirty, or 8 with a line of the log that
+-- isn't legal; or 7
+abbrev pub IsDone : Command → ℕ → Type 0
+IsDone Serial status = (status ≡ 0) ⊎ ((status ≡ 5) ⊎ (status ≡ 7))
+IsDone (Study study) status = (status ≡ 0) ⊎ ((status ≡ 5) ⊎ (status ≡ 7))
+IsDone (Make make) status = (status ≡ 0) ⊎ ((status ≡ 5) ⊎ (status ≡ 7))
+IsDone Check status = (status ≡ 0) ⊎ ((status ≡ 8) ⊎ (status ≡ 7))
 
 -- what `serial` tells: no block is made for input that is no trace or can't be read
 pub record SerialTells (before after : SourceView) (depot depot' : DepotView) (status : ℕ) (text : List ℕ) : Type 0 where
@@ -37,11 +49,12 @@ pub record SerialTells (before after : SourceView) (depot depot' : DepotView) (s
   pub keeps : (status ≡ 2) ⊎ (status ≡ 3) → depot' ≡ depot
 
 -- what the command tells with a status, by what is seen of the source and of the depot before and after; a study
--- makes no block, and `make` reads nothing
+-- and a check make no block, and `make` reads nothing
 abbrev pub Obeys : Command → SourceView → SourceView → DepotView → DepotView → ℕ → List ℕ → Type 0
 Obeys Serial before after depot depot' status text = SerialTells before after depot depot' status text
 Obeys (Study study) before after depot depot' status text = Tells (IsStudyAnswer study) before after status text × (depot' ≡ depot)
 Obeys (Make make) before after depot depot' status text = MakeTells make depot depot' status text × (after ≡ before)
+Obeys Check before after depot depot' status text = CheckTells before after status text × (depot' ≡ depot)
 
 -- the text that goes with a status, each with its cause: by the words, and by what is seen of the
 -- source and of the depot before and after

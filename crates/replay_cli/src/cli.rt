@@ -5,13 +5,14 @@ ghost use Rattle.outside_io.specs.Causes.{Rose};
 ghost use Rattle.outside_io.specs.Views.{sink_view, source_view};
 ghost use Rattle.vm_types.specs.Configuration.{IsWellFormed};
 ghost use Rattle.program_ends.specs.Concludes.{Concludes, EndsAnswered, HasTold, WasCut};
-ghost use Rattle.replay_cli.specs.Commands.{Asks, HasInput, SerialTells, Told};
+ghost use Rattle.replay_cli.specs.Commands.{Asks, HasInput, IsDone, SerialTells, Told};
 ghost use Rattle.replay_cli.specs.DepotView.{depot_view};
 ghost use Rattle.replay_cli.specs.SerialAnswer.{IsSerialAnswer};
 ghost use Rattle.replay_cli.specs.declared.words.Command.{Command};
 
 use crate::make_run::run_made;
 use crate::words::{Command, command_of};
+use check_command::check;
 use disk_trait::{Block, Depot};
 use outside_io::{Sink, Source};
 use pager_laws::runs_are_sound;
@@ -93,6 +94,7 @@ fn conclude<S: Source, K: Sink, D: Depot>(
         Some(Command::Serial) => serial(alloc, source, sink, depot),
         Some(Command::Study(study)) => study_trace(alloc, study, source, sink),
         Some(Command::Make(make)) => run_made(alloc, make, sink, depot),
+        Some(Command::Check) => check(alloc, source, sink),
     }
 }
 
@@ -102,10 +104,12 @@ fn conclude<S: Source, K: Sink, D: Depot>(
 /// the status line to the sink. `study`, with `--process` and `--frames`, reads a trace, runs nothing,
 /// and writes what the references of the process cost with so many frames. `make`, with `--seed`,
 /// `--procs` and `--refs`, reads nothing, makes a trace and runs it as `serial` does, and writes how
-/// many entries of each kind the run has. Each line is one write of a whole text. The status is 0 if
-/// the command did that, 1 if the words are no command line, 2 if the input is no trace, 3 only if a
-/// read failed, 4 only if a write failed or took nothing, 5 if shared pages are left dirty, 6 only if
-/// the depot failed to make a block, 7 if memory ran out.
+/// many entries of each kind the run has. `check` reads a trace and behind a line `LOG` a log, runs
+/// nothing, and writes whether the log is legal, or which of its lines is the first that isn't. Each line
+/// is one write of a whole text. The status is 0 if the command did that, 1 if the words are no command
+/// line, 2 if the input is no trace or a log is too long, 3 only if a read failed, 4 only if a write failed
+/// or took nothing, 5 if shared pages are left dirty, 6 only if the depot failed to make a block, 7 if
+/// memory ran out, 8 if a line of a log isn't legal.
 pub fn run_one<S: Source, K: Sink, D: Depot>(
     alloc: Global,
     words: &[&str],
@@ -134,11 +138,11 @@ pub fn run_one<S: Source, K: Sink, D: Depot>(
     ensures depot_fault { result.0 ≡ 6 → Rose (D.faults depot.old) (D.faults depot.new) }
     ensures unfailed { result.0 ≢ 4 → (K.faults sink.new ≡ K.faults sink.old) × (K.stalls sink.new ≡ K.stalls sink.old) }
     // If the command has its input and no count rises, it did what was asked, with dirty pages left
-    // or with none, or memory ran out.
+    // or with none, or found a line of a log that isn't legal, or memory ran out.
     ensures complete { (command : Command) → Asks (map (λ word. word.now) words.now) command → HasInput command (source_view (S.left source.old) (S.faults source.old))
         → (Rose (S.faults source.old) (S.faults source.new) → ⊥) → (Rose (K.faults sink.old) (K.faults sink.new) → ⊥)
         → (Rose (K.stalls sink.old) (K.stalls sink.new) → ⊥) → (Rose (D.faults depot.old) (D.faults depot.new) → ⊥)
-        → (result.0 ≡ 0) ⊎ ((result.0 ≡ 5) ⊎ (result.0 ≡ 7)) }
+        → IsDone command result.0 }
 
     ensures told_later { is_some (K.taken sink.new) ≡ is_some (K.taken sink.old) }
     ensures read_later { S.faults source.old ≤ S.faults source.new }

@@ -1,6 +1,7 @@
 //! The program over a source, a sink and a depot: `serial` reads a trace, runs it over blocks of the
 //! depot, and writes the entry lines, the report, the dirty pages and the status; `study` reads one and
-//! writes what a process's references cost; `make` makes a trace, runs it, and counts the entries.
+//! writes what a process's references cost; `make` makes a trace, runs it, and counts the entries; `check`
+//! reads a trace and a log, and says whether the log is legal.
 #![tactic(auto)]
 
 mod cli;

@@ -1,3 +1,4 @@
+mod checks;
 mod clusters;
 mod failing_blocks;
 mod failing_ends;

@@ -16,10 +16,12 @@ pub enum Command {
     Study(Study),
     /// Make a trace, answer its requests in order, and write how many entries of each kind there are.
     Make(Make),
+    /// Read a trace and a log behind it, run nothing, and say whether the log is legal.
+    Check,
 }
 
-/// The command for which the words ask: the one word `serial`, or `study` and its two options, or
-/// `make` and its three. None if they are no command line. Doesn't allocate.
+/// The command for which the words ask: the one word `serial` or `check`, or `study` and its two options,
+/// or `make` and its three. None if they are no command line. Doesn't allocate.
 pub fn command_of(words: &[&str]) -> Option<Command>
     ensures some { IfSome result (Asks (map (λ word. word.now) words.now)) }
     ensures none { IfNone result ((command : Command) → Asks (map (λ word. word.now) words.now) command → ⊥) }
@@ -29,6 +31,13 @@ pub fn command_of(words: &[&str]) -> Option<Command>
     if is(first, b"serial") {
         return if rest.is_empty() {
             Some(Command::Serial)
+        } else {
+            None
+        };
+    }
+    if is(first, b"check") {
+        return if rest.is_empty() {
+            Some(Command::Check)
         } else {
             None
         };

@@ -1,4 +1,3 @@
-mod DirtyPages
 mod LinesLeft
 mod RunParts
 mod TestRun

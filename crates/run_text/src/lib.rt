@@ -2,7 +2,6 @@
 //! dirty pages and the status.
 #![tactic(auto)]
 
-mod dirty_lines;
 mod entry_lines;
 mod run;
 

@@ -3,8 +3,8 @@ ghost use Rattle.run_text.specs.TestRun.{test_config, test_report};
 
 use crate::print_run;
 use outside_io::MemorySink;
-use pfn_report::{FrameRow, ProcessRow, Report};
 use program_ends::Status;
+use report_lines::{FrameRow, ProcessRow, Report};
 use std::alloc::Global;
 use std::test::Fail;
 use vm_journal::{Entry, Role, What};

@@ -1,2 +1,1 @@
 pub mod Layable
-pub mod TestConfig

@@ -7,6 +7,3 @@ mod sections;
 
 pub use part::{Kind, Part};
 pub use sections::Sections;
-
-#[cfg(test)]
-mod tests;

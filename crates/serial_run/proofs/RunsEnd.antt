@@ -10,7 +10,7 @@ use Rattle.pager_model.specs.Serial.{IsRundown, IsSerial}
 use Rattle.pager_model.specs.Spoken.{IsRight}
 use Rattle.pager_model.specs.Text.{dirty_pages}
 use Rattle.pager_laws.proofs.SerialInOrder.{serial_answered}
-use Rattle.pfn_report.specs.Printable.{IsPrintable}
+use Rattle.report_lines.specs.Printable.{IsPrintable}
 use Rattle.serial_laws.specs.Between.{IsBetween}
 use Rattle.move_steps.specs.Moved.{IsSameBut}
 use Rattle.vm_state.specs.History.{History}

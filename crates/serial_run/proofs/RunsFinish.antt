@@ -8,7 +8,7 @@ use Rattle.pager_model.specs.Report.{report_of}
 use Rattle.pager_model.specs.Run.{pager_after}
 use Rattle.pager_model.specs.Text.{dirty_pages}
 use Rattle.pager_model.specs.WrittenBack.{AreWrittenBack}
-use Rattle.pfn_report.specs.Printable.{IsPrintable}
+use Rattle.report_lines.specs.Printable.{IsPrintable}
 use Rattle.frame_store.specs.Blocks.{blocks_of}
 use Rattle.vm_state.specs.Ends.{AreGivenBack}
 use Rattle.vm_state.specs.History.{History}

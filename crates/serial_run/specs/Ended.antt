@@ -13,7 +13,7 @@ use Rattle.pager_model.specs.Spoken.{IsRight}
 use Rattle.pager_model.specs.Text.{dirty_pages}
 use Rattle.pager_model.specs.WrittenBack.{AreWrittenBack}
 use Rattle.pager_model.specs.Flights.{open_flights}
-use Rattle.pfn_report.specs.Printable.{IsPrintable}
+use Rattle.report_lines.specs.Printable.{IsPrintable}
 use Rattle.serial_run.specs.declared.finished.Finished.{Finished}
 use Rattle.serial_run.specs.declared.run.Ending.{Ending}
 use Rattle.vm_state.specs.History.{History}

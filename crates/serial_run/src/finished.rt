@@ -1,7 +1,7 @@
 ghost use Rattle.std.specs.Prelude.{◌≡◌};
 
 use disk_trait::MakeFault;
-use pfn_report::Report;
+use report_lines::Report;
 use vm_journal::Entry;
 use vm_types::{Config, NoMemory, Page};
 

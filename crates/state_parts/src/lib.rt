@@ -17,6 +17,3 @@ pub use ring_marks::{
 };
 pub use spoken_row::SpokenRow;
 pub use swap_pages::SwapPages;
-
-#[cfg(test)]
-mod tests;

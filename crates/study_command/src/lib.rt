@@ -11,6 +11,3 @@ mod words;
 pub use command::study_trace;
 pub use option_words::{first_word, three_options, two_options};
 pub use words::{Study, study_of};
-
-#[cfg(test)]
-mod tests;

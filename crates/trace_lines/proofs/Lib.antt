@@ -1,3 +1,4 @@
 pub mod Calls
 pub mod Blocks
 pub mod Overlaps
+pub mod PlainForm

@@ -11,3 +11,4 @@ pub mod Requests
 pub mod Grammar
 pub mod Keys
 pub mod Seen
+pub mod Plain

@@ -13,6 +13,7 @@ mod mappings;
 mod params;
 mod part;
 mod places;
+mod plain;
 mod ranges;
 mod requests;
 mod seen;
@@ -23,6 +24,7 @@ pub use line::Line;
 pub use params::Param;
 pub use part::{DEFAULTS, Part};
 pub use places::Place;
+pub use plain::plain_request;
 pub use ranges::{CodedRange, Range, Written};
 pub use seen::{Seen, block_key, page_key};
 

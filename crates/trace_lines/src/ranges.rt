@@ -44,7 +44,8 @@ pub(crate) fn bytes_of(width: Width) -> u32
     }
 }
 
-fn fits(width: Width, value: u32) -> bool
+/// Whether the value fits the width.
+pub(crate) fn fits(width: Width, value: u32) -> bool
     ensures { result ≡ nat_lt value (256 ^ width_bytes width) }
 {
     match width {

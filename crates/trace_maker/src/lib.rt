@@ -6,6 +6,3 @@ mod machine;
 mod make;
 
 pub use make::make_trace;
-
-#[cfg(test)]
-mod tests;

@@ -8,7 +8,7 @@ ghost use Rattle.trace_reader.specs.Right.{IsRight};
 
 use crate::store::{add, add_range, blank, fails_of, write_bytes};
 use std::alloc::Global;
-use trace_lines::{DEFAULTS, Line, Part, Place, Seen, block_key, judge, page_key};
+use trace_lines::{DEFAULTS, Line, Part, Place, Seen, block_key, judge, page_key, plain_request};
 use trace_words::Cause;
 use vm_types::{BlockId, Config, Listed, Mapping, NoMemory};
 
@@ -168,6 +168,10 @@ impl Draft {
             (λ e. IsRefused (next_line number self.old.part line.now) e) }
         ensures seen { OnOk result (IsSeen self.new.seen self.new.part.config) }
     {
+        if let Some(task) = plain_request(number, &self.part, line) {
+            self.part.config.body.push(task)?;
+            return Ok(());
+        }
         let line = judge(number, &self.part, &self.seen, line)?;
         self.store(alloc, &line)?;
         Ok(())

@@ -4,6 +4,3 @@
 mod laws;
 
 pub use laws::the_plain_spelling_is_read;
-
-#[cfg(test)]
-mod tests;

@@ -1,3 +1,4 @@
+mod Digits
 pub mod Spelling
 pub mod Splitting
 pub mod Pairing

@@ -3,6 +3,21 @@ ghost use Rattle.trace_words.specs.Number.{decimal_digit, hexadecimal_digit, dec
 
 use crate::cause::Cause;
 
+/// The value of each byte as a hexadecimal digit, 16 if it is none.
+const HEX_VALUES: [u8; 256] = [
+    16, 16, 16, 16, 16, 16, 16, 16, 16, 16, 16, 16, 16, 16, 16, 16, 16, 16, 16, 16, 16, 16, 16, 16,
+    16, 16, 16, 16, 16, 16, 16, 16, 16, 16, 16, 16, 16, 16, 16, 16, 16, 16, 16, 16, 16, 16, 16, 16,
+    0, 1, 2, 3, 4, 5, 6, 7, 8, 9, 16, 16, 16, 16, 16, 16, 16, 10, 11, 12, 13, 14, 15, 16, 16, 16,
+    16, 16, 16, 16, 16, 16, 16, 16, 16, 16, 16, 16, 16, 16, 16, 16, 16, 16, 16, 16, 16, 16, 16, 10,
+    11, 12, 13, 14, 15, 16, 16, 16, 16, 16, 16, 16, 16, 16, 16, 16, 16, 16, 16, 16, 16, 16, 16, 16,
+    16, 16, 16, 16, 16, 16, 16, 16, 16, 16, 16, 16, 16, 16, 16, 16, 16, 16, 16, 16, 16, 16, 16, 16,
+    16, 16, 16, 16, 16, 16, 16, 16, 16, 16, 16, 16, 16, 16, 16, 16, 16, 16, 16, 16, 16, 16, 16, 16,
+    16, 16, 16, 16, 16, 16, 16, 16, 16, 16, 16, 16, 16, 16, 16, 16, 16, 16, 16, 16, 16, 16, 16, 16,
+    16, 16, 16, 16, 16, 16, 16, 16, 16, 16, 16, 16, 16, 16, 16, 16, 16, 16, 16, 16, 16, 16, 16, 16,
+    16, 16, 16, 16, 16, 16, 16, 16, 16, 16, 16, 16, 16, 16, 16, 16, 16, 16, 16, 16, 16, 16, 16, 16,
+    16, 16, 16, 16, 16, 16, 16, 16, 16, 16, 16, 16, 16, 16,
+];
+
 fn digit_of_ten(byte: u8) -> Result<u8, Cause>
     ensures { result ≡ decimal_digit byte }
 {
@@ -15,11 +30,11 @@ fn digit_of_ten(byte: u8) -> Result<u8, Cause>
 pub(crate) fn digit_of_sixteen(byte: u8) -> Result<u8, Cause>
     ensures { result ≡ hexadecimal_digit byte }
 {
-    match byte {
-        b'0'..=b'9' => Ok(byte - b'0'),
-        b'A'..=b'F' => Ok(byte - b'A' + 10),
-        b'a'..=b'f' => Ok(byte - b'a' + 10),
-        _ => Err(Cause::BadNumber),
+    let digit = HEX_VALUES[byte as usize];
+    if digit < 16 {
+        Ok(digit)
+    } else {
+        Err(Cause::BadNumber)
     }
 }
 

@@ -1,7 +1,6 @@
 ghost use Rattle.std.specs.Prelude.{◌≡◌};
 ghost use Rattle.trace_words.specs.OpWords.{access_of, with_mode, op_name};
 
-use crate::split::is;
 use vm_types::{Mode, Width};
 
 /// What a reference does, without its value.
@@ -25,22 +24,15 @@ pub struct OpName {
 fn access_of(word: &[u8]) -> Option<Access>
     ensures { result ≡ access_of word.now }
 {
-    if is(word, b"R1") {
-        Some(Access::Read(Width::One))
-    } else if is(word, b"R2") {
-        Some(Access::Read(Width::Two))
-    } else if is(word, b"R4") {
-        Some(Access::Read(Width::Four))
-    } else if is(word, b"W1") {
-        Some(Access::Write(Width::One))
-    } else if is(word, b"W2") {
-        Some(Access::Write(Width::Two))
-    } else if is(word, b"W4") {
-        Some(Access::Write(Width::Four))
-    } else if is(word, b"A4") {
-        Some(Access::Add)
-    } else {
-        None
+    match word {
+        [b'R', b'1'] => Some(Access::Read(Width::One)),
+        [b'R', b'2'] => Some(Access::Read(Width::Two)),
+        [b'R', b'4'] => Some(Access::Read(Width::Four)),
+        [b'W', b'1'] => Some(Access::Write(Width::One)),
+        [b'W', b'2'] => Some(Access::Write(Width::Two)),
+        [b'W', b'4'] => Some(Access::Write(Width::Four)),
+        [b'A', b'4'] => Some(Access::Add),
+        _ => None,
     }
 }
 

@@ -20,6 +20,3 @@ pub use fault::DumpFault;
 pub use laws::each_input_has_one_answer;
 pub use read::read_dump;
 pub use write::write_dump;
-
-#[cfg(test)]
-mod tests;

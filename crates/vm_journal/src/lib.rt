@@ -8,6 +8,3 @@ mod kept;
 pub use entry::{Entry, EvictWhy, Kind, Role, What};
 pub use journal::Journal;
 pub use kept::Kept;
-
-#[cfg(test)]
-mod tests;

@@ -5,7 +5,8 @@ ghost use Rattle.vm_state.specs.History.{pager};
 ghost use Rattle.vm_services.specs.Lowest.{lower, purged_in};
 
 use disk_trait::Block;
-use vm_state::{Slot, State};
+use page_states::Slot;
+use vm_state::State;
 use vm_types::{Addr, Proc};
 
 /// The lower of two page numbers, if both are there, and else the one that is.

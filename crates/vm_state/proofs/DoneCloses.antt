@@ -51,11 +51,11 @@ use Rattle.state_fits.specs.Parts.{Parts}
 use Rattle.state_fits.proofs.DoneParts.{at as page_at_done, done_parts}
 use Rattle.state_fits.proofs.ValidEntries.{IsValidAt, mapping_of, valid_shown}
 use Rattle.vm_state.specs.History.{History, MayAnswer, entry_by, owed, pager}
-use Rattle.vm_state.specs.Shown.{frame_entry, frame_number, frame_shown}
+use Rattle.page_states.specs.Shown.{frame_entry, frame_number, frame_shown}
 use Rattle.vm_state.specs.StateKept.{IsState, home_in}
-use Rattle.vm_state.specs.Touching.{MayTouch}
+use Rattle.page_states.specs.Touching.{MayTouch}
 use Rattle.vm_state.proofs.Closing.{closed, kept, right}
-use Rattle.vm_state.proofs.Looked.{frame_looked}
+use Rattle.page_states.proofs.Looked.{frame_looked}
 
 pub answer_before : {s t : History} {seat : Seat} {r : Ref} → s ≡ t → MayAnswer t seat r → MayAnswer s seat r
 answer_before {s} {t} {seat} {r} is may = subst (λ (x : History). MayAnswer x seat r) (sym is) may

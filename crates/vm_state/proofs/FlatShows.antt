@@ -32,9 +32,9 @@ use Rattle.state_fits.specs.Pages.{charged_row}
 use Rattle.state_fits.specs.Parts.{Parts}
 use Rattle.state_fits.proofs.EntryPages.{mapped_right}
 use Rattle.vm_state.specs.PageReadings.{found_in, found_with}
-use Rattle.vm_state.specs.PagesShown.{HasWaiting, NoneWaits, is_touched_row, is_waiting}
+use Rattle.page_states.specs.PagesShown.{HasWaiting, NoneWaits, is_touched_row, is_waiting}
 use Rattle.vm_state.specs.StateKept.{IsState}
-use Rattle.vm_state.specs.declared.found.Found.{Found}
+use Rattle.page_states.specs.declared.found.Found.{Found}
 use Rattle.vm_state.proofs.Closing.{kept, right}
 
 -- ---- what is kept of a private page says whether it is touched
@@ -119,6 +119,15 @@ module _ {B : Type 0} {content plan : B → Option (List ℕ)} {reads writes fau
     where
       eqb_apart : (m n : ℕ) → nat_eq m n ≡ false → m ≡ n → ⊥
       eqb_apart m n apart same = false≢true (sym apart ∙ eq-eqb m n same)
+
+  -- while some block of the page file is free no page needs one in vain
+  pub blocks_left : (h : Page) (n : ℕ) → n ≡ length a.charged → n < config.pagefile → false ≡ is_page_file_full config flat h
+  blocks_left (Shared s i) n count less = refl
+  blocks_left (Private p v) n count less = by (has_page flat.touched (Private p v)) (not_charged n count (ne_eqb _ _ (λ same. omega (arith, less, same))))
+    where
+      by : (b : Bool) → nat_eq (length flat.touched) config.pagefile ≡ false → false ≡ (not b && nat_eq (length flat.touched) config.pagefile)
+      by true is = refl
+      by false is = sym is
 
   pub all_is : (n : ℕ) → n ≡ length a.charged → nat_eq n config.pagefile ≡ true → (waits : Bool) → (waits ≡ true → HasWaiting fields.pages) → (waits ≡ false → (p : ℕ) → p < length config.procs → NoneWaits fields.pages p)
       → not waits ≡ nat_eq (length flat.touched) config.pagefile

@@ -1,10 +1,7 @@
 pub mod Closing
 pub mod SimpleCloses
-pub mod Looked
 pub mod WhatIsRead
 pub mod Owed
-pub mod FirstPages
-pub mod Layable
 pub mod ZeroCloses
 pub mod DeleteCloses
 pub mod DoneCloses

@@ -18,7 +18,7 @@ use Rattle.state_fits.proofs.EvictCan.{HasShare as HasShareThere}
 use Rattle.state_fits.proofs.EnterCan.{CanShare as CanShareThere}
 use Rattle.state_fits.proofs.FrameRows.{row_read}
 use Rattle.state_fits.proofs.SectionNumbers.{number_within}
-use Rattle.vm_state.specs.SectionPages.{CanShare, HasNumber, HasShare, IsNumbered}
+use Rattle.page_states.specs.SectionPages.{CanShare, HasNumber, HasShare, IsNumbered}
 use Rattle.vm_state.specs.StateKept.{IsState}
 use Rattle.vm_state.proofs.Closing.{right}
 

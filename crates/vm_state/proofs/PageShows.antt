@@ -46,10 +46,10 @@ use Rattle.state_fits.proofs.Holders.{holder_none, holder_there}
 use Rattle.state_fits.proofs.KnownEntries.{pte_known}
 use Rattle.vm_types.specs.Configuration.{IsSectionPage}
 use Rattle.vm_state.specs.PageReadings.{backing_in, found_in, found_with, frame_of}
-use Rattle.vm_state.specs.PagesShown.{found_shown, frame_named, is_valid, own_backing}
-use Rattle.vm_state.specs.Shown.{frame_by, frame_entry}
+use Rattle.page_states.specs.PagesShown.{found_shown, frame_named, is_valid, own_backing}
+use Rattle.page_states.specs.Shown.{frame_by, frame_entry}
 use Rattle.vm_state.specs.StateKept.{IsState}
-use Rattle.vm_state.specs.declared.found.Backing.{Backing}
+use Rattle.page_states.specs.declared.found.Backing.{Backing}
 use Rattle.vm_state.proofs.Closing.{kept}
 use Rattle.vm_state.proofs.Numbered.{has_number}
 

@@ -60,7 +60,7 @@ use Rattle.state_fits.proofs.Holders.{free_is}
 use Rattle.state_fits.proofs.InCan.{CanFault, CanRead, can_fault, can_read}
 use Rattle.state_fits.proofs.InParts.{IsReadBegun, IsReadable, come_readable, fault_readable_as, in_come_parts, in_fault_parts, in_near_parts, lying_readable}
 use Rattle.state_fits.proofs.MappedPages.{page_shown}
-use Rattle.vm_state.specs.Beginnings.{ChargesFault, CountsFault, MayChargeFault, MayCountFault, page_read}
+use Rattle.page_states.specs.ReadStarts.{ChargesFault, CountsFault, MayChargeFault, MayCountFault, page_read}
 use Rattle.vm_state.specs.History.{owed}
 use Rattle.vm_state.specs.LiftsFit.{LiftFits, lift_seen}
 use Rattle.vm_state.specs.StateKept.{IsState, IsStoreOf, home_in}

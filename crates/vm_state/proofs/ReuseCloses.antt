@@ -34,8 +34,8 @@ use Rattle.state_fits.proofs.EntryPages.{mapped_right}
 use Rattle.state_fits.proofs.ReuseCan.{CanReuse, reuse_can, reuse_global, reuse_private, reuse_uncharges}
 use Rattle.state_fits.proofs.ReuseParts.{holds, own, reuse_private_parts, reuse_shared_parts, reuse_uncharged_parts}
 use Rattle.vm_state.specs.History.{owed}
-use Rattle.vm_state.specs.Resting.{IsAtRest, IsNumberedOrigin, IsUncharged, MayRest, MayUncharge, Rests, Uncharges}
-use Rattle.vm_state.specs.SectionPages.{IsGlobal, IsNumbered}
+use Rattle.page_states.specs.Resting.{IsAtRest, IsNumberedOrigin, IsUncharged, MayRest, MayUncharge, Rests, Uncharges}
+use Rattle.page_states.specs.SectionPages.{IsGlobal, IsNumbered}
 use Rattle.vm_state.specs.StateKept.{IsState}
 use Rattle.vm_state.proofs.Closing.{closed, kept, right}
 use Rattle.vm_state.proofs.Numbered.{has_number, numbered_page}

@@ -1,14 +1,8 @@
 pub mod History
 pub mod StateKept
-pub mod Shown
-pub mod Touching
 pub mod CarrierView
 pub mod Readings
-pub mod Laying
 pub mod Made
-pub mod SectionPages
-pub mod Resting
-pub mod RingSlots
 pub mod LiftsFit
 pub mod ReadRoles
 pub mod Landings
@@ -17,7 +11,6 @@ pub mod Beginnings
 pub mod Carrying
 pub mod LiftsLand
 pub mod PageReadings
-pub mod PagesShown
 pub mod ProcessReadings
 pub mod FlightReadings
 pub mod Ends

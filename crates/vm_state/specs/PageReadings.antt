@@ -10,8 +10,8 @@ use Rattle.pager_model.specs.Given.{pfn}
 use Rattle.pager_model.specs.Lookups.{block_of, count_page, entry_of}
 use Rattle.pager_model.specs.Maps.{Mapped, page_behind}
 use Rattle.pager_model.specs.Pager.{Pager, Valid}
-use Rattle.vm_state.specs.declared.found.Backing.{Backing}
-use Rattle.vm_state.specs.declared.found.Found.{Found}
+use Rattle.page_states.specs.declared.found.Backing.{Backing}
+use Rattle.page_states.specs.declared.found.Found.{Found}
 
 -- of a page number that is mapped: the page, what is behind it, its protection code, and whether its entry is valid
 abbrev pub found_with : Config → ℕ → ℕ → Bool → Option Mapped → Option Found

@@ -1,11 +1,9 @@
 ghost use Rattle.std.specs.Prelude.{◌≡◌};
 
-use crate::ring_slots::{enter_ring, frame_slot, marked_back};
-use crate::sharing::share;
-use crate::shown::entry_in;
 use crate::state::State;
 use disk_trait::Block;
 use frame_moves::enter;
+use page_states::{enter_ring, entry_in, frame_slot, marked_back, share};
 use pte_forms::{Place, Pte};
 use vm_journal::{Entry, What};
 use vm_types::{Addr, FrameState, Pfn, Proc, Seat};

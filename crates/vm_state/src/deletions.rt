@@ -1,9 +1,9 @@
 ghost use Rattle.std.specs.Prelude.{◌≡◌};
 
-use crate::shown::entry_in;
 use crate::state::State;
 use disk_trait::Block;
 use page_ranges::{empty_frame, uncharge};
+use page_states::entry_in;
 use vm_journal::{Entry, What};
 use vm_types::{Addr, Answer, Proc, Seat, Service};
 

@@ -1,9 +1,9 @@
 ghost use Rattle.std.specs.Prelude.{◌≡◌};
 
-use crate::shown::entry_in;
 use crate::state::State;
 use disk_trait::Block;
 use frame_moves::enter;
+use page_states::entry_in;
 use pte_forms::{Place, Pte};
 use state_parts::{ChargedPage, take_slot};
 use vm_journal::{Entry, What};

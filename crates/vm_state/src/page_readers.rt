@@ -1,19 +1,20 @@
-ghost use Rattle.std.specs.Prelude.{◌≡◌, length, nat_eq};
+ghost use Rattle.std.specs.Prelude.{◌≡◌, None, IsSome, length, nat_eq};
 ghost use Rattle.std.specs.Option.{option_map};
 ghost use Rattle.pager_model.specs.Flat.{flat_refusal, is_page_file_full};
 ghost use Rattle.pager_model.specs.Lookups.{entry_of};
+ghost use Rattle.pager_model.specs.Maps.{page_number};
 ghost use Rattle.pager_model.specs.Spoken.{flat_after};
 ghost use Rattle.pager_model.specs.Swap.{lying_in};
 ghost use Rattle.vm_state.specs.History.{pager};
 ghost use Rattle.vm_state.specs.PageReadings.{IsKnown, backing_in, found_in, frame_of};
-ghost use Rattle.vm_state.specs.Shown.{frame_number};
+ghost use Rattle.page_states.specs.Shown.{frame_number};
 
-use crate::found::{Backing, Found};
-use crate::pages_shown::{changes, found_shown, is_touched_row, own_backing, some_waits};
-use crate::sharing::section_page;
-use crate::shown::{entry_in, frame_in};
 use crate::state::State;
 use disk_trait::Block;
+use page_states::{
+    Backing, Found, changes, entry_in, found_shown, frame_in, is_touched_row, own_backing,
+    section_page, some_waits,
+};
 use vm_types::{BlockId, Page, Pfn, Proc, Ref, SecId, Why, allowed};
 
 /// No reader allocates.
@@ -76,15 +77,17 @@ impl<B: Block> State<B> {
         }
     }
 
-    /// Why memory without frames and disk would refuse a reference of a process (any number); none if
-    /// it would answer it. If each block of the page file is charged, and the page isn't touched, this
-    /// looks at all pages that are charged.
-    pub fn refusal(&self, p: Proc, r: Ref) -> Option<Why>
-        ensures { result ≡ flat_refusal self.now.config (flat_after self.now.config self.now.past) p.0 r }
+    /// Why memory without frames and disk would refuse a reference of a process (any number), by what
+    /// the process has at its page number; none if it would answer it. If each block of the page file
+    /// is charged, and the page isn't touched, this looks at all pages that are charged.
+    pub fn refusal(&self, p: Proc, r: Ref, there: Option<Found>) -> Option<Why>
+        requires { there ≡ found_in self.now.config (pager self.now) p.0 (page_number (r.addr).0) }
+        ensures value { result ≡ flat_refusal self.now.config (flat_after self.now.config self.now.past) p.0 r }
+        ensures mapped { result ≡ None → IsSome there }
     {
         // The proof learns here that the state is one.
         let _ = self.journal.spare();
-        match self.found(p, r.addr.0 / 512) {
+        match there {
             None => Some(Why::Unmapped),
             Some(found) => {
                 if !allowed(found.prot, r.mode, changes(r.op)) {
@@ -104,7 +107,11 @@ impl<B: Block> State<B> {
     {
         match page {
             Page::Private(p, vpn) => {
-                !is_touched_row(self.pages.at(p, vpn)) && self.is_all_touched()
+                if self.file.charged() < self.config.pagefile {
+                    false
+                } else {
+                    !is_touched_row(self.pages.at(p, vpn)) && self.is_all_touched()
+                }
             }
             Page::Shared(..) => false,
         }

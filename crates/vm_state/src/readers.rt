@@ -7,7 +7,7 @@ ghost use Rattle.vm_types.specs.Ring.{choose, filled};
 ghost use Rattle.vm_state.specs.History.{pager};
 ghost use Rattle.std.specs.Option.{option_map};
 ghost use Rattle.vm_state.specs.Readings.{listed, row_at};
-ghost use Rattle.vm_state.specs.Shown.{frame_number};
+ghost use Rattle.page_states.specs.Shown.{frame_number};
 
 use crate::state::State;
 use disk_trait::Block;

@@ -1,12 +1,12 @@
 ghost use Rattle.std.specs.Prelude.{◌≡◌, true};
 
 use crate::carrier::Carrier;
-use crate::read_starts::{charge_fault, count_fault, read_page};
 use crate::state::State;
 use disk_trait::Block;
 use frame_moves::begin_read;
 use frame_store::Lift;
 use page_moves::{global_number, hold_page};
+use page_states::{charge_fault, count_fault, read_page};
 use vm_journal::{Entry, Role, What};
 use vm_types::{BlockId, Pfn, Seat};
 

@@ -1,10 +1,9 @@
 ghost use Rattle.std.specs.Prelude.{◌≡◌, true};
 
-use crate::shown::{frame_in, marked};
 use crate::state::State;
-use crate::touching::touch;
 use disk_trait::Block;
 use flat_model::apply;
+use page_states::{frame_in, marked, touch};
 use vm_journal::{Entry, What};
 use vm_types::{Proc, Ref, Reply, Seat, Why};
 

@@ -1,9 +1,8 @@
 ghost use Rattle.std.specs.Prelude.{◌≡◌};
 
-use crate::resting::{rest, uncharge};
-use crate::sharing::release;
 use crate::state::State;
 use disk_trait::Block;
+use page_states::{release, rest, uncharge};
 use vm_journal::{Entry, What};
 use vm_types::{Page, Pfn, Seat};
 

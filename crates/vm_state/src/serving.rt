@@ -8,9 +8,9 @@ ghost use Rattle.vm_types.specs.declared.reply.Answer.{Answer};
 ghost use Rattle.vm_state.specs.Answering.{answer_in, has_entry, limit_answer, lock_answer};
 ghost use Rattle.vm_state.specs.History.{pager};
 
-use crate::shown::entry_in;
 use crate::state::State;
 use disk_trait::Block;
+use page_states::entry_in;
 use page_tables::Tables;
 use state_parts::{count_in, locked_in};
 use vm_types::{Addr, Answer, Proc, ProcSpec, Seat, Service};

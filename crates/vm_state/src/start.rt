@@ -7,15 +7,15 @@ ghost use Rattle.pager_model.specs.Fits.{told_of};
 ghost use Rattle.pager_model.specs.Maps.{first_map};
 ghost use Rattle.frame_store.specs.Blocks.{blocks_of};
 ghost use Rattle.state_fits.specs.Opening.{first_pte, unspoken};
-ghost use Rattle.vm_state.specs.Laying.{HasFirsts};
+ghost use Rattle.page_states.specs.Laying.{HasFirsts};
 ghost use Rattle.vm_state.specs.Made.{IsMade};
 
-use crate::opening::{lay_all, process_rows};
 use crate::state::State;
 use disk_trait::Block;
 use frame_store::{Store, firsts, page_counts};
 use global_pages::Globals;
 use page_file::PageFile;
+use page_states::{lay_all, process_rows};
 use page_tables::Tables;
 use section_table::Sections;
 use state_parts::{ChargedPages, SpokenRow, SwapPages};

@@ -26,6 +26,3 @@ pub use reference::{Mode, Op, Ref, Width};
 pub use reply::{Answer, Reply, Why};
 pub use ring_choice::Choice;
 pub use service::{Request, Service};
-
-#[cfg(test)]
-mod tests;

@@ -8,6 +8,3 @@ mod ring;
 pub use adjustment::adjust;
 pub use ring::Ring;
 pub use vm_types::Choice;
-
-#[cfg(test)]
-mod tests;

@@ -1,4 +1,4 @@
-ghost use Rattle.std.specs.Prelude.{◌≡◌, ℕ, true, false, ◌+◌, ◌%◌, ◌<◌, ◌≤◌, ◌↔◌, ◌++◌, length, take, drop, position, replicate, slice_set, IfOk, if◌then◌else◌};
+ghost use Rattle.std.specs.Prelude.{◌≡◌, ℕ, true, false, ◌+◌, ◌%◌, ◌<◌, ◌≤◌, ◌^◌, ◌↔◌, ◌++◌, length, take, drop, position, replicate, slice_set, IfOk, if◌then◌else◌};
 ghost use Rattle.vm_types.specs.Ring.{is_empty_slot, is_locked_slot, is_unlocked_slot};
 
 use crate::held::Held;
@@ -84,7 +84,7 @@ impl Ring {
         self.slots[slot as usize] = Some(Held::new(vpn, false));
         self.pages += 1;
         if step {
-            self.hand = ((slot as usize + 1) % self.slots.len()) as u32;
+            self.hand = round(slot as usize + 1, self.slots.len());
         }
     }
 
@@ -176,7 +176,7 @@ impl Ring {
         requires { places < length self.now.slots }
         ensures { result ≡ slot_after self.now places }
     {
-        ((self.hand as usize + places) % self.slots.len()) as u32
+        round(self.hand as usize + places, self.slots.len())
     }
 
     /// Locks or unlocks the page in the slot.
@@ -190,6 +190,19 @@ impl Ring {
             self.locks -= u32::from(held.is_locked());
             self.locks += u32::from(lock);
         }
+    }
+}
+
+/// The slot of a place below twice the number of slots, going round once at most. Doesn't divide.
+fn round(place: usize, slots: usize) -> u32
+    requires below { place < slots + slots }
+    requires few { slots ≤ 2 ^ 32 }
+    ensures { result ≡ place % slots }
+{
+    if place < slots {
+        place as u32
+    } else {
+        (place - slots) as u32
     }
 }
 

@@ -5,6 +5,3 @@
 mod writes;
 
 pub use writes::{give_block, lie_in};
-
-#[cfg(test)]
-mod tests;

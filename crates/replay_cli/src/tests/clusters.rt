@@ -6,7 +6,7 @@ use std::test::Fail;
 
 // Five pages in four frames. Three modified pages are written together, into page file blocks that
 // adjoin, before a frame of theirs is used again. The first page is read back from its block.
-const WRITTEN_TOGETHER: &str = "VMTRACE 1\n\
+pub(super) const WRITTEN_TOGETHER: &str = "VMTRACE 1\n\
 FRAMES 8\n\
 PAGEFILE 8\n\
 BAD 4\n\
@@ -24,7 +24,7 @@ A W1 00000800 05\n\
 A R1 00000000\n\
 END\n";
 
-const WRITTEN_TOGETHER_TEXT: &str = "1 A ZERO 00000000 F0\n\
+pub(super) const WRITTEN_TOGETHER_TEXT: &str = "1 A ZERO 00000000 F0\n\
 2 A DONE W1 00000000 01\n\
 3 A ZERO 00000200 F1\n\
 4 A DONE W1 00000200 02\n\

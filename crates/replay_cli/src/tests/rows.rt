@@ -139,8 +139,10 @@ fn writes_the_rows(rt: HostRuntime) -> Result<(), Fail> {
 // Words that are no command line.
 #[test]
 fn refuses_other_words(rt: HostRuntime) -> Result<(), Fail> {
-    let table: [&[&str]; 14] = [
+    let table: [&[&str]; 16] = [
         &[],
+        &["check", "x"],
+        &["check", "--"],
         &["serial", "x"],
         &["serial", "--"],
         &["study"],

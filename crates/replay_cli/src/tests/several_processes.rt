@@ -72,7 +72,7 @@ STATUS 0\n";
 // Two processes share a page: the second finds it in the first one's frame. It stays active when
 // the first process's slot is taken from it. After the last request it is evicted and written to
 // its section.
-const SHARED_PAGE: &str = "VMTRACE 1\n\
+pub(super) const SHARED_PAGE: &str = "VMTRACE 1\n\
 FRAMES 8\n\
 PAGEFILE 4\n\
 SECTION LIB SHARED 1\n\
@@ -89,7 +89,7 @@ A R1 00000400\n\
 B R1 00000000\n\
 END\n";
 
-const SHARED_PAGE_TEXT: &str = "1 A IN F0 S:LIB/0 FAULT A/00000000\n\
+pub(super) const SHARED_PAGE_TEXT: &str = "1 A IN F0 S:LIB/0 FAULT A/00000000\n\
 2 A INOK F0 1\n\
 3 A DONE W1 00000000 05\n\
 4 B BACK B 00000000 F0 ACTIVE\n\

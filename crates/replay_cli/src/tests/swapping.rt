@@ -7,7 +7,7 @@ use std::test::Fail;
 // The second process lacks a frame for its last page, so the first one leaves: its pages are
 // written to its swap blocks. When it is referenced again four of its pages are still in free
 // frames; the second process leaves for the fifth.
-const OUT_AND_IN_AGAIN: &str = "VMTRACE 1\n\
+pub(super) const OUT_AND_IN_AGAIN: &str = "VMTRACE 1\n\
 FRAMES 8\n\
 PAGEFILE 16\n\
 PROCESS A 6 6 6 0\n\
@@ -27,7 +27,7 @@ B W1 00000600 04\n\
 A R1 00000400\n\
 END\n";
 
-const OUT_AND_IN_AGAIN_TEXT: &str = "1 A ZERO 00000000 F0\n\
+pub(super) const OUT_AND_IN_AGAIN_TEXT: &str = "1 A ZERO 00000000 F0\n\
 2 A DONE W1 00000000 01\n\
 3 A ZERO 00000200 F1\n\
 4 A DONE W1 00000200 02\n\

@@ -3,13 +3,13 @@ use Rattle.fault_core.proofs.Steps.{answered, gives_as, may_as}
 use Rattle.fault_core.proofs.answers.entry.Goals as goal
 
 pub done-requires-after_bounds : goal.done-requires-after_bounds
-done-requires-after_bounds g c κs within = may_answer c.args.state.now c.args.seat c.args.r _ c.in-Some.ensures c.requires.may
+done-requires-after_bounds g c κs within = may_answer c.args.state.now c.args.seat c.args.r c.args.found c.requires.found c.if-found.true c.requires.may
 
-pub returns-in-Some : goal.returns-in-Some
-returns-in-Some g c = answered c.args.state.now _ c.args.seat c.args.r c.done.result _ _ (answers c.args.state.now c.args.seat c.args.r _ c.in-Some.ensures) c.done.ensures.added c.done.ensures.right
+pub returns-then-found : goal.returns-then-found
+returns-then-found g c = answered c.args.state.now _ c.args.seat c.args.r c.done.result _ _ (answers c.args.state.now c.args.seat c.args.r c.args.found c.requires.found c.if-found.true) c.done.ensures.added c.done.ensures.right
 
 pub mapped-requires-clause-may : goal.mapped-requires-clause-may
-mapped-requires-clause-may g c κs within = may_as _ _ _ _ (passes_on c.args.state.now c.args.seat c.args.r c.in-None.ensures) c.requires.may
+mapped-requires-clause-may g c κs within = may_as _ _ _ _ (passes_on c.args.state.now c.args.seat c.args.r c.args.found c.requires.found c.if-found.false) c.requires.may
 
-pub returns-in-None : goal.returns-in-None
-returns-in-None g c = gives_as _ _ (passes_on c.args.state.now c.args.seat c.args.r c.in-None.ensures) c.mapped.ensures
+pub returns-else-found : goal.returns-else-found
+returns-else-found g c = gives_as _ _ (passes_on c.args.state.now c.args.seat c.args.r c.args.found c.requires.found c.if-found.false) c.mapped.ensures

@@ -2,7 +2,7 @@ use Rattle.std.proofs.Common.{ap, arith, length, ◌+◌}
 use Rattle.vm_state.specs.History.{pager}
 use Rattle.fault_core.proofs.ClusterReads.{fault_at, gives_reads, may_next, near, no_lifts, none_begun, part_first, part_none, part_some, reading_end, reading_near, reading_start, targets_of}
 use Rattle.fault_core.proofs.Comes.{page_known, uncharged}
-use Rattle.fault_core.proofs.Windows.{block_small, page_there, pages_there, reach_few}
+use Rattle.fault_core.proofs.Windows.{block_small, page_there, reach_few}
 use Rattle.fault_core.proofs.reads.read_in.Goals.{in-Some, in-None}
 use Rattle.fault_core.proofs.reads.read_in.Goals as goal
 
@@ -38,15 +38,14 @@ loop-places-init g c =
 
 pub bounds : goal.bounds
 bounds g c =
-    let count = pages_there c.args.state.now.config (pager c.args.state.now) (c.args.x).page c.args.b (c.cluster-pages.result.0).items c.requires.ready.formed c.cluster-pages.ensures.pages in
     let same = ap (λ xs. length xs) c.as_slice.ensures.value in
-    let before = c.loop-places-test.true in let most = c.cluster-pages.ensures.within in omega (arith, count, same, before, most)
+    let before = c.loop-places-test.true in let most = c.cluster-pages.ensures.within in omega (arith, same, before, most)
 
 pub block_after-requires : goal.block_after-requires
 block_after-requires g c =
     let small = block_small c.args.state.now.config c.args.b c.requires.ready.formed c.requires.exists in
     let few = reach_few c.args.state.now.config (pager c.args.state.now) (c.args.x).page c.requires.ready.formed in
-    let before = c.loop-places-test.true in let most = c.cluster-pages.ensures.within in omega (arith, small, few, before, most)
+    let before = c.loop-places-test.true in let most = c.cluster-pages.ensures.within in let inside = c.cluster-pages.ensures.pages.within in omega (arith, small, few, before, most, inside)
 
 pub read_one-requires-in-Some-clause-may : goal.read_one-requires-in-Some-clause-may
 read_one-requires-in-Some-clause-may g c κs within =
@@ -61,12 +60,12 @@ read_one-requires-in-Some-clause-may g c κs within =
 pub read_one-requires-in-Some-clause-paid : goal.read_one-requires-in-Some-clause-paid
 read_one-requires-in-Some-clause-paid g c κs within =
     let few = reach_few c.args.state.now.config (pager c.args.state.now) (c.args.x).page c.requires.ready.formed in
-    let before = c.loop-places-test.true in let most = c.cluster-pages.ensures.within in let paid = c.loop-places.invariant.paid in omega (arith, few, before, most, paid)
+    let before = c.loop-places-test.true in let most = c.cluster-pages.ensures.within in let inside = c.cluster-pages.ensures.pages.within in let paid = c.loop-places.invariant.paid in omega (arith, few, before, most, inside, paid)
 
 pub read_one-requires-in-Some-clause-few : goal.read_one-requires-in-Some-clause-few
 read_one-requires-in-Some-clause-few g c κs within =
     let few = reach_few c.args.state.now.config (pager c.args.state.now) (c.args.x).page c.requires.ready.formed in
-    let before = c.loop-places-test.true in let most = c.cluster-pages.ensures.within in let so_far = c.loop-places.invariant.few in omega (arith, few, before, most, so_far)
+    let before = c.loop-places-test.true in let most = c.cluster-pages.ensures.within in let inside = c.cluster-pages.ensures.pages.within in let so_far = c.loop-places.invariant.few in omega (arith, few, before, most, inside, so_far)
 
 pub read_one-requires-in-Some-clause-begun : goal.read_one-requires-in-Some-clause-begun
 read_one-requires-in-Some-clause-begun g c κs within = c.loop-places.invariant.begun

@@ -4,8 +4,8 @@ use Rattle.vm_types.specs.declared.config.Config.{Config}
 use Rattle.pager_model.specs.Report.{process_row}
 use Rattle.vm_state.specs.History.{pager}
 use Rattle.pfn_report.specs.Counts.{shares_below}
-use Rattle.pfn_report.specs.Rows.{process_view}
-use Rattle.pfn_report.proofs.RowsPushed.{row_pushed}
+use Rattle.report_lines.specs.Rows.{process_view}
+use Rattle.report_lines.proofs.RowsPushed.{row_pushed}
 use Rattle.pfn_report.proofs.SlotShares.{none_below}
 use Rattle.pfn_report.proofs.SlotsPassed.{all_counted, counts_as}
 use Rattle.pfn_report.proofs.rows.process_rows.Goals as goal

@@ -1,7 +1,7 @@
-use Rattle.std.proofs.Common.{rules, ◌≢◌, ◌∙◌, [], sym, subst, refl, inl, arith}
+use Rattle.std.proofs.Common.{rules, ◌≢◌, ◌∙◌, ℕ, List, [], ap, sym, subst, refl, inl, arith}
 use Rattle.std.proofs.KnownBytes.{Appends-nil}
 use Rattle.outside_io.specs.Views.{sink_view}
-use Rattle.program_call.specs.Messages.{IsMessage, IsSaid, usage, faulty, unfinished, no_message, usage_text, unfinished_message, fault_message}
+use Rattle.program_call.specs.Messages.{IsMessage, IsSaid, usage, faulty, too_long, unfinished, in_log, no_message, usage_text, too_long_message, unfinished_message, fault_message, line_message, log_message}
 use Rattle.program_call.proofs.messages.explain.Goals as goal
 
 pub returns-in-1 : goal.returns-in-1
@@ -11,22 +11,40 @@ returns-in-1 g c =
 pub returns-in-Some : goal.returns-in-Some
 returns-in-Some g c =
     let message = fault_message c.args.last.now.number c.in-Some.cause c.args.last.now.text.items in
-    let is = c.as_slice.ensures.value ∙ c.message_of.ensures in (
+    let is = c.as_slice.ensures.value ∙ c.message_of.ensures ∙ ap (λ (rule : List ℕ). line_message c.args.last.now.number rule c.args.last.now.text.items) c.rule_of.ensures.value in (
       message,
       subst (λ status. IsMessage c.args.last.now.number c.args.last.now.text.items c.args.first.now status message) (sym c.in-2.is) (faulty c.in-Some.cause c.in-Some.ensures.some.0 c.in-Some.ensures.some.1),
       subst (IsSaid (sink_view (g.M.Sink.taken c.args.messages.now) (g.M.Sink.faults c.args.messages.now) (g.M.Sink.stalls c.args.messages.now))
           (sink_view (g.M.Sink.taken c.say-in-Some.new.messages) (g.M.Sink.faults c.say-in-Some.new.messages) (g.M.Sink.stalls c.say-in-Some.new.messages))) is c.say-in-Some.ensures,
     )
 
-pub returns-in-None : goal.returns-in-None
-returns-in-None g c = (
-  unfinished_message,
-  subst (λ status. IsMessage c.args.last.now.number c.args.last.now.text.items c.args.first.now status unfinished_message) (sym c.in-2.is) (unfinished c.in-None.ensures.none),
-  c.say-in-None.ensures,
+pub returns-in-Some-after : goal.returns-in-Some-after
+returns-in-Some-after g c = (
+  too_long_message,
+  subst (λ status. IsMessage c.args.last.now.number c.args.last.now.text.items c.args.first.now status too_long_message) (sym c.in-2.is) (too_long _ c.in-Some-after.ensures),
+  c.say-in-Some-after.ensures,
 )
+
+pub returns-in-None-after : goal.returns-in-None-after
+returns-in-None-after g c = (
+  unfinished_message,
+  subst (λ status. IsMessage c.args.last.now.number c.args.last.now.text.items c.args.first.now status unfinished_message) (sym c.in-2.is) (unfinished c.in-None.ensures.none c.in-None-after.ensures),
+  c.say-in-None-after.ensures,
+)
+
+pub returns-in-8 : goal.returns-in-8
+returns-in-8 g c =
+    let message = log_message c.args.last.now.number c.args.last.now.text.items in
+    let is = c.as_slice-in-8.ensures.value ∙ c.message_of-in-8.ensures in (
+      message,
+      subst (λ status. IsMessage c.args.last.now.number c.args.last.now.text.items c.args.first.now status message) (sym c.in-8.is) in_log,
+      subst (IsSaid (sink_view (g.M.Sink.taken c.args.messages.now) (g.M.Sink.faults c.args.messages.now) (g.M.Sink.stalls c.args.messages.now))
+          (sink_view (g.M.Sink.taken c.say-in-8.new.messages) (g.M.Sink.faults c.say-in-8.new.messages) (g.M.Sink.stalls c.say-in-8.new.messages))) is c.say-in-8.ensures,
+    )
 
 pub returns-in_default : goal.returns-in_default
 returns-in_default g c =
     let one : c.args.status ≢ 1 = search rules in
     let two : c.args.status ≢ 2 = search rules in
-    ([], no_message c.args.status one two, (0, omega arith, Appends-nil (g.M.Sink.taken c.args.messages.now), inl refl))
+    let eight : c.args.status ≢ 8 = search rules in
+    ([], no_message c.args.status one two eight, (0, omega arith, Appends-nil (g.M.Sink.taken c.args.messages.now), inl refl))

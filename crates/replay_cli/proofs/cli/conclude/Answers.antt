@@ -2,7 +2,7 @@ use Rattle.std.proofs.Common.{refl}
 use Rattle.pager_model.specs.Text.{status_line}
 use Rattle.program_ends.proofs.Concluding.{concludes_as}
 use Rattle.replay_cli.specs.Commands.{usage, obeyed}
-use Rattle.replay_cli.specs.declared.words.Command.TheVariants.{Serial, Study, Make}
+use Rattle.replay_cli.specs.declared.words.Command.TheVariants.{Serial, Study, Make, Check}
 use Rattle.replay_cli.proofs.Making.{concludes_made}
 use Rattle.replay_cli.proofs.cli.conclude.Goals as goal
 
@@ -23,3 +23,8 @@ pub returns-in-Some-Make-clause-outcome : goal.returns-in-Some-Make-clause-outco
 returns-in-Some-Make-clause-outcome g c =
     let asks = rw c.in-Some-Make.field-0-is at c.in-Some-Make.ensures.some in
     concludes_as (λ status text told. obeyed (Make c.in-Some-Make.make) status text asks (told, refl)) (concludes_made c.run_made.ensures.outcome)
+
+pub returns-in-Some-Check-clause-outcome : goal.returns-in-Some-Check-clause-outcome
+returns-in-Some-Check-clause-outcome g c =
+    let asks = rw c.in-Some-Check.field-0-is at c.in-Some-Check.ensures.some in
+    concludes_as (λ status text told. obeyed Check status text asks (told, refl)) c.check.ensures.outcome

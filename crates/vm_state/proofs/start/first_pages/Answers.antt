@@ -1,7 +1,7 @@
 use Rattle.std.proofs.Common.{ap, ◌∙◌}
 use Rattle.frame_store.specs.Blocks.{page_counts}
 use Rattle.frame_store.specs.Numbers.{firsts}
-use Rattle.vm_state.proofs.FirstPages.{has_firsts}
+use Rattle.page_states.proofs.FirstPages.{has_firsts}
 use Rattle.vm_state.proofs.start.first_pages.Goals as goal
 
 pub returns-clause-firsts : goal.returns-clause-firsts

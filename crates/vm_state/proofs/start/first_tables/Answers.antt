@@ -1,5 +1,5 @@
 use Rattle.std.proofs.Common.{length, ap, ◌∙◌}
-use Rattle.vm_state.proofs.FirstPages.{can_lay_all}
+use Rattle.page_states.proofs.FirstPages.{can_lay_all}
 use Rattle.vm_state.proofs.start.first_tables.Goals as goal
 
 pub lay_all-requires-clause-can : goal.lay_all-requires-clause-can

@@ -6,7 +6,7 @@ use Rattle.vm_types.specs.declared.service.Service.TheVariants as service
 use Rattle.vm_state.specs.History.{entry_by}
 use Rattle.vm_state.proofs.Closing.{may_before, next_number, pushed}
 use Rattle.vm_state.proofs.DeleteCloses as close
-use Rattle.vm_state.proofs.Looked.{looked}
+use Rattle.page_states.proofs.Looked.{looked}
 use Rattle.vm_state.proofs.state.State.delete.Goals as goal
 
 pub loop-n-init : goal.loop-n-init

@@ -4,9 +4,15 @@ use Rattle.vm_types.specs.declared.names.Page.TheVariants.{Private}
 use Rattle.pager_model.specs.Flat.{is_page_file_full}
 use Rattle.pager_model.specs.Spoken.{flat_after}
 use Rattle.vm_state.specs.History.{History}
-use Rattle.vm_state.specs.PagesShown.{is_touched_row}
+use Rattle.page_states.specs.PagesShown.{is_touched_row}
 use Rattle.vm_state.proofs.FlatShows as shows
 use Rattle.vm_state.proofs.state.State.is_full.Goals as goal
+
+pub returns-then-charged-self : goal.returns-then-charged-self
+returns-then-charged-self g c =
+    shows.blocks_left c.self.invariant (Private c.in-Private.p c.in-Private.vpn) c.charged.result (c.charged.ensures.value ∙ c.self.invariant.parts.file.charges) c.if-charged-self.true
+    ∙ ap (λ (s : History). is_page_file_full s.config (flat_after s.config s.past) (Private c.in-Private.p c.in-Private.vpn)) c.self.view_is
+    ∙ ap (λ (h : Page). is_page_file_full c.args.self.now.config (flat_after c.args.self.now.config c.args.self.now.past) h) (sym c.in-Private.is)
 
 pub returns-then-not-is_touched_row : goal.returns-then-not-is_touched_row
 returns-then-not-is_touched_row g c =

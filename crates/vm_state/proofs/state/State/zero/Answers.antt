@@ -1,7 +1,7 @@
 use Rattle.std.proofs.Common.{◌/◌, refl, IsSome, subst, sym, ◌∙◌, arith}
 use Rattle.vm_state.specs.History.{entry_by}
 use Rattle.vm_state.proofs.Closing.{may_before, pushed}
-use Rattle.vm_state.proofs.Looked.{looked}
+use Rattle.page_states.proofs.Looked.{looked}
 use Rattle.vm_state.proofs.SimpleCloses.{faults_few}
 use Rattle.vm_state.proofs.ZeroCloses as close
 use Rattle.vm_journal.specs.declared.entry.What.TheVariants as what

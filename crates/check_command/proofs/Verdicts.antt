@@ -1,0 +1,83 @@
+-- What the answer to a trace and a log tells, by what its source has left.
+use Rattle.std.proofs.Common.{◌≡◌, ℕ, ◌≤◌, List, [], ◌∷◌, ◌++◌, length, take, Option, Some, None, Result, Ok, Err, refl, sym, subst, ◌∙◌, inl, inr, arith}
+use Rattle.std.proofs.lemmas.List.{length-drop, length-take}
+use Rattle.std.specs.Prelude.{IfSome}
+use Rattle.std.specs.Io.KnownBytes.{prepend_known}
+use Rattle.vm_types.specs.declared.config.Config.{Config}
+use Rattle.outside_io.specs.Views.{SinkView, SourceView}
+use Rattle.line_source.specs.BytesLeft.{pending}
+use Rattle.trace_reader.specs.HeadAnswer.{HeadAnswers}
+use Rattle.trace_reader.specs.declared.fault.TraceFault.{TraceFault}
+use Rattle.trace_reader.specs.declared.fault.TraceFault.TheVariants as fault
+use Rattle.log_check.specs.Judged.{CountsBy as CountsByVerdict, Judges}
+use Rattle.log_check.specs.declared.verdict.Verdict.{Verdict}
+use Rattle.log_check.specs.declared.verdict.Verdict.TheVariants.{Legal, Fault}
+use Rattle.log_check.specs.declared.check_fault.CheckFault.{CheckFault}
+use Rattle.log_check.specs.declared.check_fault.CheckFault.TheVariants.{NoMemory, ReadFault, TooMany}
+use Rattle.program_ends.specs.Concludes.{Concludes}
+use Rattle.program_ends.specs.Ends.{Ends}
+use Rattle.program_ends.specs.FaultText.{fault_status, fault_told}
+use Rattle.check_command.specs.Answers.{Answer, CountsBy, IsRead, Says}
+use Rattle.check_command.specs.CheckText.{HasLog, legal, at_fault, too_long}
+use Rattle.check_command.specs.CheckTells.{CheckTells, answered, faulty, unfinished, unread, no_memory}
+use Rattle.check_command.specs.Verdicts.{verdict_status, verdict_text}
+
+if_some : (P Q : List ℕ → Type 0) (told : Option (List ℕ)) → ((text : List ℕ) → P text → Q text) → IfSome told P → IfSome told Q
+if_some P Q None f h = tt
+if_some P Q (Some text) f h = f text h
+
+-- the lines are at their end, so the source is
+none_behind : (read rest : List ℕ) → read ++ rest ≡ [] → rest ≡ []
+none_behind [] rest e = e
+none_behind (b ∷ read) rest e = absurd cc
+
+at_end : (read : List ℕ) (left : Option (List ℕ)) → prepend_known read left ≡ Some [] → left ≡ Some []
+at_end read None e = absurd cc
+at_end read (Some rest) e = let both : read ++ rest ≡ [] = cc in rw (none_behind read rest both) refl
+
+-- what is said of the bytes behind the line LOG
+pub log_told : (config : Config) (verdict : Result Verdict CheckFault) (told middle left : Option (List ℕ)) → IfSome told (λ text. HeadAnswers (Ok config) text middle)
+    → IfSome middle (λ log. Judges config verdict log left) → IfSome told (λ text. Says (Ok verdict) text left)
+log_told config verdict None middle left h j = tt
+log_told config verdict (Some text) middle left h j =
+    record { config = config; log = h.0; head = h.1; said = subst (λ (m : Option (List ℕ)). IfSome m (λ log. Judges config verdict log left)) h.2 j }
+
+pub log_counts : (verdict : Result Verdict CheckFault) (before middle now : ℕ) → middle ≡ before → CountsByVerdict verdict middle now → CountsBy (Ok verdict) before now
+log_counts verdict before middle now same counts = subst (λ (n : ℕ). CountsByVerdict verdict n now) same counts
+
+-- the source has given the bytes that its lines hold
+pub pending_few : (buffer : List ℕ) (next filled : ℕ) → length buffer ≤ 4096 → length (pending buffer next filled) ≤ 4096
+pending_few buffer next filled few = omega (arith, length-drop next (take filled buffer), length-take filled buffer, few)
+
+pub read_told : (answer : Answer) (told whole left final : Option (List ℕ)) (read : List ℕ) → whole ≡ told → final ≡ left → length read ≤ 4096
+    → IfSome whole (λ text. Says answer text (prepend_known read left)) → IfSome told (λ text. IsRead (Says answer text) final)
+read_told answer told whole left final read same kept few says =
+    if_some (λ text. Says answer text (prepend_known read left)) (λ text. IsRead (Says answer text) final) told
+    (λ text said. record { read = read; few = few; says = subst (λ (o : Option (List ℕ)). Says answer text (prepend_known read o)) (sym kept) said })
+    (subst (λ (o : Option (List ℕ)). IfSome o (λ text. Says answer text (prepend_known read left))) same says)
+
+module _ {before after : SourceView} where
+  head_tells : (f : TraceFault) → IfSome before.left (λ text. IsRead (Says (Err f) text) after.left) → CountsBy (Err f) before.failures after.failures
+      → CheckTells before after (fault_status f) (fault_told f)
+  head_tells (fault.Line n cause) means counts = faulty n cause counts (if_some _ _ before.left (λ text r. r.says) means)
+  head_tells fault.Unfinished means counts = unfinished counts (if_some _ _ before.left (λ text r. (r.says.0, at_end r.read after.left r.says.1)) means)
+  head_tells fault.ReadFault means counts = unread counts (if_some _ _ before.left (λ text r. record { read = r.read; few = r.few; says = inl r.says }) means)
+  head_tells fault.NoMemory means counts = no_memory counts
+
+  verdict_tells : (verdict : Result Verdict CheckFault) → IfSome before.left (λ text. IsRead (Says (Ok verdict) text) after.left) → CountsBy (Ok verdict) before.failures after.failures
+      → CheckTells before after (verdict_status verdict) (verdict_text verdict)
+  verdict_tells (Ok (Legal n)) says counts =
+      answered _ _ counts (legal n (if_some _ _ before.left (λ text r. (record { config = r.says.config; log = r.says.log; head = r.says.head; said = r.says.said.0 }, at_end r.read after.left r.says.said.1)) says))
+  verdict_tells (Ok (Fault n)) says counts = answered _ _ counts (at_fault n (if_some _ _ before.left (λ text r. r.says) says))
+  verdict_tells (Err TooMany) says counts = answered _ _ counts (too_long (if_some _ _ before.left (λ text r. r.says) says))
+  verdict_tells (Err ReadFault) says counts = unread counts (if_some _ _ before.left (λ text r. record { read = r.read; few = r.few; says = inr r.says }) says)
+  verdict_tells (Err NoMemory) says counts = no_memory counts
+
+  -- the outcome of a trace that gives no configuration, and that of a log
+  pub concludes_fault : {sink sink' : SinkView} {result : ℕ} (f : TraceFault) → IfSome before.left (λ text. IsRead (Says (Err f) text) after.left)
+      → CountsBy (Err f) before.failures after.failures → Ends sink sink' (fault_status f) (fault_told f) result → Concludes (CheckTells before after) sink sink' result
+  concludes_fault f means counts ends = record { status = fault_status f; text = fault_told f; tells_it = head_tells f means counts; ends = ends }
+
+  pub concludes_verdict : {sink sink' : SinkView} {result : ℕ} (verdict : Result Verdict CheckFault) → IfSome before.left (λ text. IsRead (Says (Ok verdict) text) after.left)
+      → CountsBy (Ok verdict) before.failures after.failures → Ends sink sink' (verdict_status verdict) (verdict_text verdict) result → Concludes (CheckTells before after) sink sink' result
+  concludes_verdict verdict says counts ends = record { status = verdict_status verdict; text = verdict_text verdict; tells_it = verdict_tells verdict says counts; ends = ends }

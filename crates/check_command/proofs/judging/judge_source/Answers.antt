@@ -1,0 +1,10 @@
+use Rattle.std.proofs.Common.{rules}
+use Rattle.line_source.specs.BytesLeft.{bytes_left, pending}
+use Rattle.check_command.proofs.Verdicts.{read_told}
+use Rattle.check_command.proofs.judging.judge_source.Goals as goal
+
+pub returns-clause-text : goal.returns-clause-text
+returns-clause-text g c =
+    let lines = c.judge_lines-answer.new.lines in
+    read_told c.judge_lines-answer.result (g.S.Source.left c.args.source.now) (bytes_left g.S.Source.left c.new-lines.result) (g.S.Source.left lines.source.now) _ (pending lines.buffer lines.next lines.filled)
+    c.new-lines.ensures.left (search rules) c.let_go.ensures.few c.judge_lines-answer.ensures.text

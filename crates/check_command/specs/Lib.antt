@@ -1,0 +1,4 @@
+pub mod CheckText
+pub mod Answers
+pub mod CheckTells
+pub mod Verdicts

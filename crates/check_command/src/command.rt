@@ -1,0 +1,70 @@
+ghost use Rattle.std.specs.Prelude.{◌≡◌, ◌≢◌, ◌⊎◌, ◌≤◌};
+ghost use Rattle.outside_io.specs.Causes.{Rose};
+ghost use Rattle.outside_io.specs.Views.{sink_view, source_view};
+ghost use Rattle.program_ends.specs.Concludes.{Concludes, HasTold, WasCut};
+ghost use Rattle.program_ends.specs.Ends.{Ends};
+ghost use Rattle.check_command.specs.CheckTells.{CheckTells, HasCheckInput};
+ghost use Rattle.check_command.specs.Verdicts.{verdict_status, verdict_text};
+
+use crate::ending::{end_at_fault, end_legal, end_too_long};
+use crate::judging::judge_source;
+use log_check::{CheckFault, Verdict};
+use outside_io::{Sink, Source};
+use program_ends::{Status, end_fault, end_with};
+use std::alloc::Global;
+
+// Writes the verdict, or why there is none, and the status.
+fn end_verdict<K: Sink>(verdict: Result<Verdict, CheckFault>, sink: &mut K) -> Status
+    ensures { Ends (sink_view (K.taken sink.old) (K.faults sink.old) (K.stalls sink.old))
+        (sink_view (K.taken sink.new) (K.faults sink.new) (K.stalls sink.new)) (verdict_status verdict) (verdict_text verdict) result.0 }
+{
+    match verdict {
+        Ok(Verdict::Legal(entries)) => end_legal(entries, sink),
+        Ok(Verdict::Fault(number)) => end_at_fault(number, sink),
+        Err(CheckFault::TooMany) => end_too_long(sink),
+        Err(CheckFault::ReadFault) => end_with(3, sink),
+        Err(CheckFault::NoMemory) => end_with(7, sink),
+    }
+}
+
+// The outcome of the command.
+fn conclude<S: Source, K: Sink>(alloc: Global, source: &mut S, sink: &mut K) -> Status
+    ensures outcome { Concludes (CheckTells (source_view (S.left source.old) (S.faults source.old)) (source_view (S.left source.new) (S.faults source.new)))
+        (sink_view (K.taken sink.old) (K.faults sink.old) (K.stalls sink.old)) (sink_view (K.taken sink.new) (K.faults sink.new) (K.stalls sink.new)) result.0 }
+    ensures faults_later { S.faults source.old ≤ S.faults source.new }
+{
+    match judge_source(alloc, source) {
+        Ok(verdict) => end_verdict(verdict, sink),
+        Err(fault) => end_fault(fault, sink),
+    }
+}
+
+/// Reads a trace up to its line END, and behind a line `LOG` a log to the end of the input, runs nothing,
+/// and writes whether the log is legal: `LOG OK` with how many entries it has, and status 0; `LOG FAULT`
+/// with the number of the first line of the log, from 1, that isn't a legal next line, and status 8; or
+/// `LOG TOOMANY` if it goes on after 16777216 legal lines, and status 2. The status line follows. Each line is
+/// one write of a whole text. The status is 2 too if the trace is faulty or unfinished, with the line that
+/// says so; 3 only if a read failed, 4 only if a write failed or took nothing, 7 if memory ran out.
+pub fn check<S: Source, K: Sink>(alloc: Global, source: &mut S, sink: &mut K) -> Status
+    // A status with the text that goes with it, and how the text was written.
+    ensures outcome { Concludes (CheckTells (source_view (S.left source.old) (S.faults source.old)) (source_view (S.left source.new) (S.faults source.new)))
+        (sink_view (K.taken sink.old) (K.faults sink.old) (K.stalls sink.old)) (sink_view (K.taken sink.new) (K.faults sink.new) (K.stalls sink.new)) result.0 }
+    // So with every status but 4 what was written is the text that goes with it, and no count of the
+    // sink changed.
+    ensures told { result.0 ≢ 4 → HasTold (CheckTells (source_view (S.left source.old) (S.faults source.old)) (source_view (S.left source.new) (S.faults source.new)))
+        (sink_view (K.taken sink.old) (K.faults sink.old) (K.stalls sink.old)) (sink_view (K.taken sink.new) (K.faults sink.new) (K.stalls sink.new)) result.0 }
+    ensures unfailed { result.0 ≢ 4 → (K.faults sink.new ≡ K.faults sink.old) × (K.stalls sink.new ≡ K.stalls sink.old) }
+    // With status 4 it is a proper prefix of a text that goes with another status.
+    ensures cut { result.0 ≡ 4 → WasCut (CheckTells (source_view (S.left source.old) (S.faults source.old)) (source_view (S.left source.new) (S.faults source.new)))
+        (sink_view (K.taken sink.old) (K.faults sink.old) (K.stalls sink.old)) (sink_view (K.taken sink.new) (K.faults sink.new) (K.stalls sink.new)) }
+    ensures read_fault { result.0 ≡ 3 → Rose (S.faults source.old) (S.faults source.new) }
+    ensures write_fault { result.0 ≡ 4 → Rose (K.faults sink.old) (K.faults sink.new) ⊎ Rose (K.stalls sink.old) (K.stalls sink.new) }
+    // If the input is a trace and a log that isn't too long, and no count rises, there is a verdict on the log,
+    // or memory ran out.
+    ensures complete { HasCheckInput (source_view (S.left source.old) (S.faults source.old))
+        → (Rose (S.faults source.old) (S.faults source.new) → ⊥) → (Rose (K.faults sink.old) (K.faults sink.new) → ⊥)
+        → (Rose (K.stalls sink.old) (K.stalls sink.new) → ⊥) → (result.0 ≡ 0) ⊎ ((result.0 ≡ 8) ⊎ (result.0 ≡ 7)) }
+    ensures faults_later { S.faults source.old ≤ S.faults source.new }
+{
+    conclude(alloc, source, sink)
+}

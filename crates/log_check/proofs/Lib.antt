@@ -1,0 +1,10 @@
+mod Answered
+mod Changeable
+mod Entered
+mod FirstLines
+mod Led
+mod Logs
+mod Numbered
+mod Read
+mod Silent
+mod TextFronts

@@ -1,0 +1,24 @@
+use Rattle.std.proofs.Common.{arith}
+use Rattle.std.proofs.lemmas.Result.{err_from_is_err_and}
+use Rattle.line_source.specs.BytesLeft.{bytes_left}
+use Rattle.log_check.proofs.Logs.{log_ended, log_judged, log_unbegun}
+use Rattle.log_check.proofs.check.check_log.Goals as goal
+
+pub returns-in_err-followed-clause-text : goal.returns-in_err-followed-clause-text
+returns-in_err-followed-clause-text g c =
+    let p = err_from_is_err_and c.from_residual.result c.from_residual.ensures.1 in
+    log_unbegun c.args.config.now (bytes_left g.S.Source.left c.args.lines.now) c.from_residual.result p.0 p.1 p.2
+
+pub returns-in-Ok-Judged-clause-text : goal.returns-in-Ok-Judged-clause-text
+returns-in-Ok-Judged-clause-text g c =
+    log_judged c.args.config.now (bytes_left g.S.Source.left c.args.lines.now) (bytes_left g.S.Source.left c.lines.lines) (bytes_left g.S.Source.left c.take_next.new.lines)
+    c.lines.followed c.take_next.new.followed c.lines.place c.lines.count c.in-Ok-Judged.field-0 c.in-Ok-Judged.verdict
+    c.lines.invariant.read c.in-Ok-Judged.ensures.text c.in-Ok-Judged.field-0-is c.lines.invariant.config
+
+pub returns-clause-text : goal.returns-clause-text
+returns-clause-text g c =
+    let most = c.lines.invariant.most in
+    let over = c.lines-test.false in
+    log_ended c.args.config.now (bytes_left g.S.Source.left c.args.lines.now) (bytes_left g.S.Source.left c.lines.lines) (bytes_left g.S.Source.left c.judge_last.new.lines)
+    c.lines.followed c.lines.place c.lines.count c.judge_last.result
+    c.lines.invariant.read c.judge_last.ensures.text (omega (arith, most, over)) c.lines.invariant.config

@@ -1,0 +1,19 @@
+use Rattle.std.proofs.Common.{◌≡◌, ◌≤◌, length}
+use Rattle.std.specs.Prelude.{IfSome, IsSome}
+use Rattle.line_source.specs.BytesLeft.{bytes_left}
+use Rattle.log_check.specs.Followed.{IsFollowed}
+use Rattle.log_check.specs.Reading.{HasRead}
+use Rattle.log_check.proofs.check.check_log.Given as goal
+
+-- so many lines are legal, and what stands for them is kept
+abbrev pub invariant-lines : goal.invariant-lines
+invariant-lines g l = record {
+  same_reference : l.lines.source.ghost_name ≡ l.fn.lines.source.ghost_name;
+  followed : IsFollowed l.followed;
+  config : l.followed.past.config ≡ l.fn.config;
+  fewer : length l.followed.past.past ≤ l.count;
+  most : l.count ≤ 16777216;
+  read : IfSome (bytes_left g.S.Source.left l.fn.lines) (λ text. HasRead text l.followed.past l.place l.count (bytes_left g.S.Source.left l.lines));
+  still_told : IsSome (g.S.Source.left l.fn.lines.source.now) → IsSome (g.S.Source.left l.lines.source.now);
+  faults : g.S.Source.faults l.lines.source.now ≡ g.S.Source.faults l.fn.lines.source.now;
+}

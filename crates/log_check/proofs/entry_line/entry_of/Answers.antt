@@ -1,0 +1,7 @@
+use Rattle.log_check.proofs.Numbered.{its_line}
+use Rattle.log_check.proofs.entry_line.entry_of.Goals as goal
+
+pub returns-in-Ok : goal.returns-in-Ok
+returns-in-Ok c =
+    c.numbered.ensures c.args.config.now c.args.line.now c.requires
+    (its_line c.args.config.now c.items.result.now c.items-2.result.now c.args.line.now c.in-Ok.n c.in-Ok.e c.items.ensures c.items-2.ensures c.in-Ok.ensures.line)

@@ -1,0 +1,53 @@
+-- A log that is read line by line. This project's own.
+use Rattle.std.specs.Prelude.{◌≡◌, ℕ, ◌+◌, ◌≤◌, List, [], Option, Some, Result, Ok, Err, length}
+use Rattle.log_past.specs.Standing.{Passed}
+use Rattle.log_model.specs.Log.{BeginsLegal, most_lines}
+use Rattle.log_model.specs.Stand.{Stand}
+use Rattle.log_check.specs.declared.check.Step.{Step}
+use Rattle.log_check.specs.declared.check.Step.TheVariants as step
+use Rattle.log_check.specs.declared.check_fault.CheckFault.{CheckFault}
+use Rattle.log_check.specs.declared.followed.Followed.{Followed}
+use Rattle.log_check.specs.declared.place.Place.{Place}
+use Rattle.log_check.specs.declared.place.Place.TheVariants.{Ending}
+use Rattle.log_check.specs.declared.verdict.Verdict.{Verdict}
+use Rattle.log_check.specs.declared.verdict.Verdict.TheVariants.{Fault, Legal}
+use Rattle.log_check.specs.Followed.{IsFollowed}
+use Rattle.log_check.specs.Judged.{Judges}
+use Rattle.log_check.specs.Leading.{StandsAt}
+
+-- so many lines of the text are legal, the next one stands at this place, and this is left
+pub record HasRead (text : List ℕ) (s : Passed) (place : Place) (count : ℕ) (left : Option (List ℕ)) : Type 0 where
+  pub stand : Stand
+  pub rest : List ℕ
+  pub legal : BeginsLegal s.config text count stand rest
+  pub stands : StandsAt s place stand
+  pub left_over : left ≡ Some rest
+
+-- the next line was read: it is legal, or the log is judged, or it can't be
+abbrev pub IsAnswer : List ℕ → Followed → Followed → ℕ → Option (List ℕ) → Result Step CheckFault → Type 0
+IsAnswer text old new count left (Ok (step.On next)) = HasRead text new.past next (count + 1) left
+IsAnswer text old new count left (Ok (step.Judged v)) = Judges old.past.config (Ok v) text left
+IsAnswer text old new count left (Err f) = Judges old.past.config (Err f) text left
+
+-- whichever text it was
+abbrev pub AnswersNext : Followed → Place → ℕ → Option (List ℕ) → Followed → Option (List ℕ) → Result Step CheckFault → Type 0
+AnswersNext old place count left new later answer = (text : List ℕ) → HasRead text old.past place count left → IsAnswer text old new count later answer
+
+-- behind as many lines as a log may have
+abbrev pub AnswersLast : Passed → Place → Option (List ℕ) → Option (List ℕ) → Result Verdict CheckFault → Type 0
+AnswersLast s place left later answer = (text : List ℕ) → HasRead text s place most_lines left → Judges s.config answer text later
+
+-- what is known as long as the lines are legal
+pub record IsOn (old new : Followed) (count : ℕ) : Type 0 where
+  pub followed : IsFollowed new
+  pub config : new.past.config ≡ old.past.config
+  pub fewer : length new.past.past ≤ count + 1
+
+abbrev pub GoesOn : Followed → Followed → ℕ → Step → Type 0
+GoesOn old new count (step.On next) = IsOn old new count
+GoesOn old new count (step.Judged v) = Unit {0}
+
+-- what is said where the log ends at this place
+abbrev pub IsEndOf : Place → ℕ → Verdict → Type 0
+IsEndOf (Ending n []) lines v = v ≡ Legal n
+IsEndOf other lines v = v ≡ Fault (lines + 1)

@@ -1,0 +1,28 @@
+-- Entries beside the flat machine. This project's own.
+use Rattle.std.specs.Prelude.{ℕ, Bool, true, false, ◌<◌, length}
+use Rattle.vm_types.specs.WellFormed.{IsWellFormedReference, IsWellFormedService}
+use Rattle.vm_types.specs.declared.config.Config.{Config}
+use Rattle.vm_journal.specs.declared.entry.What.{What}
+use Rattle.vm_journal.specs.declared.entry.What.TheVariants as what
+use Rattle.pager_model.specs.Flat.{FlatState}
+use Rattle.pager_model.specs.Spoken.{ShowsReply, flat_entry}
+use Rattle.flat_model.specs.FlatMachine.{IsFlat}
+use Rattle.flat_model.specs.declared.flat.Flat.{Flat}
+
+-- its reference or its service is well formed
+abbrev pub CanAnswer : What → Type 0
+CanAnswer (what.Done r reply) = IsWellFormedReference r
+CanAnswer (what.Served s answer) = IsWellFormedService s
+CanAnswer other = Unit {0}
+
+-- a service is of one of the configuration's processes
+abbrev pub IsOfProcess : Config → ℕ → What → Type 0
+IsOfProcess config p (what.Served s answer) = p < length config.procs
+IsOfProcess config p other = Unit {0}
+
+-- of whichever configuration and state the machine stood for: the entry shows the flat reply, and the machine
+-- stands for the state after it; or it doesn't show that
+abbrev pub ShowsAsFlat : Flat → Flat → ℕ → What → Bool → Type 0
+ShowsAsFlat old new p w true =
+    (config : Config) (state : FlatState) → IsFlat config state old → IsOfProcess config p w → ShowsReply config state p w × IsFlat config (flat_entry config state p w) new
+ShowsAsFlat old new p w false = (config : Config) (state : FlatState) → IsFlat config state old → ShowsReply config state p w → ⊥

@@ -1,0 +1,137 @@
+ghost use Rattle.std.specs.Prelude.{◌≡◌, ◌+◌, ◌≤◌, ◌<◌, IfOk, IfSome, IsSome, length};
+ghost use Rattle.vm_types.specs.Configuration.{IsWellFormed};
+ghost use Rattle.line_source.specs.BytesLeft.{bytes_left};
+ghost use Rattle.log_check.specs.Followed.{IsFollowed};
+ghost use Rattle.log_check.specs.Judged.{CountsBy, Judges};
+ghost use Rattle.log_check.specs.Reading.{AnswersLast, AnswersNext, GoesOn, IsEndOf};
+
+use crate::check_fault::CheckFault;
+use crate::followed::Followed;
+use crate::place::Place;
+use crate::turning::take;
+use crate::verdict::Verdict;
+use arrayvec::ArrayVec;
+use line_source::{Line, Lines};
+use log_laws::legal_lines_are_short;
+use outside_io::Source;
+use std::alloc::Global;
+use vm_types::Config;
+
+/// How many lines a log may have.
+const MOST_LINES: u32 = 1 << 24;
+
+/// What the next line is.
+#[derive(Drop)]
+enum Step {
+    /// A legal next one, behind which a line stands here.
+    On(Place),
+    /// The log is judged.
+    Judged(Verdict),
+}
+
+/// What is said where a log ends behind so many lines, all of them legal.
+fn end_of(place: &Place, lines: u32) -> Verdict
+    requires { lines ≤ 16777216 }
+    ensures { IsEndOf place.now lines result }
+{
+    match place {
+        Place::Ending(entries, left) => {
+            if left.is_empty() {
+                Verdict::Legal(*entries)
+            } else {
+                Verdict::Fault(lines + 1)
+            }
+        }
+        Place::Entries => Verdict::Fault(lines + 1),
+        Place::Report(_) => Verdict::Fault(lines + 1),
+        Place::Rundown(_) => Verdict::Fault(lines + 1),
+    }
+}
+
+/// Reads the next line behind so many legal ones.
+fn take_next<S: Source>(
+    alloc: Global,
+    followed: &mut Followed<'_>,
+    place: Place,
+    lines: &mut Lines<'_, S>,
+    out: &mut ArrayVec<u8, 256>,
+    count: u32,
+) -> Result<Step, CheckFault>
+    requires followed { IsFollowed followed.old }
+    requires few { count < 16777216 }
+    requires fewer { length followed.old.past.past ≤ count }
+    ensures text { AnswersNext followed.old place count (bytes_left S.left lines.old) followed.new (bytes_left S.left lines.new) result }
+    ensures on { IfOk result (GoesOn followed.old followed.new count) }
+    ensures told { IsSome (S.left lines.old.source.now) → IsSome (S.left lines.new.source.now) }
+    ensures faults { CountsBy result (S.faults lines.old.source.now) (S.faults lines.new.source.now) }
+    ensures faults_later { S.faults lines.old.source.now ≤ S.faults lines.new.source.now }
+    ensures same_reference { lines.new.source.ghost_name ≡ lines.old.source.ghost_name }
+{
+    match lines.next(out) {
+        Ok(Line::Text { ended: true }) => match take(alloc, followed, place, out.as_slice()) {
+            Ok(Some(next)) => Ok(Step::On(next)),
+            Ok(None) => Ok(Step::Judged(Verdict::Fault(count + 1))),
+            Err(_) => Err(CheckFault::NoMemory),
+        },
+        Ok(Line::Text { ended: false }) => Ok(Step::Judged(Verdict::Fault(count + 1))),
+        Ok(Line::Long) => {
+            legal_lines_are_short();
+            Ok(Step::Judged(Verdict::Fault(count + 1)))
+        }
+        Ok(Line::End) => Ok(Step::Judged(end_of(&place, count))),
+        Err(_) => Err(CheckFault::ReadFault),
+    }
+}
+
+/// What is said behind as many legal lines as a log may have.
+fn judge_last<S: Source>(
+    followed: &Followed<'_>,
+    place: &Place,
+    lines: &mut Lines<'_, S>,
+    out: &mut ArrayVec<u8, 256>,
+) -> Result<Verdict, CheckFault>
+    ensures text { AnswersLast followed.now.past place.now (bytes_left S.left lines.old) (bytes_left S.left lines.new) result }
+    ensures told { IsSome (S.left lines.old.source.now) → IsSome (S.left lines.new.source.now) }
+    ensures faults { CountsBy result (S.faults lines.old.source.now) (S.faults lines.new.source.now) }
+    ensures faults_later { S.faults lines.old.source.now ≤ S.faults lines.new.source.now }
+    ensures same_reference { lines.new.source.ghost_name ≡ lines.old.source.ghost_name }
+{
+    match lines.next(out) {
+        Ok(Line::End) => Ok(end_of(place, MOST_LINES)),
+        Ok(Line::Text { ended: _ }) => Err(CheckFault::TooMany),
+        Ok(Line::Long) => Err(CheckFault::TooMany),
+        Err(_) => Err(CheckFault::ReadFault),
+    }
+}
+
+/// Whether the lines are a legal log of a configuration, up to the first that isn't a legal next one or
+/// to their end. The time for a line doesn't grow with the log, and of its lines none is kept.
+///
+/// # Errors
+/// `ReadFault` only if the source's count of failures rose; the lines taken before are legal. `NoMemory`
+/// if memory ran out, at most one line behind legal ones. `TooMany` if as many lines as a log may have
+/// are legal, and a byte follows.
+pub fn check_log<S: Source>(
+    alloc: Global,
+    config: &Config,
+    lines: &mut Lines<'_, S>,
+) -> Result<Verdict, CheckFault>
+    requires formed { IsWellFormed config.now }
+    ensures text { IfSome (bytes_left S.left lines.old) (λ text. Judges config.now result text (bytes_left S.left lines.new)) }
+    ensures told { IsSome (S.left lines.old.source.now) → IsSome (S.left lines.new.source.now) }
+    ensures faults { CountsBy result (S.faults lines.old.source.now) (S.faults lines.new.source.now) }
+    ensures faults_later { S.faults lines.old.source.now ≤ S.faults lines.new.source.now }
+    ensures same_reference { lines.new.source.ghost_name ≡ lines.old.source.ghost_name }
+{
+    let mut followed = Followed::new(alloc, config)?;
+    let mut place = Place::Entries;
+    let mut out = ArrayVec::new();
+    'lines: for count in 0..MOST_LINES {
+        match take_next(alloc, &mut followed, place, lines, &mut out, count) {
+            Ok(Step::On(next)) => place = next,
+            Ok(Step::Judged(verdict)) => return Ok(verdict),
+            Err(fault) => return Err(fault),
+        }
+    }
+    judge_last(&followed, &place, lines, &mut out)
+}

@@ -1,0 +1,78 @@
+ghost use Rattle.std.specs.Prelude.{◌≡◌, ◌+◌, ◌<◌, ◌^◌, [], IfOk, OnOk, length};
+ghost use Rattle.vm_types.specs.Configuration.{IsWellFormed};
+ghost use Rattle.log_pager.specs.Shown.{shown};
+ghost use Rattle.log_rows.specs.Follows.{Follows};
+
+use crate::changes::change;
+use crate::replies::shows_reply;
+use flat_model::Flat;
+use log_pager::LogPager;
+use log_past::LogPast;
+use log_rows::is_legal;
+use std::alloc::Global;
+use vm_journal::Entry;
+use vm_types::{Config, NoMemory};
+
+/// What stands for the entries of a log so far: what its rows ask of them, the pager's state after
+/// them, and the flat machine after them.
+#[derive(Drop)]
+pub(crate) struct Followed<'a> {
+    pub(crate) past: LogPast<'a>,
+    pub(crate) pager: LogPager,
+    pub(crate) flat: Flat,
+}
+
+impl<'a> Followed<'a> {
+    ghost use Rattle.log_check.specs.Followed.{IsAdded, IsEntered, IsFollowed, MayStep};
+
+    /// No entries.
+    ///
+    /// # Errors
+    /// `NoMemory` if out of memory.
+    pub(crate) fn new(alloc: Global, config: &'a Config) -> Result<Followed<'a>, NoMemory>
+        requires { IsWellFormed config.now }
+        ensures followed { IfOk result IsFollowed }
+        ensures past { IfOk result (λ f. f.past ≡ record { config = config.now; past = [] }) }
+    {
+        let past = LogPast::new(alloc, config)?;
+        let pager = LogPager::new(alloc, config)?;
+        let flat = Flat::new(alloc, config)?;
+        Ok(Followed { past, pager, flat })
+    }
+
+    /// Goes on with a legal entry; the flat machine stays as it is.
+    fn add(&mut self, e: Entry) -> Result<(), NoMemory>
+        requires follows { Follows self.old.past.config self.old.past.past (shown self.old.pager) }
+        requires legal { MayStep self.old e }
+        requires few { length self.old.past.past + 1 < 2 ^ 48 }
+        ensures { OnOk result (IsAdded self.old e self.new) }
+    {
+        change(&mut self.pager, &self.past, e.seat, e.what)?;
+        self.past.add(e)?;
+        Ok(())
+    }
+
+    /// Goes on with an entry, if it is a legal next one, keeps the order of its process's requests and
+    /// shows the flat machine's reply if it is a DONE, and says whether it is so. If it isn't, this is
+    /// not to be used again.
+    ///
+    /// # Errors
+    /// `NoMemory` if out of memory; this is then not to be used again.
+    pub(crate) fn enter(&mut self, e: Entry) -> Result<bool, NoMemory>
+        requires followed { IsFollowed self.old }
+        requires few { length self.old.past.past + 1 < 2 ^ 48 }
+        ensures { IfOk result (IsEntered self.old e self.new) }
+    {
+        if !is_legal(&self.past, &self.pager, e) {
+            return Ok(false);
+        }
+        if !self.past.keeps_order(e) {
+            return Ok(false);
+        }
+        if !shows_reply(&mut self.flat, e)? {
+            return Ok(false);
+        }
+        self.add(e)?;
+        Ok(true)
+    }
+}

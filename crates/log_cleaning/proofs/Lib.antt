@@ -1,0 +1,6 @@
+mod Choices
+mod Clusters
+mod FreeBlocks
+mod Leads
+mod Ranges
+mod SharedPlaces

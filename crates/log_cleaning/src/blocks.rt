@@ -1,0 +1,135 @@
+ghost use Rattle.std.specs.Prelude.{◌≡◌, ◌+◌, Some, nat_eq};
+ghost use Rattle.vm_types.specs.declared.names.BlockId.TheVariants.{PageFile};
+ghost use Rattle.pager_model.specs.InTurn.{is_next_block};
+ghost use Rattle.pager_model.specs.WriteCluster.{block_out, if_next, is_free_block, lowest_free, new_block};
+ghost use Rattle.log_pager.specs.Shown.{shown};
+
+use log_pager::LogPager;
+use vm_types::{BlockId, Config, Page};
+
+/// Whether a number is the one after another.
+fn is_next(m: u32, n: u32) -> bool
+    ensures { result ≡ nat_eq n (m + 1) }
+{
+    m < n && n - m == 1
+}
+
+/// Whether a block is the one after another: of the page file, of one process's swap blocks, or of one
+/// section.
+fn is_next_block(b: BlockId, c: BlockId) -> bool
+    ensures { result ≡ is_next_block b c }
+{
+    match b {
+        BlockId::Section(s, i) => match c {
+            BlockId::Section(t, j) => s.0 == t.0 && is_next(i, j),
+            BlockId::PageFile(_) => false,
+            BlockId::Swap(..) => false,
+        },
+        BlockId::PageFile(m) => match c {
+            BlockId::Section(..) => false,
+            BlockId::PageFile(n) => is_next(m, n),
+            BlockId::Swap(..) => false,
+        },
+        BlockId::Swap(p, m) => match c {
+            BlockId::Section(..) => false,
+            BlockId::PageFile(_) => false,
+            BlockId::Swap(q, n) => p.0 == q.0 && is_next(m, n),
+        },
+    }
+}
+
+/// A block that is fixed, if it is the one after the last block, or there is no last one.
+fn if_next(last: Option<BlockId>, b: BlockId) -> Option<BlockId>
+    ensures { result ≡ if_next last b }
+{
+    match last {
+        Some(l) => { if is_next_block(l, b) { Some(b) } else { None } }
+        None => Some(b),
+    }
+}
+
+/// Whether a block of the page file exists and is free.
+fn is_free_block(config: &Config, pager: &LogPager, n: u32) -> bool
+    ensures { result ≡ is_free_block config.now (shown pager.now).pager n }
+{
+    n < config.pagefile && pager.owners(BlockId::PageFile(n)) == 0
+}
+
+/// The lowest block of the page file that is free.
+fn lowest_free(config: &Config, pager: &LogPager) -> Option<BlockId>
+    ensures { result ≡ lowest_free config.now (shown pager.now).pager }
+{
+    for n in 0..config.pagefile {
+        if is_free_block(config, pager, n) {
+            return Some(BlockId::PageFile(n));
+        }
+    }
+    None
+}
+
+/// The block of the page file after this one, if it exists and is free.
+fn free_after(config: &Config, pager: &LogPager, n: u32) -> Option<BlockId>
+    ensures { result ≡ new_block config.now (shown pager.now).pager (Some (PageFile n)) }
+{
+    if n >= config.pagefile {
+        return None;
+    }
+    let next = n + 1;
+    if is_free_block(config, pager, next) {
+        Some(BlockId::PageFile(next))
+    } else {
+        None
+    }
+}
+
+/// The block that a page without one takes: the lowest free block if there is no last block, else the
+/// one after a last block of the page file, if it exists and is free.
+fn new_block(config: &Config, pager: &LogPager, last: Option<BlockId>) -> Option<BlockId>
+    ensures { result ≡ new_block config.now (shown pager.now).pager last }
+{
+    match last {
+        Some(b) => match b {
+            BlockId::Section(..) => None,
+            BlockId::PageFile(n) => free_after(config, pager, n),
+            BlockId::Swap(..) => None,
+        },
+        None => lowest_free(config, pager),
+    }
+}
+
+/// The block to which a page of the modified list is written behind the last block of a cluster; none if
+/// it doesn't adjoin that one.
+fn page_block(
+    config: &Config,
+    pager: &LogPager,
+    last: Option<BlockId>,
+    page: Page,
+) -> Option<BlockId>
+    ensures { result ≡ block_out config.now (shown pager.now).pager last (Some page) }
+{
+    match page {
+        Page::Private(..) => match pager.block_of(page) {
+            Some(n) => if_next(last, BlockId::PageFile(n)),
+            None => new_block(config, pager, last),
+        },
+        Page::Shared(..) => match pager.lies(page) {
+            Some(b) => if_next(last, b),
+            None => None,
+        },
+    }
+}
+
+/// The same of a page that a frame may hold; none if it holds none.
+pub(crate) fn block_out(
+    config: &Config,
+    pager: &LogPager,
+    last: Option<BlockId>,
+    page: Option<Page>,
+) -> Option<BlockId>
+    ensures { result ≡ block_out config.now (shown pager.now).pager last page }
+{
+    match page {
+        Some(page) => page_block(config, pager, last, page),
+        None => None,
+    }
+}

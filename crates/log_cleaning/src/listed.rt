@@ -1,0 +1,27 @@
+ghost use Rattle.std.specs.Prelude.{◌≡◌};
+ghost use Rattle.pager_model.specs.Rundown.{holds_shared, is_shared_listed};
+ghost use Rattle.log_pager.specs.Shown.{shown};
+
+use crate::seen::is_shared;
+use log_pager::LogPager;
+use vm_types::Pfn;
+
+/// Whether a frame holds a shared page.
+fn holds_shared(pager: &LogPager, f: Pfn) -> bool
+    ensures { result ≡ holds_shared ((shown pager.now).pager.page f.0) }
+{
+    match pager.page(f) {
+        Some(page) => is_shared(page),
+        None => false,
+    }
+}
+
+/// Whether a frame on the modified list holds a shared page.
+pub(crate) fn is_shared_listed(pager: &LogPager) -> bool
+    ensures { result ≡ is_shared_listed (shown pager.now).pager }
+{
+    pager
+        .modified_list()
+        .iter()
+        .any(|f| holds_shared(pager, Pfn(*f)))
+}

@@ -1,0 +1,5 @@
+mod DirtyFound
+mod PagesAdded
+mod ShownReport
+mod SmallCounts
+mod WholeText

@@ -1,0 +1,3 @@
+pub mod EndStatus
+pub mod SharedPages
+pub mod ShownRun

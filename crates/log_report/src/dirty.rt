@@ -1,0 +1,108 @@
+//! The pages of shared sections that are held with modify set.
+
+ghost use Rattle.std.specs.Prelude.{◌≡◌, ◌≤◌, ◌++◌, ◌&&◌, All, IfOk, OnOk, filter, length};
+ghost use Rattle.vm_types.specs.Configuration.{IsWellFormed, section_pages};
+ghost use Rattle.vm_types.specs.Same.{same_page};
+ghost use Rattle.vm_types.specs.declared.config.Section.{Section as SectionOf};
+ghost use Rattle.pager_model.specs.Forget.{holds_page};
+ghost use Rattle.pager_model.specs.Text.{dirty_pages, is_dirty, pages_from};
+ghost use Rattle.log_pager.specs.Shown.{shown};
+ghost use Rattle.log_report.specs.SharedPages.{shared_pages_of};
+
+use log_pager::LogPager;
+use std::alloc::Global;
+use vm_types::{Config, NoMemory, Page, Pfn, SecId, Section};
+
+/// Whether both are the same page.
+fn is_same(one: Page, other: Page) -> bool
+    ensures { result ≡ same_page one other }
+{
+    match (one, other) {
+        (Page::Private(p, v), Page::Private(q, w)) => p.0 == q.0 && v == w,
+        (Page::Shared(s, i), Page::Shared(t, j)) => s.0 == t.0 && i == j,
+        (Page::Private(_, _), Page::Shared(_, _)) | (Page::Shared(_, _), Page::Private(_, _)) =>
+            false,
+    }
+}
+
+/// Whether this is the page that is held.
+fn holds(page: Page, held: Option<Page>) -> bool
+    ensures { result ≡ holds_page page held }
+{
+    match held {
+        None => false,
+        Some(other) => is_same(other, page),
+    }
+}
+
+/// Whether a frame holds the page with modify set.
+fn is_dirty_in(pager: &LogPager, page: Page, f: Pfn) -> bool
+    ensures { result ≡ (holds_page page ((shown pager.now).pager.page f.0) && (shown pager.now).pager.modify f.0) }
+{
+    holds(page, pager.page(f)) && pager.is_modified(f)
+}
+
+/// Whether some frame holds the page with modify set.
+fn is_dirty(config: &Config, pager: &LogPager, page: Page) -> bool
+    ensures { result ≡ is_dirty config.now (shown pager.now).pager page }
+{
+    for f in 0..config.frames {
+        if is_dirty_in(pager, page, Pfn(f)) {
+            return true;
+        }
+    }
+    false
+}
+
+/// Adds the pages of a section, if it is a shared one.
+fn add_pages(s: SecId, section: &Section, pages: &mut Vec<Page>) -> Result<(), NoMemory>
+    requires { section_pages section.now ≤ 16384 }
+    ensures { OnOk result (pages.new.items ≡ pages.old.items ++ shared_pages_of s.0 section.now) }
+{
+    if !section.shared {
+        return Ok(());
+    }
+    let bytes = section.bytes.items();
+    for i in 0..(bytes.len() / 512) as u32 {
+        pages.push(Page::Shared(s, i))?;
+    }
+    Ok(())
+}
+
+/// The pages of shared sections, in order of section and page.
+fn shared_pages(alloc: Global, sections: &[Section]) -> Result<Vec<Page>, NoMemory>
+    requires few { length sections.now ≤ 64 }
+    requires small { All (λ (section : SectionOf). section_pages section ≤ 16384) sections.now }
+    ensures { IfOk result (λ pages. pages.items ≡ pages_from 0 sections.now) }
+{
+    let mut pages = Vec::new(alloc);
+    for (s, section) in sections.iter().enumerate() {
+        add_pages(SecId(s as u32), section, &mut pages)?;
+    }
+    Ok(pages)
+}
+
+/// Takes the pages away that aren't held with modify set.
+fn keep_dirty(config: &Config, pager: &LogPager, pages: &mut Vec<Page>)
+    ensures { pages.new.items ≡ filter (is_dirty config.now (shown pager.now).pager) pages.old.items }
+{
+    pages.retain(|page| is_dirty(config, pager, *page));
+}
+
+/// The pages of shared sections that are held with modify set, in order of section and page. Looks at
+/// each frame once for each shared page.
+///
+/// # Errors
+/// `NoMemory` if out of memory.
+pub(crate) fn dirty_pages(
+    alloc: Global,
+    config: &Config,
+    pager: &LogPager,
+) -> Result<Vec<Page>, NoMemory>
+    requires { IsWellFormed config.now }
+    ensures { IfOk result (λ pages. pages.items ≡ dirty_pages config.now (shown pager.now).pager) }
+{
+    let mut pages = shared_pages(alloc, config.sections.items())?;
+    keep_dirty(config, pager, &mut pages);
+    Ok(pages)
+}

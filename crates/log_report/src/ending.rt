@@ -1,0 +1,65 @@
+ghost use Rattle.std.specs.Prelude.{◌≡◌, ◌++◌, All, IfOk, nat_eq};
+ghost use Rattle.vm_text.specs.Named.{IsPrintablePage};
+ghost use Rattle.outside_io.specs.Views.{sink_view};
+ghost use Rattle.pager_model.specs.Text.{dirty_lines, status_line};
+ghost use Rattle.program_ends.specs.Ends.{Ends};
+ghost use Rattle.log_model.specs.Stand.{ending_after};
+ghost use Rattle.log_pager.specs.Shown.{shown};
+ghost use Rattle.log_report.specs.EndStatus.{end_status};
+ghost use Rattle.log_report.specs.ShownRun.{ShowsRun};
+
+use crate::dirty::dirty_pages;
+use crate::text_sink::TextSink;
+use log_pager::LogPager;
+use log_past::LogPast;
+use outside_io::Sink;
+use program_ends::{Status, end_with};
+use report_lines::print_dirty;
+use std::alloc::Global;
+use vm_types::{NoMemory, Page, Section};
+
+/// 5 if there is a dirty page, else 0.
+fn end_status(dirty: &[Page]) -> u8
+    ensures { result ≡ end_status dirty.now }
+{
+    if dirty.is_empty() { 0 } else { 5 }
+}
+
+/// Writes a line for each dirty page, and the status line. Doesn't allocate.
+fn print_ending<K: Sink>(dirty: &[Page], names: &[Section], sink: &mut K) -> Status
+    requires { All (IsPrintablePage names.now) dirty.now }
+    ensures { Ends (sink_view (K.taken sink.old) (K.faults sink.old) (K.stalls sink.old))
+        (sink_view (K.taken sink.new) (K.faults sink.new) (K.stalls sink.new)) (end_status dirty.now)
+        (dirty_lines names.now dirty.now ++ status_line (end_status dirty.now)) result.0 }
+{
+    match print_dirty(dirty, names, sink) {
+        Err(_) => Status(4),
+        Ok(()) => end_with(end_status(dirty), sink),
+    }
+}
+
+/// Whether the status says that the text was cut.
+fn is_cut(status: Status) -> bool
+    ensures { result ≡ nat_eq status.0 4 }
+{
+    status.0 == 4
+}
+
+/// The text that stands behind the last entry of a log: a line for each page of a shared section that
+/// is still held with modify set, and the status line.
+///
+/// # Errors
+/// `NoMemory` if out of memory.
+pub fn ending_text(alloc: Global, past: &LogPast<'_>, pager: &LogPager) -> Result<Vec<u8>, NoMemory>
+    requires { ShowsRun past.now.config past.now.past (shown pager.now) }
+    ensures { IfOk result (λ text. text.items ≡ ending_after past.now.config past.now.past) }
+{
+    let config = past.config();
+    let dirty = dirty_pages(alloc, config, pager)?;
+    let mut sink = TextSink::new(alloc);
+    let status = print_ending(dirty.as_slice(), config.sections.items(), &mut sink);
+    if is_cut(status) {
+        return Err(NoMemory);
+    }
+    Ok(sink.into_text())
+}

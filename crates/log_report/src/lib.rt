@@ -1,0 +1,11 @@
+//! The text of a log behind its entries: the report, and in the end the dirty pages and the status.
+#![tactic(auto)]
+
+mod dirty;
+mod ending;
+mod recounting;
+mod report;
+mod text_sink;
+
+pub use ending::ending_text;
+pub use report::report_text;

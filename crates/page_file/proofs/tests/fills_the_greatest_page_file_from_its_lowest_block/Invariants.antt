@@ -1,5 +1,0 @@
-use Rattle.page_file.specs.Blocks.{AreBlocks}
-use Rattle.page_file.proofs.tests.fills_the_greatest_page_file_from_its_lowest_block.Given as goal
-
-abbrev pub invariant-loop-block : goal.invariant-loop-block
-invariant-loop-block g l = AreBlocks l.file

@@ -1,0 +1,24 @@
+//! What the pager's state reads and changes of single pages over its parts: a page's entry, its frame
+//! and its backing, its shares, its rest once no process has it, its slot, its first touch, and what
+//! the tables have at the start.
+#![tactic(auto)]
+
+mod found;
+mod opening;
+mod pages_shown;
+mod read_starts;
+mod resting;
+mod ring_slots;
+mod sharing;
+mod shown;
+mod touching;
+
+pub use found::{Backing, Found, Slot};
+pub use opening::{lay_all, process_rows};
+pub use pages_shown::{changes, found_shown, is_touched_row, own_backing, some_waits};
+pub use read_starts::{charge_fault, count_fault, read_page};
+pub use resting::{rest, uncharge};
+pub use ring_slots::{come_home, enter_ring, frame_slot, marked_back};
+pub use sharing::{left_at, release, section_page, share, unshare};
+pub use shown::{entry_in, frame_in, marked};
+pub use touching::touch;

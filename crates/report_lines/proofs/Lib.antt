@@ -1,0 +1,5 @@
+pub mod DirtyPages
+mod LinesLeft
+mod PrintableRows
+pub mod Prints
+pub mod RowsPushed

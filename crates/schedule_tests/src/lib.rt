@@ -1,0 +1,17 @@
+//! Tests of the pager's state, in which several seats have transfers open at once: the exact lines of
+//! schedules that were worked out by hand, what they leave of the frames, and the greatest
+//! configuration.
+#![tactic(auto)]
+
+#[cfg(test)]
+mod entries;
+#[cfg(test)]
+mod frames;
+#[cfg(test)]
+mod schedule;
+#[cfg(test)]
+mod schedules;
+#[cfg(test)]
+mod sizes;
+#[cfg(test)]
+mod waits;

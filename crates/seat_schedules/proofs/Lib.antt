@@ -1,0 +1,15 @@
+pub mod OtherSeats
+pub mod ReadsFor
+pub mod ReadsBegun
+pub mod Refusable
+pub mod OthersAtWork
+pub mod OwnWork
+pub mod FirstWorkers
+pub mod ReferenceCalls
+pub mod OtherCalls
+pub mod LandedWork
+pub mod LinesOfRuns
+pub mod UnmetReferences
+pub mod WorkersTogether
+pub mod LinesPlayed
+pub mod NextFrames

@@ -1,0 +1,4 @@
+pub mod Lost
+pub mod Unmet
+pub mod AtWork
+pub mod Played

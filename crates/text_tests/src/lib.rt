@@ -1,0 +1,25 @@
+//! Tests of the parts that read and write bytes and texts. Their contracts are proved where the parts
+//! stand; the tests show what no clause says: that a call returns, bytes and texts that were worked
+//! out by hand, and the greatest sizes.
+#![tactic(auto)]
+
+#[cfg(test)]
+mod of_line_reader;
+#[cfg(test)]
+mod of_line_source;
+#[cfg(test)]
+mod of_make_summary;
+#[cfg(test)]
+mod of_outside_io;
+#[cfg(test)]
+mod of_paging_study;
+#[cfg(test)]
+mod of_program_ends;
+#[cfg(test)]
+mod of_study_command;
+#[cfg(test)]
+mod of_trace_maker;
+#[cfg(test)]
+mod of_trace_spelling;
+#[cfg(test)]
+mod of_vm_dump;

@@ -1,0 +1,40 @@
+use outside_io::{MemorySink, MemorySource};
+use program_ends::Status;
+use std::test::Fail;
+use study_command::{Study, first_word, study_of, study_trace};
+use vm_types::Proc;
+
+#[test]
+fn reads_the_words(rt: HostRuntime) -> Result<(), Fail> {
+    let study = Study {
+        process: Proc(15),
+        frames: 12,
+    };
+    let words = ["--frames", "0000000012", "--process=P"];
+    assert_eq!(rt; study_of(&words), Some(study));
+    assert_eq!(rt; study_of(&["--frames=12"]), None);
+    assert!(rt; matches!(first_word(&words), Some((b"--frames", _))));
+    Ok(())
+}
+
+// The most frames that a study may have.
+#[test]
+fn studies_a_trace(rt: HostRuntime) -> Result<(), Fail> {
+    let alloc = rt.alloc();
+    let text = b"VMTRACE 1\nFRAMES 8\nPAGEFILE 4\nPROCESS A 4 4 4 0\nBODY\nA R4 00000200\nEND\n";
+    let mut source = MemorySource::new(Vec::from_slice(alloc, text)?, Vec::new(alloc));
+    let mut sink = MemorySink::new(alloc, 20_000, Vec::new(alloc), Vec::new(alloc))?;
+    let study = Study {
+        process: Proc(0),
+        frames: 1024,
+    };
+    assert_eq!(rt;
+        study_trace(alloc, study, &mut source, &mut sink),
+        Status(0)
+    );
+    let front = b"PAGES 1 DISTINCT 1\nRING 1024 1\nLRU 1 1\nLRU 2 1\n";
+    assert!(rt; sink.taken().starts_with(front));
+    let back = b"LRU 1024 1\nLEAST 1024 1\nSTATUS 0\n";
+    assert!(rt; sink.taken().ends_with(back));
+    Ok(())
+}

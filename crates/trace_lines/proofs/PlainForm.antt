@@ -1,0 +1,218 @@
+-- A line in the plain form asks for the reference that its words name.
+use Rattle.std.proofs.Common.{◌≡◌, ℕ, ◌+◌, ◌-◌, ◌*◌, ◌%◌, ◌^◌, ◌==◌, nat_lt, ◌<◌, ◌≤◌, Bool, true, false, eqb, ltb, List, [], ◌∷◌, ◌++◌, length, All, Option, Some, None, option_map, cond, Result, Ok, Err, refl, sym, ap, subst, ◌∙◌, arith, append-nil}
+use Rattle.std.specs.List.{list_all, AllByRecursion}
+use Rattle.std.proofs.lemmas.Bool.{le-leb, lt-ltb}
+use Rattle.std.proofs.lemmas.List.Elements.{All-from_recursion}
+use Rattle.std.proofs.lemmas.List.Folds.{list_all-append}
+use Rattle.vm_types.specs.WellFormed.{width_bytes}
+use Rattle.vm_types.specs.declared.config.Config.{Config}
+use Rattle.vm_types.specs.declared.reference.Mode.{Mode}
+use Rattle.vm_types.specs.declared.reference.Mode.TheVariants.{K, E, S, U}
+use Rattle.vm_types.specs.declared.reference.Op.{Op as What}
+use Rattle.vm_types.specs.declared.reference.Width.{Width}
+use Rattle.vm_types.specs.declared.reference.Width.TheVariants.{Four}
+use Rattle.vm_types.specs.declared.service.Request.TheVariants as wanted
+use Rattle.trace_words.specs.declared.cause.Cause.{Cause}
+use Rattle.trace_words.specs.declared.cause.Cause.TheVariants.{UnknownWord, NoSuch, Unaligned}
+use Rattle.trace_words.specs.declared.ops.Access.{Access}
+use Rattle.trace_words.specs.declared.ops.Access.TheVariants.{Read, Write, Add}
+use Rattle.trace_words.specs.declared.ops.OpName.{OpName}
+use Rattle.trace_words.specs.Judged.{◌>>=◌, owed}
+use Rattle.trace_words.specs.Letter.{letter}
+use Rattle.trace_words.specs.Name.{is_capital}
+use Rattle.trace_words.specs.Number.{hexadecimal, hexadecimal_digit, spelled, has_length}
+use Rattle.trace_words.specs.OpWords.{op_name, with_mode, access_of}
+use Rattle.trace_words.specs.Words.{is, is_blank, words}
+use Rattle.trace_words.proofs.Splitting.{words_blank, words_one, words_more}
+use Rattle.trace_lines.specs.declared.part.Part.{Part}
+use Rattle.trace_lines.specs.Grammar.{by_first, is_text, content, judged}
+use Rattle.trace_lines.specs.Lookups.{process, aligned}
+use Rattle.trace_lines.specs.Places.{rank}
+use Rattle.trace_lines.specs.Plain.{IsPlainFront, IsPlainOp, IsPlainValue, width_of}
+use Rattle.trace_lines.specs.Requests.{reference_line, write_of}
+use Rattle.trace_lines.specs.Says.{Says, Request}
+
+-- a byte of a word
+
+record IsWordByte (b : ℕ) : Type 0 where
+  pub solid : is_blank b ≡ false
+  pub text : is_text b ≡ true
+
+capital_byte : (b : ℕ) → is_capital b ≡ true → IsWordByte b
+capital_byte b e = record { solid = grind arith; text = grind arith }
+
+digit_byte : (b d : ℕ) → hexadecimal_digit b ≡ Ok d → IsWordByte b
+digit_byte b d e = record { solid = grind arith; text = grind arith }
+
+-- the two bytes of an operation's name
+
+is_name_of : (a b x y : ℕ) → is (a ∷ b ∷ []) (x ∷ y ∷ []) ≡ true → (a ≡ x) × (b ≡ y)
+is_name_of a b x y e = grind arith
+
+one_byte : (b : ℕ) → access_of (b ∷ []) ≡ None
+one_byte b = grind arith
+
+one_named : (mode : Mode) (b : ℕ) → with_mode mode (b ∷ []) ≡ None
+one_named mode b = rw (one_byte b) refl
+
+access_bytes : (a b : ℕ) (access : Access) → access_of (a ∷ b ∷ []) ≡ Some access → IsWordByte a × IsWordByte b
+access_bytes a b access e = (record { solid = grind arith; text = grind arith }, record { solid = grind arith; text = grind arith })
+
+else_some : {A : Type 0} (test : Bool) (x y : Option A) (v : A) → cond test x y ≡ Some v → x ≡ None → y ≡ Some v
+else_some true x y v e none = absurd cc
+else_some false x y v e none = e
+
+mapped : {A B : Type 0} (f : A → B) (r : Option A) (v : B) → option_map f r ≡ Some v → (u : A) × (r ≡ Some u)
+mapped f (Some u) v e = (u, refl)
+mapped f None v e = absurd cc
+
+op_bytes : (a b : ℕ) (name : OpName) → op_name (a ∷ b ∷ []) ≡ Some name → IsWordByte a × IsWordByte b
+op_bytes a b name e =
+    let k = else_some (eqb a 75) _ _ name e (one_named K b) in
+    let m = else_some (eqb a 69) _ _ name k (one_named E b) in
+    let s = else_some (eqb a 83) _ _ name m (one_named S b) in
+    let u = else_some (eqb a 85) _ _ name s (one_named U b) in
+    let access = mapped (λ (access : Access). record { mode = U; access = access }) (access_of (a ∷ b ∷ [])) name u in
+    access_bytes a b access.0 access.1
+
+-- a number's word
+
+record IsWord (word : List ℕ) : Type 0 where
+  pub solid : All (λ b. is_blank b ≡ false) word
+  pub text : list_all is_text word ≡ true
+  pub some : ltb 0 (length word) ≡ true
+
+record AreWordBytes (word : List ℕ) : Type 0 where
+  pub solid : AllByRecursion (λ b. is_blank b ≡ false) word
+  pub text : list_all is_text word ≡ true
+
+digits_by : (b d : ℕ) (word : List ℕ) → hexadecimal_digit b ≡ Ok d → AreWordBytes word → AreWordBytes (b ∷ word)
+digits_by b d word e more = let byte = digit_byte b d e in record { solid = (byte.solid, more.solid); text = rw (byte.text, more.text) refl }
+
+bind_ok : {A B : Type 0} (r : Result A Cause) (f : A → Result B Cause) (y : B) → (r >>= f) ≡ Ok y → (x : A) × (r ≡ Ok x) × (f x ≡ Ok y)
+bind_ok (Ok x) f y e = (x, refl, e)
+bind_ok (Err cause) f y e = absurd cc
+
+digits_are : (before : ℕ) (word : List ℕ) (n : ℕ) → spelled hexadecimal_digit 16 before word ≡ Ok n → AreWordBytes word
+digits_are before [] n e = record { solid = tt; text = refl }
+digits_are before (b ∷ word) n e =
+    let first = bind_ok (hexadecimal_digit b) (λ d. spelled hexadecimal_digit 16 (16 * before + d) word) n e in
+    digits_by b first.0 word first.1 (digits_are (16 * before + first.0) word n first.2)
+
+owed_ok : {A : Type 0} (test : Bool) (cause : Cause) (r : Result A Cause) (x : A) → owed test cause r ≡ Ok x → (test ≡ true) × (r ≡ Ok x)
+owed_ok true cause r x e = (refl, e)
+owed_ok false cause r x e = absurd cc
+
+number_word : (word : List ℕ) (n : ℕ) → hexadecimal word ≡ Ok n → IsWord word
+number_word word n e =
+    let parts = owed_ok (has_length 8 word) _ _ n e in
+    let bytes = digits_are 0 word n parts.1 in
+    record { solid = All-from_recursion (λ b. is_blank b ≡ false) word bytes.solid; text = bytes.text; some = (let long = parts.0 in grind arith) }
+
+-- the words of a text in the plain form, and its bytes
+
+more_word : (word behind : List ℕ) → ltb 0 (length word) ≡ true → All (λ b. is_blank b ≡ false) word → words (word ++ 32 ∷ behind) ≡ word ∷ words behind
+more_word word behind some solid = words_more word (32 ∷ behind) some solid refl ∙ ap (λ (ws : List (List ℕ)). word ∷ ws) (words_blank 32 behind refl)
+
+one_solid : (a : ℕ) → IsWordByte a → All (λ b. is_blank b ≡ false) (a ∷ [])
+one_solid a h = All-from_recursion (λ b. is_blank b ≡ false) (a ∷ []) (h.solid, tt)
+
+two_solid : (a b : ℕ) → IsWordByte a → IsWordByte b → All (λ b. is_blank b ≡ false) (a ∷ b ∷ [])
+two_solid a b h k = All-from_recursion (λ b. is_blank b ≡ false) (a ∷ b ∷ []) (h.solid, (k.solid, tt))
+
+-- nothing, or a blank and a word
+data Behind : List ℕ → Type 0 where
+  nothing : Behind []
+  value : (word : List ℕ) → IsWord word → Behind (32 ∷ word)
+
+last_words : (address behind : List ℕ) → IsWord address → Behind behind → words (address ++ behind) ≡ address ∷ words behind
+last_words address _ h nothing = ap words (append-nil address) ∙ words_one address h.some h.solid
+last_words address _ h (value word k) = more_word address word h.some h.solid ∙ ap (λ (ws : List (List ℕ)). address ∷ ws) (sym (words_blank 32 word refl))
+
+last_text : (address behind : List ℕ) → IsWord address → Behind behind → list_all is_text (address ++ behind) ≡ true
+last_text address _ h nothing = ap (list_all is_text) (append-nil address) ∙ h.text
+last_text address _ h (value word k) = list_all-append is_text address (32 ∷ word) ∙ (rw (h.text, k.text) refl)
+
+plain_words : (x first second : ℕ) (address behind : List ℕ) → IsWordByte x → IsWordByte first → IsWordByte second → IsWord address → Behind behind
+    → words (x ∷ 32 ∷ first ∷ second ∷ 32 ∷ (address ++ behind)) ≡ (x ∷ []) ∷ (first ∷ second ∷ []) ∷ address ∷ words behind
+plain_words x first second address behind hx hf hs ha hb =
+    more_word (x ∷ []) (first ∷ second ∷ 32 ∷ (address ++ behind)) refl (one_solid x hx)
+    ∙ ap (λ (ws : List (List ℕ)). (x ∷ []) ∷ ws) (more_word (first ∷ second ∷ []) (address ++ behind) refl (two_solid first second hf hs))
+    ∙ ap (λ (ws : List (List ℕ)). (x ∷ []) ∷ (first ∷ second ∷ []) ∷ ws) (last_words address behind ha hb)
+
+plain_text : (x first second : ℕ) (address behind : List ℕ) → IsWordByte x → IsWordByte first → IsWordByte second → IsWord address → Behind behind
+    → list_all is_text (x ∷ 32 ∷ first ∷ second ∷ 32 ∷ (address ++ behind)) ≡ true
+plain_text x first second address behind hx hf hs ha hb = rw (hx.text, hf.text, hs.text, last_text address behind ha hb) refl
+
+-- what the words say
+
+value_behind : (width : Width) (behind : List ℕ) (n : ℕ) → IsPlainValue width behind n → Behind behind
+value_behind width behind n h = subst Behind (sym h.whole) (value h.word (number_word h.word n h.spelled))
+
+op_behind : (access : Access) (behind : List ℕ) (what : What) → IsPlainOp access behind what → Behind behind
+op_behind (Read width) behind what h = subst Behind (sym h.0) nothing
+op_behind (Write width) behind what h = value_behind width behind h.0 h.1
+op_behind Add behind what h = value_behind Four behind h.0 h.1
+
+value_words : (width : Width) (behind : List ℕ) (n : ℕ) → (h : IsPlainValue width behind n) → words behind ≡ h.word ∷ []
+value_words width behind n h =
+    let word = number_word h.word n h.spelled in
+    ap words h.whole ∙ words_blank 32 h.word refl ∙ words_one h.word word.some word.solid
+
+asked : ℕ → Mode → ℕ → What → Says
+asked p mode at what = Request (record { proc = record { 0 = p }; request = wanted.Reference (record { mode = mode; addr = record { 0 = at }; op = what }) })
+
+value_said : (config : Config) (x : ℕ) (width : Width) (address word : List ℕ) (p at n : ℕ)
+    → process config.procs (x ∷ []) ≡ Ok p → aligned (width_bytes width) address ≡ Ok at → hexadecimal word ≡ Ok n → nat_lt n (256 ^ width_bytes width) ≡ true
+    → write_of config (x ∷ []) width (address ∷ word ∷ []) ≡ Ok (record { proc = p; at = at; value = n })
+value_said config x width address word p at n proc place spelled fits = rw (proc, place, spelled, fits) refl
+
+reference_said : (config : Config) (x : ℕ) (mode : Mode) (access : Access) (address behind : List ℕ) (what : What) (p at : ℕ)
+    → IsPlainOp access behind what → process config.procs (x ∷ []) ≡ Ok p → aligned (width_bytes (width_of access)) address ≡ Ok at → nat_lt (length config.body) 100000 ≡ true
+    → reference_line config (x ∷ []) mode access (address ∷ words behind) ≡ Ok (asked p mode at what)
+unfolding asked
+reference_said config x mode (Read width) address behind what p at h proc place few = rw (h.0, h.1, proc, place, few) refl
+reference_said config x mode (Write width) address behind what p at h proc place few =
+    rw (value_words width behind h.0 h.1, value_said config x width address h.1.word p at h.0 proc place h.1.spelled h.1.fits, few, h.2) refl
+reference_said config x mode Add address behind what p at h proc place few =
+    rw (value_words Four behind h.0 h.1, value_said config x Four address h.1.word p at h.0 proc place h.1.spelled h.1.fits, few, h.2) refl
+
+letter_byte : (config : Config) (x p : ℕ) → process config.procs (x ∷ []) ≡ Ok p → is_capital x ≡ true
+letter_byte config x p e =
+    let parts = bind_ok (letter (x ∷ [])) (λ q. owed (ltb q (length config.procs)) NoSuch (Ok q)) p e in
+    (owed_ok (is_capital x) UnknownWord (Ok (x - 65)) parts.0 parts.1).0
+
+address_word : (bytes at : ℕ) (address : List ℕ) → aligned bytes address ≡ Ok at → IsWord address
+address_word bytes at address e =
+    let parts = bind_ok (hexadecimal address) (λ n. owed (eqb (n % bytes) 0) Unaligned (Ok n)) at e in
+    number_word address parts.0 parts.1
+
+no_comment : (x : ℕ) → is_capital x ≡ true → (x == 33) ≡ false
+no_comment x e = grind arith
+
+first_said : (part : Part) (x first second : ℕ) (name : OpName) (args : List (List ℕ)) (said : Says)
+    → is_capital x ≡ true → rank part.place ≡ 4 → op_name (first ∷ second ∷ []) ≡ Some name → reference_line part.config (x ∷ []) name.mode name.access args ≡ Ok said
+    → by_first part (x ∷ []) ((first ∷ second ∷ []) ∷ args) ≡ Ok said
+first_said part x first second name args said capital here named says = rw (no_comment x capital, capital, here, named) says
+
+judged_by : (number : ℕ) (part : Part) (line : List ℕ) (first : List ℕ) (args : List (List ℕ)) (said : Says) → length line ≤ 255 → number ≤ 200000
+    → list_all is_text (content line) ≡ true → words (content line) ≡ first ∷ args → by_first part first args ≡ Ok said → judged number part line ≡ Ok said
+judged_by number part line first args said short few text all says = rw (le-leb (length line) 255 short, text, le-leb number 200000 few, all) says
+
+pub plain_judged : (number : ℕ) (part : Part) (line : List ℕ) (x : ℕ) (name : OpName) (address behind : List ℕ) (what : What) (p at : ℕ)
+    → length line ≤ 255 → number ≤ 200000 → rank part.place ≡ 4 → length part.config.body < 100000
+    → IsPlainFront (content line) x name address behind → process part.config.procs (x ∷ []) ≡ Ok p → aligned (width_bytes (width_of name.access)) address ≡ Ok at
+    → IsPlainOp name.access behind what
+    → judged number part line ≡ Ok (Request (record { proc = record { 0 = p }; request = wanted.Reference (record { mode = name.mode; addr = record { 0 = at }; op = what }) }))
+unfolding asked
+plain_judged number part line x name address behind what p at short few here room front proc place does =
+    let capital = letter_byte part.config x p proc in
+    let letters = capital_byte x capital in
+    let ops = op_bytes front.first front.second name front.named in
+    let word = address_word (width_bytes (width_of name.access)) at address place in
+    let rest = op_behind name.access behind what does in
+    judged_by number part line (x ∷ []) ((front.first ∷ front.second ∷ []) ∷ address ∷ words behind) (asked p name.mode at what) short few
+    (ap (list_all is_text) front.whole ∙ plain_text x front.first front.second address behind letters ops.0 ops.1 word rest)
+    (ap words front.whole ∙ plain_words x front.first front.second address behind letters ops.0 ops.1 word rest)
+    (first_said part x front.first front.second name (address ∷ words behind) (asked p name.mode at what) capital here front.named
+    (reference_said part.config x name.mode name.access address behind what p at does proc place (lt-ltb (length part.config.body) 100000 room)))

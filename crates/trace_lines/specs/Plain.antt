@@ -1,0 +1,38 @@
+-- The plain form of a reference's line: a reference in user mode with one blank between two words, the
+-- operation's name of two bytes and the address of eight. Source: this project's own.
+use Rattle.std.specs.Prelude.{◌≡◌, ℕ, ◌^◌, true, nat_lt, List, [], ◌∷◌, ◌++◌, Some, Ok}
+use Rattle.vm_types.specs.WellFormed.{width_bytes}
+use Rattle.vm_types.specs.declared.reference.Op.{Op}
+use Rattle.vm_types.specs.declared.reference.Op.TheVariants as op
+use Rattle.vm_types.specs.declared.reference.Width.{Width}
+use Rattle.vm_types.specs.declared.reference.Width.TheVariants.{Four}
+use Rattle.trace_words.specs.declared.ops.Access.{Access}
+use Rattle.trace_words.specs.declared.ops.Access.TheVariants.{Read, Write, Add}
+use Rattle.trace_words.specs.declared.ops.OpName.{OpName}
+use Rattle.trace_words.specs.Number.{hexadecimal}
+use Rattle.trace_words.specs.OpWords.{op_name}
+
+-- the process's byte, the operation, the address's word, and what stands behind it
+pub record IsPlainFront (text : List ℕ) (x : ℕ) (name : OpName) (address behind : List ℕ) : Type 0 where
+  pub first : ℕ
+  pub second : ℕ
+  pub whole : text ≡ x ∷ 32 ∷ first ∷ second ∷ 32 ∷ (address ++ behind)
+  pub named : op_name (first ∷ second ∷ []) ≡ Some name
+
+-- one blank and the value, which fits the width
+pub record IsPlainValue (width : Width) (behind : List ℕ) (value : ℕ) : Type 0 where
+  pub word : List ℕ
+  pub whole : behind ≡ 32 ∷ word
+  pub spelled : hexadecimal word ≡ Ok value
+  pub fits : nat_lt value (256 ^ width_bytes width) ≡ true
+
+abbrev pub width_of : Access → Width
+width_of (Read width) = width
+width_of (Write width) = width
+width_of Add = Four
+
+-- nothing behind the address of a read, the value behind that of a write or an add
+abbrev pub IsPlainOp : Access → List ℕ → Op → Type 0
+IsPlainOp (Read width) behind what = (behind ≡ []) × (what ≡ op.Read width)
+IsPlainOp (Write width) behind what = (value : ℕ) × IsPlainValue width behind value × (what ≡ op.Write width value)
+IsPlainOp Add behind what = (value : ℕ) × IsPlainValue Four behind value × (what ≡ op.Add value)

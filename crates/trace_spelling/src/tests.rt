@@ -1,6 +1,0 @@
-use super::*;
-
-#[test]
-fn the_law_can_be_called(_rt: HostRuntime) {
-    the_plain_spelling_is_read();
-}
