@@ -8,7 +8,7 @@ bytes_of block = block.bytes
 
 -- the numbers of the calls that fail
 abbrev pub plan_of : MemoryBlock → List ℕ
-plan_of block = block.fails
+plan_of block = block.plan.calls
 
 -- how often it was read
 abbrev pub reads_of : MemoryBlock → ℕ
@@ -20,7 +20,7 @@ writes_of block = block.writes
 
 -- how often it failed
 abbrev pub faults_of : MemoryBlock → ℕ
-faults_of block = block.faults
+faults_of block = block.plan.faults
 
 -- its next call fails
 abbrev pub IsDueToFail : MemoryBlock → Type 0

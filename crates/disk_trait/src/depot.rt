@@ -1,4 +1,4 @@
-ghost use Rattle.std.specs.Prelude.{◌≡◌, ℕ, ◌+◌, ◌≤◌, List, [], ◌∷◌, ◌++◌, length, OnOk, OnErr, IfOk, IsErrOf};
+ghost use Rattle.std.specs.Prelude.{◌≡◌, ℕ, ◌+◌, ◌<◌, ◌≤◌, List, [], ◌∷◌, ◌++◌, length, replicate, take, OnOk, OnErr, IfOk, IsErrOf};
 ghost use Rattle.vm_types.specs.declared.names.BlockId.{BlockId};
 ghost use Rattle.disk_trait.specs.Causes.{Rose};
 ghost use Rattle.disk_trait.specs.Told.{told};
@@ -6,6 +6,9 @@ ghost use Rattle.disk_trait.specs.Told.{told};
 use crate::block::Block;
 use std::alloc::AllocError;
 use vm_types::{BlockId, NoMemory};
+
+/// What a block of zeros has.
+const ZEROS: [u8; 512] = [0; 512];
 
 /// Why a block could not be made.
 #[derive(Clone, Copy, Debug, PartialEq, Eq)]
@@ -62,6 +65,23 @@ pub trait Depot {
         ensures failed { IsErrOf result MakeFault.Failed → Rose (faults self.old) (faults self.new) }
         ensures later { faults self.old ≤ faults self.new };
 
+    /// Makes a block of zeros with this name, as `make` does.
+    ///
+    /// # Errors
+    /// `NoMemory` for want of memory, `Failed` where the depot failed.
+    fn make_zeros(&mut self, id: BlockId, fails: &[u32]) -> Result<Self::Block, MakeFault>
+        ensures content { IfOk result (λ b. Self.Block.content b ≡ told Self.Block.tells_content (replicate 512 0)) }
+        ensures plan { IfOk result (λ b. Self.Block.plan b ≡ told Self.Block.tells_plan fails.now) }
+        ensures reads { IfOk result (λ b. Self.Block.reads b ≡ 0) }
+        ensures writes { IfOk result (λ b. Self.Block.writes b ≡ 0) }
+        ensures faults { IfOk result (λ b. Self.Block.faults b ≡ 0) }
+        ensures retired { retired self.new ≡ retired self.old }
+        ensures failed { IsErrOf result MakeFault.Failed → Rose (faults self.old) (faults self.new) }
+        ensures later { faults self.old ≤ faults self.new }
+    {
+        self.make(id, &ZEROS, fails)
+    }
+
     /// Takes a block back.
     ///
     /// # Errors
@@ -69,5 +89,15 @@ pub trait Depot {
     fn retire(&mut self, id: BlockId, block: Self::Block) -> Result<(), NoMemory>
         ensures ok { OnOk result (retired self.new ≡ retired self.old ++ (id, block) ∷ []) }
         ensures err { OnErr result (retired self.new ≡ retired self.old) }
+        ensures later { faults self.old ≤ faults self.new };
+
+    /// Takes blocks back, in their order.
+    ///
+    /// # Errors
+    /// `NoMemory` for want of memory. The depot has then taken back a prefix of the blocks, and the
+    /// others are gone.
+    fn retire_all(&mut self, blocks: Vec<(BlockId, Self::Block)>) -> Result<(), NoMemory>
+        ensures ok { OnOk result (retired self.new ≡ retired self.old ++ blocks.items) }
+        ensures err { OnErr result ((n : ℕ) × (n < length blocks.items) × (retired self.new ≡ retired self.old ++ take n blocks.items)) }
         ensures later { faults self.old ≤ faults self.new };
 }

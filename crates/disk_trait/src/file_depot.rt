@@ -1,4 +1,4 @@
-ghost use Rattle.std.specs.Prelude.{◌≡◌, [], IfOk};
+ghost use Rattle.std.specs.Prelude.{◌≡◌, ◌<◌, ◌++◌, [], IfOk, OnErr, OnOk, length};
 
 use crate::depot::{Depot, MakeFault};
 use crate::file_block::{FileBlock, create_file};
@@ -71,6 +71,15 @@ impl<R: Files + Clone + Drop + Send> Depot for FileDepot<R> {
 
     fn retire(&mut self, id: BlockId, block: FileBlock<R>) -> Result<(), NoMemory> {
         self.retired.push((id, block))?;
+        Ok(())
+    }
+
+    fn retire_all(&mut self, mut blocks: Vec<(BlockId, FileBlock<R>)>) -> Result<(), NoMemory>
+        ensures ok { OnOk result (self.new.retired.items ≡ self.old.retired.items ++ blocks.items) }
+        ensures err { OnErr result ((self.new.retired.items ≡ self.old.retired.items) × (0 < length blocks.items)) }
+        ensures faults { self.new.faults ≡ self.old.faults }
+    {
+        self.retired.append(&mut blocks)?;
         Ok(())
     }
 }

@@ -19,6 +19,3 @@ pub use memory_block::MemoryBlock;
 pub use memory_depot::MemoryDepot;
 pub use never_fails::NeverFails;
 pub use plain_block::PlainBlock;
-
-#[cfg(test)]
-mod tests;

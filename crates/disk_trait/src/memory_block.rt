@@ -1,4 +1,4 @@
-ghost use Rattle.std.specs.Prelude.{◌≡◌, ◌+◌, ◌^◌, ◌<◌, ◌≤◌, ◌++◌, ◌↔◌, length, replicate, take, drop, Some, true, refl, IsTrue, IsErr, IfOk, OnOk, OnErr, Contains};
+ghost use Rattle.std.specs.Prelude.{◌≡◌, ◌+◌, ◌^◌, ◌<◌, ◌≤◌, ◌++◌, ◌↔◌, length, replicate, take, drop, Some, true, refl, IsTrue, IsErr, IfOk, OnOk, OnErr, Contains, if◌then◌else◌};
 
 use crate::block::Block;
 use crate::plan::Plan;
@@ -14,13 +14,12 @@ const ZEROS: [u8; 512] = [0; 512];
 #[derive(Drop)]
 pub struct MemoryBlock {
     bytes: LazyBuf,
-    fails: Plan,
+    plan: Plan,
     reads: u64,
     writes: u64,
-    faults: u64,
     ghost whole: { length bytes ≡ 512 },
     ghost few_calls: { reads + writes ≤ 2 ^ 48 },
-    ghost few_faults: { faults ≤ reads + writes },
+    ghost few_faults: { plan.faults ≤ reads + writes },
 }
 
 impl MemoryBlock {
@@ -45,14 +44,27 @@ impl MemoryBlock {
         ensures writes { IfOk result (λ b. writes_of b ≡ 0) }
         ensures faults { IfOk result (λ b. faults_of b ≡ 0) }
     {
-        let bytes = holding(buf, bytes);
-        let fails = Plan::new(alloc, fails)?;
+        MemoryBlock::of(alloc, holding(buf, bytes), fails)
+    }
+
+    /// A block of the buffer's bytes, not read or written so far, which is to fail at the calls `fails`.
+    ///
+    /// # Errors
+    /// `NoMemory` for want of memory.
+    pub(crate) fn of(alloc: Global, bytes: LazyBuf, fails: &[u32]) -> Result<MemoryBlock, NoMemory>
+        requires { length bytes ≡ 512 }
+        ensures bytes { IfOk result (λ b. bytes_of b ≡ bytes) }
+        ensures plan { IfOk result (λ b. plan_of b ≡ fails.now) }
+        ensures reads { IfOk result (λ b. reads_of b ≡ 0) }
+        ensures writes { IfOk result (λ b. writes_of b ≡ 0) }
+        ensures faults { IfOk result (λ b. faults_of b ≡ 0) }
+    {
+        let plan = Plan::new(alloc, fails)?;
         Ok(MemoryBlock {
             bytes,
-            fails,
+            plan,
             reads: 0,
             writes: 0,
-            faults: 0,
         })
     }
 
@@ -78,12 +90,17 @@ impl MemoryBlock {
         self.writes
     }
 
-    /// Whether its next call is to fail.
-    fn is_due_to_fail(&self) -> bool
-        requires { reads_of self.now + writes_of self.now < 2 ^ 48 }
-        ensures { IsTrue result ↔ IsDueToFail self.now }
+    /// Whether the call that was counted last is to fail. If it is, the failure is counted.
+    fn fails(&mut self) -> bool
+        requires { faults_of self.old < reads_of self.old + writes_of self.old }
+        ensures due { IsTrue result ↔ Contains (plan_of self.old) (reads_of self.old + writes_of self.old) }
+        ensures bytes { bytes_of self.new ≡ bytes_of self.old }
+        ensures plan { plan_of self.new ≡ plan_of self.old }
+        ensures reads { reads_of self.new ≡ reads_of self.old }
+        ensures writes { writes_of self.new ≡ writes_of self.old }
+        ensures faults { faults_of self.new ≡ (if result then faults_of self.old + 1 else faults_of self.old) }
     {
-        self.fails.has(self.reads + self.writes + 1)
+        self.plan.fails_at(self.reads + self.writes)
     }
 }
 
@@ -146,10 +163,8 @@ impl Block for MemoryBlock {
         ensures ok { OnOk result (faults_of self.new ≡ faults_of self.old) }
         ensures failed { OnErr result (faults_of self.new ≡ faults_of self.old + 1) }
     {
-        let fails = self.is_due_to_fail();
         self.reads += 1;
-        if fails {
-            self.faults += 1;
+        if self.fails() {
             return Err(Failed);
         }
         buf.copy_from_slice(self.bytes.bytes());
@@ -169,10 +184,8 @@ impl Block for MemoryBlock {
         ensures ok { OnOk result (faults_of self.new ≡ faults_of self.old) }
         ensures failed { OnErr result (faults_of self.new ≡ faults_of self.old + 1) }
     {
-        let fails = self.is_due_to_fail();
         self.writes += 1;
-        if fails {
-            self.faults += 1;
+        if self.fails() {
             write_half(&mut self.bytes, bytes);
             return Err(Failed);
         }
@@ -181,6 +194,6 @@ impl Block for MemoryBlock {
     }
 
     fn faults(&self) -> u64 {
-        self.faults
+        self.plan.faults()
     }
 }

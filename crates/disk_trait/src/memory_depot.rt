@@ -1,4 +1,4 @@
-ghost use Rattle.std.specs.Prelude.{◌≡◌, ◌+◌, ◌-◌, ◌^◌, ◌≤◌, ◌↔◌, [], ◌∷◌, ◌++◌, length, min, map, IsSome, IfSome, IfOk, IsErrOf, OnOk, OnErr, Contains, replicate};
+ghost use Rattle.std.specs.Prelude.{◌≡◌, ◌+◌, ◌-◌, ◌^◌, ◌<◌, ◌≤◌, ◌↔◌, [], ◌∷◌, ◌++◌, length, min, map, IsSome, IfSome, IfOk, IsErrOf, OnOk, OnErr, Contains, replicate};
 
 use crate::depot::{Depot, MakeFault};
 use crate::memory_block::MemoryBlock;
@@ -54,6 +54,26 @@ impl MemoryDepot {
             faults: 0,
             retired: Vec::new(alloc),
         }
+    }
+
+    /// Counts a call of `make`, and gives it a buffer of zeros.
+    fn next_buf(&mut self) -> Result<LazyBuf, MakeFault>
+        ensures fails { IsErrOf result MakeFault.Failed ↔ Contains self.old.fail_makes self.new.makes }
+        ensures zeros { IfOk result (λ buf. buf ≡ replicate 512 0) }
+        ensures retired { self.new.retired ≡ self.old.retired }
+        ensures fail_makes { self.new.fail_makes ≡ self.old.fail_makes }
+        ensures makes { self.new.makes ≡ min (self.old.makes + 1) (2 ^ 64 - 1) }
+        ensures later { self.old.faults ≤ self.new.faults }
+        ensures ok { OnOk result (self.new.faults ≡ self.old.faults) }
+        ensures no_memory { IsErrOf result MakeFault.NoMemory → self.new.faults ≡ self.old.faults }
+        ensures failed { IsErrOf result MakeFault.Failed → self.new.faults ≡ min (self.old.faults + 1) (2 ^ 64 - 1) }
+    {
+        self.makes = self.makes.saturating_add(1);
+        if is_due(&self.fail_makes, self.makes) {
+            self.faults = self.faults.saturating_add(1);
+            return Err(MakeFault::Failed);
+        }
+        Ok(new_buf(self.alloc, &mut self.region)?)
     }
 
     /// A block of that name that was taken back. Takes no memory.
@@ -118,13 +138,28 @@ impl Depot for MemoryDepot {
         ensures no_memory { IsErrOf result MakeFault.NoMemory → self.new.faults ≡ self.old.faults }
         ensures failed { IsErrOf result MakeFault.Failed → self.new.faults ≡ min (self.old.faults + 1) (2 ^ 64 - 1) }
     {
-        self.makes = self.makes.saturating_add(1);
-        if is_due(&self.fail_makes, self.makes) {
-            self.faults = self.faults.saturating_add(1);
-            return Err(MakeFault::Failed);
-        }
-        let buf = new_buf(self.alloc, &mut self.region)?;
+        let buf = self.next_buf()?;
         Ok(MemoryBlock::new(self.alloc, buf, bytes, fails)?)
+    }
+
+    /// A call of it counts as one of `make`.
+    fn make_zeros(&mut self, _id: BlockId, fails: &[u32]) -> Result<MemoryBlock, MakeFault>
+        ensures fails { IsErrOf result MakeFault.Failed ↔ Contains self.old.fail_makes self.new.makes }
+        ensures content { IfOk result (λ b. bytes_of b ≡ replicate 512 0) }
+        ensures plan { IfOk result (λ b. plan_of b ≡ fails.now) }
+        ensures reads { IfOk result (λ b. reads_of b ≡ 0) }
+        ensures writes { IfOk result (λ b. writes_of b ≡ 0) }
+        ensures faults { IfOk result (λ b. faults_of b ≡ 0) }
+        ensures retired { self.new.retired ≡ self.old.retired }
+        ensures fail_makes { self.new.fail_makes ≡ self.old.fail_makes }
+        ensures makes { self.new.makes ≡ min (self.old.makes + 1) (2 ^ 64 - 1) }
+        ensures later { self.old.faults ≤ self.new.faults }
+        ensures ok { OnOk result (self.new.faults ≡ self.old.faults) }
+        ensures no_memory { IsErrOf result MakeFault.NoMemory → self.new.faults ≡ self.old.faults }
+        ensures failed { IsErrOf result MakeFault.Failed → self.new.faults ≡ min (self.old.faults + 1) (2 ^ 64 - 1) }
+    {
+        let buf = self.next_buf()?;
+        Ok(MemoryBlock::of(self.alloc, buf, fails)?)
     }
 
     fn retire(&mut self, id: BlockId, block: MemoryBlock) -> Result<(), NoMemory>
@@ -132,6 +167,19 @@ impl Depot for MemoryDepot {
         ensures err { OnErr result (self.new ≡ self.old) }
     {
         self.retired.push((id, block))?;
+        Ok(())
+    }
+
+    /// Where it has taken nothing back so far, it takes the list as it is, without memory for it.
+    fn retire_all(&mut self, mut blocks: Vec<(BlockId, MemoryBlock)>) -> Result<(), NoMemory>
+        ensures ok { OnOk result (self.new ≡ record self.old { retired = self.old.retired ++ blocks.items }) }
+        ensures err { OnErr result ((self.new ≡ self.old) × (0 < length blocks.items)) }
+    {
+        if self.retired.is_empty() {
+            self.retired = blocks;
+            return Ok(());
+        }
+        self.retired.append(&mut blocks)?;
         Ok(())
     }
 }

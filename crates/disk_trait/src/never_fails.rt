@@ -1,4 +1,4 @@
-ghost use Rattle.std.specs.Prelude.{◌≡◌, [], ◌∷◌, ◌++◌, length};
+ghost use Rattle.std.specs.Prelude.{◌≡◌, ◌<◌, [], ◌∷◌, ◌++◌, OnErr, OnOk, length};
 
 use crate::depot::{Depot, MakeFault};
 use crate::plain_block::PlainBlock;
@@ -53,6 +53,14 @@ impl Depot for NeverFails {
 
     fn retire(&mut self, id: BlockId, block: PlainBlock) -> Result<(), NoMemory> {
         self.retired.push((id, block))?;
+        Ok(())
+    }
+
+    fn retire_all(&mut self, mut blocks: Vec<(BlockId, PlainBlock)>) -> Result<(), NoMemory>
+        ensures ok { OnOk result (self.new ≡ self.old ++ blocks.items) }
+        ensures err { OnErr result ((self.new ≡ self.old) × (0 < length blocks.items)) }
+    {
+        self.retired.append(&mut blocks)?;
         Ok(())
     }
 }

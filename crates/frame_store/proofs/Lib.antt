@@ -1,6 +1,5 @@
 pub mod Places
 pub mod Rows
 pub mod Blocks
+pub mod Counts
 pub mod StoreKept
-pub mod TestRows
-pub mod TestConfig

@@ -3,4 +3,3 @@ pub mod Numbers
 pub mod StoreView
 pub mod LiftView
 pub mod Loans
-pub mod TestStore

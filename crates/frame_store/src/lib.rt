@@ -8,8 +8,5 @@ mod opening;
 mod store;
 
 pub use lift::{Carried, Lift};
-pub use numbers::{firsts, page_counts};
+pub use numbers::{block_count, firsts, page_counts};
 pub use store::Store;
-
-#[cfg(test)]
-mod tests;

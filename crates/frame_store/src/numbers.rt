@@ -63,6 +63,21 @@ pub fn page_counts(alloc: Global, sections: &[Section]) -> Result<Vec<usize>, Al
         .collect(alloc)
 }
 
+/// How many blocks a configuration has.
+///
+/// # Errors
+/// `NoMemory` if out of memory.
+pub fn block_count(alloc: Global, config: &Config) -> Result<usize, NoMemory>
+    requires { IsWellFormed config.now }
+    ensures { IfOk result (λ n. n ≡ length (blocks_of config.now)) }
+{
+    let pages = page_counts(alloc, config.sections.items())?;
+    let slots = extents(alloc, config.procs.items())?;
+    let (_, file) = firsts(alloc, 0, &pages)?;
+    let (_, count) = firsts(alloc, file + config.pagefile, &slots)?;
+    Ok(count as usize)
+}
+
 /// How many swap blocks each process has.
 fn extents(alloc: Global, procs: &[ProcSpec]) -> Result<Vec<usize>, AllocError>
     ensures { IfOk result (λ counts. counts.items ≡ extents procs.now) }

@@ -84,9 +84,8 @@ impl<B: Block> Store<B> {
         let buffers = zero_buffers(alloc, &mut pool, config.frames)?;
         let numbers = Numbers::new(alloc, config)?;
         let ids = names(alloc, &blocks)?;
-        let blocks = places(alloc, blocks)?;
+        let (blocks, returned) = places(alloc, blocks)?;
         let flights = vec![in alloc; None; config.frames as usize]?;
-        let returned = Vec::with_capacity(alloc, ids.len())?;
         Ok(Store {
             frames,
             pool,
@@ -230,6 +229,7 @@ impl<B: Block> Store<B> {
 
     /// Takes back what a lift of this store took out: its block, and its buffer, which goes back to its
     /// frame after a read, and to the pool after a write.
+    #[inline(always)]
     pub fn land(&mut self, lift: Lift<B>)
         requires pool { lift.pool ≡ self.old.pool }
         requires frame { lift.frame < length self.old.buffers }
@@ -291,9 +291,9 @@ fn copy(pool: &mut Pool, place: &Option<PageBuf>) -> PageBuf
     ensures bytes { IfSome place.now (λ b. result.bytes ≡ b.bytes) }
     ensures size { length result.bytes ≡ 512 }
 {
-    let mut buf = pool.take().unwrap();
-    buf.bytes_mut()
-        .copy_from_slice(place.as_ref().unwrap().bytes());
+    let buf = pool.take_copy(place.as_ref().unwrap()).unwrap();
+    // The proof learns here that there are 512 bytes.
+    let _ = buf.bytes();
     buf
 }
 

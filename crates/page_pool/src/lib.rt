@@ -11,6 +11,3 @@ mod spare;
 pub use lazy_buf::LazyBuf;
 pub use page_buf::PageBuf;
 pub use pool::Pool;
-
-#[cfg(test)]
-mod tests;

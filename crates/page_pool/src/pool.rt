@@ -75,6 +75,21 @@ impl Pool {
         Some(buf)
     }
 
+    /// Takes a buffer out with the bytes of another one, or returns `None` if none is left. Doesn't allocate.
+    pub fn take_copy(&mut self, other: &PageBuf) -> Option<PageBuf>
+        ensures none { IsNone result ↔ (self.old.left ≡ 0) }
+        ensures pool { IfSome result (λ buf. buf.pool ≡ self.old.name) }
+        ensures bytes { IfSome result (λ buf. buf.bytes ≡ other.now.bytes) }
+        ensures some { OnSome result (self.new.left + 1 ≡ self.old.left) }
+        ensures unchanged { IfNone result (self.new ≡ self.old) }
+        ensures name { self.new.name ≡ self.old.name }
+        ensures within { self.new.left ≤ self.new.name.size }
+    {
+        let number = self.free.pop()?;
+        let part = self.region.take(number, *other.part.bytes());
+        Some(PageBuf { part })
+    }
+
     /// Takes a buffer of zeros out whose memory isn't touched, or returns `None` if none is left. It doesn't
     /// come back. Doesn't allocate.
     pub fn take_lazy(&mut self) -> Option<LazyBuf>

@@ -13,20 +13,14 @@ pub fn touch(pages: &mut ChargedPages, page: Page)
     ensures procs { pages.new.procs ≡ pages.old.procs }
 {
     if let Page::Private(p, vpn) = page {
-        let row = pages.at(p, vpn);
-        pages.set(p, vpn, touched(row));
-    }
-}
-
-/// What is kept of a page once it is touched.
-fn touched(row: Option<ChargedPage>) -> Option<ChargedPage>
-    ensures { result ≡ touched_row row }
-{
-    match row {
-        None => None,
-        Some(row) => Some(ChargedPage {
-            touched: true,
-            ..row
-        }),
+        if let Some(row) = pages.at(p, vpn) {
+            if !row.touched {
+                let touched = ChargedPage {
+                    touched: true,
+                    ..row
+                };
+                pages.set(p, vpn, Some(touched));
+            }
+        }
     }
 }

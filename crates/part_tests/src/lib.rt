@@ -12,13 +12,13 @@ mod of_frame_moves;
 #[cfg(test)]
 mod of_global_pages;
 #[cfg(test)]
-mod of_history_lock;
-#[cfg(test)]
 mod of_log_past;
 #[cfg(test)]
 mod of_page_file;
 #[cfg(test)]
 mod of_page_lists;
+#[cfg(test)]
+mod of_page_rows;
 #[cfg(test)]
 mod of_page_tables;
 #[cfg(test)]
@@ -31,8 +31,6 @@ mod of_read_cluster;
 mod of_section_table;
 #[cfg(test)]
 mod of_state_parts;
-#[cfg(test)]
-mod of_vm_journal;
 #[cfg(test)]
 mod of_vm_types;
 #[cfg(test)]

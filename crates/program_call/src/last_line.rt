@@ -37,7 +37,7 @@ impl LastLine {
         ensures ended { self.new.ended ≡ ends_line piece.now }
     {
         if self.ended {
-            self.text.clear();
+            self.text = ArrayVec::new();
             self.number = self.number.saturating_add(1);
         }
         add_first(&mut self.text, piece);

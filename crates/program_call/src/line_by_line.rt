@@ -6,6 +6,7 @@ ghost use Rattle.program_call.specs.LastLine.{begun, ends_line, next_number};
 
 use crate::last_line::LastLine;
 use crate::room::copy_front;
+use memchr::memchr;
 use outside_io::Source;
 use vm_types::Failed;
 
@@ -87,14 +88,10 @@ fn line_length(bytes: &[u8]) -> usize
     ensures some { 0 < length bytes.now → 0 < result }
     ensures stops { StopsAt (take result bytes.now) 10 }
 {
-    let mut at = 0;
-    while at < bytes.len() {
-        if bytes[at] == b'\n' {
-            return at + 1;
-        }
-        at += 1;
+    match memchr(b'\n', bytes) {
+        Some(at) => at + 1,
+        None => bytes.len(),
     }
-    at
 }
 
 impl<S: Source> Source for LineSource<S> {

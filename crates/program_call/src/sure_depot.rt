@@ -1,4 +1,4 @@
-ghost use Rattle.std.specs.Prelude.{◌≡◌, [], map};
+ghost use Rattle.std.specs.Prelude.{◌≡◌, ◌<◌, ◌++◌, [], OnErr, OnOk, length, map};
 
 use disk_trait::{Depot, MakeFault, MemoryBlock, MemoryDepot};
 use std::alloc::Global;
@@ -36,5 +36,12 @@ impl Depot for SureDepot {
 
     fn retire(&mut self, id: BlockId, block: MemoryBlock) -> Result<(), NoMemory> {
         self.depot.retire(id, block)
+    }
+
+    fn retire_all(&mut self, blocks: Vec<(BlockId, MemoryBlock)>) -> Result<(), NoMemory>
+        ensures ok { OnOk result (self.new.depot.retired ≡ self.old.depot.retired ++ blocks.items) }
+        ensures err { OnErr result ((self.new.depot.retired ≡ self.old.depot.retired) × (0 < length blocks.items)) }
+    {
+        self.depot.retire_all(blocks)
     }
 }

@@ -105,8 +105,8 @@ fn conclude<S: Source, K: Sink, D: Depot>(
 /// and writes what the references of the process cost with so many frames. `make`, with `--seed`,
 /// `--procs` and `--refs`, reads nothing, makes a trace and runs it as `serial` does, and writes how
 /// many entries of each kind the run has. `check` reads a trace and behind a line `LOG` a log, runs
-/// nothing, and writes whether the log is legal, or which of its lines is the first that isn't. Each line
-/// is one write of a whole text. The status is 0 if the command did that, 1 if the words are no command
+/// nothing, and writes whether the log is legal, or which of its lines is the first that isn't. Each
+/// write of a whole text is of whole lines. The status is 0 if the command did that, 1 if the words are no command
 /// line, 2 if the input is no trace or a log is too long, 3 only if a read failed, 4 only if a write failed
 /// or took nothing, 5 if shared pages are left dirty, 6 only if the depot failed to make a block, 7 if
 /// memory ran out, 8 if a line of a log isn't legal.

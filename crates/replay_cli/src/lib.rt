@@ -13,6 +13,3 @@ pub use cli::run_one;
 pub use make_summary::Make;
 pub use program_ends::Status;
 pub use words::{Command, command_of};
-
-#[cfg(test)]
-mod tests;

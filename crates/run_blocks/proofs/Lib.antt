@@ -1,3 +1,4 @@
 mod Added
 mod ListItems
 mod SectionBytes
+pub mod RowsMade

@@ -7,6 +7,3 @@ mod retiring;
 
 pub use making::make_blocks;
 pub use retiring::retire_blocks;
-
-#[cfg(test)]
-mod tests;

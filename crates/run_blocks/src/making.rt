@@ -1,4 +1,4 @@
-ghost use Rattle.std.specs.Prelude.{◌≡◌, ◌+◌, ◌≤◌, ◌<◌, ◌++◌, ◌∷◌, [], Some, All, IfOk, IsErrOf, OnOk, length, map, slice_get};
+ghost use Rattle.std.specs.Prelude.{◌≡◌, ◌+◌, ◌≤◌, ◌<◌, ◌++◌, ◌∷◌, [], Some, All, IfOk, IsErrOf, OnOk, length, map, replicate, slice_get};
 ghost use Rattle.std.specs.List.{range_with_len};
 ghost use Rattle.vm_types.specs.Configuration.{IsWellFormed, section_pages};
 ghost use Rattle.vm_types.specs.declared.config.Section.{Section};
@@ -12,11 +12,9 @@ ghost use Rattle.run_blocks.specs.Causes.{HasCause};
 
 use crate::planned::planned_calls;
 use disk_trait::{Block, Depot, MakeFault};
+use frame_store::block_count;
 use std::alloc::Global;
 use vm_types::{BlockId, Config, Proc, SecId, Section};
-
-/// What a block has at first that isn't a section's.
-const ZEROS: [u8; 512] = [0; 512];
 
 /// Makes a block with these bytes, and adds it to those that were made.
 fn make_one<D: Depot>(
@@ -34,6 +32,26 @@ fn make_one<D: Depot>(
     ensures cause { HasCause (D.faults depot.old) (D.faults depot.new) result }
 {
     let block = depot.make(id, bytes, planned_calls(config, id))?;
+    match blocks.push((id, block)) {
+        Ok(()) => Ok(()),
+        Err(_) => Err(MakeFault::NoMemory),
+    }
+}
+
+/// Makes a block of zeros that isn't a section's, and adds it to those that were made.
+fn make_one_of_zeros<D: Depot>(
+    config: &Config,
+    depot: &mut D,
+    id: BlockId,
+    blocks: &mut Vec<(BlockId, D::Block)>,
+) -> Result<(), MakeFault>
+    requires { AreFirst config.now id (replicate 512 0) }
+    ensures adds { OnOk result (Adds D.Block.content D.Block.plan D.Block.reads D.Block.writes D.Block.faults D.Block.tells_content D.Block.tells_plan
+        config.now (id ∷ []) blocks.old.items blocks.new.items) }
+    ensures retired { D.retired depot.new ≡ D.retired depot.old }
+    ensures cause { HasCause (D.faults depot.old) (D.faults depot.new) result }
+{
+    let block = depot.make_zeros(id, planned_calls(config, id))?;
     match blocks.push((id, block)) {
         Ok(()) => Ok(()),
         Err(_) => Err(MakeFault::NoMemory),
@@ -94,7 +112,7 @@ fn make_file<D: Depot>(
     ensures cause { HasCause (D.faults depot.old) (D.faults depot.new) result }
 {
     for n in 0..config.pagefile {
-        make_one(config, depot, BlockId::PageFile(n), &ZEROS, blocks)?;
+        make_one_of_zeros(config, depot, BlockId::PageFile(n), blocks)?;
     }
     Ok(())
 }
@@ -113,7 +131,7 @@ fn make_swap<D: Depot>(
     ensures cause { HasCause (D.faults depot.old) (D.faults depot.new) result }
 {
     for n in 0..slots {
-        make_one(config, depot, BlockId::Swap(p, n), &ZEROS, blocks)?;
+        make_one_of_zeros(config, depot, BlockId::Swap(p, n), blocks)?;
     }
     Ok(())
 }
@@ -156,7 +174,7 @@ pub fn make_blocks<D: Depot>(
     ensures failed { IsErrOf result MakeFault.Failed → Rose (D.faults depot.old) (D.faults depot.new) }
     ensures later { D.faults depot.old ≤ D.faults depot.new }
 {
-    let mut blocks = Vec::new(alloc);
+    let mut blocks = Vec::with_capacity(alloc, block_count(alloc, config)?)?;
     make_sections(config, depot, &mut blocks)?;
     make_file(config, depot, &mut blocks)?;
     make_swaps(config, depot, &mut blocks)?;

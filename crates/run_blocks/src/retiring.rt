@@ -16,8 +16,5 @@ pub fn retire_blocks<D: Depot>(
     ensures err { OnErr result ((n : ℕ) × (n < length blocks.items) × (D.retired depot.new ≡ D.retired depot.old ++ take n blocks.items)) }
     ensures later { D.faults depot.old ≤ D.faults depot.new }
 {
-    for (id, block) in blocks {
-        depot.retire(id, block)?;
-    }
-    Ok(())
+    depot.retire_all(blocks)
 }

@@ -1,20 +1,43 @@
-ghost use Rattle.std.specs.Prelude.{◌+◌, ◌^◌, ◌<◌, length, All};
+ghost use Rattle.std.specs.Prelude.{◌≡◌, ◌+◌, ◌^◌, ◌<◌, ◌≤◌, ◌++◌, length, All};
+ghost use Rattle.arrayvec.specs.ArrayVec.{array_vec_len};
 ghost use Rattle.vm_text.specs.Named.{AreNames};
 ghost use Rattle.vm_journal.specs.HasLine.{HasLine};
+ghost use Rattle.vm_journal.specs.Line.{line_text};
 ghost use Rattle.outside_io.specs.Views.{sink_view};
 ghost use Rattle.outside_io.specs.Writes.{Writes};
-ghost use Rattle.pager_model.specs.Text.{entry_lines};
+ghost use Rattle.pager_model.specs.Text.{ended, entry_lines};
 
 use arrayvec::ArrayVec;
 use journal_lines::line;
-use outside_io::{Sink, WriteFault};
-use program_ends::write_line;
+use outside_io::{Sink, WriteFault, write_whole};
 use vm_journal::Entry;
 use vm_types::Section;
 
-/// Writes the entries' lines, each with the byte 10 that ends it in one write of a whole text.
-/// The first entry has the number `first`, and each other one the number after that of the one
-/// before it. `procs` is the number of processes, and `names` are the sections. Doesn't allocate.
+// Adds the line of entry `number`, with the byte 10 that ends it.
+fn add_line(number: u64, e: &Entry, procs: u32, names: &[Section], lines: &mut ArrayVec<u8, 2048>)
+    requires names { AreNames procs names.now }
+    requires has_line { HasLine procs names.now e.now }
+    requires room { array_vec_len lines.old ≤ 1888 }
+    ensures { lines.new.items ≡ lines.old.items ++ ended (line_text number e.now procs names.now) }
+{
+    let mut out = ArrayVec::new();
+    line(number, e, procs, names, &mut out);
+    out.push(b'\n');
+    lines.try_extend_from_slice(out.as_slice()).unwrap();
+}
+
+// Writes these lines in one write of a whole text.
+fn write_lines<K: Sink>(lines: &ArrayVec<u8, 2048>, sink: &mut K) -> Result<(), WriteFault>
+    ensures { Writes (sink_view (K.taken sink.old) (K.faults sink.old) (K.stalls sink.old))
+        (sink_view (K.taken sink.new) (K.faults sink.new) (K.stalls sink.new)) result lines.now.items }
+{
+    write_whole(sink, lines.as_slice())
+}
+
+/// Writes the entries' lines, each with the byte 10 that ends it in one write of a whole text, which
+/// has other lines too: as many as there is room for in 2048 bytes. The first entry has the number
+/// `first`, and each other one the number after that of the one before it. `procs` is the number of
+/// processes, and `names` are the sections. Doesn't allocate.
 ///
 /// # Errors
 /// `Failed` only if the sink's count of failures rose. `NoneTaken` exactly if its count of
@@ -33,11 +56,14 @@ pub fn print_entries<K: Sink>(
         (sink_view (K.taken sink.new) (K.faults sink.new) (K.stalls sink.new)) result (entry_lines first procs names.now entries.now) }
 {
     let mut number = first;
+    let mut lines = ArrayVec::new();
     for e in entries {
-        let mut out = ArrayVec::new();
-        line(number, e, procs, names, &mut out);
-        write_line(out, sink)?;
+        add_line(number, e, procs, names, &mut lines);
         number += 1;
+        if lines.remaining_capacity() < 160 {
+            write_lines(&lines, sink)?;
+            lines.clear();
+        }
     }
-    Ok(())
+    write_lines(&lines, sink)
 }

@@ -76,7 +76,7 @@ fn end_parts<K: Sink>(
     }
 }
 
-/// Writes the text of a finished run, each line in one write of a whole text: the lines of the first
+/// Writes the text of a finished run, whole lines in each write of a whole text: the lines of the first
 /// `at` entries, the report, the lines of the other entries, a line for each page of a shared section
 /// that is still held with its modify bit set, and the status. `entries` has the oldest first, `at` is
 /// at most their number, and `dirty` is in order of section and page. The status is 5 if there is a

@@ -5,9 +5,13 @@ ghost use Rattle.vm_types.specs.PagePlaces.{changed_at};
 
 use crate::laying::lay_all;
 use crate::part::{Part, parts_of, private_home, shared_home};
+use page_rows::PageRows;
 use std::alloc::Global;
 use std::marker::Model;
 use vm_types::{BlockId, Config, NoMemory, Origin, Page, Proc, page_place};
+
+/// How many runs of 64 pages a process may map.
+const RUNS: usize = 80;
 
 /// What is behind each page of the processes: zeros, or a section's page. A page is numbered by its
 /// first address divided by 512. Source: Kenah and Bate, "VAX/VMS Internals and Data Structures",
@@ -16,7 +20,7 @@ use vm_types::{BlockId, Config, NoMemory, Origin, Page, Proc, page_place};
 pub struct Sections {
     procs: usize,
     parts: Vec<Part>,
-    origins: Vec<Option<Origin>>,
+    origins: PageRows<Origin>,
 }
 
 impl Model for Sections {
@@ -25,9 +29,9 @@ impl Model for Sections {
 
     ghost Value = { SectionTable };
 
-    ghost view = { λ s. record { procs = s.procs; parts = s.parts.items; origins = s.origins.items } };
+    ghost view = { λ s. record { procs = s.procs; parts = s.parts.items; origins = s.origins } };
 
-    ghost invariant = { λ s. length s.origins.items ≡ s.procs * 5120 };
+    ghost invariant = { λ s. length s.origins ≡ s.procs * 5120 };
 }
 
 impl Sections {
@@ -46,7 +50,7 @@ impl Sections {
     {
         let procs = config.procs.items().len();
         let parts = parts_of(alloc, config.sections.items())?;
-        let mut origins = vec![in alloc; None; procs * 5120]?;
+        let mut origins = PageRows::new(alloc, procs * RUNS)?;
         lay_all(&mut origins, config.maps.items());
         Ok(Sections {
             procs,
@@ -59,7 +63,7 @@ impl Sections {
     pub fn behind(&self, p: Proc, vpn: u32) -> Option<Origin>
         ensures { result ≡ behind_of self.now p.0 vpn }
     {
-        self.origins.get(page_place(p, vpn)?).copied().flatten()
+        self.origins.get(page_place(p, vpn)?)
     }
 
     /// The section block of a shared page, or the one behind a copy on reference page, touched or
@@ -82,7 +86,7 @@ impl Sections {
         ensures parts { self.new.parts ≡ self.old.parts }
     {
         let place = page_place(p, vpn).unwrap();
-        self.origins[place] = Some(Origin::Zero);
+        self.origins.set(place, Some(Origin::Zero));
     }
 
     /// Takes away what is behind a mapped page.
@@ -93,6 +97,6 @@ impl Sections {
         ensures parts { self.new.parts ≡ self.old.parts }
     {
         let index = page_place(p, vpn).unwrap();
-        self.origins[index] = None;
+        self.origins.set(index, None);
     }
 }

@@ -24,6 +24,7 @@ use vm_types::{NoMemory, Proc, Seat};
 ///
 /// # Errors
 /// `NoMemory` if out of memory.
+#[inline(always)]
 pub fn ask_next<B: Block>(
     state: &mut State<B>,
     leaving: Option<Proc>,
@@ -69,6 +70,7 @@ fn is_short<B: Block>(state: &State<B>, begun: bool) -> bool
 ///
 /// # Errors
 /// `NoMemory` if out of memory.
+#[inline(always)]
 pub fn free<B: Block>(
     state: &mut State<B>,
     leaving: Option<Proc>,

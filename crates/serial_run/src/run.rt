@@ -27,6 +27,16 @@ pub struct Ending {
     pub dirty: Vec<Page>,
 }
 
+/// Makes room at once for as many entries as there are requests, each of which has at least one, so that
+/// the journal isn't copied as it grows. If there is too little memory for that, the moves ask for room as
+/// they go.
+fn reserve_answers<B: Block>(state: &mut State<B>)
+    ensures { state.new ≡ record state.old { spare = (state.new).spare } }
+{
+    let requests = state.config().body.items().len();
+    let _ = state.reserve(requests.min(u32::MAX as usize) as u32);
+}
+
 /// Runs a state from its first entry on.
 ///
 /// # Errors
@@ -37,6 +47,7 @@ fn run_state<B: Block>(alloc: Global, state: &mut State<B>) -> Result<Ending, No
     ensures ended { IfOk result (HasEnded B.tells_content state.new) }
 {
     state.run_law();
+    reserve_answers(state);
     let mut carriers = all_carriers(alloc, state)?;
     run_body(state, &mut carriers)?;
     let at = state.entries().len() as u64;

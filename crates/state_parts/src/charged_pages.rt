@@ -2,16 +2,20 @@ ghost use Rattle.std.specs.Prelude.{◌≡◌, ℕ, None, IfOk};
 ghost use Rattle.vm_types.specs.PagePlaces.{changed_at};
 
 use crate::charged_page::ChargedPage;
+use page_rows::PageRows;
 use std::alloc::Global;
 use std::marker::Model;
 use vm_types::{NoMemory, Proc, page_place};
+
+/// How many runs of 64 pages a process may map.
+const RUNS: usize = 80;
 
 /// Of each private page that is charged what is kept of it. A page is numbered by its first address
 /// divided by 512.
 #[derive(Debug, Drop)]
 pub struct ChargedPages {
     procs: usize,
-    pages: Vec<Option<ChargedPage>>,
+    pages: PageRows<ChargedPage>,
 }
 
 impl Model for ChargedPages {
@@ -20,9 +24,9 @@ impl Model for ChargedPages {
 
     ghost Value = { ChargedTable };
 
-    ghost view = { λ t. record { procs = t.procs; pages = t.pages.items } };
+    ghost view = { λ t. record { procs = t.procs; pages = t.pages } };
 
-    ghost invariant = { λ t. length t.pages.items ≡ t.procs * 5120 };
+    ghost invariant = { λ t. length t.pages ≡ t.procs * 5120 };
 }
 
 impl ChargedPages {
@@ -39,7 +43,7 @@ impl ChargedPages {
         let procs = procs as usize;
         Ok(ChargedPages {
             procs,
-            pages: vec![in alloc; None; procs * 5120]?,
+            pages: PageRows::new(alloc, procs * RUNS)?,
         })
     }
 
@@ -47,7 +51,7 @@ impl ChargedPages {
     pub fn at(&self, p: Proc, vpn: u32) -> Option<ChargedPage>
         ensures { result ≡ charged_at self.now p.0 vpn }
     {
-        self.pages.get(page_place(p, vpn)?).copied().flatten()
+        self.pages.get(page_place(p, vpn)?)
     }
 
     /// Sets what is kept of a page of one of the processes; none if it isn't charged.
@@ -57,6 +61,6 @@ impl ChargedPages {
         ensures procs { self.new.procs ≡ self.old.procs }
     {
         let place = page_place(p, vpn).unwrap();
-        self.pages[place] = page;
+        self.pages.set(place, page);
     }
 }

@@ -6,8 +6,6 @@
 #[cfg(test)]
 mod of_line_reader;
 #[cfg(test)]
-mod of_line_source;
-#[cfg(test)]
 mod of_make_summary;
 #[cfg(test)]
 mod of_outside_io;
@@ -17,9 +15,5 @@ mod of_paging_study;
 mod of_program_ends;
 #[cfg(test)]
 mod of_study_command;
-#[cfg(test)]
-mod of_trace_maker;
-#[cfg(test)]
-mod of_trace_spelling;
 #[cfg(test)]
 mod of_vm_dump;

@@ -1,9 +1,9 @@
--- A line in the plain form asks for the reference that its words name.
-use Rattle.std.proofs.Common.{◌≡◌, ℕ, ◌+◌, ◌-◌, ◌*◌, ◌%◌, ◌^◌, ◌==◌, nat_lt, ◌<◌, ◌≤◌, Bool, true, false, eqb, ltb, List, [], ◌∷◌, ◌++◌, length, All, Option, Some, None, option_map, cond, Result, Ok, Err, refl, sym, ap, subst, ◌∙◌, arith, append-nil}
+-- A first line in the plain form asks for the reference that its words name.
+use Rattle.std.proofs.Common.{◌≡◌, ◌≢◌, ℕ, ◌+◌, ◌-◌, ◌*◌, ◌%◌, ◌^◌, ◌==◌, nat_lt, ◌<◌, ◌≤◌, Bool, true, false, eqb, ltb, List, [], ◌∷◌, ◌++◌, length, All, Option, Some, None, option_map, cond, Result, Ok, Err, refl, sym, ap, subst, ◌∙◌, arith, append-nil, append_assoc, length-append, get_or}
 use Rattle.std.specs.List.{list_all, AllByRecursion}
-use Rattle.std.proofs.lemmas.Bool.{le-leb, lt-ltb}
+use Rattle.std.proofs.lemmas.Bool.{and_parts, eqb-true, le-leb, lt-ltb, ltb-true}
 use Rattle.std.proofs.lemmas.List.Elements.{All-from_recursion}
-use Rattle.std.proofs.lemmas.List.Folds.{list_all-append}
+use Rattle.std.proofs.lemmas.List.Folds.{list_all-append, list_all_at}
 use Rattle.vm_types.specs.WellFormed.{width_bytes}
 use Rattle.vm_types.specs.declared.config.Config.{Config}
 use Rattle.vm_types.specs.declared.reference.Mode.{Mode}
@@ -11,7 +11,6 @@ use Rattle.vm_types.specs.declared.reference.Mode.TheVariants.{K, E, S, U}
 use Rattle.vm_types.specs.declared.reference.Op.{Op as What}
 use Rattle.vm_types.specs.declared.reference.Width.{Width}
 use Rattle.vm_types.specs.declared.reference.Width.TheVariants.{Four}
-use Rattle.vm_types.specs.declared.service.Request.TheVariants as wanted
 use Rattle.trace_words.specs.declared.cause.Cause.{Cause}
 use Rattle.trace_words.specs.declared.cause.Cause.TheVariants.{UnknownWord, NoSuch, Unaligned}
 use Rattle.trace_words.specs.declared.ops.Access.{Access}
@@ -25,10 +24,10 @@ use Rattle.trace_words.specs.OpWords.{op_name, with_mode, access_of}
 use Rattle.trace_words.specs.Words.{is, is_blank, words}
 use Rattle.trace_words.proofs.Splitting.{words_blank, words_one, words_more}
 use Rattle.trace_lines.specs.declared.part.Part.{Part}
-use Rattle.trace_lines.specs.Grammar.{by_first, is_text, content, judged}
+use Rattle.trace_lines.specs.Grammar.{by_first, is_text, content, ends_with_return, judged}
 use Rattle.trace_lines.specs.Lookups.{process, aligned}
 use Rattle.trace_lines.specs.Places.{rank}
-use Rattle.trace_lines.specs.Plain.{IsPlainFront, IsPlainOp, IsPlainValue, width_of}
+use Rattle.trace_lines.specs.Plain.{IsPlainFront, IsPlainOp, IsPlainValue, IsValued, IsEndedNumber, IsEndedValue, IsEndedOp, IsFirstRequest, asked, width_of}
 use Rattle.trace_lines.specs.Requests.{reference_line, write_of}
 use Rattle.trace_lines.specs.Says.{Says, Request}
 
@@ -81,6 +80,7 @@ record IsWord (word : List ℕ) : Type 0 where
   pub solid : All (λ b. is_blank b ≡ false) word
   pub text : list_all is_text word ≡ true
   pub some : ltb 0 (length word) ≡ true
+  pub few : length word ≤ 8
 
 record AreWordBytes (word : List ℕ) : Type 0 where
   pub solid : AllByRecursion (λ b. is_blank b ≡ false) word
@@ -107,7 +107,7 @@ number_word : (word : List ℕ) (n : ℕ) → hexadecimal word ≡ Ok n → IsWo
 number_word word n e =
     let parts = owed_ok (has_length 8 word) _ _ n e in
     let bytes = digits_are 0 word n parts.1 in
-    record { solid = All-from_recursion (λ b. is_blank b ≡ false) word bytes.solid; text = bytes.text; some = (let long = parts.0 in grind arith) }
+    record { solid = All-from_recursion (λ b. is_blank b ≡ false) word bytes.solid; text = bytes.text; some = (let long = parts.0 in grind arith); few = (let long = parts.0 in grind arith) }
 
 -- the words of a text in the plain form, and its bytes
 
@@ -132,6 +132,10 @@ last_words address _ h (value word k) = more_word address word h.some h.solid �
 last_text : (address behind : List ℕ) → IsWord address → Behind behind → list_all is_text (address ++ behind) ≡ true
 last_text address _ h nothing = ap (list_all is_text) (append-nil address) ∙ h.text
 last_text address _ h (value word k) = list_all-append is_text address (32 ∷ word) ∙ (rw (h.text, k.text) refl)
+
+last_length : (address behind : List ℕ) → IsWord address → Behind behind → length (address ++ behind) ≤ 17
+last_length address _ h nothing = rw length-append (omega (arith, h.few))
+last_length address _ h (value word k) = rw length-append (omega (arith, h.few, k.few))
 
 plain_words : (x first second : ℕ) (address behind : List ℕ) → IsWordByte x → IsWordByte first → IsWordByte second → IsWord address → Behind behind
     → words (x ∷ 32 ∷ first ∷ second ∷ 32 ∷ (address ++ behind)) ≡ (x ∷ []) ∷ (first ∷ second ∷ []) ∷ address ∷ words behind
@@ -159,9 +163,6 @@ value_words width behind n h =
     let word = number_word h.word n h.spelled in
     ap words h.whole ∙ words_blank 32 h.word refl ∙ words_one h.word word.some word.solid
 
-asked : ℕ → Mode → ℕ → What → Says
-asked p mode at what = Request (record { proc = record { 0 = p }; request = wanted.Reference (record { mode = mode; addr = record { 0 = at }; op = what }) })
-
 value_said : (config : Config) (x : ℕ) (width : Width) (address word : List ℕ) (p at n : ℕ)
     → process config.procs (x ∷ []) ≡ Ok p → aligned (width_bytes width) address ≡ Ok at → hexadecimal word ≡ Ok n → nat_lt n (256 ^ width_bytes width) ≡ true
     → write_of config (x ∷ []) width (address ∷ word ∷ []) ≡ Ok (record { proc = p; at = at; value = n })
@@ -169,8 +170,7 @@ value_said config x width address word p at n proc place spelled fits = rw (proc
 
 reference_said : (config : Config) (x : ℕ) (mode : Mode) (access : Access) (address behind : List ℕ) (what : What) (p at : ℕ)
     → IsPlainOp access behind what → process config.procs (x ∷ []) ≡ Ok p → aligned (width_bytes (width_of access)) address ≡ Ok at → nat_lt (length config.body) 100000 ≡ true
-    → reference_line config (x ∷ []) mode access (address ∷ words behind) ≡ Ok (asked p mode at what)
-unfolding asked
+    → reference_line config (x ∷ []) mode access (address ∷ words behind) ≡ Ok (Request (asked p mode at what))
 reference_said config x mode (Read width) address behind what p at h proc place few = rw (h.0, h.1, proc, place, few) refl
 reference_said config x mode (Write width) address behind what p at h proc place few =
     rw (value_words width behind h.0 h.1, value_said config x width address h.1.word p at h.0 proc place h.1.spelled h.1.fits, few, h.2) refl
@@ -195,7 +195,28 @@ first_said : (part : Part) (x first second : ℕ) (name : OpName) (args : List (
     → by_first part (x ∷ []) ((first ∷ second ∷ []) ∷ args) ≡ Ok said
 first_said part x first second name args said capital here named says = rw (no_comment x capital, capital, here, named) says
 
-judged_by : (number : ℕ) (part : Part) (line : List ℕ) (first : List ℕ) (args : List (List ℕ)) (said : Says) → length line ≤ 255 → number ≤ 200000
+-- printed bytes: none is 10 or 13
+
+no_end : (b : ℕ) → is_text b ≡ true → b ≢ 10
+no_end b e same = let h : is_text 10 ≡ true = subst (λ (c : ℕ). is_text c ≡ true) same e in absurd cc
+
+no_ends : (text : List ℕ) → list_all is_text text ≡ true → AllByRecursion (λ b. b ≢ 10) text
+no_ends [] e = tt
+no_ends (b ∷ text) e = let both = and_parts (is_text b) (list_all is_text text) e in (no_end b both.0, no_ends text both.1)
+
+last_return : (line : List ℕ) → 0 < length line → get_or line (length line - 1) 0 ≡ 13 → list_all is_text line ≡ false
+last_return line some last = list_all_at is_text line (length line - 1) 0 (omega (arith, some)) (ap is_text last)
+
+content_same : (line : List ℕ) → list_all is_text line ≡ true → content line ≡ line
+content_same line text = by_end (ends_with_return line) refl where
+  by_end : (t : Bool) → ends_with_return line ≡ t → content line ≡ line
+  by_end true e =
+      let both = and_parts (ltb 0 (length line)) (eqb (get_or line (length line - 1) 0) 13) e in
+      let none = last_return line (ltb-true 0 (length line) both.0) (eqb-true (get_or line (length line - 1) 0) 13 both.1) in
+      absurd cc
+  by_end false e = rw e refl
+
+judged_by : (number : ℕ) (part : Part) (line first : List ℕ) (args : List (List ℕ)) (said : Says) → length line ≤ 255 → number ≤ 200000
     → list_all is_text (content line) ≡ true → words (content line) ≡ first ∷ args → by_first part first args ≡ Ok said → judged number part line ≡ Ok said
 judged_by number part line first args said short few text all says = rw (le-leb (length line) 255 short, text, le-leb number 200000 few, all) says
 
@@ -203,16 +224,52 @@ pub plain_judged : (number : ℕ) (part : Part) (line : List ℕ) (x : ℕ) (nam
     → length line ≤ 255 → number ≤ 200000 → rank part.place ≡ 4 → length part.config.body < 100000
     → IsPlainFront (content line) x name address behind → process part.config.procs (x ∷ []) ≡ Ok p → aligned (width_bytes (width_of name.access)) address ≡ Ok at
     → IsPlainOp name.access behind what
-    → judged number part line ≡ Ok (Request (record { proc = record { 0 = p }; request = wanted.Reference (record { mode = name.mode; addr = record { 0 = at }; op = what }) }))
-unfolding asked
+    → judged number part line ≡ Ok (Request (asked p name.mode at what))
 plain_judged number part line x name address behind what p at short few here room front proc place does =
     let capital = letter_byte part.config x p proc in
     let letters = capital_byte x capital in
     let ops = op_bytes front.first front.second name front.named in
     let word = address_word (width_bytes (width_of name.access)) at address place in
     let rest = op_behind name.access behind what does in
-    judged_by number part line (x ∷ []) ((front.first ∷ front.second ∷ []) ∷ address ∷ words behind) (asked p name.mode at what) short few
+    judged_by number part line (x ∷ []) ((front.first ∷ front.second ∷ []) ∷ address ∷ words behind) (Request (asked p name.mode at what)) short few
     (ap (list_all is_text) front.whole ∙ plain_text x front.first front.second address behind letters ops.0 ops.1 word rest)
     (ap words front.whole ∙ plain_words x front.first front.second address behind letters ops.0 ops.1 word rest)
-    (first_said part x front.first front.second name (address ∷ words behind) (asked p name.mode at what) capital here front.named
+    (first_said part x front.first front.second name (address ∷ words behind) (Request (asked p name.mode at what)) capital here front.named
     (reference_said part.config x name.mode name.access address behind what p at does proc place (lt-ltb (length part.config.body) 100000 room)))
+
+pub plain_first : (number : ℕ) (part : Part) (text : List ℕ) (x : ℕ) (name : OpName) (address behind : List ℕ) (what : What) (rest : List ℕ) (p at : ℕ)
+    → number ≤ 200000 → rank part.place ≡ 4 → length part.config.body < 100000
+    → IsPlainFront text x name address behind → process part.config.procs (x ∷ []) ≡ Ok p → aligned (width_bytes (width_of name.access)) address ≡ Ok at
+    → IsEndedOp name.access behind what rest
+    → IsFirstRequest number part text (asked p name.mode at what) rest
+plain_first number part text x name address behind what rest p at few here room front proc place ended =
+    let capital = letter_byte part.config x p proc in
+    let letters = capital_byte x capital in
+    let ops = op_bytes front.first front.second name front.named in
+    let word = address_word (width_bytes (width_of name.access)) at address place in
+    let said = op_behind name.access ended.behind what ended.does in
+    let printed = plain_text x front.first front.second address ended.behind letters ops.0 ops.1 word said in
+    let line : List ℕ = x ∷ 32 ∷ front.first ∷ front.second ∷ 32 ∷ (address ++ ended.behind) in
+    record {
+      line = line;
+      split = front.whole ∙ ap (λ (b : List ℕ). x ∷ 32 ∷ front.first ∷ front.second ∷ 32 ∷ (address ++ b)) ended.split
+          ∙ ap (λ (b : List ℕ). x ∷ 32 ∷ front.first ∷ front.second ∷ 32 ∷ b) (sym (append_assoc address ended.behind (10 ∷ rest)));
+      one_line = All-from_recursion (λ b. b ≢ 10) line (no_ends line printed);
+      asks = plain_judged number part line x name address ended.behind what p at (omega (arith, last_length address ended.behind word said)) few here room
+          (subst (λ (t : List ℕ). IsPlainFront t x name address ended.behind) (sym (content_same line printed)) (record { first = front.first; second = front.second; whole = refl; named = front.named }))
+          proc place ended.does;
+    }
+
+-- an access with a value
+
+pub ended_value : (width : Width) (tail : List ℕ) (text : List ℕ) (n : ℕ) (rest : List ℕ) → text ≡ 32 ∷ tail → IsEndedNumber tail n rest → nat_lt n (256 ^ width_bytes width) ≡ true → IsEndedValue width text n rest
+ended_value width tail text n rest whole h fits = record {
+  behind = 32 ∷ h.word;
+  split = whole ∙ ap (λ (t : List ℕ). 32 ∷ t) h.split;
+  valued = record { word = h.word; whole = refl; spelled = h.spelled; fits = fits };
+}
+
+pub ended_op : (access : Access) (text : List ℕ) (n : ℕ) (what : What) (rest : List ℕ) → IsEndedValue (width_of access) text n rest → IsValued access n what → IsEndedOp access text what rest
+ended_op (Read width) text n what rest h is = absurd is
+ended_op (Write width) text n what rest h is = record { behind = h.behind; split = h.split; does = (n, h.valued, is) }
+ended_op Add text n what rest h is = record { behind = h.behind; split = h.split; does = (n, h.valued, is) }

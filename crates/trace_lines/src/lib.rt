@@ -4,6 +4,7 @@
 
 mod declarations;
 mod fails;
+mod first_line;
 mod headers;
 mod judging;
 mod keywords;
@@ -18,15 +19,13 @@ mod ranges;
 mod requests;
 mod seen;
 
+pub use first_line::plain_request;
 pub use judging::judge;
 pub use keywords::Keyword;
 pub use line::Line;
 pub use params::Param;
 pub use part::{DEFAULTS, Part};
 pub use places::Place;
-pub use plain::plain_request;
+pub use plain::plain_line;
 pub use ranges::{CodedRange, Range, Written};
 pub use seen::{Seen, block_key, page_key};
-
-#[cfg(test)]
-mod tests;

@@ -11,9 +11,9 @@ use crate::ranges::{bytes_of, fits};
 use trace_words::{Access, OpName, hexadecimal, op_name};
 use vm_types::{Addr, Op, Proc, Ref, Request, Task, Width};
 
-// The process's byte, the operation, the address's word and the text behind it, if one blank stands
-// between two words, the operation's name has two bytes and the address eight.
-fn plain_front(text: &[u8]) -> Option<(u8, OpName, &[u8], &[u8])>
+/// The process's byte, the operation, the address's word and the text behind it, if one blank stands
+/// between two words, the operation's name has two bytes and the address eight.
+pub(crate) fn plain_front(text: &[u8]) -> Option<(u8, OpName, &[u8], &[u8])>
     ensures { IfSome result (λ front. IsPlainFront text.now front.0 front.1 front.2.now front.3.now) }
 {
     match text {
@@ -65,7 +65,8 @@ fn plain_op(access: Access, behind: &[u8]) -> Option<Op>
     }
 }
 
-fn width_of(access: Access) -> Width
+/// The width of an access.
+pub(crate) fn width_of(access: Access) -> Width
     ensures { result ≡ width_of access }
 {
     match access {
@@ -77,7 +78,7 @@ fn width_of(access: Access) -> Width
 /// The request of a line that is written in the plain form, as `A W4 00000200 0000002A`: a reference
 /// in user mode with one blank between two words and eight digits of the address. `None` says nothing:
 /// the line may be faulty or not, and [`judge`](crate::judge) says what it is. Doesn't allocate.
-pub fn plain_request(number: u32, part: &Part, line: &[u8]) -> Option<Task>
+pub fn plain_line(number: u32, part: &Part, line: &[u8]) -> Option<Task>
     ensures { IfSome result (λ task. judged number part.now line.now ≡ Ok (asks task)) }
 {
     if line.len() > 255 || number > 200_000 || part.place.rank() != Place::Requests.rank() {

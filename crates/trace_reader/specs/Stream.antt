@@ -66,6 +66,15 @@ pub record IsHeld (text : List ℕ) (left : Option (List ℕ)) (part : Part) (nu
   pub split : IsTaken text (done ++ pending) left
   pub follows : Follows start 1 done part number []
 
+-- the lines at the text's front were taken, and the rest is left
+pub record IsFrontTaken (before : Part) (first : ℕ) (text : List ℕ) (after : Draft) (next : ℕ) (rest : List ℕ) : Type 0 where
+  pub front : List ℕ
+  pub split : text ≡ front ++ rest
+  pub follows : Follows before first front after.part next []
+  pub reading : IsReading after next
+  pub later : first ≤ next
+  pub same : next ≡ first → rest ≡ text
+
 -- the whole lines of the piece were taken, and this much behind them is left
 pub record IsPieceTaken (before : Part) (first : ℕ) (piece : List ℕ) (after : Draft) (next held : ℕ) : Type 0 where
   pub bound : held ≤ length piece

@@ -1,5 +1,5 @@
 ghost use Rattle.std.specs.Prelude.{◌≡◌, OnOk, MatchResult};
-ghost use Rattle.trace_lines.specs.Says.{meant, Bad, Map, Fail};
+ghost use Rattle.trace_lines.specs.Says.{meant, Bad, Map, Fail, Request};
 ghost use Rattle.trace_lines.specs.Seen.{IsSeen};
 ghost use Rattle.trace_reader.specs.Changes.{start, changed};
 ghost use Rattle.trace_reader.specs.Drafts.{IsDraft, IsRefused};
@@ -8,9 +8,9 @@ ghost use Rattle.trace_reader.specs.Right.{IsRight};
 
 use crate::store::{add, add_range, blank, fails_of, write_bytes};
 use std::alloc::Global;
-use trace_lines::{DEFAULTS, Line, Part, Place, Seen, block_key, judge, page_key, plain_request};
+use trace_lines::{DEFAULTS, Line, Part, Place, Seen, block_key, judge, page_key, plain_line};
 use trace_words::Cause;
-use vm_types::{BlockId, Config, Listed, Mapping, NoMemory};
+use vm_types::{BlockId, Config, Listed, Mapping, NoMemory, Task};
 
 /// Why a line wasn't taken.
 #[derive(Clone, Copy, Debug)]
@@ -159,6 +159,15 @@ impl Draft {
         self.part.config.fails.push(fails)
     }
 
+    // Takes a request.
+    pub(crate) fn ask(&mut self, task: Task) -> Result<(), NoMemory>
+        requires { IsSeen self.old.seen self.old.part.config }
+        ensures part { OnOk result (self.new.part ≡ changed self.old.part (Request task)) }
+        ensures seen { OnOk result (IsSeen self.new.seen self.new.part.config) }
+    {
+        self.part.config.body.push(task)
+    }
+
     // Takes the line of this number, if it breaks no rule: it is judged before anything is kept.
     pub(crate) fn accept(&mut self, alloc: Global, number: u32, line: &[u8]) -> Result<(), Refused>
         requires seen { IsSeen self.old.seen self.old.part.config }
@@ -168,8 +177,8 @@ impl Draft {
             (λ e. IsRefused (next_line number self.old.part line.now) e) }
         ensures seen { OnOk result (IsSeen self.new.seen self.new.part.config) }
     {
-        if let Some(task) = plain_request(number, &self.part, line) {
-            self.part.config.body.push(task)?;
+        if let Some(task) = plain_line(number, &self.part, line) {
+            self.ask(task)?;
             return Ok(());
         }
         let line = judge(number, &self.part, &self.seen, line)?;

@@ -13,8 +13,3 @@ pub use head::read_head;
 pub use laws::{a_shown_fault_stays, what_is_read_is_well_formed};
 pub use read::read_trace;
 pub use trace_words::Cause;
-
-#[cfg(test)]
-mod head_tests;
-#[cfg(test)]
-mod tests;

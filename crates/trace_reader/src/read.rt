@@ -6,13 +6,13 @@ ghost use Rattle.trace_lines.specs.Seen.{IsSeen};
 ghost use Rattle.trace_reader.specs.Answer.{Answers, FaultsBy};
 ghost use Rattle.trace_reader.specs.Changes.{start};
 ghost use Rattle.trace_reader.specs.Meaning.{at_end};
-ghost use Rattle.trace_reader.specs.Stream.{IsReading, HasTaken, IsLineAtFault, IsPieceTaken, IsAtFault, Means};
+ghost use Rattle.trace_reader.specs.Stream.{IsReading, HasTaken, IsLineAtFault, IsFrontTaken, IsPieceTaken, IsAtFault, Means};
 
 use crate::draft::{Draft, Refused};
 use crate::fault::TraceFault;
 use outside_io::Source;
 use std::alloc::Global;
-use trace_lines::Place;
+use trace_lines::{Place, plain_request};
 use trace_words::{Cause, parted};
 use vm_types::{Config, Failed};
 
@@ -123,16 +123,31 @@ impl Reader {
         }
     }
 
+    // Takes the requests in the plain form that the text begins with, and says what is left behind them.
+    fn take_requests<'a>(&mut self, text: &'a [u8]) -> Result<&'a [u8], TraceFault>
+        requires { IsReading self.old.draft self.old.number }
+        ensures ok { IfOk result (λ rest. IsFrontTaken self.old.draft.part self.old.number text.now self.new.draft self.new.number rest.now) }
+        ensures err { IfErr result (IsAtFault self.old.draft.part self.old.number text.now) }
+    {
+        let mut rest = text;
+        while let Some((task, after)) = plain_request(self.number, &self.draft.part, rest) {
+            self.draft.ask(task)?;
+            self.number += 1;
+            rest = after;
+        }
+        Ok(rest)
+    }
+
     // Takes the whole lines of the piece, and says how many bytes are left behind them.
     fn take_piece(&mut self, piece: &[u8]) -> Result<usize, TraceFault>
         requires { IsReading self.old.draft self.old.number }
         ensures ok { IfOk result (IsPieceTaken self.old.draft.part self.old.number piece.now self.new.draft self.new.number) }
         ensures err { IfErr result (IsAtFault self.old.draft.part self.old.number piece.now) }
     {
-        let mut rest = piece;
+        let mut rest = self.take_requests(piece)?;
         while let Some((line, after)) = parted(rest, b'\n') {
             self.take_line(line)?;
-            rest = after;
+            rest = self.take_requests(after)?;
         }
         if rest.len() > 255 {
             return Err(TraceFault::Line(self.number, Cause::LineTooLong));

@@ -1,6 +1,6 @@
 -- Numbers in a trace: decimal ones of one to ten digits below 2^32, hexadecimal ones of one to eight
 -- digits in either case. Source: this project's own.
-use Rattle.std.specs.Prelude.{ℕ, ◌+◌, ◌-◌, ◌*◌, Bool, ◌&&◌, nat_le, nat_lt, List, [], ◌∷◌, length, Result, Ok, Err, if◌then◌else◌}
+use Rattle.std.specs.Prelude.{◌≡◌, ◌⊎◌, ◌<◌, ℕ, ◌+◌, ◌-◌, ◌*◌, Bool, ◌&&◌, nat_le, nat_lt, List, [], ◌∷◌, length, Result, Ok, Err, if◌then◌else◌}
 use Rattle.trace_words.specs.declared.cause.Cause.{Cause}
 use Rattle.trace_words.specs.declared.cause.Cause.TheVariants.{BadNumber, OutOfRange}
 use Rattle.trace_words.specs.Judged.{◌>>=◌, owed}
@@ -16,6 +16,10 @@ hexadecimal_digit b =
     else if nat_le 65 b && nat_le b 70 then Ok (b - 55)
     else if nat_le 97 b && nat_le b 102 then Ok (b - 87)
     else Err BadNumber
+
+-- a digit's value, or 128 for a byte that is no digit
+abbrev pub IsDigitOrNone : ℕ → ℕ → Type 0
+IsDigitOrNone b d = ((d < 16) × (hexadecimal_digit b ≡ Ok d)) ⊎ ((d ≡ 128) × (hexadecimal_digit b ≡ Err BadNumber))
 
 -- what the digits spell behind digits of this value
 abbrev pub spelled : (ℕ → Result ℕ Cause) → ℕ → ℕ → List ℕ → Result ℕ Cause

@@ -25,6 +25,3 @@ pub use protections::protection;
 pub use services::{ServiceName, service_name};
 pub use split::{Words, cut, is, next_word, parted, words_of};
 pub use verbs::{Verb, verb_of};
-
-#[cfg(test)]
-mod tests;

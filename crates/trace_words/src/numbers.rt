@@ -1,21 +1,24 @@
 ghost use Rattle.std.specs.Prelude.{◌≡◌};
-ghost use Rattle.trace_words.specs.Number.{decimal_digit, hexadecimal_digit, decimal, decimal_within, hexadecimal};
+ghost use Rattle.trace_words.specs.Number.{decimal_digit, hexadecimal_digit, IsDigitOrNone, decimal, decimal_within, hexadecimal};
 
 use crate::cause::Cause;
 
-/// The value of each byte as a hexadecimal digit, 16 if it is none.
+// The value of each byte as a hexadecimal digit, 128 if it is none: more than eight digits are together.
 const HEX_VALUES: [u8; 256] = [
-    16, 16, 16, 16, 16, 16, 16, 16, 16, 16, 16, 16, 16, 16, 16, 16, 16, 16, 16, 16, 16, 16, 16, 16,
-    16, 16, 16, 16, 16, 16, 16, 16, 16, 16, 16, 16, 16, 16, 16, 16, 16, 16, 16, 16, 16, 16, 16, 16,
-    0, 1, 2, 3, 4, 5, 6, 7, 8, 9, 16, 16, 16, 16, 16, 16, 16, 10, 11, 12, 13, 14, 15, 16, 16, 16,
-    16, 16, 16, 16, 16, 16, 16, 16, 16, 16, 16, 16, 16, 16, 16, 16, 16, 16, 16, 16, 16, 16, 16, 10,
-    11, 12, 13, 14, 15, 16, 16, 16, 16, 16, 16, 16, 16, 16, 16, 16, 16, 16, 16, 16, 16, 16, 16, 16,
-    16, 16, 16, 16, 16, 16, 16, 16, 16, 16, 16, 16, 16, 16, 16, 16, 16, 16, 16, 16, 16, 16, 16, 16,
-    16, 16, 16, 16, 16, 16, 16, 16, 16, 16, 16, 16, 16, 16, 16, 16, 16, 16, 16, 16, 16, 16, 16, 16,
-    16, 16, 16, 16, 16, 16, 16, 16, 16, 16, 16, 16, 16, 16, 16, 16, 16, 16, 16, 16, 16, 16, 16, 16,
-    16, 16, 16, 16, 16, 16, 16, 16, 16, 16, 16, 16, 16, 16, 16, 16, 16, 16, 16, 16, 16, 16, 16, 16,
-    16, 16, 16, 16, 16, 16, 16, 16, 16, 16, 16, 16, 16, 16, 16, 16, 16, 16, 16, 16, 16, 16, 16, 16,
-    16, 16, 16, 16, 16, 16, 16, 16, 16, 16, 16, 16, 16, 16,
+    128, 128, 128, 128, 128, 128, 128, 128, 128, 128, 128, 128, 128, 128, 128, 128, 128, 128, 128,
+    128, 128, 128, 128, 128, 128, 128, 128, 128, 128, 128, 128, 128, 128, 128, 128, 128, 128, 128,
+    128, 128, 128, 128, 128, 128, 128, 128, 128, 128, 0, 1, 2, 3, 4, 5, 6, 7, 8, 9, 128, 128, 128,
+    128, 128, 128, 128, 10, 11, 12, 13, 14, 15, 128, 128, 128, 128, 128, 128, 128, 128, 128, 128,
+    128, 128, 128, 128, 128, 128, 128, 128, 128, 128, 128, 128, 128, 128, 128, 128, 10, 11, 12, 13,
+    14, 15, 128, 128, 128, 128, 128, 128, 128, 128, 128, 128, 128, 128, 128, 128, 128, 128, 128,
+    128, 128, 128, 128, 128, 128, 128, 128, 128, 128, 128, 128, 128, 128, 128, 128, 128, 128, 128,
+    128, 128, 128, 128, 128, 128, 128, 128, 128, 128, 128, 128, 128, 128, 128, 128, 128, 128, 128,
+    128, 128, 128, 128, 128, 128, 128, 128, 128, 128, 128, 128, 128, 128, 128, 128, 128, 128, 128,
+    128, 128, 128, 128, 128, 128, 128, 128, 128, 128, 128, 128, 128, 128, 128, 128, 128, 128, 128,
+    128, 128, 128, 128, 128, 128, 128, 128, 128, 128, 128, 128, 128, 128, 128, 128, 128, 128, 128,
+    128, 128, 128, 128, 128, 128, 128, 128, 128, 128, 128, 128, 128, 128, 128, 128, 128, 128, 128,
+    128, 128, 128, 128, 128, 128, 128, 128, 128, 128, 128, 128, 128, 128, 128, 128, 128, 128, 128,
+    128, 128, 128,
 ];
 
 fn digit_of_ten(byte: u8) -> Result<u8, Cause>
@@ -27,10 +30,17 @@ fn digit_of_ten(byte: u8) -> Result<u8, Cause>
     }
 }
 
+// The value of a hexadecimal digit, or 128 for another byte.
+fn digit_or_none(byte: u8) -> u8
+    ensures { IsDigitOrNone byte result }
+{
+    HEX_VALUES[byte as usize]
+}
+
 pub(crate) fn digit_of_sixteen(byte: u8) -> Result<u8, Cause>
     ensures { result ≡ hexadecimal_digit byte }
 {
-    let digit = HEX_VALUES[byte as usize];
+    let digit = digit_or_none(byte);
     if digit < 16 {
         Ok(digit)
     } else {
@@ -83,9 +93,16 @@ pub fn hexadecimal(word: &[u8]) -> Result<u32, Cause>
     if word.is_empty() || word.len() > 8 {
         return Err(Cause::BadNumber);
     }
-    let mut value: u32 = 0;
+    let mut value: u64 = 0;
+    let mut sum: u64 = 0;
     for byte in word {
-        value = 16 * value + u32::from(digit_of_sixteen(*byte)?);
+        let digit = u64::from(digit_or_none(*byte));
+        value = 16 * value + digit;
+        sum += digit;
     }
-    Ok(value)
+    if sum < 128 {
+        Ok(value as u32)
+    } else {
+        Err(Cause::BadNumber)
+    }
 }

@@ -1,14 +1,15 @@
 -- The lifts of a carrier land one after another.
-use Rattle.std.proofs.Common.{◌≡◌, ℕ, ◌+◌, ◌≤◌, ◌<◌, Bool, true, false, not, List, [], ◌∷◌, Option, length, nat_eq, count_by, if◌then◌else◌, refl, sym, ap, ◌∙◌, subst, arith}
+use Rattle.std.proofs.Common.{◌≡◌, ℕ, ◌+◌, ◌≤◌, ◌<◌, Bool, true, false, not, List, [], ◌∷◌, ◌++◌, Option, length, reverse, nat_eq, count_by, if◌then◌else◌, refl, sym, ap, ◌∙◌, subst, arith}
 use Rattle.std.specs.List.{AllByRecursion}
 use Rattle.std.proofs.lemmas.Bool.{eqb-false, eqb-true}
+use Rattle.std.proofs.lemmas.List.{reverse-append, reverse-reverse}
 use Rattle.vm_types.specs.declared.names.Seat.{Seat}
 use Rattle.pager_model.specs.Flights.{awaits_reuse}
 use Rattle.pager_rules.proofs.Basics.{count_cons_no, count_cons_yes, each_of_two}
 use Rattle.frame_store.specs.LiftView.{LiftView}
 use Rattle.vm_state.specs.CarrierView.{CarrierView}
 use Rattle.vm_state.specs.History.{History}
-use Rattle.vm_state.specs.LiftsLand.{CarrierMayLand, HasLanded, HaveOwnStarts, MayLand, added_each, counted, first_failed, landed_each, landings_of, lift_failed}
+use Rattle.vm_state.specs.LiftsLand.{CarrierMayLand, HasLanded, HaveOwnStarts, MayLand, counted, first_failed, landed_each, lift_failed}
 use Rattle.vm_state.specs.declared.landed.Landed.{Landed}
 
 module _ {B : Type 0} where
@@ -32,6 +33,17 @@ module _ {B : Type 0} where
           let good = count_cons_yes (λ (l : LiftView B). not (lift_failed l)) lift lifts (ap not is) in
           let bad = count_cons_no lift_failed lift lifts is in
           omega (arith, good, bad, rest)
+
+  -- turned round twice they are as before
+  pub turned_back : (old new : CarrierView B) → new ≡ record old { lifts = reverse old.lifts } → reverse new.lifts ≡ old.lifts
+  turned_back old new turned = ap (λ (c : CarrierView B). reverse c.lifts) turned ∙ reverse-reverse old.lifts
+
+  -- the last one is the first of those that are turned round
+  pub last_is_first : (old new : CarrierView B) (lift : LiftView B) → old ≡ record new { lifts = new.lifts ++ lift ∷ [] } → reverse old.lifts ≡ lift ∷ reverse new.lifts
+  last_is_first old new lift given = ap (λ (c : CarrierView B). reverse c.lifts) given ∙ reverse-append new.lifts (lift ∷ [])
+
+  pub none_turned : (lifts : List (LiftView B)) → reverse lifts ≡ [] → lifts ≡ []
+  none_turned lifts none = sym (reverse-reverse lifts) ∙ ap reverse none
 
   none_left : (lifts : List (LiftView B)) → length lifts ≤ 0 → lifts ≡ []
   none_left [] none = refl

@@ -13,6 +13,7 @@ impl<B: Block> State<B> {
     ghost use Rattle.vm_state.specs.History.{MayAdd, added, entry_by};
 
     /// A page in a frame becomes valid again for a process; `from` is the state that the frame was in.
+    #[inline(always)]
     pub fn back(&mut self, seat: Seat, p: Proc, a: Addr, f: Pfn, from: FrameState)
         requires { MayAdd self.old (entry_by seat (What.Back p a f from)) }
         ensures { self.new ≡ added self.old (entry_by seat (What.Back p a f from)) }

@@ -1,4 +1,4 @@
-ghost use Rattle.std.specs.Prelude.{◌≡◌, ◌<◌, ◌∷◌, ◌++◌, List, [], length, IfOk};
+ghost use Rattle.std.specs.Prelude.{◌≡◌, ◌<◌, ◌∷◌, ◌++◌, List, [], length, reverse, IfOk};
 ghost use Rattle.std.specs.List.{AllByRecursion};
 
 use disk_trait::Block;
@@ -83,12 +83,19 @@ impl<B: Block> Carrier<B> {
         self.seat
     }
 
-    /// Gives its first lift.
-    pub(crate) fn next(&mut self) -> Lift<B>
-        requires { 0 < length self.old.lifts }
-        ensures { self.old ≡ record self.new { lifts = result ∷ self.new.lifts } }
+    /// Turns its lifts round.
+    pub(crate) fn turn(&mut self)
+        ensures { self.new ≡ record self.old { lifts = reverse self.old.lifts } }
     {
-        self.lifts.remove(0)
+        self.lifts.reverse();
+    }
+
+    /// Gives its last lift.
+    pub(crate) fn last(&mut self) -> Lift<B>
+        requires { 0 < length self.old.lifts }
+        ensures { self.old ≡ record self.new { lifts = self.new.lifts ++ result ∷ [] } }
+    {
+        self.lifts.pop().unwrap()
     }
 
     /// Takes one more lift.

@@ -28,8 +28,11 @@ impl<B: Block> State<B> {
             bad: 0,
             first_bad: false,
         };
-        for n in 0..carrier.len() {
-            let lift = carrier.next();
+        let count = carrier.len();
+        // From here on the next lift is the carrier's last one.
+        carrier.turn();
+        for n in 0..count {
+            let lift = carrier.last();
             let failed = self.land_lift(seat, lift);
             landed = one_more(landed, n == 0, failed);
         }

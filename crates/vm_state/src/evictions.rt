@@ -14,6 +14,7 @@ impl<B: Block> State<B> {
     ghost use Rattle.vm_state.specs.History.{MayAdd, added, entry_by};
 
     /// A page leaves the working set of a process, and its frame goes to the state `to`.
+    #[inline(always)]
     pub fn evict(&mut self, seat: Seat, p: Proc, a: Addr, f: Pfn, why: EvictWhy, to: FrameState)
         requires { MayAdd self.old (entry_by seat (What.Evict p a f why to)) }
         ensures { self.new ≡ added self.old (entry_by seat (What.Evict p a f why to)) }

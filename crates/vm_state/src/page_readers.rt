@@ -20,6 +20,7 @@ use vm_types::{BlockId, Page, Pfn, Proc, Ref, SecId, Why, allowed};
 /// No reader allocates.
 impl<B: Block> State<B> {
     /// What a process has at a page number (any numbers); none exactly if it isn't mapped.
+    #[inline(always)]
     pub fn found(&self, p: Proc, vpn: u32) -> Option<Found>
         ensures { result ≡ found_in self.now.config (pager self.now) p.0 vpn }
     {
@@ -36,6 +37,7 @@ impl<B: Block> State<B> {
     }
 
     /// Where a page is. A shared one is of a section of the configuration.
+    #[inline(always)]
     pub fn backing(&self, page: Page) -> Backing
         requires { IsKnown self.now.config page }
         ensures { result ≡ backing_in self.now.config (pager self.now) page }

@@ -26,13 +26,13 @@ impl<B: Block> State<B> {
     {
         let f = lift.frame();
         let k = lift.start();
+        self.failed = Some(lift.id());
+        self.store.land(lift);
         fail_read(self.store.frames_mut(), f);
         self.roles[f.0 as usize] = None;
-        self.failed = Some(lift.id());
         let busy = &mut self.busy[seat.0 as usize];
         *busy -= 1;
         self.in_flight -= 1;
-        self.store.land(lift);
         self.journal.push(Entry {
             seat,
             what: What::InFail {
@@ -56,12 +56,12 @@ impl<B: Block> State<B> {
     {
         let f = lift.frame();
         let k = lift.start();
+        self.store.land(lift);
         end_read_free(self.store.frames_mut(), f);
         self.roles[f.0 as usize] = None;
         let busy = &mut self.busy[seat.0 as usize];
         *busy -= 1;
         self.in_flight -= 1;
-        self.store.land(lift);
         self.journal.push(Entry {
             seat,
             what: What::InOk { f, k },

@@ -31,13 +31,15 @@ impl<B: Block> State<B> {
     {
         let f = lift.frame();
         let k = lift.start();
+        let block = lift.id();
+        self.store.land(lift);
         let vpn = a.0 / 512;
         let kept = self.store.frames().row(f);
         let page = kept.page.unwrap();
         let row = &mut self.processes[q.0 as usize];
         let slot = take_slot(&mut row.ring, row.limit, vpn);
         let held = frame_slot(page, slot);
-        let modify = first_read(page, lift.id());
+        let modify = first_read(page, block);
         end_read(self.store.frames_mut(), f, page, held, modify);
         let look = self.tables.look(q, vpn);
         let prot = entry_in(look).unwrap().prot;
@@ -51,7 +53,6 @@ impl<B: Block> State<B> {
         let busy = &mut self.busy[seat.0 as usize];
         *busy -= 1;
         self.in_flight -= 1;
-        self.store.land(lift);
         self.journal.push(Entry {
             seat,
             what: What::InOk { f, k },
@@ -71,6 +72,7 @@ impl<B: Block> State<B> {
     {
         let f = lift.frame();
         let k = lift.start();
+        self.store.land(lift);
         let vpn = a.0 / 512;
         let row = &mut self.processes[q.0 as usize];
         let slot = come_home(row, &mut self.pages, &mut self.swaps, q, vpn);
@@ -92,7 +94,6 @@ impl<B: Block> State<B> {
         let busy = &mut self.busy[seat.0 as usize];
         *busy -= 1;
         self.in_flight -= 1;
-        self.store.land(lift);
         self.journal.push(Entry {
             seat,
             what: What::InOk { f, k },

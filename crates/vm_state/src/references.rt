@@ -16,6 +16,7 @@ impl<B: Block> State<B> {
 
     /// Answers a reference of the seat's process whose page is valid. Returns the reply that its entry
     /// shows, which is the flat machine's if blocks tell their content.
+    #[inline(always)]
     pub fn done(&mut self, seat: Seat, r: Ref) -> Reply
         requires { MayAnswer self.old seat r }
         ensures added { self.new ≡ added self.old (entry_by seat (What.Done r result)) }

@@ -60,6 +60,7 @@ impl<B: Block> State<B> {
         let f = lift.frame();
         let k = lift.start();
         let block = lift.id();
+        self.store.land(lift);
         let row = self.store.frames().row(f);
         end_write(self.store.frames_mut(), f, false);
         lie_unless(
@@ -73,7 +74,6 @@ impl<B: Block> State<B> {
         let busy = &mut self.busy[seat.0 as usize];
         *busy -= 1;
         self.in_flight -= 1;
-        self.store.land(lift);
         self.journal.push(Entry {
             seat,
             what: What::OutOk { f, k },
@@ -91,12 +91,12 @@ impl<B: Block> State<B> {
     {
         let f = lift.frame();
         let k = lift.start();
+        self.store.land(lift);
         end_write(self.store.frames_mut(), f, true);
         self.roles[f.0 as usize] = None;
         let busy = &mut self.busy[seat.0 as usize];
         *busy -= 1;
         self.in_flight -= 1;
-        self.store.land(lift);
         self.journal.push(Entry {
             seat,
             what: What::OutFail {

@@ -9,3 +9,4 @@ pub mod Ops
 pub mod Ranges
 pub mod OneToOne
 pub mod Blanks
+pub mod Pairs

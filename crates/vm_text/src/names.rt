@@ -52,7 +52,7 @@ pub fn push_frame(out: &mut ArrayVec<u8, 160>, frame: Pfn)
     ensures items { out.new.items ≡ out.old.items ++ frame_text frame.0 }
     ensures len { array_vec_len out.new ≤ array_vec_len out.old + 11 }
 {
-    push_word(out, b"F");
+    out.push(b'F');
     push_count(out, frame.0);
 }
 
@@ -64,7 +64,7 @@ fn push_section_page(out: &mut ArrayVec<u8, 160>, section: SecId, page: u32, nam
     ensures len { array_vec_len out.new ≤ array_vec_len out.old + 26 }
 {
     push_word(out, names[section.0 as usize].name.items());
-    push_word(out, b"/");
+    out.push(b'/');
     push_count(out, page);
 }
 
@@ -76,7 +76,7 @@ pub fn push_place(out: &mut ArrayVec<u8, 160>, process: Proc, address: Addr)
     ensures len { array_vec_len out.new ≡ array_vec_len out.old + 10 }
 {
     push_process(out, process);
-    push_word(out, b"/");
+    out.push(b'/');
     push_address(out, address);
 }
 
@@ -114,7 +114,7 @@ pub fn push_block(out: &mut ArrayVec<u8, 160>, block: BlockId, names: &[Section]
         BlockId::Swap(process, slot) => {
             push_word(out, b"X:");
             push_process(out, process);
-            push_word(out, b"/");
+            out.push(b'/');
             push_count(out, slot);
         }
     }

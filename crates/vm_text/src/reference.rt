@@ -62,7 +62,11 @@ pub fn push_value(out: &mut ArrayVec<u8, 160>, op: Op, value: u32)
     ensures items { out.new.items ≡ out.old.items ++ value_text op value }
     ensures len { array_vec_len out.new ≤ array_vec_len out.old + 8 }
 {
-    push_hex(out, value, 2 * u32::from(bytes_of(op)));
+    match bytes_of(op) {
+        1 => push_hex(out, value, 2),
+        2 => push_hex(out, value, 4),
+        _ => push_hex(out, value, 8),
+    }
 }
 
 /// Adds the word for why a reference is refused. Doesn't allocate.

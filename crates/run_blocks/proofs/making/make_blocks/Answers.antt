@@ -9,10 +9,10 @@ pub returns-clause-names : goal.returns-clause-names
 unfolding blocks_of
 returns-clause-names g c =
     let config = c.args.config.now in
-    let sections = c.in_ok-make_sections.ensures.adds.names ∙ ap (λ xs. names_of xs ++ section_blocks config.sections) c.new-blocks.ensures.items in
+    let sections = c.in_ok-make_sections.ensures.adds.names ∙ ap (λ xs. names_of xs ++ section_blocks config.sections) c.in_ok-blocks.ensures.items in
     let file = c.in_ok-make_file.ensures.adds.names ∙ ap (λ (xs : List BlockId). xs ++ file_blocks config.pagefile) sections in
     c.in_ok-make_swaps.ensures.adds.names ∙ (ap (λ (xs : List BlockId). xs ++ swap_blocks config.procs) file ∙ append_assoc (section_blocks config.sections) (file_blocks config.pagefile) (swap_blocks config.procs))
 
 pub returns-clause-made : goal.returns-clause-made
 returns-clause-made g c =
-    c.in_ok-make_swaps.ensures.adds.made (c.in_ok-make_file.ensures.adds.made (c.in_ok-make_sections.ensures.adds.made (none_made g.D.Block.Block.content g.D.Block.Block.plan g.D.Block.Block.reads g.D.Block.Block.writes g.D.Block.Block.faults g.D.Block.Block.tells_content g.D.Block.Block.tells_plan c.args.config.now _ c.new-blocks.ensures.items)))
+    c.in_ok-make_swaps.ensures.adds.made (c.in_ok-make_file.ensures.adds.made (c.in_ok-make_sections.ensures.adds.made (none_made g.D.Block.Block.content g.D.Block.Block.plan g.D.Block.Block.reads g.D.Block.Block.writes g.D.Block.Block.faults g.D.Block.Block.tells_content g.D.Block.Block.tells_plan c.args.config.now _ c.in_ok-blocks.ensures.items)))

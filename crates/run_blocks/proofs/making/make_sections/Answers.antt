@@ -2,7 +2,7 @@ use Rattle.std.proofs.Common.{◌<◌, ◌∙◌, length, List, subst, arith}
 use Rattle.vm_types.specs.Configuration.{section_pages}
 use Rattle.vm_types.specs.declared.config.Section.{Section}
 use Rattle.frame_store.specs.Blocks.{section_block}
-use Rattle.frame_store.proofs.TestRows.{row_more}
+use Rattle.run_blocks.proofs.RowsMade.{row_more}
 use Rattle.run_blocks.specs.Adds.{names_of}
 use Rattle.run_blocks.proofs.making.make_sections.Goals as goal
 

@@ -5,7 +5,7 @@ use Rattle.run_blocks.proofs.making.make_swap.Goals as goal
 
 pub loop-n-preserved : goal.loop-n-preserved
 loop-n-preserved g c =
-    let one = c.in_ok-make_one.ensures in
+    let one = c.in_ok-make_one_of_zeros.ensures in
     record {
       adds = added_item _ _ _ _ _ _ _ _ (swap_block (c.args.p).0) c.loop-n.n _ _ _ c.loop-n.invariant.adds one.adds;
       retired = one.retired ∙ c.loop-n.invariant.retired;

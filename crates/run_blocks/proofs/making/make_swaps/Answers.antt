@@ -1,7 +1,7 @@
 use Rattle.std.proofs.Common.{◌<◌, ◌∙◌, get_or, length, List, subst, arith}
 use Rattle.vm_types.specs.declared.config.ProcSpec.{ProcSpec}
 use Rattle.frame_store.specs.Blocks.{swap_block}
-use Rattle.frame_store.proofs.TestRows.{row_more}
+use Rattle.run_blocks.proofs.RowsMade.{row_more}
 use Rattle.run_blocks.specs.Adds.{names_of}
 use Rattle.run_blocks.proofs.ListItems.{item_read}
 use Rattle.run_blocks.proofs.making.make_swaps.Goals as goal

@@ -7,8 +7,11 @@ use Rattle.section_table.proofs.laying.lay_all.Given as goal
 
 -- the mappings from left on are laid
 abbrev pub invariant-loop-left : goal.invariant-loop-left
-invariant-loop-left l =
-    (l.left ≤ length l.maps) × ((p v : ℕ) → item_at l.origins p v ≡ option_map (origin_by v) (find (covers p v) (drop l.left l.maps)))
+invariant-loop-left l = record {
+  left : l.left ≤ length l.maps;
+  laid : (p v : ℕ) → item_at l.origins p v ≡ option_map (origin_by v) (find (covers p v) (drop l.left l.maps));
+  places : length l.origins ≡ length l.initial.origins;
+}
 
 abbrev pub decreases-loop-left : goal.decreases-loop-left
 decreases-loop-left l = l.left

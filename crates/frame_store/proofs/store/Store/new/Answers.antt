@@ -20,10 +20,10 @@ invariant_of-result g c =
     let buffers = c.in_ok-buffers.ensures.buffers in
     let ids_long : length c.in_ok-ids.ids.items ≡ length c.args.blocks.items =
     ap length (c.in_ok-ids.ensures ∙ ap (map (λ (p : BlockId × g.row.B.Denot). p.0)) c.deref.ensures.value) ∙ length-map c.args.blocks.items (λ (p : BlockId × g.row.B.Denot). p.0) in
-    let blocks_long : length c.in_ok-blocks.blocks.items ≡ length c.args.blocks.items = ap length c.in_ok-blocks.ensures ∙ length-map c.args.blocks.items (λ (p : BlockId × g.row.B.Denot). Some p.1) in
+    let blocks_long : length c.in_ok-blocks.blocks.items ≡ length c.args.blocks.items = ap length c.in_ok-blocks.ensures.blocks ∙ length-map c.args.blocks.items (λ (p : BlockId × g.row.B.Denot). Some p.1) in
     let buffers_long : length c.in_ok-buffers.buffers.items ≡ c.args.config.now.frames = ap length buffers ∙ length-replicate c.args.config.now.frames _ in
     let flights_long = c.in_ok-flights.ensures.len in
-    let room = c.in_ok-returned.ensures.capacity in
+    let room = c.in_ok-blocks.ensures.room in
     record {
       kept =
           record {
@@ -31,7 +31,7 @@ invariant_of-result g c =
             flights = omega (arith, buffers_long, flights_long, c.in_ok-flights.flights.ok.0);
             blocks = omega (arith, ids_long, blocks_long, c.in_ok-blocks.blocks.ok.0);
             numbered = subst (AreNumbers (number_by c.in_ok-numbers.numbers.sections.items c.in_ok-numbers.numbers.file c.in_ok-numbers.numbers.swaps.items)) (sym ids) c.in_ok-numbers.ensures;
-            room = omega (arith, room, c.len.ensures, c.in_ok-ids.ids.ok.0);
+            room = omega (arith, room, ids_long, c.args.blocks.ok.0);
           };
-      empty = c.in_ok-returned.ensures.items;
+      empty = c.in_ok-blocks.ensures.empty;
     }

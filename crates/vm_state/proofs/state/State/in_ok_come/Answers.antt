@@ -1,4 +1,5 @@
-use Rattle.std.proofs.Common.{◌/◌, IsSome, refl, sym, ◌∙◌, subst, arith}
+use Rattle.std.proofs.Common.{◌/◌, IsSome, refl, sym, ◌∙◌, subst, arith, ap}
+use Rattle.frame_store.specs.StoreView.{StoreView}
 use Rattle.vm_journal.specs.declared.entry.Role.TheVariants as role
 use Rattle.vm_journal.specs.declared.entry.What.TheVariants as what
 use Rattle.vm_state.specs.History.{History, entry_by}
@@ -17,16 +18,16 @@ pub come_home-slot-requires : goal.come_home-slot-requires
 come_home-slot-requires g c = close.can_home c.self.invariant c.args.seat c.args.lift (may_before c.self.view_is c.requires.may).legal (fits_before g.B.Block.content g.B.Block.plan g.B.Block.reads g.B.Block.writes g.B.Block.faults g.B.Block.tells_content g.B.Block.tells_plan c.args.lift c.self.view_is c.requires.fits) c.args.q c.args.a (subst (λ (s : History). IsReadAs s.past c.args.lift.start (role.Come c.args.q c.args.a)) (sym c.self.view_is) c.requires.come) c.index_mut-row.result.now c.index_mut-row.ensures.value
 
 pub end_read-requires-clause-below : goal.end_read-requires-clause-below
-end_read-requires-clause-below g c = rw (c.frames_mut.ensures.value, c.frame-f.ensures) ((ended.can c.self.invariant c.args.seat c.args.lift (may_before c.self.view_is c.requires.may).legal (fits_before g.B.Block.content g.B.Block.plan g.B.Block.reads g.B.Block.writes g.B.Block.faults g.B.Block.tells_content g.B.Block.tells_plan c.args.lift c.self.view_is c.requires.fits)).below)
+end_read-requires-clause-below g c = rw ((c.frames_mut.ensures.value ∙ (ap (λ (s : StoreView g.row.B.Denot). s.frames) c.land.ensures.store)), c.frame-f.ensures) ((ended.can c.self.invariant c.args.seat c.args.lift (may_before c.self.view_is c.requires.may).legal (fits_before g.B.Block.content g.B.Block.plan g.B.Block.reads g.B.Block.writes g.B.Block.faults g.B.Block.tells_content g.B.Block.tells_plan c.args.lift c.self.view_is c.requires.fits)).below)
 
 pub end_read-requires-clause-reading : goal.end_read-requires-clause-reading
-end_read-requires-clause-reading g c = rw (c.frames_mut.ensures.value, c.frame-f.ensures) (ended.is_reading c.self.invariant c.args.seat c.args.lift (may_before c.self.view_is c.requires.may).legal (fits_before g.B.Block.content g.B.Block.plan g.B.Block.reads g.B.Block.writes g.B.Block.faults g.B.Block.tells_content g.B.Block.tells_plan c.args.lift c.self.view_is c.requires.fits))
+end_read-requires-clause-reading g c = rw ((c.frames_mut.ensures.value ∙ (ap (λ (s : StoreView g.row.B.Denot). s.frames) c.land.ensures.store)), c.frame-f.ensures) (ended.is_reading c.self.invariant c.args.seat c.args.lift (may_before c.self.view_is c.requires.may).legal (fits_before g.B.Block.content g.B.Block.plan g.B.Block.reads g.B.Block.writes g.B.Block.faults g.B.Block.tells_content g.B.Block.tells_plan c.args.lift c.self.view_is c.requires.fits))
 
 pub end_read-requires-clause-flights : goal.end_read-requires-clause-flights
-end_read-requires-clause-flights g c = rw (c.frames_mut.ensures.value, c.frame-f.ensures) (ended.one_flight c.self.invariant c.args.seat c.args.lift (may_before c.self.view_is c.requires.may).legal (fits_before g.B.Block.content g.B.Block.plan g.B.Block.reads g.B.Block.writes g.B.Block.faults g.B.Block.tells_content g.B.Block.tells_plan c.args.lift c.self.view_is c.requires.fits))
+end_read-requires-clause-flights g c = rw ((c.frames_mut.ensures.value ∙ (ap (λ (s : StoreView g.row.B.Denot). s.frames) c.land.ensures.store)), c.frame-f.ensures) (ended.one_flight c.self.invariant c.args.seat c.args.lift (may_before c.self.view_is c.requires.may).legal (fits_before g.B.Block.content g.B.Block.plan g.B.Block.reads g.B.Block.writes g.B.Block.faults g.B.Block.tells_content g.B.Block.tells_plan c.args.lift c.self.view_is c.requires.fits))
 
 pub end_read-requires-clause-page : goal.end_read-requires-clause-page
-end_read-requires-clause-page g c = rw (c.frames_mut.ensures.value, c.frame-f.ensures) (close.come_page c.self.invariant c.args.seat c.args.lift (may_before c.self.view_is c.requires.may).legal (fits_before g.B.Block.content g.B.Block.plan g.B.Block.reads g.B.Block.writes g.B.Block.faults g.B.Block.tells_content g.B.Block.tells_plan c.args.lift c.self.view_is c.requires.fits) c.args.q c.args.a (subst (λ (s : History). IsReadAs s.past c.args.lift.start (role.Come c.args.q c.args.a)) (sym c.self.view_is) c.requires.come))
+end_read-requires-clause-page g c = rw ((c.frames_mut.ensures.value ∙ (ap (λ (s : StoreView g.row.B.Denot). s.frames) c.land.ensures.store)), c.frame-f.ensures) (close.come_page c.self.invariant c.args.seat c.args.lift (may_before c.self.view_is c.requires.may).legal (fits_before g.B.Block.content g.B.Block.plan g.B.Block.reads g.B.Block.writes g.B.Block.faults g.B.Block.tells_content g.B.Block.tells_plan c.args.lift c.self.view_is c.requires.fits) c.args.q c.args.a (subst (λ (s : History). IsReadAs s.past c.args.lift.start (role.Come c.args.q c.args.a)) (sym c.self.view_is) c.requires.come))
 
 pub unwrap-prot-requires : goal.unwrap-prot-requires
 unwrap-prot-requires g c = subst IsSome (sym (looked c.self.inside.tables c.args.q.0 (c.args.a.0 / 512) c.look-look.result c.entry_in.result c.look-look.ensures.value c.entry_in.ensures)) (close.come_can c.self.invariant c.args.seat c.args.lift (may_before c.self.view_is c.requires.may).legal (fits_before g.B.Block.content g.B.Block.plan g.B.Block.reads g.B.Block.writes g.B.Block.faults g.B.Block.tells_content g.B.Block.tells_plan c.args.lift c.self.view_is c.requires.fits) c.args.q c.args.a (subst (λ (s : History). IsReadAs s.past c.args.lift.start (role.Come c.args.q c.args.a)) (sym c.self.view_is) c.requires.come)).mapped
@@ -55,8 +56,8 @@ invariant_of-self g c =
     pushed _ _ (entry_by c.args.seat (what.InOk c.frame-f.result c.start-k.result)) c.push.new.self c.push.ensures
     (close.come_closes c.self.invariant c.args.seat c.args.lift (may_before c.self.view_is c.requires.may).legal (fits_before g.B.Block.content g.B.Block.plan g.B.Block.reads g.B.Block.writes g.B.Block.faults g.B.Block.tells_content g.B.Block.tells_plan c.args.lift c.self.view_is c.requires.fits) c.args.q c.args.a (subst (λ (s : History). IsReadAs s.past c.args.lift.start (role.Come c.args.q c.args.a)) (sym c.self.view_is) c.requires.come)
     c.index_mut-row.result.now c.index_mut-row.ensures.value c.come_home-slot.new.row c.come_home-slot.result c.come_home-slot.new.pages c.come_home-slot.new.swaps c.come_home-slot.ensures
-    c.end_read.new.frames (rw (← c.frames_mut.ensures.value) c.end_read.ensures.free) (rw (← c.frames_mut.ensures.value) c.end_read.ensures.modified)
+    c.end_read.new.frames (rw (← (c.frames_mut.ensures.value ∙ (ap (λ (s : StoreView g.row.B.Denot). s.frames) c.land.ensures.store))) c.end_read.ensures.free) (rw (← (c.frames_mut.ensures.value ∙ (ap (λ (s : StoreView g.row.B.Denot). s.frames) c.land.ensures.store))) c.end_read.ensures.modified)
     c.set.new.self c.unwrap-prot.result (sym (looked c.self.inside.tables c.args.q.0 (c.args.a.0 / 512) c.look-look.result c.entry_in.result c.look-look.ensures.value c.entry_in.ensures) ∙ c.unwrap-prot.ensures) c.set.ensures.procs
-    c.land.new.self c.land.ensures.store c.index_mut-busy.result.now c.index_mut-busy.ensures.value refl
+    (record c.land.new.self { frames = c.end_read.new.frames }) (ap (λ (s : StoreView g.row.B.Denot). record s { frames = c.end_read.new.frames }) c.land.ensures.store) c.index_mut-busy.result.now c.index_mut-busy.ensures.value refl
     c.frame-f.result c.start-k.result c.frame-f.ensures c.start-k.ensures c.requires.good c.land.ensures.size may.paid
-    (rw (← c.frames_mut.ensures.value) c.end_read.ensures.rows) c.set.ensures.changed)
+    (rw (← (c.frames_mut.ensures.value ∙ (ap (λ (s : StoreView g.row.B.Denot). s.frames) c.land.ensures.store))) c.end_read.ensures.rows) c.set.ensures.changed)

@@ -1,4 +1,5 @@
 use Rattle.std.proofs.Common.{◌/◌, IsSome, refl, sym, ap, ◌∙◌, subst, arith}
+use Rattle.frame_store.specs.StoreView.{StoreView}
 use Rattle.pfn_database.specs.Frames.{Frames, row_of}
 use Rattle.pfn_database.specs.declared.row.Row.{Row}
 use Rattle.vm_journal.specs.declared.entry.Role.TheVariants as role
@@ -14,10 +15,10 @@ use Rattle.vm_state.proofs.ReadsValid as close
 use Rattle.vm_state.proofs.state.State.in_ok_fault.Goals as goal
 
 pub row-kept-requires : goal.row-kept-requires
-row-kept-requires g c = rw (c.frames.ensures, c.frame-f.ensures) ((ended.can c.self.invariant c.args.seat c.args.lift (may_before c.self.view_is c.requires.may).legal (fits_before g.B.Block.content g.B.Block.plan g.B.Block.reads g.B.Block.writes g.B.Block.faults g.B.Block.tells_content g.B.Block.tells_plan c.args.lift c.self.view_is c.requires.fits)).below)
+row-kept-requires g c = rw ((c.frames.ensures ∙ (ap (λ (s : StoreView g.row.B.Denot). s.frames) c.land.ensures.store)), c.frame-f.ensures) ((ended.can c.self.invariant c.args.seat c.args.lift (may_before c.self.view_is c.requires.may).legal (fits_before g.B.Block.content g.B.Block.plan g.B.Block.reads g.B.Block.writes g.B.Block.faults g.B.Block.tells_content g.B.Block.tells_plan c.args.lift c.self.view_is c.requires.fits)).below)
 
 pub unwrap-page-requires : goal.unwrap-page-requires
-unwrap-page-requires g c = rw (c.row-kept.ensures.row, c.frames.ensures, c.frame-f.ensures) (close.row_held c.self.invariant c.args.seat c.args.lift (may_before c.self.view_is c.requires.may).legal (fits_before g.B.Block.content g.B.Block.plan g.B.Block.reads g.B.Block.writes g.B.Block.faults g.B.Block.tells_content g.B.Block.tells_plan c.args.lift c.self.view_is c.requires.fits) c.args.q c.args.a)
+unwrap-page-requires g c = rw (c.row-kept.ensures.row, (c.frames.ensures ∙ (ap (λ (s : StoreView g.row.B.Denot). s.frames) c.land.ensures.store)), c.frame-f.ensures) (close.row_held c.self.invariant c.args.seat c.args.lift (may_before c.self.view_is c.requires.may).legal (fits_before g.B.Block.content g.B.Block.plan g.B.Block.reads g.B.Block.writes g.B.Block.faults g.B.Block.tells_content g.B.Block.tells_plan c.args.lift c.self.view_is c.requires.fits) c.args.q c.args.a)
 
 pub index_mut-row-requires : goal.index_mut-row-requires
 index_mut-row-requires g c = let less = (close.fault_can c.self.invariant c.args.seat c.args.lift (may_before c.self.view_is c.requires.may).legal (fits_before g.B.Block.content g.B.Block.plan g.B.Block.reads g.B.Block.writes g.B.Block.faults g.B.Block.tells_content g.B.Block.tells_plan c.args.lift c.self.view_is c.requires.fits) c.args.q c.args.a (subst (λ (s : History). IsReadAs s.past c.args.lift.start (role.Fault c.args.q c.args.a)) (sym c.self.view_is) c.requires.fault)).process in omega (arith, less)
@@ -29,13 +30,13 @@ pub take_slot-slot-requires-clause-limit : goal.take_slot-slot-requires-clause-l
 take_slot-slot-requires-clause-limit g c = (close.fault_slot c.self.invariant c.args.seat c.args.lift (may_before c.self.view_is c.requires.may).legal (fits_before g.B.Block.content g.B.Block.plan g.B.Block.reads g.B.Block.writes g.B.Block.faults g.B.Block.tells_content g.B.Block.tells_plan c.args.lift c.self.view_is c.requires.fits) c.args.q c.args.a (subst (λ (s : History). IsReadAs s.past c.args.lift.start (role.Fault c.args.q c.args.a)) (sym c.self.view_is) c.requires.fault) c.index_mut-row.result.now c.index_mut-row.ensures.value).1
 
 pub end_read-requires-clause-below : goal.end_read-requires-clause-below
-end_read-requires-clause-below g c = rw (c.frames_mut.ensures.value, c.frame-f.ensures) ((ended.can c.self.invariant c.args.seat c.args.lift (may_before c.self.view_is c.requires.may).legal (fits_before g.B.Block.content g.B.Block.plan g.B.Block.reads g.B.Block.writes g.B.Block.faults g.B.Block.tells_content g.B.Block.tells_plan c.args.lift c.self.view_is c.requires.fits)).below)
+end_read-requires-clause-below g c = rw ((c.frames_mut.ensures.value ∙ (ap (λ (s : StoreView g.row.B.Denot). s.frames) c.land.ensures.store)), c.frame-f.ensures) ((ended.can c.self.invariant c.args.seat c.args.lift (may_before c.self.view_is c.requires.may).legal (fits_before g.B.Block.content g.B.Block.plan g.B.Block.reads g.B.Block.writes g.B.Block.faults g.B.Block.tells_content g.B.Block.tells_plan c.args.lift c.self.view_is c.requires.fits)).below)
 
 pub end_read-requires-clause-reading : goal.end_read-requires-clause-reading
-end_read-requires-clause-reading g c = rw (c.frames_mut.ensures.value, c.frame-f.ensures) (ended.is_reading c.self.invariant c.args.seat c.args.lift (may_before c.self.view_is c.requires.may).legal (fits_before g.B.Block.content g.B.Block.plan g.B.Block.reads g.B.Block.writes g.B.Block.faults g.B.Block.tells_content g.B.Block.tells_plan c.args.lift c.self.view_is c.requires.fits))
+end_read-requires-clause-reading g c = rw ((c.frames_mut.ensures.value ∙ (ap (λ (s : StoreView g.row.B.Denot). s.frames) c.land.ensures.store)), c.frame-f.ensures) (ended.is_reading c.self.invariant c.args.seat c.args.lift (may_before c.self.view_is c.requires.may).legal (fits_before g.B.Block.content g.B.Block.plan g.B.Block.reads g.B.Block.writes g.B.Block.faults g.B.Block.tells_content g.B.Block.tells_plan c.args.lift c.self.view_is c.requires.fits))
 
 pub end_read-requires-clause-flights : goal.end_read-requires-clause-flights
-end_read-requires-clause-flights g c = rw (c.frames_mut.ensures.value, c.frame-f.ensures) (ended.one_flight c.self.invariant c.args.seat c.args.lift (may_before c.self.view_is c.requires.may).legal (fits_before g.B.Block.content g.B.Block.plan g.B.Block.reads g.B.Block.writes g.B.Block.faults g.B.Block.tells_content g.B.Block.tells_plan c.args.lift c.self.view_is c.requires.fits))
+end_read-requires-clause-flights g c = rw ((c.frames_mut.ensures.value ∙ (ap (λ (s : StoreView g.row.B.Denot). s.frames) c.land.ensures.store)), c.frame-f.ensures) (ended.one_flight c.self.invariant c.args.seat c.args.lift (may_before c.self.view_is c.requires.may).legal (fits_before g.B.Block.content g.B.Block.plan g.B.Block.reads g.B.Block.writes g.B.Block.faults g.B.Block.tells_content g.B.Block.tells_plan c.args.lift c.self.view_is c.requires.fits))
 
 pub unwrap-prot-requires : goal.unwrap-prot-requires
 unwrap-prot-requires g c = subst IsSome (sym (looked c.self.inside.tables c.args.q.0 (c.args.a.0 / 512) c.look-look.result c.entry_in.result c.look-look.ensures.value c.entry_in.ensures)) (close.fault_can c.self.invariant c.args.seat c.args.lift (may_before c.self.view_is c.requires.may).legal (fits_before g.B.Block.content g.B.Block.plan g.B.Block.reads g.B.Block.writes g.B.Block.faults g.B.Block.tells_content g.B.Block.tells_plan c.args.lift c.self.view_is c.requires.fits) c.args.q c.args.a (subst (λ (s : History). IsReadAs s.past c.args.lift.start (role.Fault c.args.q c.args.a)) (sym c.self.view_is) c.requires.fault)).mapped
@@ -45,7 +46,7 @@ set-requires-clause-entry g c = rw c.frame-f.ensures ((close.fault_can c.self.in
 
 pub share-requires : goal.share-requires
 share-requires g c =
-    let page = sym (ap (λ (z : Row). z.page) (c.row-kept.ensures.row ∙ ap (λ (fs : Frames). row_of fs c.frame-f.result.0) c.frames.ensures)) ∙ c.unwrap-page.ensures in (
+    let page = sym (ap (λ (z : Row). z.page) (c.row-kept.ensures.row ∙ ap (λ (fs : Frames). row_of fs c.frame-f.result.0) (c.frames.ensures ∙ (ap (λ (s : StoreView g.row.B.Denot). s.frames) c.land.ensures.store)))) ∙ c.unwrap-page.ensures in (
       c.self.inside.config,
       rw c.deref.ensures.value (numbered c.self.invariant c.frame-f.result.0 c.unwrap-page.result page),
       close.fault_share c.self.invariant c.args.seat c.args.lift (may_before c.self.view_is c.requires.may).legal (fits_before g.B.Block.content g.B.Block.plan g.B.Block.reads g.B.Block.writes g.B.Block.faults g.B.Block.tells_content g.B.Block.tells_plan c.args.lift c.self.view_is c.requires.fits) c.args.q c.args.a (subst (λ (s : History). IsReadAs s.past c.args.lift.start (role.Fault c.args.q c.args.a)) (sym c.self.view_is) c.requires.fault) c.unwrap-page.result (rw (← c.frame-f.ensures) page),
@@ -69,14 +70,14 @@ land-requires-clause-block g c κs within = ended.block_out c.self.invariant c.a
 pub invariant_of-self : goal.invariant_of-self
 invariant_of-self g c =
     let may = may_before c.self.view_is c.requires.may in
-    let page = sym (ap (λ (z : Row). z.page) (c.row-kept.ensures.row ∙ ap (λ (fs : Frames). row_of fs c.frame-f.result.0) c.frames.ensures)) ∙ c.unwrap-page.ensures in
+    let page = sym (ap (λ (z : Row). z.page) (c.row-kept.ensures.row ∙ ap (λ (fs : Frames). row_of fs c.frame-f.result.0) (c.frames.ensures ∙ (ap (λ (s : StoreView g.row.B.Denot). s.frames) c.land.ensures.store)))) ∙ c.unwrap-page.ensures in
     pushed _ _ (entry_by c.args.seat (what.InOk c.frame-f.result c.start-k.result)) c.push.new.self c.push.ensures
     (close.fault_closes c.self.invariant c.args.seat c.args.lift (may_before c.self.view_is c.requires.may).legal (fits_before g.B.Block.content g.B.Block.plan g.B.Block.reads g.B.Block.writes g.B.Block.faults g.B.Block.tells_content g.B.Block.tells_plan c.args.lift c.self.view_is c.requires.fits) c.args.q c.args.a (subst (λ (s : History). IsReadAs s.past c.args.lift.start (role.Fault c.args.q c.args.a)) (sym c.self.view_is) c.requires.fault)
     c.unwrap-page.result (rw (← c.frame-f.ensures) page) c.index_mut-row.result.now c.index_mut-row.ensures.value c.take_slot-slot.result c.take_slot-slot.ensures.offered
-    c.end_read.new.frames (rw (← c.frames_mut.ensures.value) c.end_read.ensures.free) (rw (← c.frames_mut.ensures.value) c.end_read.ensures.modified)
+    c.end_read.new.frames (rw (← (c.frames_mut.ensures.value ∙ (ap (λ (s : StoreView g.row.B.Denot). s.frames) c.land.ensures.store))) c.end_read.ensures.free) (rw (← (c.frames_mut.ensures.value ∙ (ap (λ (s : StoreView g.row.B.Denot). s.frames) c.land.ensures.store))) c.end_read.ensures.modified)
     c.set.new.self c.unwrap-prot.result (sym (looked c.self.inside.tables c.args.q.0 (c.args.a.0 / 512) c.look-look.result c.entry_in.result c.look-look.ensures.value c.entry_in.ensures) ∙ c.unwrap-prot.ensures) c.set.ensures.procs c.share.new.globals
     (c.share.ensures c.self.inside.config (rw c.deref.ensures.value (numbered c.self.invariant c.frame-f.result.0 c.unwrap-page.result page)))
-    c.land.new.self c.land.ensures.store c.index_mut-busy.result.now c.index_mut-busy.ensures.value refl
-    c.take_slot-slot.new.ring c.take_slot-slot.ensures.placed c.id.result c.id.ensures c.first_read-modify.result c.first_read-modify.ensures c.frame_slot-held.result c.frame_slot-held.ensures
+    (record c.land.new.self { frames = c.end_read.new.frames }) (ap (λ (s : StoreView g.row.B.Denot). record s { frames = c.end_read.new.frames }) c.land.ensures.store) c.index_mut-busy.result.now c.index_mut-busy.ensures.value refl
+    c.take_slot-slot.new.ring c.take_slot-slot.ensures.placed c.id-block.result c.id-block.ensures c.first_read-modify.result c.first_read-modify.ensures c.frame_slot-held.result c.frame_slot-held.ensures
     c.frame-f.result c.start-k.result c.frame-f.ensures c.start-k.ensures c.requires.good c.land.ensures.size may.paid
-    (rw (← c.frames_mut.ensures.value) c.end_read.ensures.rows) c.set.ensures.changed)
+    (rw (← (c.frames_mut.ensures.value ∙ (ap (λ (s : StoreView g.row.B.Denot). s.frames) c.land.ensures.store))) c.end_read.ensures.rows) c.set.ensures.changed)

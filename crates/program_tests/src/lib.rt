@@ -1,0 +1,31 @@
+//! Tests of the program's one call over a source, a sink and a depot. Its contract is proved where it
+//! stands; the tests show what no clause says: that it returns, the exact text of runs that were worked
+//! out by hand, what it says when a block, an end or a making fails, and the greatest sizes.
+#![tactic(auto)]
+
+#[cfg(test)]
+mod checks;
+#[cfg(test)]
+mod clusters;
+#[cfg(test)]
+mod failing_blocks;
+#[cfg(test)]
+mod failing_ends;
+#[cfg(test)]
+mod made_runs;
+#[cfg(test)]
+mod replacement;
+#[cfg(test)]
+mod rows;
+#[cfg(test)]
+mod runs;
+#[cfg(test)]
+mod sections;
+#[cfg(test)]
+mod services;
+#[cfg(test)]
+mod several_processes;
+#[cfg(test)]
+mod sizes;
+#[cfg(test)]
+mod swapping;

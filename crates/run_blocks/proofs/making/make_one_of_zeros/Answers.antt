@@ -1,0 +1,21 @@
+use Rattle.std.proofs.Common.{replicate}
+use Rattle.run_blocks.proofs.Added.{added_one}
+use Rattle.run_blocks.proofs.making.make_one_of_zeros.Goals as goal
+use Rattle.run_blocks.proofs.making.make_one_of_zeros.Goals.{in-Ok, in-Err}
+
+pub returns-clause-adds : goal.returns-clause-adds
+returns-clause-adds g c =
+    elim c.match-push.branch [
+      | in-Ok w ↦ rw (w.result-is, w.in-Ok.ensures.items)
+          (added_one g.D.Block.Block.content g.D.Block.Block.plan g.D.Block.Block.reads g.D.Block.Block.writes g.D.Block.Block.faults g.D.Block.Block.tells_content g.D.Block.Block.tells_plan
+          c.args.config.now c.args.id c.in_ok-block.block (replicate 512 0) c.planned_calls.result.now c.args.blocks.now.items
+          (record {
+            content_is = c.in_ok-block.ensures.content;
+            plan_is = c.in_ok-block.ensures.plan;
+            unread = c.in_ok-block.ensures.reads;
+            unwritten = c.in_ok-block.ensures.writes;
+            sound = c.in_ok-block.ensures.faults;
+          })
+          c.planned_calls.ensures c.requires)
+      | in-Err w ↦ rw w.result-is tt
+    ]

@@ -1,0 +1,18 @@
+use Rattle.std.proofs.Common.{◌+◌, ◌/◌, ◌++◌, ◌∙◌, ap, length, map}
+use Rattle.std.specs.List.{range_with_len}
+use Rattle.vm_types.specs.Configuration.{section_pages}
+use Rattle.vm_types.specs.declared.names.BlockId.TheVariants as block
+use Rattle.frame_store.specs.Blocks.{section_block}
+use Rattle.store_tests.specs.TestStore.{in_row}
+use Rattle.run_blocks.proofs.RowsMade.{row_more}
+use Rattle.store_tests.proofs.of_frame_store.push_sections.Goals as goal
+
+pub loop-section-preserved : goal.loop-section-preserved
+loop-section-preserved c =
+    let i = c.loop-section.section-index in
+    record {
+      number = ap (λ n. n + 1) c.loop-section.invariant.number;
+      ids = row_more section_block section_pages c.args.sections.now i c.section-item.result c.loop-section.ids.items c.push_row.new.ids.items _ c.loop-section-test.true c.section-item.is
+          (c.in_ok-push_row.ensures ∙ (λ j. c.loop-section.ids.items ++ map (in_row (block.Section (record { 0 = c.loop-section.invariant.number j }) 0)) (range_with_len 0 (length (c.items.ensures j) / 512))))
+          c.loop-section.invariant.ids;
+    }
