@@ -15,6 +15,7 @@ use vm_state::{Carrier, State};
 use vm_types::{BlockId, Pfn, Seat};
 
 /// The free list's head gives up the page that it holds, if it holds one. Doesn't allocate.
+#[inline(always)]
 pub fn reuse_first<B: Block>(state: &mut State<B>, seat: Seat, f: Pfn)
     requires head { IsHead (pager state.old).free f.0 }
     requires may { AreLegal state.old.config state.old.past seat.0 (reuse_first ((pager state.old).page f.0) f.0 []) }
@@ -31,6 +32,7 @@ pub fn reuse_first<B: Block>(state: &mut State<B>, seat: Seat, f: Pfn)
 
 /// A read of a block begins into the free list's head, which gives up the page that it holds; nothing
 /// happens if the free list is empty. The carrier takes the lift. Doesn't allocate.
+#[inline(always)]
 pub fn read_one<B: Block>(
     state: &mut State<B>,
     seat: Seat,
@@ -59,6 +61,7 @@ pub fn read_one<B: Block>(
 }
 
 /// A write of the page in a frame begins. The carrier takes the lift. Doesn't allocate.
+#[inline(always)]
 pub fn write_one<B: Block>(
     state: &mut State<B>,
     seat: Seat,

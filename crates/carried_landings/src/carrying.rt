@@ -12,6 +12,7 @@ use vm_state::{Carrier, State};
 /// Reads or writes the block of each lift, in their order, and lands the lifts, each failed read followed
 /// by the reuse of its frame. They are all that is open of the carrier's seat, in the order in which it
 /// was begun; the carrier is empty afterwards, and the seat has nothing open. Doesn't allocate.
+#[inline(always)]
 pub fn carry_and_land<B: Block>(state: &mut State<B>, carrier: &mut Carrier<B>) -> CarrierLanded
     requires calm { awaits_reuse state.old.past ≡ false }
     requires lifts { HasBegunLifts B.content B.plan B.reads B.writes B.faults B.tells_content B.tells_plan

@@ -110,6 +110,7 @@ fn is_at_limit<B: Block>(state: &State<B>, p: Proc) -> bool
 }
 
 /// No other seat is reading the page.
+#[inline(always)]
 pub fn room<B: Block>(
     state: &mut State<B>,
     seat: Seat,

@@ -28,6 +28,7 @@ use vm_state::{Carrier, State};
 use vm_types::{BlockId, Pfn, Proc, Ref, Seat};
 
 /// There is a slot for the page.
+#[inline(always)]
 pub fn held<B: Block>(
     state: &mut State<B>,
     seat: Seat,

@@ -120,6 +120,7 @@ fn victim_of(choice: Choice) -> u32
 }
 
 /// As many pages are in the working set as its limit allows: the ring's victim leaves it.
+#[inline(always)]
 pub fn replace<B: Block>(state: &mut State<B>, seat: Seat, r: Ref, carrier: &mut Carrier<B>) -> Next
     requires ready { IsReadySeat state.old seat }
     requires formed { IsWellFormedReference r }

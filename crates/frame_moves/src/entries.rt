@@ -12,6 +12,7 @@ use vm_types::{FrameState, Page, Pfn};
 /// One more entry is valid for a frame that is empty or holds this page: it leaves the list that it
 /// is on, if any, and is active. The slot is the ring slot, 0 for a shared page. An open transfer
 /// goes on.
+#[inline(always)]
 pub fn enter(frames: &mut Pfns, f: Pfn, page: Page, slot: u32, modify: bool)
     requires below { f.0 < length frames.old.rows }
     requires usable { ((row_of frames.old f.0).state ≢ FrameState.Bad)
@@ -41,6 +42,7 @@ pub fn enter(frames: &mut Pfns, f: Pfn, page: Page, slot: u32, modify: bool)
 /// One entry less is valid for an active frame. The last one gives up the slot; the frame is then
 /// release pending while a transfer is open, else it goes onto the tail of the modified list where
 /// its modify mark is set, and onto the tail of the free list where it isn't. It keeps its page.
+#[inline(always)]
 pub fn leave(frames: &mut Pfns, f: Pfn)
     requires below { f.0 < length frames.old.rows }
     requires active { (row_of frames.old f.0).state ≡ FrameState.Active }

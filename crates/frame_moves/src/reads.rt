@@ -33,6 +33,7 @@ pub fn begin_read(frames: &mut Pfns, f: Pfn, page: Page)
 
 /// A read of the frame has ended, and an entry is valid for its page. The slot is the ring slot, 0
 /// for a shared page.
+#[inline(always)]
 pub fn end_read(frames: &mut Pfns, f: Pfn, page: Page, slot: u32, modify: bool)
     requires below { f.0 < length frames.old.rows }
     requires reading { (row_of frames.old f.0).state ≡ FrameState.Reading }

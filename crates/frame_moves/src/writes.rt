@@ -32,6 +32,7 @@ pub fn begin_write(frames: &mut Pfns, f: Pfn)
 /// A write of the frame has ended. If it has failed the modify mark is set. A frame for which no
 /// entry is valid goes onto the tail of the modified list where its mark is set, else onto the tail
 /// of the free list; every other one stays active.
+#[inline(always)]
 pub fn end_write(frames: &mut Pfns, f: Pfn, failed: bool)
     requires below { f.0 < length frames.old.rows }
     requires state { let state = (row_of frames.old f.0).state in

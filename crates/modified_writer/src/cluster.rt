@@ -31,6 +31,7 @@ fn next_write<B: Block>(state: &State<B>, last: Option<BlockId>) -> Option<(Pfn,
 
 /// Begins to write the pages from the modified list's head on, as long as their blocks adjoin: at most
 /// WRTCLUSTER.
+#[inline(always)]
 pub fn write_cluster<B: Block>(state: &mut State<B>, seat: Seat, carrier: &mut Carrier<B>)
     requires formed { IsWellFormed state.old.config }
     requires may { AreLegal state.old.config state.old.past seat.0 (cluster_writes state.old) }

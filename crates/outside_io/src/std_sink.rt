@@ -11,7 +11,7 @@ use arrayvec::ArrayVec;
 use std::io;
 use vm_types::Failed;
 
-/// One of std's writers as a sink, with a buffer of 8192 bytes before it. It tells the bytes taken if
+/// One of std's writers as a sink, with a buffer of 65536 bytes before it. It tells the bytes taken if
 /// the writer's type does: those that the writer holds, and then those that are kept in the buffer.
 ///
 /// Once a call has failed, each later one fails too, and the writer isn't called again. So nothing
@@ -19,7 +19,7 @@ use vm_types::Failed;
 #[derive(Drop)]
 pub struct StdSink<W: SteadyWrite> {
     writer: W,
-    buffer: ArrayVec<u8, 8192>,
+    buffer: ArrayVec<u8, 65536>,
     // so many of the buffer's first bytes are handed on
     done: usize,
     faults: u64,

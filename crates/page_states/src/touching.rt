@@ -7,6 +7,7 @@ use state_parts::{ChargedPage, ChargedPages};
 use vm_types::Page;
 
 /// Touches a page: of a private page that is charged it is kept.
+#[inline(always)]
 pub fn touch(pages: &mut ChargedPages, page: Page)
     requires { MayTouch pages.old page }
     ensures changed { (q w : ℕ) → charged_at pages.new q w ≡ touched_rows page (charged_at pages.old) q w }

@@ -176,6 +176,7 @@ impl Pfns {
 
     /// Empties a frame that is free, modified or in read error and has no transfer: it leaves its
     /// list, holds nothing, and is free at the head of the free list.
+    #[inline(always)]
     pub fn empty_to_head(&mut self, f: Pfn)
         requires below { f.0 < length self.old.rows }
         requires state { let state = (row_of self.old f.0).state in
@@ -264,6 +265,7 @@ impl Pfns {
 
     /// Begins a transfer of a frame that is active, modified or reading. Its modify mark is
     /// cleared; a modified frame leaves its list and is writing.
+    #[inline(always)]
     pub fn begin_flight(&mut self, f: Pfn)
         requires below { f.0 < length self.old.rows }
         requires state { let state = (row_of self.old f.0).state in
@@ -334,6 +336,7 @@ fn cells_at(lists: &Lists, f: u32) -> (u32, u32)
 }
 
 /// Takes a frame off the list of its state, if it has one.
+#[inline(always)]
 fn take_off(lists: &mut Lists, state: FrameState, f: u32)
     requires free { count_of lists.old.free f ≡ (if is_free state then 1 else 0) }
     requires modified { count_of lists.old.modified f ≡ (if is_modified state then 1 else 0) }

@@ -10,17 +10,17 @@ use memchr::memchr;
 use outside_io::Source;
 use vm_types::Failed;
 
-/// A source with a buffer of 8192 bytes behind it, which gives a line or less at a call, and knows
+/// A source with a buffer of 65536 bytes behind it, which gives a line or less at a call, and knows
 /// the last line that it gave. So where a reader stops at a line, that line is the last one.
 #[derive(Drop)]
 pub struct LineSource<S: Source> {
     source: S,
-    buffer: [u8; 8192],
+    buffer: [u8; 65536],
     at: usize,
     filled: usize,
     last: LastLine,
     ghost within: { at ≤ filled },
-    ghost fits: { filled ≤ 8192 },
+    ghost fits: { filled ≤ 65536 },
 }
 
 impl<S: Source> LineSource<S> {
@@ -31,7 +31,7 @@ impl<S: Source> LineSource<S> {
     {
         LineSource {
             source,
-            buffer: [0; 8192],
+            buffer: [0; 65536],
             at: 0,
             filled: 0,
             last: LastLine::new(),

@@ -125,6 +125,7 @@ pub fn carry_reads<B: Block>(
 ///
 /// # Errors
 /// `NoMemory` if out of memory.
+#[inline(always)]
 pub fn write_for_room<B: Block>(
     state: &mut State<B>,
     seat: Seat,

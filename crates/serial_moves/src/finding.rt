@@ -92,6 +92,7 @@ pub fn who_finds<B: Block>(state: &State<B>, p: Proc) -> Option<Finder>
 ///
 /// # Errors
 /// `NoMemory` if out of memory.
+#[inline(always)]
 pub fn find_frame<B: Block>(
     state: &mut State<B>,
     seat: Seat,

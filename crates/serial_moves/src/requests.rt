@@ -241,6 +241,7 @@ fn by_status<B: Block>(
 ///
 /// # Errors
 /// `NoMemory` if out of memory.
+#[inline(always)]
 pub fn ask<B: Block>(
     state: &mut State<B>,
     leaving: Option<Proc>,

@@ -125,11 +125,11 @@ fn adapts_writers(rt: HostRuntime) -> Result<(), Fail> {
     let mut bytes = Vec::new(rt.alloc());
     {
         let mut sink = StdSink::new(&mut bytes);
-        for _ in 0..1025 {
+        for _ in 0..8193 {
             assert_eq!(rt; write_whole(&mut sink, b"01234567"), Ok(()));
         }
     }
-    assert_eq!(rt; bytes.len(), 8192);
+    assert_eq!(rt; bytes.len(), 65536);
     Ok(())
 }
 

@@ -59,6 +59,7 @@ impl<B: Block> Carrier<B> {
 
     /// Reads or writes the block of each lift, in their order. None of them was carried yet. A lift that
     /// fitted a journal still fits it. Doesn't allocate.
+    #[inline(always)]
     pub fn carry(&mut self)
         requires { AllByRecursion (λ (lift : LiftView B). lift.result ≡ Carried.Waiting) self.old.lifts }
         ensures seat { self.new.seat ≡ self.old.seat }

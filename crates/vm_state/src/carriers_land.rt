@@ -14,6 +14,7 @@ impl<B: Block> State<B> {
 
     /// The lifts of a carrier land, in their order, each failed read followed by the reuse of its frame;
     /// the carrier is empty afterwards. Doesn't allocate.
+    #[inline(always)]
     pub fn land(&mut self, carrier: &mut Carrier<B>) -> Landed
         requires { CarrierMayLand B.content B.plan B.reads B.writes B.faults B.tells_content B.tells_plan
             self.old carrier.old }

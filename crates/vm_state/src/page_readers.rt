@@ -49,6 +49,7 @@ impl<B: Block> State<B> {
     }
 
     /// Where a private page is.
+    #[inline(always)]
     fn private_backing(&self, p: Proc, vpn: u32) -> Backing
         ensures { result ≡ backing_in self.now.config (pager self.now) (Page.Private p vpn) }
     {
@@ -56,6 +57,7 @@ impl<B: Block> State<B> {
     }
 
     /// Where a shared page is.
+    #[inline(always)]
     fn shared_backing(&self, s: SecId, i: u32) -> Backing
         requires { IsKnown self.now.config (Page.Shared s i) }
         ensures { result ≡ backing_in self.now.config (pager self.now) (Page.Shared s i) }

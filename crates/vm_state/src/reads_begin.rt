@@ -21,6 +21,7 @@ impl<B: Block> State<B> {
 
     /// A read of a block into a frame begins; the seat's carrier takes its lift. If the lifts of the
     /// carrier fit the journal, they still do.
+    #[inline(always)]
     pub fn begin_in(
         &mut self,
         seat: Seat,

@@ -11,6 +11,7 @@ impl<B: Block> State<B> {
     ghost use Rattle.vm_state.specs.History.{MayAdd, added, entry_by};
 
     /// A frame gives up the page that it holds.
+    #[inline(always)]
     pub fn reuse(&mut self, seat: Seat, f: Pfn, page: Page)
         requires { MayAdd self.old (entry_by seat (What.Reuse f page)) }
         ensures { self.new ≡ added self.old (entry_by seat (What.Reuse f page)) }
