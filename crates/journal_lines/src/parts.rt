@@ -82,6 +82,7 @@ fn add_operand(out: &mut ArrayVec<u8, 160>, op: Op)
 }
 
 // A reference: op and address, and the value that is written or added.
+#[inline(always)]
 fn add_reference(out: &mut ArrayVec<u8, 160>, r: Ref)
     requires { array_vec_len out.old ≤ 138 }
     ensures items { out.new.items ≡ out.old.items ++ spaced (reference_words r) }
@@ -259,6 +260,7 @@ fn add_role(out: &mut ArrayVec<u8, 160>, role: Role, procs: u32, names: &[Sectio
     }
 }
 
+#[inline(always)]
 pub(crate) fn add_out(
     out: &mut ArrayVec<u8, 160>,
     f: Pfn,

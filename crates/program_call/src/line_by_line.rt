@@ -1,11 +1,12 @@
-ghost use Rattle.std.specs.Prelude.{◌≡◌, ◌+◌, ◌++◌, ◌<◌, ◌≤◌, [], length, take, slice_range, IfOk, IsSome, OnOk, OnErr};
+ghost use Rattle.std.specs.Prelude.{◌≡◌, ◌+◌, ◌++◌, ◌<◌, ◌≤◌, [], length, take, slice_range, if◌then◌else◌, IfOk, IsSome, OnOk, OnErr};
 ghost use Rattle.std.specs.Io.{ReadsAtMost, StopsAt};
 ghost use Rattle.std.specs.Io.KnownBytes.{Keeps, IsAtEnd, ReadConsumes, prepend_known};
 ghost use Rattle.outside_io.specs.Causes.{HasCause};
-ghost use Rattle.program_call.specs.LastLine.{begun, ends_line, next_number};
+ghost use Rattle.program_call.specs.LastLine.{begun, ends_line, line_begin, next_number};
 
 use crate::last_line::LastLine;
-use crate::room::copy_front;
+use crate::room::{add_first, copy_front};
+use arrayvec::ArrayVec;
 use memchr::memchr;
 use outside_io::Source;
 use vm_types::Failed;
@@ -18,7 +19,13 @@ pub struct LineSource<S: Source> {
     buffer: [u8; 65536],
     at: usize,
     filled: usize,
-    last: LastLine,
+    // the last line: its first bytes that the buffer has no longer, its place in the buffer, its number,
+    // and whether it has ended, so that the next byte begins another
+    front: ArrayVec<u8, 80>,
+    from: usize,
+    number: u32,
+    ended: bool,
+    ghost begins: { from ≤ at },
     ghost within: { at ≤ filled },
     ghost fits: { filled ≤ 65536 },
 }
@@ -34,27 +41,42 @@ impl<S: Source> LineSource<S> {
             buffer: [0; 65536],
             at: 0,
             filled: 0,
-            last: LastLine::new(),
+            front: ArrayVec::new(),
+            from: 0,
+            number: 0,
+            ended: true,
         }
     }
 
     /// The last line that was given, as far as it was given. Doesn't allocate.
-    pub fn last(&self) -> &LastLine
-        ensures { result.now ≡ self.now.last }
+    pub fn last(&self) -> LastLine
+        ensures text { result.text.items ≡ line_begin self.now.front.items self.now.buffer self.now.from self.now.at }
+        ensures number { result.number ≡ self.now.number }
     {
-        &self.last
+        let mut text = ArrayVec::new();
+        add_first(&mut text, self.front.as_slice());
+        add_part(&mut text, &self.buffer, self.from, self.at);
+        LastLine {
+            text,
+            number: self.number,
+        }
     }
 
-    // Fills the buffer, if it is empty.
+    // Fills the buffer, if all of it is given; what it had of the last line is kept.
     fn refill(&mut self) -> Result<(), Failed>
         ensures bytes { Keeps (prepend_known (slice_range self.old.buffer self.old.at self.old.filled) (S.left self.old.source))
             (prepend_known (slice_range self.new.buffer self.new.at self.new.filled) (S.left self.new.source)) }
         ensures end { OnOk result (self.new.at ≡ self.new.filled → IsAtEnd (S.left self.new.source)) }
         ensures cause { HasCause (S.faults self.old.source) (S.faults self.new.source) result }
         ensures quiet { OnOk result (S.faults self.new.source ≡ S.faults self.old.source) }
-        ensures last { self.new.last ≡ self.old.last }
+        ensures text { line_begin self.new.front.items self.new.buffer self.new.from self.new.at
+            ≡ line_begin self.old.front.items self.old.buffer self.old.from self.old.at }
+        ensures number { self.new.number ≡ self.old.number }
+        ensures ended { self.new.ended ≡ self.old.ended }
     {
         if self.at == self.filled {
+            add_part(&mut self.front, &self.buffer, self.from, self.at);
+            self.from = 0;
             self.at = 0;
             self.filled = 0;
             self.filled = self.source.read(&mut self.buffer)?;
@@ -67,12 +89,17 @@ impl<S: Source> LineSource<S> {
         ensures bound { result ≤ length buf.old }
         ensures same_length { length buf.new ≡ length buf.old }
         ensures bytes { slice_range self.old.buffer self.old.at self.old.filled ≡ take result buf.new ++ slice_range self.new.buffer self.new.at self.new.filled }
+        ensures piece { take result buf.new ≡ slice_range self.old.buffer self.old.at (self.old.at + result) }
         ensures end { result ≡ 0 → 0 < length buf.old → self.old.at ≡ self.old.filled }
+        ensures stops { StopsAt (take result buf.new) 10 }
         ensures at { self.new.at ≡ self.old.at + result }
         ensures filled { self.new.filled ≡ self.old.filled }
-        ensures stops { StopsAt (take result buf.new) 10 }
         ensures source { self.new.source ≡ self.old.source }
-        ensures last { self.new.last ≡ self.old.last }
+        ensures buffer { self.new.buffer ≡ self.old.buffer }
+        ensures front { self.new.front ≡ self.old.front }
+        ensures from { self.new.from ≡ self.old.from }
+        ensures number { self.new.number ≡ self.old.number }
+        ensures ended { self.new.ended ≡ self.old.ended }
     {
         let rest = &self.buffer[self.at..self.filled];
         let line = &rest[..line_length(rest)];
@@ -80,6 +107,35 @@ impl<S: Source> LineSource<S> {
         self.at += count;
         count
     }
+
+    // What is given from this place of the buffer on begins a line, if the last line has ended.
+    fn begin(&mut self, from: usize)
+        requires { from ≤ self.old.at }
+        ensures front { self.new.front.items ≡ begun self.old.ended self.old.front.items }
+        ensures from { self.new.from ≡ (if self.old.ended then from else self.old.from) }
+        ensures number { self.new.number ≡ next_number self.old.ended self.old.number }
+        ensures source { self.new.source ≡ self.old.source }
+        ensures buffer { self.new.buffer ≡ self.old.buffer }
+        ensures at { self.new.at ≡ self.old.at }
+        ensures filled { self.new.filled ≡ self.old.filled }
+        ensures ended { self.new.ended ≡ self.old.ended }
+    {
+        if self.ended {
+            if !self.front.is_empty() {
+                self.front.clear();
+            }
+            self.from = from;
+            self.number = self.number.saturating_add(1);
+        }
+    }
+}
+
+// Adds as many of the bytes between two places of the buffer as there is room for.
+fn add_part(out: &mut ArrayVec<u8, 80>, buffer: &[u8; 65536], from: usize, at: usize)
+    requires { (from ≤ at) × (at ≤ 65536) }
+    ensures { out.new.items ≡ take 80 (out.old.items ++ slice_range buffer.now from at) }
+{
+    add_first(out, &buffer[from..at]);
 }
 
 // The length of the first line, with the byte 10 that ends it; all bytes, if none ends it.
@@ -110,17 +166,32 @@ impl<S: Source> Source for LineSource<S> {
 
         // It gives a line or less, and knows the last line.
         ensures stops { IfOk result (λ n. StopsAt (take n buf.new) 10) }
-        ensures text { IfOk result (λ n. 0 < n → self.new.last.text.items ≡ take 80 (begun self.old.last.ended self.old.last.text.items ++ take n buf.new)) }
-        ensures number { IfOk result (λ n. 0 < n → self.new.last.number ≡ next_number self.old.last.ended self.old.last.number) }
-        ensures ended { IfOk result (λ n. 0 < n → self.new.last.ended ≡ ends_line (take n buf.new)) }
-        ensures none { IfOk result (λ n. n ≡ 0 → self.new.last ≡ self.old.last) }
-        ensures failed { OnErr result (self.new.last ≡ self.old.last) }
+        ensures text { IfOk result (λ n. 0 < n → line_begin self.new.front.items self.new.buffer self.new.from self.new.at
+            ≡ take 80 (begun self.old.ended (line_begin self.old.front.items self.old.buffer self.old.from self.old.at) ++ take n buf.new)) }
+        ensures number { IfOk result (λ n. 0 < n → self.new.number ≡ next_number self.old.ended self.old.number) }
+        ensures ended { IfOk result (λ n. 0 < n → self.new.ended ≡ ends_line (take n buf.new)) }
+        ensures none_text { IfOk result (λ n. n ≡ 0 → line_begin self.new.front.items self.new.buffer self.new.from self.new.at
+            ≡ line_begin self.old.front.items self.old.buffer self.old.from self.old.at) }
+        ensures none { IfOk result (λ n. n ≡ 0 → (self.new.number ≡ self.old.number) × (self.new.ended ≡ self.old.ended)) }
+        ensures failed_text { OnErr result (line_begin self.new.front.items self.new.buffer self.new.from self.new.at
+            ≡ line_begin self.old.front.items self.old.buffer self.old.from self.old.at) }
+        ensures failed { OnErr result ((self.new.number ≡ self.old.number) × (self.new.ended ≡ self.old.ended)) }
     {
         self.refill()?;
+        let from = self.at;
         let count = self.give(buf);
         if count > 0 {
-            self.last.take_piece(&buf[..count]);
+            self.begin(from);
+            self.ended = ends_line(&buf[..count]);
         }
         Ok(count)
     }
+}
+
+// Whether the last of these bytes ends a line.
+fn ends_line(piece: &[u8]) -> bool
+    requires { 0 < length piece.now }
+    ensures { result ≡ ends_line piece.now }
+{
+    piece[piece.len() - 1] == b'\n'
 }

@@ -4,6 +4,7 @@ ghost use Rattle.outside_io.specs.Causes.{Rose};
 ghost use Rattle.outside_io.specs.Views.{sink_view, source_view};
 ghost use Rattle.program_ends.specs.Concludes.{HasTold, WasCut};
 ghost use Rattle.replay_cli.specs.DepotView.{depot_view};
+ghost use Rattle.program_call.specs.LastLine.{line_begin};
 ghost use Rattle.program_call.specs.Messages.{IsMessage, IsSaid};
 ghost use Rattle.program_call.specs.ProgramTells.{IsPartly, ProgramTells};
 
@@ -121,10 +122,12 @@ pub fn run_and_explain<A: Arguments, S: Source, K: Sink, M: Sink, D: Depot>(
         (seen (D.retired depot.old) (D.faults depot.old)) (seen (D.retired depot.new) (D.faults depot.new)))
         (sink_view (⟦<FirstBytes<K> as Sink>⟧.taken output.old) (⟦<FirstBytes<K> as Sink>⟧.faults output.old) (⟦<FirstBytes<K> as Sink>⟧.stalls output.old)) (sink_view (⟦<FirstBytes<K> as Sink>⟧.taken output.new) (⟦<FirstBytes<K> as Sink>⟧.faults output.new) (⟦<FirstBytes<K> as Sink>⟧.stalls output.new)) }
     // The message goes with the status, the last line read and the first bytes written.
-    ensures message { (message : List ℕ) × IsMessage source.new.last.number source.new.last.text.items output.new.first.items result.0 message
+    ensures message { (message : List ℕ) × IsMessage source.new.number (line_begin source.new.front.items source.new.buffer source.new.from source.new.at)
+        output.new.first.items result.0 message
         × IsSaid (sink_view (M.taken messages.old) (M.faults messages.old) (M.stalls messages.old)) (sink_view (M.taken messages.new) (M.faults messages.new) (M.stalls messages.new)) message }
 {
     let status = run_program(alloc, arguments, source, output, depot);
-    explain(status.0, source.last(), output.first(), messages);
+    let last = source.last();
+    explain(status.0, &last, output.first(), messages);
     status
 }
