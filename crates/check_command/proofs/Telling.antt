@@ -1,5 +1,5 @@
 -- What follows from what `check` tells.
-use Rattle.std.proofs.Common.{◌≡◌, ◌≢◌, ℕ, List, Some, refl, sym, ◌∙◌, subst, arith, inl, inr}
+use Rattle.std.proofs.Common.{◌≡◌, ◌≢◌, ℕ, List, refl, sym, ◌∙◌, subst, arith, inl, inr}
 use Rattle.std.specs.Prelude.{◌⊎◌, IfSome}
 use Rattle.vm_types.specs.declared.config.Config.{Config}
 use Rattle.outside_io.specs.Causes.{Rose}

@@ -1,5 +1,5 @@
 -- What the answer to a trace and a log tells, by what its source has left.
-use Rattle.std.proofs.Common.{◌≡◌, ℕ, ◌≤◌, List, [], ◌∷◌, ◌++◌, length, take, Option, Some, None, Result, Ok, Err, refl, sym, subst, ◌∙◌, inl, inr, arith}
+use Rattle.std.proofs.Common.{◌≡◌, ℕ, ◌≤◌, List, [], ◌∷◌, ◌++◌, length, take, Option, Some, None, Result, Ok, Err, refl, sym, subst, inl, inr, arith}
 use Rattle.std.proofs.lemmas.List.{length-drop, length-take}
 use Rattle.std.specs.Prelude.{IfSome}
 use Rattle.std.specs.Io.KnownBytes.{prepend_known}
@@ -18,7 +18,7 @@ use Rattle.program_ends.specs.Concludes.{Concludes}
 use Rattle.program_ends.specs.Ends.{Ends}
 use Rattle.program_ends.specs.FaultText.{fault_status, fault_told}
 use Rattle.check_command.specs.Answers.{Answer, CountsBy, IsRead, Says}
-use Rattle.check_command.specs.CheckText.{HasLog, legal, at_fault, too_long}
+use Rattle.check_command.specs.CheckText.{legal, at_fault, too_long}
 use Rattle.check_command.specs.CheckTells.{CheckTells, answered, faulty, unfinished, unread, no_memory}
 use Rattle.check_command.specs.Verdicts.{verdict_status, verdict_text}
 

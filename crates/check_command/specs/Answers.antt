@@ -1,5 +1,5 @@
 -- What is said of the text of a trace and a log, and of what is left of it. Source: this project's own.
-use Rattle.std.specs.Prelude.{◌≡◌, ℕ, ◌≤◌, List, length, Option, Result, Ok, Err}
+use Rattle.std.specs.Prelude.{ℕ, ◌≤◌, List, length, Option, Result, Ok, Err}
 use Rattle.std.specs.Io.KnownBytes.{prepend_known}
 use Rattle.trace_reader.specs.Answer.{FaultsBy}
 use Rattle.trace_reader.specs.HeadAnswer.{HeadAnswers}

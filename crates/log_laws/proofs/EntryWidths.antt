@@ -1,15 +1,14 @@
 -- The line of an entry has at most 255 bytes.
-use Rattle.std.proofs.Common.{◌≡◌, inl, inr, ℕ, zero, suc, ◌+◌, ◌*◌, ◌^◌, ◌<◌, ◌≤◌, List, [], ◌∷◌, ◌++◌, length, refl, sym, subst, arith, length-append}
+use Rattle.std.proofs.Common.{◌≡◌, inl, inr, ℕ, zero, suc, ◌+◌, ◌*◌, ◌^◌, ◌<◌, ◌≤◌, List, [], ◌∷◌, ◌++◌, length, arith, length-append}
 use Rattle.std.specs.Prelude.{codes, decimal, slice_index_or}
 use Rattle.std.specs.List.{AllByRecursion}
-use Rattle.vm_types.specs.WellFormed.{IsRange, IsWellFormedService, op_bytes, width_bytes}
+use Rattle.vm_types.specs.WellFormed.{IsRange, IsWellFormedService, op_bytes}
 use Rattle.vm_types.specs.declared.config.Section.{Section}
 use Rattle.vm_types.specs.declared.reference.Mode.{Mode}
 use Rattle.vm_types.specs.declared.reference.Mode.TheVariants.{K, E, S, U}
 use Rattle.vm_types.specs.declared.reference.Op.{Op}
 use Rattle.vm_types.specs.declared.reference.Op.TheVariants.{Read, Write, Add}
 use Rattle.vm_types.specs.declared.reference.Ref.{Ref}
-use Rattle.vm_types.specs.declared.reference.Width.{Width}
 use Rattle.vm_types.specs.declared.reference.Width.TheVariants.{One, Two, Four}
 use Rattle.vm_types.specs.declared.reply.Answer.{Answer}
 use Rattle.vm_types.specs.declared.reply.Answer.TheVariants as answer

@@ -1,13 +1,13 @@
 -- Each line of a report, and of the text behind the last entry, has at most 255 bytes.
-use Rattle.std.proofs.Common.{◌≡◌, inl, inr, ℕ, zero, suc, ◌+◌, ◌^◌, ◌<◌, ◌≤◌, Bool, true, false, List, [], ◌∷◌, ◌++◌, Option, Some, None, length, map, nat_lt, ap, refl, sym, subst, arith, length-append, lit<}
+use Rattle.std.proofs.Common.{◌≡◌, inl, inr, ℕ, zero, suc, ◌+◌, ◌^◌, ◌<◌, ◌≤◌, Bool, true, false, List, [], ◌∷◌, ◌++◌, Option, Some, None, length, map, nat_lt, ap, refl, arith, lit<}
 use Rattle.std.specs.List.{AllByRecursion, range_with_len}
-use Rattle.std.specs.Prelude.{All, codes, count_by, decimal, if◌then◌else◌, nat_eq, slice_get, slice_index_or, sum_by}
+use Rattle.std.specs.Prelude.{All, codes, decimal, if◌then◌else◌, nat_eq, slice_get, slice_index_or, sum_by}
 use Rattle.std.proofs.lemmas.List.Elements.{All-append, All-filter, All-map, All-nil, recursion_from_All}
 use Rattle.std.proofs.lemmas.List.FromFn.{get_or-range_with_len, length-map-range_with_len, length-range_with_len}
 use Rattle.std.proofs.lemmas.List.Sums.{count_by-le-length, get_or-le-sum_by, sum_by-cons}
 use Rattle.std.proofs.lemmas.Option.{get_or_from_slice_get, slice_get_within}
-use Rattle.vm_types.specs.Configuration.{IsSectionPage, IsWellFormed, section_pages}
-use Rattle.vm_types.specs.Ring.{filled, is_filled_slot}
+use Rattle.vm_types.specs.Configuration.{IsWellFormed, section_pages}
+use Rattle.vm_types.specs.Ring.{is_filled_slot}
 use Rattle.vm_types.specs.Same.{same_state}
 use Rattle.vm_types.specs.declared.config.Config.{Config}
 use Rattle.vm_types.specs.declared.config.Section.{Section}
@@ -26,7 +26,7 @@ use Rattle.pager_model.specs.OfConfig.{IsMappable, IsOfConfig, IsPageOf}
 use Rattle.pager_model.specs.Pager.{Pager}
 use Rattle.pager_model.specs.Report.{FrameRow, ProcessRow, Report, all_states, frame_row, frame_rows, in_state, process_row, refs_of, report_of}
 use Rattle.pager_model.specs.Run.{IsRun, pager_after}
-use Rattle.pager_model.specs.Text.{dirty_lines, dirty_pages, empty_text, ended, frame_line, frame_lines, held_text, is_dirty, page_file_text, pages_from, process_lines, process_text, report_text, states_text, status_line}
+use Rattle.pager_model.specs.Text.{dirty_lines, dirty_pages, empty_text, ended, frame_line, frame_lines, held_text, is_dirty, page_file_text, pages_from, process_lines, process_text, states_text, status_line}
 use Rattle.pager_model.specs.Transfers.{reads_on, writes_on}
 use Rattle.pager_rules.specs.Kept.{IsKept}
 use Rattle.pager_laws.proofs.OfConfigKept.{run_right}

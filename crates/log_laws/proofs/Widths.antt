@@ -1,6 +1,6 @@
 -- How many bytes the words of a line have at most.
-use Rattle.std.proofs.Common.{◌≡◌, inl, inr, ℕ, zero, suc, ◌+◌, ◌*◌, ◌^◌, ◌<◌, ◌≤◌, Bool, true, false, List, [], ◌∷◌, ◌++◌, Option, Some, None, length, refl, sym, subst, arith, length-append, lit<, lit≤}
-use Rattle.std.specs.Prelude.{codes, decimal, slice_get, slice_index_or}
+use Rattle.std.proofs.Common.{ℕ, ◌+◌, ◌*◌, ◌^◌, ◌<◌, ◌≤◌, Bool, true, false, List, [], ◌∷◌, ◌++◌, Option, length, refl, sym, subst, arith, length-append, lit<, lit≤}
+use Rattle.std.specs.Prelude.{codes, decimal}
 use Rattle.std.proofs.lemmas.Fmt.{length-decimal-le}
 use Rattle.vm_types.specs.declared.config.Section.{Section}
 use Rattle.vm_types.specs.declared.names.BlockId.{BlockId}
@@ -13,7 +13,7 @@ use Rattle.vm_types.specs.declared.names.ProcStatus.{ProcStatus}
 use Rattle.vm_types.specs.declared.names.ProcStatus.TheVariants as status
 use Rattle.vm_text.specs.Hex.{hex}
 use Rattle.vm_text.specs.Named.{AreNames, IsNamedBlock, IsNamedPage}
-use Rattle.vm_text.specs.Names.{address_text, block_text, frame_text, name_of, page_text, place_text, section_name, section_page_text, slot_text}
+use Rattle.vm_text.specs.Names.{address_text, block_text, name_of, page_text, place_text, section_name, section_page_text}
 use Rattle.vm_text.specs.States.{mark_text, state_word, status_word}
 use Rattle.vm_text.proofs.Decimals.{few_bytes}
 use Rattle.vm_text.proofs.HexLemmas.{length-hex}

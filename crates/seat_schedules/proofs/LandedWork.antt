@@ -1,5 +1,5 @@
 -- The landing of a seat's carrier, and a refusal, leave the seat at work.
-use Rattle.std.proofs.Common.{◌≡◌, ℕ, ◌+◌, ◌<◌, ◌≤◌, Bool, true, false, List, [], ◌∷◌, Option, Some, None, length, map, refl, sym, ap, ◌∙◌, subst, arith}
+use Rattle.std.proofs.Common.{◌≡◌, ℕ, ◌<◌, Bool, true, false, List, [], ◌∷◌, Option, Some, None, length, map, refl, sym, ap, ◌∙◌, subst, arith}
 use Rattle.std.proofs.lemmas.Option.{none-some}
 use Rattle.vm_types.specs.WellFormed.{IsWellFormedReference}
 use Rattle.vm_types.specs.declared.names.Seat.{Seat}
@@ -9,7 +9,7 @@ use Rattle.vm_journal.specs.declared.entry.Entry.{Entry}
 use Rattle.vm_journal.specs.declared.entry.What.TheVariants as what
 use Rattle.frame_store.specs.LiftView.{LiftView}
 use Rattle.pager_model.specs.Flights.{awaits_reuse, is_busy, open_flights}
-use Rattle.pager_model.specs.Landings.{carrier_of, landed_by}
+use Rattle.pager_model.specs.Landings.{carrier_of}
 use Rattle.call_steps.proofs.Steps.{paid_after}
 use Rattle.call_steps.specs.Lifted.{HasBegunLifts, place_of}
 use Rattle.carried_landings.specs.HaveLanded.{HaveLanded}

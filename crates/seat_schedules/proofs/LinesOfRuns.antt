@@ -1,5 +1,5 @@
 -- The entries of a run, oldest first, have lines, and the sections of its configuration have names.
-use Rattle.std.proofs.Common.{ℕ, List, length, reverse}
+use Rattle.std.proofs.Common.{List, length, reverse}
 use Rattle.std.specs.Prelude.{All}
 use Rattle.std.proofs.lemmas.List.Elements.{All-from_recursion, All-weaker, recursion_from_All}
 use Rattle.vm_types.specs.Configuration.{IsName, IsSection, IsWellFormed}

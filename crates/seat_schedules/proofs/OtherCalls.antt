@@ -1,11 +1,10 @@
 -- A service's step, a write cluster, a turn and a step of a leaving process leave their seat at work.
-use Rattle.std.proofs.Common.{◌≡◌, ℕ, ◌+◌, ◌<◌, ◌≤◌, Bool, List, [], ◌∷◌, Option, Some, None, length, refl, sym, ap, ◌∙◌, subst, arith}
+use Rattle.std.proofs.Common.{◌≡◌, ℕ, Bool, List, [], ◌∷◌, Option, Some, None, refl, sym, ap, ◌∙◌, arith}
 use Rattle.std.specs.Option.{option_map}
-use Rattle.std.proofs.lemmas.Option.{none-some, same_Some}
+use Rattle.std.proofs.lemmas.Option.{none-some}
 use Rattle.vm_types.specs.declared.names.Proc.{Proc}
 use Rattle.vm_types.specs.declared.names.ProcStatus.TheVariants as status
 use Rattle.vm_types.specs.declared.names.Seat.{Seat}
-use Rattle.vm_types.specs.declared.reply.Answer.{Answer}
 use Rattle.vm_types.specs.declared.service.Service.{Service}
 use Rattle.vm_types.specs.Configuration.{IsWellFormed}
 use Rattle.vm_journal.specs.declared.entry.What.{What}
@@ -23,13 +22,11 @@ use Rattle.move_steps.proofs.WrittenClusters.{begin_starts, begun_lifts}
 use Rattle.vm_services.specs.Serves.{Serves}
 use Rattle.vm_services.specs.declared.next.ServeNext.{ServeNext}
 use Rattle.vm_state.specs.CarrierView.{CarrierView}
-use Rattle.vm_state.specs.History.{History, MayAdd, added, entry_by, owed, pager}
-use Rattle.vm_state.specs.LiftsLand.{added_each}
+use Rattle.vm_state.specs.History.{History, MayAdd, added, entry_by, pager}
 use Rattle.vm_swapper.specs.Swaps.{IsCarrying, Swaps, returned}
 use Rattle.vm_swapper.specs.Victims.{process_number}
 use Rattle.vm_swapper.specs.declared.swap.Swap.{Swap}
 use Rattle.vm_swapper.specs.declared.swap.Swap.TheVariants.{Again, Carry, More, Room, Settled}
-use Rattle.vm_swapper.specs.declared.swap.SwapWhy.{SwapWhy}
 use Rattle.seat_schedules.specs.AtWork.{HasWorked, IsFreeSeat, idle}
 use Rattle.seat_schedules.specs.declared.worker.Worker.{Worker}
 use Rattle.seat_schedules.proofs.OwnWork.{AreStill, none_are_still, not_busy, quiet_are_still, served_are_still, starts_worked, still_worked}

@@ -1,19 +1,17 @@
 -- What the entries of one seat leave of another seat's open flights.
 use Rattle.std.proofs.Common.{◌≡◌, ℕ, ◌+◌, Bool, true, false, cond, not, List, [], ◌∷◌, Some, find, filter, length, nat_eq, reverse, refl, sym, ap, ◌∙◌}
-use Rattle.std.specs.List.{AllByRecursion}
-use Rattle.std.proofs.lemmas.Bool.{eqb-false, eqb-true, false≢true}
+use Rattle.std.proofs.lemmas.Bool.{eqb-false, eqb-true}
 use Rattle.std.proofs.lemmas.Option.{same_Some}
 use Rattle.vm_types.specs.declared.config.Config.{Config}
 use Rattle.vm_journal.specs.declared.entry.Entry.{Entry}
 use Rattle.vm_journal.specs.declared.entry.What.{What}
 use Rattle.vm_journal.specs.declared.entry.What.TheVariants as what
-use Rattle.pager_model.specs.Carrier.{Carrying, carrying, carrying_with}
+use Rattle.pager_model.specs.Carrier.{carrying, carrying_with}
 use Rattle.pager_model.specs.Fits.{lands}
 use Rattle.pager_model.specs.Flights.{Flight, is_busy, open_flights, reading, without_flight, writing}
 use Rattle.pager_model.specs.Given.{by_seat, made_by}
 use Rattle.pager_model.specs.InOk.{IsLanding}
 use Rattle.pager_model.specs.Landings.{carrier_of}
-use Rattle.pager_model.specs.Pager.{Pager}
 use Rattle.pager_model.specs.Run.{IsRun, pager_after}
 use Rattle.pager_model.specs.Step.{IsLegalWhat}
 use Rattle.pager_model.specs.Transfers.{is_by, starts}

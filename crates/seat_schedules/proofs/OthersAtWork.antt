@@ -1,10 +1,8 @@
 -- While a seat makes entries, every other seat stays at work as it was.
-use Rattle.std.proofs.Common.{◌≡◌, ℕ, Bool, false, List, [], ◌∷◌, Option, Some, map, nat_eq, refl, sym, ap, ◌∙◌, subst}
+use Rattle.std.proofs.Common.{◌≡◌, ℕ, Bool, false, List, [], ◌∷◌, Option, map, nat_eq, sym, ap, ◌∙◌, subst}
 use Rattle.std.specs.List.{AllByRecursion}
 use Rattle.vm_types.specs.Configuration.{IsWellFormed}
 use Rattle.vm_types.specs.declared.config.Config.{Config}
-use Rattle.vm_types.specs.declared.names.Addr.{Addr}
-use Rattle.vm_types.specs.declared.names.Proc.{Proc}
 use Rattle.vm_types.specs.declared.names.Seat.{Seat}
 use Rattle.vm_types.specs.declared.reference.Ref.{Ref}
 use Rattle.vm_journal.specs.declared.entry.Entry.{Entry}
@@ -19,7 +17,7 @@ use Rattle.content_laws.proofs.LiftsStay.{lifts_stay}
 use Rattle.pager_rules.proofs.Basics.{each_weaker}
 use Rattle.vm_state.specs.History.{History}
 use Rattle.vm_state.specs.LiftsFit.{LiftFits, lift_seen}
-use Rattle.call_steps.specs.Lifted.{HasBegunLifts, IsBegun}
+use Rattle.call_steps.specs.Lifted.{IsBegun}
 use Rattle.carried_landings.specs.SeatFlights.{flight_place}
 use Rattle.carried_landings.proofs.CarrierIsWhole.{AreFlightsOf, whole_flights}
 use Rattle.carried_landings.proofs.SeatLandings.{carrier_by}

@@ -1,11 +1,10 @@
 -- What a seat's own call leaves of its work.
-use Rattle.std.proofs.Common.{◌≡◌, ℕ, ◌+◌, ◌<◌, ◌++◌, Bool, true, false, List, [], ◌∷◌, Option, Some, None, filter, length, map, refl, sym, ap, ◌∙◌, subst}
+use Rattle.std.proofs.Common.{◌≡◌, ℕ, ◌+◌, ◌<◌, ◌++◌, Bool, false, List, [], ◌∷◌, Option, Some, filter, length, map, refl, sym, ap, ◌∙◌, subst}
 use Rattle.std.specs.List.{AllByRecursion}
-use Rattle.std.proofs.lemmas.List.{append-nil, length-map, nil_from_length}
+use Rattle.std.proofs.lemmas.List.{length-map, nil_from_length}
 use Rattle.std.proofs.lemmas.List.Sums.{length-filter}
 use Rattle.std.proofs.lemmas.Option.{none-some}
 use Rattle.vm_types.specs.WellFormed.{IsWellFormedReference}
-use Rattle.vm_types.specs.declared.names.BlockId.{BlockId}
 use Rattle.vm_types.specs.declared.names.Seat.{Seat}
 use Rattle.vm_types.specs.declared.reference.Ref.{Ref}
 use Rattle.vm_types.specs.declared.reply.Reply.{Reply}
@@ -18,7 +17,6 @@ use Rattle.pager_model.specs.Given.{by_seat, made_by, with_reply}
 use Rattle.pager_model.specs.Landings.{carrier_of}
 use Rattle.pager_model.specs.Transfers.{is_by}
 use Rattle.pager_rules.proofs.Basics.{count_none}
-use Rattle.vm_state.specs.CarrierView.{CarrierView}
 use Rattle.vm_state.specs.History.{History}
 use Rattle.vm_state.specs.LiftsLand.{added_each}
 use Rattle.call_steps.specs.Lifted.{HasLifts, place_of, places_in}

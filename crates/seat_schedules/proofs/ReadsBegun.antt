@@ -1,29 +1,23 @@
 -- What a seat's reads for a reference become: they are begun, and land, and may be lost.
-use Rattle.std.proofs.Common.{◌≡◌, ◌⊎◌, inl, inr, ℕ, ◌+◌, ◌*◌, ◌||◌, Bool, true, false, cond, List, [], ◌∷◌, Some, filter, length, nat_eq, reverse, refl, sym, ap, ◌∙◌, subst, arith}
+use Rattle.std.proofs.Common.{◌≡◌, ℕ, ◌+◌, ◌||◌, Bool, false, cond, List, [], ◌∷◌, Some, filter, length, nat_eq, reverse, refl, sym, ap, ◌∙◌, subst}
 use Rattle.std.specs.List.{AllByRecursion}
-use Rattle.std.proofs.lemmas.Option.{same_Some}
-use Rattle.vm_types.specs.declared.names.Addr.{Addr}
 use Rattle.vm_types.specs.declared.names.Page.{Page}
-use Rattle.vm_types.specs.declared.names.Proc.{Proc}
 use Rattle.vm_types.specs.declared.names.BlockId.{BlockId}
-use Rattle.vm_types.specs.declared.config.Config.{Config}
 use Rattle.vm_types.specs.declared.reference.Ref.{Ref}
 use Rattle.vm_journal.specs.declared.entry.Entry.{Entry}
 use Rattle.vm_journal.specs.declared.entry.Role.TheVariants as role
 use Rattle.vm_journal.specs.declared.entry.What.{What}
 use Rattle.vm_journal.specs.declared.entry.What.TheVariants as what
-use Rattle.pager_model.specs.Carrier.{Carrying, HasLost, begins_with_fault, carried, carrying}
-use Rattle.pager_model.specs.Flights.{Direction, Flight, is_busy, open_flights, reading}
+use Rattle.pager_model.specs.Carrier.{Carrying, carried, carrying}
+use Rattle.pager_model.specs.Flights.{Flight, is_busy, open_flights, reading}
 use Rattle.pager_model.specs.Given.{by_seat, made_by, page_address, pfn, reuse_first}
-use Rattle.pager_model.specs.Landings.{Outcome, all_bad, carrier_of, first_bad, landed_by}
+use Rattle.pager_model.specs.Landings.{carrier_of}
 use Rattle.pager_model.specs.Maps.{page_number, proc}
 use Rattle.pager_rules.proofs.Basics.{nat_eq_refl}
-use Rattle.policy_laws.specs.Lost.{CarriesAll}
-use Rattle.policy_laws.proofs.LostCarriers.{lost_when_failed}
-use Rattle.serial_laws.proofs.Carriers.{BeginsWith, IsBegun, begun_made, carries_all, is_beginning, own_entry}
+use Rattle.serial_laws.proofs.Carriers.{BeginsWith, IsBegun, begun_made, carries_all, own_entry}
 use Rattle.seat_schedules.proofs.ReadsFor.{ReadsFirst}
 use Rattle.carried_landings.proofs.Reversed.{nothing_reversed}
-use Rattle.seat_schedules.specs.Lost.{IsLost, IsReadFor}
+use Rattle.seat_schedules.specs.Lost.{IsReadFor}
 
 abbrev Any : Flight → Type 0
 Any x = Unit {0}

@@ -1,5 +1,5 @@
 -- The reads that a reference begins: the first one is of its own page.
-use Rattle.std.proofs.Common.{◌≡◌, ℕ, zero, suc, ◌+◌, Bool, true, false, cond, ◌&&◌, ◌||◌, List, [], ◌∷◌, Option, Some, None, find, filter, length, nat_eq, nat_le, not, reverse, slice_get, refl, sym, ap, ◌∙◌, subst}
+use Rattle.std.proofs.Common.{◌≡◌, ℕ, Bool, true, false, cond, ◌&&◌, List, [], ◌∷◌, Option, Some, None, find, length, nat_eq, nat_le, not, slice_get, refl, subst}
 use Rattle.std.specs.List.{AllByRecursion}
 use Rattle.vm_types.specs.Ring.{choose, filled}
 use Rattle.vm_types.specs.declared.names.BlockId.{BlockId}
@@ -12,7 +12,7 @@ use Rattle.vm_journal.specs.declared.entry.Entry.{Entry}
 use Rattle.vm_journal.specs.declared.entry.Role.TheVariants as role
 use Rattle.vm_journal.specs.declared.entry.What.{What}
 use Rattle.vm_journal.specs.declared.entry.What.TheVariants as what
-use Rattle.pager_model.specs.Advance.{GivenNext, NextIs, advance_gives, cluster_targets, collide_given, entry_given, fault_given, frame_given, held_given, is_busy_block, is_named, is_uncharged, limit_given, mapped_given, next_again, next_answered, next_carry, next_more, read_given, refused_given, replace_seen, room_given, source_of}
+use Rattle.pager_model.specs.Advance.{GivenNext, NextIs, advance_gives, collide_given, entry_given, fault_given, frame_given, held_given, is_busy_block, is_named, is_uncharged, limit_given, mapped_given, next_carry, read_given, refused_given, replace_seen, room_given, source_of}
 use Rattle.pager_model.specs.Evict.{victim_of}
 use Rattle.pager_model.specs.Flat.{flat_refusal}
 use Rattle.pager_model.specs.Flights.{Flight, open_flights}

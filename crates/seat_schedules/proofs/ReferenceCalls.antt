@@ -1,5 +1,5 @@
 -- The next step of a reference leaves its seat at work.
-use Rattle.std.proofs.Common.{◌≡◌, ℕ, Bool, List, [], Option, Some, None, map, refl, sym, ap, ◌∙◌, subst}
+use Rattle.std.proofs.Common.{◌≡◌, ℕ, Bool, List, Option, Some, None, map, refl, sym, ap, ◌∙◌, subst}
 use Rattle.std.proofs.lemmas.Option.{none-some, same_Some}
 use Rattle.vm_types.specs.WellFormed.{IsWellFormedReference}
 use Rattle.vm_types.specs.declared.names.Seat.{Seat}

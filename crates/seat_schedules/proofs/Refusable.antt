@@ -1,9 +1,7 @@
 -- Reads for a reference that have landed, the first one badly, are lost, and the reference may be refused.
-use Rattle.std.proofs.Common.{◌≡◌, ◌⊎◌, inl, inr, ℕ, ◌+◌, ◌*◌, ◌<◌, Bool, true, List, [], ◌∷◌, ◌++◌, Some, length, refl, sym, ap, ◌∙◌, subst, arith}
+use Rattle.std.proofs.Common.{◌≡◌, inr, ℕ, ◌+◌, ◌<◌, true, List, [], ◌∷◌, ◌++◌, length, refl, sym, ap, ◌∙◌, subst, arith}
 use Rattle.std.proofs.lemmas.Option.{same_Some}
 use Rattle.vm_types.specs.WellFormed.{IsWellFormedReference}
-use Rattle.vm_types.specs.declared.names.Addr.{Addr}
-use Rattle.vm_types.specs.declared.names.Proc.{Proc}
 use Rattle.vm_types.specs.declared.config.Config.{Config}
 use Rattle.vm_types.specs.declared.reference.Ref.{Ref}
 use Rattle.vm_types.specs.declared.reply.Why.TheVariants as why
@@ -11,11 +9,10 @@ use Rattle.vm_journal.specs.declared.entry.Entry.{Entry}
 use Rattle.vm_journal.specs.declared.entry.Role.TheVariants as role
 use Rattle.vm_journal.specs.declared.entry.What.{What}
 use Rattle.vm_journal.specs.declared.entry.What.TheVariants as what
-use Rattle.pager_model.specs.Carrier.{begins_with_fault, carrying}
 use Rattle.pager_model.specs.Flights.{Direction, Flight, reading}
 use Rattle.pager_model.specs.Given.{by_seat, made_by, page_address}
 use Rattle.pager_model.specs.Landings.{Outcome, carrier_of, first_bad, landed_by, landing}
-use Rattle.pager_model.specs.Maps.{page_number, proc}
+use Rattle.pager_model.specs.Maps.{page_number}
 use Rattle.pager_model.specs.Run.{pager_after}
 use Rattle.pager_model.specs.Step.{IsLegal}
 use Rattle.pager_model.specs.Transfers.{is_fault}

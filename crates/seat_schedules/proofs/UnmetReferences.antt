@@ -1,14 +1,14 @@
 -- What a reader shows of a reference's page says that the reference is still to be met.
-use Rattle.std.proofs.Common.{◌≡◌, ◌⊎◌, inl, inr, ℕ, Bool, true, false, not, Option, Some, None, refl, sym, ap, ◌∙◌}
+use Rattle.std.proofs.Common.{◌≡◌, inr, ℕ, Bool, true, false, not, Option, Some, None, refl, sym, ap, ◌∙◌}
 use Rattle.std.specs.Option.{is_some}
 use Rattle.std.proofs.lemmas.Bool.{false≢true}
 use Rattle.std.proofs.lemmas.Option.{none-some, same_Some}
 use Rattle.vm_types.specs.declared.names.Page.{Page}
 use Rattle.vm_types.specs.declared.config.Config.{Config}
 use Rattle.vm_types.specs.declared.reference.Ref.{Ref}
-use Rattle.pager_model.specs.Lookups.{entries_at, entry_of, is_entry, page_at, page_by}
+use Rattle.pager_model.specs.Lookups.{entry_of, is_entry, page_at}
 use Rattle.pager_model.specs.Maps.{Mapped, page_number}
-use Rattle.pager_model.specs.Pager.{Pager, Valid}
+use Rattle.pager_model.specs.Pager.{Pager}
 use Rattle.pager_rules.proofs.Basics.{count_from_no_find}
 use Rattle.vm_state.specs.PageReadings.{found_in, found_with}
 use Rattle.page_states.specs.declared.found.Found.{Found}

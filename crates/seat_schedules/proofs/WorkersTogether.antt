@@ -1,12 +1,10 @@
 -- One of the workers of all seats works, and all are at work afterwards.
-use Rattle.std.proofs.Common.{◌≡◌, ℕ, ◌+◌, ◌<◌, Bool, true, false, List, Option, Some, length, nat_eq, slice_get, slice_index_or, slice_set, refl, sym, ap, ◌∙◌, subst, arith}
+use Rattle.std.proofs.Common.{◌≡◌, ℕ, ◌+◌, ◌<◌, Bool, true, false, List, Option, Some, length, nat_eq, slice_get, slice_index_or, slice_set, refl, sym, ap, ◌∙◌, subst}
 use Rattle.std.proofs.lemmas.Bool.{eqb-false, eqb-true}
 use Rattle.std.proofs.lemmas.List.{length-set}
 use Rattle.std.proofs.lemmas.Option.{get_or_from_slice_get, same_Some}
 use Rattle.vm_types.specs.Configuration.{IsWellFormed}
 use Rattle.vm_types.specs.declared.config.Config.{Config}
-use Rattle.vm_types.specs.declared.names.Seat.{Seat}
-use Rattle.pager_model.specs.Flights.{awaits_reuse}
 use Rattle.pager_model.specs.Run.{IsRun}
 use Rattle.frame_store.proofs.StoreKept.{get_set_other, get_set_same}
 use Rattle.vm_state.proofs.ZeroCloses.{slice_get_within_some}

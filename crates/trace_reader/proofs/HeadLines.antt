@@ -13,7 +13,7 @@ use Rattle.trace_lines.specs.Grammar.{content}
 use Rattle.line_source.specs.declared.lines.Line.TheVariants.{Text}
 use Rattle.line_source.specs.HandedOut.{IsInLine, HandsOut, Parts}
 use Rattle.trace_reader.specs.Changes.{start}
-use Rattle.trace_reader.specs.Head.{Head, Configured, Faulty, HeadLine, begins_log, goes_on, is_faulty, by_trace, head_line, head_of, judge_head, head_at_end, after_line}
+use Rattle.trace_reader.specs.Head.{Faulty, HeadLine, begins_log, goes_on, is_faulty, by_trace, head_line, head_of, judge_head, head_at_end, after_line}
 use Rattle.trace_reader.specs.Head as head
 use Rattle.trace_reader.specs.HeadAnswer.{HasGone}
 use Rattle.trace_reader.specs.LogWord.{plain}

@@ -12,7 +12,7 @@ use Rattle.line_source.specs.HandedOut.{HandsOut, Gives, Takes}
 use Rattle.trace_reader.specs.declared.fault.TraceFault.{TraceFault}
 use Rattle.trace_reader.specs.declared.fault.TraceFault.TheVariants as fault
 use Rattle.trace_reader.specs.Changes.{start}
-use Rattle.trace_reader.specs.Head.{Head, HeadLine, begins_log, goes_on, is_faulty, head_line, head_of, after_line}
+use Rattle.trace_reader.specs.Head.{begins_log, goes_on, is_faulty, head_line}
 use Rattle.trace_reader.specs.Head as head
 use Rattle.trace_reader.specs.HeadAnswer.{HasGone, HeadAnswers, IsHeadLineAtFault, IsTold, HasTakenHead, AnswersLine, CountsBy}
 use Rattle.trace_reader.specs.Drafts.{IsDraft}

@@ -9,7 +9,7 @@ use Rattle.trace_lines.specs.declared.part.Part.{Part}
 use Rattle.trace_reader.specs.declared.draft.Draft.{Draft}
 use Rattle.trace_reader.specs.declared.fault.TraceFault.{TraceFault}
 use Rattle.trace_reader.specs.declared.fault.TraceFault.TheVariants.{NoMemory, ReadFault, Line, Unfinished}
-use Rattle.trace_reader.specs.Head.{HeadLine, Configured, Faulty, begins_log, goes_on, is_faulty, head_line, head_of, judge_head}
+use Rattle.trace_reader.specs.Head.{Configured, Faulty, begins_log, goes_on, is_faulty, head_line, head_of, judge_head}
 use Rattle.trace_reader.specs.Head as head
 use Rattle.trace_reader.specs.Meaning.{lines, next_line}
 use Rattle.trace_reader.specs.Stream.{IsReading}

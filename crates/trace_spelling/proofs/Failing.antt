@@ -27,7 +27,7 @@ use Rattle.trace_lines.specs.Says as says
 use Rattle.trace_spelling.specs.Laws.{IsTyped}
 use Rattle.trace_spelling.specs.Lines.{fail_line}
 use Rattle.trace_spelling.proofs.Numbers.{number_read, within_read, printed_some}
-use Rattle.trace_spelling.proofs.Printing.{IsWord, IsShortWord, literal, number_word, name_word, passes_each, passes_both}
+use Rattle.trace_spelling.proofs.Printing.{IsShortWord, literal, number_word, name_word, passes_each, passes_both}
 use Rattle.trace_spelling.proofs.Printing as printing
 use Rattle.trace_spelling.proofs.Words.{letter_read, letter_word, name_passes}
 use Rattle.trace_spelling.proofs.Leading.{AreShort, total, line_of, Leads, leads_line, leads_each}

@@ -15,10 +15,9 @@ use Rattle.trace_lines.specs.declared.part.Part.{Part}
 use Rattle.trace_lines.specs.Declarations.{sharing, has_room}
 use Rattle.trace_lines.specs.Lookups.{number_named, section, bytes_at}
 use Rattle.trace_lines.specs.Says as says
-use Rattle.trace_lines.specs.Says.{Says}
 use Rattle.trace_reader.specs.Changes.{blank_section, overwritten, with_bytes, changed}
 use Rattle.trace_spelling.specs.Laws.{IsTyped}
-use Rattle.trace_spelling.specs.Lines.{Line, sharing_word, piece, pairs_text, are_zeros, piece_lines, below, data_lines}
+use Rattle.trace_spelling.specs.Lines.{sharing_word, piece, pairs_text, are_zeros, piece_lines, below, data_lines}
 use Rattle.trace_spelling.specs.Lines as lines
 use Rattle.trace_spelling.proofs.Numbers.{number_read, within_read}
 use Rattle.trace_spelling.proofs.Printing.{IsShortWord, literal, number_word, name_word}

@@ -6,7 +6,7 @@ use Rattle.std.proofs.Math.Nat.{mul-le-mul_right, mod-lt, mod-eq_of_lt, mul-add-
 use Rattle.std.proofs.lemmas.Nat.{div-add-mod', div-mul-add}
 use Rattle.std.proofs.lemmas.Bool.Decides.{eqb_tells}
 use Rattle.std.proofs.lemmas.Bool.{cases_lt, leb-true, le-leb}
-use Rattle.vm_dump.specs.Reading.{Reader, both_at, made_at, number_at}
+use Rattle.vm_dump.specs.Reading.{number_at}
 use Rattle.vm_dump.specs.Reading as reading
 use Rattle.vm_dump.proofs.Readers.{Reads, reads_both, reads_made, reads_byte}
 

@@ -3,14 +3,14 @@ use Rattle.std.proofs.Common.{◌≡◌, ℕ, zero, suc, ◌+◌, ◌≤◌, ◌
 use Rattle.std.specs.List.{AllByRecursion}
 use Rattle.std.proofs.lemmas.Bool.{eqb-true, eqb-false}
 use Rattle.std.proofs.lemmas.Option.{same_Some, slice_get_within, slice_get_read}
-use Rattle.disk_trait.specs.Told.{told, IsAnyContent}
+use Rattle.disk_trait.specs.Told.{told}
 use Rattle.vm_types.specs.declared.config.Config.{Config}
 use Rattle.vm_journal.specs.declared.entry.Entry.{Entry}
-use Rattle.pager_model.specs.Fits.{FitsLift, Lift, bad, good, told_of, waiting}
+use Rattle.pager_model.specs.Fits.{Lift, told_of}
 use Rattle.pager_model.specs.Run.{pager_after}
-use Rattle.content_laws.specs.Carried.{IsCarriedBadly, IsCarriedWell, carried_as}
+use Rattle.content_laws.specs.Carried.{IsCarriedBadly, IsCarriedWell}
 use Rattle.content_laws.proofs.CarriedFits.{carried_badly, carried_well, failed_read, failed_write, good_read, good_write}
-use Rattle.frame_store.specs.LiftView.{CarriedAs, IsCarried, IsMoved, IsTorn, LiftView}
+use Rattle.frame_store.specs.LiftView.{CarriedAs, IsMoved, IsTorn, LiftView}
 use Rattle.frame_store.specs.declared.lift.Carried.{Carried}
 use Rattle.frame_store.specs.declared.lift.Carried.TheVariants.{Waiting, Good, Bad}
 use Rattle.frame_store.proofs.StoreKept.{get_set_other, get_set_same}

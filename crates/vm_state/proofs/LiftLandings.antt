@@ -1,5 +1,5 @@
 -- A lift that may land lands by a legal entry, which is paid for; and every other lift that may land still may.
-use Rattle.std.proofs.Common.{◌≡◌, ◌⊎◌, ℕ, ◌+◌, ◌-◌, ◌*◌, ◌^◌, ◌≤◌, ◌<◌, Bool, true, false, List, [], ◌∷◌, Option, Some, None, find, filter, not, length, nat_eq, count_by, if◌then◌else◌, refl, sym, ap, ◌∙◌, subst, inl, inr, arith}
+use Rattle.std.proofs.Common.{◌≡◌, ℕ, ◌+◌, ◌-◌, ◌*◌, ◌^◌, ◌≤◌, ◌<◌, Bool, true, false, List, [], ◌∷◌, Option, Some, None, find, length, nat_eq, if◌then◌else◌, refl, sym, ap, ◌∙◌, subst, inl, inr, arith}
 use Rattle.std.proofs.lemmas.Bool.{and_from, eq-eqb, eqb-false, eqb-true, ne_eqb, true≢false}
 use Rattle.std.proofs.lemmas.Option.{none-some, same_Some, slice_get_within}
 use Rattle.vm_types.specs.Configuration.{IsWellFormed}
@@ -8,7 +8,6 @@ use Rattle.vm_types.specs.declared.names.Page.{Page}
 use Rattle.vm_types.specs.declared.names.Page.TheVariants.{Private, Shared}
 use Rattle.vm_types.specs.declared.names.Seat.{Seat}
 use Rattle.vm_text.specs.Named.{IsNamedPage}
-use Rattle.vm_journal.specs.HasLine.{WhatHasLine}
 use Rattle.vm_journal.specs.declared.entry.Entry.{Entry}
 use Rattle.vm_journal.specs.declared.entry.What.{What}
 use Rattle.vm_journal.specs.declared.entry.What.TheVariants as what
@@ -23,7 +22,7 @@ use Rattle.pager_model.specs.InTurn.{InTurn, is_flight_work, is_reuse_of}
 use Rattle.pager_model.specs.OfConfig.{IsMappable, IsPageOf}
 use Rattle.pager_model.specs.Pager.{Pager}
 use Rattle.pager_model.specs.Run.{IsRun, pager_after}
-use Rattle.pager_model.specs.Step.{IsLegal, IsLegalWhat}
+use Rattle.pager_model.specs.Step.{IsLegal}
 use Rattle.pager_model.specs.Transfers.{starts}
 use Rattle.pager_rules.proofs.Lists.{all_found, count_found, found_passes}
 use Rattle.pager_rules.proofs.Quiet.{starts_by, starts_once}
@@ -37,7 +36,7 @@ use Rattle.state_fits.proofs.SectionNumbers.{number_within}
 use Rattle.vm_state.specs.History.{History, MayAdd, added, entry_by, owed, pager}
 use Rattle.vm_state.specs.Landings.{ended_as, landing_of}
 use Rattle.vm_state.specs.LiftsFit.{LiftFits, lift_seen, result_of}
-use Rattle.vm_state.specs.LiftsLand.{HasLanded, MayLand, added_each, landings_of, reuse_after}
+use Rattle.vm_state.specs.LiftsLand.{HasLanded, MayLand, added_each, reuse_after}
 use Rattle.vm_state.proofs.SeatFlights.{of_seats, parted}
 
 -- what a state keeps of its history

@@ -1,11 +1,8 @@
 -- OUTOK closes, and its calls may be made.
-use Rattle.std.proofs.Common.{◌≡◌, ℕ, ◌+◌, ◌-◌, ◌≤◌, ◌<◌, Bool, false, List, ◌∷◌, Option, Some, None, length, slice_get, slice_set, slice_index_or, refl, sym, ap, subst, subst₂, arith}
+use Rattle.std.proofs.Common.{◌≡◌, ℕ, ◌+◌, ◌-◌, ◌≤◌, ◌<◌, Bool, false, List, ◌∷◌, Option, Some, None, length, slice_get, slice_set, refl, sym, ap, subst, subst₂, arith}
 use Rattle.vm_types.specs.declared.config.Config.{Config}
 use Rattle.vm_types.specs.declared.names.BlockId.{BlockId}
-use Rattle.vm_types.specs.declared.names.Page.{Page}
-use Rattle.vm_types.specs.declared.names.Page.TheVariants.{Private}
 use Rattle.vm_types.specs.declared.names.Pfn.{Pfn}
-use Rattle.vm_types.specs.declared.names.Proc.{Proc}
 use Rattle.vm_types.specs.declared.names.Seat.{Seat}
 use Rattle.vm_journal.specs.declared.entry.Entry.{Entry}
 use Rattle.vm_journal.specs.declared.entry.What.TheVariants as what

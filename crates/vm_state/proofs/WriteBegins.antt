@@ -1,9 +1,8 @@
 -- A write begins: what it requires of the store, and how blocks move.
-use Rattle.std.proofs.Common.{◌≡◌, ℕ, ◌+◌, ◌-◌, ◌*◌, ◌≤◌, ◌<◌, ◌^◌, Bool, true, false, not, List, [], ◌∷◌, Option, Some, None, length, count_by, slice_get, slice_set, refl, sym, ap, ◌∙◌, subst, inl, inr, arith, length-set}
+use Rattle.std.proofs.Common.{◌≡◌, ℕ, ◌+◌, ◌-◌, ◌≤◌, ◌<◌, ◌^◌, Bool, false, List, [], ◌∷◌, Option, Some, None, length, slice_set, refl, sym, ap, ◌∙◌, subst, inl, inr, arith, length-set}
 use Rattle.std.specs.Prelude.{IfSome, IsSome, is_some}
 use Rattle.std.specs.Option.{option_map}
 use Rattle.std.proofs.lemmas.Option.{get_or_from_slice_get, none-some, same_Some}
-use Rattle.vm_types.specs.Configuration.{IsBlock}
 use Rattle.vm_types.specs.declared.config.Config.{Config}
 use Rattle.vm_types.specs.declared.names.BlockId.{BlockId}
 use Rattle.vm_types.specs.declared.names.FrameState.{FrameState}
@@ -18,7 +17,7 @@ use Rattle.pfn_database.specs.Frames.{Frames, row_of}
 use Rattle.pfn_database.specs.Rows.{IsOneOf}
 use Rattle.pfn_database.specs.declared.row.Row.{Row}
 use Rattle.pager_model.specs.Fits.{FitsLift, told_of}
-use Rattle.pager_model.specs.Flights.{Flight, is_reading, open_flights, writing}
+use Rattle.pager_model.specs.Flights.{Flight, open_flights, writing}
 use Rattle.pager_model.specs.Lookups.{is}
 use Rattle.pager_model.specs.Out.{IsAnyOut}
 use Rattle.pager_model.specs.Pager.{Pager}
@@ -33,7 +32,7 @@ use Rattle.content_laws.proofs.AtHome.{block_is_home, buffer_home}
 use Rattle.content_laws.proofs.CarriedFits.{few_calls}
 use Rattle.content_laws.proofs.ContentStays.{write_begins}
 use Rattle.content_laws.proofs.LiftsStay.{lifts_stay}
-use Rattle.frame_store.specs.Blocks.{block_at, blocks_of, held_at, number_in, number_of}
+use Rattle.frame_store.specs.Blocks.{block_at, held_at, number_in, number_of}
 use Rattle.frame_store.specs.LiftView.{LiftView, begun}
 use Rattle.frame_store.specs.StoreView.{StoreView, lifted_out}
 use Rattle.frame_store.proofs.Blocks.{block_kept, block_set}
@@ -43,8 +42,6 @@ use Rattle.state_fits.specs.Seats.{flight_on, is_on_frame}
 use Rattle.state_fits.proofs.FlightsMoved.{on_frame_counts}
 use Rattle.state_fits.proofs.OutCan.{CanBeginWrite, can_begin_write}
 use Rattle.state_fits.proofs.OutParts.{listed_writable, swap_writable}
-use Rattle.vm_state.specs.History.{History, entry_by}
-use Rattle.vm_state.specs.LiftsBegin.{HasBegun}
 use Rattle.vm_state.specs.LiftsFit.{LiftFits, lift_seen}
 use Rattle.vm_state.specs.StateKept.{IsState, IsStoreOf, home_in, is_writing}
 use Rattle.vm_state.proofs.Closing.{kept, right}

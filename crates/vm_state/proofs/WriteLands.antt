@@ -1,5 +1,5 @@
 -- A write lands: what it requires of the store, and how blocks move.
-use Rattle.std.proofs.Common.{◌≡◌, ℕ, ◌+◌, ◌*◌, ◌≤◌, ◌<◌, Bool, true, false, not, List, Option, Some, None, find, length, count_by, slice_get, slice_set, if◌then◌else◌, refl, sym, ap, ◌∙◌, subst, arith, length-set}
+use Rattle.std.proofs.Common.{◌≡◌, ℕ, ◌+◌, ◌<◌, Bool, false, not, List, Option, Some, None, find, length, slice_get, slice_set, if◌then◌else◌, refl, sym, ap, ◌∙◌, subst, arith, length-set}
 use Rattle.std.specs.Option.{option_map}
 use Rattle.std.proofs.lemmas.Option.{same_Some, slice_get-get_or}
 use Rattle.vm_types.specs.Configuration.{IsBlock}
@@ -21,7 +21,7 @@ use Rattle.pager_rules.proofs.Quiet.{starts_once}
 use Rattle.content_laws.specs.Moved.{BringsBlock}
 use Rattle.content_laws.specs.Put.{PutsBlock}
 use Rattle.content_laws.proofs.AtHome.{block_is_away}
-use Rattle.frame_store.specs.Blocks.{block_at, blocks_of, held_at, number_in, number_of}
+use Rattle.frame_store.specs.Blocks.{block_at, held_at, number_in, number_of}
 use Rattle.frame_store.specs.LiftView.{LiftView}
 use Rattle.frame_store.specs.StoreView.{StoreView, landed}
 use Rattle.frame_store.proofs.Blocks.{block_kept, block_set, number_within}

@@ -9,7 +9,7 @@ use Rattle.pager_model.specs.Flights.{awaits_reuse}
 use Rattle.pager_model.specs.Given.{pfn}
 use Rattle.frame_store.specs.LiftView.{LiftView}
 use Rattle.frame_store.specs.declared.lift.Carried.{Carried}
-use Rattle.frame_store.specs.declared.lift.Carried.TheVariants.{Waiting, Good, Bad}
+use Rattle.frame_store.specs.declared.lift.Carried.TheVariants.{Waiting, Bad}
 use Rattle.vm_state.specs.CarrierView.{CarrierView}
 use Rattle.vm_state.specs.History.{History, added, entry_by}
 use Rattle.vm_state.specs.Landings.{landing_of}

@@ -1,4 +1,4 @@
-use Rattle.std.proofs.Common.{arith, sym, ap, ◌∙◌, ◌≡◌, ◌+◌, ◌*◌, ◌≤◌, ℕ, List, sum, length, subst}
+use Rattle.std.proofs.Common.{arith, ap, ◌∙◌, ◌≡◌, sum}
 use Rattle.frame_store.specs.Blocks.{extents, page_counts}
 use Rattle.frame_store.proofs.Counts.{count_is, few_blocks}
 use Rattle.frame_store.proofs.numbers.block_count.Goals as goal

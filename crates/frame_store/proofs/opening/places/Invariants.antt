@@ -1,4 +1,4 @@
-use Rattle.std.proofs.Common.{◌≡◌, ◌+◌, ◌≤◌, ◌++◌, Some, length, map, reverse, vec_capacity, vec_len}
+use Rattle.std.proofs.Common.{◌≡◌, ◌+◌, ◌≤◌, ◌++◌, Some, map, reverse, vec_capacity, vec_len}
 use Rattle.vm_types.specs.declared.names.BlockId.{BlockId}
 use Rattle.frame_store.proofs.opening.places.Given as goal
 

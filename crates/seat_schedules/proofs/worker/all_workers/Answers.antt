@@ -1,4 +1,4 @@
-use Rattle.std.proofs.Common.{◌≡◌, ◌+◌, ◌≤◌, ◌∙◌, List, ap, length, arith}
+use Rattle.std.proofs.Common.{◌≡◌, ◌∙◌, List, ap, length, arith}
 use Rattle.vm_types.specs.declared.config.Config.{Config}
 use Rattle.vm_types.specs.declared.config.ProcSpec.{ProcSpec}
 use Rattle.seat_schedules.proofs.FirstWorkers.{first_at_work}

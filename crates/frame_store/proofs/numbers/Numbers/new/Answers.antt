@@ -1,4 +1,4 @@
-use Rattle.std.proofs.Common.{arith, sym, ap, ◌∙◌, ◌≡◌, ◌+◌, ◌*◌, ◌≤◌, ℕ, List, sum, length, subst}
+use Rattle.std.proofs.Common.{arith, ap, ◌∙◌, ◌≡◌, ◌+◌, sum}
 use Rattle.frame_store.specs.Blocks.{extents, page_counts}
 use Rattle.frame_store.specs.Numbers.{firsts, number_by}
 use Rattle.frame_store.proofs.Blocks.{file_first, numbered, section_firsts, swap_firsts}

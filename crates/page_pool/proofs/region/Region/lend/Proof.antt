@@ -5,15 +5,14 @@ use mir.Val.{Val, vptr}
 use base.Fraction.{full_share}
 use base.Logic.{id⊢, never}
 use base.Fml.{ftrue, flft}
-use borrow.Table.OneValue.{part_in}
-use types.Kit.{‵, raw, ◌⊛◌, given, at_ret, ◌$◌, ◌∵◌, !, qed, move, keep, split, join, fsplit, fsplit3, fjoin, fjoin3, learn, suffices, frame, use0, use1, use2, rewrite, feq_i}
-use types.Run.{init, stop, fld, load, un, bin, lit, of_opd, no_more, and_then, assigns, first, blocks, exec, returns, enter}
+use types.Kit.{‵, raw, ◌⊛◌, given, at_ret, ◌$◌, ◌∵◌, !, qed, move, keep, split, join, fsplit, fsplit3, fjoin, fjoin3, learn, suffices, frame, use0, use1, rewrite, feq_i}
+use types.Run.{stop, fld, load, un, bin, lit, of_opd, no_more, and_then, first, blocks, exec, returns, enter}
 use types.ByLocal.{alloc_all, pass_all, free_all, look_at, get, through, sets, sets_last, env}
 use types.Part.{agg, sub, whole, look_in}
 use contract.Running.{tables}
 use denote.Builtin.{u32}
 use denote.Laws.{Is, shows}
-use denote.Memory.{cell_at, part_at}
+use denote.Memory.{cell_at}
 use denote.Plain.{uint_vals, uint_Tells}
 use denote.RattleType.{RattleType, owns}
 use denote.RawPtr.{Ptr, block_ptr, room_for, in_a_block}
@@ -23,12 +22,11 @@ use denote.Steps.{nothing, opens, closes, heard, peeks}
 use denote.Triple.Walked.{Stays, stay_ref, stay_dropped, walk_of, ends_at, Goes-ref, Goes-dropped}
 use Rattle.std.proofs.raw_atomic.Walks.{proved}
 use Rattle.core.proofs.alloc.Shapes.{after}
-use Rattle.page_pool.specs.Region.{Page, page_type, place_of, parts_own}
+use Rattle.page_pool.specs.Region.{page_type, place_of, parts_own}
 use Rattle.page_pool.specs.Tickets.{tickets_own}
-use Rattle.page_pool.proofs.Pages.{page_laws}
 use Rattle.page_pool.proofs.Tickets.{cut}
 use Rattle.page_pool.proofs.Parts.{parts_last}
-use Rattle.page_pool.proofs.Values.{part_val, spare_made, part_typed, region_val, region_told, page_vals, page_tells, tells, tells_last}
+use Rattle.page_pool.proofs.Values.{part_val, spare_made, part_typed, region_val, region_told, tells, tells_last}
 use Rattle.page_pool.proofs.Values as values
 use Rattle.page_pool.specs.contracts.region.Region as region
 use Rattle.page_pool.specs.contracts.spare.Spare as spare

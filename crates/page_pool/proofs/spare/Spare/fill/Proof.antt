@@ -1,11 +1,11 @@
 -- `fill` writes the memory of a part that isn't written yet, which is then a part. Assumes `Logic`.
-use Rattle.std.proofs.Common.{ℕ, ◌≡◌, ◌<◌, ◌^◌, List, [], ◌∷◌, ◌++◌, refl, sym, ap, ◌∙◌}
+use Rattle.std.proofs.Common.{ℕ, ◌<◌, ◌^◌, List, [], ◌∷◌, ◌++◌, refl, sym, ◌∙◌}
 use mir.Val.{Val, vptr}
 use base.Fraction.{full_share}
 use base.Logic.{id⊢, never}
 use base.Fml.{ftrue}
 use borrow.Table.OneValue.{part_in}
-use types.Kit.{‵, raw, ◌⊛◌, at_ret, ◌$◌, ◌∵◌, !, qed, prop, regoal, move, keep, split, join, fsplit, fjoin, suffices, frame, use0, use2, rewrite}
+use types.Kit.{‵, raw, ◌⊛◌, at_ret, ◌$◌, ◌∵◌, !, qed, prop, regoal, move, keep, split, join, fsplit, fjoin, suffices, frame, use0, use2}
 use types.Run.{init, stop, fld, of_opd, no_more, and_then, assigns, first, blocks, exec, returns, enter}
 use types.ByLocal.{alloc_all, pass_all, free_all, look_at, get, get_in, through, sets, sets_last, env}
 use types.Part.{agg, sub, whole}
@@ -19,7 +19,7 @@ use denote.Steps.{nothing}
 use denote.Triple.Walked.{Stays, stay_dropped, walk_of, ends_at, Goes-dropped}
 use Rattle.std.proofs.raw_atomic.Walks.{proved}
 use Rattle.core.proofs.alloc.Shapes.{after}
-use Rattle.page_pool.specs.Region.{Page, page_type, place_of}
+use Rattle.page_pool.specs.Region.{Page, page_type}
 use Rattle.page_pool.proofs.Pages.{page_laws}
 use Rattle.page_pool.proofs.Values.{part_val, part_made, part_typed, spare_told, page_vals, page_tells, tells_last}
 use Rattle.page_pool.proofs.Values as values

@@ -1,9 +1,9 @@
-use Rattle.std.proofs.Common.{◌≡◌, ◌<◌, ◌≤◌, List, length, sym, ap, subst, arith}
+use Rattle.std.proofs.Common.{◌≡◌, ◌<◌, ◌≤◌, length, sym, subst, arith}
 use Rattle.std.specs.List.{AllByRecursion}
 use Rattle.frame_store.specs.LiftView.{LiftView}
 use Rattle.frame_store.specs.declared.lift.Carried.TheVariants.{Waiting}
 use Rattle.vm_state.specs.CarrierView.{CarrierView}
-use Rattle.vm_state.specs.Carrying.{AreCarried, HasCarried}
+use Rattle.vm_state.specs.Carrying.{AreCarried}
 use Rattle.vm_state.proofs.Carries.{all_carried, all_still_fit, next_waits, one_more}
 use Rattle.vm_state.proofs.carrier.Carrier.carry.Goals as goal
 

@@ -1,4 +1,4 @@
-use Rattle.std.proofs.Common.{◌≡◌, ◌≤◌, ℕ}
+use Rattle.std.proofs.Common.{◌≡◌, ◌≤◌}
 use Rattle.std.specs.Prelude.{vec_capacity, vec_len}
 use Rattle.vm_state.proofs.Carries.{AreCarriedTo}
 use Rattle.vm_state.proofs.carrier.Carrier.carry.Given as goal

@@ -1,9 +1,4 @@
-use Rattle.std.proofs.Common.{◌≡◌, ℕ, ◌<◌, sym, ap, ◌∙◌, subst}
-use Rattle.vm_types.specs.declared.names.Pfn.{Pfn}
-use Rattle.vm_journal.specs.declared.entry.What.{What}
-use Rattle.vm_journal.specs.declared.entry.What.TheVariants as what
-use Rattle.pager_model.specs.Given.{pfn}
-use Rattle.vm_state.specs.History.{History, MayAdd, added, entry_by}
+use Rattle.std.proofs.Common.{sym, ◌∙◌, subst}
 use Rattle.vm_state.proofs.LiftLandings as landing
 use Rattle.vm_state.proofs.LiftLandings.{Stands}
 use Rattle.vm_state.proofs.state.State.land_good.Goals as goal

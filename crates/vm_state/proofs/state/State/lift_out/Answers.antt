@@ -1,5 +1,4 @@
-use Rattle.std.proofs.Common.{◌≡◌, ℕ, ◌+◌, ◌<◌, List, refl, sym, ap, ◌∙◌, subst, length, arith}
-use Rattle.std.specs.Prelude.{IsSome}
+use Rattle.std.proofs.Common.{List, refl, sym, ap, ◌∙◌, subst, arith}
 use Rattle.pfn_database.specs.Frames.{Frames, row_of}
 use Rattle.pfn_database.specs.declared.row.Row.{Row}
 use Rattle.vm_journal.specs.declared.entry.Entry.{Entry}
