@@ -1,4 +1,4 @@
-ghost use Rattle.std.specs.Prelude.{◌≡◌, ◌+◌, ◌++◌, ◌<◌, ◌≤◌, [], length, take, slice_range, if◌then◌else◌, IfOk, IsSome, OnOk, OnErr};
+ghost use Rattle.std.specs.Prelude.{◌≡◌, ◌+◌, ◌++◌, ◌<◌, ◌≤◌, [], true, length, take, slice_range, if◌then◌else◌, IfOk, IsSome, OnOk, OnErr};
 ghost use Rattle.std.specs.Io.{ReadsAtMost, StopsAt};
 ghost use Rattle.std.specs.Io.KnownBytes.{Keeps, IsAtEnd, ReadConsumes, prepend_known};
 ghost use Rattle.outside_io.specs.Causes.{HasCause};
@@ -35,6 +35,9 @@ impl<S: Source> LineSource<S> {
     pub fn new(source: S) -> LineSource<S>
         ensures left { ⟦<LineSource<S> as Source>⟧.left result ≡ prepend_known [] (S.left source) }
         ensures faults { ⟦<LineSource<S> as Source>⟧.faults result ≡ S.faults source }
+        ensures text { line_begin result.front.items result.buffer result.from result.at ≡ [] }
+        ensures number { result.number ≡ 0 }
+        ensures ended { result.ended ≡ true }
     {
         LineSource {
             source,
