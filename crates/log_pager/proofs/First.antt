@@ -12,7 +12,7 @@ use Rattle.vm_types.specs.declared.config.ProcSpec.{ProcSpec}
 use Rattle.pager_model.specs.Changes.{pushed_if}
 use Rattle.pager_model.specs.Opening.{first_limit, first_ring, first_state, is_bad}
 use Rattle.pager_model.specs.Sets.{has}
-use Rattle.log_pager.specs.Rings.{empty_ring}
+use Rattle.log_tables.specs.Rings.{empty_ring}
 use Rattle.log_pager.specs.Shown.{Shown, at_or, no_ring}
 use Rattle.pager_model.specs.Pager.{Pager}
 

@@ -1,7 +1,5 @@
 pub mod Same
 pub mod Tables
-pub mod Lies
-pub mod Places
 pub mod First
 pub mod Landed
 pub mod Ranges

@@ -10,9 +10,9 @@ use Rattle.pager_model.specs.Maps.{proc}
 use Rattle.pager_model.specs.Opening.{first_block}
 use Rattle.pager_rules.proofs.Basics.{pages_equal}
 use Rattle.pager_rules.proofs.Lists.{found_passes}
-use Rattle.log_pager.specs.Lying.{block_or, is_lying, lies_in}
+use Rattle.log_tables.specs.Lying.{block_or, is_lying, lies_in}
 use Rattle.log_pager.specs.Shown.{at_or}
-use Rattle.log_pager.specs.declared.lying.Lying.{Lying}
+use Rattle.log_tables.specs.declared.lying.Lying.{Lying}
 
 -- an item that is there is read
 pub read_there : {X : Type 0} (d : X) (xs : List X) (n : ℕ) (x : X) → slice_get xs n ≡ Some x → at_or d xs n ≡ x

@@ -5,7 +5,7 @@ use Rattle.vm_types.specs.Ring.{Ring}
 use Rattle.vm_types.specs.declared.names.FrameState.TheVariants as state
 use Rattle.vm_types.specs.declared.names.ProcStatus.TheVariants as status
 use Rattle.pager_model.specs.Pager.{Pager}
-use Rattle.log_pager.specs.Lying.{lies_in}
+use Rattle.log_tables.specs.Lying.{lies_in}
 use Rattle.log_pager.specs.declared.log_pager.LogPager.{LogPager}
 
 -- by number; what isn't there has the other value

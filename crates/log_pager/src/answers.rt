@@ -14,8 +14,8 @@ ghost use Rattle.pager_model.specs.Reuse.{after_reuse, charged_reused};
 ghost use Rattle.pager_model.specs.Sets.{has_page};
 
 use crate::changes::more;
-use crate::lists::{is_of_section, is_own, is_same, put_first, remove, remove_page};
 use crate::log_pager::LogPager;
+use log_tables::{is_of_section, is_own, is_same, put_first, remove, remove_page};
 use vm_types::{BlockId, Config, FrameState, NoMemory, Op, Page, Pfn, Proc, Ref};
 
 /// A copy on reference page whose read from its section block failed is no longer charged.

@@ -9,9 +9,8 @@ ghost use Rattle.pager_model.specs.Limit.{after_limit};
 ghost use Rattle.pager_model.specs.Turn.{after_turn};
 ghost use Rattle.pager_model.specs.Zero.{after_zero};
 
-use crate::lists::{put_first, remove};
 use crate::log_pager::LogPager;
-use crate::valid_entry::ValidEntry;
+use log_tables::{ValidEntry, put_first, remove};
 use vm_types::{Addr, FrameState, NoMemory, Page, Pfn, Proc, ProcStatus};
 
 /// One more.

@@ -8,9 +8,8 @@ ghost use Rattle.vm_types.specs.declared.config.Config.{Config as ConfigValue};
 ghost use Rattle.pager_model.specs.Changes.{without_assigned};
 ghost use Rattle.pager_model.specs.Forget.{forget_all, forgotten, holder, holds_page, own_pages, range_of};
 
-use crate::assigned_block::AssignedBlock;
-use crate::lists::{is_same, lay, put_first, remove, remove_page};
 use crate::log_pager::LogPager;
+use log_tables::{AssignedBlock, is_same, lay, put_first, remove, remove_page};
 use vm_types::{Addr, Config, FrameState, NoMemory, Page, Proc};
 
 /// Whether a frame that holds this, if anything, holds the page.

@@ -8,9 +8,8 @@ ghost use Rattle.pager_model.specs.Evict.{after_evict};
 ghost use Rattle.pager_model.specs.Lookups.{is};
 
 use crate::changes::more;
-use crate::lists::{lay_nowhere, put_first, remove, slot_lying};
 use crate::log_pager::LogPager;
-use crate::valid_entry::ValidEntry;
+use log_tables::{ValidEntry, lay_nowhere, put_first, remove, slot_lying};
 use vm_journal::EvictWhy;
 use vm_types::{Addr, FrameState, NoMemory, Pfn, Proc, ProcStatus};
 

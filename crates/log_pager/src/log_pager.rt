@@ -6,15 +6,10 @@ ghost use Rattle.vm_types.specs.Configuration.{IsWellFormed};
 ghost use Rattle.vm_types.specs.declared.config.ProcSpec.{ProcSpec as Spec};
 ghost use Rattle.pager_model.specs.Opening.{first_state, is_bad, opening};
 ghost use Rattle.pager_model.specs.Sets.{has};
-ghost use Rattle.log_pager.specs.Rings.{empty_ring};
+ghost use Rattle.log_tables.specs.Rings.{empty_ring};
 
-use crate::assigned_block::AssignedBlock;
-use crate::behind::Behind;
 use crate::frames::push_if;
-use crate::laying::pages_of;
-use crate::lying::Lying;
-use crate::ring::Ring;
-use crate::valid_entry::ValidEntry;
+use log_tables::{AssignedBlock, Behind, Lying, Ring, ValidEntry, pages_of};
 use std::alloc::Global;
 use vm_types::{Config, FrameState, NoMemory, Page, Pfn, ProcSpec, ProcStatus};
 

@@ -7,7 +7,7 @@ ghost use Rattle.vm_types.specs.declared.names.BlockId.{BlockId as Block};
 ghost use Rattle.pager_model.specs.Maps.{proc};
 
 use crate::log_pager::LogPager;
-use crate::lying::Lying;
+use log_tables::Lying;
 use vm_types::{BlockId, Page, Proc, ProcStatus};
 
 /// Whether no frame holds the page.

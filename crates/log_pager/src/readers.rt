@@ -5,12 +5,8 @@ ghost use Rattle.std.specs.Prelude.{◌≡◌, ◌<◌, ◌↔◌, IsTrue, count
 ghost use Rattle.pager_model.specs.Lookups.{IsHead, block_of, count_page, entries_at, entry_of, is_assigned_to, is_owner, page_by, shares};
 ghost use Rattle.pager_model.specs.Sets.{has_page};
 
-use crate::assigned_block::AssignedBlock;
-use crate::behind::Behind;
-use crate::lists::{is_same, lies_in, page_behind};
 use crate::log_pager::LogPager;
-use crate::ring::Ring;
-use crate::valid_entry::ValidEntry;
+use log_tables::{AssignedBlock, Behind, Ring, ValidEntry, is_same, lies_in, page_behind};
 use vm_types::{BlockId, Config, FrameState, Page, Pfn, Proc, ProcStatus, page_place};
 
 impl LogPager {

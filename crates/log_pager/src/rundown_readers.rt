@@ -4,8 +4,8 @@
 ghost use Rattle.std.specs.Prelude.{◌≡◌, ◌≤◌, length, slice_get};
 ghost use Rattle.pager_model.specs.Lookups.{slot_of};
 
-use crate::held::Held;
 use crate::log_pager::LogPager;
+use log_tables::Held;
 use vm_types::Proc;
 
 impl LogPager {

@@ -10,8 +10,8 @@ ghost use Rattle.pager_model.specs.Forget.{after_delete, remapped};
 ghost use Rattle.pager_model.specs.Ring.{range_locked};
 ghost use Rattle.pager_model.specs.Served.{after_served, with_limit, with_ring};
 
-use crate::laying::{clear_range, protect_range, zero_range};
 use crate::log_pager::LogPager;
+use log_tables::{clear_range, protect_range, zero_range};
 use vm_types::{Addr, Answer, Config, NoMemory, Proc, Service};
 
 impl LogPager {

@@ -11,14 +11,13 @@ ghost use Rattle.pager_model.specs.Lookups.{count_page, is_assigned_to};
 ghost use Rattle.pager_model.specs.Out.{after_any_out, after_out, assigned_with};
 ghost use Rattle.pager_model.specs.OutLanding.{after_out_fail, after_out_ok, marked};
 
-use crate::assigned_block::AssignedBlock;
 use crate::changes::more;
 use crate::frames::push_if;
-use crate::lists::{
-    is_of_section, is_own, is_same, lay_at, lay_nowhere, put_first, remove, slot_of,
-};
 use crate::log_pager::LogPager;
-use crate::valid_entry::ValidEntry;
+use log_tables::{
+    AssignedBlock, ValidEntry, is_of_section, is_own, is_same, lay_at, lay_nowhere, put_first,
+    remove, slot_of,
+};
 use vm_journal::Role;
 use vm_types::{Addr, BlockId, Config, FrameState, NoMemory, Page, Pfn, Proc};
 

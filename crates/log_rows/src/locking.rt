@@ -10,7 +10,8 @@ ghost use Rattle.log_pager.specs.Shown.{shown};
 
 use crate::own::spec_of;
 use crate::ranges::are_mapped;
-use log_pager::{LogPager, Ring};
+use log_pager::LogPager;
+use log_tables::Ring;
 use vm_types::{Addr, Config, Proc};
 
 /// Whether the sum of two numbers is at most that of two others.

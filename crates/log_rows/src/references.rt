@@ -21,8 +21,9 @@ ghost use Rattle.log_rows.specs.Follows.{FollowsFlat};
 use crate::own::is_own;
 use crate::processes::is_pending;
 use crate::refusals::{is_allowed, refusal};
-use log_pager::{Behind, LogPager};
+use log_pager::LogPager;
 use log_past::{Direction, LogPast};
+use log_tables::Behind;
 use vm_journal::Role;
 use vm_types::{Addr, Config, Proc, ProcStatus, Ref, Seat, Why};
 

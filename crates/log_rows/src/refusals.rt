@@ -9,7 +9,8 @@ ghost use Rattle.pager_model.specs.OfConfig.{MapsRight};
 ghost use Rattle.log_pager.specs.Shown.{shown};
 
 use crate::own::is_private;
-use log_pager::{Behind, LogPager};
+use log_pager::LogPager;
+use log_tables::Behind;
 use vm_types::{Config, Op, Page, Proc, Ref, Why, allowed};
 
 /// Whether an operation changes a page.

@@ -1,5 +1,5 @@
 use Rattle.std.proofs.Common.{◌≡◌, map, take}
-use Rattle.log_pager.specs.Rings.{empty_ring}
+use Rattle.log_tables.specs.Rings.{empty_ring}
 use Rattle.log_pager.proofs.log_pager.rings_of.Given as goal
 
 abbrev pub invariant-loop-spec : goal.invariant-loop-spec

@@ -1,6 +1,6 @@
 use Rattle.std.proofs.Common.{◌∷◌, refl, true, ap, ◌∙◌}
 use Rattle.pager_model.specs.Changes.{lies_nowhere}
-use Rattle.log_pager.specs.Lying.{lies_in}
+use Rattle.log_tables.specs.Lying.{lies_in}
 use Rattle.log_pager.specs.Shown.{shown}
 use Rattle.log_pager.proofs.Same.{same_shown, same_pager}
 use Rattle.log_pager.proofs.Tables.{page_read, set_modify, set_slotted, set_state}

@@ -2,8 +2,8 @@ use Rattle.std.proofs.Common.{None, ap, arith, false, length, map, ◌∙◌, ru
 use Rattle.std.proofs.Math.Path.{fun_ext}
 use Rattle.std.proofs.lemmas.Grind.{common_steps}
 use Rattle.vm_types.specs.declared.config.ProcSpec.{ProcSpec}
-use Rattle.log_pager.specs.Lying.{lies_in}
-use Rattle.log_pager.specs.Rings.{empty_ring}
+use Rattle.log_tables.specs.Lying.{lies_in}
+use Rattle.log_tables.specs.Rings.{empty_ring}
 use Rattle.log_pager.specs.Shown.{at_or, no_ring, shown}
 use Rattle.log_pager.proofs.First.{all_same, all_shown, first_limits, first_rings, first_states}
 use Rattle.log_pager.proofs.Same.{same_pager}

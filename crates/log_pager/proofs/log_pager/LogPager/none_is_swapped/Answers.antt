@@ -1,6 +1,6 @@
 use Rattle.std.proofs.Common.{ap, ◌∙◌, arith}
 use Rattle.log_pager.specs.Shown.{shown}
-use Rattle.log_pager.specs.Lying.{lies_in}
+use Rattle.log_tables.specs.Lying.{lies_in}
 use Rattle.log_pager.proofs.Whole.{swapped_listed}
 use Rattle.log_pager.proofs.log_pager.LogPager.none_is_swapped.Goals as goal
 

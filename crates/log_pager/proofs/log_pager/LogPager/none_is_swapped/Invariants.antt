@@ -1,8 +1,8 @@
 use Rattle.std.proofs.Common.{◌≡◌, ◌<◌, ℕ, Some, slice_get}
 use Rattle.vm_types.specs.declared.names.BlockId.TheVariants as block
 use Rattle.pager_model.specs.Maps.{proc}
-use Rattle.log_pager.specs.Lying.{lies_in}
-use Rattle.log_pager.specs.declared.lying.Lying.{Lying}
+use Rattle.log_tables.specs.Lying.{lies_in}
+use Rattle.log_tables.specs.declared.lying.Lying.{Lying}
 use Rattle.log_pager.proofs.log_pager.LogPager.none_is_swapped.Given as goal
 
 -- none of those so far lies there

@@ -2,7 +2,7 @@ use Rattle.std.proofs.Common.{◌≡◌, ◌&&◌, nat_eq, not, refl, sym, ap, a
 use Rattle.pager_model.specs.Changes.{pushed_if}
 use Rattle.pager_model.specs.Lookups.{shares}
 use Rattle.pager_model.specs.Sets.{at_number}
-use Rattle.log_pager.specs.Lying.{lies_in}
+use Rattle.log_tables.specs.Lying.{lies_in}
 use Rattle.log_pager.specs.Shown.{at_or, shown}
 use Rattle.vm_types.specs.declared.names.FrameState.TheVariants as state
 use Rattle.log_pager.proofs.Landed.{landed_same, lies_same}

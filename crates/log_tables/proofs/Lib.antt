@@ -1,0 +1,2 @@
+mod Lies
+mod Places

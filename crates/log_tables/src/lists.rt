@@ -1,0 +1,193 @@
+//! Lists of pages and frames.
+
+ghost use Rattle.std.specs.Prelude.{◌≡◌, ◌∷◌, OnOk, find, slice_get};
+ghost use Rattle.vm_types.specs.Same.{same_page};
+ghost use Rattle.page_lists.specs.Lists.{without};
+ghost use Rattle.pager_model.specs.Back.{block_slot, lies_of};
+ghost use Rattle.pager_model.specs.Changes.{is_section_block, lies_nowhere, without_page};
+ghost use Rattle.pager_model.specs.Maps.{is_private, page_behind, shared_of};
+ghost use Rattle.pager_model.specs.Opening.{first_block};
+ghost use Rattle.pager_model.specs.OutLanding.{lies_at};
+ghost use Rattle.pager_model.specs.Sets.{at_page};
+ghost use Rattle.log_tables.specs.Lying.{is_lying, lies_in};
+
+use crate::lying::Lying;
+use vm_types::{BlockId, Config, NoMemory, Origin, Page, Proc, SecId};
+
+/// Whether both are the same page.
+pub fn is_same(one: Page, other: Page) -> bool
+    ensures { result ≡ same_page one other }
+{
+    match (one, other) {
+        (Page::Private(p, v), Page::Private(q, w)) => p.0 == q.0 && v == w,
+        (Page::Shared(s, i), Page::Shared(t, j)) => s.0 == t.0 && i == j,
+        (Page::Private(_, _), Page::Shared(_, _)) | (Page::Shared(_, _), Page::Private(_, _)) =>
+            false,
+    }
+}
+
+/// Whether the page is a process's own.
+pub fn is_own(page: Page) -> bool
+    ensures { result ≡ is_private page }
+{
+    match page {
+        Page::Private(_, _) => true,
+        Page::Shared(_, _) => false,
+    }
+}
+
+/// Whether the block is a section's.
+pub fn is_of_section(block: BlockId) -> bool
+    ensures { result ≡ is_section_block block }
+{
+    match block {
+        BlockId::Section(_, _) => true,
+        BlockId::PageFile(_) | BlockId::Swap(_, _) => false,
+    }
+}
+
+/// Where a page lies at first: a section's page in its block, another one nowhere.
+fn first_block(page: Page) -> Option<BlockId>
+    ensures { result ≡ first_block page }
+{
+    match page {
+        Page::Private(_, _) => None,
+        Page::Shared(s, i) => Some(BlockId::Section(s, i)),
+    }
+}
+
+/// Whether a section is shared; one that is not there isn't.
+fn is_shared(config: &Config, s: SecId) -> bool
+    ensures { result ≡ shared_of (slice_get config.now.sections s.0) }
+{
+    match config.sections.items().get(s.0 as usize) {
+        None => false,
+        Some(section) => section.shared,
+    }
+}
+
+/// The page behind a page number of a process: a shared section's, or the process's own.
+pub fn page_behind(config: &Config, p: Proc, v: u32, origin: Origin) -> Page
+    ensures { result ≡ page_behind config.now p.0 v origin }
+{
+    match origin {
+        Origin::Zero => Page::Private(p, v),
+        Origin::Section(s, page) => {
+            if is_shared(config, s) {
+                Page::Shared(s, page)
+            } else {
+                Page::Private(p, v)
+            }
+        }
+    }
+}
+
+/// Puts an item in front.
+///
+/// # Errors
+/// `NoMemory` if out of memory.
+pub fn put_first<X: Drop>(list: &mut Vec<X>, x: X) -> Result<(), NoMemory>
+    ensures { OnOk result (list.new.items ≡ x ∷ list.old.items) }
+{
+    list.insert(0, x)?;
+    Ok(())
+}
+
+/// Takes a frame away.
+pub fn remove(list: &mut Vec<u32>, frame: u32)
+    ensures { list.new.items ≡ without list.old.items frame }
+{
+    list.retain(|other| *other != frame);
+}
+
+/// Takes a page away.
+pub fn remove_page(list: &mut Vec<Page>, page: Page)
+    ensures { list.new.items ≡ without_page list.old.items page }
+{
+    list.retain(|other| !is_same(page, *other));
+}
+
+/// What is said of a page that lies elsewhere than at first.
+fn lying_of(lies: &[Lying], page: Page) -> Option<Lying>
+    ensures { result ≡ find (is_lying page) lies.now }
+{
+    lies.iter().copied().find(|lying| is_same(lying.page, page))
+}
+
+/// The block in which a page lies.
+pub fn lies_in(lies: &[Lying], page: Page) -> Option<BlockId>
+    ensures { result ≡ lies_in lies.now page }
+{
+    match lying_of(lies, page) {
+        Some(lying) => lying.block,
+        None => first_block(page),
+    }
+}
+
+/// Says where a page lies.
+///
+/// # Errors
+/// `NoMemory` if out of memory; the list is then not to be used again.
+pub fn lay(lies: &mut Vec<Lying>, page: Page, block: Option<BlockId>) -> Result<(), NoMemory>
+    ensures { OnOk result (lies_in lies.new.items ≡ at_page (lies_in lies.old.items) page block) }
+{
+    lies.retain(|lying| !is_same(lying.page, page));
+    put_first(lies, Lying { page, block })
+}
+
+/// Says that the page, if there is one, lies nowhere.
+///
+/// # Errors
+/// `NoMemory` if out of memory; the list is then not to be used again.
+pub fn lay_nowhere(lies: &mut Vec<Lying>, page: Option<Page>) -> Result<(), NoMemory>
+    ensures { OnOk result (lies_in lies.new.items ≡ lies_nowhere (lies_in lies.old.items) page) }
+{
+    match page {
+        None => Ok(()),
+        Some(page) => lay(lies, page, None),
+    }
+}
+
+/// Says that the page, if there is one, lies in the block, unless it was modified.
+///
+/// # Errors
+/// `NoMemory` if out of memory; the list is then not to be used again.
+pub fn lay_at(
+    lies: &mut Vec<Lying>,
+    modified: bool,
+    page: Option<Page>,
+    block: BlockId,
+) -> Result<(), NoMemory>
+    ensures { OnOk result (lies_in lies.new.items ≡ lies_at (lies_in lies.old.items) modified page block) }
+{
+    match page {
+        None => Ok(()),
+        Some(page) => {
+            if modified {
+                Ok(())
+            } else {
+                lay(lies, page, Some(block))
+            }
+        }
+    }
+}
+
+/// The slot in whose swap block the page, if there is one, lies.
+pub fn slot_lying(lies: &[Lying], page: Option<Page>) -> u32
+    ensures { result ≡ block_slot (lies_of (lies_in lies.now) page) }
+{
+    match page {
+        None => 0,
+        Some(page) => slot_of(lies_in(lies, page)),
+    }
+}
+
+/// The slot of a swap block, and 0 for no such block.
+pub fn slot_of(block: Option<BlockId>) -> u32
+    ensures { result ≡ block_slot block }
+{
+    match block {
+        Some(BlockId::Swap(_, slot)) => slot,
+        Some(BlockId::Section(_, _) | BlockId::PageFile(_)) | None => 0,
+    }
+}
