@@ -2,10 +2,6 @@ pub mod FaultReads
 pub mod Flat
 pub mod Follows
 pub mod Joins
-pub mod Locks
-pub mod MappedRanges
-pub mod Only
 pub mod OutBlocks
-pub mod Places
 pub mod Roles
 pub mod Slots

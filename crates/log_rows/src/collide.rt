@@ -4,9 +4,9 @@ ghost use Rattle.std.specs.Prelude.{◌≡◌, ◌↔◌, IsTrue};
 ghost use Rattle.pager_model.specs.Collide.{IsCollide};
 ghost use Rattle.log_pager.specs.Shown.{shown};
 
-use crate::own::is_own;
 use log_pager::LogPager;
 use log_past::LogPast;
+use service_rows::is_own;
 use vm_types::{Addr, Pfn, Proc, Seat};
 
 /// Whether the collision of a seat with a read into a frame is legal.

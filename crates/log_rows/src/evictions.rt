@@ -11,10 +11,10 @@ ghost use Rattle.pager_model.specs.Order.{IsInOrder};
 ghost use Rattle.pager_model.specs.Transfers.{reads_on, writes_on};
 ghost use Rattle.log_pager.specs.Shown.{shown};
 
-use crate::own::{is_own, is_private};
 use log_pager::LogPager;
 use log_past::LogPast;
 use log_tables::Ring;
+use service_rows::{is_own, is_private};
 use vm_journal::EvictWhy;
 use vm_types::{Addr, BlockId, Choice, FrameState, Page, Pfn, Proc, ProcStatus, Seat};
 

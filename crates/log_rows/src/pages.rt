@@ -9,10 +9,10 @@ ghost use Rattle.pager_model.specs.Zero.{IsDemandZero, IsZero};
 ghost use Rattle.vm_types.specs.declared.names.BlockId.{BlockId as Block};
 ghost use Rattle.log_pager.specs.Shown.{shown};
 
-use crate::own::{is_below_limit, is_empty_head, is_own};
 use log_pager::LogPager;
 use log_past::LogPast;
 use log_tables::Behind;
+use service_rows::{is_below_limit, is_empty_head, is_own};
 use vm_types::{Addr, BlockId, Config, FrameState, Origin, Page, Pfn, Proc, ProcStatus, Seat};
 
 /// Whether the frame that heads the free list may give up the page.

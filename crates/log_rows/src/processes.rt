@@ -8,9 +8,9 @@ ghost use Rattle.pager_model.specs.Lookups.{is_pending};
 ghost use Rattle.pager_model.specs.Turn.{IsLeavingTurn, IsTurn, IsTurned};
 ghost use Rattle.log_pager.specs.Shown.{shown};
 
-use crate::own::{is_own, spec_of};
 use log_pager::LogPager;
 use log_past::LogPast;
+use service_rows::{is_own, spec_of};
 use vm_types::{Config, Params, Proc, ProcSpec, ProcStatus, Seat};
 
 /// Whether an adjustment is pending after so many references.

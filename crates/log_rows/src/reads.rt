@@ -12,10 +12,10 @@ ghost use Rattle.log_past.specs.Directions.{direction_of};
 ghost use Rattle.log_pager.specs.Shown.{shown};
 
 use crate::blocks::is_home;
-use crate::own::{is_below_limit, is_empty_head, is_own, is_private};
 use log_pager::LogPager;
 use log_past::{Direction, LogPast};
 use log_tables::Behind;
+use service_rows::{is_below_limit, is_empty_head, is_own, is_private};
 use vm_journal::Role;
 use vm_types::{Addr, BlockId, Origin, Page, Pfn, Proc, ProcStatus, Seat};
 

@@ -18,12 +18,12 @@ ghost use Rattle.pager_model.specs.Spoken.{flat_after};
 ghost use Rattle.log_pager.specs.Shown.{shown};
 ghost use Rattle.log_rows.specs.Follows.{FollowsFlat};
 
-use crate::own::is_own;
 use crate::processes::is_pending;
 use crate::refusals::{is_allowed, refusal};
 use log_pager::LogPager;
 use log_past::{Direction, LogPast};
 use log_tables::Behind;
+use service_rows::is_own;
 use vm_journal::Role;
 use vm_types::{Addr, Config, Proc, ProcStatus, Ref, Seat, Why};
 

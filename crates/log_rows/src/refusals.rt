@@ -8,9 +8,9 @@ ghost use Rattle.pager_model.specs.Maps.{page_behind, page_number};
 ghost use Rattle.pager_model.specs.OfConfig.{MapsRight};
 ghost use Rattle.log_pager.specs.Shown.{shown};
 
-use crate::own::is_private;
 use log_pager::LogPager;
 use log_tables::Behind;
+use service_rows::is_private;
 use vm_types::{Config, Op, Page, Proc, Ref, Why, allowed};
 
 /// Whether an operation changes a page.

@@ -15,12 +15,12 @@ use crate::pages::{is_back, is_reuse, is_zero};
 use crate::processes::{is_limit, is_turn};
 use crate::reads::is_in;
 use crate::references::{is_denial, is_done};
-use crate::services::is_served;
 use crate::turns::is_in_turn;
 use crate::writes::is_out;
 use log_pager::LogPager;
 use log_past::LogPast;
 use pager_laws::{flat_machine_follows, runs_are_of_configuration};
+use service_rows::is_served;
 use vm_journal::{Entry, What};
 use vm_types::Seat;
 

@@ -9,9 +9,9 @@ ghost use Rattle.pager_model.specs.Pager.{Valid};
 ghost use Rattle.log_pager.specs.Shown.{shown};
 
 use crate::blocks::is_home;
-use crate::own::is_private;
 use log_pager::LogPager;
 use log_past::LogPast;
+use service_rows::is_private;
 use vm_types::{BlockId, Config, Page, Pfn, Proc, ProcStatus};
 
 /// Whether a listed private page may be written to a page file block: the one that is assigned to it

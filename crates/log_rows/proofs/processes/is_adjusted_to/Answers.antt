@@ -2,7 +2,7 @@ use Rattle.std.proofs.Common.{◌≡◌, IsTrue, length, slice_get, sym, ◌∙�
 use Rattle.vm_types.specs.Adjust.{adjust}
 use Rattle.vm_types.specs.declared.config.ProcSpec.{ProcSpec}
 use Rattle.log_pager.specs.Shown.{shown}
-use Rattle.log_rows.proofs.Only.{only_one}
+use Rattle.service_rows.proofs.Only.{only_one}
 use Rattle.log_rows.proofs.processes.is_adjusted_to.Goals as goal
 
 pub returns-in-Some : goal.returns-in-Some

@@ -10,21 +10,21 @@ use log_pager::LogPager;
 use vm_types::{Config, Page, Pfn, Proc, ProcSpec, ProcStatus};
 
 /// Whether there is such a process, and it is resident.
-pub(crate) fn is_own(config: &Config, pager: &LogPager, p: Proc) -> bool
+pub fn is_own(config: &Config, pager: &LogPager, p: Proc) -> bool
     ensures { IsTrue result ↔ IsOwn config.now (shown pager.now).pager p.0 }
 {
     (p.0 as usize) < config.procs.items().len() && pager.status(p) == ProcStatus::Resident
 }
 
 /// Whether a frame heads the free list and is empty.
-pub(crate) fn is_empty_head(pager: &LogPager, f: Pfn) -> bool
+pub fn is_empty_head(pager: &LogPager, f: Pfn) -> bool
     ensures { IsTrue result ↔ IsEmptyHead (shown pager.now).pager f.0 }
 {
     pager.heads_free(f) && pager.page(f).is_none()
 }
 
 /// Whether a process has fewer pages in its working set than its limit.
-pub(crate) fn is_below_limit(pager: &LogPager, p: Proc) -> bool
+pub fn is_below_limit(pager: &LogPager, p: Proc) -> bool
     requires { p.0 < (shown pager.now).processes }
     ensures { IsTrue result ↔ (filled ((shown pager.now).pager.ring p.0).slots < (shown pager.now).pager.limit p.0) }
 {
@@ -32,7 +32,7 @@ pub(crate) fn is_below_limit(pager: &LogPager, p: Proc) -> bool
 }
 
 /// Whether the page is a process's own.
-pub(crate) fn is_private(page: Page) -> bool
+pub fn is_private(page: Page) -> bool
     ensures { result ≡ is_private page }
 {
     match page {
@@ -42,7 +42,7 @@ pub(crate) fn is_private(page: Page) -> bool
 }
 
 /// The limits of a process, if it is there.
-pub(crate) fn spec_of(config: &Config, p: Proc) -> Option<ProcSpec>
+pub fn spec_of(config: &Config, p: Proc) -> Option<ProcSpec>
     ensures { result ≡ slice_get config.now.procs p.0 }
 {
     config.procs.items().get(p.0 as usize).copied()

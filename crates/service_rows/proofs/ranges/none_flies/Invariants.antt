@@ -5,7 +5,7 @@ use Rattle.pager_model.specs.Flights.{open_flights}
 use Rattle.pager_model.specs.Maps.{proc}
 use Rattle.pager_model.specs.Transfers.{reads_on, writes_on}
 use Rattle.log_pager.specs.Shown.{shown}
-use Rattle.log_rows.proofs.ranges.none_flies.Given as goal
+use Rattle.service_rows.proofs.ranges.none_flies.Given as goal
 
 -- none of the frames so far with a page of the range has a flight
 abbrev pub invariant-loop-f : goal.invariant-loop-f

@@ -1,7 +1,7 @@
 use Rattle.std.proofs.Common.{◌+◌, ◌≤◌, IsTrue, slice_get, sym, ◌∙◌}
 use Rattle.vm_types.specs.declared.config.ProcSpec.{ProcSpec}
-use Rattle.log_rows.proofs.Only.{only_one}
-use Rattle.log_rows.proofs.limits.is_adjusted.Goals as goal
+use Rattle.service_rows.proofs.Only.{only_one}
+use Rattle.service_rows.proofs.limits.is_adjusted.Goals as goal
 
 pub returns-in-Some : goal.returns-in-Some
 returns-in-Some c =

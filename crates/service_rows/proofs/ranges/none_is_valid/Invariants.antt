@@ -1,7 +1,7 @@
 use Rattle.std.proofs.Common.{◌≡◌, ◌+◌, ◌/◌, ◌<◌, ◌≤◌, ℕ}
 use Rattle.pager_model.specs.Lookups.{entries_at}
 use Rattle.log_pager.specs.Shown.{shown}
-use Rattle.log_rows.proofs.ranges.none_is_valid.Given as goal
+use Rattle.service_rows.proofs.ranges.none_is_valid.Given as goal
 
 -- none of those so far is valid
 abbrev pub invariant-loop-n : goal.invariant-loop-n

@@ -2,8 +2,8 @@ use Rattle.std.proofs.Common.{◌≡◌, ℕ, ◌+◌, ◌/◌, arith}
 use Rattle.std.proofs.lemmas.Bool.{false≢true}
 use Rattle.pager_model.specs.Lookups.{entries_at}
 use Rattle.log_pager.specs.Shown.{shown}
-use Rattle.log_rows.proofs.Places.{inside_parts, one_more, place_inside}
-use Rattle.log_rows.proofs.ranges.none_is_valid.Goals as goal
+use Rattle.service_rows.proofs.Places.{inside_parts, one_more, place_inside}
+use Rattle.service_rows.proofs.ranges.none_is_valid.Goals as goal
 
 pub returns-then-is_valid_at : goal.returns-then-is_valid_at
 returns-then-is_valid_at c = (

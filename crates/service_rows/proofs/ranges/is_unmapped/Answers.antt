@@ -4,8 +4,8 @@ use Rattle.std.proofs.lemmas.Option.{none-some}
 use Rattle.vm_types.specs.declared.names.Page.{Page}
 use Rattle.pager_model.specs.Lookups.{page_by}
 use Rattle.log_pager.specs.Shown.{shown}
-use Rattle.log_rows.proofs.Places.{inside_parts, one_more}
-use Rattle.log_rows.proofs.ranges.is_unmapped.Goals as goal
+use Rattle.service_rows.proofs.Places.{inside_parts, one_more}
+use Rattle.service_rows.proofs.ranges.is_unmapped.Goals as goal
 
 pub loop-n-preserved : goal.loop-n-preserved
 loop-n-preserved c =

@@ -1,6 +1,6 @@
 use Rattle.std.proofs.Common.{arith}
-use Rattle.log_rows.proofs.Locks.{locked_with}
-use Rattle.log_rows.proofs.locking.fits.Goals as goal
+use Rattle.service_rows.proofs.Locks.{locked_with}
+use Rattle.service_rows.proofs.locking.fits.Goals as goal
 
 pub returns : goal.returns
 returns c =

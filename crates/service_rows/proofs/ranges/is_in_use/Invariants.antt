@@ -1,7 +1,7 @@
 use Rattle.std.proofs.Common.{◌≡◌, ◌+◌, ◌/◌, ◌<◌, ◌≤◌, ℕ, None}
 use Rattle.pager_model.specs.Lookups.{page_by}
 use Rattle.log_pager.specs.Shown.{shown}
-use Rattle.log_rows.proofs.ranges.is_in_use.Given as goal
+use Rattle.service_rows.proofs.ranges.is_in_use.Given as goal
 
 -- none of those so far is mapped
 abbrev pub invariant-loop-n : goal.invariant-loop-n

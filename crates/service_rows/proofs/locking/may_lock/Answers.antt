@@ -2,8 +2,8 @@ use Rattle.std.proofs.Common.{◌≤◌, true, IsTrue, slice_get, sym, ◌∙◌
 use Rattle.vm_types.specs.Ring.{locked}
 use Rattle.vm_types.specs.declared.config.ProcSpec.{ProcSpec}
 use Rattle.pager_model.specs.Ring.{range_locked}
-use Rattle.log_rows.proofs.Only.{only_one}
-use Rattle.log_rows.proofs.locking.may_lock.Goals as goal
+use Rattle.service_rows.proofs.Only.{only_one}
+use Rattle.service_rows.proofs.locking.may_lock.Goals as goal
 
 pub returns-in-Some : goal.returns-in-Some
 returns-in-Some c =

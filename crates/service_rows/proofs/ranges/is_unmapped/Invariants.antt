@@ -2,7 +2,7 @@ use Rattle.std.proofs.Common.{◌≡◌, ◌+◌, ◌/◌, ◌<◌, ◌≤◌, �
 use Rattle.vm_types.specs.declared.names.Page.{Page}
 use Rattle.pager_model.specs.Lookups.{page_by}
 use Rattle.log_pager.specs.Shown.{shown}
-use Rattle.log_rows.proofs.ranges.is_unmapped.Given as goal
+use Rattle.service_rows.proofs.ranges.is_unmapped.Given as goal
 
 -- those so far are mapped
 abbrev pub invariant-loop-n : goal.invariant-loop-n

@@ -193,8 +193,8 @@ fn is_served_fault(past: &LogPast<'_>, pager: &LogPager, seat: Seat, s: Service)
         && (pager.status(Proc(seat.0)) != ProcStatus::Resident || may_fail(s))
 }
 
-/// Whether a service is answered so.
-pub(crate) fn is_served(
+/// Whether a service is answered so. Doesn't allocate.
+pub fn is_served(
     past: &LogPast<'_>,
     pager: &LogPager,
     seat: Seat,

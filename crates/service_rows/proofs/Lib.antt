@@ -1,0 +1,4 @@
+pub mod Locks
+pub mod MappedRanges
+pub mod Only
+pub mod Places
