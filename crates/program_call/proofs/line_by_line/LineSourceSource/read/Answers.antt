@@ -37,7 +37,7 @@ returns-then-count-gt0-clause-text g c =
     let at = c.begin.ensures.at ∙ c.give-count.ensures.at in
     let buffer = c.begin.ensures.buffer ∙ c.give-count.ensures.buffer in
     λ some.
-        ap (λ bytes. line_begin new.front.items bytes new.from new.at) buffer ∙ ap (λ k. line_begin new.front.items full.buffer new.from k) at
-        ∙ line_goes_on full.ended full.front.items new.front.items full.buffer given full.from new.from full.at c.give-count.result full.begins front from c.give-count.ensures.piece
-        ∙ ap (λ ended. take 80 (begun ended (line_begin full.front.items full.buffer full.from full.at) ++ given)) c.in_ok-refill.ensures.ended
-        ∙ ap (λ text. take 80 (begun old.ended text ++ given)) c.in_ok-refill.ensures.text
+    ap (λ bytes. line_begin new.front.items bytes new.from new.at) buffer ∙ ap (λ k. line_begin new.front.items full.buffer new.from k) at
+    ∙ line_goes_on full.ended full.front.items new.front.items full.buffer given full.from new.from full.at c.give-count.result full.begins front from c.give-count.ensures.piece
+    ∙ ap (λ ended. take 80 (begun ended (line_begin full.front.items full.buffer full.from full.at) ++ given)) c.in_ok-refill.ensures.ended
+    ∙ ap (λ text. take 80 (begun old.ended text ++ given)) c.in_ok-refill.ensures.text
