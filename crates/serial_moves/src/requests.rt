@@ -125,6 +125,7 @@ fn find_for_request<B: Block>(
 ///
 /// # Errors
 /// `NoMemory` if out of memory.
+#[inline(always)]
 fn refer<B: Block>(
     state: &mut State<B>,
     seat: Seat,
