@@ -24,6 +24,25 @@ pub fn line(number: u64, e: &Entry, procs: u32, names: &[Section], out: &mut Arr
     ensures text { out.new.items ≡ line_text number e.now procs names.now }
     ensures len { array_vec_len out.new ≤ 159 }
 {
+    add_line(number, e, procs, names, out);
+}
+
+/// Adds the line of entry `number` without the byte 10 that ends a line; it has at most 159 bytes.
+/// `procs` is the number of processes, which names the seats, and `names` are the sections. Doesn't
+/// allocate.
+pub fn add_line<const CAP: usize>(
+    number: u64,
+    e: &Entry,
+    procs: u32,
+    names: &[Section],
+    out: &mut ArrayVec<u8, CAP>,
+)
+    requires names { AreNames procs names.now }
+    requires has_line { HasLine procs names.now e.now }
+    requires room { array_vec_len out.old + 159 ≤ CAP }
+    ensures text { out.new.items ≡ out.old.items ++ line_text number e.now procs names.now }
+    ensures len { array_vec_len out.new ≤ array_vec_len out.old + 159 }
+{
     push_decimal(out, number);
     out.push(b' ');
     push_seat(out, e.seat, procs);
@@ -32,8 +51,8 @@ pub fn line(number: u64, e: &Entry, procs: u32, names: &[Section], out: &mut Arr
     push_parts(out, &e.what, procs, names);
 }
 
-fn push_kind(out: &mut ArrayVec<u8, 160>, what: &What)
-    requires { array_vec_len out.old ≤ 153 }
+fn push_kind<const CAP: usize>(out: &mut ArrayVec<u8, CAP>, what: &What)
+    requires { array_vec_len out.old + 7 ≤ CAP }
     ensures items { out.new.items ≡ out.old.items ++ kind_word (kind_of what.now) }
     ensures len { array_vec_len out.new ≤ array_vec_len out.old + 7 }
 {
@@ -58,10 +77,15 @@ fn push_kind(out: &mut ArrayVec<u8, 160>, what: &What)
 }
 
 // The words behind an entry's kind, each behind a blank.
-fn push_parts(out: &mut ArrayVec<u8, 160>, what: &What, procs: u32, names: &[Section])
+fn push_parts<const CAP: usize>(
+    out: &mut ArrayVec<u8, CAP>,
+    what: &What,
+    procs: u32,
+    names: &[Section],
+)
     requires names { AreNames procs names.now }
     requires has_line { WhatHasLine procs names.now what.now }
-    requires room { array_vec_len out.old ≤ 84 }
+    requires room { array_vec_len out.old + 76 ≤ CAP }
     ensures items { out.new.items ≡ out.old.items ++ spaced (part_words names.now what.now) }
     ensures len { array_vec_len out.new ≤ array_vec_len out.old + 75 }
 {

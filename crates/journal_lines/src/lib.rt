@@ -4,4 +4,4 @@
 mod entry_line;
 mod parts;
 
-pub use entry_line::line;
+pub use entry_line::{add_line, line};

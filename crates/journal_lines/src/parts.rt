@@ -23,8 +23,8 @@ use vm_types::{
     Service, Why,
 };
 
-fn add_frame(out: &mut ArrayVec<u8, 160>, f: Pfn)
-    requires { array_vec_len out.old ≤ 148 }
+fn add_frame<const CAP: usize>(out: &mut ArrayVec<u8, CAP>, f: Pfn)
+    requires { array_vec_len out.old + 12 ≤ CAP }
     ensures items { out.new.items ≡ out.old.items ++ spaced (frame_text f.0 ∷ []) }
     ensures len { array_vec_len out.new ≤ array_vec_len out.old + 12 }
 {
@@ -32,8 +32,8 @@ fn add_frame(out: &mut ArrayVec<u8, 160>, f: Pfn)
     push_frame(out, f);
 }
 
-fn add_number(out: &mut ArrayVec<u8, 160>, number: u64)
-    requires { array_vec_len out.old ≤ 139 }
+fn add_number<const CAP: usize>(out: &mut ArrayVec<u8, CAP>, number: u64)
+    requires { array_vec_len out.old + 21 ≤ CAP }
     ensures items { out.new.items ≡ out.old.items ++ spaced (decimal number ∷ []) }
     ensures len { array_vec_len out.new ≤ array_vec_len out.old + 21 }
 {
@@ -41,10 +41,15 @@ fn add_number(out: &mut ArrayVec<u8, 160>, number: u64)
     push_decimal(out, number);
 }
 
-fn add_block(out: &mut ArrayVec<u8, 160>, block: BlockId, procs: u32, names: &[Section])
+fn add_block<const CAP: usize>(
+    out: &mut ArrayVec<u8, CAP>,
+    block: BlockId,
+    procs: u32,
+    names: &[Section],
+)
     requires names { AreNames procs names.now }
     requires block { IsNamedBlock procs names.now block }
-    requires room { array_vec_len out.old ≤ 131 }
+    requires room { array_vec_len out.old + 29 ≤ CAP }
     ensures items { out.new.items ≡ out.old.items ++ spaced (block_text names.now block ∷ []) }
     ensures len { array_vec_len out.new ≤ array_vec_len out.old + 29 }
 {
@@ -53,9 +58,9 @@ fn add_block(out: &mut ArrayVec<u8, 160>, block: BlockId, procs: u32, names: &[S
 }
 
 // A process, an address and a frame.
-fn add_mapped(out: &mut ArrayVec<u8, 160>, p: Proc, a: Addr, f: Pfn)
+fn add_mapped<const CAP: usize>(out: &mut ArrayVec<u8, CAP>, p: Proc, a: Addr, f: Pfn)
     requires few { p.0 < 16 }
-    requires room { array_vec_len out.old ≤ 137 }
+    requires room { array_vec_len out.old + 23 ≤ CAP }
     ensures items { out.new.items ≡ out.old.items ++ spaced (process_name p.0 ∷ address_text a.0 ∷ frame_text f.0 ∷ []) }
     ensures len { array_vec_len out.new ≤ array_vec_len out.old + 23 }
 {
@@ -67,8 +72,8 @@ fn add_mapped(out: &mut ArrayVec<u8, 160>, p: Proc, a: Addr, f: Pfn)
 }
 
 // The value that is written or added.
-fn add_operand(out: &mut ArrayVec<u8, 160>, op: Op)
-    requires { array_vec_len out.old ≤ 151 }
+fn add_operand<const CAP: usize>(out: &mut ArrayVec<u8, CAP>, op: Op)
+    requires { array_vec_len out.old + 9 ≤ CAP }
     ensures items { out.new.items ≡ out.old.items ++ spaced (operand_words op) }
     ensures len { array_vec_len out.new ≤ array_vec_len out.old + 9 }
 {
@@ -83,8 +88,8 @@ fn add_operand(out: &mut ArrayVec<u8, 160>, op: Op)
 
 // A reference: op and address, and the value that is written or added.
 #[inline(always)]
-fn add_reference(out: &mut ArrayVec<u8, 160>, r: Ref)
-    requires { array_vec_len out.old ≤ 138 }
+fn add_reference<const CAP: usize>(out: &mut ArrayVec<u8, CAP>, r: Ref)
+    requires { array_vec_len out.old + 22 ≤ CAP }
     ensures items { out.new.items ≡ out.old.items ++ spaced (reference_words r) }
     ensures len { array_vec_len out.new ≤ array_vec_len out.old + 22 }
 {
@@ -95,8 +100,8 @@ fn add_reference(out: &mut ArrayVec<u8, 160>, r: Ref)
     add_operand(out, r.op);
 }
 
-pub(crate) fn add_done(out: &mut ArrayVec<u8, 160>, r: Ref, reply: Reply)
-    requires { array_vec_len out.old ≤ 129 }
+pub(crate) fn add_done<const CAP: usize>(out: &mut ArrayVec<u8, CAP>, r: Ref, reply: Reply)
+    requires { array_vec_len out.old + 31 ≤ CAP }
     ensures items { out.new.items ≡ out.old.items ++ spaced (reference_words r ++ reply_words r.op reply) }
     ensures len { array_vec_len out.new ≤ array_vec_len out.old + 31 }
 {
@@ -110,8 +115,8 @@ pub(crate) fn add_done(out: &mut ArrayVec<u8, 160>, r: Ref, reply: Reply)
     }
 }
 
-pub(crate) fn add_denied(out: &mut ArrayVec<u8, 160>, r: Ref, why: Why)
-    requires { array_vec_len out.old ≤ 125 }
+pub(crate) fn add_denied<const CAP: usize>(out: &mut ArrayVec<u8, CAP>, r: Ref, why: Why)
+    requires { array_vec_len out.old + 35 ≤ CAP }
     ensures items { out.new.items ≡ out.old.items ++ spaced (reference_words r ++ why_word why ∷ []) }
     ensures len { array_vec_len out.new ≤ array_vec_len out.old + 35 }
 {
@@ -121,8 +126,8 @@ pub(crate) fn add_denied(out: &mut ArrayVec<u8, 160>, r: Ref, why: Why)
 }
 
 // The first address of a range, and its pages.
-fn add_range(out: &mut ArrayVec<u8, 160>, at: Addr, pages: u32)
-    requires { array_vec_len out.old ≤ 140 }
+fn add_range<const CAP: usize>(out: &mut ArrayVec<u8, CAP>, at: Addr, pages: u32)
+    requires { array_vec_len out.old + 20 ≤ CAP }
     ensures items { out.new.items ≡ out.old.items ++ spaced (address_text at.0 ∷ decimal pages ∷ []) }
     ensures len { array_vec_len out.new ≤ array_vec_len out.old + 20 }
 {
@@ -132,9 +137,9 @@ fn add_range(out: &mut ArrayVec<u8, 160>, at: Addr, pages: u32)
     push_count(out, pages);
 }
 
-fn add_service(out: &mut ArrayVec<u8, 160>, s: Service)
+fn add_service<const CAP: usize>(out: &mut ArrayVec<u8, CAP>, s: Service)
     requires formed { IsWellFormedService s }
-    requires room { array_vec_len out.old ≤ 128 }
+    requires room { array_vec_len out.old + 32 ≤ CAP }
     ensures items { out.new.items ≡ out.old.items ++ spaced (service_words s) }
     ensures len { array_vec_len out.new ≤ array_vec_len out.old + 32 }
 {
@@ -157,8 +162,8 @@ fn add_service(out: &mut ArrayVec<u8, 160>, s: Service)
     }
 }
 
-fn add_answer(out: &mut ArrayVec<u8, 160>, answer: Answer)
-    requires { array_vec_len out.old ≤ 146 }
+fn add_answer<const CAP: usize>(out: &mut ArrayVec<u8, CAP>, answer: Answer)
+    requires { array_vec_len out.old + 14 ≤ CAP }
     ensures items { out.new.items ≡ out.old.items ++ spaced (answer_words answer) }
     ensures len { array_vec_len out.new ≤ array_vec_len out.old + 14 }
 {
@@ -178,9 +183,9 @@ fn add_answer(out: &mut ArrayVec<u8, 160>, answer: Answer)
     }
 }
 
-pub(crate) fn add_served(out: &mut ArrayVec<u8, 160>, s: Service, answer: Answer)
+pub(crate) fn add_served<const CAP: usize>(out: &mut ArrayVec<u8, CAP>, s: Service, answer: Answer)
     requires formed { IsWellFormedService s }
-    requires room { array_vec_len out.old ≤ 114 }
+    requires room { array_vec_len out.old + 46 ≤ CAP }
     ensures items { out.new.items ≡ out.old.items ++ spaced (service_words s ++ answer_words answer) }
     ensures len { array_vec_len out.new ≤ array_vec_len out.old + 46 }
 {
@@ -188,8 +193,8 @@ pub(crate) fn add_served(out: &mut ArrayVec<u8, 160>, s: Service, answer: Answer
     add_answer(out, answer);
 }
 
-pub(crate) fn add_reuse(
-    out: &mut ArrayVec<u8, 160>,
+pub(crate) fn add_reuse<const CAP: usize>(
+    out: &mut ArrayVec<u8, CAP>,
     f: Pfn,
     page: Page,
     procs: u32,
@@ -197,7 +202,7 @@ pub(crate) fn add_reuse(
 )
     requires names { AreNames procs names.now }
     requires page { IsNamedPage procs names.now page }
-    requires room { array_vec_len out.old ≤ 121 }
+    requires room { array_vec_len out.old + 39 ≤ CAP }
     ensures items { out.new.items ≡ out.old.items ++ spaced (frame_text f.0 ∷ page_text names.now page ∷ []) }
     ensures len { array_vec_len out.new ≤ array_vec_len out.old + 39 }
 {
@@ -206,8 +211,8 @@ pub(crate) fn add_reuse(
     push_page(out, page, names);
 }
 
-pub(crate) fn add_zero(out: &mut ArrayVec<u8, 160>, a: Addr, f: Pfn)
-    requires { array_vec_len out.old ≤ 139 }
+pub(crate) fn add_zero<const CAP: usize>(out: &mut ArrayVec<u8, CAP>, a: Addr, f: Pfn)
+    requires { array_vec_len out.old + 21 ≤ CAP }
     ensures items { out.new.items ≡ out.old.items ++ spaced (address_text a.0 ∷ frame_text f.0 ∷ []) }
     ensures len { array_vec_len out.new ≤ array_vec_len out.old + 21 }
 {
@@ -216,9 +221,15 @@ pub(crate) fn add_zero(out: &mut ArrayVec<u8, 160>, a: Addr, f: Pfn)
     add_frame(out, f);
 }
 
-pub(crate) fn add_back(out: &mut ArrayVec<u8, 160>, p: Proc, a: Addr, f: Pfn, from: FrameState)
+pub(crate) fn add_back<const CAP: usize>(
+    out: &mut ArrayVec<u8, CAP>,
+    p: Proc,
+    a: Addr,
+    f: Pfn,
+    from: FrameState,
+)
     requires few { p.0 < 16 }
-    requires room { array_vec_len out.old ≤ 127 }
+    requires room { array_vec_len out.old + 33 ≤ CAP }
     ensures items { out.new.items ≡ out.old.items
         ++ spaced (process_name p.0 ∷ address_text a.0 ∷ frame_text f.0 ∷ state_word from ∷ []) }
     ensures len { array_vec_len out.new ≤ array_vec_len out.old + 33 }
@@ -228,8 +239,8 @@ pub(crate) fn add_back(out: &mut ArrayVec<u8, 160>, p: Proc, a: Addr, f: Pfn, fr
     push_state(out, from);
 }
 
-pub(crate) fn add_collide(out: &mut ArrayVec<u8, 160>, a: Addr, f: Pfn, k: u64)
-    requires { array_vec_len out.old ≤ 118 }
+pub(crate) fn add_collide<const CAP: usize>(out: &mut ArrayVec<u8, CAP>, a: Addr, f: Pfn, k: u64)
+    requires { array_vec_len out.old + 42 ≤ CAP }
     ensures items { out.new.items ≡ out.old.items ++ spaced (address_text a.0 ∷ frame_text f.0 ∷ decimal k ∷ []) }
     ensures len { array_vec_len out.new ≤ array_vec_len out.old + 42 }
 {
@@ -237,10 +248,15 @@ pub(crate) fn add_collide(out: &mut ArrayVec<u8, 160>, a: Addr, f: Pfn, k: u64)
     add_number(out, k);
 }
 
-fn add_role(out: &mut ArrayVec<u8, 160>, role: Role, procs: u32, names: &[Section])
+fn add_role<const CAP: usize>(
+    out: &mut ArrayVec<u8, CAP>,
+    role: Role,
+    procs: u32,
+    names: &[Section],
+)
     requires names { AreNames procs names.now }
     requires role { RoleHasWords procs names.now role }
-    requires room { array_vec_len out.old ≤ 127 }
+    requires room { array_vec_len out.old + 33 ≤ CAP }
     ensures items { out.new.items ≡ out.old.items ++ spaced (role_words names.now role) }
     ensures len { array_vec_len out.new ≤ array_vec_len out.old + 33 }
 {
@@ -261,8 +277,8 @@ fn add_role(out: &mut ArrayVec<u8, 160>, role: Role, procs: u32, names: &[Sectio
 }
 
 #[inline(always)]
-pub(crate) fn add_out(
-    out: &mut ArrayVec<u8, 160>,
+pub(crate) fn add_out<const CAP: usize>(
+    out: &mut ArrayVec<u8, CAP>,
     f: Pfn,
     block: BlockId,
     procs: u32,
@@ -270,7 +286,7 @@ pub(crate) fn add_out(
 )
     requires names { AreNames procs names.now }
     requires block { IsNamedBlock procs names.now block }
-    requires room { array_vec_len out.old ≤ 119 }
+    requires room { array_vec_len out.old + 41 ≤ CAP }
     ensures items { out.new.items ≡ out.old.items ++ spaced (frame_text f.0 ∷ block_text names.now block ∷ []) }
     ensures len { array_vec_len out.new ≤ array_vec_len out.old + 41 }
 {
@@ -278,8 +294,8 @@ pub(crate) fn add_out(
     add_block(out, block, procs, names);
 }
 
-pub(crate) fn add_in(
-    out: &mut ArrayVec<u8, 160>,
+pub(crate) fn add_in<const CAP: usize>(
+    out: &mut ArrayVec<u8, CAP>,
     f: Pfn,
     block: BlockId,
     role: Role,
@@ -289,7 +305,7 @@ pub(crate) fn add_in(
     requires names { AreNames procs names.now }
     requires block { IsNamedBlock procs names.now block }
     requires role { RoleHasWords procs names.now role }
-    requires room { array_vec_len out.old ≤ 86 }
+    requires room { array_vec_len out.old + 74 ≤ CAP }
     ensures items { out.new.items ≡ out.old.items
         ++ spaced (frame_text f.0 ∷ block_text names.now block ∷ role_words names.now role) }
     ensures len { array_vec_len out.new ≤ array_vec_len out.old + 74 }
@@ -299,8 +315,8 @@ pub(crate) fn add_in(
 }
 
 // A frame, and the number of the entry that began its transfer.
-pub(crate) fn add_flight(out: &mut ArrayVec<u8, 160>, f: Pfn, k: u64)
-    requires { array_vec_len out.old ≤ 127 }
+pub(crate) fn add_flight<const CAP: usize>(out: &mut ArrayVec<u8, CAP>, f: Pfn, k: u64)
+    requires { array_vec_len out.old + 33 ≤ CAP }
     ensures items { out.new.items ≡ out.old.items ++ spaced (frame_text f.0 ∷ decimal k ∷ []) }
     ensures len { array_vec_len out.new ≤ array_vec_len out.old + 33 }
 {
@@ -309,8 +325,14 @@ pub(crate) fn add_flight(out: &mut ArrayVec<u8, 160>, f: Pfn, k: u64)
 }
 
 // A transfer that failed, and its block's count of failures before and after it.
-pub(crate) fn add_failed(out: &mut ArrayVec<u8, 160>, f: Pfn, k: u64, c: u64, d: u64)
-    requires { array_vec_len out.old ≤ 85 }
+pub(crate) fn add_failed<const CAP: usize>(
+    out: &mut ArrayVec<u8, CAP>,
+    f: Pfn,
+    k: u64,
+    c: u64,
+    d: u64,
+)
+    requires { array_vec_len out.old + 75 ≤ CAP }
     ensures items { out.new.items ≡ out.old.items
         ++ spaced (frame_text f.0 ∷ decimal k ∷ decimal c ∷ decimal d ∷ []) }
     ensures len { array_vec_len out.new ≤ array_vec_len out.old + 75 }
@@ -320,8 +342,8 @@ pub(crate) fn add_failed(out: &mut ArrayVec<u8, 160>, f: Pfn, k: u64, c: u64, d:
     add_number(out, d);
 }
 
-fn push_evict_why(out: &mut ArrayVec<u8, 160>, why: EvictWhy)
-    requires { array_vec_len out.old ≤ 153 }
+fn push_evict_why<const CAP: usize>(out: &mut ArrayVec<u8, CAP>, why: EvictWhy)
+    requires { array_vec_len out.old + 7 ≤ CAP }
     ensures items { out.new.items ≡ out.old.items ++ evict_word why }
     ensures len { array_vec_len out.new ≤ array_vec_len out.old + 7 }
 {
@@ -335,8 +357,8 @@ fn push_evict_why(out: &mut ArrayVec<u8, 160>, why: EvictWhy)
 }
 
 // A page's process, address and frame, why it leaves the working set, and its frame's state then.
-pub(crate) fn add_evict(
-    out: &mut ArrayVec<u8, 160>,
+pub(crate) fn add_evict<const CAP: usize>(
+    out: &mut ArrayVec<u8, CAP>,
     p: Proc,
     a: Addr,
     f: Pfn,
@@ -344,7 +366,7 @@ pub(crate) fn add_evict(
     to: FrameState,
 )
     requires few { p.0 < 16 }
-    requires room { array_vec_len out.old ≤ 119 }
+    requires room { array_vec_len out.old + 41 ≤ CAP }
     ensures items { out.new.items ≡ out.old.items
         ++ spaced (process_name p.0 ∷ address_text a.0 ∷ frame_text f.0 ∷ evict_word why ∷ state_word to ∷ []) }
     ensures len { array_vec_len out.new ≤ array_vec_len out.old + 41 }
@@ -356,8 +378,8 @@ pub(crate) fn add_evict(
     push_state(out, to);
 }
 
-pub(crate) fn add_limit(out: &mut ArrayVec<u8, 160>, n: u32, faults: u64)
-    requires { array_vec_len out.old ≤ 128 }
+pub(crate) fn add_limit<const CAP: usize>(out: &mut ArrayVec<u8, CAP>, n: u32, faults: u64)
+    requires { array_vec_len out.old + 32 ≤ CAP }
     ensures items { out.new.items ≡ out.old.items ++ spaced (decimal n ∷ decimal faults ∷ []) }
     ensures len { array_vec_len out.new ≤ array_vec_len out.old + 32 }
 {
@@ -366,9 +388,9 @@ pub(crate) fn add_limit(out: &mut ArrayVec<u8, 160>, n: u32, faults: u64)
     add_number(out, faults);
 }
 
-pub(crate) fn add_turn(out: &mut ArrayVec<u8, 160>, p: Proc, status: ProcStatus)
+pub(crate) fn add_turn<const CAP: usize>(out: &mut ArrayVec<u8, CAP>, p: Proc, status: ProcStatus)
     requires few { p.0 < 16 }
-    requires room { array_vec_len out.old ≤ 149 }
+    requires room { array_vec_len out.old + 11 ≤ CAP }
     ensures items { out.new.items ≡ out.old.items ++ spaced (process_name p.0 ∷ status_word status ∷ []) }
     ensures len { array_vec_len out.new ≤ array_vec_len out.old + 11 }
 {

@@ -5,7 +5,6 @@ ghost use Rattle.program_ends.specs.FaultText.{fault_text};
 ghost use Rattle.program_call.specs.Messages.{IsMessage, IsSaid, is_printable, line_message, rule_text};
 
 use crate::last_line::LastLine;
-use crate::room::add;
 use arrayvec::ArrayVec;
 use outside_io::{Sink, write_whole};
 use program_ends::name_of;
@@ -50,7 +49,7 @@ fn tells(first: &[u8], number: u32, cause: Cause) -> bool
     ensures yes { IsTrue result → (rest : List ℕ) × (first.now ≡ fault_text number cause ++ rest) }
     ensures no { (IsTrue result → ⊥) → (rest : List ℕ) → first.now ≢ fault_text number cause ++ rest }
 {
-    let mut line = ArrayVec::new();
+    let mut line: ArrayVec<u8, 160> = ArrayVec::new();
     push_word(&mut line, b"TRACE ");
     push_count(&mut line, number);
     push_word(&mut line, b" ");
@@ -118,16 +117,14 @@ fn message_of(last: &LastLine, wrong: &[u8]) -> ArrayVec<u8, 320>
     requires { length wrong.now ≤ 100 }
     ensures { result.items ≡ line_message last.now.number wrong.now last.now.text.items }
 {
-    let mut place = ArrayVec::new();
-    push_word(&mut place, b"neqysbar: line ");
-    push_count(&mut place, last.number);
-    push_word(&mut place, b": ");
     let mut out = ArrayVec::new();
-    add(&mut out, place.as_slice());
-    add(&mut out, wrong);
-    add(&mut out, b": ");
+    push_word(&mut out, b"neqysbar: line ");
+    push_count(&mut out, last.number);
+    push_word(&mut out, b": ");
+    push_word(&mut out, wrong);
+    push_word(&mut out, b": ");
     add_printable(&mut out, last.text.as_slice());
-    add(&mut out, b"\n");
+    push_word(&mut out, b"\n");
     out
 }
 

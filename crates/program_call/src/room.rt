@@ -1,23 +1,14 @@
-ghost use Rattle.std.specs.Prelude.{◌≡◌, ◌+◌, ◌≤◌, ◌++◌, length, min, take};
-ghost use Rattle.arrayvec.specs.ArrayVec.{array_vec_len};
+ghost use Rattle.std.specs.Prelude.{◌≡◌, ◌++◌, length, min, take};
 
 use arrayvec::ArrayVec;
-
-/// Adds these bytes. Doesn't allocate.
-pub(crate) fn add<const N: usize>(out: &mut ArrayVec<u8, N>, bytes: &[u8])
-    requires { array_vec_len out.old + length bytes.now ≤ N }
-    ensures items { out.new.items ≡ out.old.items ++ bytes.now }
-    ensures len { array_vec_len out.new ≡ array_vec_len out.old + length bytes.now }
-{
-    out.try_extend_from_slice(bytes).unwrap();
-}
+use vm_text::push_word;
 
 /// Adds as many of these bytes as there is room for. Doesn't allocate.
 pub(crate) fn add_first<const N: usize>(out: &mut ArrayVec<u8, N>, bytes: &[u8])
     ensures { out.new.items ≡ take N (out.old.items ++ bytes.now) }
 {
     let count = bytes.len().min(out.remaining_capacity());
-    add(out, &bytes[..count]);
+    push_word(out, &bytes[..count]);
 }
 
 /// Copies as many bytes as both have, and returns how many. Doesn't allocate.

@@ -8,22 +8,20 @@ ghost use Rattle.outside_io.specs.Writes.{Writes};
 ghost use Rattle.pager_model.specs.Text.{ended, entry_lines};
 
 use arrayvec::ArrayVec;
-use journal_lines::line;
+use journal_lines::add_line;
 use outside_io::{Sink, WriteFault, write_whole};
 use vm_journal::Entry;
 use vm_types::Section;
 
 // Adds the line of entry `number`, with the byte 10 that ends it.
-fn add_line(number: u64, e: &Entry, procs: u32, names: &[Section], lines: &mut ArrayVec<u8, 2048>)
+fn push_line(number: u64, e: &Entry, procs: u32, names: &[Section], lines: &mut ArrayVec<u8, 2048>)
     requires names { AreNames procs names.now }
     requires has_line { HasLine procs names.now e.now }
     requires room { array_vec_len lines.old ≤ 1888 }
     ensures { lines.new.items ≡ lines.old.items ++ ended (line_text number e.now procs names.now) }
 {
-    let mut out = ArrayVec::new();
-    line(number, e, procs, names, &mut out);
-    out.push(b'\n');
-    lines.try_extend_from_slice(out.as_slice()).unwrap();
+    add_line(number, e, procs, names, lines);
+    lines.push(b'\n');
 }
 
 // Writes these lines in one write of a whole text.
@@ -58,7 +56,7 @@ pub fn print_entries<K: Sink>(
     let mut number = first;
     let mut lines = ArrayVec::new();
     for e in entries {
-        add_line(number, e, procs, names, &mut lines);
+        push_line(number, e, procs, names, &mut lines);
         number += 1;
         if lines.remaining_capacity() < 160 {
             write_lines(&lines, sink)?;

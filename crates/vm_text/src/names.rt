@@ -10,9 +10,9 @@ use arrayvec::ArrayVec;
 use vm_types::{Addr, BlockId, Page, Pfn, Proc, Seat, SecId, Section};
 
 /// Adds a process's letter, A to P. Doesn't allocate.
-pub fn push_process(out: &mut ArrayVec<u8, 160>, process: Proc)
+pub fn push_process<const CAP: usize>(out: &mut ArrayVec<u8, CAP>, process: Proc)
     requires few { process.0 < 16 }
-    requires room { array_vec_len out.old + 1 ≤ 160 }
+    requires room { array_vec_len out.old + 1 ≤ CAP }
     ensures items { out.new.items ≡ out.old.items ++ process_name process.0 }
     ensures len { array_vec_len out.new ≡ array_vec_len out.old + 1 }
 {
@@ -21,10 +21,10 @@ pub fn push_process(out: &mut ArrayVec<u8, 160>, process: Proc)
 
 /// Adds a process's letter, or `MPW` for the writer's or `SWP` for the swapper's seat. Doesn't
 /// allocate.
-pub fn push_seat(out: &mut ArrayVec<u8, 160>, seat: Seat, procs: u32)
+pub fn push_seat<const CAP: usize>(out: &mut ArrayVec<u8, CAP>, seat: Seat, procs: u32)
     requires few { procs ≤ 16 }
     requires seat { seat.0 ≤ procs + 1 }
-    requires room { array_vec_len out.old + 3 ≤ 160 }
+    requires room { array_vec_len out.old + 3 ≤ CAP }
     ensures items { out.new.items ≡ out.old.items ++ seat_name procs seat.0 }
     ensures len { array_vec_len out.new ≤ array_vec_len out.old + 3 }
 {
@@ -38,8 +38,8 @@ pub fn push_seat(out: &mut ArrayVec<u8, 160>, seat: Seat, procs: u32)
 }
 
 /// Adds the eight digits of an address. Doesn't allocate.
-pub fn push_address(out: &mut ArrayVec<u8, 160>, address: Addr)
-    requires { array_vec_len out.old ≤ 152 }
+pub fn push_address<const CAP: usize>(out: &mut ArrayVec<u8, CAP>, address: Addr)
+    requires { array_vec_len out.old + 8 ≤ CAP }
     ensures items { out.new.items ≡ out.old.items ++ address_text address.0 }
     ensures len { array_vec_len out.new ≡ array_vec_len out.old + 8 }
 {
@@ -47,8 +47,8 @@ pub fn push_address(out: &mut ArrayVec<u8, 160>, address: Addr)
 }
 
 /// Adds a frame, as `F3`. Doesn't allocate.
-pub fn push_frame(out: &mut ArrayVec<u8, 160>, frame: Pfn)
-    requires { array_vec_len out.old ≤ 149 }
+pub fn push_frame<const CAP: usize>(out: &mut ArrayVec<u8, CAP>, frame: Pfn)
+    requires { array_vec_len out.old + 11 ≤ CAP }
     ensures items { out.new.items ≡ out.old.items ++ frame_text frame.0 }
     ensures len { array_vec_len out.new ≤ array_vec_len out.old + 11 }
 {
@@ -57,9 +57,14 @@ pub fn push_frame(out: &mut ArrayVec<u8, 160>, frame: Pfn)
 }
 
 // A section's name, and the number of a page in it.
-fn push_section_page(out: &mut ArrayVec<u8, 160>, section: SecId, page: u32, names: &[Section])
+fn push_section_page<const CAP: usize>(
+    out: &mut ArrayVec<u8, CAP>,
+    section: SecId,
+    page: u32,
+    names: &[Section],
+)
     requires named { IsShortSection names.now section.0 }
-    requires room { array_vec_len out.old ≤ 134 }
+    requires room { array_vec_len out.old + 26 ≤ CAP }
     ensures items { out.new.items ≡ out.old.items ++ section_page_text names.now section.0 page }
     ensures len { array_vec_len out.new ≤ array_vec_len out.old + 26 }
 {
@@ -69,9 +74,9 @@ fn push_section_page(out: &mut ArrayVec<u8, 160>, section: SecId, page: u32, nam
 }
 
 /// Adds a process and an address, as `A/00000200`. Doesn't allocate.
-pub fn push_place(out: &mut ArrayVec<u8, 160>, process: Proc, address: Addr)
+pub fn push_place<const CAP: usize>(out: &mut ArrayVec<u8, CAP>, process: Proc, address: Addr)
     requires few { process.0 < 16 }
-    requires room { array_vec_len out.old ≤ 150 }
+    requires room { array_vec_len out.old + 10 ≤ CAP }
     ensures items { out.new.items ≡ out.old.items ++ place_text process.0 address.0 }
     ensures len { array_vec_len out.new ≡ array_vec_len out.old + 10 }
 {
@@ -82,9 +87,9 @@ pub fn push_place(out: &mut ArrayVec<u8, 160>, process: Proc, address: Addr)
 
 /// Adds a page: a process and the page's first address, as `A/00000200`, or a section and the page's
 /// number in it, as `LIB/3`. Doesn't allocate.
-pub fn push_page(out: &mut ArrayVec<u8, 160>, page: Page, names: &[Section])
+pub fn push_page<const CAP: usize>(out: &mut ArrayVec<u8, CAP>, page: Page, names: &[Section])
     requires named { IsPrintablePage names.now page }
-    requires room { array_vec_len out.old ≤ 134 }
+    requires room { array_vec_len out.old + 26 ≤ CAP }
     ensures items { out.new.items ≡ out.old.items ++ page_text names.now page }
     ensures len { array_vec_len out.new ≤ array_vec_len out.old + 26 }
 {
@@ -96,9 +101,9 @@ pub fn push_page(out: &mut ArrayVec<u8, 160>, page: Page, names: &[Section])
 
 /// Adds a block: a section's as `S:LIB/3`, the page file's as `P:7`, a process's swap block as
 /// `X:A/2`. Doesn't allocate.
-pub fn push_block(out: &mut ArrayVec<u8, 160>, block: BlockId, names: &[Section])
+pub fn push_block<const CAP: usize>(out: &mut ArrayVec<u8, CAP>, block: BlockId, names: &[Section])
     requires named { IsPrintableBlock names.now block }
-    requires room { array_vec_len out.old ≤ 132 }
+    requires room { array_vec_len out.old + 28 ≤ CAP }
     ensures items { out.new.items ≡ out.old.items ++ block_text names.now block }
     ensures len { array_vec_len out.new ≤ array_vec_len out.old + 28 }
 {

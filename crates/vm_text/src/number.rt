@@ -17,8 +17,8 @@ static DECIMAL_PAIRS: [u8; 200] =
     *b"00010203040506070809101112131415161718192021222324252627282930313233343536373839404142434445464748495051525354555657585960616263646566676869707172737475767778798081828384858687888990919293949596979899";
 
 /// Adds a number in decimal digits without leading zeros. Doesn't allocate.
-pub fn push_decimal(out: &mut ArrayVec<u8, 160>, number: u64)
-    requires { array_vec_len out.old ≤ 140 }
+pub fn push_decimal<const CAP: usize>(out: &mut ArrayVec<u8, CAP>, number: u64)
+    requires { array_vec_len out.old + 20 ≤ CAP }
     ensures items { out.new.items ≡ out.old.items ++ decimal number }
     ensures len { array_vec_len out.new ≤ array_vec_len out.old + 20 }
 {
@@ -31,8 +31,8 @@ pub fn push_decimal(out: &mut ArrayVec<u8, 160>, number: u64)
 }
 
 /// Adds a number of 32 bits in decimal digits without leading zeros. Doesn't allocate.
-pub fn push_count(out: &mut ArrayVec<u8, 160>, number: u32)
-    requires { array_vec_len out.old ≤ 150 }
+pub fn push_count<const CAP: usize>(out: &mut ArrayVec<u8, CAP>, number: u32)
+    requires { array_vec_len out.old + 10 ≤ CAP }
     ensures items { out.new.items ≡ out.old.items ++ decimal number }
     ensures len { array_vec_len out.new ≤ array_vec_len out.old + 10 }
 {
@@ -46,9 +46,9 @@ pub fn push_count(out: &mut ArrayVec<u8, 160>, number: u32)
 
 // Adds the two decimal digits of a number below 100.
 #[inline(always)]
-fn push_pair(out: &mut ArrayVec<u8, 160>, number: u32)
+fn push_pair<const CAP: usize>(out: &mut ArrayVec<u8, CAP>, number: u32)
     requires few { number < 100 }
-    requires room { array_vec_len out.old ≤ 158 }
+    requires room { array_vec_len out.old + 2 ≤ CAP }
     ensures items { out.new.items ≡ out.old.items ++ (48 + number / 10) ∷ (48 + number % 10) ∷ [] }
     ensures len { array_vec_len out.new ≡ array_vec_len out.old + 2 }
 {
@@ -59,9 +59,9 @@ fn push_pair(out: &mut ArrayVec<u8, 160>, number: u32)
 
 // Adds a number below 100.
 #[inline(always)]
-fn push_first(out: &mut ArrayVec<u8, 160>, number: u32)
+fn push_first<const CAP: usize>(out: &mut ArrayVec<u8, CAP>, number: u32)
     requires few { number < 100 }
-    requires room { array_vec_len out.old ≤ 158 }
+    requires room { array_vec_len out.old + 2 ≤ CAP }
     ensures items { out.new.items ≡ out.old.items ++ decimal number }
     ensures len { array_vec_len out.new ≤ array_vec_len out.old + 2 }
 {
@@ -74,9 +74,9 @@ fn push_first(out: &mut ArrayVec<u8, 160>, number: u32)
 
 // Adds a number of at most four digits.
 #[inline(always)]
-fn push_four(out: &mut ArrayVec<u8, 160>, number: u32)
+fn push_four<const CAP: usize>(out: &mut ArrayVec<u8, CAP>, number: u32)
     requires few { number < 10000 }
-    requires room { array_vec_len out.old ≤ 156 }
+    requires room { array_vec_len out.old + 4 ≤ CAP }
     ensures items { out.new.items ≡ out.old.items ++ decimal number }
     ensures len { array_vec_len out.new ≤ array_vec_len out.old + 4 }
 {
@@ -90,9 +90,9 @@ fn push_four(out: &mut ArrayVec<u8, 160>, number: u32)
 
 // Adds a number of at most eight digits.
 #[inline(always)]
-fn push_short(out: &mut ArrayVec<u8, 160>, number: u32)
+fn push_short<const CAP: usize>(out: &mut ArrayVec<u8, CAP>, number: u32)
     requires few { number < 100000000 }
-    requires room { array_vec_len out.old ≤ 150 }
+    requires room { array_vec_len out.old + 8 ≤ CAP }
     ensures items { out.new.items ≡ out.old.items ++ decimal number }
     ensures len { array_vec_len out.new ≤ array_vec_len out.old + 8 }
 {
@@ -108,9 +108,9 @@ fn push_short(out: &mut ArrayVec<u8, 160>, number: u32)
 
 // Adds the hexadecimal digit of a number below 16.
 #[inline(always)]
-fn push_digit(out: &mut ArrayVec<u8, 160>, digit: u32)
+fn push_digit<const CAP: usize>(out: &mut ArrayVec<u8, CAP>, digit: u32)
     requires few { digit < 16 }
-    requires room { array_vec_len out.old ≤ 159 }
+    requires room { array_vec_len out.old + 1 ≤ CAP }
     ensures items { out.new.items ≡ out.old.items ++ hex_digit digit ∷ [] }
     ensures len { array_vec_len out.new ≡ array_vec_len out.old + 1 }
 {
@@ -119,9 +119,9 @@ fn push_digit(out: &mut ArrayVec<u8, 160>, digit: u32)
 
 // Adds the two hexadecimal digits of a number below 256.
 #[inline(always)]
-fn push_byte(out: &mut ArrayVec<u8, 160>, byte: u32)
+fn push_byte<const CAP: usize>(out: &mut ArrayVec<u8, CAP>, byte: u32)
     requires few { byte < 256 }
-    requires room { array_vec_len out.old ≤ 158 }
+    requires room { array_vec_len out.old + 2 ≤ CAP }
     ensures items { out.new.items ≡ out.old.items ++ hex 2 byte }
     ensures len { array_vec_len out.new ≡ array_vec_len out.old + 2 }
 {
@@ -131,9 +131,9 @@ fn push_byte(out: &mut ArrayVec<u8, 160>, byte: u32)
 }
 
 /// Adds the last `places` hexadecimal digits of the value, 8 at most. Doesn't allocate.
-pub fn push_hex(out: &mut ArrayVec<u8, 160>, value: u32, places: u32)
+pub fn push_hex<const CAP: usize>(out: &mut ArrayVec<u8, CAP>, value: u32, places: u32)
     requires few { places ≤ 8 }
-    requires room { array_vec_len out.old + places ≤ 160 }
+    requires room { array_vec_len out.old + places ≤ CAP }
     ensures items { out.new.items ≡ out.old.items ++ hex places value }
     ensures len { array_vec_len out.new ≡ array_vec_len out.old + places }
 {

@@ -27,8 +27,8 @@ pub fn bytes_of(op: Op) -> u8
 }
 
 // The mode's letter, none for user mode.
-fn push_mode(out: &mut ArrayVec<u8, 160>, mode: Mode)
-    requires { array_vec_len out.old + 1 ≤ 160 }
+fn push_mode<const CAP: usize>(out: &mut ArrayVec<u8, CAP>, mode: Mode)
+    requires { array_vec_len out.old + 1 ≤ CAP }
     ensures items { out.new.items ≡ out.old.items ++ mode_text mode }
     ensures len { array_vec_len out.new ≤ array_vec_len out.old + 1 }
 {
@@ -42,8 +42,8 @@ fn push_mode(out: &mut ArrayVec<u8, 160>, mode: Mode)
 
 /// Adds the mode's letter, which user mode doesn't have, the op's letter and the bytes that it takes,
 /// as `KR1`. Doesn't allocate.
-pub fn push_op(out: &mut ArrayVec<u8, 160>, mode: Mode, op: Op)
-    requires { array_vec_len out.old + 3 ≤ 160 }
+pub fn push_op<const CAP: usize>(out: &mut ArrayVec<u8, CAP>, mode: Mode, op: Op)
+    requires { array_vec_len out.old + 3 ≤ CAP }
     ensures items { out.new.items ≡ out.old.items ++ op_text mode op }
     ensures len { array_vec_len out.new ≤ array_vec_len out.old + 3 }
 {
@@ -57,8 +57,8 @@ pub fn push_op(out: &mut ArrayVec<u8, 160>, mode: Mode, op: Op)
 }
 
 /// Adds the value in two hexadecimal digits for each byte that the op takes. Doesn't allocate.
-pub fn push_value(out: &mut ArrayVec<u8, 160>, op: Op, value: u32)
-    requires { array_vec_len out.old + 8 ≤ 160 }
+pub fn push_value<const CAP: usize>(out: &mut ArrayVec<u8, CAP>, op: Op, value: u32)
+    requires { array_vec_len out.old + 8 ≤ CAP }
     ensures items { out.new.items ≡ out.old.items ++ value_text op value }
     ensures len { array_vec_len out.new ≤ array_vec_len out.old + 8 }
 {
@@ -70,8 +70,8 @@ pub fn push_value(out: &mut ArrayVec<u8, 160>, op: Op, value: u32)
 }
 
 /// Adds the word for why a reference is refused. Doesn't allocate.
-pub fn push_why(out: &mut ArrayVec<u8, 160>, why: Why)
-    requires { array_vec_len out.old + 12 ≤ 160 }
+pub fn push_why<const CAP: usize>(out: &mut ArrayVec<u8, CAP>, why: Why)
+    requires { array_vec_len out.old + 12 ≤ CAP }
     ensures items { out.new.items ≡ out.old.items ++ why_word why }
     ensures len { array_vec_len out.new ≤ array_vec_len out.old + 12 }
 {

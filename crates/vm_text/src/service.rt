@@ -9,9 +9,9 @@ use arrayvec::ArrayVec;
 use vm_types::Service;
 
 /// Adds the name of a protection code, below 16 and not the reserved 1. Doesn't allocate.
-pub fn push_protection(out: &mut ArrayVec<u8, 160>, code: u8)
+pub fn push_protection<const CAP: usize>(out: &mut ArrayVec<u8, CAP>, code: u8)
     requires named { IsCode code }
-    requires room { array_vec_len out.old + 4 ≤ 160 }
+    requires room { array_vec_len out.old + 4 ≤ CAP }
     ensures items { out.new.items ≡ out.old.items ++ protection_name code }
     ensures len { array_vec_len out.new ≤ array_vec_len out.old + 4 }
 {
@@ -36,8 +36,8 @@ pub fn push_protection(out: &mut ArrayVec<u8, 160>, code: u8)
 }
 
 /// Adds the name of a service, as `CRETVA`. Doesn't allocate.
-pub fn push_service_name(out: &mut ArrayVec<u8, 160>, service: Service)
-    requires { array_vec_len out.old + 6 ≤ 160 }
+pub fn push_service_name<const CAP: usize>(out: &mut ArrayVec<u8, CAP>, service: Service)
+    requires { array_vec_len out.old + 6 ≤ CAP }
     ensures items { out.new.items ≡ out.old.items ++ service_name service }
     ensures len { array_vec_len out.new ≤ array_vec_len out.old + 6 }
 {

@@ -8,8 +8,8 @@ use arrayvec::ArrayVec;
 use vm_types::{FrameState, ProcStatus};
 
 /// Adds the word for a frame's state. Doesn't allocate.
-pub fn push_state(out: &mut ArrayVec<u8, 160>, state: FrameState)
-    requires { array_vec_len out.old ≤ 151 }
+pub fn push_state<const CAP: usize>(out: &mut ArrayVec<u8, CAP>, state: FrameState)
+    requires { array_vec_len out.old + 9 ≤ CAP }
     ensures items { out.new.items ≡ out.old.items ++ state_word state }
     ensures len { array_vec_len out.new ≤ array_vec_len out.old + 9 }
 {
@@ -26,8 +26,8 @@ pub fn push_state(out: &mut ArrayVec<u8, 160>, state: FrameState)
 }
 
 /// Adds the word for a process's status. Doesn't allocate.
-pub fn push_status(out: &mut ArrayVec<u8, 160>, status: ProcStatus)
-    requires { array_vec_len out.old ≤ 152 }
+pub fn push_status<const CAP: usize>(out: &mut ArrayVec<u8, CAP>, status: ProcStatus)
+    requires { array_vec_len out.old + 8 ≤ CAP }
     ensures items { out.new.items ≡ out.old.items ++ status_word status }
     ensures len { array_vec_len out.new ≤ array_vec_len out.old + 8 }
 {
@@ -40,8 +40,8 @@ pub fn push_status(out: &mut ArrayVec<u8, 160>, status: ProcStatus)
 }
 
 /// Adds 1 for a mark that is set, else 0. Doesn't allocate.
-pub fn push_mark(out: &mut ArrayVec<u8, 160>, mark: bool)
-    requires { array_vec_len out.old + 1 ≤ 160 }
+pub fn push_mark<const CAP: usize>(out: &mut ArrayVec<u8, CAP>, mark: bool)
+    requires { array_vec_len out.old + 1 ≤ CAP }
     ensures items { out.new.items ≡ out.old.items ++ mark_text mark }
     ensures len { array_vec_len out.new ≡ array_vec_len out.old + 1 }
 {

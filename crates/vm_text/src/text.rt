@@ -6,8 +6,8 @@ use arrayvec::ArrayVec;
 
 /// Adds these bytes. Doesn't allocate.
 #[inline(always)]
-pub fn push_word(out: &mut ArrayVec<u8, 160>, word: &[u8])
-    requires { array_vec_len out.old + length word.now ≤ 160 }
+pub fn push_word<const CAP: usize>(out: &mut ArrayVec<u8, CAP>, word: &[u8])
+    requires { array_vec_len out.old + length word.now ≤ CAP }
     ensures items { out.new.items ≡ out.old.items ++ word.now }
     ensures len { array_vec_len out.new ≡ array_vec_len out.old + length word.now }
 {

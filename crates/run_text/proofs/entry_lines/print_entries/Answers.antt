@@ -13,12 +13,12 @@ loop-e-init g c = rw c.new-lines.ensures (record { number = omega arith; room = 
 pub returns-in_err-write_lines : goal.returns-in_err-write_lines
 returns-in_err-write_lines g c =
     let p = err_from_is_err_and c.from_residual.result c.from_residual.ensures.1 in
-    let kept = entry_lines-kept c.loop-e.number c.args.procs c.args.names.now c.args.entries.now c.loop-e.e-index _ c.loop-e.lines.items c.add_line.new.lines.items c.loop-e-test.true c.add_line.ensures in
+    let kept = entry_lines-kept c.loop-e.number c.args.procs c.args.names.now c.args.entries.now c.loop-e.e-index _ c.loop-e.lines.items c.push_line.new.lines.items c.loop-e-test.true c.push_line.ensures in
     rw (p.1, p.2) (progress_fault _ refl (progress_as kept c.loop-e.invariant.progress) c.in_err-write_lines.ensures)
 
 pub loop-e-preserved : goal.loop-e-preserved
 loop-e-preserved g c =
-    let kept = entry_lines-kept c.loop-e.number c.args.procs c.args.names.now c.args.entries.now c.loop-e.e-index _ c.loop-e.lines.items c.add_line.new.lines.items c.loop-e-test.true c.add_line.ensures in
+    let kept = entry_lines-kept c.loop-e.number c.args.procs c.args.names.now c.args.entries.now c.loop-e.e-index _ c.loop-e.lines.items c.push_line.new.lines.items c.loop-e-test.true c.push_line.ensures in
     let before = progress_as kept c.loop-e.invariant.progress in
     elim c.if-remaining_capacity-lt160.branch [
       | then-remaining_capacity-lt160+in_ok-write_lines w ↦ rw (w.sink-is, w.lines-is, w.clear.ensures) (record {
