@@ -3,3 +3,4 @@ pub mod Numbers
 pub mod StoreView
 pub mod LiftView
 pub mod Loans
+pub mod Stage

@@ -18,24 +18,39 @@ pub enum Carried {
     Bad { before: u64, after: u64 },
 }
 
+/// How far a lift was carried, without the block's counts of failures.
+#[derive(Clone, Copy)]
+pub(crate) enum Stage {
+    /// Not yet.
+    NotYet,
+    /// The block was read or written.
+    Well,
+    /// The block failed.
+    Badly,
+}
+
 /// An open transfer between a frame and a block: the block, and a buffer of the frame's bytes. It is
-/// carried outside of the store that it was lifted from, and then lands there.
+/// carried outside of the store that it was lifted from, and then lands there. How far it was carried is
+/// kept as a stage, with the count of failures that the block doesn't have any more.
 #[derive(Drop)]
 pub struct Lift<B: Block> {
     pub(crate) seat: Seat,
     pub(crate) page: Page,
     pub(crate) frame: Pfn,
     pub(crate) id: BlockId,
+    pub(crate) read: bool,
+    pub(crate) stage: Stage,
     pub(crate) block: B,
     pub(crate) buf: PageBuf,
     pub(crate) start: u64,
-    pub(crate) read: bool,
-    pub(crate) result: Carried,
+    /// The block's count of failures before its call; 0 until it is called.
+    pub(crate) before: u64,
 }
 
 impl<B: Block> Model for Lift<B> {
     ghost use Rattle.std.specs.Prelude.{◌+◌};
     ghost use Rattle.frame_store.specs.LiftView.{LiftView, MayCall};
+    ghost use Rattle.frame_store.specs.Stage.{result_of};
 
     ghost Value = { LiftView B };
 
@@ -48,11 +63,11 @@ impl<B: Block> Model for Lift<B> {
       is_read = l.read;
       buffer = (l.buf).bytes;
       held = l.block;
-      result = l.result;
+      result = result_of l.stage l.before (B.faults l.block);
       pool = (l.buf).pool;
     } };
 
-    ghost invariant = { λ l. MayCall l.result (B.reads l.block + B.writes l.block) };
+    ghost invariant = { λ l. MayCall (result_of l.stage l.before (B.faults l.block)) (B.reads l.block + B.writes l.block) };
 }
 
 impl<B: Block> Lift<B> {
@@ -61,13 +76,6 @@ impl<B: Block> Lift<B> {
         ensures { result ≡ self.now.start }
     {
         self.start
-    }
-
-    /// Who began it.
-    pub fn seat(&self) -> Seat
-        ensures { result ≡ self.now.seat }
-    {
-        self.seat
     }
 
     /// The page whose bytes are moved.
@@ -102,7 +110,14 @@ impl<B: Block> Lift<B> {
     pub fn result(&self) -> Carried
         ensures { result ≡ self.now.result }
     {
-        self.result
+        match self.stage {
+            Stage::NotYet => Carried::Waiting,
+            Stage::Well => Carried::Good,
+            Stage::Badly => Carried::Bad {
+                before: self.before,
+                after: self.block.faults(),
+            },
+        }
     }
 
     /// Reads the block into the buffer, or writes the buffer to it. After `Good` this was done, and the
@@ -123,14 +138,11 @@ impl<B: Block> Lift<B> {
         ensures writes { B.writes self.new.held ≡ B.writes self.old.held + (if self.old.is_read then 0 else 1) }
         ensures result { IsCarried B.tells_content B.content B.faults self.old self.new }
     {
-        let before = self.block.faults();
+        self.before = self.block.faults();
         let done = move_bytes(&mut self.block, &mut self.buf, self.read);
-        self.result = match done {
-            Ok(()) => Carried::Good,
-            Err(_) => Carried::Bad {
-                before,
-                after: self.block.faults(),
-            },
+        self.stage = match done {
+            Ok(()) => Stage::Well,
+            Err(_) => Stage::Badly,
         };
     }
 }

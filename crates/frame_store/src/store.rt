@@ -2,7 +2,7 @@ ghost use Rattle.std.specs.Prelude.{◌≡◌, ◌+◌, ◌-◌, ◌*◌, ◌<�
 ghost use Rattle.std.specs.Borrow.{sem};
 ghost use Rattle.vm_types.specs.declared.names.BlockId.{BlockId};
 
-use crate::lift::{Carried, Lift};
+use crate::lift::{Lift, Stage};
 use crate::numbers::Numbers;
 use crate::opening::{names, places, zero_buffers};
 use disk_trait::Block;
@@ -187,11 +187,12 @@ impl<B: Block> Store<B> {
             page,
             frame: f,
             id,
+            read: true,
+            stage: Stage::NotYet,
             block,
             buf,
             start,
-            read: true,
-            result: Carried::Waiting,
+            before: 0,
         }
     }
 
@@ -219,11 +220,12 @@ impl<B: Block> Store<B> {
             page,
             frame: f,
             id,
+            read: false,
+            stage: Stage::NotYet,
             block,
             buf,
             start,
-            read: false,
-            result: Carried::Waiting,
+            before: 0,
         }
     }
 

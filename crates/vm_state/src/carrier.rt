@@ -96,7 +96,8 @@ impl<B: Block> Carrier<B> {
         requires { 0 < length self.old.lifts }
         ensures { self.old ≡ record self.new { lifts = self.new.lifts ++ result ∷ [] } }
     {
-        self.lifts.pop().unwrap()
+        let end = self.lifts.len() - 1;
+        self.lifts.swap_remove(end)
     }
 
     /// Takes one more lift.
