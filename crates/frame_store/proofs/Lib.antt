@@ -2,4 +2,10 @@ pub mod Places
 pub mod Rows
 pub mod Blocks
 pub mod Counts
+mod Listed
+mod Changed
+mod Kept
+mod Ordered
+mod Sorting
+mod Taking
 pub mod StoreKept

@@ -5,7 +5,7 @@ use Rattle.std.proofs.lemmas.Bool.{cases_lt, eqb-true, eq-eqb, lt-ltb, and_parts
 use Rattle.std.proofs.lemmas.List.{get_or_past, get_or_default}
 use Rattle.std.proofs.lemmas.List.Quantifiers.{position-Some}
 use Rattle.std.proofs.lemmas.List.Sums.{fails_before_first}
-use Rattle.std.proofs.lemmas.Option.{get_or_from_slice_get, slice_get-get_or, slice_get_read, slice_get_within}
+use Rattle.std.proofs.lemmas.Option.{get_or_from_slice_get, slice_get-get_or, slice_get_within}
 use Rattle.vm_types.specs.Same.{same_block}
 use Rattle.vm_types.specs.declared.names.BlockId.{BlockId}
 use Rattle.vm_types.specs.declared.names.BlockId.TheVariants as block
@@ -26,6 +26,14 @@ read_held places n x below read = read ∙ get_or_default places n x None below
 
 pub held_get : {X : Type 0} (places : List (Option X)) (n : ℕ) (x : X) → held_at places n ≡ Some x → slice_get places n ≡ Some (Some x)
 held_get places n x held = slice_get-get_or places n None (held_below places n (subst IsSome (sym held) refl)) ∙ ap Some held
+
+-- what is held there, if anything is
+pub held_some : {X : Type 0} (places : List (Option X)) (n : ℕ) → IsSome (held_at places n) → (x : X) × (slice_get places n ≡ Some (Some x))
+held_some {X} places n some = go (held_at places n) refl
+  where
+    go : (o : Option X) → held_at places n ≡ o → (x : X) × (slice_get places n ≡ Some (Some x))
+    go None is = absurd (true≢false (sym (subst IsSome is some)))
+    go (Some x) is = (x, held_get places n x is)
 
 pub get_held : {X : Type 0} (places : List (Option X)) (n : ℕ) (x : Option X) → slice_get places n ≡ Some x → held_at places n ≡ x
 get_held places n x there = get_or_from_slice_get places n x None there
@@ -78,12 +86,6 @@ module _ (number : BlockId → ℕ) (ids : List BlockId) (are : AreNumbers numbe
 
   -- the places of the blocks, as many
   module _ {X : Type 0} (places : List (Option X)) (many : length places ≡ length ids) where
-    pub home_there : (b : BlockId) (n : ℕ) (x : Option X) → n ≡ number b → n < length ids → b ≡ slice_index_or ids n b → x ≡ slice_index_or places n x → is_some x ≡ is_some (held_at places (number_in ids b))
-    home_there b n x is below read there =
-        let at = slice_get_read ids (length ids) n b refl below read in
-        let same : n ≡ number_in ids b = is ∙ number_is b (number_below ids n b at) in
-        ap is_some (read_held places n x (omega arith) there ∙ ap (held_at places) same)
-
     pub home_elsewhere : (b : BlockId) (n : ℕ) → n ≡ number b → (slice_get ids n ≡ Some b → ⊥) → false ≡ is_some (held_at places (number_in ids b))
     home_elsewhere b n is other = go (cases_lt (number_in ids b) (length ids))
       where
@@ -94,14 +96,3 @@ module _ (number : BlockId → ℕ) (ids : List BlockId) (are : AreNumbers numbe
     -- a block that has a place there is found by its number
     pub placed : (b : BlockId) → number_in ids b < length places → number b ≡ number_in ids b
     placed b below = number_is b (omega arith)
-
-    -- the place of a block that isn't out, as its number finds it
-    module _ (b : BlockId) (some : IsSome (held_at places (number_in ids b))) where
-      pub at_number : number b ≡ number_in ids b
-      at_number = placed b (held_below places (number_in ids b) some)
-
-      pub number_within : (n : ℕ) → n ≡ number b → n < length places
-      number_within n is = subst (λ k. k < length places) (sym (is ∙ at_number)) (held_below places (number_in ids b) some)
-
-      pub number_reads : (n : ℕ) (x : Option X) → n ≡ number b → x ≡ slice_index_or places n x → x ≡ held_at places (number_in ids b)
-      number_reads n x is read = read_held places n x (number_within n is) read ∙ ap (held_at places) (is ∙ at_number)

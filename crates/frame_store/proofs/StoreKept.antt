@@ -7,7 +7,6 @@ use Rattle.std.proofs.lemmas.List.{length-map, length-replicate, map-set, set-ge
 use Rattle.std.proofs.lemmas.Option.{slice_get-map, slice_get-get_or, get_or_from_slice_get, slice_get_read, slice_get_within, same_Some}
 use Rattle.std.proofs.lemmas.Grind.{common_steps}
 use Rattle.std.proofs.lemmas.Option.{gets}
-use Rattle.vm_types.specs.declared.names.BlockId.{BlockId}
 use Rattle.vm_types.specs.declared.pool_name.PoolName.{PoolName}
 use Rattle.page_pool.specs.Pool.{Buffer}
 use Rattle.frame_store.specs.Blocks.{held_at}
@@ -41,27 +40,19 @@ buffer_there bufs f some = go (held_at bufs f) (slice_get-get_or bufs f None bel
 pub buffer_below : (bufs : List (Option Buffer)) (f : ℕ) → IsSome (held_at (bytes_of bufs) f) → f < length bufs
 buffer_below bufs f some = slice_get_within bufs f _ (buffer_there bufs f some).1
 
-module _ {pool : PoolName} {bufs : List (Option Buffer)} {numbers : List (Option ℕ)} {names : List BlockId} {places : ℕ} {number : BlockId → ℕ} {space : ℕ} (kept : IsStore pool bufs numbers names places number space) where
-  pub buffer_set : (f : ℕ) (o : Option Buffer) → f < length bufs → ((b : Buffer) → o ≡ Some b → b.pool ≡ pool) → IsStore pool (slice_set bufs f o) numbers names places number space
-  buffer_set f o below of =
-      record {
-        buffers = λ g b there. go g b there (cases_eq f g);
-        flights = kept.flights ∙ sym (length-set bufs f o);
-        blocks = kept.blocks;
-        numbered = kept.numbered;
-        room = kept.room;
-      }
+module _ {pool : PoolName} {bufs : List (Option Buffer)} {numbers : List (Option ℕ)} (kept : IsStore pool bufs numbers) where
+  pub buffer_set : (f : ℕ) (o : Option Buffer) → f < length bufs → ((b : Buffer) → o ≡ Some b → b.pool ≡ pool) → IsStore pool (slice_set bufs f o) numbers
+  buffer_set f o below of = record { buffers = λ g b there. go g b there (cases_eq f g); flights = kept.flights ∙ sym (length-set bufs f o) }
     where
       go : (g : ℕ) (b : Buffer) → slice_get (slice_set bufs f o) g ≡ Some (Some b) → (f ≡ g) ⊎ (f ≡ g → ⊥) → b.pool ≡ pool
       go g b there (inl same) = of b (same_Some _ _ (sym (get_set_same bufs f o below) ∙ (ap (slice_get (slice_set bufs f o)) same ∙ there)))
       go g b there (inr apart) = kept.buffers g b (sym (get_set_other bufs f g o apart) ∙ there)
 
-  pub flight_set : (f : ℕ) (o : Option ℕ) → IsStore pool bufs (slice_set numbers f o) names places number space
-  flight_set f o =
-      record { buffers = kept.buffers; flights = length-set numbers f o ∙ kept.flights; blocks = kept.blocks; numbered = kept.numbered; room = kept.room }
+  pub flight_set : (f : ℕ) (o : Option ℕ) → IsStore pool bufs (slice_set numbers f o)
+  flight_set f o = record { buffers = kept.buffers; flights = length-set numbers f o ∙ kept.flights }
 
-  pub pool_same : {other : PoolName} → other ≡ pool → IsStore other bufs numbers names places number space
-  pool_same same = subst (λ (p : PoolName). IsStore p bufs numbers names places number space) (sym same) kept
+  pub pool_same : {other : PoolName} → other ≡ pool → IsStore other bufs numbers
+  pool_same same = subst (λ (p : PoolName). IsStore p bufs numbers) (sym same) kept
 
 -- a buffer put into a frame's place after a read; after a write the place is as it was
 pub put_of : {pool : PoolName} (bufs : List (Option Buffer)) → ((f : ℕ) (b : Buffer) → slice_get bufs f ≡ Some (Some b) → b.pool ≡ pool)

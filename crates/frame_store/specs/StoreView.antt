@@ -1,5 +1,5 @@
 -- What contracts see of a store. This project's own.
-use Rattle.std.specs.Prelude.{◌≡◌, ℕ, ◌+◌, ◌-◌, ◌≤◌, List, Option, Some, None, length, slice_get, slice_set, map, if◌then◌else◌}
+use Rattle.std.specs.Prelude.{◌≡◌, ℕ, ◌+◌, ◌-◌, List, Option, Some, None, length, slice_get, slice_set, map, if◌then◌else◌}
 use Rattle.std.specs.Option.{option_map}
 use Rattle.vm_types.specs.declared.names.BlockId.{BlockId}
 use Rattle.vm_types.specs.declared.pool_name.PoolName.{PoolName}
@@ -7,7 +7,6 @@ use Rattle.page_pool.specs.Pool.{Buffer}
 use Rattle.pfn_database.specs.Frames.{Frames}
 use Rattle.frame_store.specs.Blocks.{number_in}
 use Rattle.frame_store.specs.LiftView.{LiftView}
-use Rattle.frame_store.specs.Numbers.{AreNumbers}
 
 pub record StoreView (B : Type 0) : Type 0 where
   -- the pool that all its buffers are of
@@ -29,14 +28,10 @@ pub record StoreView (B : Type 0) : Type 0 where
 abbrev pub bytes_of : List (Option Buffer) → List (Option (List ℕ))
 bytes_of buffers = map (option_map (λ (b : Buffer). b.bytes)) buffers
 
--- what a store keeps: its buffers are of its pool, each frame has one place for a transfer, each name one place
--- for its block, found by the name, and there is room to give the blocks back
-pub record IsStore (pool : PoolName) (bufs : List (Option Buffer)) (numbers : List (Option ℕ)) (names : List BlockId) (places : ℕ) (number : BlockId → ℕ) (space : ℕ) : Type 0 where
+-- what a store keeps: its buffers are of its pool, and each frame has one place for a transfer
+pub record IsStore (pool : PoolName) (bufs : List (Option Buffer)) (numbers : List (Option ℕ)) : Type 0 where
   pub buffers : (f : ℕ) (b : Buffer) → slice_get bufs f ≡ Some (Some b) → b.pool ≡ pool
   pub flights : length numbers ≡ length bufs
-  pub blocks : places ≡ length names
-  pub numbered : AreNumbers number names
-  pub room : length names ≤ space
 
 -- a transfer begins: its block is out, and for a read the frame's buffer; for a write a buffer less is left
 abbrev pub lifted_in : {B : Type 0} → StoreView B → ℕ → BlockId → ℕ → StoreView B

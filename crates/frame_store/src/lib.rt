@@ -2,6 +2,7 @@
 //! of both.
 #![tactic(auto)]
 
+mod home;
 mod lift;
 mod numbers;
 mod opening;

@@ -1,7 +1,7 @@
 ghost use Rattle.std.specs.Prelude.{◌≡◌, ◌+◌, ◌<◌, ◌^◌, IfOk, map, sum, length};
 ghost use Rattle.vm_types.specs.Configuration.{IsWellFormed, section_pages};
 ghost use Rattle.frame_store.specs.Blocks.{blocks_of, extents, page_counts};
-ghost use Rattle.frame_store.specs.Numbers.{AreNumbers, first_at, firsts, number_by};
+ghost use Rattle.frame_store.specs.Numbers.{AreNumbers, first_at, firsts, listed_by, number_by};
 
 use std::alloc::{AllocError, Global};
 use vm_types::{BlockId, Config, NoMemory, ProcSpec, Section};
@@ -18,7 +18,9 @@ impl Numbers {
     /// The numbers of a configuration's blocks.
     pub(crate) fn new(alloc: Global, config: &Config) -> Result<Numbers, NoMemory>
         requires { IsWellFormed config.now }
-        ensures { IfOk result (λ n. AreNumbers (number_by n.sections.items n.file n.swaps.items) (blocks_of config.now)) }
+        ensures numbers { IfOk result (λ n. AreNumbers (number_by n.sections.items n.file n.swaps.items) (blocks_of config.now)) }
+        ensures listed { IfOk result (λ n.
+            listed_by n.sections.items n.file n.swaps.items (length (blocks_of config.now)) ≡ blocks_of config.now) }
     {
         let pages = page_counts(alloc, config.sections.items())?;
         let slots = extents(alloc, config.procs.items())?;

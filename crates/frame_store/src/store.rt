@@ -1,10 +1,10 @@
-ghost use Rattle.std.specs.Prelude.{◌≡◌, ◌+◌, ◌-◌, ◌*◌, ◌<◌, ◌≤◌, ◌^◌, true, false, if◌then◌else◌, [], length, vec_len, vec_capacity, replicate, Some, None, IsSome, IfSome, IfOk, All, map, is_some, slice_get, slice_set};
+ghost use Rattle.std.specs.Prelude.{◌≡◌, ◌+◌, ◌-◌, ◌*◌, ◌<◌, ◌≤◌, ◌^◌, true, false, if◌then◌else◌, length, replicate, Some, None, IsSome, IfSome, IfOk, All, map, is_some, slice_get, slice_set};
 ghost use Rattle.std.specs.Borrow.{sem};
 ghost use Rattle.vm_types.specs.declared.names.BlockId.{BlockId};
 
+use crate::home::Home;
 use crate::lift::{Lift, Stage};
-use crate::numbers::Numbers;
-use crate::opening::{names, places, zero_buffers};
+use crate::opening::zero_buffers;
 use disk_trait::Block;
 use page_pool::{PageBuf, Pool};
 use pfn_database::Pfns;
@@ -19,17 +19,11 @@ pub struct Store<B: Block> {
     frames: Pfns,
     pool: Pool,
     buffers: Vec<Option<PageBuf>>,
-    numbers: Numbers,
-    ids: Vec<BlockId>,
-    blocks: Vec<Option<B>>,
+    home: Home<B>,
     flights: Vec<Option<u64>>,
-    /// Empty, with room to give the blocks back.
-    returned: Vec<(BlockId, B)>,
 }
 
 impl<B: Block> Model for Store<B> {
-    ghost use Rattle.std.specs.Prelude.{◌≡◌, [], vec_len, vec_capacity};
-    ghost use Rattle.frame_store.specs.Numbers.{number_by};
     ghost use Rattle.frame_store.specs.StoreView.{StoreView, IsStore, bytes_of};
 
     ghost Value = { StoreView B };
@@ -39,16 +33,12 @@ impl<B: Block> Model for Store<B> {
       left = s.pool.left;
       frames = s.frames;
       buffers = bytes_of s.buffers.items;
-      ids = s.ids.items;
-      blocks = s.blocks.items;
+      ids = s.home.ids;
+      blocks = s.home.blocks;
       flights = s.flights.items;
     } };
 
-    ghost invariant = { λ s. record {
-      kept : IsStore s.pool.name s.buffers.items s.flights.items s.ids.items (vec_len s.blocks)
-          (number_by s.numbers.sections.items s.numbers.file s.numbers.swaps.items) (vec_capacity s.returned);
-      empty : s.returned.items ≡ [];
-    } };
+    ghost invariant = { λ s. IsStore s.pool.name s.buffers.items s.flights.items };
 }
 
 impl<B: Block> Store<B> {
@@ -82,19 +72,14 @@ impl<B: Block> Store<B> {
         let spare = 16 * (config.procs.items().len() as u32 + 2);
         let mut pool = Pool::new(alloc, config.frames + spare)?;
         let buffers = zero_buffers(alloc, &mut pool, config.frames)?;
-        let numbers = Numbers::new(alloc, config)?;
-        let ids = names(alloc, &blocks)?;
-        let (blocks, returned) = places(alloc, blocks)?;
+        let home = Home::new(alloc, config, blocks)?;
         let flights = vec![in alloc; None; config.frames as usize]?;
         Ok(Store {
             frames,
             pool,
             buffers,
-            numbers,
-            ids,
-            blocks,
+            home,
             flights,
-            returned,
         })
     }
 
@@ -117,11 +102,7 @@ impl<B: Block> Store<B> {
     pub fn home(&self, id: BlockId) -> bool
         ensures { result ≡ is_some (held_at self.now.blocks (number_in self.now.ids id)) }
     {
-        let number = self.numbers.number(id);
-        match self.ids.get(number) {
-            Some(found) => *found == id && self.blocks[number].is_some(),
-            None => false,
-        }
+        self.home.has(id)
     }
 
     /// The number of the entry in which the open transfer of a frame began; `None` if it has none, or
@@ -176,9 +157,8 @@ impl<B: Block> Store<B> {
         ensures held { held_at self.old.blocks (number_in self.old.ids id) ≡ Some result.held }
         ensures size { length result.buffer ≡ 512 }
     {
-        let number = self.numbers.number(id);
         let buf = self.buffers[f.0 as usize].take().unwrap();
-        let block = self.blocks[number].take().unwrap();
+        let block = self.home.take(id);
         self.flights[f.0 as usize] = Some(start);
         // The proof learns here that there are 512 bytes.
         let _ = buf.bytes();
@@ -211,9 +191,8 @@ impl<B: Block> Store<B> {
         ensures held { held_at self.old.blocks (number_in self.old.ids id) ≡ Some result.held }
         ensures size { length result.buffer ≡ 512 }
     {
-        let number = self.numbers.number(id);
         let buf = copy(&mut self.pool, &self.buffers[f.0 as usize]);
-        let block = self.blocks[number].take().unwrap();
+        let block = self.home.take(id);
         self.flights[f.0 as usize] = Some(start);
         Lift {
             seat,
@@ -250,10 +229,9 @@ impl<B: Block> Store<B> {
         } = lift;
         // The proof learns here that there are 512 bytes.
         let _ = buf.bytes();
-        let number = self.numbers.number(id);
         let place = &mut self.buffers[frame.0 as usize];
         put_back(&mut self.pool, place, buf, read);
-        self.blocks[number] = Some(block);
+        self.home.put(id, block);
         self.flights[frame.0 as usize] = None;
     }
 
@@ -263,13 +241,8 @@ impl<B: Block> Store<B> {
         ensures ids { map (λ (p : BlockId × B). p.0) result.items ≡ self.ids }
         ensures blocks { map (λ (p : BlockId × B). Some p.1) result.items ≡ self.blocks }
     {
-        let Store {
-            ids,
-            blocks,
-            returned,
-            ..
-        } = self;
-        paired(&ids, blocks, returned)
+        let Store { home, .. } = self;
+        home.into_blocks()
     }
 }
 
@@ -311,25 +284,4 @@ fn put_back(pool: &mut Pool, place: &mut Option<PageBuf>, buf: PageBuf, read: bo
     } else {
         pool.put(buf);
     }
-}
-
-/// Blocks that are all there, each with its name, in a list with room for them.
-fn paired<B: Drop>(
-    ids: &[BlockId],
-    blocks: Vec<Option<B>>,
-    mut pairs: Vec<(BlockId, B)>,
-) -> Vec<(BlockId, B)>
-    requires empty { pairs.items ≡ [] }
-    requires room { length ids.now ≤ vec_capacity pairs }
-    requires same { vec_len blocks ≡ length ids.now }
-    requires all { All IsSome blocks.items }
-    ensures ids { map (λ (p : BlockId × B). p.0) result.items ≡ ids.now }
-    ensures blocks { map (λ (p : BlockId × B). Some p.1) result.items ≡ blocks.items }
-{
-    let mut number = 0;
-    for block in blocks {
-        pairs.push_reserved((ids[number], block.unwrap()));
-        number += 1;
-    }
-    pairs
 }

@@ -1,8 +1,9 @@
-use Rattle.std.proofs.Common.{arith, ap, ◌∙◌, ◌≡◌, ◌+◌, sum}
-use Rattle.frame_store.specs.Blocks.{extents, page_counts}
-use Rattle.frame_store.specs.Numbers.{firsts, number_by}
+use Rattle.std.proofs.Common.{arith, ap, ◌∙◌, ◌≡◌, ◌+◌, length, sum}
+use Rattle.frame_store.specs.Blocks.{blocks_of, extents, page_counts}
+use Rattle.frame_store.specs.Numbers.{firsts, listed_by, number_by}
 use Rattle.frame_store.proofs.Blocks.{file_first, numbered, section_firsts, swap_firsts}
 use Rattle.frame_store.proofs.Counts.{few_blocks}
+use Rattle.frame_store.proofs.Listed.{listed_are}
 use Rattle.frame_store.proofs.numbers.Numbers.new.Goals as goal
 
 pub firsts-requires-2 : goal.firsts-requires-2
@@ -15,11 +16,20 @@ firsts-requires-2 c =
     let few = few_blocks config c.requires in
     omega (arith, file, rest, few)
 
-pub returns : goal.returns
-returns c n b there =
+pub returns-clause-numbers : goal.returns-clause-numbers
+returns-clause-numbers c n b there =
     let pages = c.deref.ensures.value ∙ (c.in_ok-pages.ensures ∙ ap page_counts c.items.ensures) in
     let slots = c.deref-2.ensures.value ∙ (c.in_ok-slots.ensures ∙ ap extents c.items-2.ensures) in
     let sections : c.in_ok-sections.sections.items ≡ section_firsts c.args.config.now = c.in_ok-sections.ensures.numbers ∙ ap (firsts 0) pages in
     let file : c.in_ok-sections.file ≡ file_first c.args.config.now = (let next = c.in_ok-sections.ensures.next in omega (arith, next)) ∙ ap sum pages in
     let swaps : c.in_ok-swaps.swaps.items ≡ swap_firsts c.args.config.now = c.in_ok-swaps.ensures.numbers ∙ (λ i. firsts (file i + c.args.config.now.pagefile) (slots i)) in
     (λ i. number_by (sections i) (file i) (swaps i) b) ∙ (numbered c.args.config.now n b there).1
+
+pub returns-clause-listed : goal.returns-clause-listed
+returns-clause-listed c =
+    let pages = c.deref.ensures.value ∙ (c.in_ok-pages.ensures ∙ ap page_counts c.items.ensures) in
+    let slots = c.deref-2.ensures.value ∙ (c.in_ok-slots.ensures ∙ ap extents c.items-2.ensures) in
+    let sections : c.in_ok-sections.sections.items ≡ section_firsts c.args.config.now = c.in_ok-sections.ensures.numbers ∙ ap (firsts 0) pages in
+    let file : c.in_ok-sections.file ≡ file_first c.args.config.now = (let next = c.in_ok-sections.ensures.next in omega (arith, next)) ∙ ap sum pages in
+    let swaps : c.in_ok-swaps.swaps.items ≡ swap_firsts c.args.config.now = c.in_ok-swaps.ensures.numbers ∙ (λ i. firsts (file i + c.args.config.now.pagefile) (slots i)) in
+    (λ i. listed_by (sections i) (file i) (swaps i) (length (blocks_of c.args.config.now))) ∙ listed_are c.args.config.now

@@ -15,11 +15,8 @@ invariant_of-self-lent g c w =
     let some : IsSome (held_at (bytes_of bufs) c.args.f.0) = subst (λ (s : StoreView g.row.B.Denot). IsSome (held_at s.buffers c.args.f.0)) (sym c.self.view_is) c.requires in
     let is : c.index_mut.result.now ≡ Some c.unwrap.result.now = sym c.as_mut.ensures.value ∙ ap option_copied_mut c.unwrap.ensures in
     let there : slice_get bufs c.args.f.0 ≡ Some (Some c.unwrap.result.now) = slice_get_read bufs _ c.args.f.0 _ refl (buffer_below bufs c.args.f.0 some) c.index_mut.ensures.value ∙ ap Some is in
-    record {
-      kept = buffer_set c.self.invariant.kept c.args.f.0 _ (buffer_below bufs c.args.f.0 some)
-          (λ b same. sym (ap (λ (x : Buffer). x.pool) (same_Some _ _ same)) ∙ c.self.invariant.kept.buffers c.args.f.0 c.unwrap.result.now there);
-      empty = c.self.invariant.empty;
-    }
+    buffer_set c.self.invariant c.args.f.0 _ (buffer_below bufs c.args.f.0 some)
+    (λ b same. sym (ap (λ (x : Buffer). x.pool) (same_Some _ _ same)) ∙ c.self.invariant.buffers c.args.f.0 c.unwrap.result.now there)
 
 pub returns : goal.returns
 returns g c =

@@ -17,11 +17,8 @@ invariant_of-self g c =
     let there = buffer_there bufs c.args.f.0 some in
     let was = read_held bufs c.args.f.0 c.index_mut-place.result.now (buffer_below bufs c.args.f.0 some) c.index_mut-place.ensures.value ∙ get_held bufs c.args.f.0 (Some there.0) there.1 in
     let zeroed = subst (λ o. IfSome o (λ (b : Buffer). c.zero_in.new.place ≡ Some (record { pool = b.pool; bytes = replicate 512 0 }))) was c.zero_in.ensures in
-    record {
-      kept = buffer_set c.self.invariant.kept c.args.f.0 c.zero_in.new.place (buffer_below bufs c.args.f.0 some)
-          (λ b is. sym (ap (λ (x : Buffer). x.pool) (same_Some _ _ (sym zeroed ∙ is))) ∙ c.self.invariant.kept.buffers c.args.f.0 there.0 there.1);
-      empty = c.self.invariant.empty;
-    }
+    buffer_set c.self.invariant c.args.f.0 c.zero_in.new.place (buffer_below bufs c.args.f.0 some)
+    (λ b is. sym (ap (λ (x : Buffer). x.pool) (same_Some _ _ (sym zeroed ∙ is))) ∙ c.self.invariant.buffers c.args.f.0 there.0 there.1)
 
 pub returns : goal.returns
 returns g c =
