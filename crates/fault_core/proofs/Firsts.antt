@@ -1,6 +1,7 @@
 -- The first entry of each case that answers or makes one entry may be added.
-use Rattle.std.proofs.Common.{◌≡◌, ℕ, ◌&&◌, true, false, [], ◌∷◌, Option, Some, None, length, find, nat_eq, nat_le, refl, sym, ap, ◌∙◌, arith}
+use Rattle.std.proofs.Common.{◌≡◌, ℕ, ◌<◌, ◌&&◌, Bool, true, false, List, [], ◌∷◌, Option, Some, None, length, find, nat_eq, nat_le, refl, sym, ap, ◌∙◌, arith}
 use Rattle.std.specs.Option.{is_some, option_map}
+use Rattle.std.proofs.lemmas.Bool.{ne_eqb}
 use Rattle.vm_types.specs.Ring.{filled}
 use Rattle.vm_types.specs.declared.names.BlockId.{BlockId}
 use Rattle.vm_types.specs.declared.names.Page.{Page}
@@ -9,23 +10,23 @@ use Rattle.vm_types.specs.declared.names.Seat.{Seat}
 use Rattle.vm_types.specs.declared.reference.Ref.{Ref}
 use Rattle.vm_types.specs.declared.reply.Why.{Why}
 use Rattle.vm_journal.specs.declared.entry.What.TheVariants as what
-use Rattle.pager_model.specs.Advance.{again_block_busy, again_charging, again_collided, entry_given, fault_given, gives_again, held_given, is_busy_block, is_named, is_uncharged, mapped_given, out_given, source_of, next_answered, next_more, refused_given}
+use Rattle.pager_model.specs.Advance.{again_block_busy, again_charging, again_collided, entry_given, fault_given, gives_again, held_given, is_busy_block, is_named, is_uncharged, mapped_given, out_given, read_given, source_of, next_answered, next_more, refused_given}
 use Rattle.pager_model.specs.Flat.{flat_refusal}
-use Rattle.pager_model.specs.Flights.{open_flights}
+use Rattle.pager_model.specs.Flights.{Flight, open_flights}
 use Rattle.pager_model.specs.Forget.{holder}
 use Rattle.pager_model.specs.Given.{given, page_address, unsaid}
 use Rattle.pager_model.specs.Lookups.{entry_of, is_resident, page_by, section_at, section_of}
 use Rattle.pager_model.specs.Spoken.{flat_after}
 use Rattle.pager_model.specs.Transfers.{is_read_on}
 use Rattle.vm_state.specs.FlightReadings.{read_by}
-use Rattle.vm_state.specs.History.{History, MayAdd, MayAnswer, entry_by, pager}
+use Rattle.vm_state.specs.History.{History, MayAdd, MayAnswer, entry_by, owed, pager}
 use Rattle.vm_state.specs.PageReadings.{found_in}
 use Rattle.vm_state.specs.ProcessReadings.{pending_in}
 use Rattle.page_states.specs.declared.found.Found.{Found}
 use Rattle.vm_state.specs.declared.open_read.OpenRead.{OpenRead}
 use Rattle.call_steps.proofs.Branches.{if_false, if_true}
 use Rattle.call_steps.proofs.Steps.{paid_first}
-use Rattle.fault_core.specs.Cases.{at_entry, at_fault, at_first, at_frame, at_held, at_map, at_out, at_read, at_refusal, at_replace, at_room, vpn_of}
+use Rattle.fault_core.specs.Cases.{IsReplacedFirst, at_entry, at_fault, at_first, at_frame, at_held, at_map, at_out, at_read, at_refusal, at_replace, at_room, vpn_of}
 use Rattle.fault_core.specs.Gives.{MayGive}
 use Rattle.call_steps.specs.ReadySeat.{IsReadySeat}
 use Rattle.fault_core.proofs.Branches.{entry_missing, entry_some, first_pending, first_settled, found_page, found_valid, out_busy, out_still, read_none, read_other, read_own, room_charging, room_full}
@@ -94,6 +95,27 @@ module _ (s : History) (seat : Seat) (r : Ref) where
 
   pub at_limit : (g : Page) → (is_uncharged (pager s) g && nat_eq (length (pager s).charged) s.config.pagefile) ≡ false → nat_le ((pager s).limit seat.0) (filled ((pager s).ring seat.0).slots) ≡ true → at_room s seat r g ≡ at_replace s seat
   at_limit g is full = room_full s.config s.past (pager s) seat.0 r g is full
+
+  -- nothing is in flight
+  none_open : owed s.past ≡ 0 → open_flights s.past ≡ []
+  none_open none = go (open_flights s.past) (omega (arith, none))
+    where
+      go : (xs : List Flight) → length xs ≡ 0 → xs ≡ []
+      go [] is = refl
+      go (x ∷ xs) is = absurd (omega (arith, is))
+
+  roomed : (g : Page) (o : Option ℕ) → open_flights s.past ≡ [] → fault_given s.config s.past (pager s) seat.0 r g o ≡ at_room s seat r g
+  roomed g None none = refl
+  roomed g (Some f) none = ap (λ (xs : List Flight). read_given s.config s.past (pager s) seat.0 r g f (find (is_read_on f) xs)) none
+
+  not_charging : (b : Bool) (n m : ℕ) → n < m → (b && nat_eq n m) ≡ false
+  not_charging true n m less = ne_eqb n m (λ same. omega (arith, less, same))
+  not_charging false n m less = refl
+
+  pub replaced_first : (g : Page) → IsReplacedFirst s seat.0 → at_fault s seat r g ≡ at_replace s seat
+  replaced_first g first =
+      roomed g (holder s.config (pager s).page g) (none_open first.landed)
+      ∙ at_limit g (not_charging (is_uncharged (pager s) g) (length (pager s).charged) s.config.pagefile first.chargeable) first.full
 
   pub below_limit : (g : Page) → (is_uncharged (pager s) g && nat_eq (length (pager s).charged) s.config.pagefile) ≡ false → nat_le ((pager s).limit seat.0) (filled ((pager s).ring seat.0).slots) ≡ false → at_room s seat r g ≡ at_held s seat r g
   below_limit g is below = if_false (is_uncharged (pager s) g && nat_eq (length (pager s).charged) s.config.pagefile) _ _ is ∙ if_false (nat_le ((pager s).limit seat.0) (filled ((pager s).ring seat.0).slots)) _ _ below

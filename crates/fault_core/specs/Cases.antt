@@ -1,5 +1,5 @@
 -- The cases of a reference, one after another, on a history. This project's own.
-use Rattle.std.specs.Prelude.{ℕ, Option}
+use Rattle.std.specs.Prelude.{◌≡◌, ℕ, ◌<◌, true, Option, length, nat_le}
 use Rattle.vm_types.specs.declared.names.BlockId.{BlockId}
 use Rattle.vm_types.specs.declared.names.Page.{Page}
 use Rattle.vm_types.specs.declared.names.Seat.{Seat}
@@ -13,7 +13,8 @@ use Rattle.pager_model.specs.Maps.{page_number}
 use Rattle.pager_model.specs.Spoken.{flat_after}
 use Rattle.pager_model.specs.Transfers.{is_read_on}
 use Rattle.std.specs.Prelude.{find}
-use Rattle.vm_state.specs.History.{History, pager}
+use Rattle.vm_types.specs.Ring.{filled}
+use Rattle.vm_state.specs.History.{History, owed, pager}
 
 abbrev pub vpn_of : Ref → ℕ
 vpn_of r = page_number (r.addr).0
@@ -50,3 +51,10 @@ at_out s seat r g = out_given s.config s.past (pager s) seat.0 r g (source_of (p
 
 abbrev pub at_frame : History → Seat → Ref → Page → Option BlockId → GivenNext
 at_frame s seat r g o = frame_given s.config (pager s) seat.0 r g o (pager s).free
+
+-- whatever page is referred to, its process replaces one: nothing is in flight, not each block of the page file
+-- is charged, and the working set is as long as its limit allows
+pub record IsReplacedFirst (s : History) (p : ℕ) : Type 0 where
+  pub landed : owed s.past ≡ 0
+  pub chargeable : length (pager s).charged < s.config.pagefile
+  pub full : nat_le ((pager s).limit p) (filled ((pager s).ring p).slots) ≡ true

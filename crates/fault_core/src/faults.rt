@@ -1,4 +1,4 @@
-ghost use Rattle.std.specs.Prelude.{◌≡◌, ◌<◌, ◌&&◌, Some, length, nat_eq, nat_le, not};
+ghost use Rattle.std.specs.Prelude.{◌≡◌, ◌<◌, ◌&&◌, true, Some, length, nat_eq, nat_le, not};
 ghost use Rattle.vm_types.specs.WellFormed.{IsWellFormedReference};
 ghost use Rattle.vm_types.specs.Ring.{filled};
 ghost use Rattle.pager_model.specs.Advance.{is_uncharged};
@@ -7,7 +7,7 @@ ghost use Rattle.pager_model.specs.Maps.{is_private};
 ghost use Rattle.vm_state.specs.History.{pager};
 ghost use Rattle.vm_state.specs.PageReadings.{found_in};
 ghost use Rattle.call_steps.specs.MayBegin.{empty};
-ghost use Rattle.fault_core.specs.Cases.{at_fault, at_map, at_room, vpn_of};
+ghost use Rattle.fault_core.specs.Cases.{IsReplacedFirst, at_fault, at_map, at_room, vpn_of};
 ghost use Rattle.fault_core.specs.SoughtPage.{IsSought};
 ghost use Rattle.fault_core.specs.Gives.{Gives, MayGive};
 ghost use Rattle.call_steps.specs.ReadySeat.{IsReadySeat};
@@ -47,6 +47,9 @@ pub fn mapped<B: Block>(
     ensures { Gives B.content B.plan B.reads B.writes B.faults B.tells_content B.tells_plan
         state.old state.new seat r (at_map state.old seat r) result carrier.old carrier.new }
 {
+    if replaces_first(state, Proc(seat.0)) {
+        return replace(state, seat, r, carrier);
+    }
     let behind = section_of(found.from);
     let backing = state.backing(found.page);
     let x = Sought {
@@ -107,6 +110,15 @@ fn is_at_limit<B: Block>(state: &State<B>, p: Proc) -> bool
     ensures { result ≡ nat_le ((pager state.now).limit p.0) (filled ((pager state.now).ring p.0).slots) }
 {
     state.limit_of(p) <= state.count(p)
+}
+
+/// Whether a slot is to be made free, whatever is known of the page: nothing is in flight, not each block
+/// of the page file is charged, and as many pages are in the working set as its limit allows.
+fn replaces_first<B: Block>(state: &State<B>, p: Proc) -> bool
+    requires { p.0 < length state.now.config.procs }
+    ensures { result ≡ true → IsReplacedFirst state.now p.0 }
+{
+    state.owed() == 0 && state.charged() < state.config().pagefile && is_at_limit(state, p)
 }
 
 /// No other seat is reading the page.
