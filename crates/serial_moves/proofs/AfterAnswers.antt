@@ -27,13 +27,20 @@ use Rattle.move_steps.proofs.Entries.{starts_mute}
 use Rattle.move_steps.proofs.Moving.{carries_move, loaded, may_refuse}
 use Rattle.move_steps.proofs.Shapes.{BeginShape, begin_shape}
 use Rattle.move_steps.proofs.WrittenClusters.{begin_starts, begun_lifts}
-use Rattle.serial_moves.specs.Controls.{Moves, number_of}
+use Rattle.serial_moves.specs.Controls.{ComesTo, Moves, number_of}
+use Rattle.serial_moves.specs.declared.control.AfterAnswer.{AfterAnswer}
 use Rattle.serial_moves.specs.declared.control.Control.{Control}
 use Rattle.serial_moves.proofs.Refused.{nothing_owed}
 
 -- ---- a result by another name of its move
 pub moved_as : {E : Type 0} (tells : Bool) (s t : History) (m n : Move) (r : Result (Option Control) E) → m ≡ n → IfOk r (Moves tells s t n) → IfOk r (Moves tells s t m)
 moved_as tells s t m n r same moved = subst (λ (x : Move). IfOk r (Moves tells s t x)) (sym same) moved
+
+pub comes_as : {E : Type 0} (tells : Bool) (s t : History) (m n : Move) (r : Result AfterAnswer E) → m ≡ n → IfOk r (ComesTo tells s t n) → IfOk r (ComesTo tells s t m)
+comes_as tells s t m n r same comes = subst (λ (x : Move). IfOk r (ComesTo tells s t x)) (sym same) comes
+
+pub move_as : (tells : Bool) (s t : History) (m n : Move) (o : Option Control) → m ≡ n → Moves tells s t n o → Moves tells s t m o
+move_as tells s t m n o same moved = subst (λ (x : Move). Moves tells s t x o) (sym same) moved
 
 pub here_as : (s : History) (m n : Move) → m ≡ n → IsMoveHere s m → IsMoveHere s n
 here_as s m n same here = subst (λ (x : Move). IsMoveHere s x) same here
@@ -71,6 +78,9 @@ module _ (config : Config) (past : List Entry) (a : Pager) (begun : Bool) (p : �
 
   abbrev found_by : ℕ → Move
   found_by n = finding_move config past a n p (ends_part (control asking)) (freeing true p) (asking_move config past a None)
+
+  pub none_left : (o : Option Proc) → o ≡ None → freeing_move config past a (option_map number_of o) begun p ≡ freeing_move config past a None begun p
+  none_left o is = ap (λ (x : Option Proc). freeing_move config past a (option_map number_of x) begun p) is
 
   part_by : (o : Option Proc) (b : Bool) → o ≡ None → (is_freeing config a begun && is_freeing config a true) ≡ b
       → freeing_move config past a (option_map number_of o) begun p ≡ cond b (found_by (swapper_of config)) (asking_move config past a None)
@@ -171,7 +181,7 @@ module _ {B : Type 0} {content plan : B → Option (List ℕ)} {reads writes fau
     pub goes_here : IsMoveHere s (saves_at s begun p) → IsMoveHere t (freeing_move t.config t.past (pager t) None false p)
     goes_here here = subst (λ (x : History). IsMoveHere x (freeing_move x.config x.past (pager x) None false p)) (sym unchanged) (here_as s (saves_at s begun p) (freeing_move s.config s.past (pager s) None false p) goes_over here)
 
-    pub goes_moved : {E : Type 0} (after : History) (r : Result (Option Control) E) → IfOk r (Moves tells t after (freeing_move t.config t.past (pager t) None false p)) → IfOk r (Moves tells s after (saves_at s begun p))
-    goes_moved after r moved =
-        moved_as tells s after (saves_at s begun p) (freeing_move s.config s.past (pager s) None false p) r goes_over
-        (subst (λ (x : History). IfOk r (Moves tells x after (freeing_move x.config x.past (pager x) None false p))) unchanged moved)
+    pub goes_comes : {E : Type 0} (after : History) (r : Result AfterAnswer E) → IfOk r (ComesTo tells t after (freeing_move t.config t.past (pager t) None false p)) → IfOk r (ComesTo tells s after (saves_at s begun p))
+    goes_comes after r comes =
+        comes_as tells s after (saves_at s begun p) (freeing_move s.config s.past (pager s) None false p) r goes_over
+        (subst (λ (x : History). IfOk r (ComesTo tells x after (freeing_move x.config x.past (pager x) None false p))) unchanged comes)

@@ -4,12 +4,13 @@ use Rattle.std.specs.Option.{option_map}
 use Rattle.vm_types.specs.declared.names.Proc.{Proc}
 use Rattle.vm_journal.specs.declared.entry.Entry.{Entry}
 use Rattle.pager_model.specs.Moves.{Control as ControlIs, Move}
-use Rattle.pager_model.specs.Policy.{move_of}
+use Rattle.pager_model.specs.Policy.{asking_move, move_of}
 use Rattle.serial_laws.specs.Between.{IsBetween}
 use Rattle.serial_laws.specs.Controlled.{IsAnsweredProcess, IsControlled, IsInBody, IsLeft}
 use Rattle.vm_state.specs.History.{History, pager}
 use Rattle.move_steps.specs.Moved.{IsMoveHere, IsSameBut, IsSteady, MovesTo}
-use Rattle.serial_moves.specs.Controls.{Moves, control_in, doing_in, number_of}
+use Rattle.serial_moves.specs.Controls.{ComesTo, IsOver, Moves, control_in, doing_in, number_of}
+use Rattle.serial_moves.specs.declared.control.AfterAnswer.{AfterAnswer}
 use Rattle.serial_moves.specs.declared.control.Control.{Control}
 use Rattle.serial_moves.specs.declared.control.Doing.{Doing}
 use Rattle.serial_moves.specs.declared.control.Doing.TheVariants.{Asking, Freeing, Saving}
@@ -28,6 +29,38 @@ in_body (Freeing begun p) = tt
 abbrev pub control_at : Control → Doing → ControlIs
 control_at c d = record { doing = doing_in d; leaving = option_map number_of c.leaving }
 
+-- ---- where the policy is
+module _ (s : History) (c : Control) (fits : IsControlled s.config s.past (control_in c)) where
+  pub here_at : (d : Doing) → c.doing ≡ d → IsMoveHere s (move_of s.config s.past (control_at c d))
+  here_at d there_is = record {
+    at = control_in c;
+    fits = fits;
+    body = in_body c.doing;
+    is = ap (λ (x : Doing). move_of s.config s.past (control_at c x)) there_is;
+  }
+
+  pub process_at : (d : Doing) → c.doing ≡ d → IsAnsweredProcess s.config (doing_in d)
+  process_at d is = subst (λ (x : Doing). IsAnsweredProcess s.config (doing_in x)) is fits.answered_process
+
+  pub left_at : IfSome c.leaving (λ (q : Proc). IsLeft s.config (pager s) q.0)
+  left_at = go c.leaving fits.leaving
+    where
+      go : (o : Option Proc) → ((q : ℕ) → option_map number_of o ≡ Some q → IsLeft s.config (pager s) q) → IfSome o (λ (q : Proc). IsLeft s.config (pager s) q.0)
+      go None left = tt
+      go (Some q) left = left q.0 refl
+
+  pub comes_at : {E : Type 0} (tells : Bool) (t : History) (r : Result AfterAnswer E) (d : Doing) → c.doing ≡ d
+      → IfOk r (ComesTo tells s t (move_of s.config s.past (control_at c d))) → IfOk r (ComesTo tells s t (move_of s.config s.past (control_in c)))
+  comes_at tells t r d is = subst (λ (x : Doing). IfOk r (ComesTo tells s t (move_of s.config s.past (control_at c x)))) (sym is)
+
+  pub over_asking : c.doing ≡ Asking → IsOver s s (move_of s.config s.past (control_in c)) c.leaving
+  over_asking is = record {
+    same = refl;
+    asks = ap (λ (x : Doing). move_of s.config s.past (control_at c x)) is;
+    left = left_at;
+  }
+
+-- ---- room was made
 module _ (s s1 : History) (c : Control) (between : IsBetween s.config s.past) (fits : IsControlled s.config s.past (control_in c)) (same : IsSameBut s s1) (kept : s1.past ≡ s.past) where
   pub config_kept : s1.config ≡ s.config
   config_kept = ap (λ (x : History). x.config) same
@@ -38,35 +71,36 @@ module _ (s s1 : History) (c : Control) (between : IsBetween s.config s.past) (f
   pub steady_then : 64 ≤ s1.spare → IsSteady s1
   steady_then room = record { between = subst (λ (x : History). IsBetween x.config x.past) (sym there) between; room = room }
 
-  fits_then : IsControlled s1.config s1.past (control_in c)
+  pub fits_then : IsControlled s1.config s1.past (control_in c)
   fits_then = subst (λ (x : History). IsControlled x.config x.past (control_in c)) (sym there) fits
 
-  pub here_then : (d : Doing) → c.doing ≡ d → IsMoveHere s1 (move_of s1.config s1.past (control_at c d))
-  here_then d there_is = record {
-    at = control_in c;
-    fits = fits_then;
-    body = in_body c.doing;
-    is = ap (λ (x : Doing). move_of s1.config s1.past (control_at c x)) there_is;
-  }
+  -- the move that was made
+  pub moved_then : (tells : Bool) (t : History) (o : Option Control) → Moves tells s1 t (move_of s1.config s1.past (control_in c)) o → Moves tells s t (move_of s.config s.past (control_in c)) o
+  moved_then tells t o moved =
+      spared s t s1.spare tells (move_of s.config s.past (control_in c)) (option_map control_in o)
+      (subst (λ (x : History). MovesTo tells x t (move_of x.config x.past (control_in c)) (option_map control_in o)) there moved)
 
-  pub process_then : (d : Doing) → c.doing ≡ d → IsAnsweredProcess s1.config (doing_in d)
-  process_then d is = subst (λ (x : Doing). IsAnsweredProcess s1.config (doing_in x)) is fits_then.answered_process
+  -- the work after an answer is over
+  module _ (s2 : History) (leaving : Option Proc) (over : IsOver s1 s2 (move_of s1.config s1.past (control_in c)) leaving) where
+    abbrev asks_in : History → Move
+    asks_in x = asking_move x.config x.past (pager x) (option_map number_of leaving)
 
-  pub left_then : IfSome c.leaving (λ (q : Proc). IsLeft s1.config (pager s1) q.0)
-  left_then = go c.leaving fits_then.leaving
-    where
-      go : (o : Option Proc) → ((q : ℕ) → option_map number_of o ≡ Some q → IsLeft s1.config (pager s1) q) → IfSome o (λ (q : Proc). IsLeft s1.config (pager s1) q.0)
-      go None left = tt
-      go (Some q) left = left q.0 refl
+    pub over_steady : 64 ≤ s1.spare → IsSteady s2
+    over_steady room = subst IsSteady (sym over.same) (steady_then room)
 
-  module _ (tells : Bool) (t : History) where
-    moves_before : (at : ControlIs) (o : Option ControlIs) → MovesTo tells s1 t (move_of s1.config s1.past at) o → MovesTo tells s t (move_of s.config s.past at) o
-    moves_before at o moved = spared s t s1.spare tells (move_of s.config s.past at) o (subst (λ (x : History). MovesTo tells x t (move_of x.config x.past at) o) there moved)
+    pub over_config : s2.config ≡ s.config
+    over_config = ap (λ (x : History). x.config) over.same ∙ config_kept
 
-    result_before : {E : Type 0} (r : Result (Option Control) E) (at : ControlIs) → IfOk r (Moves tells s1 t (move_of s1.config s1.past at)) → IfOk r (Moves tells s t (move_of s.config s.past at))
-    result_before (Ok o) at moved = moves_before at (option_map control_in o) moved
-    result_before (Err e) at moved = tt
+    pub over_left : IfSome leaving (λ (q : Proc). IsLeft s2.config (pager s2) q.0)
+    over_left = subst (λ (x : History). IfSome leaving (λ (q : Proc). IsLeft x.config (pager x) q.0)) (sym over.same) over.left
 
-    pub moved_before : {E : Type 0} (r : Result (Option Control) E) (d : Doing) → c.doing ≡ d → IfOk r (Moves tells s1 t (move_of s1.config s1.past (control_at c d))) → IfOk r (Moves tells s t (move_of s.config s.past (control_in c)))
-    moved_before r d is moved =
-        result_before r (control_in c) (subst (λ (x : Doing). IfOk r (Moves tells s1 t (move_of s1.config s1.past (control_at c x)))) (sym is) moved)
+    pub over_here : IsMoveHere s2 (asks_in s2)
+    over_here =
+        subst (λ (x : History). IsMoveHere x (asks_in x)) (sym over.same)
+        (subst (λ (m : Move). IsMoveHere s1 m) over.asks (here_at s1 c fits_then c.doing refl))
+
+    pub over_moved : {E : Type 0} (tells : Bool) (t : History) (r : Result (Option Control) E) → IfOk r (Moves tells s2 t (asks_in s2)) → IfOk r (Moves tells s t (move_of s.config s.past (control_in c)))
+    over_moved tells t (Err e) moved = tt
+    over_moved tells t (Ok o) moved =
+        moved_then tells t o
+        (subst (λ (m : Move). Moves tells s1 t m o) (sym over.asks) (subst (λ (x : History). Moves tells x t (asks_in x) o) over.same moved))

@@ -1,16 +1,19 @@
 -- Where the code of the serial policy is, in the words of its table. This project's own.
-use Rattle.std.specs.Prelude.{ℕ, Bool, Option}
+use Rattle.std.specs.Prelude.{◌≡◌, ℕ, Bool, Option, IfSome}
 use Rattle.std.specs.Option.{option_map}
 use Rattle.vm_types.specs.declared.names.Proc.{Proc}
 use Rattle.pager_model.specs.Moves.{Control as ControlIs, Doing as DoingIs, Move, asking, freeing, saving}
-use Rattle.pager_model.specs.Policy.{Ends as EndsIs, ends_part, ends_request}
+use Rattle.pager_model.specs.Policy.{Ends as EndsIs, asking_move, ends_part, ends_request}
+use Rattle.serial_laws.specs.Controlled.{IsLeft}
 use Rattle.move_steps.specs.Moved.{MovesTo}
-use Rattle.vm_state.specs.History.{History}
+use Rattle.vm_state.specs.History.{History, pager}
 use Rattle.serial_moves.specs.declared.control.Control.{Control}
 use Rattle.serial_moves.specs.declared.control.Doing.{Doing}
 use Rattle.serial_moves.specs.declared.control.Doing.TheVariants.{Asking, Freeing, Saving}
 use Rattle.serial_moves.specs.declared.control.Ends.{Ends}
 use Rattle.serial_moves.specs.declared.control.Ends.TheVariants.{Part, Request}
+use Rattle.serial_moves.specs.declared.control.AfterAnswer.{AfterAnswer}
+use Rattle.serial_moves.specs.declared.control.AfterAnswer.TheVariants.{Made, Over}
 
 abbrev pub number_of : Proc → ℕ
 number_of p = p.0
@@ -30,3 +33,14 @@ ends_in (Part c) = ends_part (control_in c)
 -- the policy's move, in the code's words
 abbrev pub Moves : Bool → History → History → Move → Option Control → Type 0
 Moves tells before after m goes = MovesTo tells before after m (option_map control_in goes)
+
+-- nothing was made, and the policy's move is that of the next request, before which this process is left
+pub record IsOver (before after : History) (m : Move) (leaving : Option Proc) : Type 0 where
+  pub same : after ≡ before
+  pub asks : m ≡ asking_move before.config before.past (pager before) (option_map number_of leaving)
+  pub left : IfSome leaving (λ q. IsLeft before.config (pager before) q.0)
+
+-- what the work after an answer comes to: a move was made, or it is over
+abbrev pub ComesTo : Bool → History → History → Move → AfterAnswer → Type 0
+ComesTo tells before after m (Made goes) = Moves tells before after m goes
+ComesTo tells before after m (Over leaving) = IsOver before after m leaving

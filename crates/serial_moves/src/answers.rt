@@ -1,17 +1,19 @@
-ghost use Rattle.std.specs.Prelude.{◌≡◌, ◌<◌, ◌&&◌, true, None, IfOk, IfSome, length};
+ghost use Rattle.std.specs.Prelude.{◌≡◌, ◌<◌, ◌&&◌, ℕ, true, None, IfOk, IfSome, length};
 ghost use Rattle.std.specs.Option.{option_map};
-ghost use Rattle.pager_model.specs.Policy.{asking_move, freeing_move, is_freeing, is_saving, saving_move};
+ghost use Rattle.pager_model.specs.Moves.{asking, control, freeing};
+ghost use Rattle.pager_model.specs.Policy.{asking_move, ends_part, freeing_move, is_freeing, is_saving, saving_move, swapper_of};
 ghost use Rattle.vm_state.specs.History.{pager};
 ghost use Rattle.serial_laws.specs.Controlled.{IsLeft};
 ghost use Rattle.call_steps.specs.MayBegin.{empty};
 ghost use Rattle.serial_moves.specs.Carriers.{AreIdle};
 ghost use Rattle.move_steps.specs.CarriedOn.{IsCarriedOn, IsLoaded, MayRefuse, after_saving};
-ghost use Rattle.serial_moves.specs.Controls.{Moves, control_in, number_of};
+ghost use Rattle.serial_moves.specs.Controls.{ComesTo, Moves, control_in, number_of};
+ghost use Rattle.serial_moves.specs.Finders.{IsFinder, found_move};
 ghost use Rattle.move_steps.specs.Moved.{IsMoveHere, IsSteady};
 
 use crate::carrying::carry_on;
-use crate::control::{Control, Doing, Ends};
-use crate::finding::{find_frame, processes, who_finds};
+use crate::control::{AfterAnswer, Control, Doing, Ends};
+use crate::finding::{Finder, find_frame, processes, who_finds};
 use crate::leaving::leave;
 use crate::requests::{ASKING, ask};
 use crate::tasks::next_task;
@@ -66,6 +68,21 @@ fn is_short<B: Block>(state: &State<B>, begun: bool) -> bool
     }
 }
 
+/// Who finds a frame in the swapper's part; none if it is over.
+fn finder<B: Block>(state: &State<B>, begun: bool, p: Proc) -> Option<Finder>
+    ensures move_is { (seat : ℕ) → seat ≡ swapper_of state.now.config
+        → freeing_move state.now.config state.now.past (pager state.now) None begun p.0
+        ≡ found_move state.now.config state.now.past (pager state.now) seat (ends_part (control asking)) (freeing true p.0)
+        (asking_move state.now.config state.now.past (pager state.now) None) result }
+    ensures there { IfSome result (IsFinder state.now) }
+{
+    if is_short(state, begun) {
+        who_finds(state, p)
+    } else {
+        None
+    }
+}
+
 /// The swapper's part after an answer to a process.
 ///
 /// # Errors
@@ -77,14 +94,14 @@ pub fn free<B: Block>(
     begun: bool,
     p: Proc,
     carriers: &mut [Carrier<B>],
-) -> Result<Option<Control>, NoMemory>
+) -> Result<AfterAnswer, NoMemory>
     requires steady { IsSteady state.old }
     requires process { p.0 < length state.old.config.procs }
     requires left { IfSome leaving (λ q. IsLeft state.old.config (pager state.old) q.0) }
     requires carriers { AreIdle state.old carriers.old }
     requires here { IsMoveHere state.old (freeing_move state.old.config state.old.past (pager state.old) (option_map number_of leaving) begun p.0) }
     ensures carriers { carriers.new ≡ carriers.old }
-    ensures moved { IfOk result (Moves B.tells_content state.old state.new
+    ensures comes { IfOk result (ComesTo B.tells_content state.old state.new
         (freeing_move state.old.config state.old.past (pager state.old) (option_map number_of leaving) begun p.0)) }
 {
     let seat = Seat(processes(state) + 1);
@@ -93,31 +110,31 @@ pub fn free<B: Block>(
         process: p,
     };
     match leaving {
-        Some(q) => leave(
-            state,
-            seat,
-            q,
-            Ends::Part(ASKING),
-            doing,
-            &mut carriers[seat.0 as usize],
-        ),
-        None => {
-            if is_short(state, begun) {
-                match who_finds(state, p) {
-                    Some(found) => find_frame(
-                        state,
-                        seat,
-                        found,
-                        Ends::Part(ASKING),
-                        doing,
-                        &mut carriers[seat.0 as usize],
-                    ),
-                    None => ask_next(state, None, carriers),
-                }
-            } else {
-                ask_next(state, None, carriers)
-            }
+        Some(q) => {
+            let next = leave(
+                state,
+                seat,
+                q,
+                Ends::Part(ASKING),
+                doing,
+                &mut carriers[seat.0 as usize],
+            )?;
+            Ok(AfterAnswer::Made(next))
         }
+        None => match finder(state, begun, p) {
+            Some(found) => {
+                let next = find_frame(
+                    state,
+                    seat,
+                    found,
+                    Ends::Part(ASKING),
+                    doing,
+                    &mut carriers[seat.0 as usize],
+                )?;
+                Ok(AfterAnswer::Made(next))
+            }
+            None => Ok(AfterAnswer::Over(None)),
+        },
     }
 }
 
@@ -128,22 +145,23 @@ fn is_saving<B: Block>(state: &State<B>, begun: bool) -> bool
     begun || state.config().params.hilimit < state.modified_len()
 }
 
-/// The modified page writer's part after an answer to a process.
+/// The modified page writer's part after an answer to a process, and then the swapper's.
 ///
 /// # Errors
 /// `NoMemory` if out of memory.
+#[inline(always)]
 pub fn save<B: Block>(
     state: &mut State<B>,
     begun: bool,
     p: Proc,
     carriers: &mut [Carrier<B>],
-) -> Result<Option<Control>, NoMemory>
+) -> Result<AfterAnswer, NoMemory>
     requires steady { IsSteady state.old }
     requires process { p.0 < length state.old.config.procs }
     requires carriers { AreIdle state.old carriers.old }
     requires here { IsMoveHere state.old (saving_move state.old.config state.old.past (pager state.old) begun p.0) }
     ensures carriers { carriers.new ≡ carriers.old }
-    ensures moved { IfOk result (Moves B.tells_content state.old state.new
+    ensures comes { IfOk result (ComesTo B.tells_content state.old state.new
         (saving_move state.old.config state.old.past (pager state.old) begun p.0)) }
 {
     if !is_saving(state, begun) {
@@ -151,7 +169,10 @@ pub fn save<B: Block>(
     }
     let seat = Seat(processes(state));
     match begin(state, seat, Reason::High, &mut carriers[seat.0 as usize]) {
-        Begin::Carry => Ok(Some(save_on(state, seat, p, &mut carriers[seat.0 as usize])?)),
+        Begin::Carry => {
+            let next = save_on(state, seat, p, &mut carriers[seat.0 as usize])?;
+            Ok(AfterAnswer::Made(Some(next)))
+        }
         Begin::Nothing => free(state, None, false, p, carriers),
         Begin::Room => unreachable!(),
     }

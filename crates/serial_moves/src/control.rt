@@ -27,3 +27,12 @@ pub enum Ends {
     /// A part of the work after an answer: the policy goes on here.
     Part(Control),
 }
+
+/// What the work after an answer comes to.
+#[derive(Clone, Copy, Debug, PartialEq, Eq)]
+pub enum AfterAnswer {
+    /// A move was made, and the policy goes on there; if there is no place, it rests.
+    Made(Option<Control>),
+    /// Nothing is left of it: the next request follows, before which this process is left.
+    Over(Option<Proc>),
+}

@@ -3,10 +3,11 @@ ghost use Rattle.pager_model.specs.Policy.{move_of};
 ghost use Rattle.serial_laws.specs.Between.{IsBetween};
 ghost use Rattle.serial_laws.specs.Controlled.{IsControlled};
 ghost use Rattle.serial_moves.specs.Carriers.{AreIdle};
-ghost use Rattle.serial_moves.specs.Controls.{Moves, control_in};
+ghost use Rattle.serial_moves.specs.Controls.{ComesTo, Moves, control_in};
+ghost use Rattle.move_steps.specs.Moved.{IsSteady};
 
 use crate::answers::{ask_next, free, save};
-use crate::control::{Control, Doing};
+use crate::control::{AfterAnswer, Control, Doing};
 use disk_trait::Block;
 use move_steps::prepare;
 use vm_state::{Carrier, State};
@@ -30,8 +31,30 @@ pub fn make_move<B: Block>(
     ensures moved { IfOk result (Moves B.tells_content state.old state.new (move_of state.old.config state.old.past (control_in c))) }
 {
     prepare(state)?;
+    match after_answer(state, c, carriers)? {
+        AfterAnswer::Made(next) => Ok(next),
+        AfterAnswer::Over(leaving) => ask_next(state, leaving, carriers),
+    }
+}
+
+/// The work after an answer, if the policy is in it.
+///
+/// # Errors
+/// `NoMemory` if out of memory.
+#[inline(always)]
+fn after_answer<B: Block>(
+    state: &mut State<B>,
+    c: Control,
+    carriers: &mut [Carrier<B>],
+) -> Result<AfterAnswer, NoMemory>
+    requires steady { IsSteady state.old }
+    requires fits { IsControlled state.old.config state.old.past (control_in c) }
+    requires carriers { AreIdle state.old carriers.old }
+    ensures carriers { carriers.new ≡ carriers.old }
+    ensures comes { IfOk result (ComesTo B.tells_content state.old state.new (move_of state.old.config state.old.past (control_in c))) }
+{
     match c.doing {
-        Doing::Asking => ask_next(state, c.leaving, carriers),
+        Doing::Asking => Ok(AfterAnswer::Over(c.leaving)),
         Doing::Saving { begun, process } => save(state, begun, process, carriers),
         Doing::Freeing { begun, process } => free(state, c.leaving, begun, process, carriers),
     }

@@ -204,6 +204,7 @@ fn serve_next<B: Block>(
 ///
 /// # Errors
 /// `NoMemory` if out of memory.
+#[inline(always)]
 fn by_status<B: Block>(
     state: &mut State<B>,
     seat: Seat,

@@ -1,8 +1,7 @@
 use Rattle.std.proofs.Common.{◌<◌, length, sym, ap, ◌∙◌, subst, arith}
 use Rattle.pager_model.specs.WriteCluster.{begin_gives, reason_high}
 use Rattle.vm_state.specs.History.{History, pager}
-use Rattle.serial_moves.specs.Controls.{control_in}
-use Rattle.serial_moves.proofs.AfterAnswers.{as_before, enough_room, frees_next, goes_here, goes_moved, here_as, may_begin, moved_as, never_room, save_loaded_at, save_may, save_moved, still_steady, unchanged}
+use Rattle.serial_moves.proofs.AfterAnswers.{as_before, enough_room, frees_next, goes_here, goes_comes, here_as, may_begin, comes_as, never_room, save_loaded_at, save_may, save_moved, still_steady, unchanged}
 use Rattle.serial_moves.proofs.IdleCarriers.{carrier_there, emptied_again, empty_at, idle_then, kept_at, read_again, written_there}
 use Rattle.serial_moves.proofs.answers.save.Goals as goal
 
@@ -11,10 +10,10 @@ pub free-requires-clause-here : goal.free-requires-clause-here
 free-requires-clause-here g c κs within =
     here_as c.args.state.now _ _ (frees_next c.args.state.now.config c.args.state.now.past (pager c.args.state.now) c.args.begun (c.args.p).0 (sym c.is_saving.ensures ∙ c.if-not-is_saving.true)) c.requires.here
 
-pub returns-then-not-is_saving-clause-moved : goal.returns-then-not-is_saving-clause-moved
-returns-then-not-is_saving-clause-moved g c =
-    moved_as g.B.Block.tells_content c.args.state.now c.free.new.state _ _ c.free.result
-    (frees_next c.args.state.now.config c.args.state.now.past (pager c.args.state.now) c.args.begun (c.args.p).0 (sym c.is_saving.ensures ∙ c.if-not-is_saving.true)) c.free.ensures.moved
+pub returns-then-not-is_saving-clause-comes : goal.returns-then-not-is_saving-clause-comes
+returns-then-not-is_saving-clause-comes g c =
+    comes_as g.B.Block.tells_content c.args.state.now c.free.new.state _ _ c.free.result
+    (frees_next c.args.state.now.config c.args.state.now.past (pager c.args.state.now) c.args.begun (c.args.p).0 (sym c.is_saving.ensures ∙ c.if-not-is_saving.true)) c.free.ensures.comes
 
 -- ---- a cluster begins
 pub bounds-carriers-seat : goal.bounds-carriers-seat
@@ -45,19 +44,19 @@ save_on-requires-clause-may g c κs within =
     (empty_at c.args.state.now c.args.carriers.now c.requires.carriers c.processes.result c.index-carriers-seat.result (let count = c.processes.ensures.count in omega (arith, count)))
     (c.in-Carry.ensures.gives (enough_room c.args.state.now c.requires.steady)) c.requires.here
 
-pub returns-in_err-save_on-in-Carry-clause-carriers : goal.returns-in_err-save_on-in-Carry-clause-carriers
-returns-in_err-save_on-in-Carry-clause-carriers g c =
+pub returns-in_err-next-in-Carry-clause-carriers : goal.returns-in_err-next-in-Carry-clause-carriers
+returns-in_err-next-in-Carry-clause-carriers g c =
     emptied_again c.args.state.now c.args.carriers.now c.requires.carriers c.processes.result c.begin.new.carrier c.save_on.new.carrier (let count = c.processes.ensures.count in omega (arith, count)) c.save_on.ensures.carrier
 
-pub returns-in_ok-save_on-in-Carry-clause-carriers : goal.returns-in_ok-save_on-in-Carry-clause-carriers
-returns-in_ok-save_on-in-Carry-clause-carriers g c =
+pub returns-in_ok-next-in-Carry-clause-carriers : goal.returns-in_ok-next-in-Carry-clause-carriers
+returns-in_ok-next-in-Carry-clause-carriers g c =
     emptied_again c.args.state.now c.args.carriers.now c.requires.carriers c.processes.result c.begin.new.carrier c.save_on.new.carrier (let count = c.processes.ensures.count in omega (arith, count)) c.save_on.ensures.carrier
 
-pub returns-in_ok-save_on-in-Carry-clause-moved : goal.returns-in_ok-save_on-in-Carry-clause-moved
-returns-in_ok-save_on-in-Carry-clause-moved g c =
+pub returns-in_ok-next-in-Carry-clause-comes : goal.returns-in_ok-next-in-Carry-clause-comes
+returns-in_ok-next-in-Carry-clause-comes g c =
     save_moved c.args.state.now c.begin.new.state (record { 0 = c.processes.result }) _ c.begin.new.carrier c.args.begun (c.args.p).0 c.requires.steady (sym c.is_saving.ensures ∙ c.if-not-is_saving.false) c.processes.ensures.count
     (empty_at c.args.state.now c.args.carriers.now c.requires.carriers c.processes.result c.index-carriers-seat.result (let count = c.processes.ensures.count in omega (arith, count)))
-    (c.in-Carry.ensures.gives (enough_room c.args.state.now c.requires.steady)) c.save_on.new.state (control_in c.in_ok-save_on-in-Carry.field-0) c.in_ok-save_on-in-Carry.ensures.carried
+    (c.in-Carry.ensures.gives (enough_room c.args.state.now c.requires.steady)) c.save_on.new.state _ c.in_ok-next-in-Carry.ensures.carried
 
 -- ---- or nothing is written
 pub free-requires-in-Nothing-clause-steady : goal.free-requires-in-Nothing-clause-steady
@@ -93,10 +92,10 @@ returns-in-Nothing-clause-carriers g c =
     (as_before c.args.state.now c.begin.new.state (record { 0 = c.processes.result }) _ c.begin.new.carrier c.args.begun (c.args.p).0 c.requires.steady (sym c.is_saving.ensures ∙ c.if-not-is_saving.false)
     (c.in-Nothing.ensures.gives (enough_room c.args.state.now c.requires.steady)))
 
-pub returns-in-Nothing-clause-moved : goal.returns-in-Nothing-clause-moved
-returns-in-Nothing-clause-moved g c =
-    goes_moved c.args.state.now c.begin.new.state (record { 0 = c.processes.result }) _ c.begin.new.carrier c.args.begun (c.args.p).0 c.requires.steady (sym c.is_saving.ensures ∙ c.if-not-is_saving.false)
-    (c.in-Nothing.ensures.gives (enough_room c.args.state.now c.requires.steady)) c.free-in-Nothing.new.state c.free-in-Nothing.result c.free-in-Nothing.ensures.moved
+pub returns-in-Nothing-clause-comes : goal.returns-in-Nothing-clause-comes
+returns-in-Nothing-clause-comes g c =
+    goes_comes c.args.state.now c.begin.new.state (record { 0 = c.processes.result }) _ c.begin.new.carrier c.args.begun (c.args.p).0 c.requires.steady (sym c.is_saving.ensures ∙ c.if-not-is_saving.false)
+    (c.in-Nothing.ensures.gives (enough_room c.args.state.now c.requires.steady)) c.free-in-Nothing.new.state c.free-in-Nothing.result c.free-in-Nothing.ensures.comes
 
 -- ---- there is room
 pub unreachable-requires : goal.unreachable-requires
