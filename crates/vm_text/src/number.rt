@@ -17,6 +17,7 @@ static DECIMAL_PAIRS: [u8; 200] =
     *b"00010203040506070809101112131415161718192021222324252627282930313233343536373839404142434445464748495051525354555657585960616263646566676869707172737475767778798081828384858687888990919293949596979899";
 
 /// Adds a number in decimal digits without leading zeros. Doesn't allocate.
+#[inline(always)]
 pub fn push_decimal<const CAP: usize>(out: &mut ArrayVec<u8, CAP>, number: u64)
     requires { array_vec_len out.old + 20 ≤ CAP }
     ensures items { out.new.items ≡ out.old.items ++ decimal number }
@@ -31,6 +32,7 @@ pub fn push_decimal<const CAP: usize>(out: &mut ArrayVec<u8, CAP>, number: u64)
 }
 
 /// Adds a number of 32 bits in decimal digits without leading zeros. Doesn't allocate.
+#[inline(always)]
 pub fn push_count<const CAP: usize>(out: &mut ArrayVec<u8, CAP>, number: u32)
     requires { array_vec_len out.old + 10 ≤ CAP }
     ensures items { out.new.items ≡ out.old.items ++ decimal number }

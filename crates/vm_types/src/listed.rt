@@ -48,7 +48,10 @@ impl<X> Listed<X> {
         ensures ok { OnOk result (self.new ≡ self.old ++ x ∷ []) }
         ensures err { OnErr result (self.new ≡ self.old) }
     {
-        self.inner.push(x)?;
+        if self.inner.len() == self.inner.capacity() {
+            self.inner.try_reserve(1)?;
+        }
+        self.inner.push_reserved(x);
         Ok(())
     }
 
