@@ -13,10 +13,10 @@ const ZEROS: [u8; 512] = [0; 512];
 /// isn't touched as long as its bytes are zeros that no call wrote.
 #[derive(Drop)]
 pub struct MemoryBlock {
-    bytes: LazyBuf,
-    plan: Plan,
     reads: u64,
     writes: u64,
+    bytes: LazyBuf,
+    plan: Plan,
     ghost whole: { length bytes ≡ 512 },
     ghost few_calls: { reads + writes ≤ 2 ^ 48 },
     ghost few_faults: { plan.faults ≤ reads + writes },

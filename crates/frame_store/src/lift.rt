@@ -38,13 +38,13 @@ pub struct Lift<B: Block> {
     pub(crate) page: Page,
     pub(crate) frame: Pfn,
     pub(crate) id: BlockId,
-    pub(crate) read: bool,
-    pub(crate) stage: Stage,
     pub(crate) block: B,
     pub(crate) buf: PageBuf,
     pub(crate) start: u64,
     /// The block's count of failures before its call; 0 until it is called.
     pub(crate) before: u64,
+    pub(crate) read: bool,
+    pub(crate) stage: Stage,
 }
 
 impl<B: Block> Model for Lift<B> {
@@ -139,11 +139,11 @@ impl<B: Block> Lift<B> {
         ensures result { IsCarried B.tells_content B.content B.faults self.old self.new }
     {
         self.before = self.block.faults();
-        let done = move_bytes(&mut self.block, &mut self.buf, self.read);
-        self.stage = match done {
-            Ok(()) => Stage::Well,
-            Err(_) => Stage::Badly,
-        };
+        // Written before the bytes are, since who takes the lift next reads the stage at once.
+        self.stage = Stage::Well;
+        if move_bytes(&mut self.block, &mut self.buf, self.read).is_err() {
+            self.stage = Stage::Badly;
+        }
     }
 }
 

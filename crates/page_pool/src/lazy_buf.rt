@@ -64,6 +64,11 @@ impl LazyBuf {
         requires { length bytes.now ≤ 512 }
         ensures { self.new ≡ bytes.now ++ drop (length bytes.now) self.old }
     {
+        // Where the bytes are stays as it is then: who moves the buffer next needn't wait for the bytes.
+        if let Place::Buffer(buf) = &mut self.place {
+            write_over(buf.bytes_mut(), bytes);
+            return;
+        }
         let mut buf = filled(mem::replace(&mut self.place, Place::Out));
         write_over(buf.bytes_mut(), bytes);
         self.place = Place::Buffer(buf);
