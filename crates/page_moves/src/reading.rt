@@ -80,6 +80,13 @@ pub fn hold_page(tables: &mut Tables, globals: &mut Globals, f: Pfn, page: Page,
     }
 }
 
+/// What is kept of a page that is charged now.
+const FRESH: ChargedPage = ChargedPage {
+    touched: false,
+    lies: None,
+    assigned: None,
+};
+
 /// Charges a private page that isn't charged yet, and a block of the page file for it.
 pub fn charge_page(pages: &mut ChargedPages, file: &mut PageFile, page: Page)
     requires { MayCharge pages.old file.old page }
@@ -88,33 +95,10 @@ pub fn charge_page(pages: &mut ChargedPages, file: &mut PageFile, page: Page)
     ensures file { file.new ≡ file_charged page (charged_at pages.old) file.old }
 {
     if let Page::Private(p, vpn) = page {
-        let row = pages.at(p, vpn);
-        charge_block(file, row);
-        pages.set(p, vpn, Some(row_charged(row)));
-    }
-}
-
-/// Charges a block for a page of which nothing is kept.
-fn charge_block(file: &mut PageFile, row: Option<ChargedPage>)
-    requires { row ≡ None → file.old.charged < length file.old.owners }
-    ensures { file.new ≡ one_charge row file.old }
-{
-    if row.is_none() {
-        file.charge().unwrap();
-    }
-}
-
-/// What is kept of a page that is charged now.
-fn row_charged(row: Option<ChargedPage>) -> ChargedPage
-    ensures { result ≡ charged_now row }
-{
-    match row {
-        None => ChargedPage {
-            touched: false,
-            lies: None,
-            assigned: None,
-        },
-        Some(row) => row,
+        if pages.at(p, vpn).is_none() {
+            file.charge().unwrap();
+            pages.set(p, vpn, Some(FRESH));
+        }
     }
 }
 
