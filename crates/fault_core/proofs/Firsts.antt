@@ -20,7 +20,7 @@ use Rattle.pager_model.specs.Spoken.{flat_after}
 use Rattle.pager_model.specs.Transfers.{is_read_on}
 use Rattle.vm_state.specs.FlightReadings.{read_by}
 use Rattle.vm_state.specs.History.{History, MayAdd, MayAnswer, entry_by, owed, pager}
-use Rattle.vm_state.specs.PageReadings.{found_in}
+use Rattle.vm_state.specs.PageReadings.{IsGranted, found_in}
 use Rattle.vm_state.specs.ProcessReadings.{pending_in}
 use Rattle.page_states.specs.declared.found.Found.{Found}
 use Rattle.vm_state.specs.declared.open_read.OpenRead.{OpenRead}
@@ -116,6 +116,16 @@ module _ (s : History) (seat : Seat) (r : Ref) where
   replaced_first g first =
       roomed g (holder s.config (pager s).page g) (none_open first.landed)
       ∙ at_limit g (not_charging (is_uncharged (pager s) g) (length (pager s).charged) s.config.pagefile first.chargeable) first.full
+
+  -- ---- what the entry alone says
+  pub granted_answers : (valid : Bool) → IsGranted s seat.0 r valid → valid ≡ true → at_refusal s seat r ≡ given (what.Done r unsaid ∷ []) next_answered
+  granted_answers valid x is = goes_by x.granted ∙ answers x.found x.there (x.entry ∙ is)
+
+  pub may_answer_granted : (valid : Bool) → IsGranted s seat.0 r valid → valid ≡ true → MayGive s seat (at_refusal s seat r) → MayAnswer s seat r
+  may_answer_granted valid x is may = may_answer x.found x.there (x.entry ∙ is) (may_as s seat _ _ (goes_by x.granted) may)
+
+  pub granted_replaces : (valid : Bool) → IsGranted s seat.0 r valid → valid ≡ false → IsReplacedFirst s seat.0 → at_refusal s seat r ≡ at_replace s seat
+  granted_replaces valid x is first = goes_by x.granted ∙ (passes_on x.found x.there (x.entry ∙ is) ∙ (faults_on x.found x.there ∙ replaced_first (x.found).page first))
 
   pub below_limit : (g : Page) → (is_uncharged (pager s) g && nat_eq (length (pager s).charged) s.config.pagefile) ≡ false → nat_le ((pager s).limit seat.0) (filled ((pager s).ring seat.0).slots) ≡ false → at_room s seat r g ≡ at_held s seat r g
   below_limit g is below = if_false (is_uncharged (pager s) g && nat_eq (length (pager s).charged) s.config.pagefile) _ _ is ∙ if_false (nat_le ((pager s).limit seat.0) (filled ((pager s).ring seat.0).slots)) _ _ below

@@ -47,9 +47,6 @@ pub fn mapped<B: Block>(
     ensures { Gives B.content B.plan B.reads B.writes B.faults B.tells_content B.tells_plan
         state.old state.new seat r (at_map state.old seat r) result carrier.old carrier.new }
 {
-    if replaces_first(state, Proc(seat.0)) {
-        return replace(state, seat, r, carrier);
-    }
     let behind = section_of(found.from);
     let backing = state.backing(found.page);
     let x = Sought {
@@ -114,7 +111,7 @@ fn is_at_limit<B: Block>(state: &State<B>, p: Proc) -> bool
 
 /// Whether a slot is to be made free, whatever is known of the page: nothing is in flight, not each block
 /// of the page file is charged, and as many pages are in the working set as its limit allows.
-fn replaces_first<B: Block>(state: &State<B>, p: Proc) -> bool
+pub fn replaces_first<B: Block>(state: &State<B>, p: Proc) -> bool
     requires { p.0 < length state.now.config.procs }
     ensures { result ≡ true → IsReplacedFirst state.now p.0 }
 {

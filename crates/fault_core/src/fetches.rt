@@ -91,6 +91,9 @@ fn is_busy_block<B: Block>(state: &State<B>, block: Option<BlockId>) -> bool
     requires { (b : BlockId) → block ≡ Some b → IsBlock state.now.config b }
     ensures { result ≡ is_busy_block state.now.past block }
 {
+    if state.owed() == 0 {
+        return false;
+    }
     match block {
         Some(b) => !state.home(b),
         None => false,

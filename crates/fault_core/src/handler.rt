@@ -21,6 +21,7 @@ use vm_types::{Proc, ProcStatus, Ref, Seat, Why};
 /// There may be room for too few entries; else a process that isn't resident waits, a pending
 /// adjustment is made, a reference is refused or answered, or its page is waited for, replaced for,
 /// taken back, made of zeros, or read with its cluster. Doesn't allocate.
+#[inline(always)]
 pub fn advance<B: Block>(
     state: &mut State<B>,
     seat: Seat,

@@ -15,7 +15,7 @@ mod touching;
 
 pub use found::{Backing, Found, Slot};
 pub use opening::{lay_all, process_rows};
-pub use pages_shown::{changes, found_shown, is_touched_row, own_backing, some_waits};
+pub use pages_shown::{changes, found_shown, is_touched_row, is_valid, own_backing, some_waits};
 pub use read_starts::{charge_fault, count_fault, read_page};
 pub use resting::{rest, uncharge};
 pub use ring_slots::{come_home, enter_ring, frame_slot, marked_back};

@@ -22,7 +22,7 @@ pub fn changes(op: Op) -> bool
 }
 
 /// Whether it is the place of a valid entry.
-fn is_valid(place: Place) -> bool
+pub fn is_valid(place: Place) -> bool
     ensures { result ≡ is_valid place }
 {
     matches!(place, Place::Valid { .. })

@@ -50,6 +50,7 @@ use Rattle.page_states.specs.PagesShown.{found_shown, frame_named, is_valid, own
 use Rattle.page_states.specs.Shown.{frame_by, frame_entry}
 use Rattle.vm_state.specs.StateKept.{IsState}
 use Rattle.page_states.specs.declared.found.Backing.{Backing}
+use Rattle.page_states.specs.declared.found.Found.{Found}
 use Rattle.vm_state.proofs.Closing.{kept}
 use Rattle.vm_state.proofs.Numbered.{has_number}
 
@@ -89,6 +90,27 @@ found_shows config map valid page lies p v = by (map p v) (entry_of valid p v)
         ap (λ (b : Bool). Some (record { page = page_behind config p v m.origin; from = m.origin; prot = m.prot; valid = b }))
         (not_valid config (page_behind config p v m.origin) m.origin (holder config page (page_behind config p v m.origin)) (lies (page_behind config p v m.origin)))
 
+-- what is found where an entry is
+entry_shows : (config : Config) (map : Map) (valid : List Valid) (page : ℕ → Option Page) (lies : Page → Option BlockId) (p v : ℕ) (entry : Pte) → Some entry ≡ pte_of config map valid page lies p v
+    → (x : Found) × (Some x ≡ found_with config p v (is_some (entry_of valid p v)) (map p v)) × (x.prot ≡ entry.prot) × (x.valid ≡ is_valid entry.place)
+unfolding pte_of
+entry_shows config map valid page lies p v entry there = by (map p v) (entry_of valid p v) there
+  where
+    by : (m : Option Mapped) (e : Option Valid) → Some entry ≡ pte_at config p v (holder config page) lies e m
+        → (x : Found) × (Some x ≡ found_with config p v (is_some e) m) × (x.prot ≡ entry.prot) × (x.valid ≡ is_valid entry.place)
+    by None e none = absurd (none-some entry (sym none))
+    by (Some m) (Some e) some =
+        let same : entry ≡ record { prot = m.prot; place = place.Valid false (pfn e.frame) } = cc in
+        (record { page = page_behind config p v m.origin; from = m.origin; prot = m.prot; valid = true }, refl, sym (ap (λ (x : Pte). x.prot) same), sym (ap (λ (x : Pte). is_valid x.place) same))
+    by (Some m) None some =
+        let g = page_behind config p v m.origin in
+        let same : entry ≡ record { prot = m.prot; place = place_away config (page_behind config p v m.origin) m.origin (holder config page (page_behind config p v m.origin)) (lies (page_behind config p v m.origin)) } = cc in (
+          record { page = page_behind config p v m.origin; from = m.origin; prot = m.prot; valid = false },
+          refl,
+          sym (ap (λ (x : Pte). x.prot) same),
+          sym (ap (λ (x : Pte). is_valid x.place) same ∙ not_valid config g m.origin (holder config page g) (lies g)),
+        )
+
 frame_shows : (config : Config) (map : Map) (valid : List Valid) (page : ℕ → Option Page) (lies : Page → Option BlockId) (p v : ℕ)
     → ((e : Valid) → entry_of valid p v ≡ Some e → (m : Mapped) × (map p v ≡ Some m)) → frame_entry (pte_of config map valid page lies p v) ≡ option_map frame_of (entry_of valid p v)
 unfolding pte_of
@@ -123,6 +145,9 @@ module _ {B : Type 0} {content plan : B → Option (List ℕ)} {reads writes fau
   pub found_is : (p v : ℕ) (from : Option Origin) (entry : Option Pte) → from ≡ behind_of fields.sections p v → entry ≡ pte_in fields.tables p v → found_shown config p v from entry ≡ found_in config a p v
   found_is p v from entry behind there =
       (λ i. found_shown config p v ((behind ∙ before.parts.sections.each p v) i) ((there ∙ before.parts.tables.each p v) i)) ∙ found_shows config a.map a.valid a.page a.lies p v
+
+  pub entry_is : (p v : ℕ) (entry : Pte) → Some entry ≡ pte_in fields.tables p v → (x : Found) × (Some x ≡ found_in config a p v) × (x.prot ≡ entry.prot) × (x.valid ≡ is_valid entry.place)
+  entry_is p v entry there = entry_shows config a.map a.valid a.page a.lies p v entry (there ∙ before.parts.tables.each p v)
 
   -- a valid entry is of a page number that is mapped
   mapped_valid : (p v : ℕ) (e : Valid) → entry_of a.valid p v ≡ Some e → (m : Mapped) × (a.map p v ≡ Some m)

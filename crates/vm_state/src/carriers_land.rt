@@ -14,7 +14,6 @@ impl<B: Block> State<B> {
 
     /// The lifts of a carrier land, in their order, each failed read followed by the reuse of its frame;
     /// the carrier is empty afterwards. Doesn't allocate.
-    #[inline(always)]
     pub fn land(&mut self, carrier: &mut Carrier<B>) -> Landed
         requires { CarrierMayLand B.content B.plan B.reads B.writes B.faults B.tells_content B.tells_plan
             self.old carrier.old }
@@ -41,6 +40,7 @@ impl<B: Block> State<B> {
     }
 
     /// One lift lands; says whether it failed.
+    #[inline(always)]
     fn land_lift(&mut self, seat: Seat, lift: Lift<B>) -> bool
         requires calm { awaits_reuse self.old.past ≡ false }
         requires may { MayLand B.content B.plan B.reads B.writes B.faults B.tells_content B.tells_plan
@@ -63,6 +63,7 @@ impl<B: Block> State<B> {
     }
 
     /// One lift lands well.
+    #[inline(always)]
     fn land_good(&mut self, seat: Seat, lift: Lift<B>)
         requires calm { awaits_reuse self.old.past ≡ false }
         requires may { MayLand B.content B.plan B.reads B.writes B.faults B.tells_content B.tells_plan

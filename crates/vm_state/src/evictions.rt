@@ -20,13 +20,13 @@ impl<B: Block> State<B> {
         ensures { self.new ≡ added self.old (entry_by seat (What.Evict p a f why to)) }
     {
         let vpn = a.0 / 512;
-        let row = &mut self.processes[p.0 as usize];
-        give_up(&mut row.ring, row.limit, why, vpn);
-        let kept = self.store.frames().row(f);
-        let page = kept.page.unwrap();
-        leave(self.store.frames_mut(), f);
         let look = self.tables.look(p, vpn);
         let prot = entry_in(look).unwrap().prot;
+        let kept = self.store.frames().row(f);
+        let page = kept.page.unwrap();
+        let row = &mut self.processes[p.0 as usize];
+        give_up(&mut row.ring, row.limit, why, vpn);
+        leave(self.store.frames_mut(), f);
         let place = left_at(&self.firsts, f, page);
         self.tables.set(p, vpn, Pte { prot, place });
         unshare(&mut self.globals, &self.firsts, page);

@@ -1,4 +1,4 @@
-ghost use Rattle.std.specs.Prelude.{◌≡◌, None, IsSome, length, nat_eq};
+ghost use Rattle.std.specs.Prelude.{◌≡◌, None, IfSome, IsSome, length, nat_eq};
 ghost use Rattle.std.specs.Option.{option_map};
 ghost use Rattle.pager_model.specs.Flat.{flat_refusal, is_page_file_full};
 ghost use Rattle.pager_model.specs.Lookups.{entry_of};
@@ -6,14 +6,14 @@ ghost use Rattle.pager_model.specs.Maps.{page_number};
 ghost use Rattle.pager_model.specs.Spoken.{flat_after};
 ghost use Rattle.pager_model.specs.Swap.{lying_in};
 ghost use Rattle.vm_state.specs.History.{pager};
-ghost use Rattle.vm_state.specs.PageReadings.{IsKnown, backing_in, found_in, frame_of};
+ghost use Rattle.vm_state.specs.PageReadings.{IsGranted, IsKnown, backing_in, found_in, frame_of};
 ghost use Rattle.page_states.specs.Shown.{frame_number};
 
 use crate::state::State;
 use disk_trait::Block;
 use page_states::{
-    Backing, Found, changes, entry_in, found_shown, frame_in, is_touched_row, own_backing,
-    section_page, some_waits,
+    Backing, Found, changes, entry_in, found_shown, frame_in, is_touched_row, is_valid,
+    own_backing, section_page, some_waits,
 };
 use vm_types::{BlockId, Page, Pfn, Proc, Ref, SecId, Why, allowed};
 
@@ -98,6 +98,29 @@ impl<B: Block> State<B> {
                     Some(Why::Protected)
                 } else if self.is_full(found.page) {
                     Some(Why::PageFileFull)
+                } else {
+                    None
+                }
+            }
+        }
+    }
+
+    /// What the entry for the page of a reference of a process (any number) says alone: whether it is
+    /// valid, if it allows the reference and not each block of the page file is charged. The reference
+    /// isn't refused then. None says nothing.
+    #[inline(always)]
+    pub fn granted(&self, p: Proc, r: Ref) -> Option<bool>
+        ensures { IfSome result (IsGranted self.now p.0 r) }
+    {
+        match entry_in(self.tables.look(p, r.addr.0 / 512)) {
+            None => None,
+            Some(pte) => {
+                if self.file.charged() < self.config.pagefile {
+                    if allowed(pte.prot, r.mode, changes(r.op)) {
+                        Some(is_valid(pte.place))
+                    } else {
+                        None
+                    }
                 } else {
                     None
                 }

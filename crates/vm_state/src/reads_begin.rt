@@ -21,7 +21,6 @@ impl<B: Block> State<B> {
 
     /// A read of a block into a frame begins; the seat's carrier takes its lift. If the lifts of the
     /// carrier fit the journal, they still do.
-    #[inline(always)]
     pub fn begin_in(
         &mut self,
         seat: Seat,
@@ -45,6 +44,7 @@ impl<B: Block> State<B> {
     }
 
     /// A read of a block into a frame begins.
+    #[inline(always)]
     fn lift_in(&mut self, seat: Seat, f: Pfn, block: BlockId, role: Role) -> Lift<B>
         requires { MayAdd self.old (entry_by seat (What.In f block role)) }
         ensures state { self.new ≡ added self.old (entry_by seat (What.In f block role)) }

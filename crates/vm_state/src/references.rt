@@ -24,11 +24,11 @@ impl<B: Block> State<B> {
         ensures right { B.tells_content ≡ true
             → result ≡ flat_reply self.old.config (flat_after self.old.config self.old.past) seat.0 r }
     {
-        let row = &mut self.processes[seat.0 as usize];
-        row.references += 1;
         let look = self.tables.look(Proc(seat.0), r.addr.0 / 512);
         let f = frame_in(look).unwrap();
         let kept = self.store.frames().row(f);
+        let row = &mut self.processes[seat.0 as usize];
+        row.references += 1;
         self.store.frames_mut().mark(f, marked(r.op, kept.modify));
         touch(&mut self.pages, kept.page.unwrap());
         let reply = apply(self.store.bytes_mut(f), r);

@@ -20,7 +20,6 @@ impl<B: Block> State<B> {
 
     /// A write of the page in a frame begins; the seat's carrier takes its lift. If the lifts of the
     /// carrier fit the journal, they still do.
-    #[inline(always)]
     pub fn begin_out(&mut self, seat: Seat, f: Pfn, block: BlockId, carrier: &mut Carrier<B>)
         requires may { MayAdd self.old (entry_by seat (What.Out f block)) }
         requires room { CanTake carrier.old seat }
@@ -37,6 +36,7 @@ impl<B: Block> State<B> {
     }
 
     /// A write of the page in a frame begins.
+    #[inline(always)]
     fn lift_out(&mut self, seat: Seat, f: Pfn, block: BlockId) -> Lift<B>
         requires { MayAdd self.old (entry_by seat (What.Out f block)) }
         ensures state { self.new ≡ added self.old (entry_by seat (What.Out f block)) }

@@ -1,15 +1,17 @@
-use Rattle.fault_core.proofs.Firsts.{denies, goes_by, may_deny}
-use Rattle.fault_core.proofs.Steps.{gives_as, may_as, refused}
+use Rattle.fault_core.proofs.Firsts.{granted_answers, granted_replaces, may_answer_granted}
+use Rattle.fault_core.proofs.Steps.{answered, gives_as, may_as}
 use Rattle.fault_core.proofs.answers.answer.Goals as goal
 
-pub denied-requires-after_bounds : goal.denied-requires-after_bounds
-denied-requires-after_bounds g c κs within = may_deny c.args.state.now c.args.seat c.args.r c.in-Some.why c.in-Some.ensures.value c.requires.may
+pub done-requires-after_bounds : goal.done-requires-after_bounds
+done-requires-after_bounds g c κs within = may_answer_granted c.args.state.now c.args.seat c.args.r c.in-Some.valid c.in-Some.ensures c.if-valid.true c.requires.may
 
-pub returns-in-Some : goal.returns-in-Some
-returns-in-Some g c = refused c.args.state.now _ c.args.seat c.args.r c.in-Some.why _ _ (denies c.args.state.now c.args.seat c.args.r c.in-Some.why c.in-Some.ensures.value) c.in-Some.ensures.value c.denied.ensures
+pub returns-then-valid : goal.returns-then-valid
+returns-then-valid g c = answered c.args.state.now _ c.args.seat c.args.r c.done.result _ _ (granted_answers c.args.state.now c.args.seat c.args.r c.in-Some.valid c.in-Some.ensures c.if-valid.true) c.done.ensures.added c.done.ensures.right
 
-pub entry-requires-clause-may : goal.entry-requires-clause-may
-entry-requires-clause-may g c κs within = may_as _ _ _ _ (goes_by c.args.state.now c.args.seat c.args.r c.in-None.ensures.value) c.requires.may
+pub replace-requires-clause-may : goal.replace-requires-clause-may
+replace-requires-clause-may g c κs within =
+    may_as _ _ _ _ (granted_replaces c.args.state.now c.args.seat c.args.r c.in-Some.valid c.in-Some.ensures c.if-valid.false (c.replaces_first.ensures c.if-replaces_first.true)) c.requires.may
 
-pub returns-in-None : goal.returns-in-None
-returns-in-None g c = gives_as _ _ (goes_by c.args.state.now c.args.seat c.args.r c.in-None.ensures.value) c.entry.ensures
+pub returns-then-replaces_first : goal.returns-then-replaces_first
+returns-then-replaces_first g c =
+    gives_as _ _ (granted_replaces c.args.state.now c.args.seat c.args.r c.in-Some.valid c.in-Some.ensures c.if-valid.false (c.replaces_first.ensures c.if-replaces_first.true)) c.replace.ensures

@@ -1,20 +1,8 @@
 use Rattle.std.proofs.Common.{◌∙◌}
 use Rattle.fault_core.proofs.Comes.{page_known}
-use Rattle.fault_core.proofs.Firsts.{faults_on, mapped_to, replaced_first}
+use Rattle.fault_core.proofs.Firsts.{faults_on, mapped_to}
 use Rattle.fault_core.proofs.Steps.{gives_as, may_as}
 use Rattle.fault_core.proofs.faults.mapped.Goals as goal
-
-pub replace-requires-clause-may : goal.replace-requires-clause-may
-replace-requires-clause-may g c κs within =
-    may_as _ _ _ _
-    (faults_on c.args.state.now c.args.seat c.args.r c.args.found c.requires.found ∙ replaced_first c.args.state.now c.args.seat c.args.r (c.args.found).page (c.replaces_first.ensures c.if-replaces_first.true))
-    c.requires.may
-
-pub returns-then-replaces_first : goal.returns-then-replaces_first
-returns-then-replaces_first g c =
-    gives_as _ _
-    (faults_on c.args.state.now c.args.seat c.args.r c.args.found c.requires.found ∙ replaced_first c.args.state.now c.args.seat c.args.r (c.args.found).page (c.replaces_first.ensures c.if-replaces_first.true))
-    c.replace.ensures
 
 pub backing-backing-requires-after_bounds : goal.backing-backing-requires-after_bounds
 backing-backing-requires-after_bounds g c κs within = page_known c.args.state.now c.args.seat c.args.r c.requires.ready (c.args.found).page (mapped_to c.args.state.now c.args.seat c.args.r c.args.found c.requires.found).0
