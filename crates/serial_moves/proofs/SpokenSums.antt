@@ -1,6 +1,7 @@
 -- The spoken entries of all processes together are those of the journal.
-use Rattle.std.proofs.Common.{◌≡◌, ℕ, zero, suc, ◌+◌, ◌*◌, ◌^◌, ◌<◌, ◌≤◌, Bool, true, false, List, [], ◌∷◌, inl, inr, length, nat_eq, add-one, refl, sym, ap, ◌∙◌, arith}
+use Rattle.std.proofs.Common.{◌≡◌, ℕ, zero, suc, ◌+◌, ◌*◌, ◌^◌, ◌<◌, ◌≤◌, Bool, true, false, List, [], ◌∷◌, None, inl, inr, length, nat_eq, add-one, slice_index_or, refl, sym, ap, ◌∙◌, arith}
 use Rattle.std.proofs.lemmas.Bool.{eq-eqb, eqb-true, false≢true}
+use Rattle.std.proofs.lemmas.Option.{get_or_from_slice_get}
 use Rattle.std.specs.Option.{is_some}
 use Rattle.vm_types.specs.declared.config.Config.{Config}
 use Rattle.vm_types.specs.declared.reply.Answer.TheVariants as answer
@@ -14,7 +15,7 @@ use Rattle.pager_model.specs.Spoken.{request_of}
 use Rattle.pager_model.specs.Step.{IsLegalWhat}
 use Rattle.pager_rules.proofs.Basics.{count_cons_no, count_cons_yes}
 use Rattle.state_parts.specs.declared.spoken_row.SpokenRow.{SpokenRow}
-use Rattle.state_fits.specs.Spoken.{one_more, spoken_by, spoken_with}
+use Rattle.state_fits.specs.Spoken.{SpokenFit, one_more, spoken_by, spoken_with}
 
 -- ---- the sum of a number for each process below one
 abbrev pub sum_below : (ℕ → ℕ) → ℕ → ℕ
@@ -122,6 +123,14 @@ count_most (e ∷ past) p = by (speaks e) refl (count_most past p)
         least true = omega arith
         least false = omega arith
     by false is most = let same = uncounted e.what (nat_eq (e.seat).0 p) (length past + 1) (spoken_by p past) is in omega (arith, most, same)
+
+-- a process's row has that count
+abbrev pub row_at : List SpokenRow → ℕ → SpokenRow
+row_at rows p = slice_index_or rows p (record { last = None; count = 0 })
+
+pub row_count : (past : List Entry) (n p : ℕ) (rows : List SpokenRow) → SpokenFit (λ q. spoken_by q past) n rows → p < n → (row_at rows p).count ≡ counts_in past p
+row_count past n p rows fits below =
+    ap (λ (row : SpokenRow). row.count) (get_or_from_slice_get rows p (spoken_by p past) (record { last = None; count = 0 }) (fits.each p below))
 
 -- ---- the sum of the processes below this one
 pub record IsSum (sum p : ℕ) (past : List Entry) : Type 0 where

@@ -103,6 +103,7 @@ fn come<B: Block>(
 ///
 /// # Errors
 /// `NoMemory` if out of memory.
+#[inline(always)]
 fn find_for_request<B: Block>(
     state: &mut State<B>,
     seat: Seat,

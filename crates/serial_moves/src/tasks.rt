@@ -3,16 +3,17 @@ ghost use Rattle.pager_model.specs.Policy.{next_task, spoken};
 
 use disk_trait::Block;
 use vm_state::State;
-use vm_types::{Proc, Task};
+use vm_types::Task;
 
 /// How many requests were answered. A step for each process.
 fn answered<B: Block>(state: &State<B>) -> u64
     ensures { result ≡ spoken state.now.past }
 {
     state.run_law();
+    let rows = state.spoken_rows();
     let mut sum = 0;
-    for p in 0..state.config().procs.items().len() as u32 {
-        sum += state.answered(Proc(p));
+    for p in 0..rows.len() {
+        sum += rows[p].count;
     }
     sum
 }

@@ -27,14 +27,16 @@ pub struct Ending {
     pub dirty: Vec<Page>,
 }
 
-/// Makes room at once for as many entries as there are requests, each of which has at least one, so that
-/// the journal isn't copied as it grows. If there is too little memory for that, the moves ask for room as
-/// they go.
+/// Room for so many entries of each request is made at once.
+const ENTRIES_PER_REQUEST: u32 = 4;
+
+/// Makes room at once for the entries of all requests, so that the journal isn't copied as it grows. If
+/// there is too little memory for that, the moves ask for room as they go.
 fn reserve_answers<B: Block>(state: &mut State<B>)
     ensures { state.new ≡ record state.old { spare = (state.new).spare } }
 {
     let requests = state.config().body.items().len();
-    let _ = state.reserve(requests.min(u32::MAX as usize) as u32);
+    let _ = state.reserve(ENTRIES_PER_REQUEST * requests.min(1 << 24) as u32);
 }
 
 /// Runs a state from its first entry on.
