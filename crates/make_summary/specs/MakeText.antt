@@ -1,5 +1,5 @@
 -- The lines of a made trace's run: how many entries of each kind it has. Source: this project's own.
-use Rattle.std.specs.Prelude.{ℕ, Bool, true, false, ◌+◌, ◌<◌, List, ◌++◌, length, count_by, codes, decimal, if◌then◌else◌}
+use Rattle.std.specs.Prelude.{ℕ, Bool, true, false, ◌+◌, List, ◌++◌, length, count_by, codes, decimal, if◌then◌else◌}
 use Rattle.vm_journal.specs.declared.entry.Entry.{Entry}
 use Rattle.vm_journal.specs.declared.entry.Kind.{Kind}
 use Rattle.vm_journal.specs.declared.entry.Kind.TheVariants as kind
@@ -45,18 +45,6 @@ counts_of entries = record {
   turns = count_of kind.Turn entries;
   limits = count_of kind.Limit entries;
 }
-
--- each count is below a bound
-pub record AreBelow (counts : Counts) (bound : ℕ) : Type 0 where
-  pub done : counts.done < bound
-  pub denied : counts.denied < bound
-  pub zeros : counts.zeros < bound
-  pub backs : counts.backs < bound
-  pub reads : counts.reads < bound
-  pub writes : counts.writes < bound
-  pub evictions : counts.evictions < bound
-  pub turns : counts.turns < bound
-  pub limits : counts.limits < bound
 
 -- the counts with one entry more
 abbrev pub counted : Counts → What → Counts
