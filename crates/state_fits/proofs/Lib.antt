@@ -62,3 +62,4 @@ pub mod RangedPages
 pub mod RemappedParts
 pub mod ServedCan
 pub mod ServedParts
+pub mod AnswersCounted

@@ -1,6 +1,7 @@
 ghost use Rattle.std.specs.Prelude.{◌≡◌, ◌+◌, ◌-◌, ◌^◌, ◌<◌, ◌≤◌, [], ◌∷◌, ◌++◌, length, OnOk, OnErr};
+ghost use Rattle.vm_journal.specs.Journal.{answers_in, is_answer};
 
-use crate::entry::Entry;
+use crate::entry::{Entry, What};
 use crate::kept::Kept;
 use std::alloc::Global;
 use std::marker::Model;
@@ -10,24 +11,34 @@ use vm_types::NoMemory;
 const MOST: usize = 0x1_0000_0000_0000;
 
 /// The list of what was done, oldest first. Contracts see its entries, and how many more can be
-/// written without memory; together these are at most 2^48.
+/// written without memory; together these are at most 2^48. How many of the entries answer a request is
+/// counted as they are written.
 #[derive(Debug, Drop)]
 pub struct Journal {
     entries: Vec<Entry>,
     spare: u32,
+    answers: u64,
 }
 
 impl Model for Journal {
-    ghost use Rattle.std.specs.Prelude.{vec_len, vec_capacity};
-    ghost use Rattle.vm_journal.specs.Journal.{Written};
+    ghost use Rattle.std.specs.Prelude.{◌≡◌, vec_len, vec_capacity};
+    ghost use Rattle.vm_journal.specs.Journal.{IsRoomy, Written, answers_in};
 
     ghost Value = { Written };
 
     ghost view = { λ j. record { entries = j.entries.items; spare = j.spare } };
 
-    ghost use Rattle.vm_journal.specs.Journal.{IsRoomy};
+    ghost invariant = { λ j. IsRoomy (vec_len j.entries) j.spare (vec_capacity j.entries) × (j.answers ≡ answers_in j.entries.items) };
+}
 
-    ghost invariant = { λ j. IsRoomy (vec_len j.entries) j.spare (vec_capacity j.entries) };
+/// Whether an entry answers a request.
+fn is_answer(what: What) -> bool
+    ensures { result ≡ is_answer what }
+{
+    matches!(
+        what,
+        What::Done { .. } | What::Denied { .. } | What::Served { .. }
+    )
 }
 
 impl Journal {
@@ -38,6 +49,7 @@ impl Journal {
         Journal {
             entries: Vec::new(alloc),
             spare: 0,
+            answers: 0,
         }
     }
 
@@ -71,6 +83,9 @@ impl Journal {
         requires { 0 < self.old.spare }
         ensures { self.new ≡ record { entries = self.old.entries ++ e ∷ []; spare = self.old.spare - 1 } }
     {
+        if is_answer(e.what) {
+            self.answers += 1;
+        }
         self.entries.push_reserved(e);
         self.spare -= 1;
     }
@@ -88,6 +103,13 @@ impl Journal {
         ensures { result ≡ self.now.spare }
     {
         self.spare
+    }
+
+    /// How many of the entries answer a request. It is kept: no entry is looked at.
+    pub fn answers(&self) -> u64
+        ensures { result ≡ answers_in self.now.entries }
+    {
+        self.answers
     }
 
     /// Gives the entries, oldest first. Doesn't allocate.

@@ -57,6 +57,7 @@ impl<B: Block> State<B> {
 
     /// The page in a slot (any number) of the working set of a process of the configuration, with the
     /// frame of its valid entry; none if the slot is empty, or isn't there.
+    #[inline(always)]
     pub fn slot(&self, p: Proc, n: u32) -> Option<Slot>
         requires { p.0 < length self.now.config.procs }
         ensures { result ≡ slot_in (pager self.now) p.0 n }

@@ -2,7 +2,8 @@ ghost use Rattle.std.specs.Prelude.{◌≡◌, ◌≢◌, ◌<◌, ◌+◌, ℕ,
 ghost use Rattle.pager_model.specs.Flights.{is_busy, open_flights};
 ghost use Rattle.state_fits.specs.File.{owner_in};
 ghost use Rattle.state_fits.specs.Seats.{start_on};
-ghost use Rattle.state_fits.specs.Spoken.{SpokenFit, spoken_by};
+ghost use Rattle.pager_model.specs.Policy.{spoken};
+ghost use Rattle.state_fits.specs.Spoken.{spoken_by};
 ghost use Rattle.vm_types.specs.Ring.{choose, filled};
 ghost use Rattle.vm_state.specs.History.{pager};
 ghost use Rattle.std.specs.Option.{option_map};
@@ -12,7 +13,6 @@ ghost use Rattle.page_states.specs.Shown.{frame_number};
 use crate::state::State;
 use disk_trait::Block;
 use pfn_database::{ListName, Row};
-use state_parts::SpokenRow;
 use vm_journal::Entry;
 use vm_types::{Config, Page, Pfn, Proc, ProcStatus, Seat};
 use working_set::Choice;
@@ -148,11 +148,11 @@ impl<B: Block> State<B> {
         self.spoken[p.0 as usize].count
     }
 
-    /// By process of the configuration, the number of its last spoken entry, and how many there are.
-    pub fn spoken_rows(&self) -> &[SpokenRow]
-        ensures { SpokenFit (λ p. spoken_by p self.now.past) (length self.now.config.procs) result.now }
+    /// How many requests were answered. No entry is looked at.
+    pub fn all_answered(&self) -> u64
+        ensures { result ≡ spoken self.now.past }
     {
-        &self.spoken
+        self.journal.answers()
     }
 
     /// Whether a seat has an open transfer.
