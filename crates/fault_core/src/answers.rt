@@ -36,6 +36,7 @@ pub fn answer<B: Block>(state: &mut State<B>, seat: Seat, r: Ref, carrier: &mut 
 }
 
 /// It is looked what the process has at the page number.
+#[inline(never)]
 fn look<B: Block>(state: &mut State<B>, seat: Seat, r: Ref, carrier: &mut Carrier<B>) -> Next
     requires ready { IsReadySeat state.old seat }
     requires formed { IsWellFormedReference r }

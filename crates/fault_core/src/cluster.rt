@@ -72,36 +72,31 @@ fn following_shared<B: Block>(state: &State<B>, s: SecId, i: u32) -> Option<Page
     }
 }
 
-/// The owner of a block of the page file, if it lies there and is of the same process.
-fn following_owner<B: Block>(state: &State<B>, g: Page, n: u32) -> Option<Page>
+/// The owner of a block of the page file, if it lies there and is of the same process; and whether it is
+/// in no frame.
+fn following_owner<B: Block>(state: &State<B>, g: Page, n: u32) -> (Option<Page>, bool)
     requires { is_private g ≡ true }
-    ensures { result ≡ following_owner (pager state.now) g n (owner_of (pager state.now).assigned n) }
+    ensures page { result.0 ≡ following_owner (pager state.now) g n (owner_of (pager state.now).assigned n) }
+    ensures out { result.1 ≡ is_out state.now.config (pager state.now) result.0 }
 {
-    let h = state.owner(n)?;
-    if is_kin(g, h) && lies_in(state.backing(h).lies, n) {
-        Some(h)
-    } else {
-        None
+    match state.owner(n) {
+        Some(h) => {
+            if is_kin(g, h) {
+                let there = state.backing(h);
+                if lies_in(there.lies, n) {
+                    (Some(h), there.frame.is_none())
+                } else {
+                    (None, false)
+                }
+            } else {
+                (None, false)
+            }
+        }
+        None => (None, false),
     }
 }
 
-/// The page that may follow so many places behind the faulting one.
-fn following<B: Block>(state: &State<B>, g: Page, b: BlockId, places: u32) -> Option<Page>
-    requires page { page_place g + places < 2 ^ 32 }
-    requires block { block_place b + places < 2 ^ 32 }
-    ensures { result ≡ following state.now.config (pager state.now) g b places }
-{
-    match g {
-        Page::Shared(s, i) => following_shared(state, s, i + places),
-        Page::Private(..) => match b {
-            BlockId::PageFile(n) => following_owner(state, g, n + places),
-            BlockId::Section(..) => None,
-            BlockId::Swap(..) => None,
-        },
-    }
-}
-
-/// Whether a page is in no frame.
+/// Whether a page of a section is in no frame.
 fn is_out<B: Block>(state: &State<B>, page: Option<Page>) -> bool
     requires { (g : Page) → page ≡ Some g → IsKnown state.now.config g }
     ensures { result ≡ is_out state.now.config (pager state.now) page }
@@ -109,6 +104,26 @@ fn is_out<B: Block>(state: &State<B>, page: Option<Page>) -> bool
     match page {
         Some(g) => state.backing(g).frame.is_none(),
         None => false,
+    }
+}
+
+/// The page that may follow so many places behind the faulting one, and whether it is in no frame.
+fn following<B: Block>(state: &State<B>, g: Page, b: BlockId, places: u32) -> (Option<Page>, bool)
+    requires page { page_place g + places < 2 ^ 32 }
+    requires block { block_place b + places < 2 ^ 32 }
+    ensures page { result.0 ≡ following state.now.config (pager state.now) g b places }
+    ensures out { result.1 ≡ is_out state.now.config (pager state.now) result.0 }
+{
+    match g {
+        Page::Shared(s, i) => {
+            let page = following_shared(state, s, i + places);
+            (page, is_out(state, page))
+        }
+        Page::Private(..) => match b {
+            BlockId::PageFile(n) => following_owner(state, g, n + places),
+            BlockId::Section(..) => (None, false),
+            BlockId::Swap(..) => (None, false),
+        },
     }
 }
 
@@ -158,8 +173,7 @@ pub fn cluster<B: Block>(
     let mut places = 1;
     let mut more = goes_on(true, places, reach);
     while more {
-        let page = following(state, x.page, b, places);
-        let here = is_out(state, page);
+        let (page, here) = following(state, x.page, b, places);
         out.push(here);
         pages.push(page);
         places += 1;

@@ -153,6 +153,7 @@ fn frame<B: Block>(
 }
 
 /// A demand zero page gets a frame of zeros, and the reference is answered.
+#[inline(never)]
 fn zero<B: Block>(
     state: &mut State<B>,
     seat: Seat,

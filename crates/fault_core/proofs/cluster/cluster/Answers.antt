@@ -43,8 +43,8 @@ push-requires-in-loop-more-2 g c = (omega arith, less)
 pub loop-more-preserved : goal.loop-more-preserved
 loop-more-preserved g c =
     next_looking c.args.state.now.config (pager c.args.state.now) (c.args.x).page c.args.b c.loop-more.pages.items _ c.loop-more.out.items _ c.loop-more.places c.loop-more.more c.goes_on-more-in-loop-more.result
-    c.is_out-here.result c.following-page.result c.loop-more.invariant c.loop-more-test.true c.following-page.ensures c.is_out-here.ensures c.push-in-loop-more-2.ensures.items c.push-in-loop-more.ensures.items
-    (c.goes_on-more-in-loop-more.ensures ∙ ap (λ n. c.is_out-here.result && nat_lt (c.loop-more.places + 1) n) c.reach-reach.ensures)
+    c.following-page.result.1 c.following-page.result.0 c.loop-more.invariant c.loop-more-test.true c.following-page.ensures.page c.following-page.ensures.out c.push-in-loop-more-2.ensures.items c.push-in-loop-more.ensures.items
+    (c.goes_on-more-in-loop-more.ensures ∙ ap (λ n. c.following-page.result.1 && nat_lt (c.loop-more.places + 1) n) c.reach-reach.ensures)
 
 pub returns-clause-pages : goal.returns-clause-pages
 returns-clause-pages g c =
