@@ -27,7 +27,7 @@ fn is_enough<B: Block>(state: &State<B>, reason: Reason) -> bool
 /// adjoin, at most WRTCLUSTER. A private page without an assigned block takes the lowest free block if
 /// it is the first, and later the next block if that is free. Nothing is made if the list is short
 /// enough, or if there is room for too few entries. Doesn't allocate.
-#[inline(always)]
+#[inline(never)]
 pub fn begin<B: Block>(
     state: &mut State<B>,
     seat: Seat,

@@ -11,6 +11,9 @@ use Rattle.pager_model.specs.Policy.{asked_move, coming_process, ends_request, g
 use Rattle.vm_state.specs.History.{History, pager}
 use Rattle.serial_moves.specs.Requests.{come_move}
 
+pub not_both : (x : Service) (r : Ref) → request.Service x ≡ request.Reference r → ⊥
+not_both x r same = cc
+
 module _ (s : History) (seat p : ℕ) (own : seat ≡ p) (asks : Request) where
   abbrev asked : Move
   asked = asked_move s.config s.past (pager s) None seat asks

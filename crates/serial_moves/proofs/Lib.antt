@@ -1,4 +1,3 @@
-pub mod SpokenSums
 pub mod SteadySeats
 pub mod LandedCarriers
 pub mod NextTasks

@@ -18,16 +18,16 @@ use modified_writer::{Reason, begin};
 use move_steps::prepare;
 use vm_services::refuse_service;
 use vm_state::{Carrier, State};
-use vm_types::{NoMemory, Request, Seat, Task};
+use vm_types::{NoMemory, Proc, Request, Seat, Task};
 
 /// After an answer to a process.
-pub fn answered(task: Task) -> Control
-    ensures { control_in result ≡ control (saving false (task.proc).0) }
+pub fn answered(p: Proc) -> Control
+    ensures { control_in result ≡ control (saving false p.0) }
 {
     Control {
         doing: Doing::Saving {
             begun: false,
-            process: task.proc,
+            process: p,
         },
         leaving: None,
     }
@@ -59,7 +59,7 @@ pub fn refuse<B: Block>(state: &mut State<B>, seat: Seat) -> Result<Control, NoM
     match next_task(state) {
         Some(task) => {
             refuse_task(state, seat, task);
-            Ok(answered(task))
+            Ok(answered(task.proc))
         }
         None => unreachable!(),
     }
@@ -69,6 +69,7 @@ pub fn refuse<B: Block>(state: &mut State<B>, seat: Seat) -> Result<Control, NoM
 ///
 /// # Errors
 /// `NoMemory` if out of memory.
+#[inline(always)]
 pub fn carry_on<B: Block>(
     state: &mut State<B>,
     seat: Seat,

@@ -2,8 +2,9 @@ ghost use Rattle.std.specs.Prelude.{◌≡◌, ◌+◌, ◌<◌, None, IfOk, IfS
 ghost use Rattle.std.specs.Option.{option_map};
 ghost use Rattle.vm_types.specs.WellFormed.{IsWellFormedReference, IsWellFormedRequest, IsWellFormedService};
 ghost use Rattle.vm_types.specs.declared.names.ProcStatus.TheVariants as status;
+ghost use Rattle.vm_types.specs.declared.reference.Ref.{Ref};
 ghost use Rattle.vm_types.specs.declared.service.Request.{Request};
-ghost use Rattle.pager_model.specs.Lookups.{is_coming};
+ghost use Rattle.pager_model.specs.Lookups.{is_coming, is_resident};
 ghost use Rattle.pager_model.specs.Policy.{asked_move, coming_process, gone_move, resident_move};
 ghost use Rattle.vm_state.specs.History.{pager};
 ghost use Rattle.call_steps.specs.MayBegin.{empty};
@@ -130,12 +131,12 @@ fn find_for_request<B: Block>(
 fn refer<B: Block>(
     state: &mut State<B>,
     seat: Seat,
-    task: Task,
+    p: Proc,
     r: Ref,
     carrier: &mut Carrier<B>,
 ) -> Result<Option<Control>, NoMemory>
     requires steady { IsSteady state.old }
-    requires own { seat.0 ≡ (task.proc).0 }
+    requires own { seat.0 ≡ p.0 }
     requires process { seat.0 < length state.old.config.procs }
     requires formed { IsWellFormedReference r }
     requires carrier { carrier.old ≡ empty seat }
@@ -144,8 +145,8 @@ fn refer<B: Block>(
     ensures moved { IfOk result (Moves B.tells_content state.old state.new
         (resident_move state.old.config state.old.past (pager state.old) seat.0 (Request.Reference r))) }
 {
-    match advance(state, seat, task.proc, r, carrier) {
-        Next::Answered(_) => Ok(Some(answered(task))),
+    match advance(state, seat, p, r, carrier) {
+        Next::Answered(_) => Ok(Some(answered(p))),
         Next::Carry => Ok(Some(carry_reads(state, seat, ASKING, carrier)?)),
         Next::More => Ok(Some(ASKING)),
         Next::Again(why) => match why {
@@ -170,12 +171,12 @@ fn refer<B: Block>(
 fn serve_next<B: Block>(
     state: &mut State<B>,
     seat: Seat,
-    task: Task,
+    p: Proc,
     s: Service,
     carrier: &mut Carrier<B>,
 ) -> Result<Option<Control>, NoMemory>
     requires steady { IsSteady state.old }
-    requires own { seat.0 ≡ (task.proc).0 }
+    requires own { seat.0 ≡ p.0 }
     requires process { seat.0 < length state.old.config.procs }
     requires formed { IsWellFormedService s }
     requires carrier { carrier.old ≡ empty seat }
@@ -184,8 +185,8 @@ fn serve_next<B: Block>(
     ensures moved { IfOk result (Moves B.tells_content state.old state.new
         (resident_move state.old.config state.old.past (pager state.old) seat.0 (Request.Service s))) }
 {
-    match serve(state, seat, task.proc, s) {
-        ServeNext::Answered(_) => Ok(Some(answered(task))),
+    match serve(state, seat, p, s) {
+        ServeNext::Answered(_) => Ok(Some(answered(p))),
         ServeNext::More => Ok(Some(ASKING)),
         ServeNext::Again(why) => match why {
             ServeWhy::ModifiedFull => Ok(Some(write_for_room(
@@ -199,6 +200,54 @@ fn serve_next<B: Block>(
         },
         ServeNext::Room => unreachable!(),
     }
+}
+
+/// The next step for a request that isn't a reference of a resident process, by the status of its
+/// process.
+///
+/// # Errors
+/// `NoMemory` if out of memory.
+#[inline(never)]
+fn rarely<B: Block>(
+    state: &mut State<B>,
+    seat: Seat,
+    task: Task,
+    carrier: &mut Carrier<B>,
+) -> Result<Option<Control>, NoMemory>
+    requires steady { IsSteady state.old }
+    requires own { seat.0 ≡ (task.proc).0 }
+    requires process { seat.0 < length state.old.config.procs }
+    requires formed { IsWellFormedRequest task.request }
+    requires rare { (pager state.old).status (task.proc).0 ≡ status.Resident → (r : Ref) → task.request ≡ Request.Reference r → ⊥ }
+    requires carrier { carrier.old ≡ empty seat }
+    requires here { IsMoveHere state.old (asked_move state.old.config state.old.past (pager state.old) None seat.0 task.request) }
+    ensures carrier { carrier.new ≡ carrier.old }
+    ensures moved { IfOk result (Moves B.tells_content state.old state.new
+        (asked_move state.old.config state.old.past (pager state.old) None seat.0 task.request)) }
+{
+    match state.status(task.proc) {
+        ProcStatus::Resident => match task.request {
+            Request::Reference(_) => unreachable!(),
+            Request::Service(s) => serve_next(state, seat, task.proc, s, carrier),
+        },
+        ProcStatus::Leaving => leave(
+            state,
+            seat,
+            task.proc,
+            Ends::Request,
+            Doing::Asking,
+            carrier,
+        ),
+        ProcStatus::Gone => Ok(gone(state, seat)),
+        ProcStatus::Coming => come(state, seat, carrier),
+    }
+}
+
+/// Whether a process with this status is in memory.
+fn is_resident(status: ProcStatus) -> bool
+    ensures { result ≡ is_resident status }
+{
+    matches!(status, ProcStatus::Resident)
 }
 
 /// The next step for a request, by the status of its process.
@@ -222,21 +271,15 @@ fn by_status<B: Block>(
     ensures moved { IfOk result (Moves B.tells_content state.old state.new
         (asked_move state.old.config state.old.past (pager state.old) None seat.0 task.request)) }
 {
-    match state.status(task.proc) {
-        ProcStatus::Resident => match task.request {
-            Request::Reference(r) => refer(state, seat, task, r, carrier),
-            Request::Service(s) => serve_next(state, seat, task, s, carrier),
-        },
-        ProcStatus::Leaving => leave(
-            state,
-            seat,
-            task.proc,
-            Ends::Request,
-            Doing::Asking,
-            carrier,
-        ),
-        ProcStatus::Gone => Ok(gone(state, seat)),
-        ProcStatus::Coming => come(state, seat, carrier),
+    match task.request {
+        Request::Reference(r) => {
+            if is_resident(state.status(task.proc)) {
+                refer(state, seat, task.proc, r, carrier)
+            } else {
+                rarely(state, seat, task, carrier)
+            }
+        }
+        Request::Service(_) => rarely(state, seat, task, carrier),
     }
 }
 

@@ -6,4 +6,4 @@ use Rattle.serial_moves.proofs.tasks.next_task.Goals as goal
 pub returns : goal.returns
 returns g c =
     let body : c.items.result.now ≡ c.args.state.now.config.body = c.items.ensures ∙ ap (λ (x : Config). x.body) c.config.ensures in
-    c.copied.ensures ∙ (item_got c.items.result.now c.answered-count.result c.get.result c.get.ensures.lookup ∙ (λ i. slice_get (body i) (c.answered-count.ensures i)))
+    c.copied.ensures ∙ (item_got c.items.result.now c.all_answered-count.result c.get.result c.get.ensures.lookup ∙ (λ i. slice_get (body i) (c.all_answered-count.ensures i)))
