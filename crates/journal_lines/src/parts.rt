@@ -72,6 +72,7 @@ fn add_mapped<const CAP: usize>(out: &mut ArrayVec<u8, CAP>, p: Proc, a: Addr, f
 }
 
 // The value that is written or added.
+#[inline(always)]
 fn add_operand<const CAP: usize>(out: &mut ArrayVec<u8, CAP>, op: Op)
     requires { array_vec_len out.old + 9 ≤ CAP }
     ensures items { out.new.items ≡ out.old.items ++ spaced (operand_words op) }

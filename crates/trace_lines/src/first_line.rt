@@ -66,6 +66,7 @@ fn valued(access: Access, value: u32) -> Option<Op>
 }
 
 // A write or an add, with the text behind the byte 10 that ends the line.
+#[inline(always)]
 fn written(access: Access, text: &[u8]) -> Option<(Op, &[u8])>
     ensures { IfSome result (λ r. IsEndedOp access text.now r.0 r.1.now) }
 {
