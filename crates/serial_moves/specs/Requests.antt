@@ -1,5 +1,10 @@
--- The moves for a request whose process is not in memory, or lacks a frame, on a history. This project's own.
-use Rattle.std.specs.Prelude.{ℕ}
+-- What is mostly asked for, and the moves for a request whose process is not in memory, or lacks a frame. This project's own.
+use Rattle.std.specs.Prelude.{◌≡◌, ℕ, Option, None}
+use Rattle.vm_types.specs.declared.config.Task.{Task}
+use Rattle.vm_types.specs.declared.names.Proc.{Proc}
+use Rattle.vm_types.specs.declared.names.ProcStatus.TheVariants as status
+use Rattle.vm_types.specs.declared.reference.Ref.{Ref}
+use Rattle.vm_types.specs.declared.service.Request.TheVariants as request
 use Rattle.pager_model.specs.Moves.{Move, asking, rests}
 use Rattle.pager_model.specs.Policy.{come_move_by, ends_request, finding_move}
 use Rattle.pager_model.specs.Swap.{come_gives}
@@ -12,3 +17,9 @@ come_move s p = come_move_by s.config s.past (pager s) p (come_gives s.config s.
 -- a frame is found for it
 abbrev pub finding_for : History → ℕ → Move
 finding_for s p = finding_move s.config s.past (pager s) p p ends_request asking rests
+
+-- nothing is left, the process is resident, and it makes this reference
+pub record IsResidentReference (s : History) (leaving : Option Proc) (task : Task) (r : Ref) : Type 0 where
+  pub none_left : leaving ≡ None
+  pub resident : (pager s).status (task.proc).0 ≡ status.Resident
+  pub asked : task.request ≡ request.Reference r

@@ -11,7 +11,7 @@ ghost use Rattle.call_steps.specs.MayBegin.{empty};
 ghost use Rattle.serial_moves.specs.Controls.{Moves, number_of};
 ghost use Rattle.move_steps.specs.Moved.{IsMoveHere, IsSteady};
 ghost use Rattle.serial_laws.specs.Controlled.{IsLeft};
-ghost use Rattle.serial_moves.specs.Requests.{come_move, finding_for};
+ghost use Rattle.serial_moves.specs.Requests.{IsResidentReference, come_move, finding_for};
 
 use crate::carrying::{answered, carry_on, carry_reads, write_for_room};
 use crate::control::{Control, Doing, Ends};
@@ -207,8 +207,7 @@ fn serve_next<B: Block>(
 ///
 /// # Errors
 /// `NoMemory` if out of memory.
-#[inline(never)]
-fn rarely<B: Block>(
+fn by_status<B: Block>(
     state: &mut State<B>,
     seat: Seat,
     task: Task,
@@ -250,36 +249,55 @@ fn is_resident(status: ProcStatus) -> bool
     matches!(status, ProcStatus::Resident)
 }
 
-/// The next step for a request, by the status of its process.
+/// The reference that is asked for, if nothing is left and its process is resident, as mostly.
+#[inline(always)]
+fn resident_reference<B: Block>(state: &State<B>, leaving: Option<Proc>, task: Task) -> Option<Ref>
+    requires { (task.proc).0 < length state.now.config.procs }
+    ensures some { IfSome result (λ r. IsResidentReference state.now leaving task r) }
+    ensures none { result ≡ None → leaving ≡ None → (pager state.now).status (task.proc).0 ≡ status.Resident → (r : Ref) → task.request ≡ Request.Reference r → ⊥ }
+{
+    match leaving {
+        Some(_) => None,
+        None => match task.request {
+            Request::Reference(r) => {
+                if is_resident(state.status(task.proc)) {
+                    Some(r)
+                } else {
+                    None
+                }
+            }
+            Request::Service(_) => None,
+        },
+    }
+}
+
+/// The next step for a request: a process that is being left comes first. A reference of a resident
+/// process isn't here if nothing is left.
 ///
 /// # Errors
 /// `NoMemory` if out of memory.
-#[inline(always)]
-fn by_status<B: Block>(
+#[inline(never)]
+fn ask_other<B: Block>(
     state: &mut State<B>,
-    seat: Seat,
+    leaving: Option<Proc>,
     task: Task,
     carrier: &mut Carrier<B>,
 ) -> Result<Option<Control>, NoMemory>
     requires steady { IsSteady state.old }
-    requires own { seat.0 ≡ (task.proc).0 }
-    requires process { seat.0 < length state.old.config.procs }
+    requires process { (task.proc).0 < length state.old.config.procs }
     requires formed { IsWellFormedRequest task.request }
-    requires carrier { carrier.old ≡ empty seat }
-    requires here { IsMoveHere state.old (asked_move state.old.config state.old.past (pager state.old) None seat.0 task.request) }
+    requires left { IfSome leaving (λ q. IsLeft state.old.config (pager state.old) q.0) }
+    requires rare { leaving ≡ None → (pager state.old).status (task.proc).0 ≡ status.Resident → (r : Ref) → task.request ≡ Request.Reference r → ⊥ }
+    requires carrier { carrier.old ≡ empty (record { 0 = (task.proc).0 }) }
+    requires here { IsMoveHere state.old (asked_move state.old.config state.old.past (pager state.old) (option_map number_of leaving) (task.proc).0 task.request) }
     ensures carrier { carrier.new ≡ carrier.old }
     ensures moved { IfOk result (Moves B.tells_content state.old state.new
-        (asked_move state.old.config state.old.past (pager state.old) None seat.0 task.request)) }
+        (asked_move state.old.config state.old.past (pager state.old) (option_map number_of leaving) (task.proc).0 task.request)) }
 {
-    match task.request {
-        Request::Reference(r) => {
-            if is_resident(state.status(task.proc)) {
-                refer(state, seat, task.proc, r, carrier)
-            } else {
-                rarely(state, seat, task, carrier)
-            }
-        }
-        Request::Service(_) => rarely(state, seat, task, carrier),
+    let seat = Seat(task.proc.0);
+    match leaving {
+        Some(q) => leave(state, seat, q, Ends::Request, Doing::Asking, carrier),
+        None => by_status(state, seat, task, carrier),
     }
 }
 
@@ -304,9 +322,8 @@ pub fn ask<B: Block>(
     ensures moved { IfOk result (Moves B.tells_content state.old state.new
         (asked_move state.old.config state.old.past (pager state.old) (option_map number_of leaving) (task.proc).0 task.request)) }
 {
-    let seat = Seat(task.proc.0);
-    match leaving {
-        Some(q) => leave(state, seat, q, Ends::Request, Doing::Asking, carrier),
-        None => by_status(state, seat, task, carrier),
+    if let Some(r) = resident_reference(state, leaving, task) {
+        return refer(state, Seat(task.proc.0), task.proc, r, carrier);
     }
+    ask_other(state, leaving, task, carrier)
 }

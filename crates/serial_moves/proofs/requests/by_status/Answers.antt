@@ -1,32 +1,57 @@
-use Rattle.std.proofs.Common.{◌<◌, ℕ, ap, length, subst, sym, ◌∙◌}
-use Rattle.std.proofs.lemmas.Bool.{false≢true}
+use Rattle.std.proofs.Common.{◌<◌, ℕ, arith, length, subst, sym}
 use Rattle.vm_types.specs.WellFormed.{IsWellFormedRequest}
 use Rattle.vm_types.specs.declared.service.Request.{Request}
-use Rattle.pager_model.specs.Lookups.{is_resident}
-use Rattle.call_steps.proofs.ReadySeats.{is_in_memory}
-use Rattle.serial_moves.proofs.AskedMoves.{asked_reference, not_both}
-use Rattle.serial_moves.proofs.SteadySeats.{here_as, leads_as}
+use Rattle.serial_moves.proofs.AskedMoves.{asked_coming, asked_gone, asked_leaving, asked_service, is_coming_there}
+use Rattle.serial_moves.proofs.SteadySeats.{goes_as, here_as, leads_as}
 use Rattle.serial_moves.proofs.requests.by_status.Goals as goal
 
 pub status-requires-after_bounds : goal.status-requires-after_bounds
 status-requires-after_bounds g c κs within = subst (λ (n : ℕ). n < length c.args.state.now.config.procs) c.requires.own c.requires.process
 
--- ---- a reference of a resident process
-pub refer-requires-clause-formed : goal.refer-requires-clause-formed
-refer-requires-clause-formed g c κs within = subst (λ (x : Request). IsWellFormedRequest x) c.in-Reference.is c.requires.formed
+-- ---- it is resident
+pub serve_next-requires-clause-formed : goal.serve_next-requires-clause-formed
+serve_next-requires-clause-formed g c κs within = subst (λ (x : Request). IsWellFormedRequest x) c.in-Service.is c.requires.formed
 
-pub refer-requires-clause-here : goal.refer-requires-clause-here
-refer-requires-clause-here g c κs within =
-    here_as c.args.state.now _ _ (asked_reference c.args.state.now (c.args.seat).0 (c.args.task.proc).0 c.requires.own c.args.task.request c.in-Reference.r (sym (is_in_memory _ (ap is_resident (sym c.status.ensures) ∙ (sym c.is_resident.ensures ∙ c.if-is_resident.true)))) c.in-Reference.is) c.requires.here
+pub serve_next-requires-clause-here : goal.serve_next-requires-clause-here
+serve_next-requires-clause-here g c κs within = here_as c.args.state.now _ _ (asked_service c.args.state.now (c.args.seat).0 (c.args.task.proc).0 c.requires.own c.args.task.request c.in-Service.s c.in-Resident.ensures c.in-Service.is) c.requires.here
 
-pub returns-then-is_resident-clause-moved : goal.returns-then-is_resident-clause-moved
-returns-then-is_resident-clause-moved g c =
-    leads_as g.B.Block.tells_content c.args.state.now c.refer.new.state _ _ c.refer.result
-    (asked_reference c.args.state.now (c.args.seat).0 (c.args.task.proc).0 c.requires.own c.args.task.request c.in-Reference.r (sym (is_in_memory _ (ap is_resident (sym c.status.ensures) ∙ (sym c.is_resident.ensures ∙ c.if-is_resident.true)))) c.in-Reference.is) c.refer.ensures.moved
+pub returns-in-Service-clause-moved : goal.returns-in-Service-clause-moved
+returns-in-Service-clause-moved g c =
+    leads_as g.B.Block.tells_content c.args.state.now c.serve_next.new.state _ _ c.serve_next.result (asked_service c.args.state.now (c.args.seat).0 (c.args.task.proc).0 c.requires.own c.args.task.request c.in-Service.s c.in-Resident.ensures c.in-Service.is) c.serve_next.ensures.moved
 
--- ---- another request
-pub rarely-requires-clause-rare : goal.rarely-requires-clause-rare
-rarely-requires-clause-rare g c κs within = λ resident r is. false≢true (sym c.if-is_resident.false ∙ (c.is_resident.ensures ∙ ap is_resident (c.status.ensures ∙ resident)))
+-- ---- it is leaving
+pub leave-requires-clause-seat : goal.leave-requires-clause-seat
+leave-requires-clause-seat g c κs within = let process = c.requires.process in omega (arith, process)
 
-pub rarely-requires-in-Service-clause-rare : goal.rarely-requires-in-Service-clause-rare
-rarely-requires-in-Service-clause-rare g c κs within = λ resident r is. not_both c.in-Service.field-0 r (sym c.in-Service.is ∙ is)
+pub leave-requires-clause-process : goal.leave-requires-clause-process
+leave-requires-clause-process g c κs within = subst (λ (n : ℕ). n < length c.args.state.now.config.procs) c.requires.own c.requires.process
+
+pub leave-requires-clause-leaving : goal.leave-requires-clause-leaving
+leave-requires-clause-leaving g c κs within = sym c.in-Leaving.ensures
+
+pub leave-requires-clause-here : goal.leave-requires-clause-here
+leave-requires-clause-here g c κs within = here_as c.args.state.now _ _ (asked_leaving c.args.state.now (c.args.seat).0 (c.args.task.proc).0 c.requires.own c.args.task.request c.in-Leaving.ensures) c.requires.here
+
+pub returns-in-Leaving-clause-moved : goal.returns-in-Leaving-clause-moved
+returns-in-Leaving-clause-moved g c = leads_as g.B.Block.tells_content c.args.state.now c.leave.new.state _ _ c.leave.result (asked_leaving c.args.state.now (c.args.seat).0 (c.args.task.proc).0 c.requires.own c.args.task.request c.in-Leaving.ensures) c.leave.ensures.moved
+
+-- ---- it is gone
+pub gone-requires-clause-here : goal.gone-requires-clause-here
+gone-requires-clause-here g c κs within = here_as c.args.state.now _ _ (asked_gone c.args.state.now (c.args.seat).0 (c.args.task.proc).0 c.requires.own c.args.task.request c.in-Gone.ensures) c.requires.here
+
+pub returns-in-Gone-clause-moved : goal.returns-in-Gone-clause-moved
+returns-in-Gone-clause-moved g c = goes_as g.B.Block.tells_content c.args.state.now c.gone.new.state _ _ c.gone.result (asked_gone c.args.state.now (c.args.seat).0 (c.args.task.proc).0 c.requires.own c.args.task.request c.in-Gone.ensures) c.gone.ensures
+
+-- ---- it is coming
+pub come-requires-clause-coming : goal.come-requires-clause-coming
+come-requires-clause-coming g c κs within = is_coming_there c.args.state.now (c.args.seat).0 (c.args.task.proc).0 c.requires.own c.args.task.request c.in-Coming.ensures
+
+pub come-requires-clause-here : goal.come-requires-clause-here
+come-requires-clause-here g c κs within = here_as c.args.state.now _ _ (asked_coming c.args.state.now (c.args.seat).0 (c.args.task.proc).0 c.requires.own c.args.task.request c.in-Coming.ensures) c.requires.here
+
+pub returns-in-Coming-clause-moved : goal.returns-in-Coming-clause-moved
+returns-in-Coming-clause-moved g c = leads_as g.B.Block.tells_content c.args.state.now c.come.new.state _ _ c.come.result (asked_coming c.args.state.now (c.args.seat).0 (c.args.task.proc).0 c.requires.own c.args.task.request c.in-Coming.ensures) c.come.ensures.moved
+
+-- ---- a reference of a resident process isn't here
+pub unreachable-requires : goal.unreachable-requires
+unreachable-requires g c = c.requires.rare (sym c.in-Resident.ensures) c.in-Reference.field-0 c.in-Reference.is
