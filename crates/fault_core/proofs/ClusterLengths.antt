@@ -26,14 +26,14 @@ front_most (true ∷ bs) (suc k) within each = omega (arith, front_most bs k (om
 front_most (false ∷ bs) (suc k) within each = absurd (false≢true (All-head IsTrue false (take k bs) each))
 
 -- the lesser and the greater of two numbers
-lesser_is : (m n : ℕ) → (lesser m n ≤ m) × (lesser m n ≤ n) × ((k : ℕ) → k ≤ m → k ≤ n → k ≤ lesser m n)
+pub lesser_is : (m n : ℕ) → (lesser m n ≤ m) × (lesser m n ≤ n) × ((k : ℕ) → k ≤ m → k ≤ n → k ≤ lesser m n)
 lesser_is m n = go (nat_le m n) refl
   where
     go : (b : Bool) → nat_le m n ≡ b → (cond b m n ≤ m) × (cond b m n ≤ n) × ((k : ℕ) → k ≤ m → k ≤ n → k ≤ cond b m n)
     go true is = (omega arith, leb-true m n is, λ k first second. first)
     go false is = (let less = leb-false m n is in omega (arith, less), omega arith, λ k first second. second)
 
-greater_is : (m n : ℕ) → greater m n ≡ max m n
+pub greater_is : (m n : ℕ) → greater m n ≡ max m n
 greater_is m n = go (nat_le m n) refl
   where
     go : (b : Bool) → nat_le m n ≡ b → cond b n m ≡ max m n

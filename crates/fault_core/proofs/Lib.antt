@@ -7,3 +7,4 @@ pub mod ClusterReads
 pub mod ClusterLengths
 pub mod Windows
 pub mod Advances
+pub mod Alone

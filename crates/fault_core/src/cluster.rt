@@ -1,4 +1,4 @@
-ghost use Rattle.std.specs.Prelude.{◌≡◌, ◌+◌, ◌≤◌, ◌<◌, ◌^◌, ◌&&◌, Some, length, nat_lt, not, slice_get, true};
+ghost use Rattle.std.specs.Prelude.{◌≡◌, ◌+◌, ◌≤◌, ◌<◌, ◌^◌, ◌&&◌, ◌||◌, Some, length, nat_lt, not, slice_get, true};
 ghost use Rattle.vm_types.specs.Configuration.{IsBlock, IsWellFormed};
 ghost use Rattle.vm_types.specs.declared.names.BlockId.TheVariants as block;
 ghost use Rattle.vm_types.specs.declared.names.Page.{Page};
@@ -137,6 +137,15 @@ fn reach<B: Block>(state: &State<B>, x: Sought) -> u32
     } else {
         state.config().params.pfc
     }
+}
+
+/// Whether the faulting page is read alone, whatever may follow it: too few frames are free for another
+/// page, or a cluster reaches no further.
+pub fn is_alone<B: Block>(state: &State<B>, x: Sought) -> bool
+    requires { (is_private x.page && not (x.backing).charged) ≡ is_uncharged (pager state.now) x.page }
+    ensures { result ≡ (nat_lt (length (pager state.now).free) 3 || nat_lt (reach_of state.now.config (pager state.now) x.page) 2) }
+{
+    state.free_len() < 3 || reach(state, x) < 2
 }
 
 /// Whether a next place is looked at: the page of the last one was out, and fewer places were looked at

@@ -51,6 +51,7 @@ pub fn held<B: Block>(
 }
 
 /// The page is in a frame: it comes back, and the reference is answered.
+#[inline(always)]
 fn back<B: Block>(
     state: &mut State<B>,
     seat: Seat,

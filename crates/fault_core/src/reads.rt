@@ -12,7 +12,7 @@ ghost use Rattle.fault_core.specs.SoughtPage.{IsSought};
 ghost use Rattle.fault_core.specs.Gives.{Gives, MayGive};
 ghost use Rattle.call_steps.specs.ReadySeat.{IsReadySeat};
 
-use crate::cluster::{block_after, cluster};
+use crate::cluster::{block_after, cluster, is_alone};
 use crate::next::Next;
 use crate::sought::Sought;
 use crate::waits::page_start;
@@ -24,6 +24,33 @@ use vm_types::{BlockId, Proc, Ref, Seat};
 
 /// The page is read from its block, with its cluster.
 pub fn read_in<B: Block>(
+    state: &mut State<B>,
+    seat: Seat,
+    r: Ref,
+    x: Sought,
+    b: BlockId,
+    carrier: &mut Carrier<B>,
+) -> Next
+    requires ready { IsReadySeat state.old seat }
+    requires formed { IsWellFormedReference r }
+    requires sought { IsSought state.old seat r x }
+    requires may { MayGive state.old seat (at_frame state.old seat r x.page (Some b)) }
+    requires carrier { carrier.old ≡ empty seat }
+    requires exists { IsBlock state.old.config b }
+    requires free { 1 ≤ length (pager state.old).free }
+    ensures { Gives B.content B.plan B.reads B.writes B.faults B.tells_content B.tells_plan
+        state.old state.new seat r (at_frame state.old seat r x.page (Some b)) result carrier.old carrier.new }
+{
+    if is_alone(state, x) {
+        let fault = Role::Fault(Proc(seat.0), page_start(r));
+        read_one(state, seat, b, fault, carrier);
+        return Next::Carry;
+    }
+    read_cluster(state, seat, r, x, b, carrier)
+}
+
+/// The page and those that follow it are read, from their blocks.
+fn read_cluster<B: Block>(
     state: &mut State<B>,
     seat: Seat,
     r: Ref,

@@ -1,6 +1,8 @@
 pub mod Blocks
 pub mod Numbers
 pub mod Home
+pub mod Place
+pub mod Frame
 pub mod StoreView
 pub mod LiftView
 pub mod Loans

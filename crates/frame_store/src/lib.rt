@@ -2,10 +2,12 @@
 //! of both.
 #![tactic(auto)]
 
+mod frame;
 mod home;
 mod lift;
 mod numbers;
 mod opening;
+mod place;
 mod store;
 
 pub use lift::{Carried, Lift};

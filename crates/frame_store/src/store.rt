@@ -2,9 +2,10 @@ ghost use Rattle.std.specs.Prelude.{◌≡◌, ◌+◌, ◌-◌, ◌*◌, ◌<�
 ghost use Rattle.std.specs.Borrow.{sem};
 ghost use Rattle.vm_types.specs.declared.names.BlockId.{BlockId};
 
+use crate::frame::Frame;
 use crate::home::Home;
 use crate::lift::{Lift, Stage};
-use crate::opening::zero_buffers;
+use crate::opening::zero_frames;
 use disk_trait::Block;
 use page_pool::{PageBuf, Pool};
 use pfn_database::Pfns;
@@ -18,7 +19,7 @@ use vm_types::{BlockId, Config, NoMemory, Page, Pfn, Seat};
 pub struct Store<B: Block> {
     frames: Pfns,
     pool: Pool,
-    buffers: Vec<Option<PageBuf>>,
+    buffers: Vec<Frame>,
     home: Home<B>,
     flights: Vec<Option<u64>>,
 }
@@ -71,7 +72,7 @@ impl<B: Block> Store<B> {
         let frames = Pfns::new(alloc, config.frames, config.bad.items())?;
         let spare = 16 * (config.procs.items().len() as u32 + 2);
         let mut pool = Pool::new(alloc, config.frames + spare)?;
-        let buffers = zero_buffers(alloc, &mut pool, config.frames)?;
+        let buffers = zero_frames(alloc, &mut pool, config.frames)?;
         let home = Home::new(alloc, config, blocks)?;
         let flights = vec![in alloc; None; config.frames as usize]?;
         Ok(Store {
@@ -119,7 +120,7 @@ impl<B: Block> Store<B> {
         ensures bytes { held_at self.now.buffers f.0 ≡ Some result.now }
         ensures size { length result.now ≡ 512 }
     {
-        self.buffers[f.0 as usize].as_ref().unwrap().bytes()
+        self.buffers[f.0 as usize].bytes()
     }
 
     /// The same bytes, to be written.
@@ -129,7 +130,7 @@ impl<B: Block> Store<B> {
         ensures bytes { held_at self.old.buffers f.0 ≡ Some result.now }
         ensures size { length result.now ≡ 512 }
     {
-        self.buffers[f.0 as usize].as_mut().unwrap().bytes_mut()
+        self.buffers[f.0 as usize].bytes_mut()
     }
 
     /// Makes the bytes of a frame zero whose buffer isn't out.
@@ -139,8 +140,7 @@ impl<B: Block> Store<B> {
           buffers = slice_set self.old.buffers f.0 (Some (replicate 512 0));
         } }
     {
-        let place = &mut self.buffers[f.0 as usize];
-        zero_in(place);
+        self.buffers[f.0 as usize].zero();
     }
 
     /// Lifts a block that isn't out and the buffer of its page's frame, to read the block into it. The
@@ -157,7 +157,7 @@ impl<B: Block> Store<B> {
         ensures held { held_at self.old.blocks (number_in self.old.ids id) ≡ Some result.held }
         ensures size { length result.buffer ≡ 512 }
     {
-        let buf = self.buffers[f.0 as usize].take().unwrap();
+        let buf = self.buffers[f.0 as usize].take();
         let block = self.home.take(id);
         self.flights[f.0 as usize] = Some(start);
         // The proof learns here that there are 512 bytes.
@@ -191,7 +191,7 @@ impl<B: Block> Store<B> {
         ensures held { held_at self.old.blocks (number_in self.old.ids id) ≡ Some result.held }
         ensures size { length result.buffer ≡ 512 }
     {
-        let buf = copy(&mut self.pool, &self.buffers[f.0 as usize]);
+        let buf = self.buffers[f.0 as usize].copy(&mut self.pool);
         let block = self.home.take(id);
         self.flights[f.0 as usize] = Some(start);
         Lift {
@@ -246,41 +246,15 @@ impl<B: Block> Store<B> {
     }
 }
 
-/// Makes the bytes of a buffer zero.
-fn zero_in(place: &mut Option<PageBuf>)
-    requires { IsSome place.old }
-    ensures { IfSome place.old (λ b. place.new ≡ Some (record b { bytes = replicate 512 0 })) }
-{
-    if let Some(buf) = place {
-        buf.zero();
-    }
-}
-
-/// A buffer of the pool with the same bytes.
-fn copy(pool: &mut Pool, place: &Option<PageBuf>) -> PageBuf
-    requires left { 0 < pool.old.left }
-    requires some { IsSome place.now }
-    ensures name { pool.new.name ≡ pool.old.name }
-    ensures left { pool.new.left + 1 ≡ pool.old.left }
-    ensures pool { result.pool ≡ pool.old.name }
-    ensures bytes { IfSome place.now (λ b. result.bytes ≡ b.bytes) }
-    ensures size { length result.bytes ≡ 512 }
-{
-    let buf = pool.take_copy(place.as_ref().unwrap()).unwrap();
-    // The proof learns here that there are 512 bytes.
-    let _ = buf.bytes();
-    buf
-}
-
 /// Puts a buffer into its place after a read, else back into its pool.
-fn put_back(pool: &mut Pool, place: &mut Option<PageBuf>, buf: PageBuf, read: bool)
+fn put_back(pool: &mut Pool, place: &mut Frame, buf: PageBuf, read: bool)
     requires { buf.pool ≡ pool.old.name }
     ensures name { pool.new.name ≡ pool.old.name }
     ensures left { pool.new.left ≡ (if read then pool.old.left else pool.old.left + 1) }
     ensures place { place.new ≡ (if read then Some buf else place.old) }
 {
     if read {
-        *place = Some(buf);
+        *place = Frame::new(buf);
     } else {
         pool.put(buf);
     }

@@ -2,7 +2,7 @@ ghost use Rattle.std.specs.Prelude.{◌≡◌, ◌++◌, ◌≤◌, length, drop
 ghost use Rattle.page_pool.specs.LazyBuf.{IsThere, bytes_of};
 
 use crate::page_buf::PageBuf;
-use crate::spare::Spare;
+use crate::spare_buf::SpareBuf;
 use std::marker::Model;
 use std::mem;
 
@@ -13,7 +13,7 @@ const ZEROS: [u8; 512] = [0; 512];
 #[derive(Drop)]
 pub(crate) enum Place {
     /// Nowhere: they are zeros, and there is a part for them.
-    Spare(Spare),
+    Spare(SpareBuf),
     /// In this buffer.
     Buffer(PageBuf),
     /// Out, while they are written.
@@ -40,7 +40,7 @@ impl Model for LazyBuf {
 
 impl LazyBuf {
     /// A buffer of zeros in a part that isn't written yet.
-    pub(crate) fn new(spare: Spare) -> LazyBuf
+    pub(crate) fn new(spare: SpareBuf) -> LazyBuf
         ensures { result ≡ replicate 512 0 }
     {
         LazyBuf {
@@ -90,9 +90,7 @@ fn filled(place: Place) -> PageBuf
 {
     match place {
         Place::Buffer(buf) => buf,
-        Place::Spare(spare) => PageBuf {
-            part: spare.fill([0; 512]),
-        },
+        Place::Spare(spare) => spare.fill(),
         Place::Out => unreachable!(),
     }
 }

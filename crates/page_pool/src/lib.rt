@@ -7,7 +7,9 @@ mod part;
 mod pool;
 mod region;
 mod spare;
+mod spare_buf;
 
 pub use lazy_buf::LazyBuf;
 pub use page_buf::PageBuf;
 pub use pool::Pool;
+pub use spare_buf::SpareBuf;

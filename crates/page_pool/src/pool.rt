@@ -3,6 +3,7 @@ ghost use Rattle.std.specs.Prelude.{◌≡◌, ◌+◌, ◌≤◌, ◌↔◌, Is
 use crate::lazy_buf::LazyBuf;
 use crate::page_buf::PageBuf;
 use crate::region::{Deed, Region};
+use crate::spare_buf::SpareBuf;
 use std::alloc::Global;
 use std::marker::Model;
 use vm_types::NoMemory;
@@ -90,6 +91,19 @@ impl Pool {
         Some(PageBuf { part })
     }
 
+    /// Takes a buffer out that isn't written yet, or returns `None` if none is left. Doesn't allocate.
+    pub fn take_spare(&mut self) -> Option<SpareBuf>
+        ensures none { IsNone result ↔ (self.old.left ≡ 0) }
+        ensures pool { IfSome result (λ buf. buf ≡ self.old.name) }
+        ensures some { OnSome result (self.new.left + 1 ≡ self.old.left) }
+        ensures unchanged { IfNone result (self.new ≡ self.old) }
+        ensures name { self.new.name ≡ self.old.name }
+    {
+        let number = self.free.pop()?;
+        let spare = self.region.lend(number);
+        Some(SpareBuf { spare })
+    }
+
     /// Takes a buffer of zeros out whose memory isn't touched, or returns `None` if none is left. It doesn't
     /// come back. Doesn't allocate.
     pub fn take_lazy(&mut self) -> Option<LazyBuf>
@@ -99,8 +113,8 @@ impl Pool {
         ensures unchanged { IfNone result (self.new ≡ self.old) }
         ensures name { self.new.name ≡ self.old.name }
     {
-        let number = self.free.pop()?;
-        Some(LazyBuf::new(self.region.lend(number)))
+        let spare = self.take_spare()?;
+        Some(LazyBuf::new(spare))
     }
 
     /// Takes a buffer of this pool back. Doesn't allocate.

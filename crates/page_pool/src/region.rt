@@ -71,6 +71,7 @@ impl Region {
         requires { (rest : List ℕ) × (self.old.numbers ≡ rest ++ number ∷ []) }
         ensures numbers { self.old.numbers ≡ self.new.numbers ++ number ∷ [] }
         ensures same { (self.new.start ≡ self.old.start) × (self.new.size ≡ self.old.size) × (self.new.name ≡ self.old.name) }
+        ensures part { (result.name ≡ self.old.name) × (result.size ≡ self.old.size) }
     {
         unsafe {
             let at = self.start.add(number as usize);

@@ -26,7 +26,7 @@ impl Model for Spare {
 impl Spare {
     /// The same part, with these bytes.
     pub(crate) fn fill(self, bytes: [u8; 512]) -> Part
-        ensures { result.bytes ≡ bytes }
+        ensures { (result.name ≡ self.name) × (result.size ≡ self.size) × (result.bytes ≡ bytes) }
     {
         let Spare { at, number } = self;
         unsafe {

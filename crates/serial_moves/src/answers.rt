@@ -40,10 +40,10 @@ pub fn ask_next<B: Block>(
     ensures moved { IfOk result (Moves B.tells_content state.old state.new
         (asking_move state.old.config state.old.past (pager state.old) (option_map number_of leaving))) }
 {
-    match next_task(state) {
-        Some(task) => ask(state, leaving, task, &mut carriers[task.proc.0 as usize]),
-        None => Ok(None),
+    if let Some(task) = next_task(state) {
+        return ask(state, leaving, task, &mut carriers[task.proc.0 as usize]);
     }
+    Ok(None)
 }
 
 /// Whether the free list is shorter than the swapper wants.

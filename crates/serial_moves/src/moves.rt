@@ -32,8 +32,8 @@ pub fn make_move<B: Block>(
 {
     prepare(state)?;
     match after_answer(state, c, carriers)? {
-        AfterAnswer::Made(next) => Ok(next),
-        AfterAnswer::Over(leaving) => ask_next(state, leaving, carriers),
+        AfterAnswer::Made(next) => return Ok(next),
+        AfterAnswer::Over(leaving) => return ask_next(state, leaving, carriers),
     }
 }
 

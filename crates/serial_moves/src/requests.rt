@@ -146,19 +146,15 @@ fn refer<B: Block>(
         (resident_move state.old.config state.old.past (pager state.old) seat.0 (Request.Reference r))) }
 {
     match advance(state, seat, p, r, carrier) {
-        Next::Answered(_) => Ok(Some(answered(p))),
-        Next::Carry => Ok(Some(carry_reads(state, seat, ASKING, carrier)?)),
-        Next::More => Ok(Some(ASKING)),
+        Next::Answered(_) => return Ok(Some(answered(p))),
+        Next::Carry => return Ok(Some(carry_reads(state, seat, ASKING, carrier)?)),
+        Next::More => return Ok(Some(ASKING)),
         Next::Again(why) => match why {
-            AgainWhy::ModifiedFull => Ok(Some(write_for_room(
-                state,
-                seat,
-                Ends::Request,
-                ASKING,
-                carrier,
-            )?)),
-            AgainWhy::NoFrame => find_for_request(state, seat, carrier),
-            _ => Ok(None),
+            AgainWhy::ModifiedFull => {
+                return Ok(Some(write_for_room(state, seat, Ends::Request, ASKING, carrier)?));
+            }
+            AgainWhy::NoFrame => return find_for_request(state, seat, carrier),
+            _ => return Ok(None),
         },
         Next::Room => unreachable!(),
     }

@@ -286,13 +286,20 @@ fn carries_transfers(rt: HostRuntime) -> Result<(), Fail> {
         (Pfn(0), swap, true, Some(Carried::Good)),
         (Pfn(9), BlockId::PageFile(0), true, Some(Carried::Good)),
         (Pfn(9), BlockId::PageFile(16_384), true, None),
+        // No byte of this frame was written.
+        (
+            Pfn(11),
+            BlockId::PageFile(16_383),
+            false,
+            Some(Carried::Good),
+        ),
     ];
     let mut calls = 0;
     for (f, id, read, expected) in rows {
         assert_eq!(rt; transfer(&mut store, calls, f, id, read), expected);
         calls += 1;
     }
-    for (f, byte) in [(0, 7), (9, 0), (4095, 0)] {
+    for (f, byte) in [(0, 7), (9, 0), (11, 0), (4095, 0)] {
         assert!(rt; is_filled(&store, Pfn(f), byte));
     }
     let back = store.into_blocks();

@@ -6,15 +6,18 @@ fn is_send<T: Send>(_value: &T) {}
 
 #[test]
 fn buffers_are_apart(rt: HostRuntime) -> Result<(), Fail> {
-    let mut pool = Pool::new(rt.alloc(), 4)?;
+    let mut pool = Pool::new(rt.alloc(), 5)?;
     is_send(&pool);
-    let mut first = pool.take().ok_or("four are left")?;
-    let mut second = pool.take().ok_or("three are left")?;
+    let mut first = pool.take().ok_or("five are left")?;
+    let mut second = pool.take().ok_or("four are left")?;
+    let spare = pool.take_spare().ok_or("three are left")?;
     let mut third = pool.take_lazy().ok_or("two are left")?;
     let fourth = pool.take_lazy().ok_or("one is left")?;
     assert!(rt; pool.take_lazy().is_none());
+    assert!(rt; pool.take_spare().is_none());
     is_send(&first);
     is_send(&third);
+    is_send(&spare);
     first.bytes_mut().fill(1);
     second.bytes_mut().fill(2);
     third.write(&[3; 512]);
@@ -25,6 +28,11 @@ fn buffers_are_apart(rt: HostRuntime) -> Result<(), Fail> {
     assert_eq!(rt; &third.bytes()[256..], [3; 256].as_slice());
     assert_eq!(rt; fourth.bytes(), [0; 512].as_slice());
     assert!(rt; pool.take().is_none());
+    let filled = spare.fill();
+    assert_eq!(rt; filled.bytes(), [0; 512].as_slice());
+    pool.put(filled);
+    let fifth = pool.take().ok_or("the filled one is back")?;
+    assert_eq!(rt; first.bytes(), [1; 512].as_slice());
     pool.put(second);
     let mut again = pool.take().ok_or("one is back")?;
     again.zero();
@@ -37,6 +45,7 @@ fn buffers_are_apart(rt: HostRuntime) -> Result<(), Fail> {
     assert_eq!(rt; first.bytes(), [1; 512].as_slice());
     assert!(rt; pool.take_copy(&first).is_none());
     drop(pool);
+    drop(fifth);
     assert_eq!(rt; third.bytes()[511], 3);
     Ok(())
 }

@@ -1,5 +1,6 @@
 -- One more byte, process, process's mappings, reference.
-use Rattle.std.proofs.Common.{◌≡◌, ℕ, ◌+◌, ◌/◌, ◌%◌, [], ◌∷◌, ◌++◌, refl, add-one}
+use Rattle.std.proofs.Common.{◌≡◌, ℕ, zero, suc, ◌+◌, ◌-◌, ◌/◌, ◌%◌, ◌<◌, List, [], ◌∷◌, ◌++◌, length, replicate, slice_set, refl, sym, ap, ◌∙◌, arith, add-one}
+use Rattle.std.proofs.lemmas.List.{length-append}
 use Rattle.vm_types.specs.declared.config.Origin.TheVariants as origin
 use Rattle.trace_maker.specs.Draws.{after_six, task_from}
 use Rattle.trace_maker.specs.Made.{pattern, made_process, made_procs, made_map, made_maps, state_after, made_body}
@@ -11,6 +12,33 @@ pattern_none = refl
 pub pattern_more : (n : ℕ) → pattern (n + 1) ≡ pattern n ++ ((n / 512 + n % 512) % 256) ∷ []
 unfolding pattern
 pattern_more n = rw add-one refl
+
+pub pattern_long : (n : ℕ) → length (pattern n) ≡ n
+unfolding pattern
+pattern_long zero = refl
+pattern_long (suc n) = length-append (pattern n) (((n / 512 + n % 512) % 256) ∷ []) ∙ omega (arith, pattern_long n)
+
+set_next : (xs ys : List ℕ) (y x : ℕ) → slice_set (xs ++ y ∷ ys) (length xs) x ≡ (xs ++ x ∷ []) ++ ys
+set_next [] ys y x = refl
+set_next (z ∷ xs) ys y x = ap (λ zs. z ∷ zs) (set_next xs ys y x)
+
+zeros_left : (m n : ℕ) → n < m → replicate {A = ℕ} (m - n) 0 ≡ 0 ∷ replicate (m - (n + 1)) 0
+zeros_left m n less = let left : m - n ≡ suc (m - (n + 1)) = omega (arith, less) in ap (λ k. replicate {A = ℕ} k 0) left
+
+-- the next byte in the place of the first zero
+pub pattern_set : (m n : ℕ) → n < m → slice_set (pattern n ++ replicate (m - n) 0) n ((n / 512 + n % 512) % 256) ≡ pattern (n + 1) ++ replicate (m - (n + 1)) 0
+pattern_set m n less =
+    let x = (n / 512 + n % 512) % 256 in
+    ap (λ ys. slice_set (pattern n ++ ys) n x) (zeros_left m n less)
+    ∙ ap (λ k. slice_set (pattern n ++ 0 ∷ replicate (m - (n + 1)) 0) k x) (sym (pattern_long n))
+    ∙ set_next (pattern n) (replicate (m - (n + 1)) 0) 0 x
+    ∙ ap (λ ys. ys ++ replicate (m - (n + 1)) 0) (sym (pattern_more n))
+
+-- no byte yet
+pub pattern_start : (m : ℕ) → replicate {A = ℕ} m 0 ≡ pattern 0 ++ replicate (m - 0) 0
+pattern_start m =
+    let all : m ≡ m - 0 = omega arith in
+    ap (λ k. replicate {A = ℕ} k 0) all ∙ ap (λ xs. xs ++ replicate (m - 0) 0) (sym pattern_none)
 
 pub procs_none : made_procs 0 ≡ []
 unfolding made_procs

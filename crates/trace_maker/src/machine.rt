@@ -5,15 +5,14 @@ use std::alloc::Global;
 use vm_types::{Addr, Listed, Mapping, NoMemory, Origin, Proc, ProcSpec, SecId, Section};
 
 // The first bytes of a section.
-#[tactic(auto, using(crate::proofs::Growing::pattern_none, crate::proofs::Growing::pattern_more))]
 fn bytes_of(alloc: Global, count: u32) -> Result<Listed<u8>, NoMemory>
     ensures { IfOk result (λ bytes. bytes ≡ pattern count) }
 {
-    let mut bytes = Listed::new(alloc);
+    let mut bytes = vec![in alloc; 0; count as usize]?;
     for n in 0..count {
-        bytes.push(((n / 512 + n % 512) % 256) as u8)?;
+        bytes[n as usize] = ((n / 512 + n % 512) % 256) as u8;
     }
-    Ok(bytes)
+    Ok(Listed::of(bytes))
 }
 
 fn section(alloc: Global, name: &[u8], shared: bool, pages: u32) -> Result<Section, NoMemory>

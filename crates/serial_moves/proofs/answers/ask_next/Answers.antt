@@ -1,4 +1,4 @@
-use Rattle.std.proofs.Common.{Some, None, sym}
+use Rattle.std.proofs.Common.{◌∙◌, Some, None, sym}
 use Rattle.std.specs.Option.{option_map}
 use Rattle.vm_state.specs.History.{pager}
 use Rattle.serial_laws.proofs.Walks.{task_formed}
@@ -33,5 +33,6 @@ returns-in-Some-clause-moved g c =
     moved_as g.B.Block.tells_content c.args.state.now c.ask.new.state _ _ c.ask.result
     (asks_task c.args.state.now.config c.args.state.now.past (pager c.args.state.now) (option_map number_of c.args.leaving) (Some c.in-Some.task) c.in-Some.ensures) c.ask.ensures.moved
 
-pub returns-in-None-clause-moved : goal.returns-in-None-clause-moved
-returns-in-None-clause-moved g c = rests_here c.args.state.now _ (asks_task c.args.state.now.config c.args.state.now.past (pager c.args.state.now) (option_map number_of c.args.leaving) None c.in-None.ensures)
+pub returns-clause-moved : goal.returns-clause-moved
+returns-clause-moved g c =
+    rests_here c.args.state.now _ (asks_task c.args.state.now.config c.args.state.now.past (pager c.args.state.now) (option_map number_of c.args.leaving) None (sym c.in_default.is ∙ c.next_task.ensures))

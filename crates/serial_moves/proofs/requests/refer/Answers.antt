@@ -24,8 +24,8 @@ carry_reads-requires-clause-loaded g c κs within = advance_loaded c.args.state.
 pub carry_reads-requires-clause-may : goal.carry_reads-requires-clause-may
 carry_reads-requires-clause-may g c κs within = advance_may c.args.state.now c.advance.new.state c.args.seat c.args.r c.args.p.0 c.requires.own (c.in-Carry.ensures.gives (has_room c.args.state.now c.requires.steady)) c.requires.steady c.requires.here
 
-pub returns-in_ok-carry_reads-in-Carry-clause-moved : goal.returns-in_ok-carry_reads-in-Carry-clause-moved
-returns-in_ok-carry_reads-in-Carry-clause-moved g c = advance_carried c.args.state.now c.advance.new.state c.args.seat c.args.r c.args.p.0 c.requires.own (c.in-Carry.ensures.gives (has_room c.args.state.now c.requires.steady)) c.carry_reads.new.state _ c.in_ok-carry_reads-in-Carry.ensures.carried
+pub returns-in-Carry-clause-moved : goal.returns-in-Carry-clause-moved
+returns-in-Carry-clause-moved g c = advance_carried c.args.state.now c.advance.new.state c.args.seat c.args.r c.args.p.0 c.requires.own (c.in-Carry.ensures.gives (has_room c.args.state.now c.requires.steady)) c.carry_reads.new.state _ c.in_ok-carry_reads-in-Carry.ensures.carried
 
 -- ---- an entry was made
 pub returns-in-More-clause-carrier : goal.returns-in-More-clause-carrier
@@ -49,8 +49,8 @@ write_for_room-requires-clause-here g c κs within =
     here_there c.args.state.now c.advance.new.state (advance_same c.args.state.now c.advance.new.state c.args.seat c.args.r c.args.p.0 c.requires.own c.in-Again.why (c.in-Again.ensures.gives (has_room c.args.state.now c.requires.steady))) _ (λ (x : History). writing_move x.config (pager x) (c.args.seat).0 ends_request (control asking))
     (advance_writes c.args.state.now c.advance.new.state c.args.seat c.args.r c.args.p.0 c.requires.own c.in-Again.why (c.in-Again.ensures.gives (has_room c.args.state.now c.requires.steady)) c.in-ModifiedFull.is) c.requires.here
 
-pub returns-in_ok-write_for_room-in-ModifiedFull-clause-moved : goal.returns-in_ok-write_for_room-in-ModifiedFull-clause-moved
-returns-in_ok-write_for_room-in-ModifiedFull-clause-moved g c =
+pub returns-in-ModifiedFull-clause-moved : goal.returns-in-ModifiedFull-clause-moved
+returns-in-ModifiedFull-clause-moved g c =
     moved_there c.args.state.now c.advance.new.state (advance_same c.args.state.now c.advance.new.state c.args.seat c.args.r c.args.p.0 c.requires.own c.in-Again.why (c.in-Again.ensures.gives (has_room c.args.state.now c.requires.steady))) _ (λ (x : History). writing_move x.config (pager x) (c.args.seat).0 ends_request (control asking))
     (advance_writes c.args.state.now c.advance.new.state c.args.seat c.args.r c.args.p.0 c.requires.own c.in-Again.why (c.in-Again.ensures.gives (has_room c.args.state.now c.requires.steady)) c.in-ModifiedFull.is) g.B.Block.tells_content c.write_for_room.new.state _ c.in_ok-write_for_room-in-ModifiedFull.ensures.moved
 

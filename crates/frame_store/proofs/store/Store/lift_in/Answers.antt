@@ -18,7 +18,7 @@ pub invariant_of-self : goal.invariant_of-self
 invariant_of-self g c =
     let bufs = c.self.inside.buffers.items in
     let some : IsSome (held_at (bytes_of bufs) c.args.f.0) = subst (λ (s : StoreView g.row.B.Denot). IsSome (held_at s.buffers c.args.f.0)) (sym c.self.view_is) c.requires.buffer in
-    flight_set (buffer_set c.self.invariant c.args.f.0 c.take.new.self (buffer_below bufs c.args.f.0 some) (λ b is. absurd (none-some b (sym c.take.ensures.after ∙ is)))) c.args.f.0 (Some c.args.start)
+    flight_set (buffer_set c.self.invariant c.args.f.0 c.take-buf.new.self (buffer_below bufs c.args.f.0 some) (λ b is. absurd (none-some b (sym c.take-buf.ensures.out ∙ is)))) c.args.f.0 (Some c.args.start)
 
 pub returns-clause-held : goal.returns-clause-held
 returns-clause-held g c = subst (λ (s : StoreView g.row.B.Denot). held_at s.blocks (number_in s.ids c.args.id) ≡ Some c.take-block.result) c.self.view_is c.take-block.ensures.block
@@ -30,7 +30,7 @@ invariant_of-result g c =
 
 pub returns-clause-store : goal.returns-clause-store
 returns-clause-store g c =
-    let bytes = map-set (option_map (λ (b : Buffer). b.bytes)) c.self.inside.buffers.items c.args.f.0 c.take.new.self ∙ ap (λ o. slice_set (bytes_of c.self.inside.buffers.items) c.args.f.0 (option_map (λ (b : Buffer). b.bytes) o)) c.take.ensures.after in
+    let bytes = map-set (option_map (λ (b : Buffer). b.bytes)) c.self.inside.buffers.items c.args.f.0 c.take-buf.new.self ∙ ap (λ o. slice_set (bytes_of c.self.inside.buffers.items) c.args.f.0 (option_map (λ (b : Buffer). b.bytes) o)) c.take-buf.ensures.out in
     stores_equal _ _ refl refl refl bytes (ap (λ (h : HomeView g.row.B.Denot). h.ids) c.take-block.ensures.new) (ap (λ (h : HomeView g.row.B.Denot). h.blocks) c.take-block.ensures.new) refl
     ∙ ap (λ (s : StoreView g.row.B.Denot). lifted_in s c.args.f.0 c.args.id c.args.start) c.self.view_is
 
@@ -38,8 +38,8 @@ pub returns-clause-lift : goal.returns-clause-lift
 returns-clause-lift g c =
     let bufs = c.self.inside.buffers.items in
     let some : IsSome (held_at (bytes_of bufs) c.args.f.0) = subst (λ (s : StoreView g.row.B.Denot). IsSome (held_at s.buffers c.args.f.0)) (sym c.self.view_is) c.requires.buffer in
-    let there : slice_get bufs c.args.f.0 ≡ Some (Some c.unwrap-buf.result) = slice_get_read bufs _ c.args.f.0 _ refl (buffer_below bufs c.args.f.0 some) c.index_mut.ensures.value ∙ ap Some (sym c.take.ensures.value ∙ c.unwrap-buf.ensures) in
-    let of = c.self.invariant.buffers c.args.f.0 c.unwrap-buf.result there ∙ ap (λ (s : StoreView g.row.B.Denot). s.pool) c.self.view_is in
+    let there : slice_get bufs c.args.f.0 ≡ Some (Some c.take-buf.result) = slice_get_read bufs _ c.args.f.0 _ refl (buffer_below bufs c.args.f.0 some) c.index_mut.ensures.value ∙ ap Some c.take-buf.ensures.buffer in
+    let of = c.self.invariant.buffers c.args.f.0 c.take-buf.result there ∙ ap (λ (s : StoreView g.row.B.Denot). s.pool) c.self.view_is in
     λ i. record {
       start = c.args.start;
       seat = c.args.seat;
@@ -47,7 +47,7 @@ returns-clause-lift g c =
       frame = c.args.f.0;
       block = c.args.id;
       is_read = true;
-      buffer = c.unwrap-buf.result.bytes;
+      buffer = c.take-buf.result.bytes;
       held = c.take-block.result;
       result = Waiting;
       pool = of i;

@@ -1,5 +1,6 @@
 use Rattle.std.proofs.Common.{◌≡◌, ◌+◌, ◌-◌, ◌<◌, ◌^◌, Option, Some, refl, sym, ap, ◌∙◌, subst, arith}
 use Rattle.std.specs.Prelude.{IsSome, IfSome}
+use Rattle.std.specs.Option.{option_map}
 use Rattle.page_pool.specs.Pool.{Buffer}
 use Rattle.frame_store.specs.Blocks.{held_at, number_in}
 use Rattle.frame_store.specs.Home.{HomeView}
@@ -34,6 +35,5 @@ returns-clause-buffer g c =
     let some : IsSome (held_at (bytes_of bufs) c.args.f.0) = subst (λ (s : StoreView g.row.B.Denot). IsSome (held_at s.buffers c.args.f.0)) (sym c.self.view_is) c.requires.buffer in
     let there = buffer_there bufs c.args.f.0 some in
     let was = read_held bufs c.args.f.0 c.index.result.now (buffer_below bufs c.args.f.0 some) c.index.ensures ∙ get_held bufs c.args.f.0 (Some there.0) there.1 in
-    let copied : c.copy-buf.result.bytes ≡ (there.0).bytes = subst (λ o. IfSome o (λ (b : Buffer). c.copy-buf.result.bytes ≡ b.bytes)) was c.copy-buf.ensures.bytes in
     subst (λ (s : StoreView g.row.B.Denot). held_at s.buffers c.args.f.0 ≡ Some c.copy-buf.result.bytes) c.self.view_is
-    (there.2 ∙ ap Some (sym copied))
+    (there.2 ∙ (sym (ap (option_map (λ (b : Buffer). b.bytes)) was) ∙ c.copy-buf.ensures.bytes))

@@ -81,4 +81,4 @@ lend_spec 𝓤 𝓛 𝓜 𝓡 wired =
     -- [self; the token; the room; the ticket]
     move ! (2 ∷ 3 ∷ []) $ fjoin ! $ use0 𝓛 (‵ (values.Spare.own_val (at, (n, tt)) (part_val at n ∷ []))) (spare_made 𝓛 at n fits) $ fjoin ! $
     move ! (1 ∷ 0 ∷ []) $ join ! $ nothing ! $ move ! (2 ∷ 0 ∷ []) $ join ! $ join ! $ frame ! $
-    tells ! asked.1 $ tells_last ! (refl, refl, refl))))))))
+    tells ! asked.1 $ tells ! (refl, refl, refl) $ tells_last ! (refl, refl))))))))

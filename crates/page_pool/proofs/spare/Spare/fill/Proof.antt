@@ -66,4 +66,4 @@ fill_spec 𝓤 𝓛 𝓜 𝓡 wired =
     let r : (part.the_row).Denot = record { at = block_ptr b o; number = n; bytes = xs; name = q.name; size = q.size; start = q.start; place = sym e ∙ q.place; below = q.below } in
     suffices ! _ (ends_at 𝓛 f.ended stayed c y (part_val (block_ptr b o) n) r (tt, (tt, tt)) (tt, (tt, tt))) $
     fjoin ! $ use0 𝓛 (‵ (values.Part.own_val (block_ptr b o, (n, tt)) (part_val (block_ptr b o) n ∷ []))) (part_made 𝓛 (block_ptr b o) n fits) $ fjoin ! $
-    nothing ! $ nothing ! $ fjoin ! $ nothing ! $ fjoin ! $ join ! $ nothing ! $ join ! $ frame ! $ tells_last ! refl)))
+    nothing ! $ nothing ! $ fjoin ! $ nothing ! $ fjoin ! $ join ! $ nothing ! $ join ! $ frame ! $ tells_last ! (refl, refl, refl))))

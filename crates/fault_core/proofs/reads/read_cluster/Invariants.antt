@@ -1,5 +1,5 @@
 use Rattle.fault_core.proofs.ClusterReads.{IsPartRead}
-use Rattle.fault_core.proofs.reads.read_in.Given as goal
+use Rattle.fault_core.proofs.reads.read_cluster.Given as goal
 
 -- the places before this one were read
 abbrev pub invariant-loop-places : goal.invariant-loop-places

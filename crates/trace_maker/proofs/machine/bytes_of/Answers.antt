@@ -1,0 +1,10 @@
+use Rattle.std.proofs.Common.{ap, ◌∙◌, ◌+◌, ◌/◌, ◌%◌, slice_set}
+use Rattle.trace_maker.proofs.Growing.{pattern_set, pattern_start}
+use Rattle.trace_maker.proofs.machine.bytes_of.Goals as goal
+
+pub loop-n-init : goal.loop-n-init
+loop-n-init c = c.in_ok-bytes.ensures.items_if_clones_equal (λ y e. e) ∙ pattern_start c.args.count
+
+pub loop-n-preserved : goal.loop-n-preserved
+loop-n-preserved c =
+    ap (λ xs. slice_set xs c.loop-n.n ((c.loop-n.n / 512 + c.loop-n.n % 512) % 256)) c.loop-n.invariant ∙ pattern_set c.args.count c.loop-n.n c.loop-n-test.true
