@@ -3,4 +3,3 @@ mod Frames
 mod Lefts
 mod Ordered
 mod Standing
-mod Walks

@@ -13,7 +13,6 @@ mod flights;
 mod log_past;
 mod open;
 mod orders;
-mod past;
 mod readers;
 mod rundown_readers;
 mod spoken;

@@ -7,10 +7,9 @@ use crate::counts::Counts;
 use crate::flight::Flight;
 use crate::flights::Flights;
 use crate::orders::Orders;
-use crate::past::Past;
 use std::alloc::Global;
 use std::marker::Model;
-use vm_journal::Entry;
+use vm_journal::{Entry, Past};
 use vm_types::{Config, NoMemory};
 
 /// What the rows of legal steps ask of the entries so far, which aren't kept. Contracts see the

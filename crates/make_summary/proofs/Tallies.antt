@@ -1,39 +1,16 @@
--- What one entry more does to the tallies: to their sum, and to the counts that they give.
-use Rattle.std.proofs.Common.{◌≡◌, ℕ, ◌+◌, ◌<◌, List, length, get_or, set, take, if◌then◌else◌, ◌==◌, refl, ap, ◌∙◌, arith}
-use Rattle.std.specs.List.{sum}
-use Rattle.std.proofs.lemmas.List.{get_or-set_same, get_or-set_other}
-use Rattle.std.proofs.lemmas.List.Sums.{count_by_more_no, count_by_more_yes, sum_by-set}
+-- What one entry more does to the counts that tallies give.
+use Rattle.std.proofs.Common.{◌≡◌, ℕ, zero, suc, ◌+◌, ◌<◌, ◌≤◌, List, [], ◌∷◌, length, get_or, set, take, if◌then◌else◌, ◌==◌, refl, sym, ap, ◌∙◌, subst, arith}
+use Rattle.std.proofs.lemmas.List.{get_or-set_same, get_or-set_other, take_all, take_more}
+use Rattle.std.proofs.lemmas.List.Sums.{count_by_more_no, count_by_more_yes}
 use Rattle.vm_journal.specs.declared.entry.Entry.{Entry}
 use Rattle.vm_journal.specs.declared.entry.Kind.{Kind}
 use Rattle.vm_journal.specs.declared.entry.Kind.TheVariants as kind
 use Rattle.vm_journal.specs.declared.entry.What.{What}
 use Rattle.vm_journal.specs.declared.entry.What.TheVariants as what
 use Rattle.make_summary.specs.MakeText.{count_of, counted, counts_of, is_kind}
-use Rattle.make_summary.specs.Tallies.{counts_in, place, tallied}
-
-place_below : (w : What) → place w < 16
-place_below (what.Done r reply) = omega arith
-place_below (what.Denied r why) = omega arith
-place_below (what.Served s answer) = omega arith
-place_below (what.Reuse f page) = omega arith
-place_below (what.Zero a f) = omega arith
-place_below (what.Back p a f from) = omega arith
-place_below (what.Collide a f k) = omega arith
-place_below (what.In f block role) = omega arith
-place_below (what.InOk f k) = omega arith
-place_below (what.InFail f k c d) = omega arith
-place_below (what.Out f block) = omega arith
-place_below (what.OutOk f k) = omega arith
-place_below (what.OutFail f k c d) = omega arith
-place_below (what.Evict p a f why to) = omega arith
-place_below (what.Limit n faults) = omega arith
-place_below (what.Turn p status) = omega arith
-
-pub sum_tallied : (xs : List ℕ) (w : What) → length xs ≡ 16 → sum (tallied xs w) ≡ sum xs + 1
-sum_tallied xs w len =
-    let within : place w < length xs = rw len (place_below w) in
-    let moved = sum_by-set (λ (n : ℕ). n) xs (place w) (get_or xs (place w) 0 + 1) 0 within in
-    omega (arith, moved)
+use Rattle.run_record.specs.Tallies.{tallied, tallies_of}
+use Rattle.run_record.proofs.Tallies.{tallied_more, tallies_long, tallies_none}
+use Rattle.make_summary.specs.Tallies.{counts_in}
 
 -- a tally after one more at a place
 raised : (xs : List ℕ) (at k : ℕ) → at < length xs → get_or (set xs at (get_or xs at 0 + 1)) k 0 ≡ get_or xs k 0 + (if k == at then 1 else 0)
@@ -101,7 +78,30 @@ counts_more entries i d less =
     ) refl
 
 -- tallies that give the counts so far give those with the next entry, once it is counted
-pub still_give : (xs : List ℕ) (entries : List Entry) (i : ℕ) (d : Entry) → length xs ≡ 16 → i < length entries → counts_in xs ≡ counts_of (take i entries)
+still_give : (xs : List ℕ) (entries : List Entry) (i : ℕ) (d : Entry) → length xs ≡ 16 → i < length entries → counts_in xs ≡ counts_of (take i entries)
     → counts_in (tallied xs (get_or entries i d).what) ≡ counts_of (take (i + 1) entries)
 still_give xs entries i d len less same =
     counts_tallied xs (get_or entries i d).what len ∙ ap (λ n. counted n (get_or entries i d).what) same ∙ counts_more entries i d less
+
+item_at : (xs : List Entry) (i : ℕ) → i < length xs → Entry
+item_at [] i less = absurd (omega (arith, less))
+item_at (e ∷ xs) i less = e
+
+next_told : (es : List Entry) (i : ℕ) (d : Entry) → i < length es → counts_in (tallies_of (take i es)) ≡ counts_of (take i es) → counts_in (tallies_of (take (i + 1) es)) ≡ counts_of (take (i + 1) es)
+next_told es i d less before =
+    ap (λ (xs : List Entry). counts_in (tallies_of xs)) (take_more es i d less)
+    ∙ ap counts_in (sym (tallied_more (take i es) (get_or es i d)))
+    ∙ still_give (tallies_of (take i es)) es i d (tallies_long (take i es)) less before
+
+told : (es : List Entry) (i : ℕ) → i ≤ length es → counts_in (tallies_of (take i es)) ≡ counts_of (take i es)
+told es zero most = ap counts_in (sym tallies_none)
+told es (suc i) most =
+    let less : i < length es = omega (arith, most) in
+    let next : i + 1 ≡ suc i = omega arith in
+    subst (λ (n : ℕ). counts_in (tallies_of (take n es)) ≡ counts_of (take n es)) next (next_told es i (item_at es i less) less (told es i (omega (arith, most))))
+
+-- the tallies of entries give their counts
+pub counts_told : (es : List Entry) → counts_in (tallies_of es) ≡ counts_of es
+counts_told es =
+    let all = take_all (length es) es (omega arith) in
+    subst (λ (xs : List Entry). counts_in (tallies_of xs) ≡ counts_of xs) all (told es (length es) (omega arith))

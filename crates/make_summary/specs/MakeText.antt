@@ -78,12 +78,12 @@ paged_line counts =
 abbrev pub managed_line : Counts → List ℕ
 managed_line counts = ended (codes "TURN " ++ decimal counts.turns ++ codes " LIMIT " ++ decimal counts.limits)
 
-abbrev pub entries_line : List Entry → List ℕ
-entries_line entries = ended (codes "ENTRIES " ++ decimal (length entries))
+abbrev pub entries_line : ℕ → List ℕ
+entries_line count = ended (codes "ENTRIES " ++ decimal count)
 
--- the lines before the status line, by these counts
-abbrev pub summary_lines : Make → Counts → List Entry → List ℕ
-summary_lines make counts entries = made_line make ++ answered_line counts ++ paged_line counts ++ managed_line counts ++ entries_line entries
+-- the lines before the status line, by these counts and the count of all entries
+abbrev pub summary_lines : Make → Counts → ℕ → List ℕ
+summary_lines make counts all = made_line make ++ answered_line counts ++ paged_line counts ++ managed_line counts ++ entries_line all
 
 abbrev pub make_lines : Make → List Entry → List ℕ
-make_lines make entries = summary_lines make (counts_of entries) entries
+make_lines make entries = summary_lines make (counts_of entries) (length entries)

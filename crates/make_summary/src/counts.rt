@@ -1,8 +1,5 @@
-ghost use Rattle.std.specs.Prelude.{◌≡◌, ◌<◌, ◌-◌, ◌^◌, sum};
-ghost use Rattle.make_summary.specs.MakeText.{counts_of};
-ghost use Rattle.make_summary.specs.Tallies.{counts_in, place, tallied};
-
-use vm_journal::{Entry, What};
+ghost use Rattle.std.specs.Prelude.{◌≡◌};
+ghost use Rattle.make_summary.specs.Tallies.{counts_in};
 
 /// How many entries there are of each kind that is counted.
 #[derive(Clone, Copy)]
@@ -27,43 +24,8 @@ pub(crate) struct Counts {
     pub limits: u64,
 }
 
-/// The place of an entry's kind among the tallies, which are in the order of `What`. Each arm is a
-/// constant, so that no entry costs a jump that depends on its kind.
-fn place_of(what: &What) -> usize
-    ensures place { result ≡ place what.now }
-    ensures below { result < 16 }
-{
-    match what {
-        What::Done { .. } => 0,
-        What::Denied { .. } => 1,
-        What::Served { .. } => 2,
-        What::Reuse { .. } => 3,
-        What::Zero { .. } => 4,
-        What::Back { .. } => 5,
-        What::Collide { .. } => 6,
-        What::In { .. } => 7,
-        What::InOk { .. } => 8,
-        What::InFail { .. } => 9,
-        What::Out { .. } => 10,
-        What::OutOk { .. } => 11,
-        What::OutFail { .. } => 12,
-        What::Evict { .. } => 13,
-        What::Limit { .. } => 14,
-        What::Turn { .. } => 15,
-    }
-}
-
-/// Counts one entry more, at the place of its kind.
-fn count_one(tallies: &mut [u64; 16], e: &Entry)
-    requires { sum tallies.old < 2 ^ 64 - 1 }
-    ensures { tallies.new ≡ tallied tallies.old e.now.what }
-{
-    let at = place_of(&e.what);
-    tallies[at] += 1;
-}
-
 /// The counts that the tallies give.
-fn counts_in(tallies: &[u64; 16]) -> Counts
+pub(crate) fn counts_in(tallies: &[u64; 16]) -> Counts
     ensures { result ≡ counts_in tallies.now }
 {
     Counts {
@@ -77,15 +39,4 @@ fn counts_in(tallies: &[u64; 16]) -> Counts
         turns: tallies[15],
         limits: tallies[14],
     }
-}
-
-/// The counts of the entries. Goes over them once.
-pub(crate) fn count_entries(entries: &[Entry]) -> Counts
-    ensures { result ≡ counts_of entries.now }
-{
-    let mut tallies = [0; 16];
-    for e in entries {
-        count_one(&mut tallies, e);
-    }
-    counts_in(&tallies)
 }

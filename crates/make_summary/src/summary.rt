@@ -1,15 +1,16 @@
-ghost use Rattle.std.specs.Prelude.{◌≡◌, ◌+◌, ◌≤◌, ◌++◌, length, decimal};
+ghost use Rattle.std.specs.Prelude.{◌≡◌, ◌+◌, ◌≤◌, ◌++◌, List, length, decimal};
 ghost use Rattle.arrayvec.specs.ArrayVec.{array_vec_len};
 ghost use Rattle.outside_io.specs.Views.{sink_view};
 ghost use Rattle.outside_io.specs.Writes.{Writes};
+ghost use Rattle.vm_journal.specs.declared.entry.Entry.{Entry};
+ghost use Rattle.run_record.specs.Tallies.{tallies_of};
 ghost use Rattle.make_summary.specs.MakeText.{answered_line, entries_line, made_line, make_lines, managed_line, paged_line, summary_lines};
 
-use crate::counts::{Counts, count_entries};
+use crate::counts::{Counts, counts_in};
 use crate::make::Make;
 use arrayvec::ArrayVec;
 use outside_io::{Sink, WriteFault};
 use program_ends::write_line;
-use vm_journal::Entry;
 use vm_text::{push_decimal, push_word};
 
 /// Adds a word of at most 140 bytes together with those before it, and a number in decimal digits.
@@ -71,41 +72,48 @@ fn print_managed<K: Sink>(counts: &Counts, sink: &mut K) -> Result<(), WriteFaul
 }
 
 /// How many entries there are.
-fn print_all<K: Sink>(entries: &[Entry], sink: &mut K) -> Result<(), WriteFault>
+fn print_all<K: Sink>(all: u64, sink: &mut K) -> Result<(), WriteFault>
     ensures { Writes (sink_view (K.taken sink.old) (K.faults sink.old) (K.stalls sink.old))
-        (sink_view (K.taken sink.new) (K.faults sink.new) (K.stalls sink.new)) result (entries_line entries.now) }
+        (sink_view (K.taken sink.new) (K.faults sink.new) (K.stalls sink.new)) result (entries_line all) }
 {
     let mut out = ArrayVec::new();
-    push_number(&mut out, b"ENTRIES ", entries.len() as u64);
+    push_number(&mut out, b"ENTRIES ", all);
     write_line(out, sink)
 }
 
-/// The lines, by the counts of the entries.
+/// The lines, by the counts of the entries, and of all of them.
 fn print_lines<K: Sink>(
     make: Make,
     counts: &Counts,
-    entries: &[Entry],
+    all: u64,
     sink: &mut K,
 ) -> Result<(), WriteFault>
     ensures { Writes (sink_view (K.taken sink.old) (K.faults sink.old) (K.stalls sink.old))
-        (sink_view (K.taken sink.new) (K.faults sink.new) (K.stalls sink.new)) result (summary_lines make counts.now entries.now) }
+        (sink_view (K.taken sink.new) (K.faults sink.new) (K.stalls sink.new)) result (summary_lines make counts.now all) }
 {
     print_made(make, sink)?;
     print_answered(counts, sink)?;
     print_paged(counts, sink)?;
     print_managed(counts, sink)?;
-    print_all(entries, sink)
+    print_all(all, sink)
 }
 
-/// Writes how many of the entries of a made trace's run are of each kind that is counted, each line in
-/// one write of a whole text. Goes over the entries once, and doesn't allocate.
+/// Writes how many of the entries of a made trace's run are of each kind that is counted, by how many
+/// there are of each kind, in the order of `What`, and of all; each line in one write of a whole text.
+/// Doesn't allocate.
 ///
 /// # Errors
 /// `Failed` only if the sink's count of failures rose. `NoneTaken` exactly if its count of stalls
 /// rose. After either the sink has taken less than the lines, a prefix of them.
-pub fn print_summary<K: Sink>(make: Make, entries: &[Entry], sink: &mut K) -> Result<(), WriteFault>
-    ensures { Writes (sink_view (K.taken sink.old) (K.faults sink.old) (K.stalls sink.old))
-        (sink_view (K.taken sink.new) (K.faults sink.new) (K.stalls sink.new)) result (make_lines make entries.now) }
+pub fn print_summary<K: Sink>(
+    make: Make,
+    all: u64,
+    kinds: &[u64; 16],
+    sink: &mut K,
+) -> Result<(), WriteFault>
+    ensures { (entries : List Entry) → all ≡ length entries → kinds.now ≡ tallies_of entries
+        → Writes (sink_view (K.taken sink.old) (K.faults sink.old) (K.stalls sink.old))
+        (sink_view (K.taken sink.new) (K.faults sink.new) (K.stalls sink.new)) result (make_lines make entries) }
 {
-    print_lines(make, &count_entries(entries), entries, sink)
+    print_lines(make, &counts_in(kinds), all, sink)
 }

@@ -1,1 +1,3 @@
 pub mod FirstFree
+pub mod Written
+pub mod Changes

@@ -1,6 +1,6 @@
 -- The blocks of a page file. Source: Kenah and Bate, "VAX/VMS Internals and Data Structures", page
 -- files; that a block is charged before one is assigned is this project's own.
-use Rattle.std.specs.Prelude.{◌≡◌, ℕ, ◌^◌, ◌<◌, ◌≤◌, List, Option, None, length, count_by, is_some, IsSome, slice_index_or}
+use Rattle.std.specs.Prelude.{◌≡◌, ℕ, ◌-◌, ◌^◌, ◌<◌, ◌≤◌, ◌++◌, List, Option, None, length, replicate, count_by, is_some, IsSome, slice_index_or}
 use Rattle.vm_types.specs.declared.names.Page.{Page}
 
 -- how many blocks are charged, and by block number the page that the block is assigned to
@@ -34,3 +34,11 @@ pub record AreBlocks (blocks : Blocks) : Type 0 where
   pub assigned : assigned_blocks blocks ≤ blocks.charged
   pub charged : blocks.charged ≤ length blocks.owners
   pub numbered : length blocks.owners < 2 ^ 32
+
+-- the owners of all blocks, of which only those of the first blocks are written: each other block is free
+abbrev pub all_owners : List (Option Page) → ℕ → List (Option Page)
+all_owners written blocks = written ++ replicate (blocks - length written) None
+
+-- the blocks of a page file that has so many
+abbrev pub blocks_of : ℕ → List (Option Page) → ℕ → Blocks
+blocks_of charged written blocks = record { charged = charged; owners = all_owners written blocks }

@@ -1,4 +1,5 @@
-ghost use Rattle.std.specs.Prelude.{◌≡◌, ℕ, ◌+◌, ◌-◌, ◌<◌, ◌↔◌, length, replicate, slice_set, is_none, position, IsErr, IfOk, OnOk, OnErr};
+ghost use Rattle.std.specs.Prelude.{◌≡◌, ℕ, ◌+◌, ◌-◌, ◌<◌, ◌↔◌, length, replicate, slice_set, is_none, position, vec_capacity, IsErr, IfOk, OnOk, OnErr};
+ghost use Rattle.page_file.specs.Blocks.{all_owners};
 
 use crate::full::Full;
 use std::alloc::Global;
@@ -9,31 +10,38 @@ use vm_types::{NoMemory, Page};
 /// Internals and Data Structures", page files.
 #[derive(Debug, Drop)]
 pub struct PageFile {
+    /// The pages that the blocks are assigned to, up to the greatest block that was assigned so far: none
+    /// where a block is free. There is room for all blocks.
     owners: Vec<Option<Page>>,
+    /// How many blocks there are.
+    blocks: u32,
     charges: u32,
     assignments: u32,
-    /// No block below this one is free; at most the number of blocks.
+    /// No block below this one is free; at most the length of `owners`.
     hint: u32,
 }
 
 impl Model for PageFile {
-    ghost use Rattle.std.specs.Prelude.{◌≡◌, ◌≤◌, count_by, is_some, length};
-    ghost use Rattle.page_file.specs.Blocks.{Blocks, AreBlocks, NoneFreeBelow};
+    ghost use Rattle.std.specs.Prelude.{◌≡◌, ◌≤◌, length, vec_capacity};
+    ghost use Rattle.page_file.specs.Blocks.{Blocks, AreBlocks, NoneFreeBelow, assigned_blocks, blocks_of};
 
     ghost Value = { Blocks };
 
-    ghost view = { λ f. record { charged = f.charges; owners = f.owners.items } };
+    ghost view = { λ f. blocks_of f.charges f.owners.items f.blocks };
 
-    ghost invariant = { λ f. (f.assignments ≡ count_by is_some f.owners.items)
-        × AreBlocks (record { charged = f.charges; owners = f.owners.items })
+    ghost invariant = { λ f. (f.assignments ≡ assigned_blocks (blocks_of f.charges f.owners.items f.blocks))
+        × AreBlocks (blocks_of f.charges f.owners.items f.blocks)
+        × (length f.owners.items ≤ f.blocks)
+        × (f.blocks ≤ vec_capacity f.owners)
         × (f.hint ≤ length f.owners.items)
-        × NoneFreeBelow (record { charged = f.charges; owners = f.owners.items }) f.hint };
+        × NoneFreeBelow (blocks_of f.charges f.owners.items f.blocks) f.hint };
 }
 
 impl PageFile {
     ghost use Rattle.page_file.specs.Blocks.{AreBlocks, IsFreeBlock, IsAssignedBlock, assigned_blocks, owner_of};
 
-    /// A page file of so many blocks (any number): none is charged, and each is free.
+    /// A page file of so many blocks (any number): none is charged, and each is free. Takes memory for
+    /// all of them, and touches none of it. No other call takes memory.
     ///
     /// # Errors
     /// `NoMemory` for want of memory.
@@ -42,7 +50,8 @@ impl PageFile {
         ensures blocks { IfOk result (λ f. AreBlocks f) }
     {
         Ok(PageFile {
-            owners: vec![in alloc; None; blocks as usize]?,
+            owners: Vec::with_capacity(alloc, blocks as usize)?,
+            blocks,
             charges: 0,
             assignments: 0,
             hint: 0,
@@ -59,7 +68,7 @@ impl PageFile {
         ensures err { OnErr result (self.new ≡ self.old) }
         ensures blocks { AreBlocks self.new }
     {
-        if self.charges as usize == self.owners.len() {
+        if self.charges == self.blocks {
             return Err(Full);
         }
         self.charges += 1;
@@ -83,6 +92,7 @@ impl PageFile {
         ensures assigned { assigned_blocks self.new ≡ assigned_blocks self.old + 1 }
         ensures blocks { AreBlocks self.new }
     {
+        reach(&mut self.owners, block);
         self.owners[block as usize] = Some(page);
         self.assignments += 1;
         if block == self.hint {
@@ -90,7 +100,7 @@ impl PageFile {
         }
     }
 
-    /// The lowest free block. Looks at each block once at most, and at one block alone where, since
+    /// The lowest free block. Looks at each block once at most, and at one block at most where, since
     /// the page file was made or its lowest free block was released, each block was assigned as the
     /// lowest.
     pub fn lowest(&self) -> u32
@@ -100,7 +110,8 @@ impl PageFile {
         ensures blocks { AreBlocks self.now }
     {
         let from = self.hint as usize;
-        (from + first_free(&self.owners[from..]).unwrap()) as u32
+        let rest = &self.owners[from..];
+        (from + first_free(rest).unwrap_or(rest.len())) as u32
     }
 
     /// Makes an assigned block free.
@@ -137,6 +148,18 @@ impl PageFile {
         ensures blocks { AreBlocks self.now }
     {
         self.assignments
+    }
+}
+
+/// Writes that the blocks up to this one are free, those that aren't written yet.
+#[tactic(auto, using(crate::proofs::Written::all_more, crate::proofs::Written::all_written))]
+fn reach(owners: &mut Vec<Option<Page>>, block: u32)
+    requires { block < vec_capacity owners.old }
+    ensures owners { owners.new.items ≡ all_owners owners.old.items (block + 1) }
+    ensures capacity { vec_capacity owners.new ≡ vec_capacity owners.old }
+{
+    while owners.len() <= block as usize {
+        owners.push_reserved(None);
     }
 }
 

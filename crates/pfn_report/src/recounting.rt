@@ -34,7 +34,7 @@ pub fn recount<B: Block>(alloc: Global, state: &State<B>) -> Result<Report, NoMe
     let frames = frame_rows(alloc, state, &counts)?;
     let states = count_states(alloc, frames.items())?;
     Ok(Report {
-        at: state.entries().len() as u64,
+        at: state.entry_count(),
         states,
         frames,
         size: config.pagefile,

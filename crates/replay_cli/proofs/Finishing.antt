@@ -1,7 +1,6 @@
 -- A run that has ended is an answer to its configuration.
-use Rattle.std.proofs.Common.{◌≡◌, ℕ, Bool, true, false, List, ◌++◌, length, map, refl, sym, ◌∙◌, ap, subst, inl, inr}
+use Rattle.std.proofs.Common.{◌≡◌, ℕ, Bool, true, false, List, ◌++◌, length, refl, sym, ◌∙◌, ap, subst, inl, inr}
 use Rattle.std.specs.Prelude.{◌⊎◌, Option, nat_eq, if◌then◌else◌}
-use Rattle.std.proofs.lemmas.List.{map-append}
 use Rattle.vm_types.specs.Configuration.{IsWellFormed}
 use Rattle.vm_types.specs.declared.config.Config.{Config}
 use Rattle.vm_types.specs.declared.names.BlockId.{BlockId}
@@ -12,10 +11,11 @@ use Rattle.pager_laws.specs.Laws.{RunsAreSound}
 use Rattle.program_ends.specs.Concludes.{IsOutcome}
 use Rattle.run_text.specs.Parts.{run_status}
 use Rattle.run_text.specs.Reported.{AreParts, IsReported}
-use Rattle.serial_run.specs.Ended.{IsFinished, given_back}
+use Rattle.serial_run.specs.Ended.{IsFinished}
 use Rattle.serial_run.specs.declared.finished.Finished.{Finished}
 use Rattle.replay_cli.specs.DepotView.{depot_view}
-use Rattle.replay_cli.specs.SerialAnswer.{IsFinishedRun, IsRunOver}
+use Rattle.replay_cli.specs.SerialAnswer.{IsFinishedRun}
+use Rattle.replay_cli.proofs.Overs.{run_over}
 
 abbrev status_by : Bool → ℕ
 status_by none = if none then 0 else 5
@@ -45,30 +45,19 @@ module _ {B : Type 0} (content plan : B → Option (List ℕ)) (reads writes fau
         rest = ended.rest;
         parts = are_parts;
         formed = formed;
-        legal = ended.run.run;
+        legal = ended.over.run.run;
         recount = ended.report;
         printable = ended.printable;
-        last = left ∙ ended.dirty;
+        last = left ∙ ended.over.left;
       })
 
   module _ (got got' : List (BlockId × B)) (count count' : ℕ) (longer : got' ≡ got ++ taken) (sound : RunsAreSound) where
-    pub run_over : IsRunOver (depot_view content plan reads writes faults tells_content tells_plan got count) (depot_view content plan reads writes faults tells_content tells_plan got' count')
-        config ended.past ended.rest
-    run_over = record {
-      run = ended.run;
-      sound = sound config (ended.rest ++ ended.past) formed ended.run.run;
-      taken = map (given_back content plan reads writes faults) taken;
-      longer = ap (map (given_back content plan reads writes faults)) longer ∙ map-append (given_back content plan reads writes faults) got taken;
-      asked = ended.asked;
-      written = ended.written;
-    }
-
     pub finished_run : IsFinishedRun (depot_view content plan reads writes faults tells_content tells_plan got count) (depot_view content plan reads writes faults tells_content tells_plan got' count')
         config (run_status dirty) (run_text f.config ended.past ended.rest (run_status dirty))
     finished_run = record {
       past = ended.past;
       rest = ended.rest;
-      over = run_over;
-      ending = ap run_status (left ∙ ended.dirty);
+      over = run_over content plan reads writes faults tells_content tells_plan config taken (f.dirty).items ended.past ended.rest got got' count count' formed ended.over longer sound;
+      ending = ap run_status (left ∙ ended.over.left);
       lines = ap (λ (x : Config). run_text x ended.past ended.rest (run_status dirty)) ended.same;
     }

@@ -1,3 +1,4 @@
+mod Overs
 pub mod Finishing
 pub mod Serving
 pub mod Making

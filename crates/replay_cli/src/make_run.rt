@@ -1,11 +1,13 @@
 //! The command `make`.
 
-ghost use Rattle.std.specs.Prelude.{◌≡◌, ◌≤◌, ◌++◌};
+ghost use Rattle.std.specs.Prelude.{◌≡◌, ◌≤◌, ◌++◌, List, length};
+ghost use Rattle.vm_journal.specs.declared.entry.Entry.{Entry};
 ghost use Rattle.outside_io.specs.Views.{sink_view};
 ghost use Rattle.pager_model.specs.Text.{status_line};
 ghost use Rattle.program_ends.specs.Concludes.{EndsAnswered};
 ghost use Rattle.program_ends.specs.Ends.{Ends};
 ghost use Rattle.run_text.specs.Parts.{run_status};
+ghost use Rattle.run_record.specs.Tallies.{tallies_of};
 ghost use Rattle.make_summary.specs.MakeText.{make_lines};
 ghost use Rattle.replay_cli.specs.DepotView.{depot_view};
 ghost use Rattle.replay_cli.specs.MakeAnswer.{IsMakeAnswer};
@@ -16,10 +18,9 @@ use make_summary::{Make, print_summary};
 use outside_io::Sink;
 use pager_laws::runs_are_sound;
 use program_ends::{Status, end_with};
-use serial_run::{RunFault, run_serial};
+use serial_run::{Counted, RunFault, count_serial};
 use std::alloc::Global;
 use trace_maker::make_trace;
-use vm_journal::Entry;
 use vm_types::Page;
 
 /// The status of a run that left these pages dirty. Doesn't allocate.
@@ -30,13 +31,13 @@ fn status_of(dirty: &[Page]) -> u8
 }
 
 /// Writes the counts and the status.
-fn end_made<K: Sink>(make: Make, entries: &[Entry], dirty: &[Page], sink: &mut K) -> Status
-    ensures { Ends (sink_view (K.taken sink.old) (K.faults sink.old) (K.stalls sink.old))
-        (sink_view (K.taken sink.new) (K.faults sink.new) (K.stalls sink.new)) (run_status dirty.now)
-        (make_lines make entries.now ++ status_line (run_status dirty.now)) result.0 }
+fn end_made<K: Sink>(make: Make, run: &Counted, sink: &mut K) -> Status
+    ensures { (entries : List Entry) → run.now.all ≡ length entries → run.now.kinds ≡ tallies_of entries → Ends (sink_view (K.taken sink.old) (K.faults sink.old) (K.stalls sink.old))
+        (sink_view (K.taken sink.new) (K.faults sink.new) (K.stalls sink.new)) (run_status ((run.now).dirty).items)
+        (make_lines make entries ++ status_line (run_status ((run.now).dirty).items)) result.0 }
 {
-    match print_summary(make, entries, sink) {
-        Ok(()) => end_with(status_of(dirty), sink),
+    match print_summary(make, run.all, &run.kinds, sink) {
+        Ok(()) => end_with(status_of(&run.dirty), sink),
         Err(_) => Status(4),
     }
 }
@@ -58,10 +59,10 @@ pub(crate) fn run_made<K: Sink, D: Depot>(
     let Ok(config) = make_trace(alloc, u64::from(make.seed), make.procs, make.refs) else {
         return end_with(7, sink);
     };
-    match run_serial(alloc, config, depot) {
-        Ok(finished) => {
+    match count_serial(alloc, config, depot) {
+        Ok(run) => {
             runs_are_sound();
-            end_made(make, &finished.entries, &finished.dirty, sink)
+            end_made(make, &run, sink)
         }
         Err(RunFault::NoMemory) => end_with(7, sink),
         Err(RunFault::DepotFault) => end_with(6, sink),

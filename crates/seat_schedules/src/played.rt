@@ -1,4 +1,4 @@
-ghost use Rattle.std.specs.Prelude.{◌≡◌, ◌≤◌, [], All, IfOk, IsErrOf, map};
+ghost use Rattle.std.specs.Prelude.{◌≡◌, ◌≤◌, [], All, IfOk, IsErrOf, map, true};
 ghost use Rattle.std.specs.List.{range_with_len};
 ghost use Rattle.disk_trait.specs.Causes.{Rose};
 ghost use Rattle.disk_trait.specs.declared.depot.MakeFault.{MakeFault};
@@ -98,6 +98,7 @@ fn blocks<B: Block>(alloc: Global, state: &State<B>) -> Result<Vec<PageBlock>, N
 
 /// What is left by a state.
 fn left_by<B: Block>(alloc: Global, state: &State<B>, went: Went) -> Result<Played, NoMemory>
+    requires { state.now.keeps ≡ true }
     ensures { IfOk result (IsLeft state.now) }
 {
     state.run_law();
@@ -131,6 +132,7 @@ fn play_state<B: Block>(
     steps: &[(Seat, Act)],
 ) -> Result<Played, NoMemory>
     requires first { state.old.past ≡ [] }
+    requires keeps { state.old.keeps ≡ true }
     ensures { IfOk result (IsPlayed state.old.config) }
 {
     let mut workers = all_workers(alloc, state)?;

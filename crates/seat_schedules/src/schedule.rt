@@ -24,6 +24,7 @@ pub fn take<B: Block>(
     requires { AreAtWork B.content B.plan B.reads B.writes B.faults B.tells_content B.tells_plan state.old workers.old }
     ensures at_work { AreAtWork B.content B.plan B.reads B.writes B.faults B.tells_content B.tells_plan state.new workers.new }
     ensures config { state.new.config ≡ state.old.config }
+    ensures keeps { state.new.keeps ≡ state.old.keeps }
     ensures made { OnOk result ((made : List What) × (state.new.past ≡ made_by seat.0 made state.old.past)) }
     ensures none { OnErr result (state.new ≡ state.old) }
 {
@@ -49,6 +50,7 @@ pub fn play<B: Block>(
     requires { AreAtWork B.content B.plan B.reads B.writes B.faults B.tells_content B.tells_plan state.old workers.old }
     ensures at_work { AreAtWork B.content B.plan B.reads B.writes B.faults B.tells_content B.tells_plan state.new workers.new }
     ensures config { state.new.config ≡ state.old.config }
+    ensures keeps { state.new.keeps ≡ state.old.keeps }
 {
     for (seat, act) in steps {
         match take(state, workers, *seat, *act)? {

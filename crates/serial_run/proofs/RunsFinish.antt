@@ -1,7 +1,8 @@
 -- A run that has ended, once its blocks are given back.
-use Rattle.std.proofs.Common.{◌≡◌, ℕ, Bool, List, ◌++◌, Option, map, reverse, sym, ap, ◌∙◌, subst}
+use Rattle.std.proofs.Common.{◌≡◌, ℕ, Bool, List, ◌++◌, Option, length, map, reverse, sym, ap, ◌∙◌, subst}
 use Rattle.vm_types.specs.declared.config.Config.{Config}
 use Rattle.vm_types.specs.declared.names.BlockId.{BlockId}
+use Rattle.vm_types.specs.declared.names.Page.{Page}
 use Rattle.vm_journal.specs.declared.entry.Entry.{Entry}
 use Rattle.pager_model.specs.Asked.{IsAsked}
 use Rattle.pager_model.specs.Report.{report_of}
@@ -12,26 +13,20 @@ use Rattle.report_lines.specs.Printable.{IsPrintable}
 use Rattle.frame_store.specs.Blocks.{blocks_of}
 use Rattle.vm_state.specs.Ends.{AreGivenBack}
 use Rattle.vm_state.specs.History.{History}
-use Rattle.serial_run.specs.Ended.{HasEnded, IsFinished, IsWholeRun, given_back}
+use Rattle.run_record.specs.Tallies.{tallies_of}
+use Rattle.serial_run.specs.Ended.{HasEnded, IsCounted, IsFinished, IsOver, IsWholeRun, given_back}
+use Rattle.serial_run.specs.declared.finished.Counted.{Counted}
 use Rattle.serial_run.specs.declared.finished.Finished.{Finished}
 use Rattle.serial_run.specs.declared.run.Ending.{Ending}
 use Rattle.serial_run.proofs.AskedOnce.{asked, written}
 
 module _ {B : Type 0} (content plan : B → Option (List ℕ)) (reads writes faults : B → ℕ) (tells tells_plan : Bool) where
-  pub is_finished : (config : Config) (s : History) (ending : Ending) (f : Finished) (taken : List (BlockId × B)) → s.config ≡ config → HasEnded tells s ending
-      → f.config ≡ s.config → (f.entries).items ≡ reverse s.past → f.at ≡ ending.at → f.report ≡ ending.report → (f.dirty).items ≡ (ending.dirty).items
+  is_over : (config : Config) (s : History) (ending : Ending) (dirty : List Page) (taken : List (BlockId × B)) → s.config ≡ config → (ended : HasEnded tells s ending) → dirty ≡ (ending.dirty).items
       → map (λ (p : BlockId × B). p.0) taken ≡ blocks_of s.config → AreGivenBack content plan reads writes faults tells tells_plan s.config s.past taken
-      → IsFinished content plan reads writes faults tells tells_plan config taken f
-  is_finished config s ending f taken same ended own entries at report dirty names given = record {
-    past = ended.past;
-    rest = ended.rest;
-    same = own ∙ same;
-    all = entries ∙ ap reverse ended.all;
+      → IsOver content plan reads writes faults tells tells_plan config taken dirty ended.past ended.rest
+  is_over config s ending dirty taken same ended left names given = record {
     run = subst (λ (k : Config). IsWholeRun tells k ended.past ended.rest) same ended.run;
-    at = at ∙ ended.at;
-    report = report ∙ (ended.report ∙ ap (λ (k : Config). report_of k ended.past (pager_after k ended.past)) same);
-    printable = subst (IsPrintable config.sections) (sym report) (subst (λ (k : Config). IsPrintable k.sections ending.report) same ended.printable);
-    dirty = dirty ∙ (ended.dirty ∙ ap (λ (k : Config). dirty_pages k (pager_after k (ended.rest ++ ended.past))) same);
+    left = left ∙ (ended.dirty ∙ ap (λ (k : Config). dirty_pages k (pager_after k (ended.rest ++ ended.past))) same);
     asked =
         subst (λ (k : Config). IsAsked tells_plan k (ended.rest ++ ended.past) (map (given_back content plan reads writes faults) taken)) same
         (subst (λ (p : List Entry). IsAsked tells_plan s.config p (map (given_back content plan reads writes faults) taken)) ended.all
@@ -40,4 +35,31 @@ module _ {B : Type 0} (content plan : B → Option (List ℕ)) (reads writes fau
         subst (λ (k : Config). AreWrittenBack tells k (ended.rest ++ ended.past) (map (given_back content plan reads writes faults) taken)) same
         (subst (λ (p : List Entry). AreWrittenBack tells s.config p (map (given_back content plan reads writes faults) taken)) ended.all
         (written content plan reads writes faults tells tells_plan s.config s.past taken names given));
+  }
+
+  pub is_finished : (config : Config) (s : History) (ending : Ending) (f : Finished) (taken : List (BlockId × B)) → s.config ≡ config → HasEnded tells s ending
+      → f.config ≡ s.config → (f.entries).items ≡ reverse s.past → f.at ≡ ending.at → f.report ≡ ending.report → (f.dirty).items ≡ (ending.dirty).items
+      → map (λ (p : BlockId × B). p.0) taken ≡ blocks_of s.config → AreGivenBack content plan reads writes faults tells tells_plan s.config s.past taken
+      → IsFinished content plan reads writes faults tells tells_plan config taken f
+  is_finished config s ending f taken same ended own entries at report left names given = record {
+    past = ended.past;
+    rest = ended.rest;
+    over = is_over config s ending (f.dirty).items taken same ended left names given;
+    same = own ∙ same;
+    all = entries ∙ ap reverse ended.all;
+    at = at ∙ ended.at;
+    report = report ∙ (ended.report ∙ ap (λ (k : Config). report_of k ended.past (pager_after k ended.past)) same);
+    printable = subst (IsPrintable config.sections) (sym report) (subst (λ (k : Config). IsPrintable k.sections ending.report) same ended.printable);
+  }
+
+  pub is_counted : (config : Config) (s : History) (ending : Ending) (c : Counted) (taken : List (BlockId × B)) → s.config ≡ config → HasEnded tells s ending
+      → c.all ≡ length s.past → c.kinds ≡ tallies_of (reverse s.past) → (c.dirty).items ≡ (ending.dirty).items
+      → map (λ (p : BlockId × B). p.0) taken ≡ blocks_of s.config → AreGivenBack content plan reads writes faults tells tells_plan s.config s.past taken
+      → IsCounted content plan reads writes faults tells tells_plan config taken c
+  is_counted config s ending c taken same ended all kinds left names given = record {
+    past = ended.past;
+    rest = ended.rest;
+    over = is_over config s ending (c.dirty).items taken same ended left names given;
+    all = all ∙ ap (λ (p : List Entry). length p) ended.all;
+    kinds = kinds ∙ ap (λ (p : List Entry). tallies_of (reverse p)) ended.all;
   }

@@ -2,6 +2,7 @@
 use Rattle.std.specs.Prelude.{◌≡◌, ℕ, Bool, true, List, [], ◌++◌, Option, length, map, reverse}
 use Rattle.vm_types.specs.declared.config.Config.{Config}
 use Rattle.vm_types.specs.declared.names.BlockId.{BlockId}
+use Rattle.vm_types.specs.declared.names.Page.{Page}
 use Rattle.vm_journal.specs.declared.entry.Entry.{Entry}
 use Rattle.pager_model.specs.Asked.{IsAsked, Retired}
 use Rattle.pager_model.specs.Fits.{told_of}
@@ -14,6 +15,8 @@ use Rattle.pager_model.specs.Text.{dirty_pages}
 use Rattle.pager_model.specs.WrittenBack.{AreWrittenBack}
 use Rattle.pager_model.specs.Flights.{open_flights}
 use Rattle.report_lines.specs.Printable.{IsPrintable}
+use Rattle.run_record.specs.Tallies.{tallies_of}
+use Rattle.serial_run.specs.declared.finished.Counted.{Counted}
 use Rattle.serial_run.specs.declared.finished.Finished.{Finished}
 use Rattle.serial_run.specs.declared.run.Ending.{Ending}
 use Rattle.vm_state.specs.History.{History}
@@ -45,17 +48,29 @@ module _ {B : Type 0} (content plan : B → Option (List ℕ)) (reads writes fau
   abbrev pub given_back : BlockId × B → Retired
   given_back p = record { block = p.0; told = told_of content plan reads writes faults p.1 }
 
-  -- the run of a configuration has ended, and these blocks were given back: each block of the configuration once, and
-  -- counted; where blocks tell their content they are written back
+  -- the run of a configuration has ended with these entries and left these pages dirty, and these blocks were given
+  -- back: each block of the configuration once, and counted; where blocks tell their content they are written back
+  pub record IsOver (tells tells_plan : Bool) (config : Config) (taken : List (BlockId × B)) (dirty : List Page) (past rest : List Entry) : Type 0 where
+    pub run : IsWholeRun tells config past rest
+    pub left : dirty ≡ dirty_pages config (pager_after config (rest ++ past))
+    pub asked : IsAsked tells_plan config (rest ++ past) (map given_back taken)
+    pub written : AreWrittenBack tells config (rest ++ past) (map given_back taken)
+
+  -- such a run, its entries, and the report on them
   pub record IsFinished (tells tells_plan : Bool) (config : Config) (taken : List (BlockId × B)) (f : Finished) : Type 0 where
     pub past : List Entry
     pub rest : List Entry
+    pub over : IsOver tells tells_plan config taken (f.dirty).items past rest
     pub same : f.config ≡ config
     pub all : (f.entries).items ≡ reverse (rest ++ past)
-    pub run : IsWholeRun tells config past rest
     pub at : f.at ≡ length past
     pub report : f.report ≡ report_of config past (pager_after config past)
     pub printable : IsPrintable config.sections f.report
-    pub dirty : (f.dirty).items ≡ dirty_pages config (pager_after config (rest ++ past))
-    pub asked : IsAsked tells_plan config (rest ++ past) (map given_back taken)
-    pub written : AreWrittenBack tells config (rest ++ past) (map given_back taken)
+
+  -- such a run, and how many entries it has
+  pub record IsCounted (tells tells_plan : Bool) (config : Config) (taken : List (BlockId × B)) (c : Counted) : Type 0 where
+    pub past : List Entry
+    pub rest : List Entry
+    pub over : IsOver tells tells_plan config taken (c.dirty).items past rest
+    pub all : c.all ≡ length (rest ++ past)
+    pub kinds : c.kinds ≡ tallies_of (reverse (rest ++ past))

@@ -16,6 +16,15 @@ pub struct Finished {
     pub dirty: Vec<Page>,
 }
 
+/// A run that has ended and whose entries were counted: how many there are, how many of each kind, in the
+/// order of `What`, and the shared pages that were left dirty, in order of section and page.
+#[derive(Debug, Drop)]
+pub struct Counted {
+    pub all: u64,
+    pub kinds: [u64; 16],
+    pub dirty: Vec<Page>,
+}
+
 /// Why a run did not end.
 #[derive(Clone, Copy, Debug, PartialEq, Eq)]
 pub enum RunFault {

@@ -7,5 +7,5 @@ mod carriers;
 mod finished;
 mod run;
 
-pub use finished::{Finished, RunFault};
-pub use run::run_serial;
+pub use finished::{Counted, Finished, RunFault};
+pub use run::{count_serial, run_serial};

@@ -3,12 +3,12 @@ ghost use Rattle.disk_trait.specs.Causes.{Rose};
 ghost use Rattle.vm_types.specs.Configuration.{IsWellFormed};
 ghost use Rattle.vm_types.specs.declared.names.BlockId.{BlockId};
 ghost use Rattle.move_steps.specs.Moved.{IsSameBut};
-ghost use Rattle.serial_run.specs.Ended.{HasEnded, IsFinished};
+ghost use Rattle.serial_run.specs.Ended.{HasEnded, IsCounted, IsFinished};
 ghost use Rattle.serial_run.specs.declared.finished.RunFault.{RunFault};
 
 use crate::body::run_body;
 use crate::carriers::all_carriers;
-use crate::finished::{Finished, RunFault};
+use crate::finished::{Counted, Finished, RunFault};
 use disk_trait::{Block, Depot};
 use pfn_report::recount;
 use report_lines::Report;
@@ -52,7 +52,7 @@ fn run_state<B: Block>(alloc: Global, state: &mut State<B>) -> Result<Ending, No
     reserve_answers(state);
     let mut carriers = all_carriers(alloc, state)?;
     run_body(state, &mut carriers)?;
-    let at = state.entries().len() as u64;
+    let at = state.entry_count();
     let report = recount(alloc, state)?;
     let dirty = rundown(alloc, state)?;
     Ok(Ending { at, report, dirty })
@@ -84,6 +84,35 @@ pub fn run_serial<D: Depot>(
         entries,
         at: ending.at,
         report: ending.report,
+        dirty: ending.dirty,
+    })
+}
+
+/// Runs a configuration as `run_serial` does, and counts the entries in place of keeping them.
+///
+/// # Errors
+/// `NoMemory` if out of memory. `DepotFault` only if the depot's count of faults rose.
+pub fn count_serial<D: Depot>(
+    alloc: Global,
+    config: Config,
+    depot: &mut D,
+) -> Result<Counted, RunFault>
+    requires { IsWellFormed config }
+    ensures counted { IfOk result (λ f. (taken : List (BlockId × D.Block)) × (D.retired depot.new ≡ D.retired depot.old ++ taken)
+        × IsCounted D.Block.content D.Block.plan D.Block.reads D.Block.writes D.Block.faults D.Block.tells_content D.Block.tells_plan config taken f) }
+    ensures failed { IsErrOf result RunFault.DepotFault → Rose (D.faults depot.old) (D.faults depot.new) }
+    ensures later { D.faults depot.old ≤ D.faults depot.new }
+{
+    let blocks = make_blocks(alloc, &config, depot)?;
+    let mut state = State::start_counting(alloc, config, blocks)?;
+    let ending = run_state(alloc, &mut state)?;
+    let all = state.entry_count();
+    let kinds = state.kinds();
+    let (_, _, blocks) = state.finish();
+    retire_blocks(blocks, depot)?;
+    Ok(Counted {
+        all,
+        kinds,
         dirty: ending.dirty,
     })
 }

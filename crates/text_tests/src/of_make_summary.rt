@@ -1,5 +1,7 @@
 use make_summary::{Make, print_summary};
 use outside_io::{MemorySink, WriteFault};
+use run_record::RunRecord;
+use std::alloc::Global;
 use std::test::Fail;
 use vm_journal::{Entry, What};
 use vm_types::{Addr, Mode, Op, Pfn, Ref, Reply, Seat, Why, Width};
@@ -54,15 +56,29 @@ fn first_run() -> [Entry; 4] {
     ]
 }
 
+/// A record that counts these entries.
+fn counted(alloc: Global, entries: &[Entry]) -> Result<RunRecord, Fail> {
+    let mut record = RunRecord::counting(alloc);
+    for e in entries {
+        record.reserve(1)?;
+        record.push(*e);
+    }
+    Ok(record)
+}
+
 #[test]
 fn counts_the_entries(rt: HostRuntime) -> Result<(), Fail> {
     let alloc = rt.alloc();
     let mut sink = MemorySink::new(alloc, 200, Vec::new(alloc), Vec::new(alloc))?;
-    assert_eq!(rt; print_summary(MAKE, &first_run(), &mut sink), Ok(()));
+    let run = counted(alloc, &first_run())?;
+    assert_eq!(rt;
+        print_summary(MAKE, run.len(), &run.kinds(), &mut sink),
+        Ok(())
+    );
     assert_eq!(rt; sink.taken(), TEXT.as_bytes());
     // The third write fails.
     let mut sink = MemorySink::new(alloc, 200, [3].to_vec(alloc)?, Vec::new(alloc))?;
-    let failed = print_summary(MAKE, &first_run(), &mut sink);
+    let failed = print_summary(MAKE, run.len(), &run.kinds(), &mut sink);
     assert_eq!(rt; failed, Err(WriteFault::Failed));
     assert_eq!(rt; sink.taken(), b"MADE 7 1 3\nDONE 2 DENIED 1\n".as_slice());
     Ok(())

@@ -14,12 +14,12 @@ fn body(alloc: Global, seed: u64, procs: u32, refs: u32) -> Result<Listed<Task>,
     ensures { IfOk result (λ body. body ≡ made_body seed procs refs) }
 {
     let mut draws = Draws { state: seed };
-    let mut body = Listed::new(alloc);
+    let mut body = Vec::new(alloc);
+    body.try_reserve(refs as usize)?;
     for n in 0..refs {
-        let task = draws.task(procs);
-        body.push(task)?;
+        body.push_reserved(draws.task(procs));
     }
-    Ok(body)
+    Ok(Listed::of(body))
 }
 
 /// The trace that a seed makes, with so many processes, 1 to 16, and so many references, 1 to

@@ -32,7 +32,7 @@ impl Model for Journal {
 }
 
 /// Whether an entry answers a request.
-fn is_answer(what: What) -> bool
+pub fn is_answer(what: What) -> bool
     ensures { result ≡ is_answer what }
 {
     matches!(

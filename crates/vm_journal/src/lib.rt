@@ -4,7 +4,9 @@
 mod entry;
 mod journal;
 mod kept;
+mod past;
 
 pub use entry::{Entry, EvictWhy, Kind, Role, What};
-pub use journal::Journal;
+pub use journal::{Journal, is_answer};
 pub use kept::Kept;
+pub use past::Past;

@@ -2,7 +2,7 @@
 use Rattle.std.proofs.Common.{◌≡◌, ℕ, ◌+◌, ◌-◌, ◌≤◌, Bool, List, [], ◌∷◌, ◌++◌, Option, length, reverse, sym, ap, ◌∙◌, subst, subst₂, arith}
 use Rattle.std.proofs.lemmas.List.{length-reverse, reverse-append}
 use Rattle.vm_types.specs.declared.config.Config.{Config}
-use Rattle.vm_journal.specs.Journal.{Written}
+use Rattle.run_record.specs.RunRecord.{Recorded}
 use Rattle.vm_journal.specs.declared.entry.Entry.{Entry}
 use Rattle.pager_model.specs.Flights.{open_flights}
 use Rattle.pager_model.specs.OfConfig.{IsOfConfig}
@@ -25,20 +25,20 @@ use Rattle.vm_state.specs.StateKept.{IsState, IsStoreOf, home_in}
 pub may_before : {s t : History} {e : Entry} → s ≡ t → MayAdd t e → MayAdd s e
 may_before {s} {t} {e} is may = subst (λ (x : History). MayAdd x e) (sym is) may
 
-pub newest_first : (before : List Entry) (now : Written) (spare : ℕ) (e : Entry) → now ≡ record { entries = before ++ e ∷ []; spare = spare } → reverse now.entries ≡ e ∷ reverse before
-newest_first before now spare e is = ap (λ (j : Written). reverse j.entries) is ∙ reverse-append before (e ∷ [])
+pub newest_first : (before : List Entry) (now : Recorded) (spare : ℕ) (e : Entry) {keeps : Bool} → now ≡ record { entries = before ++ e ∷ []; spare = spare; keeps = keeps } → reverse now.entries ≡ e ∷ reverse before
+newest_first before now spare e is = ap (λ (j : Recorded). reverse j.entries) is ∙ reverse-append before (e ∷ [])
 
 -- the number of the next entry
-pub next_number : (before now : List Entry) → now ≡ before → length now + 1 ≡ length (reverse before) + 1
-next_number before now is = ap (λ (xs : List Entry). length xs + 1) is ∙ ap (λ (n : ℕ). n + 1) (sym (length-reverse before))
+pub next_number : (before : List Entry) (count : ℕ) → count ≡ length before → count + 1 ≡ length (reverse before) + 1
+next_number before count is = ap (λ (n : ℕ). n + 1) (is ∙ sym (length-reverse before))
 
 module _ {B : Type 0} {content plan : B → Option (List ℕ)} {reads writes faults : B → ℕ} {tells tells_plan : Bool} {config : Config} where
   -- with the newest entry in front it holds, so it does once the entry is pushed
-  pub pushed : {store : StoreView B} {fields : Parts} {numbers : List ℕ} (before : List Entry) (spare : ℕ) (e : Entry) (new : Written) → new ≡ record { entries = before ++ e ∷ []; spare = spare }
+  pub pushed : {store : StoreView B} {fields : Parts} {numbers : List ℕ} (before : List Entry) (spare : ℕ) (e : Entry) (new : Recorded) {keeps : Bool} → new ≡ record { entries = before ++ e ∷ []; spare = spare; keeps = keeps }
       → IsState content plan reads writes faults tells tells_plan config (e ∷ reverse before) spare store fields numbers
       → IsState content plan reads writes faults tells tells_plan config (reverse new.entries) new.spare store fields numbers
   pushed {store} {fields} {numbers} before spare e new is state =
-      subst₂ (λ (p : List Entry) (n : ℕ). IsState content plan reads writes faults tells tells_plan config p n store fields numbers) (sym (newest_first before new spare e is)) (sym (ap (λ (j : Written). j.spare) is)) state
+      subst₂ (λ (p : List Entry) (n : ℕ). IsState content plan reads writes faults tells tells_plan config p n store fields numbers) (sym (newest_first before new spare e is)) (sym (ap (λ (j : Recorded). j.spare) is)) state
 
   module _ {past : List Entry} {spare : ℕ} {store : StoreView B} {fields : Parts} {numbers : List ℕ} (before : IsState content plan reads writes faults tells tells_plan config past spare store fields numbers) where
     pub kept : IsKept config (past_view past) (pager_after config past)

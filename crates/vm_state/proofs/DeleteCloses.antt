@@ -8,7 +8,7 @@ use Rattle.vm_types.specs.declared.names.FrameState.TheVariants as state
 use Rattle.vm_types.specs.declared.names.Seat.{Seat}
 use Rattle.vm_types.specs.declared.reply.Answer.TheVariants as answer
 use Rattle.vm_types.specs.declared.service.Service.TheVariants as service
-use Rattle.vm_journal.specs.Journal.{Written}
+use Rattle.run_record.specs.RunRecord.{Recorded}
 use Rattle.vm_journal.specs.declared.entry.Entry.{Entry}
 use Rattle.vm_journal.specs.declared.entry.What.TheVariants as what
 use Rattle.page_file.specs.Blocks.{Blocks, IsAssignedBlock, assigned_blocks}
@@ -43,8 +43,8 @@ use Rattle.vm_state.proofs.ServedCloses.{deleted_closes}
 use Rattle.vm_state.proofs.SimpleCloses.{spoken_by_few}
 
 -- what is pushed to a journal that is as it was
-pub pushed_on : (before now new : Written) (e : Entry) → now ≡ before → new ≡ record { entries = now.entries ++ e ∷ []; spare = now.spare - 1 } → new ≡ record { entries = before.entries ++ e ∷ []; spare = before.spare - 1 }
-pushed_on before now new e is pushed = subst (λ (j : Written). new ≡ record { entries = j.entries ++ e ∷ []; spare = j.spare - 1 }) is pushed
+pub pushed_on : (before now new : Recorded) (e : Entry) → now ≡ before → new ≡ record now { entries = now.entries ++ e ∷ []; spare = now.spare - 1 } → new ≡ record before { entries = before.entries ++ e ∷ []; spare = before.spare - 1 }
+pushed_on before now new e is pushed = subst (λ (j : Recorded). new ≡ record j { entries = j.entries ++ e ∷ []; spare = j.spare - 1 }) is pushed
 
 -- a store that differs in its frames, with other frames
 pub frames_in : {B : Type 0} (before now : StoreView B) (frames frames' : Frames) → now ≡ record before { frames = frames } → record now { frames = frames' } ≡ record before { frames = frames' }

@@ -1,12 +1,12 @@
 -- What the readers of transfers show is what the parts stand for.
-use Rattle.std.proofs.Common.{◌≡◌, ℕ, zero, suc, ◌+◌, ◌-◌, ◌<◌, ◌≤◌, Bool, true, false, List, [], ◌∷◌, ◌++◌, Option, Some, None, find, length, reverse, nat_eq, count_by, cond, slice_get, slice_index_or, refl, sym, ap, ◌∙◌, subst, arith}
+use Rattle.std.proofs.Common.{◌≡◌, ℕ, zero, suc, ◌+◌, ◌-◌, ◌<◌, ◌≤◌, Bool, true, false, List, [], ◌∷◌, ◌++◌, Option, Some, None, find, length, min, reverse, nat_eq, count_by, cond, slice_get, slice_index_or, refl, sym, ap, ◌∙◌, subst, arith}
 use Rattle.std.specs.Prelude.{◌||◌}
 use Rattle.std.specs.List.{list_any}
 use Rattle.std.specs.Option.{option_and_then, option_map}
 use Rattle.std.proofs.lemmas.Bool.{and_from, and_parts, eqb-true, false≢true, lt-ltb}
 use Rattle.std.proofs.lemmas.Grind.{reverse_onto}
 use Rattle.std.proofs.lemmas.List.{length-reverse}
-use Rattle.std.proofs.lemmas.Option.{get_or_from_slice_get, none-some, slice_get_within}
+use Rattle.std.proofs.lemmas.Option.{get_or_from_slice_get, none-some, slice_get-map, slice_get_within}
 use Rattle.vm_types.specs.declared.config.Config.{Config}
 use Rattle.vm_journal.specs.declared.entry.Entry.{Entry}
 use Rattle.vm_journal.specs.declared.entry.Role.{Role}
@@ -14,7 +14,9 @@ use Rattle.vm_journal.specs.declared.entry.What.{What}
 use Rattle.vm_journal.specs.declared.entry.What.TheVariants as what
 use Rattle.pager_model.specs.Around.{past_view}
 use Rattle.pager_model.specs.Flights.{Direction, Flight, begun_by, begun_in, is_reading, open_flights, reading, writing}
-use Rattle.pager_model.specs.Run.{pager_after}
+use Rattle.vm_types.specs.declared.names.Seat.{Seat}
+use Rattle.run_record.specs.RunRecord.{seat_bytes}
+use Rattle.pager_model.specs.Run.{IsRun, pager_after}
 use Rattle.pager_model.specs.Transfers.{has_come, is_come, is_read_on, starts}
 use Rattle.pager_laws.proofs.FlightsOpen.{open_exactly}
 use Rattle.pager_rules.proofs.Basics.{count_cons_no, count_cons_yes, count_from_no_find, nat_eq_refl}
@@ -140,6 +142,15 @@ begun_at (e ∷ past) k x is = go (nat_eq k (length past + 1)) refl is (begun_at
         let most = old.most in
         record { least = old.least; most = omega (arith, most); entry = old.entry; at = ap (λ (xs : List Entry). slice_get xs (k - 1)) (reverse_onto past e []) ∙ get_left (reverse past) (e ∷ []) (k - 1) old.entry old.at; by = old.by }
 
+-- a flight's seat is a process's, the writer's or the swapper's
+small_seat : (config : Config) (past : List Entry) (k : ℕ) (x : Flight) → IsRun config past → begun_in k past ≡ Some x → x.seat ≤ length config.procs + 1
+small_seat config [] k x run is = absurd (none-some x is)
+small_seat config (e ∷ past) k x run is = go (nat_eq k (length past + 1)) is (small_seat config past k x run.0)
+  where
+    go : (b : Bool) → cond b (begun_by k (e.seat).0 e.what) (begun_in k past) ≡ Some x → (begun_in k past ≡ Some x → x.seat ≤ length config.procs + 1) → x.seat ≤ length config.procs + 1
+    go true here rest = let same = begun_seat k (e.seat).0 k e.what x here in let small = (run.1).line.seat in omega (arith, same, small)
+    go false there rest = rest there
+
 -- ---- lists that have an item of a kind
 any_found : {X : Type 0} (t : X → Bool) (xs : List X) → list_any t xs ≡ true → (x : X) × (find t xs ≡ Some x)
 any_found t [] has = absurd (false≢true has)
@@ -209,13 +220,29 @@ module _ {B : Type 0} {content plan : B → Option (List ℕ)} {reads writes fau
       by : (found : IsOpenRead f k (open_flights past)) → find (starts k) (open_flights past) ≡ Some found.flight
       by found = only_one (starts k) (is_read_on f) (open_flights past) found.flight found.found (subst (λ (n : ℕ). nat_eq (found.flight).start n ≡ true) found.start (nat_eq_refl (found.flight).start)) (starts_once past k)
 
-  -- what the journal says of the entry that began it
-  pub shown_is : (f k : ℕ) (r : Option Role) (role : Role) (entries : List Entry) (d : Entry) → f < config.frames → r ≡ slice_index_or fields.roles f r → r ≡ Some role → Some k ≡ held_at fields.starts f → entries ≡ reverse past
-      → Some (record { seat = (slice_index_or entries (k - 1) d).seat; start = k }) ≡ option_map read_by (find (is_read_on f) (open_flights past))
-  shown_is f k r role entries d there read some number is =
+  small_of : (f k : ℕ) (r : Option Role) (role : Role) (there : f < config.frames) (read : r ≡ slice_index_or fields.roles f r) (some : r ≡ Some role) (number : Some k ≡ held_at fields.starts f)
+      → (((open_is f k r role there read some number).0).flight).seat ≤ length config.procs + 1
+  small_of f k r role there read some number =
+      let found = (open_is f k r role there read some number).0 in
+      small_seat config past k found.flight before.run
+      ((open_exactly config past k found.flight before.run).begun
+      (only_one (starts k) (is_read_on f) (open_flights past) found.flight found.found (subst (λ (n : ℕ). nat_eq (found.flight).start n ≡ true) found.start (nat_eq_refl (found.flight).start)) (starts_once past k)))
+
+  -- what the record says of the entry that began it
+  pub shown_is : (f k : ℕ) (r : Option Role) (role : Role) (entries : List Entry) (x : Seat) → f < config.frames → r ≡ slice_index_or fields.roles f r → r ≡ Some role → Some k ≡ held_at fields.starts f → entries ≡ reverse past
+      → min x.0 255 ≡ slice_index_or (seat_bytes entries) (k - 1) 0 → Some (record { seat = x; start = k }) ≡ option_map read_by (find (is_read_on f) (open_flights past))
+  shown_is f k r role entries x there read some number is byte =
       let both = open_is f k r role there read some number in
-      let entry : slice_index_or entries (k - 1) d ≡ (both.1).entry = ap (λ (xs : List Entry). slice_index_or xs (k - 1) d) is ∙ get_or_from_slice_get (reverse past) (k - 1) (both.1).entry d (both.1).at in
-      let seat : ((slice_index_or entries (k - 1) d).seat).0 ≡ ((both.0).flight).seat = ap (λ (e : Entry). (e.seat).0) entry ∙ (both.1).by in
+      let flight = (both.0).flight in
+      let entry = (both.1).entry in
+      let kept : slice_index_or (seat_bytes entries) (k - 1) 0 ≡ min (entry.seat).0 255 =
+      ap (λ (xs : List Entry). slice_index_or (seat_bytes xs) (k - 1) 0) is
+      ∙ get_or_from_slice_get (seat_bytes (reverse past)) (k - 1) (min (entry.seat).0 255) 0
+      (slice_get-map (λ (e : Entry). min (e.seat).0 255) (reverse past) (k - 1) ∙ ap (option_map (λ (e : Entry). min (e.seat).0 255)) (both.1).at) in
+      let small = small_of f k r role there read some number in
+      let by = (both.1).by in
+      let few = before.formed.some_process.1 in
+      let seat : x.0 ≡ flight.seat = omega (arith, byte, kept, by, small, few) in
       (λ i. Some (record { seat = record { 0 = seat i }; start = sym (both.0).start i })) ∙ sym (ap (option_map read_by) (both.0).found)
 
   -- ---- the reads that bring back pages of a process

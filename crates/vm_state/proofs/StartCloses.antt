@@ -9,7 +9,7 @@ use Rattle.vm_types.specs.Configuration.{IsBlock, IsWellFormed}
 use Rattle.vm_types.specs.declared.config.Config.{Config}
 use Rattle.vm_types.specs.declared.names.BlockId.{BlockId}
 use Rattle.vm_types.specs.declared.names.BlockId.TheVariants as block
-use Rattle.vm_journal.specs.Journal.{Written}
+use Rattle.run_record.specs.RunRecord.{Recorded}
 use Rattle.pager_model.specs.Fits.{told_of}
 use Rattle.pager_model.specs.Told.{Told}
 use Rattle.content_laws.specs.Opening.{HasNewBuffers, HasNewHomes, IsNewBlock}
@@ -107,10 +107,10 @@ module _ {B : Type 0} (content plan : B → Option (List ℕ)) (reads writes fau
       first = λ telling s i x there. let made = made_at (block.Section s i) x there in ap (λ (t : Told). t.content) made.1 ∙ (made.3).first telling s i refl;
     }
 
-    pub started : (fields : Parts) (numbers : List ℕ) (journal : Written) → IsWellFormed config → AreFirst config fields → HasFirsts config numbers → journal ≡ record { entries = []; spare = 0 }
+    pub started : (fields : Parts) (numbers : List ℕ) (journal : Recorded) {keeps : Bool} → IsWellFormed config → AreFirst config fields → HasFirsts config numbers → journal ≡ record { entries = []; spare = 0; keeps = keeps }
         → IsState content plan reads writes faults tells tells_plan config (reverse journal.entries) journal.spare store fields numbers
     started fields numbers journal formed first have is =
-        subst (λ (j : Written). IsState content plan reads writes faults tells tells_plan config (reverse j.entries) j.spare store fields numbers) (sym is) (record {
+        subst (λ (j : Recorded). IsState content plan reads writes faults tells tells_plan config (reverse j.entries) j.spare store fields numbers) (sym is) (record {
           formed = formed;
           run = tt;
           short = omega arith;

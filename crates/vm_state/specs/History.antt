@@ -15,13 +15,15 @@ use Rattle.pager_model.specs.Run.{pager_after}
 use Rattle.pager_model.specs.Step.{IsLegal}
 
 -- the configuration; the entries, the newest first; how many more can be written without memory; the name of the
--- pool that its buffers are of; and whether it was halted
+-- pool that its buffers are of; whether it was halted; and whether the entries themselves are kept, so that code can
+-- read them
 pub record History : Type 0 where
   pub config : Config
   pub past : List Entry
   pub spare : ℕ
   pub pool : PoolName
   pub halted : Bool
+  pub keeps : Bool
 
 -- the state of the pager that it stands for
 abbrev pub pager : History → Pager

@@ -19,7 +19,7 @@ impl<B: Block> State<B> {
         ensures { self.new ≡ added self.old (entry_by seat (What.Served (Service.Delete at pages) Answer.Good)) }
     {
         let p = Proc(seat.0);
-        let number = self.journal.entries().len() as u64 + 1;
+        let number = self.journal.len() + 1;
         for n in 0..pages {
             let vpn = at.0 / 512 + n;
             let place = entry_in(self.tables.look(p, vpn)).unwrap().place;

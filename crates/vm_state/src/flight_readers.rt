@@ -38,7 +38,7 @@ impl<B: Block> State<B> {
     {
         self.roles[f.0 as usize]?;
         let start = self.store.flight(f)?;
-        let seat = self.journal.entries()[start as usize - 1].seat;
+        let seat = self.journal.seat_of(start);
         Some(OpenRead { seat, start })
     }
 

@@ -1,4 +1,4 @@
-ghost use Rattle.std.specs.Prelude.{◌≡◌, ◌≢◌, ◌<◌, ◌+◌, ℕ, true, length, reverse, slice_get};
+ghost use Rattle.std.specs.Prelude.{◌≡◌, ◌≢◌, ◌<◌, ◌+◌, ℕ, true, false, length, reverse, slice_get};
 ghost use Rattle.pager_model.specs.Flights.{is_busy, open_flights};
 ghost use Rattle.state_fits.specs.File.{owner_in};
 ghost use Rattle.state_fits.specs.Seats.{start_on};
@@ -9,6 +9,7 @@ ghost use Rattle.vm_state.specs.History.{pager};
 ghost use Rattle.std.specs.Option.{option_map};
 ghost use Rattle.vm_state.specs.Readings.{listed, row_at};
 ghost use Rattle.page_states.specs.Shown.{frame_number};
+ghost use Rattle.run_record.specs.Tallies.{tallies_of};
 
 use crate::state::State;
 use disk_trait::Block;
@@ -26,11 +27,25 @@ impl<B: Block> State<B> {
         &self.config
     }
 
-    /// The entries, oldest first.
+    /// The entries, oldest first, if they are kept; else no entries.
     pub fn entries(&self) -> &[Entry]
-        ensures { result.now ≡ reverse self.now.past }
+        ensures { self.now.keeps ≡ true → result.now ≡ reverse self.now.past }
     {
         self.journal.entries()
+    }
+
+    /// How many entries there are.
+    pub fn entry_count(&self) -> u64
+        ensures { result ≡ length self.now.past }
+    {
+        self.journal.len()
+    }
+
+    /// How many entries there are of each kind, in the order of `What`, if the entries aren't kept.
+    pub fn kinds(&self) -> [u64; 16]
+        ensures { self.now.keeps ≡ false → result ≡ tallies_of (reverse self.now.past) }
+    {
+        self.journal.kinds()
     }
 
     /// How many more entries can be made without memory.

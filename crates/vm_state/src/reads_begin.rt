@@ -64,7 +64,7 @@ impl<B: Block> State<B> {
         let busy = &mut self.busy[seat.0 as usize];
         *busy += 1;
         self.in_flight += 1;
-        let start = self.journal.entries().len() as u64 + 1;
+        let start = self.journal.len() + 1;
         let lift = self.store.lift_in(seat, page, f, block, start);
         self.journal.push(Entry {
             seat,

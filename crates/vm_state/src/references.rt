@@ -32,7 +32,7 @@ impl<B: Block> State<B> {
         self.store.frames_mut().mark(f, marked(r.op, kept.modify));
         touch(&mut self.pages, kept.page.unwrap());
         let reply = apply(self.store.bytes_mut(f), r);
-        let number = self.journal.entries().len() as u64 + 1;
+        let number = self.journal.len() + 1;
         let spoken = &mut self.spoken[seat.0 as usize];
         spoken.last = Some(number);
         spoken.count += 1;
@@ -50,7 +50,7 @@ impl<B: Block> State<B> {
     {
         let row = &mut self.processes[seat.0 as usize];
         row.references += 1;
-        let number = self.journal.entries().len() as u64 + 1;
+        let number = self.journal.len() + 1;
         let spoken = &mut self.spoken[seat.0 as usize];
         spoken.last = Some(number);
         spoken.count += 1;

@@ -21,7 +21,7 @@ impl<B: Block> State<B> {
         requires unchanged { is_serving s answer ≡ false }
         ensures { self.new ≡ added self.old (entry_by seat (What.Served s answer)) }
     {
-        let number = self.journal.entries().len() as u64 + 1;
+        let number = self.journal.len() + 1;
         let spoken = &mut self.spoken[seat.0 as usize];
         spoken.last = Some(number);
         spoken.count += 1;
@@ -38,7 +38,7 @@ impl<B: Block> State<B> {
     {
         let row = &mut self.processes[seat.0 as usize];
         row.limit = limit;
-        let number = self.journal.entries().len() as u64 + 1;
+        let number = self.journal.len() + 1;
         let spoken = &mut self.spoken[seat.0 as usize];
         spoken.last = Some(number);
         spoken.count += 1;
@@ -58,7 +58,7 @@ impl<B: Block> State<B> {
     {
         let row = &mut self.processes[seat.0 as usize];
         lock_range(&mut row.ring, at, pages, true);
-        let number = self.journal.entries().len() as u64 + 1;
+        let number = self.journal.len() + 1;
         let spoken = &mut self.spoken[seat.0 as usize];
         spoken.last = Some(number);
         spoken.count += 1;
@@ -78,7 +78,7 @@ impl<B: Block> State<B> {
     {
         let row = &mut self.processes[seat.0 as usize];
         lock_range(&mut row.ring, at, pages, false);
-        let number = self.journal.entries().len() as u64 + 1;
+        let number = self.journal.len() + 1;
         let spoken = &mut self.spoken[seat.0 as usize];
         spoken.last = Some(number);
         spoken.count += 1;
@@ -96,7 +96,7 @@ impl<B: Block> State<B> {
         requires { MayAdd self.old (entry_by seat (What.Served (Service.Protect at pages prot) Answer.Good)) }
         ensures { self.new ≡ added self.old (entry_by seat (What.Served (Service.Protect at pages prot) Answer.Good)) }
     {
-        let number = self.journal.entries().len() as u64 + 1;
+        let number = self.journal.len() + 1;
         let spoken = &mut self.spoken[seat.0 as usize];
         spoken.last = Some(number);
         spoken.count += 1;
@@ -115,7 +115,7 @@ impl<B: Block> State<B> {
         requires { MayAdd self.old (entry_by seat (What.Served (Service.Create at pages prot) Answer.Good)) }
         ensures { self.new ≡ added self.old (entry_by seat (What.Served (Service.Create at pages prot) Answer.Good)) }
     {
-        let number = self.journal.entries().len() as u64 + 1;
+        let number = self.journal.len() + 1;
         let spoken = &mut self.spoken[seat.0 as usize];
         spoken.last = Some(number);
         spoken.count += 1;

@@ -1,4 +1,4 @@
-ghost use Rattle.std.specs.Prelude.{◌≡◌, ℕ, ◌+◌, [], None, Some, All, IfOk, map, false, length, replicate, sum_by};
+ghost use Rattle.std.specs.Prelude.{◌≡◌, ℕ, ◌+◌, [], None, Some, All, IfOk, map, true, false, length, replicate, sum_by};
 ghost use Rattle.std.specs.Option.{option_map};
 ghost use Rattle.vm_types.specs.Configuration.{IsWellFormed, section_pages};
 ghost use Rattle.vm_types.specs.declared.names.BlockId.{BlockId};
@@ -17,10 +17,11 @@ use global_pages::Globals;
 use page_file::PageFile;
 use page_states::{lay_all, process_rows};
 use page_tables::Tables;
+use run_record::RunRecord;
 use section_table::Sections;
 use state_parts::{ChargedPages, SpokenRow, SwapPages};
 use std::alloc::Global;
-use vm_journal::{Journal, Role};
+use vm_journal::Role;
 use vm_types::{BlockId, Config, NoMemory};
 
 /// What is kept of a process without a spoken entry.
@@ -89,7 +90,42 @@ impl<B: Block> State<B> {
         requires names { map (λ (p : BlockId × B). p.0) blocks.items ≡ blocks_of config }
         requires made { All (λ (p : BlockId × B). IsMade B.tells_content B.tells_plan config p.0
             (told_of B.content B.plan B.reads B.writes B.faults p.1)) blocks.items }
-        ensures { IfOk result (λ s. s ≡ record { config = config; past = []; spare = 0; pool = s.pool; halted = false }) }
+        ensures { IfOk result (λ s. s ≡ record { config = config; past = []; spare = 0; pool = s.pool; halted = false; keeps = true }) }
+    {
+        State::start_with(alloc, config, blocks, RunRecord::new(alloc))
+    }
+
+    /// The same state, but its entries are only counted.
+    ///
+    /// # Errors
+    /// `NoMemory` if out of memory.
+    pub fn start_counting(
+        alloc: Global,
+        config: Config,
+        blocks: Vec<(BlockId, B)>,
+    ) -> Result<State<B>, NoMemory>
+        requires formed { IsWellFormed config }
+        requires names { map (λ (p : BlockId × B). p.0) blocks.items ≡ blocks_of config }
+        requires made { All (λ (p : BlockId × B). IsMade B.tells_content B.tells_plan config p.0
+            (told_of B.content B.plan B.reads B.writes B.faults p.1)) blocks.items }
+        ensures { IfOk result (λ s. s ≡ record { config = config; past = []; spare = 0; pool = s.pool; halted = false; keeps = false }) }
+    {
+        State::start_with(alloc, config, blocks, RunRecord::counting(alloc))
+    }
+
+    /// The state with this record, which has no entries.
+    fn start_with(
+        alloc: Global,
+        config: Config,
+        blocks: Vec<(BlockId, B)>,
+        journal: RunRecord,
+    ) -> Result<State<B>, NoMemory>
+        requires formed { IsWellFormed config }
+        requires names { map (λ (p : BlockId × B). p.0) blocks.items ≡ blocks_of config }
+        requires made { All (λ (p : BlockId × B). IsMade B.tells_content B.tells_plan config p.0
+            (told_of B.content B.plan B.reads B.writes B.faults p.1)) blocks.items }
+        requires empty { journal ≡ record { entries = []; spare = 0; keeps = journal.keeps } }
+        ensures { IfOk result (λ s. s ≡ record { config = config; past = []; spare = 0; pool = s.pool; halted = false; keeps = journal.keeps }) }
     {
         let procs = config.procs.items().len();
         let (firsts, total) = first_pages(alloc, &config)?;
@@ -106,7 +142,7 @@ impl<B: Block> State<B> {
             file: PageFile::new(alloc, config.pagefile)?,
             swaps: SwapPages::new(alloc, procs as u32)?,
             busy: none_busy(alloc, procs + 2)?,
-            journal: Journal::new(alloc),
+            journal,
             config,
             in_flight: 0,
             failed: None,

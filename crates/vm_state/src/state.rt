@@ -3,10 +3,11 @@ use frame_store::Store;
 use global_pages::Globals;
 use page_file::PageFile;
 use page_tables::Tables;
+use run_record::RunRecord;
 use section_table::Sections;
 use state_parts::{ChargedPages, ProcessRow, SpokenRow, SwapPages};
 use std::marker::Model;
-use vm_journal::{Journal, Role};
+use vm_journal::Role;
 use vm_types::{BlockId, Config};
 
 /// The state of the pager: the tables, the bytes and the journal. What contracts see of it is its
@@ -14,7 +15,7 @@ use vm_types::{BlockId, Config};
 #[derive(Drop)]
 pub struct State<B: Block> {
     pub(crate) config: Config,
-    pub(crate) journal: Journal,
+    pub(crate) journal: RunRecord,
     pub(crate) store: Store<B>,
     pub(crate) roles: Vec<Option<Role>>,
     pub(crate) processes: Vec<ProcessRow>,
@@ -45,6 +46,7 @@ impl<B: Block> Model for State<B> {
       spare = s.journal.spare;
       pool = s.store.pool;
       halted = s.halted;
+      keeps = s.journal.keeps;
     } };
 
     ghost invariant = { λ s. IsState B.content B.plan B.reads B.writes B.faults B.tells_content B.tells_plan

@@ -46,7 +46,7 @@ impl<B: Block> State<B> {
             → LiftFits B.content B.plan B.reads B.writes B.faults B.tells_content B.tells_plan self.old.config self.old.past lift
             → LiftFits B.content B.plan B.reads B.writes B.faults B.tells_content B.tells_plan self.new.config self.new.past lift }
     {
-        let start = self.journal.entries().len() as u64 + 1;
+        let start = self.journal.len() + 1;
         let kept = self.store.frames().row(f);
         let page = kept.page.unwrap();
         begin_write(self.store.frames_mut(), f);

@@ -1,7 +1,7 @@
 -- The slots in the order in which the hand passes them.
-use Rattle.std.proofs.Common.{◌≡◌, ℕ, ◌+◌, ◌-◌, ◌%◌, ◌<◌, ◌≤◌, ◌⊎◌, Bool, true, false, List, Option, Some, None, length, get_or, take, drop, sym, ap, ◌∙◌, inl, inr, mod-eq_of_lt, arith, length-append, length-drop, length-take-le, get_or-drop, get_or-take}
+use Rattle.std.proofs.Common.{◌≡◌, ℕ, ◌+◌, ◌-◌, ◌%◌, ◌<◌, ◌≤◌, ◌⊎◌, Bool, true, false, List, Option, Some, None, length, get_or, ◌∷◌, ◌++◌, take, drop, sym, subst, ap, ◌∙◌, inl, inr, mod-eq_of_lt, arith, length-append, length-drop, length-take-le, get_or-drop, get_or-take}
 use native.Mathlib.Nat.{mod-eq-sub-mod}
-use Rattle.std.proofs.lemmas.List.{get_or_append_left, get_or-append_right}
+use Rattle.std.proofs.lemmas.List.{drop_more, get_or_append_left, get_or-append_right}
 use Rattle.std.proofs.lemmas.List.Quantifiers.{position-Some}
 use Rattle.std.proofs.lemmas.List.Sums.{fails_before_first}
 use Rattle.std.proofs.lemmas.Bool.{cases_lt, cond_below}
@@ -10,6 +10,14 @@ use Rattle.std.specs.List.{position, position_or_len}
 use Rattle.vm_types.specs.Ring.{Held, Ring, from_hand, slot_after}
 use Rattle.working_set.specs.Slots.{slot_at}
 use Rattle.working_set.specs.Offers.{places_to}
+
+-- an item that passes is the first one
+head_first : {X : Type 0} (p : X → Bool) (x : X) (xs : List X) → p x ≡ true → position p (x ∷ xs) ≡ Some 0
+head_first p x xs passes = rw passes (sym (cond_below 0 (length (x ∷ xs)) (Some 0) None (omega arith)))
+
+pub hand_first : {X : Type 0} (p : X → Bool) (xs : List X) (hand : ℕ) (d : X) → hand < length xs → p (get_or xs hand d) ≡ true → Some 0 ≡ position p (drop hand xs ++ take hand xs)
+hand_first p xs hand d within passes =
+    subst (λ ys. Some 0 ≡ position p (ys ++ take hand xs)) (sym (drop_more xs hand d within)) (sym (head_first p (get_or xs hand d) (drop (hand + 1) xs ++ take hand xs) passes))
 
 -- a number below twice n wraps once at most
 wraps_once : (n j : ℕ) → j < n + n → ((j < n) × (j % n ≡ j)) ⊎ ((n ≤ j) × (j % n ≡ j - n))

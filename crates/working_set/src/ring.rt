@@ -229,18 +229,26 @@ fn is_unlocked(slot: Option<Held>) -> bool
 
 /// How many places from the hand on the first empty slot is.
 fn places_to_empty(slots: &[Option<Held>], hand: usize) -> Option<usize>
-    requires { hand ≤ length slots.now }
+    requires { hand < length slots.now }
     ensures { result ≡ position is_empty_slot (drop hand slots.now ++ take hand slots.now) }
 {
+    // Mostly it is the hand's own slot.
+    if is_empty(slots[hand]) {
+        return Some(0);
+    }
     let (front, back) = slots.split_at(hand);
     back.iter().chain(front).position(|slot| is_empty(*slot))
 }
 
 /// How many places from the hand on the first page that is not locked is.
 fn places_to_unlocked(slots: &[Option<Held>], hand: usize) -> Option<usize>
-    requires { hand ≤ length slots.now }
+    requires { hand < length slots.now }
     ensures { result ≡ position is_unlocked_slot (drop hand slots.now ++ take hand slots.now) }
 {
+    // Mostly it is the hand's own slot.
+    if is_unlocked(slots[hand]) {
+        return Some(0);
+    }
     let (front, back) = slots.split_at(hand);
     back.iter().chain(front).position(|slot| is_unlocked(*slot))
 }

@@ -33,7 +33,7 @@ count_states-requires g c =
 
 pub returns-clause-report : goal.returns-clause-report
 returns-clause-report g c =
-    let at = ap length c.entries.ensures ∙ length-reverse c.args.state.now.past in
+    let at = c.entry_count.ensures in
     let states = c.in_ok-states.ensures ∙ ap (λ (rows : List FrameRow). map (in_state rows) all_states) (ap (map frame_view) c.items.ensures ∙ c.in_ok-frames.ensures) in
     let size = ap (λ (x : Config). x.pagefile) c.config-config.ensures in
     λ i. record { at = at i; states = states i; frames = c.in_ok-frames.ensures i; size = size i; charged = c.charged.ensures i; assigned = c.assigned.ensures i; processes = c.in_ok-processes.ensures.rows i }

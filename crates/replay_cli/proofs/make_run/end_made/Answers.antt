@@ -4,7 +4,7 @@ use Rattle.run_text.specs.Parts.{run_status}
 use Rattle.replay_cli.proofs.make_run.end_made.Goals as goal
 
 pub returns-in-Ok : goal.returns-in-Ok
-returns-in-Ok g c = ends_then {two = status_line (run_status c.args.dirty.now)} c.in-Ok.ensures (rw c.status_of.ensures at c.end_with.ensures)
+returns-in-Ok g c = λ entries all kinds. ends_then {two = status_line (run_status c.args.run.now.dirty.items)} (c.in-Ok.ensures entries all kinds) (rw (c.status_of.ensures, c.deref.ensures.value) at c.end_with.ensures)
 
 pub returns-in-Err : goal.returns-in-Err
-returns-in-Err g c = ends_cut (status_line (run_status c.args.dirty.now)) (run_status c.args.dirty.now) c.in-Err.ensures
+returns-in-Err g c = λ entries all kinds. ends_cut (status_line (run_status c.args.run.now.dirty.items)) (run_status c.args.run.now.dirty.items) (c.in-Err.ensures entries all kinds)

@@ -10,5 +10,5 @@ returns-clause-finished g c = (
   c.in_ok-retire_blocks.ensures.ok ∙ ap (λ (xs : List (BlockId × _)). xs ++ c.finish-config.result.2.items) c.make_blocks.ensures.retired,
   is_finished _ _ _ _ _ _ _ c.args.config c.run_state.new.state c.in_ok-ending.ending _ c.finish-config.result.2.items
       (ap (λ (x : History). x.config) c.in_ok-ending.ensures.same ∙ ap (λ (x : History). x.config) c.in_ok-state.ensures) c.in_ok-ending.ensures.ended
-      c.finish-config.ensures.config c.finish-config.ensures.entries refl refl refl c.finish-config.ensures.names c.finish-config.ensures.blocks,
+      c.finish-config.ensures.config (c.finish-config.ensures.entries (ap (λ (x : History). x.keeps) c.in_ok-ending.ensures.same ∙ ap (λ (x : History). x.keeps) c.in_ok-state.ensures)) refl refl refl c.finish-config.ensures.names c.finish-config.ensures.blocks,
 )

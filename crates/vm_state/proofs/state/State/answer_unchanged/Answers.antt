@@ -19,5 +19,5 @@ pub invariant_of-self : goal.invariant_of-self
 invariant_of-self g c =
     let may = may_before c.self.view_is c.requires.may in
     pushed _ _ (entry_by c.args.seat (what.Served c.args.s c.args.answer)) c.push.new.self c.push.ensures
-    (left_closes c.self.invariant c.args.seat c.index_mut-spoken.result.now c.index_mut-spoken.ensures.value _ (next_number _ c.entries.result.now c.entries.ensures.entries)
+    (left_closes c.self.invariant c.args.seat c.index_mut-spoken.result.now c.index_mut-spoken.ensures.value _ (next_number _ c.len-number.result c.len-number.ensures.len)
     c.args.s c.args.answer c.requires.unchanged may.legal may.paid)

@@ -39,6 +39,6 @@ pub invariant_of-self : goal.invariant_of-self
 invariant_of-self g c =
     let may = may_before c.self.view_is c.requires in
     pushed _ _ (entry_by c.args.seat (what.Served (service.Create c.args.at c.args.pages c.args.prot) answer.Good)) c.push.new.self c.push.ensures
-    (created_closes c.self.invariant c.args.seat c.index_mut-spoken.result.now c.index_mut-spoken.ensures.value _ (next_number _ c.entries.result.now c.entries.ensures.entries)
+    (created_closes c.self.invariant c.args.seat c.index_mut-spoken.result.now c.index_mut-spoken.ensures.value _ (next_number _ c.len-number.result c.len-number.ensures.len)
     c.args.at c.args.pages c.args.prot c.create_zeros.new.tables c.create_zeros.ensures.procs c.create_zeros.ensures.changed
     c.create_zeros.new.sections c.create_zeros.ensures.sections.0 c.create_zeros.ensures.sections.1 c.create_zeros.ensures.behind may.legal may.paid)

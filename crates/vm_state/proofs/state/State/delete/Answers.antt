@@ -81,4 +81,4 @@ invariant_of-self g c =
     (close.pushed_on c.self.inside.journal c.loop-n.self-inside.journal c.push.new.self _ c.loop-n.invariant.journal c.push.ensures)
     (close.delete_closes c.self.invariant c.args.seat c.args.at c.args.pages may.legal may.paid c.loop-n.n (let least = c.loop-n-test.false in let most = c.loop-n.auto.n-end in omega (arith, least, most)) _ c.loop-n.invariant.parts
     _ c.loop-n.invariant.config _ c.loop-n.invariant.firsts _ _ c.loop-n.invariant.store
-    c.index_mut-spoken.result.now c.index_mut-spoken.ensures.value _ (next_number _ c.entries.result.now c.entries.ensures.entries))
+    c.index_mut-spoken.result.now c.index_mut-spoken.ensures.value _ (next_number _ c.len-number.result c.len-number.ensures.len))

@@ -24,4 +24,4 @@ invariant_of-self g c =
     let may = may_before c.self.view_is c.requires in
     pushed _ _ (entry_by c.args.seat (what.Denied c.args.r c.args.why)) c.push.new.self c.push.ensures
     (denied_closes c.self.invariant c.args.seat c.args.r c.args.why may.legal may.paid c.index_mut-row.result.now c.index_mut-row.ensures.value
-    c.index_mut-spoken.result.now c.index_mut-spoken.ensures.value _ (next_number _ c.entries.result.now c.entries.ensures.entries))
+    c.index_mut-spoken.result.now c.index_mut-spoken.ensures.value _ (next_number _ c.len-number.result c.len-number.ensures.len))

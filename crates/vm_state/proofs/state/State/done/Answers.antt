@@ -75,7 +75,7 @@ invariant_of-self g c =
     let same = (close.found_is c.self.invariant c.args.seat c.args.r legal c.look-look.result c.frame_in.result c.look-look.ensures.value c.frame_in.ensures).1 c.unwrap-f.result c.unwrap-f.ensures in
     pushed _ _ (entry_by c.args.seat (what.Done c.args.r c.apply-reply.result)) c.push.new.self c.push.ensures
     (close.done_closes c.self.invariant c.args.seat c.args.r legal c.unwrap-f.result same may.paid c.index_mut-row.result.now c.index_mut-row.ensures.value c.index_mut-spoken.result.now c.index_mut-spoken.ensures.value
-    _ (next_number _ c.entries.result.now c.entries.ensures.entries) c.row-kept.result (rw (← c.frames.ensures) c.row-kept.ensures.row) c.marked.result c.marked.ensures
+    _ (next_number _ c.len-number.result c.len-number.ensures.len) c.row-kept.result (rw (← c.frames.ensures) c.row-kept.ensures.row) c.marked.result c.marked.ensures
     c.mark.new.self (rw (← c.frames_mut.ensures.value) c.mark.ensures.rows) (rw (← c.frames_mut.ensures.value) c.mark.ensures.free) (rw (← c.frames_mut.ensures.value) c.mark.ensures.modified)
     c.unwrap.result c.unwrap.ensures c.touch.new.pages c.touch.ensures.procs c.touch.ensures.changed
     c.bytes_mut.result.now c.apply-reply.new.page c.bytes_mut.ensures.bytes c.apply-reply.ensures.bytes)

@@ -1,4 +1,5 @@
-use Rattle.std.proofs.Common.{[], ◌≡◌, subst, sym}
+use Rattle.std.proofs.Common.{[], ◌≡◌, ◌∙◌, ap, reverse, subst, sym}
+use Rattle.std.proofs.lemmas.List.{reverse-reverse}
 use Rattle.pager_model.specs.Flights.{open_flights}
 use Rattle.vm_state.specs.Ends.{AreGivenBack}
 use Rattle.vm_state.specs.History.{History}
@@ -12,3 +13,8 @@ pub returns-clause-blocks : goal.returns-clause-blocks
 returns-clause-blocks g c =
     subst (λ (s : History). AreGivenBack g.B.Block.content g.B.Block.plan g.B.Block.reads g.B.Block.writes g.B.Block.faults g.B.Block.tells_content g.B.Block.tells_plan s.config s.past c.into_blocks.result.items) c.self.view_is
     (close.given_back c.self.invariant (subst (λ (s : History). open_flights s.past ≡ []) (sym c.self.view_is) c.requires) c.into_blocks.result.items c.into_blocks.ensures.ids c.into_blocks.ensures.blocks)
+
+pub returns-clause-entries : goal.returns-clause-entries
+returns-clause-entries g c = λ keeps.
+    c.into_entries.ensures (ap (λ (s : History). s.keeps) c.self.view_is ∙ keeps)
+    ∙ (sym (reverse-reverse c.self.inside.journal.entries) ∙ ap (λ (s : History). reverse s.past) c.self.view_is)

@@ -73,14 +73,14 @@ invariant_of-self g c =
       global = close.global_held c.self.invariant c.args.seat c.args.f c.args.block c.args.role (may_before c.self.view_is c.requires).legal c.unwrap-page.result (sym c.read_page.ensures ∙ c.unwrap-page.ensures) c.global_number-number.result (c.global_number-number.ensures ∙ ap (λ (firsts : List ℕ). number_by firsts c.unwrap-page.result) c.deref.ensures.value) c.hold_page.new.globals c.hold_page.ensures.globals;
     })
     (subst (λ (rows : List ProcessRow). CountsFault c.args.role c.self.inside.processes.items rows) (sym (with_items_is c.self.inside.processes c.count_fault.new.processes (close.rows_stay c.args.role c.self.inside.processes.items c.count_fault.new.processes (subst (λ (rows : List ProcessRow). CountsFault c.args.role rows c.count_fault.new.processes) c.deref_mut.ensures.value c.count_fault.ensures) ∙ sym c.self.inside.processes.ok.0))) (subst (λ (rows : List ProcessRow). CountsFault c.args.role rows c.count_fault.new.processes) c.deref_mut.ensures.value c.count_fault.ensures))
-    c.charge_fault.ensures _ (next_number _ c.entries.result.now c.entries.ensures.entries) c.lift_in-lift.new.self c.lift_in-lift.ensures.store)
+    c.charge_fault.ensures _ (next_number _ c.len-start.result c.len-start.ensures.len) c.lift_in-lift.new.self c.lift_in-lift.ensures.store)
 
 pub returns-clause-lift : goal.returns-clause-lift
 returns-clause-lift g c =
     subst (λ (s : History). HasBegun g.B.Block.content g.B.Block.plan g.B.Block.reads g.B.Block.writes g.B.Block.faults g.B.Block.tells_content g.B.Block.tells_plan s c.args.seat (what.In c.args.f c.args.block c.args.role) c.args.f.0 c.args.block true c.lift_in-lift.result) c.self.view_is
     (record {
-      begins = close.lift_begun c.self.invariant c.args.seat c.args.f c.args.block c.args.role (may_before c.self.view_is c.requires).legal c.unwrap-page.result (sym c.read_page.ensures ∙ c.unwrap-page.ensures) c.lift_in-lift.result _ _ c.lift_in-lift.ensures.lift (next_number _ c.entries.result.now c.entries.ensures.entries);
-      fits = close.lift_fits c.self.invariant c.args.seat c.args.f c.args.block c.args.role (may_before c.self.view_is c.requires).legal c.unwrap-page.result (sym c.read_page.ensures ∙ c.unwrap-page.ensures) c.lift_in-lift.result _ _ c.lift_in-lift.ensures.lift (next_number _ c.entries.result.now c.entries.ensures.entries) c.lift_in-lift.ensures.held;
+      begins = close.lift_begun c.self.invariant c.args.seat c.args.f c.args.block c.args.role (may_before c.self.view_is c.requires).legal c.unwrap-page.result (sym c.read_page.ensures ∙ c.unwrap-page.ensures) c.lift_in-lift.result _ _ c.lift_in-lift.ensures.lift (next_number _ c.len-start.result c.len-start.ensures.len);
+      fits = close.lift_fits c.self.invariant c.args.seat c.args.f c.args.block c.args.role (may_before c.self.view_is c.requires).legal c.unwrap-page.result (sym c.read_page.ensures ∙ c.unwrap-page.ensures) c.lift_in-lift.result _ _ c.lift_in-lift.ensures.lift (next_number _ c.len-start.result c.len-start.ensures.len) c.lift_in-lift.ensures.held;
     })
 
 pub returns-clause-others : goal.returns-clause-others

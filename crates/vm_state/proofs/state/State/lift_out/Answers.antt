@@ -58,7 +58,7 @@ invariant_of-self g c =
     let page_is = ap (λ (r : Row). r.page) c.row-kept.ensures.row ∙ ap (λ (x : Frames). (row_of x c.args.f.0).page) c.frames.ensures in
     pushed _ _ (entry_by c.args.seat (what.Out c.args.f c.args.block)) c.push.new.self c.push.ensures
     (close.out_closes c.self.invariant c.args.seat c.args.f c.args.block (may_before c.self.view_is c.requires).legal c.begin_write.new.frames c.lift_out-lift.new.self c.index_mut-busy.result.now refl c.give_block.new.pages
-    _ (next_number _ c.entries.result.now c.entries.ensures.entries) c.row-kept.result.page page_is c.give_block.new.file c.give_block.ensures.file may.paid
+    _ (next_number _ c.len-start.result c.len-start.ensures.len) c.row-kept.result.page page_is c.give_block.new.file c.give_block.ensures.file may.paid
     (record {
       rows = rw (← c.frames_mut.ensures.value) c.begin_write.ensures.rows;
       free = rw (← c.frames_mut.ensures.value) c.begin_write.ensures.free;
@@ -77,7 +77,7 @@ returns-clause-lift g c =
     let page_is = ap (λ (r : Row). r.page) c.row-kept.ensures.row ∙ ap (λ (x : Frames). (row_of x c.args.f.0).page) c.frames.ensures in
     let its = begin.lift_fits c.self.invariant c.args.seat c.args.f c.args.block (may_before c.self.view_is c.requires).legal c.lift_out-lift.result.buffer c.lift_out-lift.ensures.buffer c.lift_out-lift.result.held c.lift_out-lift.ensures.held
     c.self.inside.store.pool c.unwrap-page.result (begin.page_is c.self.invariant c.args.seat c.args.f c.args.block (may_before c.self.view_is c.requires).legal c.row-kept.result.page page_is c.unwrap-page.result c.unwrap-page.ensures)
-    _ (next_number _ c.entries.result.now c.entries.ensures.entries) c.lift_out-lift.result c.lift_out-lift.ensures.lift in
+    _ (next_number _ c.len-start.result c.len-start.ensures.len) c.lift_out-lift.result c.lift_out-lift.ensures.lift in
     close.begun_before g.B.Block.content g.B.Block.plan g.B.Block.reads g.B.Block.writes g.B.Block.faults g.B.Block.tells_content g.B.Block.tells_plan c.args.seat c.args.f c.args.block c.lift_out-lift.result c.self.view_is
     (record { begins = its.0; fits = its.1 })
 

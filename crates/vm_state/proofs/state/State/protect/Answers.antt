@@ -31,5 +31,5 @@ pub invariant_of-self : goal.invariant_of-self
 invariant_of-self g c =
     let may = may_before c.self.view_is c.requires in
     pushed _ _ (entry_by c.args.seat (what.Served (service.Protect c.args.at c.args.pages c.args.prot) answer.Good)) c.push.new.self c.push.ensures
-    (protected_closes c.self.invariant c.args.seat c.index_mut-spoken.result.now c.index_mut-spoken.ensures.value _ (next_number _ c.entries.result.now c.entries.ensures.entries)
+    (protected_closes c.self.invariant c.args.seat c.index_mut-spoken.result.now c.index_mut-spoken.ensures.value _ (next_number _ c.len-number.result c.len-number.ensures.len)
     c.args.at c.args.pages c.args.prot c.protect.new.tables c.protect.ensures.procs c.protect.ensures.changed may.legal may.paid)

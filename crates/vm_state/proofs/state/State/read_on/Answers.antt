@@ -20,29 +20,20 @@ returns-in_err-start g c =
     ∙ sym (ap (option_map read_by) (shows.no_start c.self.invariant c.args.f.0 (subst (λ (s : History). c.args.f.0 < s.config.frames) (sym c.self.view_is) c.requires) c.in_err-start.ensures))
     ∙ ap (λ (s : History). option_map read_by (find (is_read_on c.args.f.0) (open_flights s.past))) c.self.view_is
 
-pub overflow_sub-seat : goal.overflow_sub-seat
-overflow_sub-seat g c =
+pub seat_of-seat-requires-clause-some : goal.seat_of-seat-requires-clause-some
+seat_of-seat-requires-clause-some g c =
     let both = shows.open_is c.self.invariant c.args.f.0 c.in_ok-start.start c.index.result.now c.in_ok-index.field-0 (subst (λ (s : History). c.args.f.0 < s.config.frames) (sym c.self.view_is) c.requires) c.index.ensures c.in_ok-index.was c.in_ok-start.ensures in
     (both.1).least
 
-pub offset_bounds-entries-start : goal.offset_bounds-entries-start
-offset_bounds-entries-start g c =
+pub seat_of-seat-requires-clause-within : goal.seat_of-seat-requires-clause-within
+seat_of-seat-requires-clause-within g c =
     let both = shows.open_is c.self.invariant c.args.f.0 c.in_ok-start.start c.index.result.now c.in_ok-index.field-0 (subst (λ (s : History). c.args.f.0 < s.config.frames) (sym c.self.view_is) c.requires) c.index.ensures c.in_ok-index.was c.in_ok-start.ensures in
     let most = (both.1).most in
     let count = length-reverse c.self.inside.journal.entries in
-    let within = c.entries.ensures.within in
-    omega (arith, most, count, within)
-
-pub bounds-entries-start : goal.bounds-entries-start
-bounds-entries-start g c =
-    let both = shows.open_is c.self.invariant c.args.f.0 c.in_ok-start.start c.index.result.now c.in_ok-index.field-0 (subst (λ (s : History). c.args.f.0 < s.config.frames) (sym c.self.view_is) c.requires) c.index.ensures c.in_ok-index.was c.in_ok-start.ensures in
-    let least = (both.1).least in
-    let most = (both.1).most in
-    let count = length-reverse c.self.inside.journal.entries in
-    rw c.entries.ensures.entries (omega (arith, least, most, count))
+    omega (arith, most, count)
 
 pub returns : goal.returns
 returns g c =
-    shows.shown_is c.self.invariant c.args.f.0 c.in_ok-start.start c.index.result.now c.in_ok-index.field-0 c.entries.result.now _ (subst (λ (s : History). c.args.f.0 < s.config.frames) (sym c.self.view_is) c.requires) c.index.ensures c.in_ok-index.was c.in_ok-start.ensures
-    (c.entries.ensures.entries ∙ sym (reverse-reverse c.self.inside.journal.entries))
+    shows.shown_is c.self.invariant c.args.f.0 c.in_ok-start.start c.index.result.now c.in_ok-index.field-0 c.self.inside.journal.entries c.seat_of-seat.result (subst (λ (s : History). c.args.f.0 < s.config.frames) (sym c.self.view_is) c.requires) c.index.ensures c.in_ok-index.was c.in_ok-start.ensures
+    (sym (reverse-reverse c.self.inside.journal.entries)) c.seat_of-seat.ensures
     ∙ ap (λ (s : History). option_map read_by (find (is_read_on c.args.f.0) (open_flights s.past))) c.self.view_is

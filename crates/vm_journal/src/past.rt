@@ -2,12 +2,12 @@ ghost use Rattle.std.specs.Prelude.{◌≡◌, [], ◌∷◌, List};
 ghost use Rattle.std.specs.Borrow.{ftrue};
 ghost use Rattle.vm_journal.specs.declared.entry.Entry.{Entry};
 
+use crate::entry::Entry;
 use std::marker::Model;
-use vm_journal::Entry;
 
 /// A list of entries, the newest first, that only proofs read. Takes no memory.
 #[derive(Drop)]
-pub(crate) struct Past {
+pub struct Past {
     pub ghost entries: { List Entry },
 }
 
@@ -17,14 +17,14 @@ impl Model for Past {
 
 impl Past {
     /// No entries.
-    pub(crate) fn new() -> Past
+    pub fn new() -> Past
         ensures { result.entries ≡ [] }
     {
         Past {}
     }
 
     /// One more.
-    pub(crate) fn then(&self, _e: &Entry) -> Past
+    pub fn then(&self, _e: &Entry) -> Past
         ensures { result.entries ≡ _e.now ∷ self.now.entries }
     {
         Past {}

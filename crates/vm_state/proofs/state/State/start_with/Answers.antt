@@ -2,7 +2,7 @@ use Rattle.std.proofs.Common.{ℕ, ◌+◌, List, None, length, map, replicate, 
 use Rattle.vm_types.specs.declared.config.ProcSpec.{ProcSpec}
 use Rattle.state_fits.specs.Opening.{first_row, unspoken}
 use Rattle.vm_state.proofs.StartCloses.{started}
-use Rattle.vm_state.proofs.state.State.start.Goals as goal
+use Rattle.vm_state.proofs.state.State.start_with.Goals as goal
 
 pub invariant_of-result : goal.invariant_of-result
 invariant_of-result g c =
@@ -15,7 +15,7 @@ invariant_of-result g c =
       names = c.requires.names;
       made = c.requires.made;
     })
-    _ _ c.new-7.result c.requires.formed
+    _ _ c.args.journal c.requires.formed
     (record {
       frames = c.in_ok-store.ensures.frames;
       starts = c.in_ok-store.ensures.flights;
@@ -37,4 +37,4 @@ invariant_of-result g c =
       in_flight = refl;
       failed = refl;
     })
-    c.in_ok-firsts.ensures.firsts c.new-7.ensures
+    c.in_ok-firsts.ensures.firsts c.requires.empty
