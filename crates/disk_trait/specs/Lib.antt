@@ -1,6 +1,6 @@
 pub mod Causes
 pub mod Told
-pub mod Plan
+pub mod Body
 pub mod MemoryBlock
 pub mod MemoryDepot
 pub mod PlainBlock

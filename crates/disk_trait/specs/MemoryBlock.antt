@@ -4,11 +4,11 @@ use Rattle.disk_trait.specs.declared.memory_block.MemoryBlock.{MemoryBlock}
 
 -- its bytes
 abbrev pub bytes_of : MemoryBlock → List ℕ
-bytes_of block = block.bytes
+bytes_of block = block.body.bytes
 
 -- the numbers of the calls that fail
 abbrev pub plan_of : MemoryBlock → List ℕ
-plan_of block = block.plan.calls
+plan_of block = block.body.calls
 
 -- how often it was read
 abbrev pub reads_of : MemoryBlock → ℕ
@@ -20,7 +20,7 @@ writes_of block = block.writes
 
 -- how often it failed
 abbrev pub faults_of : MemoryBlock → ℕ
-faults_of block = block.plan.faults
+faults_of block = block.body.faults
 
 -- its next call fails
 abbrev pub IsDueToFail : MemoryBlock → Type 0

@@ -2,6 +2,7 @@
 #![tactic(auto)]
 
 mod block;
+mod body;
 mod depot;
 mod file_block;
 mod file_depot;
@@ -9,7 +10,7 @@ mod memory_block;
 mod memory_depot;
 mod never_fails;
 mod plain_block;
-mod plan;
+mod planned_buf;
 
 pub use block::Block;
 pub use depot::{Depot, MakeFault};

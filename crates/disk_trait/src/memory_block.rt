@@ -1,13 +1,8 @@
-ghost use Rattle.std.specs.Prelude.{◌≡◌, ◌+◌, ◌^◌, ◌<◌, ◌≤◌, ◌++◌, ◌↔◌, length, replicate, take, drop, Some, true, refl, IsTrue, IsErr, IfOk, OnOk, OnErr, Contains, if◌then◌else◌};
+ghost use Rattle.std.specs.Prelude.{◌≡◌, ◌+◌, ◌^◌, ◌<◌, ◌≤◌, ◌++◌, ◌↔◌, length, take, drop, Some, true, refl, IsErr, OnOk, OnErr};
 
 use crate::block::Block;
-use crate::plan::Plan;
-use page_pool::LazyBuf;
-use std::alloc::Global;
-use vm_types::{Failed, NoMemory};
-
-/// The bytes of a new page.
-const ZEROS: [u8; 512] = [0; 512];
+use crate::body::Body;
+use vm_types::Failed;
 
 /// A block in memory, which fails at the calls that it was made to fail at and at no other. Its memory
 /// isn't touched as long as its bytes are zeros that no call wrote.
@@ -15,57 +10,30 @@ const ZEROS: [u8; 512] = [0; 512];
 pub struct MemoryBlock {
     reads: u64,
     writes: u64,
-    bytes: LazyBuf,
-    plan: Plan,
-    ghost whole: { length bytes ≡ 512 },
+    body: Body,
+    ghost whole: { length body.bytes ≡ 512 },
     ghost few_calls: { reads + writes ≤ 2 ^ 48 },
-    ghost few_faults: { plan.faults ≤ reads + writes },
+    ghost few_faults: { body.faults ≤ reads + writes },
 }
 
 impl MemoryBlock {
     ghost use Rattle.disk_trait.specs.MemoryBlock.{bytes_of, plan_of, reads_of, writes_of, faults_of, IsDueToFail};
 
-    /// A block of these 512 bytes, not read or written so far, which is to fail at the calls
-    /// `fails`. The buffer has zeros, and gets the bytes.
-    ///
-    /// # Errors
-    /// `NoMemory` for want of memory.
-    pub(crate) fn new(
-        alloc: Global,
-        buf: LazyBuf,
-        bytes: &[u8],
-        fails: &[u32],
-    ) -> Result<MemoryBlock, NoMemory>
-        requires size { length bytes.now ≡ 512 }
-        requires zeros { buf ≡ replicate 512 0 }
-        ensures bytes { IfOk result (λ b. bytes_of b ≡ bytes.now) }
-        ensures plan { IfOk result (λ b. plan_of b ≡ fails.now) }
-        ensures reads { IfOk result (λ b. reads_of b ≡ 0) }
-        ensures writes { IfOk result (λ b. writes_of b ≡ 0) }
-        ensures faults { IfOk result (λ b. faults_of b ≡ 0) }
+    /// A block of these bytes and calls, not read or written so far.
+    pub(crate) fn new(body: Body) -> MemoryBlock
+        requires whole { length body.bytes ≡ 512 }
+        requires unused { body.faults ≡ 0 }
+        ensures bytes { bytes_of result ≡ body.bytes }
+        ensures plan { plan_of result ≡ body.calls }
+        ensures reads { reads_of result ≡ 0 }
+        ensures writes { writes_of result ≡ 0 }
+        ensures faults { faults_of result ≡ 0 }
     {
-        MemoryBlock::of(alloc, holding(buf, bytes), fails)
-    }
-
-    /// A block of the buffer's bytes, not read or written so far, which is to fail at the calls `fails`.
-    ///
-    /// # Errors
-    /// `NoMemory` for want of memory.
-    pub(crate) fn of(alloc: Global, bytes: LazyBuf, fails: &[u32]) -> Result<MemoryBlock, NoMemory>
-        requires { length bytes ≡ 512 }
-        ensures bytes { IfOk result (λ b. bytes_of b ≡ bytes) }
-        ensures plan { IfOk result (λ b. plan_of b ≡ fails.now) }
-        ensures reads { IfOk result (λ b. reads_of b ≡ 0) }
-        ensures writes { IfOk result (λ b. writes_of b ≡ 0) }
-        ensures faults { IfOk result (λ b. faults_of b ≡ 0) }
-    {
-        let plan = Plan::new(alloc, fails)?;
-        Ok(MemoryBlock {
-            bytes,
-            plan,
+        MemoryBlock {
             reads: 0,
             writes: 0,
-        })
+            body,
+        }
     }
 
     /// Its 512 bytes. Takes no memory.
@@ -73,7 +41,7 @@ impl MemoryBlock {
         ensures bytes { result.now ≡ bytes_of self.now }
         ensures size { length result.now ≡ 512 }
     {
-        self.bytes.bytes()
+        self.body.bytes()
     }
 
     /// How often it was read. Takes no memory.
@@ -89,41 +57,6 @@ impl MemoryBlock {
     {
         self.writes
     }
-
-    /// Whether the call that was counted last is to fail. If it is, the failure is counted.
-    fn fails(&mut self) -> bool
-        requires { faults_of self.old < reads_of self.old + writes_of self.old }
-        ensures due { IsTrue result ↔ Contains (plan_of self.old) (reads_of self.old + writes_of self.old) }
-        ensures bytes { bytes_of self.new ≡ bytes_of self.old }
-        ensures plan { plan_of self.new ≡ plan_of self.old }
-        ensures reads { reads_of self.new ≡ reads_of self.old }
-        ensures writes { writes_of self.new ≡ writes_of self.old }
-        ensures faults { faults_of self.new ≡ (if result then faults_of self.old + 1 else faults_of self.old) }
-    {
-        self.plan.fails_at(self.reads + self.writes)
-    }
-}
-
-/// The buffer with these bytes. It is not written if they are its own.
-fn holding(mut buf: LazyBuf, bytes: &[u8]) -> LazyBuf
-    requires size { length bytes.now ≡ 512 }
-    requires zeros { buf ≡ replicate 512 0 }
-    ensures { result ≡ bytes.now }
-{
-    if bytes != ZEROS.as_slice() {
-        buf.write(bytes);
-    }
-    buf
-}
-
-/// Writes the first 256 of the bytes, and leaves the rest of the block.
-fn write_half(block: &mut LazyBuf, bytes: &[u8])
-    requires block_size { length block.old ≡ 512 }
-    requires size { length bytes.now ≡ 512 }
-    ensures bytes { block.new ≡ take 256 bytes.now ++ drop 256 block.old }
-    ensures size { length block.new ≡ 512 }
-{
-    block.write(&bytes[..256]);
 }
 
 impl Block for MemoryBlock {
@@ -164,11 +97,7 @@ impl Block for MemoryBlock {
         ensures failed { OnErr result (faults_of self.new ≡ faults_of self.old + 1) }
     {
         self.reads += 1;
-        if self.fails() {
-            return Err(Failed);
-        }
-        buf.copy_from_slice(self.bytes.bytes());
-        Ok(())
+        self.body.read(self.reads + self.writes, buf)
     }
 
     /// A write that fails leaves the first 256 bytes new and the rest old.
@@ -185,15 +114,10 @@ impl Block for MemoryBlock {
         ensures failed { OnErr result (faults_of self.new ≡ faults_of self.old + 1) }
     {
         self.writes += 1;
-        if self.fails() {
-            write_half(&mut self.bytes, bytes);
-            return Err(Failed);
-        }
-        self.bytes.write(bytes);
-        Ok(())
+        self.body.write(self.reads + self.writes, bytes)
     }
 
     fn faults(&self) -> u64 {
-        self.plan.faults()
+        self.body.faults()
     }
 }

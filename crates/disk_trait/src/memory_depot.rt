@@ -1,9 +1,10 @@
 ghost use Rattle.std.specs.Prelude.{◌≡◌, ◌+◌, ◌-◌, ◌^◌, ◌<◌, ◌≤◌, ◌↔◌, [], ◌∷◌, ◌++◌, length, min, map, IsSome, IfSome, IfOk, IsErrOf, OnOk, OnErr, Contains, replicate};
 
+use crate::body::Body;
 use crate::depot::{Depot, MakeFault};
 use crate::memory_block::MemoryBlock;
-use crate::plan::is_due;
-use page_pool::{LazyBuf, Pool};
+use crate::planned_buf::is_due;
+use page_pool::{Pool, SpareBuf};
 use std::alloc::Global;
 use std::marker::Model;
 use vm_types::{BlockId, NoMemory};
@@ -56,10 +57,9 @@ impl MemoryDepot {
         }
     }
 
-    /// Counts a call of `make`, and gives it a buffer of zeros.
-    fn next_buf(&mut self) -> Result<LazyBuf, MakeFault>
+    /// Counts a call of `make`, and gives it a part for a buffer.
+    fn next_spare(&mut self) -> Result<SpareBuf, MakeFault>
         ensures fails { IsErrOf result MakeFault.Failed ↔ Contains self.old.fail_makes self.new.makes }
-        ensures zeros { IfOk result (λ buf. buf ≡ replicate 512 0) }
         ensures retired { self.new.retired ≡ self.old.retired }
         ensures fail_makes { self.new.fail_makes ≡ self.old.fail_makes }
         ensures makes { self.new.makes ≡ min (self.old.makes + 1) (2 ^ 64 - 1) }
@@ -73,7 +73,7 @@ impl MemoryDepot {
             self.faults = self.faults.saturating_add(1);
             return Err(MakeFault::Failed);
         }
-        Ok(new_buf(self.alloc, &mut self.region)?)
+        Ok(new_spare(self.alloc, &mut self.region)?)
     }
 
     /// A block of that name that was taken back. Takes no memory.
@@ -85,19 +85,17 @@ impl MemoryDepot {
     }
 }
 
-/// A buffer of zeros in the region, or in a new one if there is none with room.
-fn new_buf(alloc: Global, region: &mut Option<Pool>) -> Result<LazyBuf, NoMemory>
-    ensures { IfOk result (λ buf. buf ≡ replicate 512 0) }
-{
+/// A part of the region, or of a new one if there is none with room.
+fn new_spare(alloc: Global, region: &mut Option<Pool>) -> Result<SpareBuf, NoMemory> {
     if let Some(pool) = region {
-        if let Some(buf) = pool.take_lazy() {
-            return Ok(buf);
+        if let Some(spare) = pool.take_spare() {
+            return Ok(spare);
         }
     }
     let mut pool = Pool::new(alloc, BLOCKS_PER_REGION)?;
-    let buf = pool.take_lazy().unwrap();
+    let spare = pool.take_spare().unwrap();
     *region = Some(pool);
-    Ok(buf)
+    Ok(spare)
 }
 
 /// A block of that name in the list.
@@ -138,8 +136,9 @@ impl Depot for MemoryDepot {
         ensures no_memory { IsErrOf result MakeFault.NoMemory → self.new.faults ≡ self.old.faults }
         ensures failed { IsErrOf result MakeFault.Failed → self.new.faults ≡ min (self.old.faults + 1) (2 ^ 64 - 1) }
     {
-        let buf = self.next_buf()?;
-        Ok(MemoryBlock::new(self.alloc, buf, bytes, fails)?)
+        let spare = self.next_spare()?;
+        let body = Body::new(self.alloc, spare, bytes, fails)?;
+        Ok(MemoryBlock::new(body))
     }
 
     /// A call of it counts as one of `make`.
@@ -158,8 +157,9 @@ impl Depot for MemoryDepot {
         ensures no_memory { IsErrOf result MakeFault.NoMemory → self.new.faults ≡ self.old.faults }
         ensures failed { IsErrOf result MakeFault.Failed → self.new.faults ≡ min (self.old.faults + 1) (2 ^ 64 - 1) }
     {
-        let buf = self.next_buf()?;
-        Ok(MemoryBlock::of(self.alloc, buf, fails)?)
+        let spare = self.next_spare()?;
+        let body = Body::zeros(self.alloc, spare, fails)?;
+        Ok(MemoryBlock::new(body))
     }
 
     fn retire(&mut self, id: BlockId, block: MemoryBlock) -> Result<(), NoMemory>

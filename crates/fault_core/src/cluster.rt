@@ -1,4 +1,4 @@
-ghost use Rattle.std.specs.Prelude.{◌≡◌, ◌+◌, ◌≤◌, ◌<◌, ◌^◌, ◌&&◌, ◌||◌, Some, length, nat_lt, not, slice_get, true};
+ghost use Rattle.std.specs.Prelude.{◌≡◌, ◌+◌, ◌≤◌, ◌<◌, ◌^◌, ◌&&◌, ◌||◌, [], Some, length, nat_lt, not, slice_get, true};
 ghost use Rattle.vm_types.specs.Configuration.{IsBlock, IsWellFormed};
 ghost use Rattle.vm_types.specs.declared.names.BlockId.TheVariants as block;
 ghost use Rattle.vm_types.specs.declared.names.Page.{Page};
@@ -156,26 +156,27 @@ fn goes_on(is_out: bool, places: u32, reach: u32) -> bool
     is_out && places < reach
 }
 
-/// The faulting page and the pages that may follow it, up to the first that isn't out, and how many of
-/// them are read together.
+/// How many pages are read together. The empty list of pages gets the faulting page and those that may
+/// follow it, up to the first that isn't out.
 pub fn cluster<B: Block>(
     state: &State<B>,
     x: Sought,
     b: BlockId,
-) -> (ArrayVec<Option<Page>, 8>, u32)
+    pages: &mut ArrayVec<Option<Page>, 8>,
+) -> u32
     requires formed { IsWellFormed state.now.config }
     requires known { IsKnown state.now.config x.page }
     requires exists { IsBlock state.now.config b }
     requires charge { (is_private x.page && not (x.backing).charged) ≡ is_uncharged (pager state.now) x.page }
     requires free { 1 ≤ length (pager state.now).free }
-    ensures pages { IsWindow state.now.config (pager state.now) x.page b (result.0).items }
-    ensures within { result.1 ≤ length (result.0).items }
-    ensures length { result.1 ≡ cluster_length (window state.now.config (pager state.now) x.page b)
+    requires none { pages.old.items ≡ [] }
+    ensures pages { IsWindow state.now.config (pager state.now) x.page b pages.new.items }
+    ensures within { result ≤ length pages.new.items }
+    ensures length { result ≡ cluster_length (window state.now.config (pager state.now) x.page b)
         state.now.config.params.pfc (length (pager state.now).free) }
 {
     let pfc = state.config().params.pfc;
     let reach = reach(state, x);
-    let mut pages = ArrayVec::new();
     let mut out = ArrayVec::<bool, 8>::new();
     pages.push(Some(x.page));
     out.push(true);
@@ -188,6 +189,5 @@ pub fn cluster<B: Block>(
         places += 1;
         more = goes_on(here, places, reach);
     }
-    let length = choose(out.as_slice(), pfc, state.free_len());
-    (pages, length)
+    choose(out.as_slice(), pfc, state.free_len())
 }

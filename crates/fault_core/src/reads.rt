@@ -16,6 +16,7 @@ use crate::cluster::{block_after, cluster, is_alone};
 use crate::next::Next;
 use crate::sought::Sought;
 use crate::waits::page_start;
+use arrayvec::ArrayVec;
 use call_steps::read_one;
 use disk_trait::Block;
 use vm_journal::Role;
@@ -68,7 +69,8 @@ fn read_cluster<B: Block>(
     ensures { Gives B.content B.plan B.reads B.writes B.faults B.tells_content B.tells_plan
         state.old state.new seat r (at_frame state.old seat r x.page (Some b)) result carrier.old carrier.new }
 {
-    let (pages, length) = cluster(state, x, b);
+    let mut pages = ArrayVec::new();
+    let length = cluster(state, x, b, &mut pages);
     let fault = Role::Fault(Proc(seat.0), page_start(r));
     read_one(state, seat, b, fault, carrier);
     for places in 1..length {

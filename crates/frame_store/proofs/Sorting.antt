@@ -13,6 +13,22 @@ use Rattle.frame_store.proofs.Ordered.{each_placed}
 abbrev pub AreSorted : List (Option ℕ) → ℕ → Type 0
 AreSorted places n = (m : ℕ) → m < n → slice_get places m ≡ Some (Some m)
 
+-- a block that lies in its own place stays there
+pub next_kept : (places : List (Option ℕ)) (n : ℕ) → n < length places → (o : Option ℕ) (k : ℕ) → o ≡ slice_index_or places n o → o ≡ Some k → k ≡ n
+    → AreSorted places n → AreSorted places (n + 1)
+next_kept places n below o k read place own sorted i less = go (cases_eq i n)
+  where
+    here : slice_get places n ≡ Some (Some n)
+    here = slice_get_read places (length places) n o refl below read ∙ ap Some (place ∙ ap Some own)
+
+    go : (i ≡ n) ⊎ (i ≡ n → ⊥) → slice_get places i ≡ Some (Some i)
+    go (inl same) = subst (λ j. slice_get places j ≡ Some (Some j)) (sym same) here
+    go (inr differ) = sorted i (before (cases_lt i n))
+      where
+        before : (i < n) ⊎ (n ≤ i) → i < n
+        before (inl low) = low
+        before (inr past) = absurd (differ (omega (arith, less, past)))
+
 module _ {B : Type 0} {ids : List BlockId} {number : BlockId → ℕ} {home : List (BlockId × B)} {places : List (Option ℕ)} (laid : IsLaid home places ids number) (n : ℕ) where
   pub next_some : All IsSome (blocks_in home places) → n < length places → (o : Option ℕ) → o ≡ slice_index_or places n o → IsSome o
   next_some all below o read =

@@ -144,9 +144,12 @@ fn sorted<B: Drop>(
 {
     for number in 0..blocks.len() {
         let place = places[number].unwrap() as usize;
-        let other = numbers.number(blocks[number].0);
-        blocks.swap(number, place);
-        places.swap(number, other);
+        // Most blocks never left their place.
+        if place != number {
+            let other = numbers.number(blocks[number].0);
+            blocks.swap(number, place);
+            places.swap(number, other);
+        }
     }
     blocks
 }

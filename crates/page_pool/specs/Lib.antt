@@ -3,4 +3,3 @@ pub mod Region
 pub mod Pool
 pub mod Loan
 pub mod PageBuf
-pub mod LazyBuf

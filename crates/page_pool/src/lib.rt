@@ -1,7 +1,6 @@
 //! A pool of page buffers of 512 bytes, which are parts of one region.
 #![tactic(auto)]
 
-mod lazy_buf;
 mod page_buf;
 mod part;
 mod pool;
@@ -9,7 +8,6 @@ mod region;
 mod spare;
 mod spare_buf;
 
-pub use lazy_buf::LazyBuf;
 pub use page_buf::PageBuf;
 pub use pool::Pool;
 pub use spare_buf::SpareBuf;

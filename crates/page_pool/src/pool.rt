@@ -1,6 +1,5 @@
 ghost use Rattle.std.specs.Prelude.{◌≡◌, ◌+◌, ◌≤◌, ◌↔◌, IsNone, IfSome, OnSome, IfNone, IfOk, length, replicate};
 
-use crate::lazy_buf::LazyBuf;
 use crate::page_buf::PageBuf;
 use crate::region::{Deed, Region};
 use crate::spare_buf::SpareBuf;
@@ -102,19 +101,6 @@ impl Pool {
         let number = self.free.pop()?;
         let spare = self.region.lend(number);
         Some(SpareBuf { spare })
-    }
-
-    /// Takes a buffer of zeros out whose memory isn't touched, or returns `None` if none is left. It doesn't
-    /// come back. Doesn't allocate.
-    pub fn take_lazy(&mut self) -> Option<LazyBuf>
-        ensures none { IsNone result ↔ (self.old.left ≡ 0) }
-        ensures zeros { IfSome result (λ buf. buf ≡ replicate 512 0) }
-        ensures some { OnSome result (self.new.left + 1 ≡ self.old.left) }
-        ensures unchanged { IfNone result (self.new ≡ self.old) }
-        ensures name { self.new.name ≡ self.old.name }
-    {
-        let spare = self.take_spare()?;
-        Some(LazyBuf::new(spare))
     }
 
     /// Takes a buffer of this pool back. Doesn't allocate.

@@ -1,4 +1,3 @@
-pub mod Bits
 pub mod EntryWords
 pub mod Entries
 pub mod Changes

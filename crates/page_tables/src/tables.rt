@@ -4,8 +4,8 @@ ghost use Rattle.pte_forms.specs.Word.{word_of};
 ghost use Rattle.vm_types.specs.PagePlaces.{changed_at};
 
 use crate::look::Look;
-use crate::packed::word_at;
-use pte_forms::{Pte, from_word, to_word};
+use crate::packed::{ABSENT, entry_by, word_at};
+use pte_forms::{Pte, to_word};
 use std::alloc::Global;
 use std::marker::Model;
 use vm_types::{NoMemory, Proc, page_place};
@@ -17,7 +17,6 @@ use vm_types::{NoMemory, Proc, page_place};
 pub struct Tables {
     procs: u32,
     words: Vec<u32>,
-    present: Vec<u64>,
 }
 
 impl Model for Tables {
@@ -26,9 +25,9 @@ impl Model for Tables {
 
     ghost Value = { PageTables };
 
-    ghost view = { λ t. record { procs = t.procs; entries = entries_in t.words.items t.present.items } };
+    ghost view = { λ t. record { procs = t.procs; entries = entries_in t.words.items } };
 
-    ghost invariant = { λ t. ArePacked t.procs t.words.items t.present.items };
+    ghost invariant = { λ t. ArePacked t.procs t.words.items };
 }
 
 impl Tables {
@@ -45,8 +44,7 @@ impl Tables {
     {
         Ok(Tables {
             procs,
-            words: vec![in alloc; 0; procs as usize * 5120]?,
-            present: vec![in alloc; 0; procs as usize * 80]?,
+            words: vec![in alloc; ABSENT; procs as usize * 5120]?,
         })
     }
 
@@ -56,7 +54,7 @@ impl Tables {
         ensures entries { AreEntries self.now }
     {
         match self.word(p, vpn) {
-            Some(word) => Look::Entry(from_word(word).unwrap()),
+            Some(word) => Look::Entry(entry_by(word)),
             None => Look::Absent,
         }
     }
@@ -67,9 +65,8 @@ impl Tables {
         ensures entries { AreEntries self.now }
     {
         let words = self.words.as_slice();
-        let present = self.present.as_slice();
         match page_place(p, vpn) {
-            Some(place) => word_at(words, present, place),
+            Some(place) => word_at(words, place),
             None => None,
         }
     }
@@ -95,7 +92,6 @@ impl Tables {
     {
         let place = page_place(p, vpn).unwrap();
         self.words[place] = to_word(pte);
-        self.present[place / 64] |= 1 << (place % 64);
     }
 
     /// Takes the entry of a mapped page away.
@@ -105,6 +101,6 @@ impl Tables {
         ensures procs { self.new.procs ≡ self.old.procs }
     {
         let place = page_place(p, vpn).unwrap();
-        self.present[place / 64] &= !(1 << (place % 64));
+        self.words[place] = ABSENT;
     }
 }

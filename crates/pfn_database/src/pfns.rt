@@ -110,6 +110,7 @@ impl Pfns {
     /// Makes a frame active that is empty or holds this page: it leaves the list that it is on, if
     /// any, holds the page and has the ring slot, which is 0 for a shared page. Its modify mark, shares
     /// and transfer stay.
+    #[inline(always)]
     pub fn set_active(&mut self, f: Pfn, page: Page, slot: u32)
         requires below { f.0 < length self.old.rows }
         requires usable { ((row_of self.old f.0).state ≢ FrameState.Bad)
@@ -196,6 +197,7 @@ impl Pfns {
     /// Puts a frame in use with no shares and no transfer at the tail of the modified list where its
     /// modify mark is set, else at the tail of the free list. It keeps its page. In use is a frame
     /// that is active, writing, release pending or reading.
+    #[inline(always)]
     pub fn settle(&mut self, f: Pfn)
         requires below { f.0 < length self.old.rows }
         requires state { IsOneOf states_in_use (row_of self.old f.0).state }

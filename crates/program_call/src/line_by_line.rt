@@ -11,12 +11,12 @@ use memchr::memchr;
 use outside_io::Source;
 use vm_types::Failed;
 
-/// A source with a buffer of 65536 bytes behind it, which gives a line or less at a call, and knows
+/// A source with a buffer of 16384 bytes behind it, which gives a line or less at a call, and knows
 /// the last line that it gave. So where a reader stops at a line, that line is the last one.
 #[derive(Drop)]
 pub struct LineSource<S: Source> {
     source: S,
-    buffer: [u8; 65536],
+    buffer: [u8; 16384],
     at: usize,
     filled: usize,
     // the last line: its first bytes that the buffer has no longer, its place in the buffer, its number,
@@ -27,7 +27,7 @@ pub struct LineSource<S: Source> {
     ended: bool,
     ghost begins: { from ≤ at },
     ghost within: { at ≤ filled },
-    ghost fits: { filled ≤ 65536 },
+    ghost fits: { filled ≤ 16384 },
 }
 
 impl<S: Source> LineSource<S> {
@@ -41,7 +41,7 @@ impl<S: Source> LineSource<S> {
     {
         LineSource {
             source,
-            buffer: [0; 65536],
+            buffer: [0; 16384],
             at: 0,
             filled: 0,
             front: ArrayVec::new(),
@@ -134,8 +134,8 @@ impl<S: Source> LineSource<S> {
 }
 
 // Adds as many of the bytes between two places of the buffer as there is room for.
-fn add_part(out: &mut ArrayVec<u8, 80>, buffer: &[u8; 65536], from: usize, at: usize)
-    requires { (from ≤ at) × (at ≤ 65536) }
+fn add_part(out: &mut ArrayVec<u8, 80>, buffer: &[u8; 16384], from: usize, at: usize)
+    requires { (from ≤ at) × (at ≤ 16384) }
     ensures { out.new.items ≡ take 80 (out.old.items ++ slice_range buffer.now from at) }
 {
     add_first(out, &buffer[from..at]);

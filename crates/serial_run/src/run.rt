@@ -28,7 +28,7 @@ pub struct Ending {
 }
 
 /// Room for so many entries of each request is made at once.
-const ENTRIES_PER_REQUEST: u32 = 4;
+const ENTRIES_PER_REQUEST: u32 = 5;
 
 /// Makes room at once for the entries of all requests, so that the journal isn't copied as it grows. If
 /// there is too little memory for that, the moves ask for room as they go.

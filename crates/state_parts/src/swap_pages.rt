@@ -1,6 +1,7 @@
 ghost use Rattle.std.specs.Prelude.{◌≡◌, ℕ, None, IfOk};
 ghost use Rattle.vm_types.specs.PagePlaces.{changed_at};
 
+use page_rows::PageRows;
 use std::alloc::Global;
 use std::marker::Model;
 use vm_types::{NoMemory, Proc};
@@ -8,11 +9,14 @@ use vm_types::{NoMemory, Proc};
 /// The slots of the longest working set list.
 const SLOTS: usize = 1024;
 
+/// The runs of 64 slots of a process.
+const RUNS: usize = 16;
+
 /// The page number that lies in each swap block, by process and slot (0 to 1023).
 #[derive(Debug, Drop)]
 pub struct SwapPages {
     procs: usize,
-    pages: Vec<Option<u32>>,
+    pages: PageRows<u32>,
 }
 
 impl Model for SwapPages {
@@ -21,9 +25,9 @@ impl Model for SwapPages {
 
     ghost Value = { SwapTable };
 
-    ghost view = { λ t. record { procs = t.procs; pages = t.pages.items } };
+    ghost view = { λ t. record { procs = t.procs; pages = t.pages } };
 
-    ghost invariant = { λ t. length t.pages.items ≡ t.procs * 1024 };
+    ghost invariant = { λ t. length t.pages ≡ t.procs * 1024 };
 }
 
 impl SwapPages {
@@ -41,7 +45,7 @@ impl SwapPages {
         let procs = procs as usize;
         Ok(SwapPages {
             procs,
-            pages: vec![in alloc; None; procs * SLOTS]?,
+            pages: PageRows::new(alloc, procs * RUNS)?,
         })
     }
 
@@ -53,10 +57,7 @@ impl SwapPages {
         if slot >= SLOTS {
             return None;
         }
-        self.pages
-            .get(p.0 as usize * SLOTS + slot)
-            .copied()
-            .flatten()
+        self.pages.get(p.0 as usize * SLOTS + slot)
     }
 
     /// Sets the page number (any) that lies in the swap block of a slot of one of the processes, or
@@ -66,6 +67,6 @@ impl SwapPages {
         ensures changed { (q m : ℕ) → swapped_at self.new q m ≡ changed_at (swapped_at self.old) p.0 n page q m }
         ensures procs { self.new.procs ≡ self.old.procs }
     {
-        self.pages[p.0 as usize * SLOTS + n as usize] = page;
+        self.pages.set(p.0 as usize * SLOTS + n as usize, page);
     }
 }

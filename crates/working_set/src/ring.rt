@@ -176,6 +176,9 @@ impl Ring {
         requires { places < length self.now.slots }
         ensures { result ≡ slot_after self.now places }
     {
+        if places == 0 {
+            return self.hand;
+        }
         round(self.hand as usize + places, self.slots.len())
     }
 

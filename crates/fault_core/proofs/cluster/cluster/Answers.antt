@@ -7,7 +7,7 @@ use Rattle.fault_core.proofs.cluster.cluster.Goals as goal
 pub loop-more-init : goal.loop-more-init
 loop-more-init g c =
     first_looking c.args.state.now.config (pager c.args.state.now) (c.args.x).page c.args.b _ _ c.goes_on-more.result c.requires.formed
-    (c.push.ensures.items ∙ ap (λ items. items ++ Some (c.args.x).page ∷ []) c.new-pages.ensures) (c.push-2.ensures.items ∙ ap (λ items. items ++ true ∷ []) c.new-out.ensures)
+    (c.push.ensures.items ∙ ap (λ items. items ++ Some (c.args.x).page ∷ []) c.requires.none) (c.push-2.ensures.items ∙ ap (λ items. items ++ true ∷ []) c.new-out.ensures)
     (c.goes_on-more.ensures ∙ ap (λ n. true && nat_lt 1 n) c.reach-reach.ensures)
 
 pub following-page-requires-clause-page : goal.following-page-requires-clause-page
@@ -52,14 +52,14 @@ returns-clause-pages g c =
 
 pub returns-clause-length : goal.returns-clause-length
 returns-clause-length g c =
-    length_is c.args.state.now.config (pager c.args.state.now) (c.args.x).page c.args.b c.loop-more.pages.items c.loop-more.out.items c.loop-more.places (length (pager c.args.state.now).free) c.choose-length.result
+    length_is c.args.state.now.config (pager c.args.state.now) (c.args.x).page c.args.b c.loop-more.pages.items c.loop-more.out.items c.loop-more.places (length (pager c.args.state.now).free) c.choose.result
     c.loop-more.more c.loop-more.invariant c.loop-more-test.false
-    (length_as _ _ _ _ _ _ _ c.as_slice.ensures.value (ap (λ (x : Config). (x.params).pfc) c.config.ensures) c.free_len.ensures c.choose-length.ensures)
+    (length_as _ _ _ _ _ _ _ c.as_slice.ensures.value (ap (λ (x : Config). (x.params).pfc) c.config.ensures) c.free_len.ensures c.choose.ensures)
 
 pub returns-clause-within : goal.returns-clause-within
 returns-clause-within g c =
     let out = out_count c.args.state.now.config (pager c.args.state.now) (c.args.x).page c.args.b c.loop-more.pages.items c.loop-more.out.items c.loop-more.places c.loop-more.invariant.some c.loop-more.invariant.looked in
     let pages = pages_count c.args.state.now.config (pager c.args.state.now) (c.args.x).page c.args.b c.loop-more.pages.items c.loop-more.out.items c.loop-more.places c.loop-more.invariant.some c.loop-more.invariant.looked in
     let same = ap (λ xs. length xs) c.as_slice.ensures.value in
-    let inside = c.choose-length.ensures.is.within in
+    let inside = c.choose.ensures.is.within in
     omega (arith, out, pages, same, inside)

@@ -1,9 +1,8 @@
-use Rattle.std.proofs.Common.{◌*◌, arith}
+use Rattle.std.proofs.Common.{◌*◌}
 use Rattle.page_tables.proofs.Entries.{none_kept}
 use Rattle.page_tables.proofs.tables.Tables.new.Goals as goal
 
 pub returns-clause-empty : goal.returns-clause-empty
 returns-clause-empty c p v =
     let words = c.in_ok-vec.ensures.items_if_clones_equal (λ _ same. same) in
-    let bits = c.in_ok-vec-2.ensures.items_if_clones_equal (λ _ same. same) in
-    rw (words, bits) (none_kept (c.args.procs * 5120) (c.args.procs * 80) p v (omega arith))
+    rw words (none_kept (c.args.procs * 5120) p v)

@@ -1,5 +1,5 @@
 use Rattle.std.proofs.Common.{rules, ◌≡◌}
-use Rattle.disk_trait.proofs.memory_depot.MemoryDepot.next_buf.Goals as goal
+use Rattle.disk_trait.proofs.memory_depot.MemoryDepot.next_spare.Goals as goal
 
 pub returns-then-is_due-clause-fails : goal.returns-then-is_due-clause-fails
 returns-then-is_due-clause-fails c =
