@@ -7,6 +7,3 @@ mod ending;
 mod judging;
 
 pub use command::check;
-
-#[cfg(test)]
-mod tests;

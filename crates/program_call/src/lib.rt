@@ -19,6 +19,3 @@ pub use first_bytes::FirstBytes;
 pub use last_line::LastLine;
 pub use line_by_line::LineSource;
 pub use program::{run_and_explain, run_program};
-
-#[cfg(test)]
-mod tests;

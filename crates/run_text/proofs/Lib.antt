@@ -1,3 +1,2 @@
 mod LinesLeft
 mod RunParts
-mod TestRun

@@ -6,6 +6,3 @@ mod entry_lines;
 mod run;
 
 pub use run::print_run;
-
-#[cfg(test)]
-mod tests;

@@ -14,6 +14,8 @@ mod of_paging_study;
 #[cfg(test)]
 mod of_program_ends;
 #[cfg(test)]
+mod of_run_text;
+#[cfg(test)]
 mod of_study_command;
 #[cfg(test)]
 mod of_vm_dump;

@@ -1,6 +1,6 @@
-use crate::check;
+use check_command::check;
 use outside_io::{MemorySink, MemorySource};
-use program_ends::Status;
+use replay_cli::Status;
 use std::test::Fail;
 
 // A trace of one process without requests.

@@ -1,9 +1,9 @@
-use crate::{
-    EnvArguments, FirstBytes, LineSource, ListedArguments, run_and_explain, run_bytes, run_program,
-};
 use disk_trait::MemoryDepot;
 use outside_io::{MemorySink, MemorySource};
-use program_ends::Status;
+use program_call::{
+    EnvArguments, FirstBytes, LineSource, ListedArguments, run_and_explain, run_bytes, run_program,
+};
+use replay_cli::Status;
 use std::alloc::Global;
 use std::test::Fail;
 use vm_types::NoMemory;

@@ -1,10 +1,10 @@
 ghost use Rattle.std.specs.Prelude.{◌≡◌, IfOk};
-ghost use Rattle.run_text.specs.TestRun.{test_config, test_report};
+ghost use Rattle.text_tests.specs.TestRun.{test_config, test_report};
 
-use crate::print_run;
 use outside_io::MemorySink;
 use program_ends::Status;
 use report_lines::{FrameRow, ProcessRow, Report};
+use run_text::print_run;
 use std::alloc::Global;
 use std::test::Fail;
 use vm_journal::{Entry, Role, What};
