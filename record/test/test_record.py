@@ -18,7 +18,9 @@ from checker import check
 HERE = pathlib.Path(__file__).resolve().parent
 TOP = HERE.parent.parent
 RECORDER = HERE.parent / "record.py"
-PROGRAM = TOP / "crates" / "neqysbar" / "out" / "neqysbar"
+# the program that is built here, or the one of the release
+PROGRAM = next((path for path in (TOP / "crates" / "neqysbar" / "out" / "neqysbar",
+                                  TOP / "release" / "neqysbar") if path.exists()), None)
 EXAMPLES = TOP / "examples" / "recorded"
 
 
@@ -250,7 +252,7 @@ class RealPrograms(Case):
                       ["--skip", 3000, "--count", 500, "--no-comments", "--frames", 64]]:
             self.trace(*words, "--run", "/bin/true")
 
-    @unittest.skipUnless(PROGRAM.exists(), "the program isn't built")
+    @unittest.skipUnless(PROGRAM, "the program isn't there")
     def test_program_takes_it(self):
         one = self.file("one", "p W4 8000 2A\np R4 8000\np R1 9000\n")
         trace = self.trace("--no-comments", "--frames", 8, "--limit", 4, "--list", one)
@@ -258,7 +260,7 @@ class RealPrograms(Case):
                               check=False)
         self.assertEqual((done.returncode, done.stdout.splitlines()[-1]), (0, "STATUS 0"))
 
-    @unittest.skipUnless(PROGRAM.exists(), "the program isn't built")
+    @unittest.skipUnless(PROGRAM, "the program isn't there")
     def test_program_takes_the_examples(self):
         for path in sorted(EXAMPLES.glob("*.trace")):
             with self.subTest(path.name):
