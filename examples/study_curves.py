@@ -13,7 +13,8 @@ import subprocess
 import sys
 
 TOP = os.path.dirname(os.path.dirname(os.path.abspath(__file__)))
-PROGRAM = os.path.join(TOP, "neqysbar")
+# the program, which NEQYSBAR in the environment may name
+PROGRAM = os.environ.get("NEQYSBAR") or os.path.join(TOP, "neqysbar")
 
 WIDTH, HEIGHT = 640, 400
 LEFT, RIGHT, ABOVE, BELOW = 70, 20, 30, 50

@@ -1,0 +1,232 @@
+#!/usr/bin/env python3
+"""Sums up a run from what `serial` wrote: faults by kind and process, transfers, hit rate.
+
+    ./neqysbar serial < examples/swapping.trace | examples/summary.py
+    examples/summary.py run.log                 a file with the output, or with a trace, a line LOG and it
+    examples/summary.py --csv run.log           the same as CSV, a row for each process
+    examples/summary.py --json run.log          the same as JSON, an object a line
+    examples/summary.py --lines --csv run.log   a row for each entry line, with its words in columns
+
+A *reference* is a DONE or a DENIED. A *fault* is a ZERO, a BACK of a resident process, an IN for a
+fault, or a COLLIDE. A *hit* is a DONE without a fault since the process's last answer; the hit rate is
+hits by DONE lines. Rows are processes, then MPW and SWP if they did something, then `all`.
+
+| column | lines |
+|---|---|
+| references, denied, services | DONE and DENIED, DENIED, SERVED |
+| hits, faults, hit_rate | as above |
+| zero | ZERO: first touches of zero pages |
+| free, modified, active, writing, release | BACK from that state: no transfer was needed |
+| read | IN for a fault: the page was read from its block |
+| collided | COLLIDE: another seat was reading the page |
+| near, come | IN of a neighbour in a cluster, and of a process that came back |
+| came_free | BACK of a process that came back: the page was still in memory |
+| out | OUT: writes of pages that this seat began |
+| failed | INFAIL and OUTFAIL of this seat |
+| evicted, reused | EVICT of this process's pages; REUSE by this seat |
+| left, limits | TURN to LEAVING; LIMIT |
+
+It needs Python 3.9 and no packages. What isn't the output of a run is refused, with status 2.
+"""
+
+import csv
+import json
+import sys
+
+COLUMNS = (
+    "references denied services hits faults zero free modified active writing release read collided "
+    "near come came_free out failed evicted reused left limits"
+).split()
+# the words of each kind of entry, behind its number and its seat
+WORDS = {
+    "REUSE": "frame page", "ZERO": "address frame", "BACK": "process address frame state",
+    "COLLIDE": "address frame start", "INOK": "frame start", "INFAIL": "frame start before after",
+    "OUT": "frame block", "OUTOK": "frame start", "OUTFAIL": "frame start before after",
+    "EVICT": "process address frame why state", "LIMIT": "limit faults", "TURN": "process status",
+    "IN": "frame block role page",
+}
+FIELDS = (
+    "number seat kind op service address pages protection limit value reply answer frame page block "
+    "role process state why start before after faults status"
+).split()
+OPERANDS = {
+    "CRETVA": "address pages protection", "DELTVA": "address pages", "SETPRT": "address pages protection",
+    "LKWSET": "address pages", "ULWSET": "address pages", "PURGWS": "address pages", "ADJWSL": "limit",
+}
+
+
+class NoRun(Exception):
+    """The input is no output of a run."""
+
+
+def request_fields(kind, words):
+    """The words of a DONE, a DENIED or a SERVED, in columns."""
+    if kind == "SERVED":
+        names = OPERANDS[words[0]].split()
+        named = {"service": words[0], **dict(zip(names, words[1:]))}
+        return {**named, "answer": " ".join(words[1 + len(names):])}
+    named = {"op": words[0], "address": words[1]}
+    rest = words[2:]
+    if kind == "DENIED":
+        named["why"] = rest.pop()
+    if rest and "R" not in words[0]:
+        named["value"] = rest.pop(0)
+    if rest:
+        named["reply"] = rest.pop(0)
+    return named
+
+
+def entry_of(line):
+    """An entry line as a dictionary of its words."""
+    words = line.split(" ")
+    number, seat, kind, rest = int(words[0]), words[1], words[2], words[3:]
+    if kind in ("DONE", "DENIED", "SERVED"):
+        named = request_fields(kind, rest)
+    else:
+        names = WORDS[kind].split()
+        if len(rest) != len(names):
+            raise ValueError(line)
+        named = dict(zip(names, rest))
+    return {"number": number, "seat": seat, "kind": kind, **named}
+
+
+def entries_of(lines):
+    """The entries of a run's output, and its last status."""
+    lines = [line.rstrip("\n") for line in lines]
+    if "LOG" in lines:
+        lines = lines[lines.index("LOG") + 1:]
+    entries, status = [], None
+    for number, line in enumerate(lines, 1):
+        first = line.split(" ")[0]
+        if first.isdecimal():
+            try:
+                entries.append(entry_of(line))
+            except (KeyError, IndexError, ValueError):
+                raise NoRun(f"line {number} is no entry: {line}") from None
+        elif first == "STATUS":
+            status = line.split(" ")[-1]
+        elif first in ("TRACE", "LOG", "MADE", "PAGES", "VMTRACE"):
+            raise NoRun(f"this is no output of a run: {line}")
+    if status not in ("0", "5") and not entries:
+        raise NoRun("there is no entry in it, and no STATUS 0" if status is None else f"STATUS {status}")
+    return entries, status
+
+
+def rows_of(entries):
+    """The counts of each process and seat, in order of their names, and of all together."""
+    rows, coming, faulted = {}, set(), set()
+
+    def add(name, column):
+        rows.setdefault(name, dict.fromkeys(COLUMNS, 0))[column] += 1
+
+    def fault(name, column):
+        add(name, column)
+        add(name, "faults")
+        faulted.add(name)
+
+    for entry in entries:
+        seat, kind = entry["seat"], entry["kind"]
+        if kind in ("DONE", "DENIED"):
+            add(seat, "references")
+            if kind == "DENIED":
+                add(seat, "denied")
+            elif seat not in faulted:
+                add(seat, "hits")
+            faulted.discard(seat)
+        elif kind == "SERVED":
+            add(seat, "services")
+            faulted.discard(seat)
+        elif kind == "ZERO":
+            fault(seat, "zero")
+        elif kind == "BACK" and entry["process"] in coming:
+            add(entry["process"], "came_free")
+        elif kind == "BACK":
+            fault(entry["process"], entry["state"].lower())
+        elif kind == "COLLIDE":
+            fault(seat, "collided")
+        elif kind == "IN" and entry["role"] == "FAULT":
+            fault(seat, "read")
+        elif kind == "IN" and entry["role"] == "NEAR":
+            add(seat, "near")
+        elif kind == "IN":
+            add(entry["page"].split("/")[0], "come")
+        elif kind == "OUT":
+            add(seat, "out")
+        elif kind in ("INFAIL", "OUTFAIL"):
+            add(seat, "failed")
+        elif kind == "EVICT":
+            add(entry["process"], "evicted")
+        elif kind == "REUSE":
+            add(seat, "reused")
+        elif kind == "LIMIT":
+            add(seat, "limits")
+        elif kind == "TURN":
+            coming.discard(entry["process"])
+            if entry["status"] == "LEAVING":
+                add(entry["process"], "left")
+            elif entry["status"] == "COMING":
+                coming.add(entry["process"])
+    named = sorted(rows, key=lambda name: (len(name), name))
+    rows["all"] = {column: sum(rows[name][column] for name in named) for column in COLUMNS}
+    return [{"process": name, **rows[name], "hit_rate": rate(rows[name])} for name in [*named, "all"]]
+
+
+def rate(row):
+    """Hits by answered references, or nothing where there are none."""
+    answered = row["references"] - row["denied"]
+    return round(row["hits"] / answered, 4) if answered else None
+
+
+def text_of(rows, entries, status):
+    """The tables for people; a column that is 0 everywhere is left out, but for the first ones."""
+    always = ("references", "hits", "faults")
+    shown = [c for c in COLUMNS if c in always or any(row[c] for row in rows)]
+    table = [["process", *shown, "hit rate"]]
+    for row in rows:
+        share = "-" if row["hit_rate"] is None else f"{100 * row['hit_rate']:.1f} %"
+        table.append([row["process"], *(str(row[c]) for c in shown), share])
+    widths = [max(len(line[at]) for line in table) for at in range(len(table[0]))]
+    out = ["  ".join([line[0].ljust(widths[0])] + [word.rjust(width) for word, width in zip(line[1:], widths[1:])])
+           for line in table]
+    total = rows[-1]
+    out.append(f"reads {total['read'] + total['near'] + total['come']} "
+               f"(faults {total['read']}, neighbours {total['near']}, swapped in {total['come']}), "
+               f"writes {total['out']}, failed {total['failed']}")
+    out.append(f"entries {len(entries)}, status {'none' if status is None else status}")
+    return "\n".join(out) + "\n"
+
+
+def main():
+    words = sys.argv[1:]
+    options = {word for word in words if word.startswith("--")}
+    paths = [word for word in words if not word.startswith("--")]
+    if not options <= {"--csv", "--json", "--lines"} or len(paths) > 1 or {"--csv", "--json"} <= options:
+        sys.exit(__doc__)
+    if "--lines" in options and len(options) == 1:
+        options.add("--csv")
+    try:
+        if paths:
+            with open(paths[0], encoding="ascii") as source:
+                entries, status = entries_of(source)
+        else:
+            entries, status = entries_of(sys.stdin)
+    except (NoRun, OSError, UnicodeDecodeError) as fault:
+        print(f"summary: {fault}", file=sys.stderr)
+        sys.exit(2)
+    rows, fields = (entries, FIELDS) if "--lines" in options else (rows_of(entries), ["process", *COLUMNS, "hit_rate"])
+    if "--csv" in options:
+        out = csv.DictWriter(sys.stdout, fields, restval="", lineterminator="\n")
+        out.writeheader()
+        out.writerows(rows)
+    elif "--json" in options:
+        for row in rows:
+            print(json.dumps(row))
+    else:
+        sys.stdout.write(text_of(rows, entries, status))
+
+
+if __name__ == "__main__":
+    try:
+        main()
+    except BrokenPipeError:
+        sys.stderr.close()
