@@ -112,60 +112,41 @@ def entries_of(lines):
     return entries, status
 
 
+def column_of(entry, coming):
+    """Whose row an entry counts in, in which column, and whether it is a fault."""
+    seat, kind = entry["seat"], entry["kind"]
+    if kind == "BACK":
+        back = entry["process"] in coming
+        return entry["process"], "came_free" if back else entry["state"].lower(), not back
+    if kind == "IN":
+        column = {"FAULT": "read", "NEAR": "near", "COME": "come"}[entry["role"]]
+        name = entry["page"].split("/")[0] if column == "come" else seat
+        return name, column, column == "read"
+    if kind in ("EVICT", "TURN"):
+        column = "evicted" if kind == "EVICT" else "left" if entry["status"] == "LEAVING" else None
+        return entry["process"], column, False
+    columns = {"DONE": "references", "DENIED": "references", "SERVED": "services", "ZERO": "zero", "COLLIDE": "collided",
+               "OUT": "out", "INFAIL": "failed", "OUTFAIL": "failed", "REUSE": "reused", "LIMIT": "limits"}
+    return seat, columns.get(kind), kind in ("ZERO", "COLLIDE")
+
+
 def rows_of(entries):
     """The counts of each process and seat, in order of their names, and of all together."""
     rows, coming, faulted = {}, set(), set()
-
-    def add(name, column):
-        rows.setdefault(name, dict.fromkeys(COLUMNS, 0))[column] += 1
-
-    def fault(name, column):
-        add(name, column)
-        add(name, "faults")
-        faulted.add(name)
-
     for entry in entries:
-        seat, kind = entry["seat"], entry["kind"]
-        if kind in ("DONE", "DENIED"):
-            add(seat, "references")
-            if kind == "DENIED":
-                add(seat, "denied")
-            elif seat not in faulted:
-                add(seat, "hits")
-            faulted.discard(seat)
-        elif kind == "SERVED":
-            add(seat, "services")
-            faulted.discard(seat)
-        elif kind == "ZERO":
-            fault(seat, "zero")
-        elif kind == "BACK" and entry["process"] in coming:
-            add(entry["process"], "came_free")
-        elif kind == "BACK":
-            fault(entry["process"], entry["state"].lower())
-        elif kind == "COLLIDE":
-            fault(seat, "collided")
-        elif kind == "IN" and entry["role"] == "FAULT":
-            fault(seat, "read")
-        elif kind == "IN" and entry["role"] == "NEAR":
-            add(seat, "near")
-        elif kind == "IN":
-            add(entry["page"].split("/")[0], "come")
-        elif kind == "OUT":
-            add(seat, "out")
-        elif kind in ("INFAIL", "OUTFAIL"):
-            add(seat, "failed")
-        elif kind == "EVICT":
-            add(entry["process"], "evicted")
-        elif kind == "REUSE":
-            add(seat, "reused")
-        elif kind == "LIMIT":
-            add(seat, "limits")
-        elif kind == "TURN":
-            coming.discard(entry["process"])
-            if entry["status"] == "LEAVING":
-                add(entry["process"], "left")
-            elif entry["status"] == "COMING":
-                coming.add(entry["process"])
+        name, column, is_fault = column_of(entry, coming)
+        if column:
+            row = rows.setdefault(name, dict.fromkeys(COLUMNS, 0))
+            row[column] += 1
+        if is_fault:
+            row["faults"] += 1
+            faulted.add(name)
+        if entry["kind"] in ("DONE", "DENIED", "SERVED"):
+            row["denied"] += entry["kind"] == "DENIED"
+            row["hits"] += entry["kind"] == "DONE" and name not in faulted
+            faulted.discard(name)
+        if entry["kind"] == "TURN":
+            (coming.add if entry["status"] == "COMING" else coming.discard)(entry["process"])
     named = sorted(rows, key=lambda name: (len(name), name))
     rows["all"] = {column: sum(rows[name][column] for name in named) for column in COLUMNS}
     return [{"process": name, **rows[name], "hit_rate": rate(rows[name])} for name in [*named, "all"]]
