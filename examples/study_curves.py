@@ -18,7 +18,8 @@ PROGRAM = os.environ.get("NEQYSBAR") or os.path.join(TOP, "neqysbar")
 
 WIDTH, HEIGHT = 640, 400
 LEFT, RIGHT, ABOVE, BELOW = 70, 20, 30, 50
-CURVES = (("ring", "#b04a2f"), ("LRU", "#2f6fb0"), ("least", "#3a8f4d"))
+# a curve's name, its colour, and the dashes that tell it from the others without colours
+CURVES = (("ring", "#b04a2f", "none"), ("LRU", "#2f6fb0", "9 4"), ("least", "#3a8f4d", "2 3"))
 
 
 def faults(trace, process, frames):
@@ -66,15 +67,16 @@ def picture(title, rows):
         out.append(f'<line x1="{LEFT}" y1="{y:.1f}" x2="{WIDTH - RIGHT}" y2="{y:.1f}" stroke="#dddddd"/>')
         out.append(f'<text x="{LEFT - 8}" y="{y + 4:.1f}" text-anchor="end">{count}</text>')
     step = step_of(most_frames)
-    for frames in range(step, most_frames + 1, step):
+    for frames in sorted({1, *range(step, most_frames + 1, step)}):
         out.append(f'<text x="{x_of(frames):.1f}" y="{HEIGHT - BELOW + 18}" text-anchor="middle">{frames}</text>')
     out.append(f'<text x="{(LEFT + WIDTH - RIGHT) / 2:.1f}" y="{HEIGHT - 12}" text-anchor="middle">frames</text>')
     out.append(f'<text x="16" y="{HEIGHT / 2:.1f}" transform="rotate(-90 16 {HEIGHT / 2:.1f})" text-anchor="middle">faults</text>')
-    for place, (name, colour) in enumerate(CURVES, 1):
+    for place, (name, colour, dashes) in enumerate(CURVES, 1):
+        pen = f'stroke="{colour}" stroke-width="2" stroke-dasharray="{dashes}"'
         points = " ".join(f"{x_of(row[0]):.1f},{y_of(row[place]):.1f}" for row in rows)
-        out.append(f'<polyline points="{points}" fill="none" stroke="{colour}" stroke-width="2"/>')
+        out.append(f'<polyline points="{points}" fill="none" {pen}/>')
         y = ABOVE + 18 * place
-        out.append(f'<line x1="{WIDTH - 110}" y1="{y - 4}" x2="{WIDTH - 85}" y2="{y - 4}" stroke="{colour}" stroke-width="2"/>')
+        out.append(f'<line x1="{WIDTH - 110}" y1="{y - 4}" x2="{WIDTH - 85}" y2="{y - 4}" {pen}/>')
         out.append(f'<text x="{WIDTH - 78}" y="{y}">{name}</text>')
     out.append("</svg>")
     return "\n".join(out) + "\n"

@@ -34,8 +34,9 @@ function testReports() {
   const examples = path.join(FOLDER, "..", "..", "examples");
   const pairs = fs.readdirSync(FOLDER).filter((name) => name.endsWith(".trace"))
     .map((name) => [path.join(FOLDER, name), ".log"])
-    .concat(fs.readdirSync(examples).filter((name) => name.endsWith(".trace"))
-      .map((name) => [path.join(examples, name), ".out"]));
+    .concat([examples, path.join(examples, "lessons")].flatMap((folder) =>
+      fs.readdirSync(folder).filter((name) => name.endsWith(".trace"))
+        .map((name) => [path.join(folder, name), ".out"])));
   for (const [name, ending] of pairs) {
     const log = name.replace(/\.trace$/, ending);
     const text = fs.existsSync(log) ? fs.readFileSync(log, "utf8") : "";
