@@ -1,5 +1,6 @@
 """Chooses the references, splits them, and gives each page of a recording its place."""
 
+import bisect
 import itertools
 
 from sources import RecordError
@@ -23,12 +24,6 @@ def split(address, size, widths):
         address += width
         size -= width
     return pieces
-
-
-def choose(references, fetches, skip, count):
-    """The part of a recording that was asked for; fetches only where they were."""
-    chosen = (one for one in references if fetches or one[1] != "I")
-    return itertools.islice(chosen, skip, None if count is None else skip + count)
 
 
 def interleave(recordings, quantum):
@@ -56,7 +51,9 @@ class Recording:
         self.requests = []
         self.owners = []
         self.notes = []
-        self.references = 0
+        self.begins = []
+        self.ends = []
+        self.all = 0
         self.fetched = set()
         self.written = set()
         self.highest = {}
@@ -81,9 +78,18 @@ class Recording:
         if len(self.requests) + len(added) > REQUESTS:
             return False
         self.requests += added
-        self.references += 1
+        self.ends.append(len(self.requests))
         self.highest[process] = max(self.highest.get(process, 0), added[-1][2])
         return True
+
+    def kept(self):
+        """How many references the requests are, the last one in part where it was cut there."""
+        return bisect.bisect_left(self.ends, len(self.requests)) + 1
+
+    def share(self):
+        """What of the recording was kept, in words."""
+        return (f"{self.kept()} of the {self.all} references of the recording "
+                f"({100 * self.kept() / self.all:.3g} %), {len(self.requests)} requests")
 
     def note_page(self, process, op, page):
         if op == "I":
@@ -94,17 +100,20 @@ class Recording:
 
 def gather(recordings, options):
     """All requests of the recordings, up to the number that a trace may have."""
-    parts = [choose(one, options.fetches, options.skip, options.count) for one in recordings]
     found = Recording()
-    for reference in interleave(parts, options.quantum):
+    for reference in interleave([one.taken for one in recordings], options.quantum):
         if reference[1] == "A" and reference[2] % 4:
             raise RecordError(f"an add at {reference[2]:X}, which is no multiple of 4")
         if not found.add(reference, options.widths):
-            found.notes.append(f"cut after {found.references} references: a trace has at most "
+            found.notes.append(f"cut after {len(found.ends)} references: a trace has at most "
                                f"{REQUESTS} requests")
             break
-    for part in recordings:
-        part.close()
+    for one in recordings:
+        one.finish()
+        found.all += one.all()
+        found.begins += [f"{one.name}: from {one.begins} on, after {one.before} references"
+                         ] if one.begins and one.before else []
+        found.notes += [f"{one.name}: {one.note}"] if one.note else []
     if not found.requests:
         raise RecordError("no reference is left to write; the part that was asked for is empty")
     return found

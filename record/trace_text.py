@@ -134,9 +134,7 @@ def head_comments(options, found, layout):
     lines = comment("Recorded by record/record.py " + options.words)
     for process, owner in enumerate(found.owners):
         lines += comment(f"process {LETTERS[process]} is {owner}")
-    lines += comment(f"{found.references} references of the recording, "
-                     f"{len(found.requests)} requests")
-    for note in found.notes:
+    for note in [found.share(), *found.begins, *found.notes]:
         lines += comment(note)
     return lines + mapping_comments(layout, found.owners)
 
