@@ -3,16 +3,14 @@
 import bisect
 import itertools
 
-from sources import RecordError
+from keeping import LETTERS, Kept
+from sources import P1_END, PAGE_BYTES, SERVICES, RecordError
 
-PAGE_BYTES = 512
 P0_PAGES = 4096
 P1_PAGES = 1024
-P1_END = 0x80000000
 REQUESTS = 100_000
 PROCESSES = 16
 SECTION_PAGES = 16_384
-LETTERS = "ABCDEFGHIJKLMNOP"
 
 
 def split(address, size, widths):
@@ -69,18 +67,27 @@ class Recording:
         """Adds one reference; false where it doesn't fit any more."""
         owner, op, address, size, value = reference
         process = self.process_of(owner)
-        added = []
-        for at, width in split(address, size, {4} if op == "A" else widths):
-            part = cut_value(value, at, address, width)
-            for letter in {"M": "RW", "I": "R"}.get(op, op):
-                added.append((process, letter, at, width, part))
-            self.note_page(process, op, at // PAGE_BYTES)
+        if op in SERVICES:
+            added = [(process, op, address, size, value)]
+        else:
+            added = self.pieces(process, reference, widths)
         if len(self.requests) + len(added) > REQUESTS:
             return False
         self.requests += added
         self.ends.append(len(self.requests))
         self.highest[process] = max(self.highest.get(process, 0), added[-1][2])
         return True
+
+    def pieces(self, process, reference, widths):
+        """The requests that a reference becomes."""
+        _, op, address, size, value = reference
+        added = []
+        for at, width in split(address, size, {4} if op == "A" else widths):
+            part = cut_value(value, at, address, width)
+            for letter in {"M": "RW", "I": "R"}.get(op, op):
+                added.append((process, letter, at, width, part))
+            self.note_page(process, op, at // PAGE_BYTES)
+        return added
 
     def kept(self):
         """How many references the requests are, the last one in part where it was cut there."""
@@ -203,6 +210,9 @@ class Layout:
             return f"the sections have more than {SECTION_PAGES} pages"
         return ""
 
+    def private_pages(self):
+        return sum(len(place.zero) + len(place.stack) for place in self.places)
+
     def address(self, process, address):
         """Where an address of the recording stands in the trace."""
         page, offset = divmod(address, PAGE_BYTES)
@@ -215,7 +225,10 @@ class Layout:
 
 
 def lay_out(found, options):
-    """Places all pages in order of first use. Where there is no room the recording is cut."""
+    """Places all pages in order of first use, unless addresses are kept. Where there is no room the
+    recording is cut."""
+    if options.keep_addresses:
+        return Kept(found, options)
     seen = set()
     layout = Layout(found, options)
     for number, (process, _, address, _, _) in enumerate(found.requests):

@@ -17,7 +17,8 @@ import sys
 
 sys.dont_write_bytecode = True
 
-from placing import LETTERS, REQUESTS, gather, lay_out
+from keeping import LETTERS, range_of
+from placing import REQUESTS, gather, lay_out
 from programs import start_lackey
 from recording import Part, Recorded
 from sources import Din, Lackey, Listed, RecordError
@@ -54,6 +55,13 @@ def last(word):
     if at_least_one(word) > REQUESTS:
         raise argparse.ArgumentTypeError(f"a trace has at most {REQUESTS} requests")
     return number(word)
+
+
+def mapped(word):
+    try:
+        return range_of(word)
+    except (ValueError, RecordError) as fault:
+        raise argparse.ArgumentTypeError(str(fault)) from None
 
 
 def numbers(word):
@@ -119,6 +127,10 @@ def add_choices(words):
     group.add_argument("--whole", action="store_true",
                        help="lets a program run to its end, so that all of its references are counted")
     group.add_argument("--fetches", action="store_true", help="takes instruction fetches, as reads")
+    group.add_argument("--keep-addresses", action="store_true", help="leaves the VAX addresses of a "
+                       "list as they are; its lines may be services too")
+    group.add_argument("--map", type=mapped, action="append", default=[], metavar="X:ADDRESS:PAGES",
+                       help="maps this range of process X, in place of the pages that its list uses")
     group.add_argument("--quantum", type=at_least_one, default=100, metavar="N",
                        help="references of one recording before the next one's turn (100)")
     group.add_argument("--widths", type=widths, default={1, 2, 4}, metavar="N,N",
@@ -165,6 +177,11 @@ def read_words():
         raise RecordError("--run has no program")
     if options.last and (options.count or options.sample > 1):
         raise RecordError("--last can't go with --count or --sample")
+    if options.keep_addresses and (options.run or options.text or options.stack or any(
+            kind != "list" for kind, _ in options.recordings)):
+        raise RecordError("--keep-addresses is for lists, without --stack and --text")
+    if options.map and not options.keep_addresses:
+        raise RecordError("--map needs --keep-addresses")
     if options.text and not options.fetches:
         raise RecordError("--text needs --fetches")
     options.parameters = dict(options.param)
@@ -187,7 +204,7 @@ def open_recordings(options):
         for place, (kind, name) in enumerate(options.recordings, 1):
             owner = f"{os.path.basename(name)} (recording {place})"
             form = {"lackey": lambda: Lackey(owner), "din": lambda: Din(owner, options.size),
-                    "list": lambda: Listed(options.size)}[kind]()
+                    "list": lambda: Listed(options.size, options.keep_addresses)}[kind]()
             try:
                 file = ends.enter_context(open(name, "rb"))
             except OSError as fault:

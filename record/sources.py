@@ -12,6 +12,14 @@ LACKEY_OPS = {"I ": "I", " L": "R", " S": "W", " M": "M"}
 DIN_OPS = {"0": "R", "1": "W", "2": "I"}
 LIST_OP = re.compile(r"^([RWMAI])([0-9]{0,3})$")
 GREATEST_SIZE = 4096
+PAGE_BYTES = 512
+P0_END = 4096 * PAGE_BYTES
+P1_END = 0x80000000
+P1_BEGIN = P1_END - 1024 * PAGE_BYTES
+S0_END = 0xC0000000
+CODES = "NA KW KR UW EW ERKW ER SW SREW SRKW SR URSW UREW URKW UR".split()
+# the words of each service behind its name
+SERVICES = {"CRETVA": 3, "SETPRT": 3, "DELTVA": 2, "LKWSET": 2, "ULWSET": 2, "PURGWS": 2, "ADJWSL": 1}
 
 
 class RecordError(Exception):
@@ -29,6 +37,23 @@ def check_size(size, place):
     if not 1 <= size <= GREATEST_SIZE:
         raise RecordError(f"{place}: a reference of {size} bytes; 1 to {GREATEST_SIZE} are read")
     return size
+
+
+def check_address(address, size, place):
+    """Whether so many bytes lie in the part of P0 or of P1 that a trace has."""
+    if address + size <= P0_END or P1_BEGIN <= address and address + size <= P1_END:
+        return
+    if address >= 1 << 32:
+        why = "has more than the 32 bits of a VAX address"
+    elif address >= S0_END:
+        why = "lies in the region that a VAX leaves reserved"
+    elif address >= P1_END:
+        why = "lies in system space (S0), and a trace has addresses of P0 and P1 alone"
+    elif address < 0x40000000:
+        why = f"lies beyond the 4096 pages of P0 that a trace has; they end at {P0_END:08X}"
+    else:
+        why = f"lies outside of the 1024 pages of P1 that a trace has; they begin at {P1_BEGIN:08X}"
+    raise RecordError(f"{place}: the address {address:08X} {why}")
 
 
 class Lackey:
@@ -83,18 +108,21 @@ class Din:
 
 
 class Listed:
-    """The lines `process op address [value]`. The op is R, W, M, A or I, with its bytes after it."""
+    """The lines `process op address [value]`. The op is R, W, M, A or I, with its bytes after it. Where
+    addresses are kept, a line may also be a service, as a trace has it."""
 
     data = fetches = others = ()
     fetch_at = None
 
-    def __init__(self, width):
-        self.width = width
+    def __init__(self, width, kept=False):
+        self.width, self.kept = width, kept
 
     def parse(self, line, where):
         words = line.split()
         if not words or words[0][0] in "#!":
             return None
+        if len(words) > 1 and words[1] in SERVICES:
+            return self.service(words, where)
         if len(words) not in (3, 4):
             raise RecordError(f"{where}: a line has a process, an op, an address, and may be a value")
         found = LIST_OP.match(words[1])
@@ -104,4 +132,31 @@ class Listed:
         if found.group(1) == "A" and size != 4:
             raise RecordError(f"{where}: an add has four bytes")
         value = hexadecimal(words[3], where) if len(words) == 4 else None
-        return words[0], found.group(1), hexadecimal(words[2], where), size, value
+        address = hexadecimal(words[2], where)
+        if self.kept:
+            check_address(address, size, where)
+        return words[0], found.group(1), address, size, value
+
+    def service(self, words, where):
+        """The service of a line: its size is the pages, and its value the words behind them."""
+        if not self.kept:
+            raise RecordError(f"{where}: a service needs --keep-addresses")
+        name, rest = words[1], words[2:]
+        if len(rest) != SERVICES[name] or not all(one.isdecimal() for one in (
+                rest if name == "ADJWSL" else rest[1:2])):
+            form = {1: "a limit", 2: "an address and a number of pages",
+                    3: "an address, a number of pages and a protection code"}[SERVICES[name]]
+            raise RecordError(f"{where}: {name} has {form}")
+        if name == "ADJWSL":
+            if not 1 <= int(rest[0]) <= 1024:
+                raise RecordError(f"{where}: a limit is 1 to 1024")
+            return words[0], name, 0, 0, str(int(rest[0]))
+        address, pages = hexadecimal(rest[0], where), int(rest[1])
+        if address % PAGE_BYTES or not 1 <= pages <= 4096:
+            raise RecordError(f"{where}: a range begins at a multiple of {PAGE_BYTES} and has 1 to 4096 "
+                              "pages")
+        check_address(address, pages * PAGE_BYTES, where)
+        if rest[2:] and rest[2] not in CODES:
+            raise RecordError(f"{where}: \"{rest[2]}\" is no protection code; there are "
+                              f"{', '.join(CODES)}")
+        return words[0], name, address, pages, "".join(rest[2:])

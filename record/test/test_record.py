@@ -257,6 +257,70 @@ class Places(Case):
         self.assertIn("n?me", self.trace("--lackey", name))
 
 
+class KeptAddresses(Case):
+    LIST = ("p R4 200\np W2 7FFEDC00 1234\np CRETVA 400 2 UW\np W4 400 7\np SETPRT 200 1 UR\n"
+            "p PURGWS 0 64\np ADJWSL 20\nq R8 3FC\np DELTVA 400 2\n")
+
+    def test_kept(self):
+        trace = self.trace("--no-comments", "--keep-addresses", "--frames", 64, "--list",
+                           self.file("one", self.LIST))
+        self.assertEqual(trace, """\
+VMTRACE 1
+FRAMES 64
+PAGEFILE 6
+PROCESS A 32 32 32 0
+PROCESS B 32 32 32 0
+MAPZERO A 00000200 1 UW
+MAPZERO A 7FFEDC00 1 UW
+MAPZERO B 00000200 2 UW
+BODY
+A R4 00000200
+A W2 7FFEDC00 1234
+A CRETVA 00000400 2 UW
+A W4 00000400 00000007
+A SETPRT 00000200 1 UR
+A PURGWS 00000000 64
+A ADJWSL 20
+B R4 000003FC
+B R4 00000400
+A DELTVA 00000400 2
+END
+""")
+        if PROGRAM:
+            done = subprocess.run([PROGRAM, "serial"], input=trace, capture_output=True, text=True,
+                                  check=False)
+            self.assertEqual(done.returncode, 0)
+            self.assertNotIn("DENIED", done.stdout)
+
+    def test_ranges(self):
+        one = self.file("one", self.LIST)
+        status, trace, _ = record("--keep-addresses", "--map", "A:200:2", "--map", "A:7FFEDA00:3",
+                                  "--list", one)
+        self.assertEqual(status, 0)
+        self.assertEqual(lines_of(trace, "MAPZERO"), [
+            "MAPZERO A 00000200 2 UW", "MAPZERO A 7FFEDA00 3 UW", "MAPZERO B 00000200 2 UW"])
+
+    def test_refused(self):
+        for text, message in [
+                ("p R4 80001000\n", "line 1: the address 80001000 lies in system space (S0)"),
+                ("p R4 C0000000\n", "lies in the region that a VAX leaves reserved"),
+                ("p R4 100000000\n", "more than the 32 bits"),
+                ("p R4 1FFFFE\n", "beyond the 4096 pages of P0"),
+                ("p R4 7FF7FFFC\n", "outside of the 1024 pages of P1"),
+                ("p CRETVA 200 2\n", "CRETVA has an address, a number of pages and a protection code"),
+                ("p CRETVA 200 2 XX\n", "\"XX\" is no protection code"),
+                ("p DELTVA 204 2\n", "a range begins at a multiple of 512"),
+                ("p DELTVA 1FFE00 2\n", "beyond the 4096 pages of P0"), ("p ADJWSL 0\n", "a limit is 1")]:
+            with self.subTest(message):
+                self.refused(message, "--keep-addresses", "--list", self.file("one", text))
+        one = self.file("one", "p R4 200\n")
+        self.refused("a service needs --keep-addresses", "--list", self.file("two", "p ADJWSL 9\n"))
+        self.refused("--keep-addresses is for lists", "--keep-addresses", "--din", one)
+        self.refused("--map needs", "--map", "A:0:1", "--list", one)
+        self.refused("--map names a process", "--keep-addresses", "--map", "B:0:1", "--list", one)
+        self.refused("isn't PROCESS:ADDRESS:PAGES", "--keep-addresses", "--map", "A:0", "--list", one)
+
+
 class Limits(Case):
     def test_requests(self):
         one = self.file("one", "".join(f" L {n % 64 * 8:x},8\n" for n in range(50_003)))
