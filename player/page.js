@@ -5,6 +5,8 @@
   const texts = { log: "", trace: "", logName: "", traceName: "" };
   let run = null;
   let timer = 0;
+  let example = "";
+  let opening = [];
 
   function element(id) {
     return document.getElementById(id);
@@ -17,54 +19,108 @@
 
   // ---- files ----
 
-  // Tells a trace from a log by its first word. A text with both is cut at its LOG line.
-  // Gives what the text was.
-  function sortText(text, name) {
-    const first = text.split("\n").map((line) => line.trim())
-      .find((line) => line !== "" && line[0] !== "!") || "";
-    const cut = /^LOG[ \t]*\r?\n/m.exec(text);
-    if (/^VMTRACE\b/.test(first) && cut) {
-      Object.assign(texts, { trace: text.slice(0, cut.index), traceName: name,
-        log: text.slice(cut.index + cut[0].length), logName: name });
-      return ["log", "trace"];
+  // What a button's file should be, where a file is something else.
+  function strayText(kinds, wanted, name) {
+    if (!wanted || kinds.includes(wanted)) {
+      return "";
     }
-    if (/^VMTRACE\b/.test(first)) {
-      Object.assign(texts, { trace: text, traceName: name });
-      return ["trace"];
-    }
-    if (!text.split("\n", 50).some((line) => Player.parseLine(line).kind !== "UNKNOWN")) {
-      throw new Error(`${name} is neither a log nor a trace: its first line is "${
-        first.slice(0, 80)}".`);
-    }
-    Object.assign(texts, { log: text, logName: name });
-    return ["log"];
+    return wanted === "log"
+      ? `${name} is a trace, what is fed to the program. It was taken as the trace; now choose its log, ` +
+        "what the program prints for it."
+      : `${name} is a log, what the program prints. It was taken as the log; its trace is what was fed ` +
+        "to the program.";
   }
 
-  // A new log alone forgets the trace of the log before it.
-  async function takeFiles(files) {
+  // A new log alone forgets the trace of the log before it. Where a file is at fault, all stays as it is.
+  async function takeFiles(files, wanted) {
     try {
-      const taken = new Set();
+      const taken = {};
+      const notes = [];
       for (const file of files) {
-        sortText(await file.text(), file.name).forEach((kind) => taken.add(kind));
+        const found = Player.sortText(await file.text(), file.name);
+        Object.keys(found).forEach((kind) => Object.assign(taken,
+          { [kind]: found[kind], [`${kind}Name`]: file.name }));
+        notes.push(strayText(Object.keys(found), wanted, file.name));
       }
-      if (run && taken.has("log") && !taken.has("trace")) {
+      if (run && taken.log && !taken.trace) {
         Object.assign(texts, { trace: "", traceName: "" });
       }
-      openRun();
+      takeTexts(taken, notes.filter(Boolean));
     } catch (fault) {
       showTrouble([fault.message]);
     }
   }
 
-  function openRun() {
+  function takeTexts(taken, notes) {
+    const before = { ...texts };
+    Object.assign(texts, taken);
+    try {
+      openRun(notes);
+    } catch (fault) {
+      Object.assign(texts, before);
+      throw fault;
+    }
+  }
+
+  // ---- examples and links ----
+
+  function showExample(name, line) {
+    const found = Player.EXAMPLES.find((one) => one.name === name);
+    if (!found) {
+      showTrouble([`There is no example "${name}". There are ${
+        Player.EXAMPLES.map((one) => one.name).join(", ")}.`]);
+      return;
+    }
+    example = "";
+    takeTexts({ log: found.log, trace: found.trace, logName: `${name} (example)`,
+      traceName: `${name} (example)` }, []);
+    example = name;
+    show(line || 0);
+  }
+
+  // The link of the page: #example=NAME&line=N.
+  function followLink() {
+    const words = new URLSearchParams(location.hash.slice(1));
+    const line = /^\d+$/.test(words.get("line") || "") ? Number(words.get("line")) : 0;
+    if (words.get("example") && words.get("example") !== example) {
+      showExample(words.get("example"), line);
+    } else if (run && words.has("line") && line !== run.at) {
+      show(line);
+    }
+  }
+
+  function noteLink() {
+    if (example) {
+      history.replaceState(null, "", `#example=${example}&line=${run.at}`);
+    } else if (location.hash) {
+      history.replaceState(null, "", location.pathname + location.search);
+    }
+  }
+
+  function offerExamples() {
+    element("examples").replaceChildren(...Player.EXAMPLES.map((one) => {
+      const button = Player.make("button", one.title);
+      button.addEventListener("click", () => showExample(one.name, 0));
+      return button;
+    }));
+    window.addEventListener("hashchange", followLink);
+    followLink();
+  }
+
+  function openRun(notes) {
     element("loaded").textContent = `Log: ${texts.logName || "none yet"}. ` +
       `Trace: ${texts.traceName || "none"}.`;
     if (!texts.log) {
-      showTrouble([]);
+      showTrouble(notes);
       return;
     }
+    const opened = Player.makeRun(texts.log, texts.trace);
+    const foreign = texts.trace ? Player.foreignTo(opened.records, opened.config) : "";
     stop();
-    run = Player.makeRun(texts.log, texts.trace);
+    run = opened;
+    example = "";
+    opening = foreign ? [`This trace isn't this log's: ${foreign}. What is shown may be wrong; choose ` +
+      "the trace that the log was made from."] : [];
     Player.clearViews();
     element("stage").hidden = false;
     element("drop").hidden = true;
@@ -73,17 +129,18 @@
       ...run.config.processes.map((spec, p) => Player.make("option", Player.letter(p))));
     Player.prepareChart(run, element("chart"));
     Player.drawReport(run);
-    showTrouble(troubles());
     show(0);
+    showTrouble([...notes, ...troubles()]);
   }
 
+  // What is wrong with the run as a whole; it stays as long as the run does.
   function troubles() {
-    const list = [];
+    const list = [...opening];
     if (run.unknown.length) {
       list.push(`${run.unknown.length} lines of the log aren't known to the player and are skipped:`);
       run.unknown.slice(0, 5).forEach(({ line, text }) => list.push(`  line ${line}: ${text}`));
     }
-    if (run.problems.length) {
+    if (run.problems.length && !opening.length) {
       list.push(`${run.problems.length} lines don't fit the state before them:`);
       run.problems.slice(0, 5).forEach(({ line, text }) => list.push(`  line ${line}: ${text}`));
       if (!run.config.known) {
@@ -151,8 +208,10 @@
     element("around").replaceChildren(...nodes);
   }
 
+  // Shows a line; a message of a search before it goes.
   function show(line) {
     const target = Math.max(0, Math.min(run.length, line));
+    showTrouble(troubles());
     showWords(target);
     const state = Player.standAt(run, target);
     const here = target ? framesOf(run.records[target - 1], state) : [];
@@ -160,6 +219,7 @@
     showAround(target);
     Player.drawChart(run, element("chart"));
     element("line").value = String(target);
+    noteLink();
   }
 
   // ---- buttons ----
@@ -167,7 +227,7 @@
   function stop() {
     clearInterval(timer);
     timer = 0;
-    element("play").textContent = "Play";
+    element("play-word").textContent = "Play";
   }
 
   function playOrStop() {
@@ -177,7 +237,7 @@
     }
     const perSecond = Number(element("speed").value);
     const stride = Math.max(1, Math.round(perSecond / 20));
-    element("play").textContent = "Stop";
+    element("play-word").textContent = "Stop";
     timer = setInterval(() => {
       show(run.at + stride);
       if (run.at >= run.length) {
@@ -192,7 +252,6 @@
       showTrouble([`"${word}" is no line of this log. Its lines are 1 to ${run.length}.`]);
       return;
     }
-    showTrouble(troubles());
     show(Number(word));
   }
 
@@ -201,7 +260,6 @@
       showTrouble([`No later line is ${what}.`]);
       return;
     }
-    showTrouble(troubles());
     show(found);
   }
 
@@ -216,26 +274,93 @@
   function findAbout() {
     const word = element("about").value.trim().toUpperCase();
     const at = run.at;
-    findLine(word ? Player.nextAbout(run, at, word) : 0, `about "${word}"`);
+    if (!word) {
+      showTrouble(["Type what the line is to be about: a frame as F3, a page as A/00000200 or LIB/3, or " +
+        "a block as P:7."]);
+      return;
+    }
+    findLine(Player.nextAbout(run, at, word), `about "${word}"`);
   }
 
   const MOVES = { first: () => 0, back: () => run.at - 1, forward: () => run.at + 1,
     last: () => run.length };
   const KEYS = { ArrowLeft: "back", ArrowRight: "forward", Home: "first", End: "last" };
 
+  // Whether a key is meant for the field that has the focus: text and choices keep the keys that they
+  // need themselves. The field of the line gives up the arrows, since it is filled by each step.
+  function keptByField(event) {
+    const field = event.target;
+    if (event.ctrlKey || event.metaKey || event.altKey || field.tagName === "SELECT") {
+      return true;
+    }
+    if (field.tagName !== "INPUT" || ["file", "checkbox"].includes(field.type)) {
+      return event.key === " " && /^(INPUT|BUTTON|SUMMARY)$/.test(field.tagName);
+    }
+    return field.id === "line" ? event.key === " " : field.value !== "" || event.key === " ";
+  }
+
+  // Goes from the frame that has the focus to another one, with Alt and an arrow key.
+  function stepFrame(event) {
+    const cell = event.target.closest && event.target.closest("[data-frame]");
+    const step = { ArrowLeft: -1, ArrowRight: 1, ArrowUp: -rowOfFrames(), ArrowDown: rowOfFrames() }[event.key];
+    const next = cell && event.altKey && step
+      ? element("frames").children[Number(cell.dataset.frame) + step] : null;
+    if (next) {
+      next.focus();
+    }
+    return Boolean(cell && event.altKey && step);
+  }
+
+  function rowOfFrames() {
+    const cells = [...element("frames").children];
+    const top = cells.length ? cells[0].offsetTop : 0;
+    const row = cells.findIndex((cell) => cell.offsetTop !== top);
+    return row < 1 ? 1 : row;
+  }
+
   function listenToKeys() {
     document.addEventListener("keydown", (event) => {
-      if (!run || /^(INPUT|SELECT)$/.test(event.target.tagName)) {
+      if (!run) {
         return;
       }
-      if (event.key === " " && event.target.tagName !== "BUTTON") {
+      if (stepFrame(event)) {
+        event.preventDefault();
+      } else if (keptByField(event)) {
+        return;
+      } else if (event.key === " ") {
         event.preventDefault();
         playOrStop();
       } else if (KEYS[event.key]) {
         event.preventDefault();
+        stop();
         show(MOVES[KEYS[event.key]]());
+      } else if (event.key === "Enter" && event.target.dataset.frame) {
+        element("about").value = `F${event.target.dataset.frame}`;
       }
     });
+  }
+
+  // The name of the frame under the mouse, or of the one that has the focus.
+  function nameFrame(event) {
+    const cell = event.target.closest("[data-frame]");
+    element("frame-name").hidden = !element("frames").classList.contains("small");
+    if (cell) {
+      element("frame-name").textContent = cell.title;
+    }
+  }
+
+  // The chart is drawn again where its width or the colours change.
+  function listenToWindow() {
+    ["mouseover", "focusin"].forEach((kind) => element("frames").addEventListener(kind, nameFrame));
+    element("print").addEventListener("click", () => window.print());
+    window.addEventListener("resize", () => {
+      if (run) {
+        Player.prepareChart(run, element("chart"));
+        Player.drawChart(run, element("chart"));
+      }
+    });
+    matchMedia("(prefers-color-scheme: dark)").addEventListener("change", () =>
+      window.dispatchEvent(new Event("resize")));
   }
 
   function listenToButtons() {
@@ -270,7 +395,7 @@
 
   function listenToFiles() {
     ["log-file", "trace-file"].forEach((id) => element(id).addEventListener("change", (event) =>
-      takeFiles([...event.target.files])));
+      takeFiles([...event.target.files], id.split("-")[0])));
     document.addEventListener("dragover", (event) => {
       event.preventDefault();
       document.body.classList.add("dragging");
@@ -285,6 +410,9 @@
 
   listenToFiles();
   listenToButtons();
+  listenToWindow();
   listenToKeys();
+  element("more").open = innerWidth > 700;
+  offerExamples();
   Player.opened = () => run;
 })(globalThis.Player = globalThis.Player || {});

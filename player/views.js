@@ -4,6 +4,8 @@
   const SMALL_FRAMES = 256;
   const LIST_HEAD = 240;
   const LIST_TAIL = 40;
+  const LETTERS = { FREE: "F", MODIFIED: "M", BAD: "X", RELEASE: "L", READERROR: "E", WRITING: "W",
+    READING: "R", ACTIVE: "A" };
   const shown = { frames: [], processes: [], here: new Set() };
 
   function element(id) {
@@ -40,13 +42,14 @@
 
   function drawFrame(cell, frame, f) {
     cell.className = `frame ${frame.state}`;
-    cell.replaceChildren(make("b", `F${f} ${frame.state}`));
-    cell.firstChild.className = "name";
+    cell.replaceChildren(make("b", `F${f} ${frame.state}`, "name"),
+      make("i", LETTERS[frame.state], "letter"));
     if (frame.page) {
       cell.append(make("span", ` ${frame.page}`), document.createElement("br"),
         make("span", frameDetail(frame)));
     }
     cell.title = `F${f} ${frame.state} ${frame.page} ${frameDetail(frame)}`;
+    cell.setAttribute("aria-label", cell.title);
   }
 
   function drawFrames(state, here) {
@@ -55,6 +58,7 @@
       box.replaceChildren(...state.frames.map((frame, f) => {
         const cell = make("div");
         cell.dataset.frame = f;
+        cell.tabIndex = f === 0 ? 0 : -1;
         return cell;
       }));
       box.classList.toggle("small", state.frames.length > SMALL_FRAMES);
@@ -74,7 +78,8 @@
   function drawCounts(state) {
     const counts = Player.countStates(state);
     element("counts").replaceChildren(...Player.STATES.map((name) =>
-      make("span", `${name} ${counts[name]}`, `swatch ${name}`)));
+      Object.assign(make("span", `${name} ${counts[name]}`, `swatch ${name}`),
+        { title: `letter ${LETTERS[name]} where frames are drawn small` })));
   }
 
   // ---- lists ----

@@ -1,17 +1,16 @@
 """Chooses the references, splits them, and gives each page of a recording its place."""
 
+import bisect
 import itertools
 
-from sources import RecordError
+from keeping import LETTERS, Kept
+from sources import P1_END, PAGE_BYTES, SERVICES, RecordError
 
-PAGE_BYTES = 512
 P0_PAGES = 4096
 P1_PAGES = 1024
-P1_END = 0x80000000
 REQUESTS = 100_000
 PROCESSES = 16
 SECTION_PAGES = 16_384
-LETTERS = "ABCDEFGHIJKLMNOP"
 
 
 def split(address, size, widths):
@@ -23,12 +22,6 @@ def split(address, size, widths):
         address += width
         size -= width
     return pieces
-
-
-def choose(references, fetches, skip, count):
-    """The part of a recording that was asked for; fetches only where they were."""
-    chosen = (one for one in references if fetches or one[1] != "I")
-    return itertools.islice(chosen, skip, None if count is None else skip + count)
 
 
 def interleave(recordings, quantum):
@@ -56,7 +49,9 @@ class Recording:
         self.requests = []
         self.owners = []
         self.notes = []
-        self.references = 0
+        self.begins = []
+        self.ends = []
+        self.all = 0
         self.fetched = set()
         self.written = set()
         self.highest = {}
@@ -72,18 +67,36 @@ class Recording:
         """Adds one reference; false where it doesn't fit any more."""
         owner, op, address, size, value = reference
         process = self.process_of(owner)
+        if op in SERVICES:
+            added = [(process, op, address, size, value)]
+        else:
+            added = self.pieces(process, reference, widths)
+        if len(self.requests) + len(added) > REQUESTS:
+            return False
+        self.requests += added
+        self.ends.append(len(self.requests))
+        self.highest[process] = max(self.highest.get(process, 0), added[-1][2])
+        return True
+
+    def pieces(self, process, reference, widths):
+        """The requests that a reference becomes."""
+        _, op, address, size, value = reference
         added = []
         for at, width in split(address, size, {4} if op == "A" else widths):
             part = cut_value(value, at, address, width)
             for letter in {"M": "RW", "I": "R"}.get(op, op):
                 added.append((process, letter, at, width, part))
             self.note_page(process, op, at // PAGE_BYTES)
-        if len(self.requests) + len(added) > REQUESTS:
-            return False
-        self.requests += added
-        self.references += 1
-        self.highest[process] = max(self.highest.get(process, 0), added[-1][2])
-        return True
+        return added
+
+    def kept(self):
+        """How many references the requests are, the last one in part where it was cut there."""
+        return bisect.bisect_left(self.ends, len(self.requests)) + 1
+
+    def share(self):
+        """What of the recording was kept, in words."""
+        return (f"{self.kept()} of the {self.all} references of the recording "
+                f"({100 * self.kept() / self.all:.3g} %), {len(self.requests)} requests")
 
     def note_page(self, process, op, page):
         if op == "I":
@@ -94,17 +107,20 @@ class Recording:
 
 def gather(recordings, options):
     """All requests of the recordings, up to the number that a trace may have."""
-    parts = [choose(one, options.fetches, options.skip, options.count) for one in recordings]
     found = Recording()
-    for reference in interleave(parts, options.quantum):
+    for reference in interleave([one.taken for one in recordings], options.quantum):
         if reference[1] == "A" and reference[2] % 4:
             raise RecordError(f"an add at {reference[2]:X}, which is no multiple of 4")
         if not found.add(reference, options.widths):
-            found.notes.append(f"cut after {found.references} references: a trace has at most "
+            found.notes.append(f"cut after {len(found.ends)} references: a trace has at most "
                                f"{REQUESTS} requests")
             break
-    for part in recordings:
-        part.close()
+    for one in recordings:
+        one.finish()
+        found.all += one.all()
+        found.begins += [f"{one.name}: from {one.begins} on, after {one.before} references"
+                         ] if one.begins and one.before else []
+        found.notes += [f"{one.name}: {one.note}"] if one.note else []
     if not found.requests:
         raise RecordError("no reference is left to write; the part that was asked for is empty")
     return found
@@ -194,6 +210,9 @@ class Layout:
             return f"the sections have more than {SECTION_PAGES} pages"
         return ""
 
+    def private_pages(self):
+        return sum(len(place.zero) + len(place.stack) for place in self.places)
+
     def address(self, process, address):
         """Where an address of the recording stands in the trace."""
         page, offset = divmod(address, PAGE_BYTES)
@@ -206,7 +225,10 @@ class Layout:
 
 
 def lay_out(found, options):
-    """Places all pages in order of first use. Where there is no room the recording is cut."""
+    """Places all pages in order of first use, unless addresses are kept. Where there is no room the
+    recording is cut."""
+    if options.keep_addresses:
+        return Kept(found, options)
     seen = set()
     layout = Layout(found, options)
     for number, (process, _, address, _, _) in enumerate(found.requests):

@@ -17,8 +17,11 @@ import sys
 
 sys.dont_write_bytecode = True
 
-from placing import LETTERS, gather, lay_out
-from sources import RecordError, read_din, read_file, read_lackey, read_list, run_lackey
+from keeping import LETTERS, range_of
+from placing import REQUESTS, gather, lay_out
+from programs import start_lackey
+from recording import Part, Recorded
+from sources import Din, Lackey, Listed, RecordError
 from trace_text import trace_text
 
 SECTION_NAME = re.compile(r"[A-Z][A-Z0-9_]{1,14}")
@@ -35,6 +38,30 @@ def at_least_one(word):
     if number(word) < 1:
         raise argparse.ArgumentTypeError("the number has to be at least 1")
     return number(word)
+
+
+def start(word):
+    if word in ("start", "main"):
+        return word
+    if re.fullmatch(r"0[xX][0-9A-Fa-f]{1,16}", word):
+        return "fetch", int(word, 16)
+    if NUMBER.fullmatch(word) and int(word):
+        return "number", int(word)
+    raise argparse.ArgumentTypeError(f"\"{word}\" is none of start, main, an address as 0x4010 and "
+                                     "the number of a reference from 1 on")
+
+
+def last(word):
+    if at_least_one(word) > REQUESTS:
+        raise argparse.ArgumentTypeError(f"a trace has at most {REQUESTS} requests")
+    return number(word)
+
+
+def mapped(word):
+    try:
+        return range_of(word)
+    except (ValueError, RecordError) as fault:
+        raise argparse.ArgumentTypeError(str(fault)) from None
 
 
 def numbers(word):
@@ -84,11 +111,26 @@ def add_recordings(words):
 
 def add_choices(words):
     group = words.add_argument_group("what is taken")
+    group.add_argument("--from", dest="start", type=start, metavar="PLACE",
+                       help="where it begins: start, main, 0xADDRESS of an instruction, or the number "
+                       "of a reference; main, or the entry point of a program without symbols, where "
+                       "the recording tells it")
     group.add_argument("--skip", type=number, default=0, metavar="N",
-                       help="leaves out the first N references of each recording")
+                       help="leaves out the first N references from there on, of each recording")
     group.add_argument("--count", type=at_least_one, metavar="N",
                        help="takes N references of each recording")
+    group.add_argument("--last", type=last, metavar="N", help="takes the last N references")
+    group.add_argument("--sample", type=at_least_one, default=1, metavar="N",
+                       help="takes every Nth window of references")
+    group.add_argument("--window", type=at_least_one, default=1000, metavar="N",
+                       help="references of a window (1000)")
+    group.add_argument("--whole", action="store_true",
+                       help="lets a program run to its end, so that all of its references are counted")
     group.add_argument("--fetches", action="store_true", help="takes instruction fetches, as reads")
+    group.add_argument("--keep-addresses", action="store_true", help="leaves the VAX addresses of a "
+                       "list as they are; its lines may be services too")
+    group.add_argument("--map", type=mapped, action="append", default=[], metavar="X:ADDRESS:PAGES",
+                       help="maps this range of process X, in place of the pages that its list uses")
     group.add_argument("--quantum", type=at_least_one, default=100, metavar="N",
                        help="references of one recording before the next one's turn (100)")
     group.add_argument("--widths", type=widths, default={1, 2, 4}, metavar="N,N",
@@ -133,6 +175,13 @@ def read_words():
     options.words = shlex.join(sys.argv[1:])
     if options.run is not None and not options.run:
         raise RecordError("--run has no program")
+    if options.last and (options.count or options.sample > 1):
+        raise RecordError("--last can't go with --count or --sample")
+    if options.keep_addresses and (options.run or options.text or options.stack or any(
+            kind != "list" for kind, _ in options.recordings)):
+        raise RecordError("--keep-addresses is for lists, without --stack and --text")
+    if options.map and not options.keep_addresses:
+        raise RecordError("--map needs --keep-addresses")
     if options.text and not options.fetches:
         raise RecordError("--text needs --fetches")
     options.parameters = dict(options.param)
@@ -143,32 +192,52 @@ def read_words():
     return options
 
 
+@contextlib.contextmanager
 def open_recordings(options):
-    """The references of all recordings. Those of a list keep the list's own process names."""
-    opened = []
-    for place, (kind, name) in enumerate(options.recordings, 1):
-        owner = f"{os.path.basename(name)} (recording {place})"
-        opened.append({
-            "lackey": lambda: read_file(name, read_lackey, owner, name),
-            "din": lambda: read_file(name, read_din, owner, name, options.size),
-            "list": lambda: read_file(name, read_list, name, options.size)}[kind]())
-    if options.run:
-        opened.append(run_lackey(options.run, shlex.join(options.run)))
-    if not opened:
+    """All recordings. Those of a list keep the list's own process names."""
+    part = Part(options.start, options.skip, options.count, options.last, options.sample,
+                options.window, options.fetches)
+    if not options.recordings and not options.run:
         raise RecordError("no recording is given; --help tells how")
-    return opened
+    with contextlib.ExitStack() as ends:
+        opened = []
+        for place, (kind, name) in enumerate(options.recordings, 1):
+            owner = f"{os.path.basename(name)} (recording {place})"
+            form = {"lackey": lambda: Lackey(owner), "din": lambda: Din(owner, options.size),
+                    "list": lambda: Listed(options.size, options.keep_addresses)}[kind]()
+            try:
+                file = ends.enter_context(open(name, "rb"))
+            except OSError as fault:
+                raise RecordError(f"{name} can't be read: {fault.strerror}") from None
+            opened.append(Recorded(name, form, file, part))
+        if options.run:
+            child, file = start_lackey(options.run)
+            ends.callback(child.wait)
+            ends.callback(child.terminate)
+            ends.enter_context(file)
+            words = shlex.join(options.run)
+            opened.append(Recorded(words, Lackey(words), file, part, lambda: not options.whole))
+        yield opened
+
+
+def tell(found):
+    """What the user should know of a trace that was written."""
+    for note in [*found.begins, *found.notes]:
+        print(f"record: {note}", file=sys.stderr)
+    if found.kept() < found.all:
+        print(f"record: {found.share()}", file=sys.stderr)
 
 
 def main():
     try:
         options = read_words()
-        found = gather(open_recordings(options), options)
+        with open_recordings(options) as recordings:
+            found = gather(recordings, options)
         text = trace_text(options, found, lay_out(found, options))
         with (open(options.output, "w", encoding="ascii") if options.output
               else contextlib.nullcontext(sys.stdout)) as out:
             out.write(text)
-        for note in found.notes:
-            print(f"record: {note}", file=sys.stderr)
+        tell(found)
     except RecordError as fault:
         print(f"record: {fault}", file=sys.stderr)
         return 2

@@ -1,20 +1,25 @@
-"""Reads recordings: valgrind's lackey, DineroIV's din format, and a plain list.
+"""Reads the lines of recordings: valgrind's lackey, DineroIV's din format, and a plain list.
 
-Each reader gives references (owner, op, address, size, value): the owner is the process's name in
-the recording, the op is R, W, M (read, then write), A (add) or I (instruction fetch), and the value
-is None where the recording has none.
+Each line gives a reference (owner, op, address, size, value): the owner is the process's name in the
+recording, the op is R, W, M (read, then write), A (add) or I (instruction fetch), and the value is
+None where the recording has none. A line that is no reference gives None.
 """
 
-import os
 import re
-import shutil
-import subprocess
 
 LACKEY = re.compile(r"^(I | S| L| M) {1,2}([0-9A-Fa-f]+),([0-9]+)$")
 LACKEY_OPS = {"I ": "I", " L": "R", " S": "W", " M": "M"}
 DIN_OPS = {"0": "R", "1": "W", "2": "I"}
 LIST_OP = re.compile(r"^([RWMAI])([0-9]{0,3})$")
 GREATEST_SIZE = 4096
+PAGE_BYTES = 512
+P0_END = 4096 * PAGE_BYTES
+P1_END = 0x80000000
+P1_BEGIN = P1_END - 1024 * PAGE_BYTES
+S0_END = 0xC0000000
+CODES = "NA KW KR UW EW ERKW ER SW SREW SRKW SR URSW UREW URKW UR".split()
+# the words of each service behind its name
+SERVICES = {"CRETVA": 3, "SETPRT": 3, "DELTVA": 2, "LKWSET": 2, "ULWSET": 2, "PURGWS": 2, "ADJWSL": 1}
 
 
 class RecordError(Exception):
@@ -34,80 +39,124 @@ def check_size(size, place):
     return size
 
 
-def read_lackey(lines, owner, place):
-    """The lines of `valgrind --tool=lackey --trace-mem=yes`; its own messages are skipped."""
-    for number, line in enumerate(lines, 1):
-        line = line.rstrip("\r\n")
+def check_address(address, size, place):
+    """Whether so many bytes lie in the part of P0 or of P1 that a trace has."""
+    if address + size <= P0_END or P1_BEGIN <= address and address + size <= P1_END:
+        return
+    if address >= 1 << 32:
+        why = "has more than the 32 bits of a VAX address"
+    elif address >= S0_END:
+        why = "lies in the region that a VAX leaves reserved"
+    elif address >= P1_END:
+        why = "lies in system space (S0), and a trace has addresses of P0 and P1 alone"
+    elif address < 0x40000000:
+        why = f"lies beyond the 4096 pages of P0 that a trace has; they end at {P0_END:08X}"
+    else:
+        why = f"lies outside of the 1024 pages of P1 that a trace has; they begin at {P1_BEGIN:08X}"
+    raise RecordError(f"{place}: the address {address:08X} {why}")
+
+
+class Lackey:
+    """The lines of `valgrind --tool=lackey --trace-mem=yes`. Valgrind's own messages are skipped; one
+    that begins with `--` may go on in further lines, which begin with an address or blanks."""
+
+    data = (b" L ", b" S ", b" M ")
+    fetches = (b"I  ",)
+    others = (b"==", b"--")
+    message = re.compile(r"(==|--|0x[0-9a-f]+: \[| {4,}\S)")
+
+    def __init__(self, owner):
+        self.owner = owner
+
+    def parse(self, line, where):
         found = LACKEY.match(line)
         if found:
             op, address, size = found.groups()
-            where = f"{place}, line {number}"
-            yield (owner, LACKEY_OPS[op], hexadecimal(address, where),
-                   check_size(int(size), where), None)
-        elif line.strip() and not line.startswith("=="):
-            raise RecordError(f"{place}, line {number}: \"{line[:60]}\" is no line of lackey")
+            return (self.owner, LACKEY_OPS[op], hexadecimal(address, where),
+                    check_size(int(size), where), None)
+        if line.strip() and not self.message.match(line):
+            raise RecordError(f"{where}: \"{line[:60]}\" is no line of lackey")
+        return None
+
+    @staticmethod
+    def fetch_at(address):
+        """How the line of a fetch at this address begins."""
+        return b"I  %08x," % address
 
 
-def read_din(lines, owner, place, width):
-    """The lines `label address` of DineroIV: 0 reads, 1 writes, 2 fetches an instruction. The
-    format has no sizes, so all references have the given width. Words after the address, and
-    labels 3 and 4 (escapes), are left out as that program does."""
-    for number, line in enumerate(lines, 1):
+class Din:
+    """The lines `label address` of DineroIV: 0 reads, 1 writes, 2 fetches an instruction. The format
+    has no sizes, so all references have the given width. Words after the address, and labels 3 and 4
+    (escapes), are left out as that program does."""
+
+    data = (b"0 ", b"1 ")
+    fetches = (b"2 ",)
+    others = (b"3 ", b"4 ")
+    fetch_at = None
+
+    def __init__(self, owner, width):
+        self.owner, self.width = owner, width
+
+    def parse(self, line, where):
         words = line.split()
-        if not words:
-            continue
-        where = f"{place}, line {number}"
-        if words[0] in ("3", "4"):
-            continue
+        if not words or words[0] in ("3", "4"):
+            return None
         if words[0] not in DIN_OPS or len(words) < 2:
             raise RecordError(f"{where}: \"{line.strip()[:60]}\" is no line of the din format")
-        yield (owner, DIN_OPS[words[0]], hexadecimal(words[1], where), check_size(width, where),
-               None)
+        return (self.owner, DIN_OPS[words[0]], hexadecimal(words[1], where),
+                check_size(self.width, where), None)
 
 
-def read_list(lines, place, width):
-    """The lines `process op address [value]`. The op is R, W, M, A or I, with its bytes after it."""
-    for number, line in enumerate(lines, 1):
+class Listed:
+    """The lines `process op address [value]`. The op is R, W, M, A or I, with its bytes after it. Where
+    addresses are kept, a line may also be a service, as a trace has it."""
+
+    data = fetches = others = ()
+    fetch_at = None
+
+    def __init__(self, width, kept=False):
+        self.width, self.kept = width, kept
+
+    def parse(self, line, where):
         words = line.split()
         if not words or words[0][0] in "#!":
-            continue
-        where = f"{place}, line {number}"
+            return None
+        if len(words) > 1 and words[1] in SERVICES:
+            return self.service(words, where)
         if len(words) not in (3, 4):
             raise RecordError(f"{where}: a line has a process, an op, an address, and may be a value")
         found = LIST_OP.match(words[1])
         if not found:
             raise RecordError(f"{where}: \"{words[1]}\" is no op; R4, W1, M8, A4 and I2 are some")
-        size = check_size(int(found.group(2) or width), where)
+        size = check_size(int(found.group(2) or self.width), where)
         if found.group(1) == "A" and size != 4:
             raise RecordError(f"{where}: an add has four bytes")
         value = hexadecimal(words[3], where) if len(words) == 4 else None
-        yield words[0], found.group(1), hexadecimal(words[2], where), size, value
+        address = hexadecimal(words[2], where)
+        if self.kept:
+            check_address(address, size, where)
+        return words[0], found.group(1), address, size, value
 
-
-def read_file(name, reader, *words):
-    """The references in a file, read as they are needed."""
-    try:
-        with open(name, encoding="ascii", errors="replace") as lines:
-            yield from reader(lines, *words)
-    except OSError as fault:
-        raise RecordError(f"{name} can't be read: {fault.strerror}") from None
-
-
-def run_lackey(words, owner):
-    """Runs a program under lackey and gives its references; it is ended once no more are asked
-    for. What the program prints goes to standard error."""
-    if not shutil.which(words[0]):
-        raise RecordError(f"there is no program \"{words[0]}\"")
-    if not shutil.which("valgrind"):
-        raise RecordError("valgrind isn't there; a recording can be read from a file instead")
-    read_end, write_end = os.pipe()
-    child = subprocess.Popen(
-        ["valgrind", "--tool=lackey", "--trace-mem=yes", f"--log-fd={write_end}", *words],
-        pass_fds=(write_end,), stdin=subprocess.DEVNULL, stdout=2)
-    os.close(write_end)
-    try:
-        with os.fdopen(read_end, encoding="ascii", errors="replace") as lines:
-            yield from read_lackey(lines, owner, "valgrind")
-    finally:
-        child.terminate()
-        child.wait()
+    def service(self, words, where):
+        """The service of a line: its size is the pages, and its value the words behind them."""
+        if not self.kept:
+            raise RecordError(f"{where}: a service needs --keep-addresses")
+        name, rest = words[1], words[2:]
+        if len(rest) != SERVICES[name] or not all(one.isdecimal() for one in (
+                rest if name == "ADJWSL" else rest[1:2])):
+            form = {1: "a limit", 2: "an address and a number of pages",
+                    3: "an address, a number of pages and a protection code"}[SERVICES[name]]
+            raise RecordError(f"{where}: {name} has {form}")
+        if name == "ADJWSL":
+            if not 1 <= int(rest[0]) <= 1024:
+                raise RecordError(f"{where}: a limit is 1 to 1024")
+            return words[0], name, 0, 0, str(int(rest[0]))
+        address, pages = hexadecimal(rest[0], where), int(rest[1])
+        if address % PAGE_BYTES or not 1 <= pages <= 4096:
+            raise RecordError(f"{where}: a range begins at a multiple of {PAGE_BYTES} and has 1 to 4096 "
+                              "pages")
+        check_address(address, pages * PAGE_BYTES, where)
+        if rest[2:] and rest[2] not in CODES:
+            raise RecordError(f"{where}: \"{rest[2]}\" is no protection code; there are "
+                              f"{', '.join(CODES)}")
+        return words[0], name, address, pages, "".join(rest[2:])

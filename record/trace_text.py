@@ -2,8 +2,9 @@
 
 import textwrap
 
-from placing import LETTERS, PAGE_BYTES
-from sources import RecordError
+from keeping import LETTERS, Kept
+from placing import PAGE_BYTES
+from sources import SERVICES, RecordError
 
 PARAMETERS = {
     "PFC": (1, 8), "HILIMIT": (0, 16384), "LOLIMIT": (0, 16384), "WAITLIMIT": (1, 16384),
@@ -70,7 +71,10 @@ def comment(text):
 
 
 def mapping_comments(layout, owners):
-    """Which pages of the recording stand where, a run of neighbours in a line."""
+    """Which pages of the recording stand where, a run of neighbours in a line. Pages that kept their
+    addresses need none."""
+    if isinstance(layout, Kept):
+        return []
     lines = ["! process place pages first-address-in-the-recording"]
     for process in range(len(owners)):
         place = layout.places[process]
@@ -91,6 +95,8 @@ def mapping_comments(layout, owners):
 
 def map_lines(layout, options):
     """The maps of all processes: one for zero pages, one for the stack, one for each section."""
+    if isinstance(layout, Kept):
+        return layout.map_lines()
     lines = []
     for process, place in enumerate(layout.places):
         letter = LETTERS[process]
@@ -114,9 +120,17 @@ def value_of(value, number, width, zero):
     return value % (1 << (8 * width))
 
 
+def service_line(letter, name, address, pages, rest):
+    where = [] if name == "ADJWSL" else [f"{address:08X}", str(pages)]
+    return " ".join([letter, name, *where, *([rest] if rest else [])])
+
+
 def request_lines(found, layout, zero):
     lines = []
     for number, (process, op, address, width, value) in enumerate(found.requests, 1):
+        if op in SERVICES:
+            lines.append(service_line(LETTERS[process], op, address, width, value))
+            continue
         words = f"{LETTERS[process]} {op}{width} {layout.address(process, address):08X}"
         if op != "R":
             words += f" {value_of(value, number, width, zero):0{2 * width}X}"
@@ -126,7 +140,7 @@ def request_lines(found, layout, zero):
 
 def needed_blocks(layout):
     """A page file in which every private page finds a block."""
-    pages = sum(len(place.zero) + len(place.stack) for place in layout.places)
+    pages = layout.private_pages()
     return min(PAGEFILE[1], max(PAGEFILE[0], pages))
 
 
@@ -134,9 +148,7 @@ def head_comments(options, found, layout):
     lines = comment("Recorded by record/record.py " + options.words)
     for process, owner in enumerate(found.owners):
         lines += comment(f"process {LETTERS[process]} is {owner}")
-    lines += comment(f"{found.references} references of the recording, "
-                     f"{len(found.requests)} requests")
-    for note in found.notes:
+    for note in [found.share(), *found.begins, *found.notes]:
         lines += comment(note)
     return lines + mapping_comments(layout, found.owners)
 

@@ -98,9 +98,40 @@ class Browser:
     def text(self, selector):
         return self.run("return document.querySelector(arguments[0]).textContent", selector)
 
+    def press(self, keys):
+        """Presses and releases keys, wherever the focus is; a key of ALT is held until the end."""
+        held = "\ue00a" if keys.startswith("\ue00a") else ""
+        steps = [{"type": "keyDown", "value": held}] * bool(held)
+        for key in keys.removeprefix(held):
+            steps += [{"type": "keyDown", "value": key}, {"type": "keyUp", "value": key}]
+        steps += [{"type": "keyUp", "value": held}] * bool(held)
+        self.ask("POST", "/actions", {"actions": [{"type": "key", "id": "keys", "actions": steps}]})
+
+    def command(self, name, **words):
+        """A command of the browser's own, such as a size of the screen or a scheme of colours."""
+        return self.ask("POST", "/goog/cdp/execute", {"cmd": name, "params": words})
+
+    def screen(self, width, height, dark=False):
+        """The size of the screen in points, and whether the user asks for dark pages."""
+        self.command("Emulation.setDeviceMetricsOverride", width=width, height=height,
+                     deviceScaleFactor=1, mobile=width < 700)
+        scheme = {"name": "prefers-color-scheme", "value": "dark" if dark else "light"}
+        self.command("Emulation.setEmulatedMedia", features=[scheme])
+
+    def eyes(self, kind):
+        """How the page is seen: none, deuteranopia, protanopia, tritanopia or achromatopsia."""
+        self.command("Emulation.setEmulatedVisionDeficiency", type=kind)
+
+    def wait_for(self, script, *words):
+        """A script that answers by calling its last argument."""
+        return self.ask("POST", "/execute/async", {"script": script, "args": list(words)})
+
+    def shot(self):
+        return self.ask("GET", "/screenshot")
+
     def picture(self, name):
         with open(name, "wb") as out:
-            out.write(base64.b64decode(self.ask("GET", "/screenshot")))
+            out.write(base64.b64decode(self.shot()))
 
     def close(self):
         try:

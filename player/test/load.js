@@ -4,7 +4,8 @@ const fs = require("fs");
 const path = require("path");
 const vm = require("vm");
 
-const FILES = ["log.js", "trace.js", "model.js", "changes.js", "report.js", "run.js", "explain.js"];
+const FILES = ["log.js", "trace.js", "model.js", "changes.js", "report.js", "run.js", "explain.js",
+  "examples.js", "kinds.js"];
 
 module.exports = function loadPlayer() {
   for (const file of FILES) {

@@ -46,6 +46,8 @@ function testReports() {
     for (const trace of [fs.readFileSync(name, "utf8"), ""]) {
       const run = checkRun(path.basename(name), text, trace);
       same(`${path.basename(name)}: report`, run.differences, []);
+      same(`${path.basename(name)}: its own trace`,
+        trace && Player.foreignTo(run.records, run.config), "");
     }
   }
 }
@@ -222,7 +224,49 @@ function testWords() {
   }
 }
 
+// The examples that are built in are those of the repository.
+function testExamples() {
+  same("examples.js", read("..", "examples.js"), require("./make_examples.js")());
+  for (const { name, trace: text, log } of Player.EXAMPLES) {
+    same(`${name}: report`, checkRun(name, log, text).differences, []);
+  }
+}
+
+// What a text is, and whether a log belongs to a trace.
+function testKinds() {
+  const [log, own] = [read("shared-section.log"), read("shared-section.trace")];
+  same("log", Object.keys(Player.sortText(log, "a")), ["log"]);
+  same("trace", Object.keys(Player.sortText(own, "a")), ["trace"]);
+  same("both", Player.sortText(`${own}LOG\n${log}`, "a"), { trace: own, log });
+  for (const [text, message] of [["", "a is empty"], ["hello\n", "neither a log nor a trace"],
+    ["TRACE 3 OUTOFRANGE\nSTATUS 2\n", "its line 3 is at fault"],
+    ["TRACE UNFINISHED\nSTATUS 2\n", "ends before its END line"],
+    ["STATUS 1\n", "only the line STATUS 1"]]) {
+    let found = "";
+    try {
+      Player.sortText(text, "a");
+    } catch (fault) {
+      found = fault.message;
+    }
+    same(message, found.includes(message), true);
+  }
+  const foreign = (lines, ...traceLines) => Player.foreignTo(Player.parseLog(lines.join("\n")),
+    Player.parseTrace(`${MACHINE.join("\n")}\n${traceLines.join("\n")}\nEND\n`));
+  const head = ["PROCESS A 4 4 4 0", "MAPZERO A 00000000 1 UW", "BODY"];
+  same("its own", foreign(["1 A DONE W1 00000000 01", "2 A SERVED ADJWSL 3 OK", "3 A DONE KR1 00000000 01"],
+    ...head, "A UW1 0 1", "A ADJWSL 03", "A KR1 00000000"), "");
+  same("another request", foreign(["1 A DONE R1 00000000 00"], ...head, "A R2 00000000")
+    .includes("in the trace it is \"R2 00000000\""), true);
+  same("too many", foreign(["1 A DONE R1 00000000 00"], ...head).includes("hasn't so many"), true);
+  same("another process", foreign(["1 B ZERO 00000000 F0"], ...head), "the log has a process B, and the " +
+    "trace hasn't");
+  same("another frame", foreign(["FRAME 9 BAD", "FRAME 9 FREE A/00000000 MODIFY 0 REFS 0 SHARES 0"], ...head),
+    "the log has a frame 9, and the trace has 8 frames");
+}
+
 testReports();
+testExamples();
+testKinds();
 testStanding();
 testChangedDuringWrite();
 testFailedWrite();

@@ -16,6 +16,7 @@ sys.dont_write_bytecode = True
 
 from browser import Browser, Missing
 from long_log import long_log, long_trace
+from looks import show_example, test_looks
 
 HERE = pathlib.Path(__file__).resolve().parent
 PAGE = HERE.parent / "index.html"
@@ -32,6 +33,8 @@ return performance.now() - begun;
 class Page:
     """The player's page, and how many comparisons passed and failed."""
 
+    uri = PAGE.as_uri()
+
     def __init__(self, browser):
         self.browser = browser
         self.passed = 0
@@ -39,6 +42,7 @@ class Page:
 
     def load(self, log, trace=None):
         """Opens the page anew with these files; gives the seconds until the log stands there."""
+        self.browser.open("about:blank")
         self.browser.open(PAGE.as_uri())
         if trace:
             self.browser.type("#trace-file", str(trace))
@@ -138,7 +142,7 @@ def test_swap(page):
     page.browser.click("#play")
     page.wait("return Player.opened().at > 50", "it plays")
     page.browser.click("#first")
-    page.same("stopped", page.browser.text("#play"), "Play")
+    page.same("stopped", page.browser.text("#play-word"), "Play")
     page.browser.run("document.getElementById('fault-process').value = 'B'")
     page.browser.click("#fault-form button")
     page.same("first fault of B", page.browser.text("#text"), "11 B ZERO 00000000 F5")
@@ -205,18 +209,22 @@ def test_long(page, folder, timed):
               True)
     page.browser.run("const chart = document.getElementById('chart');"
                      "const box = chart.getBoundingClientRect();"
-                     "chart.dispatchEvent(new MouseEvent('click', {clientX: box.left + box.width / 4}))")
-    page.same("a click on the chart", page.browser.run("return Player.opened().at"),
-              round(page.browser.run("return Player.opened().length") / 4))
+                     "chart.dispatchEvent(new MouseEvent('click', {clientX: box.left + Player.opened().chartBox.left"
+                     " + (Player.opened().chartBox.right - Player.opened().chartBox.left) / 4}))")
+    length = page.browser.run("return Player.opened().length")
+    off = abs(page.browser.run("return Player.opened().at") - length / 4)
+    page.same("a click on the chart", off < length / 500, True)
 
 
 def take_pictures(page, folder):
-    page.load(HERE / "swap-out-and-back.log", HERE / "swap-out-and-back.trace")
-    page.go(46)
-    page.browser.picture(folder / "picture-swap.png")
-    page.load(HERE / "write-cluster.log", HERE / "write-cluster.trace")
-    page.go(14)
-    page.browser.picture(folder / "picture-write-cluster.png")
+    for name, example, line, width, height, dark in [
+            ("picture-swap", "swapping", 35, 1280, 900, False),
+            ("picture-write-cluster", "write-cluster", 14, 1280, 900, False),
+            ("picture-phone", "swapping", 35, 390, 844, False),
+            ("picture-dark", "belady", 12, 1280, 900, True)]:
+        page.browser.screen(width, height, dark)
+        show_example(page, page.uri, example, line)
+        page.browser.picture(folder / f"{name}.png")
 
 
 def run_all(browser, pictures, timed):
@@ -228,6 +236,7 @@ def run_all(browser, pictures, timed):
         test_swap(page)
         test_drop(page)
         test_bad_input(page, folder)
+        test_looks(page, HERE, folder)
         test_long(page, folder, timed)
     if pictures:
         take_pictures(page, pathlib.Path(pictures))
@@ -237,7 +246,7 @@ def run_all(browser, pictures, timed):
 
 def main():
     words = argparse.ArgumentParser(description=__doc__)
-    words.add_argument("--pictures", metavar="FOLDER", help="keeps two pictures of the page there")
+    words.add_argument("--pictures", metavar="FOLDER", help="keeps four pictures of the page there")
     words.add_argument("--timed", action="store_true", help="asks for the bounds of time too")
     options = words.parse_args()
     try:

@@ -9,6 +9,8 @@ RANGES = {
     "AWSMIN": (2, 1024), "BORROWLIM": (0, 4096)}
 CODES = "NA KW KR UW EW ERKW ER SW SREW SRKW SR URSW UREW URKW UR".split()
 REQUEST = re.compile(r"([A-P]) (?:R([124])|([WA])([124])) ([0-9A-F]{8})(?: ([0-9A-F]{2,8}))?")
+SERVICE = re.compile(r"([A-P]) (?:(ADJWSL) (\d+)|(?:(CRETVA|SETPRT)|DELTVA|LKWSET|ULWSET|PURGWS) "
+                     r"([0-9A-F]{8}) (\d+)(?: ([A-Z]+))?)")
 
 
 class Checker:
@@ -103,8 +105,10 @@ class Checker:
         if text == "END":
             self.place = 5
             return ""
-        found = REQUEST.fullmatch(text)
         self.requests += 1
+        if SERVICE.fullmatch(text):
+            return self.service(SERVICE.fullmatch(text))
+        found = REQUEST.fullmatch(text)
         if not found or ord(found[1]) - 65 >= len(self.extents):
             return "a request's words"
         width, address = int(found[2] or found[4]), int(found[5], 16)
@@ -115,6 +119,22 @@ class Checker:
         if (found[1], address // 512) not in self.mapped:
             return "a request of a page that isn't mapped"
         return "more than 100,000 requests" if self.requests > 100_000 else ""
+
+
+    def service(self, found):
+        if ord(found[1]) - 65 >= len(self.extents):
+            return "a service's process"
+        if found[2]:
+            return "" if 1 <= int(found[3]) <= 1024 else "a limit"
+        first, pages = int(found[5], 16), int(found[6])
+        if first % 512 or not (1 <= pages and first + pages * 512 <= 4096 * 512
+                               or 0x7FF80000 <= first and first + pages * 512 <= 0x80000000):
+            return "a service's range"
+        if (found[4] is None) != (found[7] is None) or found[7] and found[7] not in CODES:
+            return "a service's protection code"
+        if found[4] == "CRETVA":
+            self.mapped |= {(found[1], first // 512 + page) for page in range(pages)}
+        return ""
 
 
 def check(text):

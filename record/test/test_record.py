@@ -4,8 +4,10 @@
 What needs valgrind or the built program is left out where they aren't there, and named.
 """
 
+import io
 import pathlib
 import shutil
+import struct
 import subprocess
 import sys
 import tempfile
@@ -16,6 +18,11 @@ sys.dont_write_bytecode = True
 from checker import check
 
 HERE = pathlib.Path(__file__).resolve().parent
+sys.path.append(str(HERE.parent))
+
+import recording
+import sources
+
 TOP = HERE.parent.parent
 RECORDER = HERE.parent / "record.py"
 # the program that is built here, or the one of the release
@@ -126,6 +133,95 @@ END
             "A R4 00000004", "A R4 00000008", "B R4 00000044", "B R4 00000048"])
 
 
+def elf(main):
+    """A program of 64 bits, its entry point at 1000, with or without a function main."""
+    names, symbols = b"\0main\0", struct.pack("<IBBHQQ", 0, 0, 0, 0, 0, 0)
+    symbols += struct.pack("<IBBHQQ", 1, 2, 0, 1, main, 4) if main else b""
+    at = 64 + len(names) + len(symbols)
+    head = b"\x7fELF\x02\x01\x01" + bytes(9) + struct.pack(
+        "<HHIQQQIHHHHHH", 3, 62, 1, 0x1000, 0, at, 0, 64, 0, 0, 64, 2, 0)
+    tables = [(2, 64 + len(names), len(symbols), 1), (3, 64, len(names), 0)]
+    return head + names + symbols + b"".join(
+        struct.pack("<IIQQQQIIQQ", 0, kind, 0, 0, place, size, link, 0, 0, 24)
+        for kind, place, size, link in tables)
+
+
+class Parts(Case):
+    """Where a recording begins, and what of it is taken."""
+
+    LINES = "".join(f"I  {0x109000 + n:08x},1\n L {n * 4:x},4\n" for n in range(40))
+
+    def loaded(self, main):
+        program = self.file("program", elf(main).decode("latin-1"))
+        return self.file("one", f"==1== Lackey\n--1-- Reading syms from {program}\n--1--    svma 0x00000"
+                         f"01004, avma 0x0000109004\n--1-- a message\n0x30a: [0]=\n{self.LINES}")
+
+    def first(self, *words):
+        return body(self.trace(*words))[0]
+
+    def test_begins_at_main(self):
+        for main, place, word in [(0x1020, 32, "main"), (0, 0, "the entry point")]:
+            one = self.loaded(main)
+            trace = self.trace("--lackey", one)
+            self.assertEqual(len(body(trace)), 40 - place)
+            self.assertEqual(f"from {word} of" in trace, place > 0)
+            self.assertEqual(len(body(self.trace("--from", "start", "--lackey", one))), 40)
+        self.assertIn("! 8 of the 40 references of the recording (20 %), 8 requests",
+                      self.trace("--lackey", self.loaded(0x1020)))
+        one = self.file("two", "==1== Lackey\n" + self.LINES)
+        status, trace, messages = record("--lackey", one)
+        self.assertEqual((status, len(body(trace))), (0, 40))
+        self.assertIn("doesn't say where the program was loaded (valgrind does with -v -v)", messages)
+        self.refused("--from start takes it from its beginning", "--from", "main", "--lackey", one)
+        one = self.file("one", "--1-- Reading syms from /no/such\n--1--    svma 0x1, avma 0x2\n" + self.LINES)
+        self.assertIn("begins isn't known: No such file", record("--lackey", one)[2])
+
+    def test_other_starts(self):
+        one = self.file("one", self.LINES)
+        for words, first in [(["--from", "0x109007"], 7), (["--from", 9], 8), (["--from", 1], 0),
+                             (["--from", "0x109007", "--skip", 2], 9), (["--last", 3], 37),
+                             (["--from", "0x109026", "--last", 30], 38), (["--skip", 39, "--last", 9], 39)]:
+            with self.subTest(words):
+                self.assertEqual(self.first(*words, "--zero", "--lackey", one, "--no-comments"),
+                                 f"A R4 {first * 4:08X}")
+        two = self.file("two", "p I4 1000\np R4 20\np I4 1004\np R4 24\n")
+        self.assertEqual(self.first("--from", "0x1004", "--list", two), "A R4 00000024")
+        three = self.file("three", "2 1000\n0 20\n2 1004\n0 24\n")
+        self.assertEqual(self.first("--from", "0x1004", "--din", three), "A R4 00000024")
+        self.refused("never has a fetch at 999", "--from", "0x999", "--lackey", one)
+        self.refused("never has a reference 41", "--from", 41, "--lackey", one)
+        self.refused("is none of start, main, an address", "--from", "there", "--lackey", one)
+        self.refused("--last can't go with", "--last", 3, "--count", 3, "--lackey", one)
+        self.refused("at most 100000", "--last", 100_001, "--lackey", one)
+
+    def test_windows(self):
+        one = self.file("one", self.LINES)
+        trace = self.trace("--sample", 3, "--window", 4, "--skip", 1, "--lackey", one)
+        self.assertEqual([int(line.split()[2], 16) // 4 for line in body(trace)],
+                         [n for n in range(1, 40) if (n - 1) // 4 % 3 == 0])
+        self.assertIn("! 15 of the 40 references of the recording (37.5 %), 15 requests", trace)
+
+    def test_blocks_change_nothing(self):
+        """A recording that is read in small blocks gives the same as one that is read at once."""
+        text = ("==1== Lackey\n" + self.LINES + "0x1: [odd\n" + self.LINES).encode()
+        for words in [{}, {"skip": 5}, {"skip": 7, "count": 9}, {"last": 11}, {"sample": 4, "window": 3},
+                      {"start": ("fetch", 0x109011), "sample": 2, "window": 5}, {"start": ("number", 33)},
+                      {"fetches": True, "last": 7}, {"fetches": True, "start": ("number", 33), "skip": 2}]:
+            found = []
+            for recording.BLOCK_BYTES in (17, 100, 1 << 16):
+                one = recording.Recorded("one", sources.Lackey("one"), io.BytesIO(text),
+                                         recording.Part(**{"start": "start", **words}))
+                found.append((list(one.taken), one.before, one.after))
+            with self.subTest(words):
+                self.assertEqual(found[0], found[2])
+                self.assertEqual(found[1], found[2])
+                self.assertEqual(sum(found[2][1:]), 160 if words.get("fetches") else 80)
+
+    def test_faults_in_what_is_left_out(self):
+        one = self.file("one", self.LINES + "hello\n" + self.LINES)
+        self.refused("line 81: \"hello\" is no line of lackey", "--count", 2, "--lackey", one)
+
+
 class Places(Case):
     def test_stack(self):
         one = self.file("one", " L 1000,4\n S 7fff0000fffc,4\n L 7fff0000f000,4\n L 7fff0000fc00,4\n")
@@ -151,7 +247,7 @@ class Places(Case):
     def test_comments_name_the_mapping(self):
         one = self.file("one", " L 1000,4\n L 1200,4\n L 9000,4\n")
         trace = self.trace("--lackey", one)
-        for line in ["! process A is one (recording 1)", "! 3 references of the recording, 3 requests",
+        for line in ["! process A is one (recording 1)", "! 3 of the 3 references of the recording (100 %), 3 requests",
                      "! A 00000000 2 1000", "! A 00000400 1 9000"]:
             self.assertIn(line, trace.splitlines())
         self.assertNotIn("!", self.trace("--lackey", one, "--no-comments"))
@@ -159,6 +255,70 @@ class Places(Case):
     def test_strange_name(self):
         name = self.file("n\xe4me " + "x" * 200, " L 0,4\n")
         self.assertIn("n?me", self.trace("--lackey", name))
+
+
+class KeptAddresses(Case):
+    LIST = ("p R4 200\np W2 7FFEDC00 1234\np CRETVA 400 2 UW\np W4 400 7\np SETPRT 200 1 UR\n"
+            "p PURGWS 0 64\np ADJWSL 20\nq R8 3FC\np DELTVA 400 2\n")
+
+    def test_kept(self):
+        trace = self.trace("--no-comments", "--keep-addresses", "--frames", 64, "--list",
+                           self.file("one", self.LIST))
+        self.assertEqual(trace, """\
+VMTRACE 1
+FRAMES 64
+PAGEFILE 6
+PROCESS A 32 32 32 0
+PROCESS B 32 32 32 0
+MAPZERO A 00000200 1 UW
+MAPZERO A 7FFEDC00 1 UW
+MAPZERO B 00000200 2 UW
+BODY
+A R4 00000200
+A W2 7FFEDC00 1234
+A CRETVA 00000400 2 UW
+A W4 00000400 00000007
+A SETPRT 00000200 1 UR
+A PURGWS 00000000 64
+A ADJWSL 20
+B R4 000003FC
+B R4 00000400
+A DELTVA 00000400 2
+END
+""")
+        if PROGRAM:
+            done = subprocess.run([PROGRAM, "serial"], input=trace, capture_output=True, text=True,
+                                  check=False)
+            self.assertEqual(done.returncode, 0)
+            self.assertNotIn("DENIED", done.stdout)
+
+    def test_ranges(self):
+        one = self.file("one", self.LIST)
+        status, trace, _ = record("--keep-addresses", "--map", "A:200:2", "--map", "A:7FFEDA00:3",
+                                  "--list", one)
+        self.assertEqual(status, 0)
+        self.assertEqual(lines_of(trace, "MAPZERO"), [
+            "MAPZERO A 00000200 2 UW", "MAPZERO A 7FFEDA00 3 UW", "MAPZERO B 00000200 2 UW"])
+
+    def test_refused(self):
+        for text, message in [
+                ("p R4 80001000\n", "line 1: the address 80001000 lies in system space (S0)"),
+                ("p R4 C0000000\n", "lies in the region that a VAX leaves reserved"),
+                ("p R4 100000000\n", "more than the 32 bits"),
+                ("p R4 1FFFFE\n", "beyond the 4096 pages of P0"),
+                ("p R4 7FF7FFFC\n", "outside of the 1024 pages of P1"),
+                ("p CRETVA 200 2\n", "CRETVA has an address, a number of pages and a protection code"),
+                ("p CRETVA 200 2 XX\n", "\"XX\" is no protection code"),
+                ("p DELTVA 204 2\n", "a range begins at a multiple of 512"),
+                ("p DELTVA 1FFE00 2\n", "beyond the 4096 pages of P0"), ("p ADJWSL 0\n", "a limit is 1")]:
+            with self.subTest(message):
+                self.refused(message, "--keep-addresses", "--list", self.file("one", text))
+        one = self.file("one", "p R4 200\n")
+        self.refused("a service needs --keep-addresses", "--list", self.file("two", "p ADJWSL 9\n"))
+        self.refused("--keep-addresses is for lists", "--keep-addresses", "--din", one)
+        self.refused("--map needs", "--map", "A:0:1", "--list", one)
+        self.refused("--map names a process", "--keep-addresses", "--map", "B:0:1", "--list", one)
+        self.refused("isn't PROCESS:ADDRESS:PAGES", "--keep-addresses", "--map", "A:0", "--list", one)
 
 
 class Limits(Case):
@@ -249,8 +409,16 @@ class RealPrograms(Case):
         self.assertEqual(lines_of(plain, "PROCESS"), ["PROCESS A 32 32 32 0"])
         self.assertGreaterEqual(len(body(plain)), 2000)
         for words in [["--fetches", "--stack", 8192, "--text", "TEXT:A", "--count", 5000],
-                      ["--skip", 3000, "--count", 500, "--no-comments", "--frames", 64]]:
+                      ["--from", "start", "--skip", 3000, "--count", 500, "--no-comments", "--frames",
+                       64]]:
             self.trace(*words, "--run", "/bin/true")
+
+    @unittest.skipUnless(shutil.which("valgrind"), "valgrind isn't there")
+    def test_begins_at_the_program(self):
+        status, trace, messages = record("--count", 100, "--run", "/bin/true")
+        self.assertEqual((status, check(trace)), (0, ""), messages)
+        self.assertRegex(trace, r"! /bin/true: from (main|the entry point) of /\S*true on, after \d+ ")
+        self.assertRegex(messages, r"record: \d+ of the \d+ references")
 
     @unittest.skipUnless(PROGRAM, "the program isn't there")
     def test_program_takes_it(self):
