@@ -55,7 +55,7 @@
     context.stroke();
     context.setLineDash([]);
     if (letter) {
-      context.fillText(letter, box.right - 10, end - 4);
+      context.fillText(letter, box.right - (letter === "F" ? 8 : 22), end - 4);
     }
   }
 

@@ -163,13 +163,27 @@
       why: failures(record), rule: "Read error: the next line empties the frame." };
   };
 
+  // By which limit the modified list is written; the limits are known with the trace alone.
+  function writerReason(state, record) {
+    const { HILIMIT, LOLIMIT, WAITLIMIT } = state.config.parameters;
+    if (!state.config.known || record.seat === "SWP") {
+      return "";
+    }
+    return record.seat === "MPW"
+      ? ` The writer begins when the list has more pages than HILIMIT, ${HILIMIT}, and goes on until it ` +
+        `has at most LOLIMIT, ${LOLIMIT}.`
+      : ` A process that lacks a frame, or finds WAITLIMIT pages on the list, here ${WAITLIMIT}, writes ` +
+        "itself.";
+  }
+
   EXPLAIN.OUT = function (state, record) {
     const frame = state.frames[record.frame];
     const swap = record.block[0] === "X";
     return { what: `${capital(seatName(record.seat))} begins to write ` +
       `${frame ? frame.page : "a page"} from frame F${record.frame} to ${blockName(record.block)}.`,
       why: swap ? "Its process is leaving memory, and the page goes to the swap block of its slot."
-        : `The frame heads ${list(state, "MODIFIED")}; it can't be reused before its page is written.`,
+        : `The frame heads ${list(state, "MODIFIED")}; it can't be reused before its page is written.` +
+          (frame && frame.state === "MODIFIED" ? writerReason(state, record) : ""),
       rule: swap ? "Outswap: private pages are written to swap blocks."
         : "Modified page writing: pages are taken from the head of the modified list." };
   };
@@ -232,14 +246,30 @@
   };
 
   const TURNS = {
-    LEAVING: ["begins to be swapped out", "Frames are needed, or another process is to come in first."],
+    LEAVING: ["begins to be swapped out", ""],
     GONE: ["is swapped out", "All pages that aren't locked in memory have left its working set."],
     COMING: ["begins to be swapped in", "It has a request to make, and its pages have to be in memory."],
     RESIDENT: ["is in memory again", "All its pages have come back from its swap blocks."],
   };
 
+  // Why a process has to leave: who lacks frames, and how many there are.
+  function leavingReason(state, record) {
+    const lists = `the free list has ${state.free.length} frames, and the modified list ` +
+      `${state.modified.length}`;
+    const { FREELIM, FREEGOAL } = state.config.parameters;
+    if (record.seat === "SWP") {
+      return `After an answer ${lists}.` + (state.config.known ? " The swapper begins when fewer are free " +
+        `than FREELIM, ${FREELIM}, and goes on until FREEGOAL, ${FREEGOAL}, are.` : "");
+    }
+    const process = state.processes[Player.processNumber(record.seat)];
+    const coming = process && process.status !== "RESIDENT" ? ", which is being swapped in," : "";
+    return `Process ${record.seat}${coming} lacks a frame: ${lists}. The resident process whose last ` +
+      "answer is the longest ago has to leave.";
+  }
+
   EXPLAIN.TURN = function (state, record) {
-    const [what, why] = TURNS[record.status];
+    const what = TURNS[record.status][0];
+    const why = TURNS[record.status][1] || leavingReason(state, record);
     return { what: `Process ${record.process} ${what}; ${seatName(record.seat)} does it.`, why,
       rule: `Swapper: the status of process ${record.process} is ${record.status} now.` };
   };

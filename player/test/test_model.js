@@ -264,7 +264,20 @@ function testKinds() {
     "the log has a frame 9, and the trace has 8 frames");
 }
 
+// Why a process leaves, and why pages are written, with the numbers of the line's state.
+function testReasons() {
+  const { trace: text, log } = Player.EXAMPLES.find((one) => one.name === "swapping");
+  const run = Player.makeRun(log, text);
+  const why = (line) => Player.explain(Player.standAt(run, line - 1), run.records[line - 1]).why;
+  same("C lacks a frame", why(17), "Process C lacks a frame: the free list has 0 frames, and the modified " +
+    "list 0. The resident process whose last answer is the longest ago has to leave.");
+  const out = Player.makeRun([...FIRST_LINES, "8 MPW OUT F0 P:0"].join("\n"), THREE_PAGES);
+  same("the writer", Player.explain(Player.standAt(out, 7), out.records[7]).why.endsWith("The writer begins " +
+    "when the list has more pages than HILIMIT, 128, and goes on until it has at most LOLIMIT, 32."), true);
+}
+
 testReports();
+testReasons();
 testExamples();
 testKinds();
 testStanding();
