@@ -2,6 +2,7 @@
 use Rattle.std.proofs.Common.{◌≡◌, ℕ, ◌+◌, ◌-◌, ◌*◌, ◌<◌, ◌≤◌, Bool, true, false, cond, List, [], ◌∷◌, ◌++◌, Option, Some, None, length, map, refl, sym, ap, ◌∙◌, subst, arith}
 use Rattle.std.specs.List.{AllByRecursion}
 use Rattle.std.proofs.lemmas.List.{length-append, map-append}
+use Rattle.vm_types.specs.BlockView.{BlockView, Tells}
 use Rattle.vm_types.specs.Configuration.{IsWellFormed}
 use Rattle.vm_types.specs.declared.names.BlockId.{BlockId}
 use Rattle.vm_types.specs.declared.names.Page.{Page}
@@ -112,43 +113,43 @@ pub all_and_one : {X : Type 0} (P : X → Type 0) (xs : List X) (x : X) → AllB
 all_and_one P [] x all one = (one, tt)
 all_and_one P (y ∷ ys) x all one = (all.0, all_and_one P ys x all.1 one)
 
-module _ {B : Type 0} {content plan : B → Option (List ℕ)} {reads writes faults : B → ℕ} {tells tells_plan : Bool} where
-  pub can_take : (s : History) (seat : Seat) (c : CarrierView B) → HasBegunLifts content plan reads writes faults tells tells_plan s seat c → length c.lifts < 16 → CanTake c seat
+module _ {B : Type 0} {seen : B → BlockView} {tells : Tells} where
+  pub can_take : (s : History) (seat : Seat) (c : CarrierView B) → HasBegunLifts seen tells s seat c → length c.lifts < 16 → CanTake c seat
   can_take s seat c has few = record {
     own = has.own;
     room = few;
-    waiting = all_as (IsBegun content plan reads writes faults tells tells_plan s seat) (λ (lift : LiftView B). lift.result ≡ Waiting) (λ lift is. is.waits) c.lifts has.begun;
+    waiting = all_as (IsBegun seen tells s seat) (λ (lift : LiftView B). lift.result ≡ Waiting) (λ lift is. is.waits) c.lifts has.begun;
   }
 
   -- an entry that lands nothing leaves them
-  pub later : (s : History) (e : Entry) (seat : Seat) (c : CarrierView B) → IsWellFormed s.config → IsRun s.config (e ∷ s.past) → ((k : ℕ) → lands k e.what ≡ false) → HasBegunLifts content plan reads writes faults tells tells_plan s seat c → HasBegunLifts content plan reads writes faults tells tells_plan (added s e) seat c
+  pub later : (s : History) (e : Entry) (seat : Seat) (c : CarrierView B) → IsWellFormed s.config → IsRun s.config (e ∷ s.past) → ((k : ℕ) → lands k e.what ≡ false) → HasBegunLifts seen tells s seat c → HasBegunLifts seen tells (added s e) seat c
   later s e seat c formed run quiet has = record {
     own = has.own;
-    begun = all_as (IsBegun content plan reads writes faults tells tells_plan s seat) (IsBegun content plan reads writes faults tells tells_plan (added s e) seat)
+    begun = all_as (IsBegun seen tells s seat) (IsBegun seen tells (added s e) seat)
         (λ lift is. record {
           seat_is = is.seat_is;
           pool_is = is.pool_is;
           waits = is.waits;
-          fits = lifts_stay tells tells_plan s.config s.past e (lift_seen content plan reads writes faults lift) formed run (quiet lift.start) is.fits;
+          fits = lifts_stay tells.content tells.plan s.config s.past e (lift_seen seen lift) formed run (quiet lift.start) is.fits;
         }) c.lifts has.begun;
   }
 
   module _ (s : History) (seat : Seat) (f : Pfn) (b : BlockId) (r : Role) (head : IsHead (pager s).free f.0) where
-    both : (o : Option Page) (c : CarrierView B) → IsWellFormed s.config → IsRun s.config s.past → AreLegal s.config s.past seat.0 (reuse_first o f.0 (what.In f b r ∷ [])) → HasBegunLifts content plan reads writes faults tells tells_plan s seat c
-        → HasBegunLifts content plan reads writes faults tells tells_plan (added (added_each seat (reuse_first o f.0 []) s) (entry_by seat (what.In f b r))) seat c
+    both : (o : Option Page) (c : CarrierView B) → IsWellFormed s.config → IsRun s.config s.past → AreLegal s.config s.past seat.0 (reuse_first o f.0 (what.In f b r ∷ [])) → HasBegunLifts seen tells s seat c
+        → HasBegunLifts seen tells (added (added_each seat (reuse_first o f.0 []) s) (entry_by seat (what.In f b r))) seat c
     both None c formed run legal has = later s (entry_by seat (what.In f b r)) seat c formed (run, legal.0) (λ k. refl) has
     both (Some x) c formed run legal has =
         let reuse : Entry = entry_by seat (what.Reuse f x) in
         later (added s reuse) (entry_by seat (what.In f b r)) seat c formed ((run, legal.0), legal.1.0) (λ k. refl) (later s reuse seat c formed (run, legal.0) (λ k. refl) has)
 
     module _ (s1 s2 : History) (c : CarrierView B) (lift : LiftView B) (first : s1 ≡ added_each seat (reuse_first ((pager s).page f.0) f.0 []) s) (second : s2 ≡ added s1 (entry_by seat (what.In f b r)))
-        (began : HasBegun content plan reads writes faults tells tells_plan s1 seat (what.In f b r) f.0 b true lift) where
-      pub has_taken : (c' : CarrierView B) → c' ≡ taking c lift → IsWellFormed s.config → IsRun s.config s.past → AreLegal s.config s.past seat.0 (one_read s b r) → HasBegunLifts content plan reads writes faults tells tells_plan s seat c → HasBegunLifts content plan reads writes faults tells tells_plan s2 seat c'
+        (began : HasBegun seen tells s1 seat (what.In f b r) f.0 b true lift) where
+      pub has_taken : (c' : CarrierView B) → c' ≡ taking c lift → IsWellFormed s.config → IsRun s.config s.past → AreLegal s.config s.past seat.0 (one_read s b r) → HasBegunLifts seen tells s seat c → HasBegunLifts seen tells s2 seat c'
       has_taken c' taken formed run legal has =
-          let old : HasBegunLifts content plan reads writes faults tells tells_plan s2 seat c = subst (λ (x : History). HasBegunLifts content plan reads writes faults tells tells_plan x seat c) (sym (reached s seat f b r head s1 first legal s2 second)) (both ((pager s).page f.0) c formed run (are_legal s seat f b r head legal) has) in
-          subst (λ (x : CarrierView B). HasBegunLifts content plan reads writes faults tells tells_plan s2 seat x) (sym taken) (record {
+          let old : HasBegunLifts seen tells s2 seat c = subst (λ (x : History). HasBegunLifts seen tells x seat c) (sym (reached s seat f b r head s1 first legal s2 second)) (both ((pager s).page f.0) c formed run (are_legal s seat f b r head legal) has) in
+          subst (λ (x : CarrierView B). HasBegunLifts seen tells s2 seat x) (sym taken) (record {
             own = old.own;
-            begun = all_and_one (IsBegun content plan reads writes faults tells tells_plan s2 seat) c.lifts lift old.begun (subst (λ (x : History). IsBegun content plan reads writes faults tells tells_plan x seat lift) (sym second) (record {
+            begun = all_and_one (IsBegun seen tells s2 seat) c.lifts lift old.begun (subst (λ (x : History). IsBegun seen tells x seat lift) (sym second) (record {
               seat_is = ap (λ (x : LiftView B). x.seat) began.begins;
               pool_is = ap (λ (x : LiftView B). x.pool) began.begins;
               waits = ap (λ (x : LiftView B). x.result) began.begins;

@@ -1,6 +1,7 @@
 -- The lifts of the transfers that a call began. This project's own.
-use Rattle.std.specs.Prelude.{◌≡◌, ℕ, Bool, List, [], ◌∷◌, Option, map}
+use Rattle.std.specs.Prelude.{◌≡◌, ℕ, List, [], ◌∷◌, map}
 use Rattle.std.specs.List.{AllByRecursion}
+use Rattle.vm_types.specs.BlockView.{BlockView, Tells}
 use Rattle.vm_types.specs.declared.names.BlockId.{BlockId}
 use Rattle.vm_types.specs.declared.names.Seat.{Seat}
 use Rattle.vm_journal.specs.declared.entry.What.{What}
@@ -21,21 +22,21 @@ places_in (other ∷ ws) = places_in ws
 abbrev pub place_of : {B : Type 0} → LiftView B → ℕ × BlockId
 place_of lift = (lift.frame, lift.block)
 
-module _ {B : Type 0} (content plan : B → Option (List ℕ)) (reads writes faults : B → ℕ) where
+module _ {B : Type 0} (seen : B → BlockView) where
   -- a transfer of this seat that waits to be carried, with a buffer of the state's pool, and that fits the journal
-  pub record IsBegun (tells tells_plan : Bool) (s : History) (seat : Seat) (lift : LiftView B) : Type 0 where
+  pub record IsBegun (tells : Tells) (s : History) (seat : Seat) (lift : LiftView B) : Type 0 where
     pub seat_is : lift.seat ≡ seat
     pub pool_is : lift.pool ≡ s.pool
     pub waits : lift.result ≡ Waiting
-    pub fits : LiftFits content plan reads writes faults tells tells_plan s.config s.past lift
+    pub fits : LiftFits seen tells s.config s.past lift
 
   -- a carrier of this seat whose lifts are begun, and fit the journal
-  pub record HasBegunLifts (tells tells_plan : Bool) (s : History) (seat : Seat) (c : CarrierView B) : Type 0 where
+  pub record HasBegunLifts (tells : Tells) (s : History) (seat : Seat) (c : CarrierView B) : Type 0 where
     pub own : c.seat ≡ seat
-    pub begun : AllByRecursion (IsBegun tells tells_plan s seat) c.lifts
+    pub begun : AllByRecursion (IsBegun tells s seat) c.lifts
 
   -- the lifts of the transfers that begin among the entries, and no others
-  pub record HasLifts (tells tells_plan : Bool) (s : History) (seat : Seat) (made : List What) (c : CarrierView B) : Type 0 where
+  pub record HasLifts (tells : Tells) (s : History) (seat : Seat) (made : List What) (c : CarrierView B) : Type 0 where
     pub own : c.seat ≡ seat
     pub each : map place_of c.lifts ≡ places_in made
-    pub begun : AllByRecursion (IsBegun tells tells_plan s seat) c.lifts
+    pub begun : AllByRecursion (IsBegun tells s seat) c.lifts

@@ -43,9 +43,9 @@ pub fn read_one<B: Block>(
     requires may { AreLegal state.old.config state.old.past seat.0 (one_read state.old block role) }
     requires paid { owed state.old.past + 4 ≤ state.old.spare }
     requires few { length carrier.old.lifts < 16 }
-    requires begun { HasBegunLifts B.content B.plan B.reads B.writes B.faults B.tells_content B.tells_plan state.old seat carrier.old }
+    requires begun { HasBegunLifts B.seen B.tells state.old seat carrier.old }
     ensures made { state.new ≡ added_each seat (one_read state.old block role) state.old }
-    ensures begun { HasBegunLifts B.content B.plan B.reads B.writes B.faults B.tells_content B.tells_plan state.new seat carrier.new }
+    ensures begun { HasBegunLifts B.seen B.tells state.new seat carrier.new }
     ensures each { map place_of carrier.new.lifts ≡ map place_of carrier.old.lifts ++ places_in (one_read state.old block role) }
     ensures few { length carrier.new.lifts ≤ length carrier.old.lifts + 1 }
     ensures paid { owed state.new.past + state.old.spare ≤ owed state.old.past + state.new.spare + 4 }
@@ -71,9 +71,9 @@ pub fn write_one<B: Block>(
 )
     requires may { MayAdd state.old (entry_by seat (What.Out f block)) }
     requires few { length carrier.old.lifts < 16 }
-    requires begun { HasBegunLifts B.content B.plan B.reads B.writes B.faults B.tells_content B.tells_plan state.old seat carrier.old }
+    requires begun { HasBegunLifts B.seen B.tells state.old seat carrier.old }
     ensures made { state.new ≡ added state.old (entry_by seat (What.Out f block)) }
-    ensures begun { HasBegunLifts B.content B.plan B.reads B.writes B.faults B.tells_content B.tells_plan state.new seat carrier.new }
+    ensures begun { HasBegunLifts B.seen B.tells state.new seat carrier.new }
     ensures each { map place_of carrier.new.lifts ≡ map place_of carrier.old.lifts ++ (f.0, block) ∷ [] }
 {
     state.run_law();

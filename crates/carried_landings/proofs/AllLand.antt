@@ -1,7 +1,8 @@
 -- The lifts of a whole carrier land as its seat's flights do, one after another.
-use Rattle.std.proofs.Common.{◌≡◌, ℕ, Bool, false, List, [], ◌∷◌, Option, Some, find, filter, map, nat_eq, reverse, refl, sym, ap, ◌∙◌, subst}
+use Rattle.std.proofs.Common.{◌≡◌, ℕ, false, List, [], ◌∷◌, Some, find, filter, map, nat_eq, reverse, refl, sym, ap, ◌∙◌, subst}
 use Rattle.std.specs.List.{AllByRecursion}
 use Rattle.std.proofs.lemmas.Bool.{eqb-false, ne_eqb}
+use Rattle.vm_types.specs.BlockView.{BlockView, Tells}
 use Rattle.vm_types.specs.Configuration.{IsWellFormed}
 use Rattle.vm_types.specs.declared.config.Config.{Config}
 use Rattle.vm_types.specs.declared.names.Seat.{Seat}
@@ -51,9 +52,9 @@ pub record HaveAllLanded {B : Type 0} (config : Config) (seat : ℕ) (xs : List 
   pub others : open_flights (after_lifts seat lifts past) ≡ of_others seat (open_flights past)
 
 -- ---- in order
-module _ {B : Type 0} (content plan : B → Option (List ℕ)) (reads writes faults : B → ℕ) (tells tells_plan : Bool) (config : Config) (formed : IsWellFormed config) (seat : ℕ) where
+module _ {B : Type 0} (seen : B → BlockView) (tells : Tells) (config : Config) (formed : IsWellFormed config) (seat : ℕ) where
   abbrev FitsAt : List Entry → LiftView B → Type 0
-  FitsAt past lift = Fits content plan reads writes faults tells tells_plan config past lift
+  FitsAt past lift = Fits seen tells config past lift
 
   module _ (x : Flight) (xs : List Flight) (lift : LiftView B) (lifts : List (LiftView B)) (past : List Entry) (are : carrier_of seat past ≡ x ∷ xs) (found : find (starts lift.start) (open_flights past) ≡ Some x) where
     abbrev next : List Entry
@@ -72,14 +73,14 @@ module _ {B : Type 0} (content plan : B → Option (List ℕ)) (reads writes fau
 
     one_more : FitsAt past lift → HaveAllLanded config seat xs lifts next → HaveAllLanded config seat (x ∷ xs) (lift ∷ lifts) past
     one_more fits rest = record {
-      past_is = rest.past_is ∙ ap (λ (ws : List What). landed_by config seat xs (outcomes_of lifts) (made_by seat ws past)) (sym (lands_as content plan reads writes faults tells tells_plan config past lift fits x found));
+      past_is = rest.past_is ∙ ap (λ (ws : List What). landed_by config seat xs (outcomes_of lifts) (made_by seat ws past)) (sym (lands_as seen tells config past lift fits x found));
       others = rest.others ∙ next_others;
     }
 
     next_fit : IsRun config next → AllByRecursion (λ (other : LiftView B). nat_eq lift.start other.start ≡ false) lifts → AllByRecursion (FitsAt past) lifts → AllByRecursion (FitsAt next) lifts
     next_fit run apart fit =
         each_of_two (λ (other : LiftView B). nat_eq lift.start other.start ≡ false) (FitsAt past) (FitsAt next)
-        (λ other differs fits. lift_leaves content plan reads writes faults tells tells_plan config formed seat past lift other run (ne_eqb other.start lift.start (λ same. eqb-false lift.start other.start differs (sym same))) fits) lifts apart fit
+        (λ other differs fits. lift_leaves seen tells config formed seat past lift other run (ne_eqb other.start lift.start (λ same. eqb-false lift.start other.start differs (sym same))) fits) lifts apart fit
 
     next_flights : AllByRecursion (λ (other : LiftView B). nat_eq lift.start other.start ≡ false) lifts → AreFlightsOf (open_flights past) xs lifts → AreFlightsOf (open_flights next) xs lifts
     next_flights apart flights = subst (λ (left : List Flight). AreFlightsOf left xs lifts) (sym landed) (flights_still lift.start (open_flights past) xs lifts flights apart)

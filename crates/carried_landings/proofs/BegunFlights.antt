@@ -1,7 +1,8 @@
 -- What a seat begins stands in its carrier, each transfer at its place.
-use Rattle.std.proofs.Common.{◌≡◌, ℕ, ◌+◌, Bool, cond, List, [], ◌∷◌, ◌++◌, Option, filter, length, map, nat_eq, not, reverse, refl, sym, ap, ◌∙◌, subst}
+use Rattle.std.proofs.Common.{◌≡◌, ℕ, ◌+◌, Bool, cond, List, [], ◌∷◌, ◌++◌, filter, length, map, nat_eq, not, reverse, refl, sym, ap, ◌∙◌, subst}
 use Rattle.std.specs.List.{AllByRecursion}
 use Rattle.std.proofs.lemmas.List.{append-nil, append_assoc, map-append}
+use Rattle.vm_types.specs.BlockView.{BlockView, Tells}
 use Rattle.vm_types.specs.declared.names.BlockId.{BlockId}
 use Rattle.vm_types.specs.declared.names.Seat.{Seat}
 use Rattle.vm_journal.specs.declared.entry.What.{What}
@@ -77,10 +78,10 @@ module _ (seat : Seat) where
       ap (λ (b : Bool). cond (not b) (x ∷ of_others seat.0 flights) (of_others seat.0 flights)) (ap (λ (n : ℕ). nat_eq n seat.0) own.0 ∙ nat_eq_refl seat.0) ∙ none_of_others flights own.1
 
   -- the lifts of what was made are begun by the seat that their carrier names
-  pub begun_made : {B : Type 0} {content plan : B → Option (List ℕ)} {reads writes faults : B → ℕ} {tells tells_plan : Bool} (s : History) (made : List What) (c : CarrierView B) → HasLifts content plan reads writes faults tells tells_plan s seat made c
-      → HasBegunLifts content plan reads writes faults tells tells_plan s c.seat c
-  begun_made {B} {content} {plan} {reads} {writes} {faults} {tells} {tells_plan} s made c has =
-      subst (λ (own : Seat). HasBegunLifts content plan reads writes faults tells tells_plan s own c) (sym has.own) (record { own = has.own; begun = has.begun })
+  pub begun_made : {B : Type 0} {seen : B → BlockView} {tells : Tells} (s : History) (made : List What) (c : CarrierView B) → HasLifts seen tells s seat made c
+      → HasBegunLifts seen tells s c.seat c
+  begun_made {B} {seen} {tells} s made c has =
+      subst (λ (own : Seat). HasBegunLifts seen tells s own c) (sym has.own) (record { own = has.own; begun = has.begun })
 
   -- ---- where no flight was open
   module _ (made : List What) (s : History) (none : AllByRecursion LandsNone made) (idle : open_flights s.past ≡ []) where
@@ -91,7 +92,7 @@ module _ (seat : Seat) where
     only_own = own_made made s none (subst (AllByRecursion IsOfSeat) (sym idle) tt)
 
     -- the lifts of what was made are a whole carrier
-    pub whole_made : {B : Type 0} {content plan : B → Option (List ℕ)} {reads writes faults : B → ℕ} {tells tells_plan : Bool} (c : CarrierView B) → HasLifts content plan reads writes faults tells tells_plan (added_each seat made s) seat made c
+    pub whole_made : {B : Type 0} {seen : B → BlockView} {tells : Tells} (c : CarrierView B) → HasLifts seen tells (added_each seat made s) seat made c
         → map flight_place (carrier_of (c.seat).0 (added_each seat made s).past) ≡ map place_of c.lifts
     whole_made c has = ap (λ (own : Seat). map flight_place (carrier_of own.0 (added_each seat made s).past)) has.own ∙ (only_made ∙ sym has.each)
 

@@ -1,6 +1,7 @@
 -- What the carrying leaves of the lifts of a carrier.
-use Rattle.std.proofs.Common.{◌≡◌, ℕ, suc, Bool, List, [], ◌∷◌, Option, length, map, refl, sym, ap, ◌∙◌, subst, arith}
+use Rattle.std.proofs.Common.{◌≡◌, suc, List, [], ◌∷◌, length, map, refl, sym, ap, ◌∙◌, subst, arith}
 use Rattle.std.specs.List.{AllByRecursion}
+use Rattle.vm_types.specs.BlockView.{BlockView, Tells}
 use Rattle.vm_types.specs.declared.pool_name.PoolName.{PoolName}
 use Rattle.frame_store.specs.LiftView.{CarriedAs, LiftView}
 use Rattle.frame_store.specs.declared.lift.Carried.{Carried}
@@ -8,14 +9,14 @@ use Rattle.frame_store.specs.declared.lift.Carried.TheVariants.{Waiting}
 use Rattle.vm_state.specs.Carrying.{AreCarried, HasCarried}
 use Rattle.call_steps.specs.Lifted.{place_of}
 
-module _ {B : Type 0} (tells : Bool) (content plan : B → Option (List ℕ)) (reads writes faults : B → ℕ) where
+module _ {B : Type 0} (seen : B → BlockView) (tells : Tells) where
   abbrev Are : List (LiftView B) → List (LiftView B) → Type 0
-  Are old new = AreCarried tells content plan reads writes faults old new
+  Are old new = AreCarried seen tells old new
 
   rest_carried : (x y : LiftView B) (xs ys : List (LiftView B)) → Are (x ∷ xs) (y ∷ ys) → Are xs ys
   rest_carried x y xs ys are = record { count = (let same = are.count in omega (arith, same)); each = λ k v w was now. are.each (suc k) v w was now }
 
-  first_carried : (x y : LiftView B) (xs ys : List (LiftView B)) → Are (x ∷ xs) (y ∷ ys) → HasCarried tells content plan reads writes faults x y
+  first_carried : (x y : LiftView B) (xs ys : List (LiftView B)) → Are (x ∷ xs) (y ∷ ys) → HasCarried seen tells x y
   first_carried x y xs ys are = are.each 0 x y refl refl
 
   none_more : (x : LiftView B) (xs : List (LiftView B)) → length (x ∷ xs) ≡ length {A = LiftView B} [] → ⊥
@@ -35,7 +36,7 @@ module _ {B : Type 0} (tells : Bool) (content plan : B → Option (List ℕ)) (r
   none_waits [] (y ∷ ys) are = absurd (none_more y ys are.count)
   none_waits (x ∷ xs) [] are = tt
   none_waits (x ∷ xs) (y ∷ ys) are = (
-    λ waits. subst (λ (r : Carried). CarriedAs tells content faults r x y) waits (first_carried x y xs ys are).result,
+    λ waits. subst (λ (r : Carried). CarriedAs seen tells r x y) waits (first_carried x y xs ys are).result,
     none_waits xs ys (rest_carried x y xs ys are),
   )
 

@@ -1,8 +1,9 @@
 -- The lifts of a carrier are of the open flights of its seat, each at its place.
-use Rattle.std.proofs.Common.{◌≡◌, ℕ, ◌≤◌, Bool, false, List, [], ◌∷◌, Option, Some, find, filter, map, nat_eq, count_by, sym, ap, ◌∙◌, subst, arith}
+use Rattle.std.proofs.Common.{◌≡◌, ℕ, ◌≤◌, false, List, [], ◌∷◌, Some, find, filter, map, nat_eq, count_by, sym, ap, ◌∙◌, subst, arith}
 use Rattle.std.specs.List.{AllByRecursion}
 use Rattle.std.proofs.lemmas.Bool.{eqb-false, eqb-true, ne_eqb}
 use Rattle.std.proofs.lemmas.Option.{same_Some}
+use Rattle.vm_types.specs.BlockView.{BlockView, Tells}
 use Rattle.vm_types.specs.declared.names.BlockId.{BlockId}
 use Rattle.vm_types.specs.declared.names.Seat.{Seat}
 use Rattle.vm_journal.specs.declared.entry.Entry.{Entry}
@@ -73,9 +74,9 @@ module _ {B : Type 0} where
         own_starts flights xs lifts are.1 (λ k. let one = once k in let more = count_cons (starts k) x xs in omega (arith, one, more)),
       )
 
-module _ {B : Type 0} (content plan : B → Option (List ℕ)) (reads writes faults : B → ℕ) (tells tells_plan : Bool) (s : History) where
+module _ {B : Type 0} (seen : B → BlockView) (tells : Tells) (s : History) where
   abbrev FitsNow : LiftView B → Type 0
-  FitsNow lift = Fits content plan reads writes faults tells tells_plan s.config s.past lift
+  FitsNow lift = Fits seen tells s.config s.past lift
 
   -- ---- by their places
   are_flights : (xs : List Flight) (lifts : List (LiftView B)) → map flight_place xs ≡ map place_of lifts → AllByRecursion (IsAlone (open_flights s.past)) xs → AllByRecursion FitsNow lifts → AreFlightsOf (open_flights s.past) xs lifts
@@ -84,7 +85,7 @@ module _ {B : Type 0} (content plan : B → Option (List ℕ)) (reads writes fau
   are_flights (x ∷ xs) [] same alone fit = absurd (cc)
   are_flights (x ∷ xs) (lift ∷ lifts) same alone fit =
       let frame : x.frame ≡ lift.frame = ap (λ (places : List (ℕ × BlockId)). (first_or (x.frame, x.block) places).0) same in
-      let found = open_here content plan reads writes faults tells tells_plan s.config s.past lift fit.0 in
+      let found = open_here seen tells s.config s.past lift fit.0 in
       let is : x ≡ (fit.0).0 = all_found (λ (z : Flight). x.frame ≡ z.frame → x ≡ z) (starts lift.start) (open_flights s.past) (fit.0).0 alone.0 found (frame ∙ sym (((fit.0).1).flight).frame) in (
         found ∙ ap Some (sym is),
         are_flights xs lifts (ap rest_of same) alone.1 fit.1,
@@ -95,7 +96,7 @@ module _ {B : Type 0} (content plan : B → Option (List ℕ)) (reads writes fau
 
   -- ---- each may land
   each_may : (seat : Seat) (xs : List Flight) (lifts : List (LiftView B)) → AreFlightsOf (open_flights s.past) xs lifts → AllByRecursion (λ (x : Flight). x.seat ≡ seat.0) xs → AllByRecursion FitsNow lifts
-      → AllByRecursion (λ (lift : LiftView B). lift.result ≡ Waiting → ⊥) lifts → AllByRecursion (λ (lift : LiftView B). lift.pool ≡ s.pool) lifts → AllByRecursion (MayLand content plan reads writes faults tells tells_plan s seat) lifts
+      → AllByRecursion (λ (lift : LiftView B). lift.result ≡ Waiting → ⊥) lifts → AllByRecursion (λ (lift : LiftView B). lift.pool ≡ s.pool) lifts → AllByRecursion (MayLand seen tells s seat) lifts
   each_may seat [] [] are own fit carried pool = tt
   each_may seat [] (lift ∷ lifts) are own fit carried pool = absurd are
   each_may seat (x ∷ xs) [] are own fit carried pool = absurd are
@@ -103,14 +104,14 @@ module _ {B : Type 0} (content plan : B → Option (List ℕ)) (reads writes fau
     record {
       carried = carried.0;
       fits = fit.0;
-      own = ap (λ (z : Flight). z.seat) (same_Some _ _ (sym (open_here content plan reads writes faults tells tells_plan s.config s.past lift fit.0) ∙ are.0)) ∙ own.0;
+      own = ap (λ (z : Flight). z.seat) (same_Some _ _ (sym (open_here seen tells s.config s.past lift fit.0) ∙ are.0)) ∙ own.0;
       pool = pool.0;
     },
     each_may seat xs lifts are.1 own.1 fit.1 carried.1 pool.1,
   )
 
   pub may_land : (c : CarrierView B) → AreFlightsOf (open_flights s.past) (carrier_of (c.seat).0 s.past) c.lifts → awaits_reuse s.past ≡ false → AllByRecursion FitsNow c.lifts → AllByRecursion (λ (lift : LiftView B). lift.result ≡ Waiting → ⊥) c.lifts
-      → AllByRecursion (λ (lift : LiftView B). lift.pool ≡ s.pool) c.lifts → CarrierMayLand content plan reads writes faults tells tells_plan s c
+      → AllByRecursion (λ (lift : LiftView B). lift.pool ≡ s.pool) c.lifts → CarrierMayLand seen tells s c
   may_land c are calm fit carried pool = record {
     calm = calm;
     each = each_may c.seat (carrier_of (c.seat).0 s.past) c.lifts are (carrier_by (c.seat).0 s.past) fit carried pool;

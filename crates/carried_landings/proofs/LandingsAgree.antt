@@ -1,6 +1,7 @@
 -- What a lift adds when it lands is what the landing of its flight adds, with the outcome that its result tells.
 use Rattle.std.proofs.Common.{◌≡◌, ℕ, Bool, true, false, List, [], ◌∷◌, Option, Some, find, nat_eq, refl, sym, ◌∙◌, subst}
 use Rattle.std.proofs.lemmas.Option.{same_Some}
+use Rattle.vm_types.specs.BlockView.{BlockView, Tells}
 use Rattle.vm_types.specs.Configuration.{IsWellFormed}
 use Rattle.vm_types.specs.declared.config.Config.{Config}
 use Rattle.vm_types.specs.declared.names.Page.{Page}
@@ -57,16 +58,16 @@ words_land seat past false (Bad before after) f k g = refl
 pub lift_lands : {B : Type 0} (seat : ℕ) (past : List Entry) (lift : LiftView B) → open_flights (made_by seat (landings_of lift) past) ≡ without_flight lift.start (open_flights past)
 lift_lands seat past lift = words_land seat past lift.is_read lift.result lift.frame lift.start lift.page
 
-module _ {B : Type 0} (content plan : B → Option (List ℕ)) (reads writes faults : B → ℕ) (tells tells_plan : Bool) (config : Config) where
+module _ {B : Type 0} (seen : B → BlockView) (tells : Tells) (config : Config) where
   abbrev pub Fits : List Entry → LiftView B → Type 0
-  Fits past lift = LiftFits content plan reads writes faults tells tells_plan config past lift
+  Fits past lift = LiftFits seen tells config past lift
 
   words_leave : IsWellFormed config → (seat : ℕ) (past : List Entry) (lift : LiftView B) (is_read : Bool) (r : Carried) (f k : ℕ) (g : Page) → IsRun config (made_by seat (words is_read r f k g) past) → nat_eq lift.start k ≡ false
       → Fits past lift → Fits (made_by seat (words is_read r f k g) past) lift
   words_leave formed seat past lift is_read r f k g run apart fits = by is_read r run
     where
       one : (e : Entry) (before : List Entry) → IsRun config (e ∷ before) → lands lift.start e.what ≡ false → Fits before lift → Fits (e ∷ before) lift
-      one e before run other fits = lifts_stay tells tells_plan config before e (lift_seen content plan reads writes faults lift) formed run other fits
+      one e before run other fits = lifts_stay tells.content tells.plan config before e (lift_seen seen lift) formed run other fits
 
       by : (b : Bool) (r : Carried) → IsRun config (made_by seat (words b r f k g) past) → Fits (made_by seat (words b r f k g) past) lift
       by true Waiting run = one (by_seat seat (what.InOk (pfn f) k)) past run apart fits
@@ -86,7 +87,7 @@ module _ {B : Type 0} (content plan : B → Option (List ℕ)) (reads writes fau
     pub open_here : find (starts lift.start) (open_flights past) ≡ Some y
     open_here = subst (λ (j : ℕ). find (starts j) (open_flights past) ≡ Some y) ((fits.1).flight).start (fits.1).found_x
 
-    counted : (r : Carried) → FitsResult tells (lift_seen content plan reads writes faults lift) (counts_of y.block past) (meant config past y.start lift.page y.direction) (result_of r) → IsCountedBy past y r
+    counted : (r : Carried) → FitsResult tells.content (lift_seen seen lift) (counts_of y.block past) (meant config past y.start lift.page y.direction) (result_of r) → IsCountedBy past y r
     counted Waiting fits = tt
     counted Good fits = tt
     counted (Bad before after) fits = fits.1

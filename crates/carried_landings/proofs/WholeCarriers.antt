@@ -1,7 +1,8 @@
 -- A whole carrier that was carried may land, and what its landing leaves.
-use Rattle.std.proofs.Common.{◌≡◌, ℕ, ◌+◌, ◌≤◌, Bool, false, List, Option, length, map, nat_eq, refl, sym, ap, ◌∙◌, subst}
+use Rattle.std.proofs.Common.{◌≡◌, ◌+◌, ◌≤◌, false, length, map, nat_eq, refl, sym, ap, ◌∙◌, subst}
 use Rattle.std.specs.List.{AllByRecursion}
 use Rattle.std.proofs.lemmas.List.{length-map}
+use Rattle.vm_types.specs.BlockView.{BlockView, Tells}
 use Rattle.vm_types.specs.Configuration.{IsWellFormed}
 use Rattle.vm_types.specs.declared.names.Seat.{Seat}
 use Rattle.pager_model.specs.Flights.{awaits_reuse, is_busy, open_flights}
@@ -28,12 +29,12 @@ use Rattle.carried_landings.proofs.LandingsAgree.{outcome_of}
 use Rattle.carried_landings.proofs.Paid.{paid_carrier, paid_lifts}
 use Rattle.carried_landings.proofs.SeatLandings.{others_idle}
 
-module _ {B : Type 0} {content plan : B → Option (List ℕ)} {reads writes faults : B → ℕ} {tells tells_plan : Bool} (s : History) (c : CarrierView B) (has : HasBegunLifts content plan reads writes faults tells tells_plan s c.seat c) where
+module _ {B : Type 0} {seen : B → BlockView} {tells : Tells} (s : History) (c : CarrierView B) (has : HasBegunLifts seen tells s c.seat c) where
   abbrev Begun : LiftView B → Type 0
-  Begun lift = IsBegun content plan reads writes faults tells tells_plan s c.seat lift
+  Begun lift = IsBegun seen tells s c.seat lift
 
   abbrev FitsNow : LiftView B → Type 0
-  FitsNow lift = LiftFits content plan reads writes faults tells tells_plan s.config s.past lift
+  FitsNow lift = LiftFits seen tells s.config s.past lift
 
   pub all_wait : AllByRecursion (λ (lift : LiftView B). lift.result ≡ Waiting) c.lifts
   all_wait = each_weaker Begun (λ (lift : LiftView B). lift.result ≡ Waiting) (λ lift begun. begun.waits) c.lifts has.begun
@@ -45,20 +46,20 @@ module _ {B : Type 0} {content plan : B → Option (List ℕ)} {reads writes fau
   own_pool = each_weaker Begun (λ (lift : LiftView B). lift.pool ≡ s.pool) (λ lift begun. begun.pool_is) c.lifts has.begun
 
   module _ (whole : map flight_place (carrier_of (c.seat).0 s.past) ≡ map place_of c.lifts) (formed : IsWellFormed s.config) (run : IsRun s.config s.past) (c' : CarrierView B) (seat : c'.seat ≡ c.seat)
-      (carried : AreCarried tells content plan reads writes faults c.lifts c'.lifts) (keeps : AllByRecursion FitsNow c.lifts → AllByRecursion FitsNow c'.lifts) where
+      (carried : AreCarried seen tells c.lifts c'.lifts) (keeps : AllByRecursion FitsNow c.lifts → AllByRecursion FitsNow c'.lifts) where
     fit : AllByRecursion FitsNow c'.lifts
     fit = keeps all_fit
 
     whole_still : map flight_place (carrier_of (c'.seat).0 s.past) ≡ map place_of c'.lifts
-    whole_still = ap (λ (own : Seat). map flight_place (carrier_of own.0 s.past)) seat ∙ (whole ∙ sym (same_places tells content plan reads writes faults c.lifts c'.lifts carried))
+    whole_still = ap (λ (own : Seat). map flight_place (carrier_of own.0 s.past)) seat ∙ (whole ∙ sym (same_places seen tells c.lifts c'.lifts carried))
 
     flights : AreFlightsOf (open_flights s.past) (carrier_of (c'.seat).0 s.past) c'.lifts
-    flights = whole_flights content plan reads writes faults tells tells_plan s (c'.seat).0 c'.lifts formed run whole_still fit
+    flights = whole_flights seen tells s (c'.seat).0 c'.lifts formed run whole_still fit
 
-    pub carrier_may : awaits_reuse s.past ≡ false → CarrierMayLand content plan reads writes faults tells tells_plan s c'
+    pub carrier_may : awaits_reuse s.past ≡ false → CarrierMayLand seen tells s c'
     carrier_may calm =
-        may_land content plan reads writes faults tells tells_plan s c' flights calm fit (none_waits tells content plan reads writes faults c.lifts c'.lifts carried)
-        (same_pools tells content plan reads writes faults s.pool c.lifts c'.lifts carried own_pool)
+        may_land seen tells s c' flights calm fit (none_waits seen tells c.lifts c'.lifts carried)
+        (same_pools seen tells s.pool c.lifts c'.lifts carried own_pool)
 
     -- ---- it has landed
     module _ (t : History) (landed : t ≡ landed_each c'.seat c'.lifts s) (run_then : IsRun t.config t.past) where
@@ -70,8 +71,8 @@ module _ {B : Type 0} {content plan : B → Option (List ℕ)} {reads writes fau
 
       all : HaveAllLanded s.config (c'.seat).0 (carrier_of (c'.seat).0 s.past) c'.lifts s.past
       all =
-          all_land content plan reads writes faults tells tells_plan s.config formed (c'.seat).0 (carrier_of (c'.seat).0 s.past) c'.lifts s.past refl flights fit
-          (apart_starts content plan reads writes faults tells tells_plan s (c'.seat).0 c'.lifts flights)
+          all_land seen tells s.config formed (c'.seat).0 (carrier_of (c'.seat).0 s.past) c'.lifts s.past refl flights fit
+          (apart_starts seen tells s (c'.seat).0 c'.lifts flights)
           (subst (IsRun s.config) past_is (subst (λ (u : History). IsRun u.config t.past) same run_then))
 
       pub others : open_flights t.past ≡ of_others (c.seat).0 (open_flights s.past)

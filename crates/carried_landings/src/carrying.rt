@@ -15,8 +15,7 @@ use vm_state::{Carrier, State};
 #[inline(always)]
 pub fn carry_and_land<B: Block>(state: &mut State<B>, carrier: &mut Carrier<B>) -> CarrierLanded
     requires calm { awaits_reuse state.old.past ≡ false }
-    requires lifts { HasBegunLifts B.content B.plan B.reads B.writes B.faults B.tells_content B.tells_plan
-        state.old carrier.old.seat carrier.old }
+    requires lifts { HasBegunLifts B.seen B.tells state.old carrier.old.seat carrier.old }
     requires whole { map flight_place (carrier_of carrier.old.seat.0 state.old.past) ≡ map place_of carrier.old.lifts }
     ensures landed { HaveLanded state.old.config carrier.old.seat.0 state.old.past state.new.past result }
     ensures same { state.new ≡ record state.old { past = state.new.past; spare = state.new.spare } }

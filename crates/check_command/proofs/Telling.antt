@@ -58,7 +58,7 @@ module _ {before after : SourceView} where
 
 -- what is said of the input whose bytes are told
 said : {left : SourceView} (P : List ℕ → Type 0) (i : HasCheckInput left) → IfSome left.left P → P i.text
-said P i says = subst (λ l. IfSome l P) i.told says
+said P i says = subst (λ l. IfSome l P) i.known says
 
 no_fault : (config : Config) (log : List ℕ) (n : ℕ) (cause : Cause) (h : Head) → h ≡ Configured config log → h ≡ Faulty n cause → ⊥
 no_fault config log n cause h a b = cc

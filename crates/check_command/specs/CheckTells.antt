@@ -31,11 +31,11 @@ pub data CheckTells (before after : SourceView) : ℕ → List ℕ → Type 0 wh
       → CheckTells before after 3 (status_line 3)
   no_memory : after.failures ≡ before.failures → CheckTells before after 7 (status_line 7)
 
--- the source tells its bytes: a trace and a log behind it, which hasn't more lines than a log may have
+-- the source's bytes are known: a trace and a log behind it, which hasn't more lines than a log may have
 pub record HasCheckInput (before : SourceView) : Type 0 where
   pub text : List ℕ
   pub config : Config
   pub log : List ℕ
-  pub told : before.left ≡ Some text
+  pub known : before.left ≡ Some text
   pub head : head_of text ≡ Configured config log
   pub few : IsTooLong config log → ⊥

@@ -1,6 +1,5 @@
 ghost use Rattle.std.specs.Prelude.{◌≡◌, ◌≢◌, ◌⊎◌, ◌≤◌};
 ghost use Rattle.outside_io.specs.Causes.{Rose};
-ghost use Rattle.outside_io.specs.Views.{sink_view, source_view};
 ghost use Rattle.program_ends.specs.Concludes.{Concludes, HasTold, WasCut};
 ghost use Rattle.program_ends.specs.Ends.{Ends};
 ghost use Rattle.check_command.specs.CheckTells.{CheckTells, HasCheckInput};
@@ -15,8 +14,7 @@ use std::alloc::Global;
 
 // Writes the verdict, or why there is none, and the status.
 fn end_verdict<K: Sink>(verdict: Result<Verdict, CheckFault>, sink: &mut K) -> Status
-    ensures { Ends (sink_view (K.taken sink.old) (K.faults sink.old) (K.stalls sink.old))
-        (sink_view (K.taken sink.new) (K.faults sink.new) (K.stalls sink.new)) (verdict_status verdict) (verdict_text verdict) result.0 }
+    ensures { Ends (K.seen sink.old) (K.seen sink.new) (verdict_status verdict) (verdict_text verdict) result.0 }
 {
     match verdict {
         Ok(Verdict::Legal(entries)) => end_legal(entries, sink),
@@ -29,9 +27,9 @@ fn end_verdict<K: Sink>(verdict: Result<Verdict, CheckFault>, sink: &mut K) -> S
 
 // The outcome of the command.
 fn conclude<S: Source, K: Sink>(alloc: Global, source: &mut S, sink: &mut K) -> Status
-    ensures outcome { Concludes (CheckTells (source_view (S.left source.old) (S.faults source.old)) (source_view (S.left source.new) (S.faults source.new)))
-        (sink_view (K.taken sink.old) (K.faults sink.old) (K.stalls sink.old)) (sink_view (K.taken sink.new) (K.faults sink.new) (K.stalls sink.new)) result.0 }
-    ensures faults_later { S.faults source.old ≤ S.faults source.new }
+    ensures outcome { Concludes (CheckTells (S.seen source.old) (S.seen source.new))
+        (K.seen sink.old) (K.seen sink.new) result.0 }
+    ensures faults_later { (S.seen source.old).failures ≤ (S.seen source.new).failures }
 {
     match judge_source(alloc, source) {
         Ok(verdict) => end_verdict(verdict, sink),
@@ -47,24 +45,24 @@ fn conclude<S: Source, K: Sink>(alloc: Global, source: &mut S, sink: &mut K) -> 
 /// says so; 3 only if a read failed, 4 only if a write failed or took nothing, 7 if memory ran out.
 pub fn check<S: Source, K: Sink>(alloc: Global, source: &mut S, sink: &mut K) -> Status
     // A status with the text that goes with it, and how the text was written.
-    ensures outcome { Concludes (CheckTells (source_view (S.left source.old) (S.faults source.old)) (source_view (S.left source.new) (S.faults source.new)))
-        (sink_view (K.taken sink.old) (K.faults sink.old) (K.stalls sink.old)) (sink_view (K.taken sink.new) (K.faults sink.new) (K.stalls sink.new)) result.0 }
+    ensures outcome { Concludes (CheckTells (S.seen source.old) (S.seen source.new))
+        (K.seen sink.old) (K.seen sink.new) result.0 }
     // So with every status but 4 what was written is the text that goes with it, and no count of the
     // sink changed.
-    ensures told { result.0 ≢ 4 → HasTold (CheckTells (source_view (S.left source.old) (S.faults source.old)) (source_view (S.left source.new) (S.faults source.new)))
-        (sink_view (K.taken sink.old) (K.faults sink.old) (K.stalls sink.old)) (sink_view (K.taken sink.new) (K.faults sink.new) (K.stalls sink.new)) result.0 }
-    ensures unfailed { result.0 ≢ 4 → (K.faults sink.new ≡ K.faults sink.old) × (K.stalls sink.new ≡ K.stalls sink.old) }
+    ensures told { result.0 ≢ 4 → HasTold (CheckTells (S.seen source.old) (S.seen source.new))
+        (K.seen sink.old) (K.seen sink.new) result.0 }
+    ensures unfailed { result.0 ≢ 4 → ((K.seen sink.new).failures ≡ (K.seen sink.old).failures) × ((K.seen sink.new).stalls ≡ (K.seen sink.old).stalls) }
     // With status 4 it is a proper prefix of a text that goes with another status.
-    ensures cut { result.0 ≡ 4 → WasCut (CheckTells (source_view (S.left source.old) (S.faults source.old)) (source_view (S.left source.new) (S.faults source.new)))
-        (sink_view (K.taken sink.old) (K.faults sink.old) (K.stalls sink.old)) (sink_view (K.taken sink.new) (K.faults sink.new) (K.stalls sink.new)) }
-    ensures read_fault { result.0 ≡ 3 → Rose (S.faults source.old) (S.faults source.new) }
-    ensures write_fault { result.0 ≡ 4 → Rose (K.faults sink.old) (K.faults sink.new) ⊎ Rose (K.stalls sink.old) (K.stalls sink.new) }
+    ensures cut { result.0 ≡ 4 → WasCut (CheckTells (S.seen source.old) (S.seen source.new))
+        (K.seen sink.old) (K.seen sink.new) }
+    ensures read_fault { result.0 ≡ 3 → Rose (S.seen source.old).failures (S.seen source.new).failures }
+    ensures write_fault { result.0 ≡ 4 → Rose (K.seen sink.old).failures (K.seen sink.new).failures ⊎ Rose (K.seen sink.old).stalls (K.seen sink.new).stalls }
     // If the input is a trace and a log that isn't too long, and no count rises, there is a verdict on the log,
     // or memory ran out.
-    ensures complete { HasCheckInput (source_view (S.left source.old) (S.faults source.old))
-        → (Rose (S.faults source.old) (S.faults source.new) → ⊥) → (Rose (K.faults sink.old) (K.faults sink.new) → ⊥)
-        → (Rose (K.stalls sink.old) (K.stalls sink.new) → ⊥) → (result.0 ≡ 0) ⊎ ((result.0 ≡ 8) ⊎ (result.0 ≡ 7)) }
-    ensures faults_later { S.faults source.old ≤ S.faults source.new }
+    ensures complete { HasCheckInput (S.seen source.old)
+        → (Rose (S.seen source.old).failures (S.seen source.new).failures → ⊥) → (Rose (K.seen sink.old).failures (K.seen sink.new).failures → ⊥)
+        → (Rose (K.seen sink.old).stalls (K.seen sink.new).stalls → ⊥) → (result.0 ≡ 0) ⊎ ((result.0 ≡ 8) ⊎ (result.0 ≡ 7)) }
+    ensures faults_later { (S.seen source.old).failures ≤ (S.seen source.new).failures }
 {
     conclude(alloc, source, sink)
 }

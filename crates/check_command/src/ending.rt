@@ -2,7 +2,6 @@
 
 ghost use Rattle.std.specs.Prelude.{◌≡◌, ◌≢◌, ◌≤◌, ◌++◌};
 ghost use Rattle.arrayvec.specs.ArrayVec.{array_vec_len};
-ghost use Rattle.outside_io.specs.Views.{sink_view};
 ghost use Rattle.pager_model.specs.Text.{ended, status_line};
 ghost use Rattle.program_ends.specs.Ends.{Ends};
 ghost use Rattle.check_command.specs.CheckText.{fault_line, legal_line, too_long_line};
@@ -16,8 +15,7 @@ use vm_text::push_word;
 fn end_line<K: Sink>(line: ArrayVec<u8, 160>, status: u8, sink: &mut K) -> Status
     requires short { array_vec_len line ≤ 159 }
     requires other { status ≢ 4 }
-    ensures { Ends (sink_view (K.taken sink.old) (K.faults sink.old) (K.stalls sink.old))
-        (sink_view (K.taken sink.new) (K.faults sink.new) (K.stalls sink.new)) status (ended line.items ++ status_line status) result.0 }
+    ensures { Ends (K.seen sink.old) (K.seen sink.new) status (ended line.items ++ status_line status) result.0 }
 {
     match write_line(line, sink) {
         Ok(()) => end_with(status, sink),
@@ -27,8 +25,7 @@ fn end_line<K: Sink>(line: ArrayVec<u8, 160>, status: u8, sink: &mut K) -> Statu
 
 /// Ends with status 0 after the line of a legal log. Doesn't allocate.
 pub(crate) fn end_legal<K: Sink>(entries: u32, sink: &mut K) -> Status
-    ensures { Ends (sink_view (K.taken sink.old) (K.faults sink.old) (K.stalls sink.old))
-        (sink_view (K.taken sink.new) (K.faults sink.new) (K.stalls sink.new)) 0 (legal_line entries ++ status_line 0) result.0 }
+    ensures { Ends (K.seen sink.old) (K.seen sink.new) 0 (legal_line entries ++ status_line 0) result.0 }
 {
     let mut line = ArrayVec::new();
     push_counted(&mut line, b"LOG OK ", entries);
@@ -37,8 +34,7 @@ pub(crate) fn end_legal<K: Sink>(entries: u32, sink: &mut K) -> Status
 
 /// Ends with status 8 after the number of the log's line that is at fault. Doesn't allocate.
 pub(crate) fn end_at_fault<K: Sink>(number: u32, sink: &mut K) -> Status
-    ensures { Ends (sink_view (K.taken sink.old) (K.faults sink.old) (K.stalls sink.old))
-        (sink_view (K.taken sink.new) (K.faults sink.new) (K.stalls sink.new)) 8 (fault_line number ++ status_line 8) result.0 }
+    ensures { Ends (K.seen sink.old) (K.seen sink.new) 8 (fault_line number ++ status_line 8) result.0 }
 {
     let mut line = ArrayVec::new();
     push_counted(&mut line, b"LOG FAULT ", number);
@@ -47,8 +43,7 @@ pub(crate) fn end_at_fault<K: Sink>(number: u32, sink: &mut K) -> Status
 
 /// Ends with status 2 after a log that goes on too long. Doesn't allocate.
 pub(crate) fn end_too_long<K: Sink>(sink: &mut K) -> Status
-    ensures { Ends (sink_view (K.taken sink.old) (K.faults sink.old) (K.stalls sink.old))
-        (sink_view (K.taken sink.new) (K.faults sink.new) (K.stalls sink.new)) 2 (too_long_line ++ status_line 2) result.0 }
+    ensures { Ends (K.seen sink.old) (K.seen sink.new) 2 (too_long_line ++ status_line 2) result.0 }
 {
     let mut line = ArrayVec::new();
     push_word(&mut line, b"LOG TOOMANY");

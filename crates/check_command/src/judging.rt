@@ -15,9 +15,9 @@ fn judge_lines<S: Source>(
     alloc: Global,
     lines: &mut Lines<'_, S>,
 ) -> Result<Result<Verdict, CheckFault>, TraceFault>
-    ensures text { IfSome (bytes_left S.left lines.old) (λ text. Says result text (bytes_left S.left lines.new)) }
-    ensures faults { CountsBy result (S.faults lines.old.source.now) (S.faults lines.new.source.now) }
-    ensures faults_later { S.faults lines.old.source.now ≤ S.faults lines.new.source.now }
+    ensures text { IfSome (bytes_left S.seen lines.old) (λ text. Says result text (bytes_left S.seen lines.new)) }
+    ensures faults { CountsBy result (S.seen lines.old.source.now).failures (S.seen lines.new.source.now).failures }
+    ensures faults_later { (S.seen lines.old.source.now).failures ≤ (S.seen lines.new.source.now).failures }
     ensures same_reference { lines.new.source.ghost_name ≡ lines.old.source.ghost_name }
 {
     match read_head(lines, alloc) {
@@ -38,9 +38,9 @@ pub(crate) fn judge_source<S: Source>(
     alloc: Global,
     source: &mut S,
 ) -> Result<Result<Verdict, CheckFault>, TraceFault>
-    ensures text { IfSome (S.left source.old) (λ text. IsRead (Says result text) (S.left source.new)) }
-    ensures faults { CountsBy result (S.faults source.old) (S.faults source.new) }
-    ensures faults_later { S.faults source.old ≤ S.faults source.new }
+    ensures text { IfSome (S.seen source.old).left (λ text. IsRead (Says result text) (S.seen source.new).left) }
+    ensures faults { CountsBy result (S.seen source.old).failures (S.seen source.new).failures }
+    ensures faults_later { (S.seen source.old).failures ≤ (S.seen source.new).failures }
 {
     let mut lines = Lines::new(source);
     let answer = judge_lines(alloc, &mut lines);

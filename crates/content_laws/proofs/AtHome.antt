@@ -2,6 +2,7 @@
 use Rattle.std.proofs.Common.{◌≡◌, ℕ, ◌<◌, ◌||◌, Bool, true, false, not, List, Option, Some, None, is_some, find, length, nat_le, count_by, refl, sym, ap, ◌∙◌, arith}
 use Rattle.std.proofs.lemmas.Bool.{eq-eqb, false≢true, leb-false, ne_eqb, true≢false}
 use Rattle.std.proofs.lemmas.Option.{none-some}
+use Rattle.vm_types.specs.BlockView.{BlockView}
 use Rattle.vm_types.specs.Configuration.{IsBlock}
 use Rattle.vm_types.specs.declared.names.Page.{Page}
 use Rattle.vm_types.specs.declared.names.BlockId.{BlockId}
@@ -16,7 +17,6 @@ use Rattle.pager_model.specs.Lookups.{IsHead, is}
 use Rattle.pager_model.specs.Opening.{is_bad}
 use Rattle.pager_model.specs.Pager.{Pager}
 use Rattle.pager_model.specs.Sets.{has}
-use Rattle.pager_model.specs.Told.{Told}
 use Rattle.pager_model.specs.Transfers.{IsHome, is_on_block, starts}
 use Rattle.pager_rules.proofs.Basics.{states_equal}
 use Rattle.pager_rules.proofs.Frames.{at_state}
@@ -63,20 +63,20 @@ buffer_away config state_of buffer f buffers inside read = go (buffer f) refl
 
 -- ---- blocks
 -- a block that is in no flight is home
-pub block_is_home : (config : Config) (flights : List Flight) (home : BlockId → Option Told) (b : BlockId) → HasHomes config flights home → IsHome config b flights → (told : Told) × (home b ≡ Some told)
+pub block_is_home : (config : Config) (flights : List Flight) (home : BlockId → Option BlockView) (b : BlockId) → HasHomes config flights home → IsHome config b flights → (seen : BlockView) × (home b ≡ Some seen)
 block_is_home config flights home b homes is_home = go (home b) refl
   where
-    go : (o : Option Told) → home b ≡ o → (told : Told) × (home b ≡ Some told)
+    go : (o : Option BlockView) → home b ≡ o → (seen : BlockView) × (home b ≡ Some seen)
     go None at = absurd (false≢true (sym (ap is_some at) ∙ (homes.blocks b is_home.exists ∙ eq-eqb _ _ is_home.still)))
-    go (Some told) at = (told, at)
+    go (Some seen) at = (seen, at)
 
 -- that of an open flight is away
-pub block_is_away : (config : Config) (flights : List Flight) (home : BlockId → Option Told) (k : ℕ) (x : Flight) → HasHomes config flights home → IsBlock config x.block → find (starts k) flights ≡ Some x → home x.block ≡ None
+pub block_is_away : (config : Config) (flights : List Flight) (home : BlockId → Option BlockView) (k : ℕ) (x : Flight) → HasHomes config flights home → IsBlock config x.block → find (starts k) flights ≡ Some x → home x.block ≡ None
 block_is_away config flights home k x homes known found = go (home x.block) refl
   where
     some : 0 < count_by (is_on_block x.block) flights
     some = count_found (is_on_block x.block) (starts k) flights x found (same_block_refl x.block)
 
-    go : (o : Option Told) → home x.block ≡ o → home x.block ≡ None
+    go : (o : Option BlockView) → home x.block ≡ o → home x.block ≡ None
     go None at = at
-    go (Some told) at = absurd (true≢false (sym (ap is_some at) ∙ (homes.blocks x.block known ∙ ne_eqb _ _ (λ none. omega (arith, some, none)))))
+    go (Some seen) at = absurd (true≢false (sym (ap is_some at) ∙ (homes.blocks x.block known ∙ ne_eqb _ _ (λ none. omega (arith, some, none)))))

@@ -2,6 +2,7 @@
 use Rattle.std.proofs.Common.{◌≡◌, ℕ, ◌+◌, ◌<◌, Bool, true, false, List, Some, sym, ap, ◌∙◌, subst, refl, arith, ◌≤◌, cond, [], ◌∷◌, length, not}
 use Rattle.std.proofs.lemmas.Bool.{true≢false}
 use Rattle.std.proofs.lemmas.Option.{same_Some}
+use Rattle.vm_types.specs.BlockView.{BlockView}
 use Rattle.vm_types.specs.declared.config.Config.{Config}
 use Rattle.vm_journal.specs.declared.entry.Entry.{Entry}
 use Rattle.vm_journal.specs.declared.entry.What.TheVariants as what
@@ -12,10 +13,10 @@ use Rattle.pager_model.specs.Counted.{IsCounted, counts_of, last_count, reads_of
 use Rattle.pager_model.specs.Fits.{FitsLift, FitsResult, FitsView, Lift, bad, flight_view, good, meant, waiting, one_left}
 use Rattle.pager_model.specs.Flights.{Flight}
 use Rattle.pager_model.specs.Pager.{Pager}
-use Rattle.pager_model.specs.Told.{HasCounts, Told, told_plan}
+use Rattle.pager_model.specs.CountedBlock.{HasCounts, told_plan}
 use Rattle.vm_types.specs.declared.names.BlockId.{BlockId}
 
-module _ (tells tells_plan : Bool) (config : Config) (past : List Entry) (a : Pager) (lift : Lift) (fits : FitsLift tells tells_plan config past a lift) (waits : lift.result ≡ waiting) (bytes : List ℕ) (told : Told) where
+module _ (tells tells_plan : Bool) (config : Config) (past : List Entry) (a : Pager) (lift : Lift) (fits : FitsLift tells tells_plan config past a lift) (waits : lift.result ≡ waiting) (bytes : List ℕ) (seen : BlockView) where
   abbrev x : Flight
   x = fits.0
 
@@ -28,10 +29,10 @@ module _ (tells tells_plan : Bool) (config : Config) (past : List Entry) (a : Pa
   before_call : FitsResult tells lift (counts_of x.block past) moved waiting
   before_call = subst (FitsResult tells lift (counts_of x.block past) moved) waits view.result
 
-  counted : IsCalled lift.is_read lift.told told → HasCounts told (counts_of x.block past) 0 0
+  counted : IsCalled lift.is_read lift.seen seen → HasCounts seen (counts_of x.block past) 0 0
   counted called = record { reads = omega (arith, called.reads, before_call.0.reads); writes = omega (arith, called.writes, before_call.0.writes) }
 
-  pub carried_well : IsCarriedWell tells lift bytes told → FitsLift tells tells_plan config past a (carried_as lift bytes told good)
+  pub carried_well : IsCarriedWell tells lift bytes seen → FitsLift tells tells_plan config past a (carried_as lift bytes seen good)
   carried_well carried = (
     x,
     record {
@@ -50,7 +51,7 @@ module _ (tells tells_plan : Bool) (config : Config) (past : List Entry) (a : Pa
     },
   )
 
-  pub carried_badly : IsCarriedBadly tells lift bytes told → FitsLift tells tells_plan config past a (carried_as lift bytes told (bad (lift.told).faults told.faults))
+  pub carried_badly : IsCarriedBadly tells lift bytes seen → FitsLift tells tells_plan config past a (carried_as lift bytes seen (bad (lift.seen).faults seen.faults))
   carried_badly carried = (
     x,
     record {
@@ -83,13 +84,13 @@ calls_within b [] = omega arith
 calls_within b (e ∷ past) = omega (arith, one_call b e.what (reads_of b past) (writes_of b past), calls_within b past)
 
 -- the block of a lift that waits was called less often than the journal has entries
-pub few_calls : (tells tells_plan : Bool) (config : Config) (past : List Entry) (a : Pager) (lift : Lift) → FitsLift tells tells_plan config past a lift → lift.result ≡ waiting → (lift.told).reads + (lift.told).writes < length past
+pub few_calls : (tells tells_plan : Bool) (config : Config) (past : List Entry) (a : Pager) (lift : Lift) → FitsLift tells tells_plan config past a lift → lift.result ≡ waiting → (lift.seen).reads + (lift.seen).writes < length past
 few_calls tells tells_plan config past a lift fits waits = by lift.is_read (subst (FitsResult tells lift (counts_of x.block past) (meant config past x.start lift.page x.direction)) waits (fits.1).result).0
   where
     x : Flight
     x = fits.0
 
-    by : (is_read : Bool) → HasCounts lift.told (counts_of x.block past) (one_left is_read) (one_left (not is_read)) → (lift.told).reads + (lift.told).writes < length past
+    by : (is_read : Bool) → HasCounts lift.seen (counts_of x.block past) (one_left is_read) (one_left (not is_read)) → (lift.seen).reads + (lift.seen).writes < length past
     by true counts = omega (arith, counts.reads, counts.writes, calls_within x.block past)
     by false counts = omega (arith, counts.reads, counts.writes, calls_within x.block past)
 
@@ -101,45 +102,45 @@ bad_is_counted tells tells_plan config past a lift c d fits landed =
     record { last = result.1 ∙ ap (λ (b : BlockId). last_count b past) ((fits.1).flight).block; more = result.3 }
 
 -- ---- the block's call, by its direction and how it went
-called_read : (lift : Lift) (told : Told) → lift.is_read ≡ true → told.reads ≡ (lift.told).reads + 1 → told.writes ≡ (lift.told).writes → told.plan ≡ (lift.told).plan → IsCalled lift.is_read lift.told told
-called_read lift told reads more same plan =
-    subst (λ (b : Bool). IsCalled b lift.told told) (sym reads) (record { reads = more; writes = omega (arith, same); plan = plan })
+called_read : (lift : Lift) (seen : BlockView) → lift.is_read ≡ true → seen.reads ≡ (lift.seen).reads + 1 → seen.writes ≡ (lift.seen).writes → seen.plan ≡ (lift.seen).plan → IsCalled lift.is_read lift.seen seen
+called_read lift seen reads more same plan =
+    subst (λ (b : Bool). IsCalled b lift.seen seen) (sym reads) (record { reads = more; writes = omega (arith, same); plan = plan })
 
-called_write : (lift : Lift) (told : Told) → lift.is_read ≡ false → told.reads ≡ (lift.told).reads → told.writes ≡ (lift.told).writes + 1 → told.plan ≡ (lift.told).plan → IsCalled lift.is_read lift.told told
-called_write lift told writes same more plan =
-    subst (λ (b : Bool). IsCalled b lift.told told) (sym writes) (record { reads = omega (arith, same); writes = more; plan = plan })
+called_write : (lift : Lift) (seen : BlockView) → lift.is_read ≡ false → seen.reads ≡ (lift.seen).reads → seen.writes ≡ (lift.seen).writes + 1 → seen.plan ≡ (lift.seen).plan → IsCalled lift.is_read lift.seen seen
+called_write lift seen writes same more plan =
+    subst (λ (b : Bool). IsCalled b lift.seen seen) (sym writes) (record { reads = omega (arith, same); writes = more; plan = plan })
 
-module _ (tells : Bool) (lift : Lift) (told : Told) where
-  pub good_read : (bytes : List ℕ) → lift.is_read ≡ true → told.content ≡ (lift.told).content → (tells ≡ true → (lift.told).content ≡ Some bytes) → told.plan ≡ (lift.told).plan → told.reads ≡ (lift.told).reads + 1 → told.writes ≡ (lift.told).writes
-      → told.faults ≡ (lift.told).faults → IsCarriedWell tells lift bytes told
+module _ (tells : Bool) (lift : Lift) (seen : BlockView) where
+  pub good_read : (bytes : List ℕ) → lift.is_read ≡ true → seen.content ≡ (lift.seen).content → (tells ≡ true → (lift.seen).content ≡ Some bytes) → seen.plan ≡ (lift.seen).plan → seen.reads ≡ (lift.seen).reads + 1 → seen.writes ≡ (lift.seen).writes
+      → seen.faults ≡ (lift.seen).faults → IsCarriedWell tells lift bytes seen
   good_read bytes reads content found plan more same faults = record {
-    called = called_read lift told reads more same plan;
+    called = called_read lift seen reads more same plan;
     faults = faults;
     read = λ says is. (found says, content ∙ found says);
     written = λ says is. absurd (true≢false (sym reads ∙ is));
   }
 
-  pub good_write : lift.is_read ≡ false → (tells ≡ true → told.content ≡ Some lift.buffer) → told.plan ≡ (lift.told).plan → told.reads ≡ (lift.told).reads → told.writes ≡ (lift.told).writes + 1 → told.faults ≡ (lift.told).faults
-      → IsCarriedWell tells lift lift.buffer told
+  pub good_write : lift.is_read ≡ false → (tells ≡ true → seen.content ≡ Some lift.buffer) → seen.plan ≡ (lift.seen).plan → seen.reads ≡ (lift.seen).reads → seen.writes ≡ (lift.seen).writes + 1 → seen.faults ≡ (lift.seen).faults
+      → IsCarriedWell tells lift lift.buffer seen
   good_write writes written plan same more faults = record {
-    called = called_write lift told writes same more plan;
+    called = called_write lift seen writes same more plan;
     faults = faults;
     read = λ says is. absurd (true≢false (sym is ∙ writes));
     written = λ says is. (refl, written says);
   }
 
-  pub failed_read : (bytes : List ℕ) → lift.is_read ≡ true → told.content ≡ (lift.told).content → told.plan ≡ (lift.told).plan → told.reads ≡ (lift.told).reads + 1 → told.writes ≡ (lift.told).writes → (lift.told).faults < told.faults
-      → IsCarriedBadly tells lift bytes told
+  pub failed_read : (bytes : List ℕ) → lift.is_read ≡ true → seen.content ≡ (lift.seen).content → seen.plan ≡ (lift.seen).plan → seen.reads ≡ (lift.seen).reads + 1 → seen.writes ≡ (lift.seen).writes → (lift.seen).faults < seen.faults
+      → IsCarriedBadly tells lift bytes seen
   failed_read bytes reads content plan more same faults = record {
-    called = called_read lift told reads more same plan;
+    called = called_read lift seen reads more same plan;
     faults = faults;
     read = λ says is. content;
     written = λ says is. absurd (true≢false (sym reads ∙ is));
   }
 
-  pub failed_write : lift.is_read ≡ false → told.plan ≡ (lift.told).plan → told.reads ≡ (lift.told).reads → told.writes ≡ (lift.told).writes + 1 → (lift.told).faults < told.faults → IsCarriedBadly tells lift lift.buffer told
+  pub failed_write : lift.is_read ≡ false → seen.plan ≡ (lift.seen).plan → seen.reads ≡ (lift.seen).reads → seen.writes ≡ (lift.seen).writes + 1 → (lift.seen).faults < seen.faults → IsCarriedBadly tells lift lift.buffer seen
   failed_write writes plan same more faults = record {
-    called = called_write lift told writes same more plan;
+    called = called_write lift seen writes same more plan;
     faults = faults;
     read = λ says is. absurd (true≢false (sym is ∙ writes));
     written = λ says is. refl;

@@ -1,6 +1,7 @@
 -- Content along a run: whatever entry comes next, with the buffers and blocks that it moves.
 use Rattle.std.proofs.Common.{◌≡◌, ℕ, Bool, true, List, ◌∷◌, Option, Some, length, refl, sym, ◌∙◌, subst}
 use Rattle.std.proofs.lemmas.Option.{same_Some}
+use Rattle.vm_types.specs.BlockView.{BlockView}
 use Rattle.vm_types.specs.Configuration.{IsBlock, IsWellFormed}
 use Rattle.vm_types.specs.WellFormed.{IsWellFormedReference}
 use Rattle.vm_types.specs.declared.names.Pfn.{Pfn}
@@ -44,7 +45,6 @@ use Rattle.pager_model.specs.Pager.{Pager, Valid}
 use Rattle.pager_model.specs.Run.{IsRun, pager_after}
 use Rattle.pager_model.specs.Spoken.{flat_after}
 use Rattle.pager_model.specs.Step.{IsLegalWhat, after_what}
-use Rattle.pager_model.specs.Told.{Told}
 use Rattle.pager_model.specs.Transfers.{starts}
 use Rattle.pager_rules.proofs.Lists.{all_found}
 use Rattle.pager_rules.proofs.Turns.{calm, idle}
@@ -75,16 +75,16 @@ module _ (tells tells_plan : Bool) (config : Config) (past : List Entry) (seat :
   page_known : (lift : Lift) → FitsLift tells tells_plan config past a lift → is_real config lift.page ≡ true
   page_known lift fits = page_real config lift.page ((run_right config past formed run).held (fits.0).frame lift.page (fits.1).held_page)
 
-  abbrev After : What → (ℕ → Option (List ℕ)) → (BlockId → Option Told) → Type 0
+  abbrev After : What → (ℕ → Option (List ℕ)) → (BlockId → Option BlockView) → Type 0
   After w buffer home = ContentFits tells tells_plan config (entry w ∷ past) (after_what config past a seat.0 w) buffer home
 
-  with_home : (w : What) (buffer : ℕ → Option (List ℕ)) (home home' : BlockId → Option Told) → home' ≡ home → After w buffer home → After w buffer home'
+  with_home : (w : What) (buffer : ℕ → Option (List ℕ)) (home home' : BlockId → Option BlockView) → home' ≡ home → After w buffer home → After w buffer home'
   with_home w buffer home home' same fits = subst (After w buffer) (sym same) fits
 
-  with_both : (w : What) (buffer buffer' : ℕ → Option (List ℕ)) (home home' : BlockId → Option Told) → (buffer' ≡ buffer) × (home' ≡ home) → After w buffer home → After w buffer' home'
+  with_both : (w : What) (buffer buffer' : ℕ → Option (List ℕ)) (home home' : BlockId → Option BlockView) → (buffer' ≡ buffer) × (home' ≡ home) → After w buffer home → After w buffer' home'
   with_both w buffer buffer' home home' same fits = subst (λ (o : ℕ → Option (List ℕ)). After w o home') (sym same.0) (with_home w buffer home home' same.1 fits)
 
-  module _ (buffer buffer' : ℕ → Option (List ℕ)) (home home' : BlockId → Option Told) (fits : ContentFits tells tells_plan config past a buffer home) where
+  module _ (buffer buffer' : ℕ → Option (List ℕ)) (home home' : BlockId → Option BlockView) (fits : ContentFits tells tells_plan config past a buffer home) where
     done_row : (r : Ref) (answer : Reply) → IsKept config (quiet (open_flights past)) a → IsWellFormedReference r → (legal : IsDone config a seat.0 r) → AppliesOperation a seat.0 r buffer buffer' → After (what.Done r answer) buffer' home
     done_row r answer quiet_kept well_formed legal applies =
         let same : (applies.finds).entry ≡ legal.valid.0 = same_Some _ _ (sym (applies.finds).valid ∙ legal.valid.1) in

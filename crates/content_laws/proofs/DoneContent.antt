@@ -2,6 +2,7 @@
 use Rattle.std.proofs.Common.{◌≡◌, ◌⊎◌, ℕ, ◌&&◌, Bool, true, false, cond, not, List, ◌∷◌, Option, Some, None, length, refl, sym, ap, ap₂, ◌∙◌, subst, inl, inr}
 use Rattle.std.proofs.lemmas.Bool.{false≢true, true≢false, cases_eq}
 use Rattle.std.proofs.lemmas.Option.{none-some, same_Some}
+use Rattle.vm_types.specs.BlockView.{BlockView}
 use Rattle.vm_types.specs.Same.{same_page}
 use Rattle.vm_types.specs.WellFormed.{IsWellFormedReference}
 use Rattle.vm_types.specs.declared.names.Page.{Page}
@@ -36,7 +37,6 @@ use Rattle.pager_model.specs.Maps.{Map, Mapped, first_bytes, is_private, page_be
 use Rattle.pager_model.specs.Pager.{Pager, Valid}
 use Rattle.pager_model.specs.Sets.{at_number, has_page}
 use Rattle.pager_model.specs.Spoken.{flat_after}
-use Rattle.pager_model.specs.Told.{Told}
 use Rattle.pager_rules.proofs.Basics.{at_number_other, at_number_same, pages_equal, same_page_refl}
 use Rattle.pager_rules.proofs.Pages.{own_is}
 use Rattle.pager_rules.specs.Kept.{IsKept}
@@ -103,7 +103,7 @@ unchanged (Write width n) bytes k is = absurd (true≢false is)
 unchanged (Add n) bytes k is = absurd (true≢false is)
 
 -- ---- DONE
-module _ (tells tells_plan : Bool) (config : Config) (past : List Entry) (a : Pager) (buffer buffer' : ℕ → Option (List ℕ)) (home : BlockId → Option Told) where
+module _ (tells tells_plan : Bool) (config : Config) (past : List Entry) (a : Pager) (buffer buffer' : ℕ → Option (List ℕ)) (home : BlockId → Option BlockView) where
   pub done_content : (seat : Seat) (r : Ref) (answer : Reply) → IsKept config (past_view past) a → IsKept config (quiet (open_flights past)) a → a.map ≡ (flat_after config past).map → a.touched ≡ (flat_after config past).touched
       → IsWellFormedReference r → (legal : IsDone config a seat.0 r) → (bytes : List ℕ) → buffer (legal.valid.0).frame ≡ Some bytes
       → PutsBuffer (legal.valid.0).frame (Some (bytes_after r.op bytes (offset_in_page r))) buffer buffer' → ContentFits tells tells_plan config past a buffer home

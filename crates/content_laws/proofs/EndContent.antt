@@ -2,6 +2,7 @@
 use Rattle.std.proofs.Common.{◌≡◌, ℕ, zero, suc, ◌+◌, ◌<◌, ◌≤◌, ◌&&◌, ◌||◌, ◌⊎◌, Bool, true, false, List, [], Option, Some, None, is_some, slice_get, refl, sym, ap, ap₂, ◌∙◌, subst, inl, inr, arith}
 use Rattle.std.specs.List.{list_any, range_with_len}
 use Rattle.std.proofs.lemmas.Bool.{cases_eq, false≢true, true≢false}
+use Rattle.vm_types.specs.BlockView.{BlockView}
 use Rattle.vm_types.specs.Configuration.{IsBlock}
 use Rattle.vm_types.specs.declared.names.SecId.{SecId}
 use Rattle.vm_types.specs.declared.names.Page.TheVariants.{Shared}
@@ -21,7 +22,7 @@ use Rattle.pager_model.specs.Maps.{section_bytes, shared_of}
 use Rattle.pager_model.specs.Pager.{Pager}
 use Rattle.pager_model.specs.Run.{pager_after}
 use Rattle.pager_model.specs.Text.{is_dirty}
-use Rattle.pager_model.specs.Told.{IsCountedBlock, Told}
+use Rattle.pager_model.specs.CountedBlock.{IsCountedBlock}
 use Rattle.pager_rules.proofs.Basics.{same_page_refl}
 use Rattle.pager_rules.specs.Kept.{IsKept}
 
@@ -34,19 +35,19 @@ each_false t from (suc n) f none low high = go (t from) refl none (cases_eq from
     go false is all (inl same) rest = sym (ap t same) ∙ is
     go false is all (inr apart) rest = rest all (omega (arith, low, apart))
 
-module _ (tells tells_plan : Bool) (config : Config) (past : List Entry) (a : Pager) (buffer : ℕ → Option (List ℕ)) (home : BlockId → Option Told) (none : open_flights past ≡ []) (fits : ContentFits tells tells_plan config past a buffer home) where
-  pub block_home : (b : BlockId) → IsBlock config b → (x : Told) × (home b ≡ Some x) × IsCountedBlock tells_plan config past b x
+module _ (tells tells_plan : Bool) (config : Config) (past : List Entry) (a : Pager) (buffer : ℕ → Option (List ℕ)) (home : BlockId → Option BlockView) (none : open_flights past ≡ []) (fits : ContentFits tells tells_plan config past a buffer home) where
+  pub block_home : (b : BlockId) → IsBlock config b → (x : BlockView) × (home b ≡ Some x) × IsCountedBlock tells_plan config past b x
   block_home b is_block = go (home b) refl
     where
       homes : HasHomes config [] home
       homes = subst (λ (flights : List Flight). HasHomes config flights home) none fits.homes
 
-      go : (o : Option Told) → home b ≡ o → (x : Told) × (home b ≡ Some x) × IsCountedBlock tells_plan config past b x
+      go : (o : Option BlockView) → home b ≡ o → (x : BlockView) × (home b ≡ Some x) × IsCountedBlock tells_plan config past b x
       go None at = absurd (false≢true (sym (ap is_some at) ∙ homes.blocks b is_block))
       go (Some x) at = (x, at, fits.counted b x at)
 
   -- a shared page that isn't dirty is written back
-  pub shared_written : IsKept config (past_view past) a → tells ≡ true → (s : SecId) (i : ℕ) (x : Told) → home (block.Section s i) ≡ Some x → shared_of (slice_get config.sections s.0) ≡ true → is_dirty config a (Shared s i) ≡ false
+  pub shared_written : IsKept config (past_view past) a → tells ≡ true → (s : SecId) (i : ℕ) (x : BlockView) → home (block.Section s i) ≡ Some x → shared_of (slice_get config.sections s.0) ≡ true → is_dirty config a (Shared s i) ≡ false
       → x.content ≡ Some (now config past (Shared s i))
   shared_written kept told s i x at shared clean = lying (block.Section s i) x (Shared s i) shared at ((kept.pages (Shared s i)).shared s i refl) settled
     where
@@ -64,7 +65,7 @@ module _ (tells tells_plan : Bool) (config : Config) (past : List Entry) (a : Pa
           by true is = absurd (true≢false (sym (ap₂ (λ (h m : Bool). h && m) (ap (holds_page (Shared s i)) holds ∙ same_page_refl (Shared s i)) is) ∙ here))
 
   -- a block of a copy on reference section has its first bytes
-  pub section_unwritten : tells ≡ true → (s : SecId) (i : ℕ) (x : Told) → home (block.Section s i) ≡ Some x → shared_of (slice_get config.sections s.0) ≡ false → x.content ≡ Some (section_bytes config s.0 i)
+  pub section_unwritten : tells ≡ true → (s : SecId) (i : ℕ) (x : BlockView) → home (block.Section s i) ≡ Some x → shared_of (slice_get config.sections s.0) ≡ false → x.content ≡ Some (section_bytes config s.0 i)
   section_unwritten told s i x at unshared = fits.copied told s i x at unshared
 
 pub blocks_home : BlocksAreHome

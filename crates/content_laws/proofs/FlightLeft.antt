@@ -14,7 +14,7 @@ use Rattle.pager_model.specs.Flights.{Direction, Flight, is_reading, open_flight
 use Rattle.pager_model.specs.Pager.{Pager}
 use Rattle.pager_model.specs.Spoken.{flat_after}
 use Rattle.pager_model.specs.Step.{after}
-use Rattle.pager_model.specs.Told.{told_plan}
+use Rattle.pager_model.specs.CountedBlock.{told_plan}
 use Rattle.pager_model.specs.Transfers.{IsHome, is_on_block, reads_on, starts, writes_on}
 use Rattle.pager_rules.proofs.Lists.{all_found, count_found}
 use Rattle.pager_rules.proofs.Quiet.{starts_by}

@@ -2,6 +2,7 @@
 use Rattle.std.proofs.Common.{◌≡◌, ◌⊎◌, ℕ, ◌+◌, ◌<◌, Bool, true, false, cond, not, List, ◌∷◌, Option, Some, None, length, nat_eq, count_by, refl, sym, ap, ◌∙◌, subst, inl, inr, arith}
 use Rattle.std.proofs.lemmas.Bool.{false_from_ne_true, false≢true, true≢false}
 use Rattle.std.proofs.lemmas.Option.{none-some, same_Some}
+use Rattle.vm_types.specs.BlockView.{BlockView}
 use Rattle.vm_types.specs.declared.names.Page.{Page}
 use Rattle.vm_types.specs.declared.names.Page.TheVariants.{Private}
 use Rattle.vm_types.specs.declared.names.Pfn.{Pfn}
@@ -35,7 +36,7 @@ use Rattle.pager_model.specs.Own.{IsEmptyHead}
 use Rattle.pager_model.specs.Pager.{Pager}
 use Rattle.pager_model.specs.Sets.{at_number, has_page}
 use Rattle.pager_model.specs.Spoken.{flat_after}
-use Rattle.pager_model.specs.Told.{HasCounts, IsCountedBlock, Told}
+use Rattle.pager_model.specs.CountedBlock.{HasCounts, IsCountedBlock}
 use Rattle.pager_model.specs.Transfers.{IsHome, is_write_on, starts}
 use Rattle.pager_rules.proofs.Basics.{at_number_other, at_number_same, count_cons_no, find_cons_yes, nat_eq_refl}
 use Rattle.pager_rules.proofs.Pages.{behind_section}
@@ -43,7 +44,7 @@ use Rattle.pager_rules.proofs.Put.{and_false, free_row, head_counts}
 use Rattle.pager_rules.proofs.Transfers.{on_frame}
 use Rattle.pager_rules.specs.Kept.{FitsFrame, IsKept}
 
-module _ (tells tells_plan : Bool) (config : Config) (past : List Entry) (a : Pager) (buffer : ℕ → Option (List ℕ)) (home : BlockId → Option Told) (fits : ContentFits tells tells_plan config past a buffer home)
+module _ (tells tells_plan : Bool) (config : Config) (past : List Entry) (a : Pager) (buffer : ℕ → Option (List ℕ)) (home : BlockId → Option BlockView) (fits : ContentFits tells tells_plan config past a buffer home)
     (kept : IsKept config (quiet (open_flights past)) a) (seat : Seat) (f : Pfn) (d : BlockId) (r : Role) where
   abbrev flights : List Flight
   flights = open_flights past
@@ -64,7 +65,7 @@ module _ (tells tells_plan : Bool) (config : Config) (past : List Entry) (a : Pa
   abbrev counts_with : BlockId → Bool → Counts
   counts_with c same = record { reads = cond same (reads_of c past + 1) (reads_of c past); writes = writes_of c past; faults = last_count c past }
 
-  begins : (o : Option Page) (free : List ℕ) (faults : ℕ → ℕ) (charged : List Page) → IsHome config d flights → IsEmptyHead a n → (buffer' : ℕ → Option (List ℕ)) (home' : BlockId → Option Told) → PutsBuffer n None buffer buffer'
+  begins : (o : Option Page) (free : List ℕ) (faults : ℕ → ℕ) (charged : List Page) → IsHome config d flights → IsEmptyHead a n → (buffer' : ℕ → Option (List ℕ)) (home' : BlockId → Option BlockView) → PutsBuffer n None buffer buffer'
       → PutsBlock d None home home' → ContentFits tells tells_plan config (e ∷ past) (b o free faults charged) buffer' home'
   begins o free faults charged is_home frame buffer' home' put away = record {
     buffers = buffers_put config a.state state_of buffer buffer' n None put (λ ys is. absurd (none-some ys is)) (sym (ap (λ (s : FrameState). not (is state.Reading s)) (at_number_same a.state n state.Reading)))
@@ -97,15 +98,15 @@ module _ (tells tells_plan : Bool) (config : Config) (past : List Entry) (a : Pa
       elsewhere : (y : Flight) → ((t : Flight → Bool) → t y ≡ true → 0 < count_by t flights) → n ≡ y.frame → ⊥
       elsewhere y some same = omega (arith, row.reads, row.writes, on_frame y flights some n (sym same))
 
-      still : (c : BlockId) (y : Told) → home' c ≡ Some y → home c ≡ Some y
+      still : (c : BlockId) (y : BlockView) → home' c ≡ Some y → home c ≡ Some y
       still c y at = go (at_home config home home' d None away c y at)
         where
           go : ((d ≡ c) × (None ≡ Some y)) ⊎ ((d ≡ c → ⊥) × (home c ≡ Some y)) → home c ≡ Some y
           go (inl mine) = absurd (none-some y mine.1)
           go (inr theirs) = theirs.1
 
-  -- the lift: its block tells the page's bytes, and its read is still to come
-  lift_begins : (o : Option Page) (page : Page) (y : Told) (bytes : List ℕ) → o ≡ Some page → home d ≡ Some y → (tells ≡ true → y.content ≡ Some (now config past page))
+  -- the lift: its block has the page's bytes, and its read is still to come
+  lift_begins : (o : Option Page) (page : Page) (y : BlockView) (bytes : List ℕ) → o ≡ Some page → home d ≡ Some y → (tells ≡ true → y.content ≡ Some (now config past page))
       → FitsLift tells tells_plan config (e ∷ past) (b o a.free a.faults a.charged) (read_lift past n d page bytes y)
   lift_begins o page y bytes holds at content = (
     begun,
@@ -124,13 +125,13 @@ module _ (tells tells_plan : Bool) (config : Config) (past : List Entry) (a : Pa
       old : IsCountedBlock tells_plan config past d y
       old = fits.counted d y at
 
--- a block that is to be read tells the page's bytes
-module _ (tells tells_plan : Bool) (config : Config) (past : List Entry) (a : Pager) (buffer : ℕ → Option (List ℕ)) (home : BlockId → Option Told) (fits : ContentFits tells tells_plan config past a buffer home)
+-- a block that is to be read has the page's bytes
+module _ (tells tells_plan : Bool) (config : Config) (past : List Entry) (a : Pager) (buffer : ℕ → Option (List ℕ)) (home : BlockId → Option BlockView) (fits : ContentFits tells tells_plan config past a buffer home)
     (maps : a.map ≡ (flat_after config past).map) (touches : a.touched ≡ (flat_after config past).touched) (kept : IsKept config (quiet (open_flights past)) a) (told : tells ≡ true) where
-  lying_bytes : (d : BlockId) (y : Told) (page : Page) → home d ≡ Some y → is_real config page ≡ true → a.lies page ≡ Some d → ((g : ℕ) → a.page g ≡ Some page → ⊥) → y.content ≡ Some (now config past page)
+  lying_bytes : (d : BlockId) (y : BlockView) (page : Page) → home d ≡ Some y → is_real config page ≡ true → a.lies page ≡ Some d → ((g : ℕ) → a.page g ≡ Some page → ⊥) → y.content ≡ Some (now config past page)
   lying_bytes d y page at real lies out = fits.lying told d y page real at lies (λ h holds. absurd (out h holds))
 
-  first_bytes_of : (p v : ℕ) (d : BlockId) (y : Told) (page : Page) → home d ≡ Some y → page_by config a.map p v ≡ Some page → IsFirstIn config a p v d page → y.content ≡ Some (now config past page)
+  first_bytes_of : (p v : ℕ) (d : BlockId) (y : BlockView) (page : Page) → home d ≡ Some y → page_by config a.map p v ≡ Some page → IsFirstIn config a p v d page → y.content ≡ Some (now config past page)
   first_bytes_of p v d y page at mapped first = go d refl
     where
       behind_is : is_section_block d ≡ true
@@ -147,14 +148,14 @@ module _ (tells tells_plan : Bool) (config : Config) (past : List Entry) (a : Pa
       go (block.PageFile m) is = absurd (false≢true (sym (ap is_section_block is) ∙ behind_is))
       go (block.Swap q m) is = absurd (false≢true (sym (ap is_section_block is) ∙ behind_is))
 
-  fault_bytes : (p v : ℕ) (d : BlockId) (y : Told) (page : Page) → home d ≡ Some y → is_real config page ≡ true → page_by config a.map p v ≡ Some page → ((g : ℕ) → a.page g ≡ Some page → ⊥) → (a.lies page ≡ Some d) ⊎ IsFirstIn config a p v d page
+  fault_bytes : (p v : ℕ) (d : BlockId) (y : BlockView) (page : Page) → home d ≡ Some y → is_real config page ≡ true → page_by config a.map p v ≡ Some page → ((g : ℕ) → a.page g ≡ Some page → ⊥) → (a.lies page ≡ Some d) ⊎ IsFirstIn config a p v d page
       → y.content ≡ Some (now config past page)
   fault_bytes p v d y page at real mapped out (inl lies) = lying_bytes d y page at real lies out
   fault_bytes p v d y page at real mapped out (inr first) = first_bytes_of p v d y page at mapped first
 
 -- ---- IN, by its role
-module _ (tells tells_plan : Bool) (config : Config) (past : List Entry) (a : Pager) (buffer : ℕ → Option (List ℕ)) (home : BlockId → Option Told) (kept : IsKept config (quiet (open_flights past)) a) (seat : Seat) (f : Pfn) (d : BlockId) where
-  pub in_content : (r : Role) (buffer' : ℕ → Option (List ℕ)) (home' : BlockId → Option Told) → IsIn r config past a seat.0 f.0 d → PutsBuffer f.0 None buffer buffer' → PutsBlock d None home home' → ContentFits tells tells_plan config past a buffer home
+module _ (tells tells_plan : Bool) (config : Config) (past : List Entry) (a : Pager) (buffer : ℕ → Option (List ℕ)) (home : BlockId → Option BlockView) (kept : IsKept config (quiet (open_flights past)) a) (seat : Seat) (f : Pfn) (d : BlockId) where
+  pub in_content : (r : Role) (buffer' : ℕ → Option (List ℕ)) (home' : BlockId → Option BlockView) → IsIn r config past a seat.0 f.0 d → PutsBuffer f.0 None buffer buffer' → PutsBlock d None home home' → ContentFits tells tells_plan config past a buffer home
       → ContentFits tells tells_plan config (record { seat = seat; what = what.In f d r } ∷ past) (after_in config a f.0 r) buffer' home'
   in_content (role.Fault q address) buffer' home' legal put away fits =
       begins tells tells_plan config past a buffer home fits kept seat f d (role.Fault q address) (page_by config a.map q.0 (page_number address.0)) _ _ _ legal.home legal.frame buffer' home' put away
@@ -163,7 +164,7 @@ module _ (tells tells_plan : Bool) (config : Config) (past : List Entry) (a : Pa
   in_content (role.Come q address) buffer' home' legal put away fits =
       begins tells tells_plan config past a buffer home fits kept seat f d (role.Come q address) (page_by config a.map q.0 (page_number address.0)) _ a.faults a.charged legal.lying.home legal.lying.frame buffer' home' put away
 
-  pub in_begins : (r : Role) (page : Page) (y : Told) (bytes : List ℕ) → a.map ≡ (flat_after config past).map → a.touched ≡ (flat_after config past).touched → IsIn r config past a seat.0 f.0 d → (after_in config a f.0 r).page f.0 ≡ Some page
+  pub in_begins : (r : Role) (page : Page) (y : BlockView) (bytes : List ℕ) → a.map ≡ (flat_after config past).map → a.touched ≡ (flat_after config past).touched → IsIn r config past a seat.0 f.0 d → (after_in config a f.0 r).page f.0 ≡ Some page
       → is_real config page ≡ true → home d ≡ Some y → ContentFits tells tells_plan config past a buffer home
       → FitsLift tells tells_plan config (record { seat = seat; what = what.In f d r } ∷ past) (after_in config a f.0 r) (read_lift past f.0 d page bytes y)
   in_begins (role.Fault q address) page y bytes maps touches legal holds real at fits =

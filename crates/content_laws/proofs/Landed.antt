@@ -2,6 +2,7 @@
 use Rattle.std.proofs.Common.{◌≡◌, ℕ, Bool, true, cond, List, ◌∷◌, Option, Some, find, sym, ap, ◌∙◌, subst}
 use Rattle.std.specs.List.{AllByRecursion}
 use Rattle.std.proofs.lemmas.Option.{same_Some}
+use Rattle.vm_types.specs.BlockView.{BlockView}
 use Rattle.vm_types.specs.declared.names.Page.{Page}
 use Rattle.vm_types.specs.declared.names.BlockId.{BlockId}
 use Rattle.vm_types.specs.declared.names.FrameState.{FrameState}
@@ -16,12 +17,12 @@ use Rattle.pager_model.specs.Fits.{FitsLift, Lift}
 use Rattle.pager_model.specs.Flights.{Flight, open_flights, without_flight}
 use Rattle.pager_model.specs.InOk.{IsLanding}
 use Rattle.pager_model.specs.Pager.{Pager}
-use Rattle.pager_model.specs.Told.{HasCounts, Told}
+use Rattle.pager_model.specs.CountedBlock.{HasCounts}
 use Rattle.pager_model.specs.Transfers.{starts}
 
 -- the parts of content after the landing of flight k, which is x, by the frames, the buffers and the blocks of then
-pub record Landed (tells tells_plan : Bool) (config : Config) (past : List Entry) (k : ℕ) (x : Flight) (told : Told) (state_of : ℕ → FrameState) (page : ℕ → Option Page) (modify : ℕ → Bool) (lies : Page → Option BlockId)
-    (buffer : ℕ → Option (List ℕ)) (home : BlockId → Option Told) : Type 0 where
+pub record Landed (tells tells_plan : Bool) (config : Config) (past : List Entry) (k : ℕ) (x : Flight) (seen : BlockView) (state_of : ℕ → FrameState) (page : ℕ → Option Page) (modify : ℕ → Bool) (lies : Page → Option BlockId)
+    (buffer : ℕ → Option (List ℕ)) (home : BlockId → Option BlockView) : Type 0 where
   pub buffers : HasBuffers config state_of buffer
   pub homes : HasHomes config (without_flight k (open_flights past)) home
   pub held : tells ≡ true → HasHeld (now config past) page state_of buffer
@@ -29,7 +30,7 @@ pub record Landed (tells tells_plan : Bool) (config : Config) (past : List Entry
   pub written : (e : Entry) → ((g : Page) → now config (e ∷ past) g ≡ now config past g) → tells ≡ true
       → AllByRecursion (IsWriting (now config (e ∷ past)) (was config (e ∷ past)) page modify) (without_flight k (open_flights past))
   pub copied : tells ≡ true → HasCopied config home
-  pub counted : (longer : List Entry) → ((b : BlockId) → (x.block ≡ b → ⊥) → counts_of b longer ≡ counts_of b past) → HasCounts told (counts_of x.block longer) 0 0 → told.faults ≡ last_count x.block longer
+  pub counted : (longer : List Entry) → ((b : BlockId) → (x.block ≡ b → ⊥) → counts_of b longer ≡ counts_of b past) → HasCounts seen (counts_of x.block longer) 0 0 → seen.faults ≡ last_count x.block longer
       → HasCounted tells_plan config longer home
 
 -- a lift that lands is of the flight that the landing names

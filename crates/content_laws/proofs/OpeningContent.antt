@@ -1,6 +1,7 @@
 -- Content at the opening.
 use Rattle.std.proofs.Common.{◌≡◌, ℕ, Bool, true, false, not, List, [], Option, Some, refl, sym, ap, ◌∙◌, arith}
 use Rattle.std.proofs.lemmas.Option.{none-some, same_Some}
+use Rattle.vm_types.specs.BlockView.{BlockView}
 use Rattle.vm_types.specs.declared.names.Page.{Page}
 use Rattle.vm_types.specs.declared.names.Page.TheVariants.{Private, Shared}
 use Rattle.vm_types.specs.declared.names.BlockId.{BlockId}
@@ -11,13 +12,12 @@ use Rattle.pager_model.specs.Bytes.{now}
 use Rattle.pager_model.specs.Content.{ContentFits}
 use Rattle.pager_model.specs.Lookups.{is}
 use Rattle.pager_model.specs.Opening.{first_block, first_state, is_bad, opening}
-use Rattle.pager_model.specs.Told.{Told}
 
 first_not_reading : (b : Bool) → not (is state.Reading (first_state b)) ≡ true
 first_not_reading true = refl
 first_not_reading false = refl
 
-pub opening_content : (tells tells_plan : Bool) (config : Config) (buffer : ℕ → Option (List ℕ)) (home : BlockId → Option Told) → HasNewBuffers config buffer → HasNewHomes tells tells_plan config home
+pub opening_content : (tells tells_plan : Bool) (config : Config) (buffer : ℕ → Option (List ℕ)) (home : BlockId → Option BlockView) → HasNewBuffers config buffer → HasNewHomes tells tells_plan config home
     → ContentFits tells tells_plan config [] (opening config) buffer home
 opening_content tells tells_plan config buffer home buffers homes = record {
   buffers = record { sizes = buffers.sizes; home = λ f inside. buffers.home f inside ∙ sym (first_not_reading (is_bad config f)) };
@@ -31,6 +31,6 @@ opening_content tells tells_plan config buffer home buffers homes = record {
       record { counts = record { reads = omega (arith, fresh.reads); writes = omega (arith, fresh.writes) }; faults = fresh.faults; plan = fresh.plan };
 }
   where
-    lying : tells ≡ true → (b : BlockId) (x : Told) (g : Page) → home b ≡ Some x → first_block g ≡ Some b → x.content ≡ Some (now config [] g)
+    lying : tells ≡ true → (b : BlockId) (x : BlockView) (g : Page) → home b ≡ Some x → first_block g ≡ Some b → x.content ≡ Some (now config [] g)
     lying told b x (Private p v) at_home lies = absurd (none-some b lies)
     lying told b x (Shared s i) at_home lies = homes.first told s i x (ap home (same_Some _ _ lies) ∙ at_home)

@@ -2,6 +2,7 @@
 use Rattle.std.proofs.Common.{◌≡◌, ◌⊎◌, ℕ, ◌+◌, ◌<◌, ◌&&◌, Bool, true, false, cond, List, [], ◌∷◌, Option, Some, None, length, count_by, refl, sym, ap, ◌∙◌, subst, inl, inr, arith}
 use Rattle.std.proofs.lemmas.Bool.{and_from, le-ltb, lt-ltb, ne_eqb, true≢false}
 use Rattle.std.proofs.lemmas.Option.{none-some, same_Some}
+use Rattle.vm_types.specs.BlockView.{BlockView}
 use Rattle.vm_types.specs.declared.names.Page.{Page}
 use Rattle.vm_types.specs.declared.names.Pfn.{Pfn}
 use Rattle.vm_types.specs.declared.names.BlockId.{BlockId}
@@ -29,7 +30,7 @@ use Rattle.pager_model.specs.Out.{IsAnyOut, after_any_out, after_out}
 use Rattle.pager_model.specs.Pager.{Assigned, Pager}
 use Rattle.pager_model.specs.Sets.{at_number}
 use Rattle.pager_model.specs.Spoken.{flat_after}
-use Rattle.pager_model.specs.Told.{HasCounts, IsCountedBlock, Told}
+use Rattle.pager_model.specs.CountedBlock.{HasCounts, IsCountedBlock}
 use Rattle.pager_model.specs.Transfers.{is_write_on, reads_on, starts, writes_on}
 use Rattle.pager_rules.proofs.Basics.{at_number_other, count_cons_no, count_cons_yes, find_cons_yes, nat_eq_refl}
 use Rattle.pager_rules.proofs.Frames.{modified_frame}
@@ -63,7 +64,7 @@ may_be_written config past a f d kept (inr legal) =
     let was : a.state f ≡ state.Active = subst (λ (n : ℕ). a.state n ≡ state.Active) legal.frame (at_page_of config past a legal.p legal.v legal.entry kept legal.valid).state in
     record { filled = ap has_bytes was; not_read = ap (is state.Reading) was; still = legal.still }
 
-module _ (tells tells_plan : Bool) (config : Config) (past : List Entry) (a : Pager) (buffer : ℕ → Option (List ℕ)) (home : BlockId → Option Told) (fits : ContentFits tells tells_plan config past a buffer home)
+module _ (tells tells_plan : Bool) (config : Config) (past : List Entry) (a : Pager) (buffer : ℕ → Option (List ℕ)) (home : BlockId → Option BlockView) (fits : ContentFits tells tells_plan config past a buffer home)
     (seat : Seat) (f : Pfn) (d : BlockId) (may : MayBeWritten past a f.0) where
   abbrev flights : List Flight
   flights = open_flights past
@@ -84,7 +85,7 @@ module _ (tells tells_plan : Bool) (config : Config) (past : List Entry) (a : Pa
   counts_with c same = record { reads = reads_of c past; writes = cond same (writes_of c past + 1) (writes_of c past); faults = last_count c past }
 
   begins : (state_of : ℕ → FrameState) (modified : List ℕ) (assigned : List Assigned) → ((h : ℕ) → is state.Reading (state_of h) ≡ is state.Reading (a.state h)) → ((h : ℕ) → (n ≡ h → ⊥) → state_of h ≡ a.state h)
-      → (home' : BlockId → Option Told) → PutsBlock d None home home' → ContentFits tells tells_plan config (e ∷ past) (b state_of modified assigned) buffer home'
+      → (home' : BlockId → Option BlockView) → PutsBlock d None home home' → ContentFits tells tells_plan config (e ∷ past) (b state_of modified assigned) buffer home'
   begins state_of modified assigned reads others home' away = record {
     buffers = buffers_stay config a.state state_of buffer reads fits.buffers;
     homes = homes_begun config home home' begun flights away fits.homes;
@@ -107,7 +108,7 @@ module _ (tells tells_plan : Bool) (config : Config) (past : List Entry) (a : Pa
       elsewhere : (y : Flight) → ((t : Flight → Bool) → t y ≡ true → 0 < count_by t flights) → n ≡ y.frame → ⊥
       elsewhere y some same = omega (arith, may.still, on_frame y flights some n (sym same))
 
-      still : (c : BlockId) (y : Told) → home' c ≡ Some y → home c ≡ Some y
+      still : (c : BlockId) (y : BlockView) → home' c ≡ Some y → home c ≡ Some y
       still c y at = go (at_home config home home' d None away c y at)
         where
           go : ((d ≡ c) × (None ≡ Some y)) ⊎ ((d ≡ c → ⊥) × (home c ≡ Some y)) → home c ≡ Some y
@@ -115,7 +116,7 @@ module _ (tells tells_plan : Bool) (config : Config) (past : List Entry) (a : Pa
           go (inr theirs) = theirs.1
 
   -- the lift: its buffer has the bytes that the page has now, and its write is still to come
-  lift_begins : (page : Page) (y : Told) (bytes : List ℕ) → a.page n ≡ Some page → buffer n ≡ Some bytes → home d ≡ Some y → FitsLift tells tells_plan config (e ∷ past) (b a.state a.modified a.assigned) (write_lift past n d page bytes y)
+  lift_begins : (page : Page) (y : BlockView) (bytes : List ℕ) → a.page n ≡ Some page → buffer n ≡ Some bytes → home d ≡ Some y → FitsLift tells tells_plan config (e ∷ past) (b a.state a.modified a.assigned) (write_lift past n d page bytes y)
   lift_begins page y bytes holds has at = (
     begun,
     record {
@@ -133,21 +134,21 @@ module _ (tells tells_plan : Bool) (config : Config) (past : List Entry) (a : Pa
       old : IsCountedBlock tells_plan config past d y
       old = fits.counted d y at
 
-  listed : (home' : BlockId → Option Told) → PutsBlock d None home home' → ContentFits tells tells_plan config (e ∷ past) (after_out a n d) buffer home'
+  listed : (home' : BlockId → Option BlockView) → PutsBlock d None home home' → ContentFits tells tells_plan config (e ∷ past) (after_out a n d) buffer home'
   listed home' away = begins (at_number a.state n state.Writing) _ _ (at_number_field (is state.Reading) a.state n state.Writing (sym may.not_read)) (λ h apart. at_number_other a.state n state.Writing h apart) home' away
 
-  swapped : (home' : BlockId → Option Told) → PutsBlock d None home home' → ContentFits tells tells_plan config (e ∷ past) (record a { modify = at_number a.modify n false }) buffer home'
+  swapped : (home' : BlockId → Option BlockView) → PutsBlock d None home home' → ContentFits tells tells_plan config (e ∷ past) (record a { modify = at_number a.modify n false }) buffer home'
   swapped home' away = begins a.state a.modified a.assigned (λ h. refl) (λ h apart. refl) home' away
 
 -- ---- OUT, of a listed page and of a leaving process's
-module _ (tells tells_plan : Bool) (config : Config) (past : List Entry) (a : Pager) (buffer : ℕ → Option (List ℕ)) (home : BlockId → Option Told) (kept : IsKept config (quiet (open_flights past)) a) (seat : Seat) (f : Pfn) where
-  pub out_content : (d : BlockId) (home' : BlockId → Option Told) → IsAnyOut config past a f.0 d → PutsBlock d None home home' → ContentFits tells tells_plan config past a buffer home
+module _ (tells tells_plan : Bool) (config : Config) (past : List Entry) (a : Pager) (buffer : ℕ → Option (List ℕ)) (home : BlockId → Option BlockView) (kept : IsKept config (quiet (open_flights past)) a) (seat : Seat) (f : Pfn) where
+  pub out_content : (d : BlockId) (home' : BlockId → Option BlockView) → IsAnyOut config past a f.0 d → PutsBlock d None home home' → ContentFits tells tells_plan config past a buffer home
       → ContentFits tells tells_plan config (record { seat = seat; what = what.Out f d } ∷ past) (after_any_out a f.0 d) buffer home'
   out_content (block.Swap p m) home' legal away fits = swapped tells tells_plan config past a buffer home fits seat f (block.Swap p m) (may_be_written config past a f.0 (block.Swap p m) kept legal) home' away
   out_content (block.PageFile m) home' legal away fits = listed tells tells_plan config past a buffer home fits seat f (block.PageFile m) (may_be_written config past a f.0 (block.PageFile m) kept legal) home' away
   out_content (block.Section s i) home' legal away fits = listed tells tells_plan config past a buffer home fits seat f (block.Section s i) (may_be_written config past a f.0 (block.Section s i) kept legal) home' away
 
-  pub out_begins : (d : BlockId) (page : Page) (y : Told) (bytes : List ℕ) → IsAnyOut config past a f.0 d → a.page f.0 ≡ Some page → buffer f.0 ≡ Some bytes → home d ≡ Some y → ContentFits tells tells_plan config past a buffer home
+  pub out_begins : (d : BlockId) (page : Page) (y : BlockView) (bytes : List ℕ) → IsAnyOut config past a f.0 d → a.page f.0 ≡ Some page → buffer f.0 ≡ Some bytes → home d ≡ Some y → ContentFits tells tells_plan config past a buffer home
       → FitsLift tells tells_plan config (record { seat = seat; what = what.Out f d } ∷ past) (after_any_out a f.0 d) (write_lift past f.0 d page bytes y)
   out_begins (block.Swap p m) page y bytes legal holds has at fits = lift_begins tells tells_plan config past a buffer home fits seat f (block.Swap p m) (may_be_written config past a f.0 (block.Swap p m) kept legal) page y bytes holds has at
   out_begins (block.PageFile m) page y bytes legal holds has at fits = lift_begins tells tells_plan config past a buffer home fits seat f (block.PageFile m) (may_be_written config past a f.0 (block.PageFile m) kept legal) page y bytes holds has at

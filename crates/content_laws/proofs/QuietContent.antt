@@ -2,6 +2,7 @@
 use Rattle.std.proofs.Common.{◌≡◌, ◌⊎◌, ℕ, ◌+◌, Bool, true, false, cond, List, ◌∷◌, Option, Some, None, nat_lt, refl, sym, ap, ◌∙◌, subst, inl, inr}
 use Rattle.std.proofs.lemmas.Bool.{cases_eq, true≢false}
 use Rattle.std.proofs.lemmas.Option.{none-some}
+use Rattle.vm_types.specs.BlockView.{BlockView}
 use Rattle.vm_types.specs.Same.{same_page}
 use Rattle.vm_types.specs.declared.names.Page.{Page}
 use Rattle.vm_types.specs.declared.names.Pfn.{Pfn}
@@ -38,7 +39,6 @@ use Rattle.pager_model.specs.Maps.{page_number}
 use Rattle.pager_model.specs.Pager.{Pager}
 use Rattle.pager_model.specs.Reuse.{IsReuse, after_reuse}
 use Rattle.pager_model.specs.Sets.{at_number}
-use Rattle.pager_model.specs.Told.{Told}
 use Rattle.pager_model.specs.Transfers.{reads_on, writes_on}
 use Rattle.pager_model.specs.Turn.{after_turn}
 use Rattle.pager_rules.proofs.Basics.{at_number_other, at_number_same}
@@ -72,7 +72,7 @@ nowhere_lies lies (Some x) g d there = go (same_page x g) there
     go true there = absurd (none-some d there)
     go false there = there
 
-module _ (tells tells_plan : Bool) (config : Config) (past : List Entry) (a : Pager) (buffer : ℕ → Option (List ℕ)) (home : BlockId → Option Told) where
+module _ (tells tells_plan : Bool) (config : Config) (past : List Entry) (a : Pager) (buffer : ℕ → Option (List ℕ)) (home : BlockId → Option BlockView) where
   abbrev Fits : List Entry → Pager → Type 0
   Fits longer b = ContentFits tells tells_plan config longer b buffer home
 

@@ -2,6 +2,7 @@
 use Rattle.std.proofs.Common.{◌≡◌, ◌⊎◌, ℕ, ◌<◌, ◌&&◌, Bool, true, false, not, List, ◌∷◌, Option, Some, find, length, nat_eq, count_by, slice_get, refl, sym, ap, ◌∙◌, subst, inl, inr, arith}
 use Rattle.std.proofs.lemmas.Bool.{and_from, eq-eqb, false≢true, true≢false}
 use Rattle.std.proofs.lemmas.Option.{same_Some}
+use Rattle.vm_types.specs.BlockView.{BlockView}
 use Rattle.vm_types.specs.Configuration.{IsBlock}
 use Rattle.vm_types.specs.declared.names.Page.{Page}
 use Rattle.vm_types.specs.declared.names.Pfn.{Pfn}
@@ -38,7 +39,7 @@ use Rattle.pager_model.specs.Maps.{Map, section_bytes, shared_of}
 use Rattle.pager_model.specs.Pager.{Pager}
 use Rattle.pager_model.specs.Sets.{at_number, has_page}
 use Rattle.pager_model.specs.Spoken.{flat_after}
-use Rattle.pager_model.specs.Told.{HasCounts, IsCountedBlock, Told, told_plan}
+use Rattle.pager_model.specs.CountedBlock.{HasCounts, IsCountedBlock, told_plan}
 use Rattle.pager_model.specs.Transfers.{is_read_on, is_write_on, starts, writes_on}
 use Rattle.pager_rules.proofs.Basics.{at_number_other, at_number_same, nat_eq_refl}
 use Rattle.pager_rules.proofs.Frames.{at_state, reading_frame}
@@ -48,10 +49,10 @@ use Rattle.pager_rules.proofs.Put.{and_false}
 use Rattle.pager_rules.proofs.Quiet.{starts_once}
 use Rattle.pager_rules.specs.Kept.{FitsDirection, FitsFlight, FitsFrame, FitsRead, IsFirstRead, IsKept, views}
 
-module _ (tells tells_plan : Bool) (config : Config) (past : List Entry) (a : Pager) (buffer buffer' : ℕ → Option (List ℕ)) (home home' : BlockId → Option Told) (fits : ContentFits tells tells_plan config past a buffer home)
+module _ (tells tells_plan : Bool) (config : Config) (past : List Entry) (a : Pager) (buffer buffer' : ℕ → Option (List ℕ)) (home home' : BlockId → Option BlockView) (fits : ContentFits tells tells_plan config past a buffer home)
     (maps : a.map ≡ (flat_after config past).map) (touches : a.touched ≡ (flat_after config past).touched) (k : ℕ) (x : Flight) (r : Role) (lift : Lift) (kept : IsKept config (quiet (open_flights past)) a)
     (found : find (starts k) (open_flights past) ≡ Some x) (reads : x.direction ≡ reading r) (fits_lift : FitsView tells (told_plan config tells_plan lift.block) x (flight_view config past a x lift.page) lift)
-    (known : IsBlock config x.block) (real : is_real config lift.page ≡ true) (size : length lift.buffer ≡ 512) (put : PutsBuffer x.frame (Some lift.buffer) buffer buffer') (back : PutsBlock x.block (Some lift.told) home home')
+    (known : IsBlock config x.block) (real : is_real config lift.page ≡ true) (size : length lift.buffer ≡ 512) (put : PutsBuffer x.frame (Some lift.buffer) buffer buffer') (back : PutsBlock x.block (Some lift.seen) home home')
     (state_of : ℕ → FrameState) (modify : ℕ → Bool) (lies : Page → Option BlockId) (states : (h : ℕ) → (x.frame ≡ h → ⊥) → state_of h ≡ a.state h) (marks : (h : ℕ) → (x.frame ≡ h → ⊥) → modify h ≡ a.modify h)
     (not_reading : is state.Reading (state_of x.frame) ≡ false) (less : (g : Page) (d : BlockId) → lies g ≡ Some d → a.lies g ≡ Some d)
     (filled : tells ≡ true → has_bytes (state_of x.frame) ≡ true → lift.buffer ≡ now config past lift.page) where
@@ -75,7 +76,7 @@ module _ (tells tells_plan : Bool) (config : Config) (past : List Entry) (a : Pa
   row = at_state (frame_view config (quiet flights) a f) state.Reading (reading_frame (frame_view config (quiet flights) a f) (kept.frames f) (count_found (is_read_on f) (starts k) flights x found (and_from _ _ (nat_eq_refl f) is_read_of))) (kept.frames f)
 
   -- the block still has the page's bytes
-  content_is : tells ≡ true → (lift.told).content ≡ Some (now config past lift.page)
+  content_is : tells ≡ true → (lift.seen).content ≡ Some (now config past lift.page)
   content_is told = fits_lift.content told (sym ((fits_lift.flight).direction) ∙ is_read_of) ∙ ap Some (ap (λ (d : Direction). meant config past x.start lift.page d) reads)
 
   mapped : IsFirstRead x r lift.page (page_view config a lift.page) → own_page config a.map lift.page ≡ Some lift.page
@@ -99,17 +100,17 @@ module _ (tells tells_plan : Bool) (config : Config) (past : List Entry) (a : Pa
   writes_there h = count_removed_no (is_write_on h) (starts k) flights x found (starts_once past k) (subst (λ (b : Bool). (nat_eq f h && not b) ≡ false) (sym is_read_of) (and_false (nat_eq f h)))
 
   landed_lying : tells ≡ true → HasLying config (now config past) lies a.page modify (without_flight k flights) home'
-  landed_lying told b y g real_g at there settled = go (at_home config home home' x.block (Some lift.told) back b y at)
+  landed_lying told b y g real_g at there settled = go (at_home config home home' x.block (Some lift.seen) back b y at)
     where
-      go : ((x.block ≡ b) × (Some lift.told ≡ Some y)) ⊎ ((x.block ≡ b → ⊥) × (home b ≡ Some y)) → y.content ≡ Some (now config past g)
+      go : ((x.block ≡ b) × (Some lift.seen ≡ Some y)) ⊎ ((x.block ≡ b → ⊥) × (home b ≡ Some y)) → y.content ≡ Some (now config past g)
       go (inl mine) =
           let own : g ≡ lift.page = lies_own g real_g (less g b there ∙ ap Some (sym mine.0)) in
-          subst (λ (z : Told). z.content ≡ Some (now config past g)) (same_Some _ _ mine.1) (content_is told ∙ ap Some (ap (now config past) (sym own)))
+          subst (λ (z : BlockView). z.content ≡ Some (now config past g)) (same_Some _ _ mine.1) (content_is told ∙ ap Some (ap (now config past) (sym own)))
       go (inr theirs) = fits.lying told b y g real_g theirs.1 (less g b there) (settled_move a.page a.page a.modify modify flights (without_flight k flights) f g
           (λ h apart. (refl, marks h apart, writes_there h)) (λ holds. (row.mark, row.writes)) settled)
 
   landed_copied : tells ≡ true → HasCopied config home'
-  landed_copied told = copied_put config home home' x.block (Some lift.told) back (λ s i y is here unshared. subst (λ (z : Told). z.content ≡ Some (section_bytes config s.0 i)) (same_Some _ _ here) (content_is told ∙ ap Some (bytes s i is unshared read))) (fits.copied told)
+  landed_copied told = copied_put config home home' x.block (Some lift.seen) back (λ s i y is here unshared. subst (λ (z : BlockView). z.content ≡ Some (section_bytes config s.0 i)) (same_Some _ _ here) (content_is told ∙ ap Some (bytes s i is unshared read))) (fits.copied told)
     where
       bytes : (s : SecId) (i : ℕ) → x.block ≡ block.Section s i → shared_of (slice_get config.sections s.0) ≡ false → FitsRead x r lift.page (page_view config a lift.page) → now config past lift.page ≡ section_bytes config s.0 i
       bytes s i is unshared (inl lying) = absurd (true≢false (sym (in_section config (quiet flights) a lift.page s i kept real (lying ∙ ap Some is)) ∙ unshared))
@@ -117,28 +118,28 @@ module _ (tells tells_plan : Bool) (config : Config) (past : List Entry) (a : Pa
           first_own config (flat_after config past) lift.page s i (subst (λ (map : Map). own_page config map lift.page ≡ Some lift.page) maps (mapped first))
           (subst (λ (map : Map). own_section map lift.page ≡ Some (block.Section s i)) maps (first.behind ∙ ap Some is)) (subst (λ (ys : List Page). has_page ys lift.page ≡ false) touches (has_none a.touched lift.page first.untouched))
 
-  pub landed : Landed tells tells_plan config past k x lift.told state_of a.page modify lies buffer' home'
+  pub landed : Landed tells tells_plan config past k x lift.seen state_of a.page modify lies buffer' home'
   landed = record {
     buffers = buffers_put config a.state state_of buffer buffer' f (Some lift.buffer) put (λ ys is. subst (λ (zs : List ℕ). length zs ≡ 512) (same_Some _ _ is) size) (sym (ap not not_reading)) states fits.buffers;
-    homes = homes_landed config home home' k x lift.told flights found (starts_once past k) (kept.blocks x.block).flights known back fits.homes;
+    homes = homes_landed config home home' k x lift.seen flights found (starts_once past k) (kept.blocks x.block).flights known back fits.homes;
     held = λ told. held_move (now config past) (now config past) a.page a.page a.state state_of buffer buffer' f (λ h apart. (refl, states h apart, put.others h apart, λ g holds. refl))
         (λ g holds has. put.here ∙ ap Some (filled told has ∙ ap (now config past) (same_Some _ _ (sym fits_lift.held_page ∙ holds)))) (fits.held told);
     lying = landed_lying;
     written = λ e same told. all_filter (IsWriting (now config (e ∷ past)) (was config (e ∷ past)) a.page modify) (λ (y : Flight). not (starts k y)) flights
         (written_move config past e a.page a.page a.modify modify (λ y some writes clear g holds. (sym (marks y.frame (apart y some writes)) ∙ clear, holds, same g)) (fits.written told));
     copied = landed_copied;
-    counted = λ longer others counts faults. counted_put config home home' x.block (Some lift.told) back tells_plan past longer others
-        (λ y is. subst (λ (z : Told). IsCountedBlock tells_plan config longer x.block z) (same_Some _ _ is) (record { counts = counts; faults = faults; plan = fits_lift.plan_is ∙ ap (told_plan config tells_plan) (sym (fits_lift.flight).block) })) fits.counted;
+    counted = λ longer others counts faults. counted_put config home home' x.block (Some lift.seen) back tells_plan past longer others
+        (λ y is. subst (λ (z : BlockView). IsCountedBlock tells_plan config longer x.block z) (same_Some _ _ is) (record { counts = counts; faults = faults; plan = fits_lift.plan_is ∙ ap (told_plan config tells_plan) (sym (fits_lift.flight).block) })) fits.counted;
   }
     where
       apart : (y : Flight) → ((t : Flight → Bool) → t y ≡ true → 0 < count_by t flights) → is_reading y.direction ≡ false → f ≡ y.frame → ⊥
       apart y some writes same = omega (arith, row.writes, some (is_write_on f) (and_from _ _ (eq-eqb _ _ (sym same)) (ap not writes)))
 
 -- ---- INOK and INFAIL, of the flight of a lift
-module _ (tells tells_plan : Bool) (config : Config) (past : List Entry) (a : Pager) (buffer buffer' : ℕ → Option (List ℕ)) (home home' : BlockId → Option Told)
+module _ (tells tells_plan : Bool) (config : Config) (past : List Entry) (a : Pager) (buffer buffer' : ℕ → Option (List ℕ)) (home home' : BlockId → Option BlockView)
     (maps : a.map ≡ (flat_after config past).map) (touches : a.touched ≡ (flat_after config past).touched) (kept : IsKept config (quiet (open_flights past)) a) (seat : Seat) (n : Pfn) (lift : Lift)
     (fits_lift : FitsLift tells tells_plan config past a lift) (known : IsBlock config lift.block) (real : is_real config lift.page ≡ true) (size : length lift.buffer ≡ 512)
-    (put : PutsBuffer n.0 (Some lift.buffer) buffer buffer') (back : PutsBlock lift.block (Some lift.told) home home') where
+    (put : PutsBuffer n.0 (Some lift.buffer) buffer buffer') (back : PutsBlock lift.block (Some lift.seen) home home') where
   abbrev x : Flight
   x = fits_lift.0
 
@@ -151,11 +152,11 @@ module _ (tells tells_plan : Bool) (config : Config) (past : List Entry) (a : Pa
   lands_by : (r : Role) (y : Flight) → IsLanding past seat.0 n.0 k y → y.direction ≡ reading r → (state_of : ℕ → FrameState) (modify : ℕ → Bool) (lies : Page → Option BlockId) → ((h : ℕ) → (x.frame ≡ h → ⊥) → state_of h ≡ a.state h)
       → ((h : ℕ) → (x.frame ≡ h → ⊥) → modify h ≡ a.modify h) → is state.Reading (state_of x.frame) ≡ false → ((g : Page) (d : BlockId) → lies g ≡ Some d → a.lies g ≡ Some d)
       → (tells ≡ true → has_bytes (state_of x.frame) ≡ true → lift.buffer ≡ now config past lift.page) → ContentFits tells tells_plan config past a buffer home
-      → Landed tells tells_plan config past k x lift.told state_of a.page modify lies buffer' home'
+      → Landed tells tells_plan config past k x lift.seen state_of a.page modify lies buffer' home'
   lands_by r y landing reads state_of modify lies states marks not_reading less filled fits =
       let its = lifted tells tells_plan config past a lift fits_lift seat.0 n.0 y landing in
       landed tells tells_plan config past a buffer buffer' home home' fits maps touches k x r lift kept its.0.found (ap (λ (z : Flight). z.direction) (sym its.1) ∙ reads) view (subst (IsBlock config) its.0.block known) real size
-      (subst (λ (h : ℕ). PutsBuffer h (Some lift.buffer) buffer buffer') (sym its.0.frame) put) (subst (λ (d : BlockId). PutsBlock d (Some lift.told) home home') its.0.block back) state_of modify lies states marks not_reading less filled
+      (subst (λ (h : ℕ). PutsBuffer h (Some lift.buffer) buffer buffer') (sym its.0.frame) put) (subst (λ (d : BlockId). PutsBlock d (Some lift.seen) home home') its.0.block back) state_of modify lies states marks not_reading less filled
 
   pub in_ok_content : IsInOk past seat.0 n.0 k → lift.result ≡ good → ContentFits tells tells_plan config past a buffer home
       → ContentFits tells tells_plan config (record { seat = seat; what = what.InOk n k } ∷ past) (after_in_ok a n.0 (find (starts k) (open_flights past))) buffer' home'
@@ -179,7 +180,7 @@ module _ (tells tells_plan : Bool) (config : Config) (past : List Entry) (a : Pa
       filled : tells ≡ true → lift.buffer ≡ now config past lift.page
       filled told = result.2 told (sym ((view.flight).direction) ∙ ap is_reading reads) ∙ ap (λ (d : Direction). meant config past x.start lift.page d) reads
 
-      whole : (z : Pager) → z.page ≡ a.page → Landed tells tells_plan config past k x lift.told z.state z.page z.modify z.lies buffer' home' → ContentFits tells tells_plan config (e ∷ past) z buffer' home'
+      whole : (z : Pager) → z.page ≡ a.page → Landed tells tells_plan config past k x lift.seen z.state z.page z.modify z.lies buffer' home' → ContentFits tells tells_plan config (e ∷ past) z buffer' home'
       whole z page after = record { buffers = after.buffers; homes = after.homes; held = after.held; lying = after.lying; written = after.written e (λ g. refl); copied = after.copied; counted = after.counted (e ∷ past) (λ b apart. refl) result.0 result.1 }
 
       by : (r : Role) → legal.flight.direction ≡ reading r → ContentFits tells tells_plan config (e ∷ past) (after_read a x.frame x.block (reading r)) buffer' home'
@@ -208,10 +209,10 @@ module _ (tells tells_plan : Bool) (config : Config) (past : List Entry) (a : Pa
       result : FitsResult tells lift (counts_of x.block past) (meant config past x.start lift.page x.direction) (bad c d)
       result = subst (FitsResult tells lift (counts_of x.block past) (meant config past x.start lift.page x.direction)) landed_badly view.result
 
-      counts : HasCounts lift.told (counts_of x.block (e ∷ past)) 0 0
+      counts : HasCounts lift.seen (counts_of x.block (e ∷ past)) 0 0
       counts = record { reads = result.0.reads; writes = result.0.writes }
 
-      faults : (lift.told).faults ≡ last_count x.block (e ∷ past)
+      faults : (lift.seen).faults ≡ last_count x.block (e ∷ past)
       faults = sym result.2 ∙ sym (failed_own past k x d its.0.found)
 
       state_of : ℕ → FrameState
@@ -220,6 +221,6 @@ module _ (tells tells_plan : Bool) (config : Config) (past : List Entry) (a : Pa
       now_failed : state_of x.frame ≡ state.ReadError
       now_failed = at_number_same a.state x.frame state.ReadError
 
-      after : Landed tells tells_plan config past k x lift.told state_of a.page a.modify a.lies buffer' home'
+      after : Landed tells tells_plan config past k x lift.seen state_of a.page a.modify a.lies buffer' home'
       after = lands_by legal.role legal.flight legal.lands legal.reads state_of a.modify a.lies (at_number_other a.state x.frame state.ReadError) (λ h apart. refl) (ap (is state.Reading) now_failed) (λ g b there. there)
           (λ told has. absurd (false≢true (sym (ap has_bytes now_failed) ∙ has))) fits

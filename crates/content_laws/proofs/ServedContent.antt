@@ -3,6 +3,7 @@ use Rattle.std.proofs.Common.{◌≡◌, ℕ, ◌&&◌, ◌||◌, Bool, true, fa
 use Rattle.std.specs.List.{AllByRecursion}
 use Rattle.std.specs.Option.{option_map}
 use Rattle.std.proofs.lemmas.Bool.{and_parts, eqb-true, false_from_ne_true, false≢true, true≢false}
+use Rattle.vm_types.specs.BlockView.{BlockView}
 use Rattle.vm_types.specs.Same.{same_page}
 use Rattle.vm_types.specs.declared.names.Page.{Page}
 use Rattle.vm_types.specs.declared.names.Page.TheVariants.{Private, Shared}
@@ -35,13 +36,12 @@ use Rattle.pager_model.specs.Pager.{Pager}
 use Rattle.pager_model.specs.Served.{IsDelete, IsServed, after_served}
 use Rattle.pager_model.specs.Sets.{has_page}
 use Rattle.pager_model.specs.Spoken.{flat_after}
-use Rattle.pager_model.specs.Told.{Told}
 use Rattle.pager_rules.proofs.Basics.{pages_equal}
 use Rattle.pager_rules.proofs.Pages.{own_is}
 use Rattle.pager_rules.specs.Kept.{IsKept, one_if}
 use Rattle.vm_types.specs.Ring.{Ring}
 
-module _ (tells tells_plan : Bool) (config : Config) (past : List Entry) (a : Pager) (buffer : ℕ → Option (List ℕ)) (home : BlockId → Option Told) (fits : ContentFits tells tells_plan config past a buffer home)
+module _ (tells tells_plan : Bool) (config : Config) (past : List Entry) (a : Pager) (buffer : ℕ → Option (List ℕ)) (home : BlockId → Option BlockView) (fits : ContentFits tells tells_plan config past a buffer home)
     (kept : IsKept config (quiet (open_flights past)) a) (seat : Seat) (s : Service) (w : Answer) (legal : IsServed config past a seat.0 s w) where
   abbrev flights : List Flight
   flights = open_flights past
@@ -138,7 +138,7 @@ module _ (config : Config) (past : List Entry) (a : Pager) (p address pages : �
       ))
 
 -- ---- SERVED, by service and answer
-module _ (tells tells_plan : Bool) (config : Config) (past : List Entry) (a : Pager) (buffer : ℕ → Option (List ℕ)) (home : BlockId → Option Told) (kept : IsKept config (quiet (open_flights past)) a) (seat : Seat)
+module _ (tells tells_plan : Bool) (config : Config) (past : List Entry) (a : Pager) (buffer : ℕ → Option (List ℕ)) (home : BlockId → Option BlockView) (kept : IsKept config (quiet (open_flights past)) a) (seat : Seat)
     (idle : is_busy seat.0 (open_flights past) ≡ false) where
   pub served_content : (s : Service) (w : Answer) → IsServed config past a seat.0 s w → ContentFits tells tells_plan config past a buffer home
       → ContentFits tells tells_plan config (record { seat = seat; what = what.Served s w } ∷ past) (after_served config a seat.0 s w) buffer home

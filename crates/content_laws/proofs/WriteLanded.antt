@@ -3,6 +3,7 @@ use Rattle.std.proofs.Common.{◌≡◌, ◌⊎◌, ℕ, ◌<◌, ◌&&◌, Bool
 use Rattle.std.specs.List.{AllByRecursion}
 use Rattle.std.proofs.lemmas.Bool.{and_from, cases_eq, ne_eqb, true≢false}
 use Rattle.std.proofs.lemmas.Option.{same_Some}
+use Rattle.vm_types.specs.BlockView.{BlockView}
 use Rattle.vm_types.specs.Configuration.{IsBlock}
 use Rattle.vm_types.specs.Same.{same_page}
 use Rattle.vm_types.specs.declared.names.Page.{Page}
@@ -34,7 +35,7 @@ use Rattle.pager_model.specs.Maps.{shared_of}
 use Rattle.pager_model.specs.OutLanding.{IsOutFail, IsOutOk, after_out_fail, after_out_ok, lies_at}
 use Rattle.pager_model.specs.Pager.{Pager}
 use Rattle.pager_model.specs.Sets.{at_number, at_page}
-use Rattle.pager_model.specs.Told.{HasCounts, IsCountedBlock, Told, told_plan}
+use Rattle.pager_model.specs.CountedBlock.{HasCounts, IsCountedBlock, told_plan}
 use Rattle.pager_model.specs.Transfers.{is_write_on, starts, writes_on}
 use Rattle.pager_rules.proofs.Basics.{at_number_other, at_number_same, nat_eq_refl, pages_equal, same_page_refl}
 use Rattle.pager_rules.proofs.Lists.{all_filter, all_found, count_found, count_removed_no}
@@ -58,11 +59,11 @@ settled_state true true s is_not = refl
 settled_state true false s is_not = refl
 settled_state false m s is_not = is_not
 
-module _ (tells tells_plan : Bool) (config : Config) (past : List Entry) (a : Pager) (buffer : ℕ → Option (List ℕ)) (home home' : BlockId → Option Told) (fits : ContentFits tells tells_plan config past a buffer home)
+module _ (tells tells_plan : Bool) (config : Config) (past : List Entry) (a : Pager) (buffer : ℕ → Option (List ℕ)) (home home' : BlockId → Option BlockView) (fits : ContentFits tells tells_plan config past a buffer home)
     (k : ℕ) (x : Flight) (lift : Lift) (kept : IsKept config (quiet (open_flights past)) a) (found : find (starts k) (open_flights past) ≡ Some x) (writes : x.direction ≡ writing)
-    (fits_lift : FitsView tells (told_plan config tells_plan lift.block) x (flight_view config past a x lift.page) lift) (known : IsBlock config x.block) (real : is_real config lift.page ≡ true) (back : PutsBlock x.block (Some lift.told) home home')
+    (fits_lift : FitsView tells (told_plan config tells_plan lift.block) x (flight_view config past a x lift.page) lift) (known : IsBlock config x.block) (real : is_real config lift.page ≡ true) (back : PutsBlock x.block (Some lift.seen) home home')
     (modify : ℕ → Bool) (marks : (h : ℕ) → (x.frame ≡ h → ⊥) → modify h ≡ a.modify h) (clear : modify x.frame ≡ false → a.modify x.frame ≡ false)
-    (content : tells ≡ true → modify x.frame ≡ false → (lift.told).content ≡ Some (was config past x.start lift.page)) where
+    (content : tells ≡ true → modify x.frame ≡ false → (lift.seen).content ≡ Some (was config past x.start lift.page)) where
   abbrev flights : List Flight
   flights = open_flights past
 
@@ -116,14 +117,14 @@ module _ (tells tells_plan : Bool) (config : Config) (past : List Entry) (a : Pa
   writes_there h apart = count_removed_no (is_write_on h) (starts k) flights x found (starts_once past k) (ap (λ (c : Bool). c && not (is_reading x.direction)) (ne_eqb f h apart))
 
   landed_lying : tells ≡ true → HasLying config (now config past) lies a.page modify (without_flight k flights) home'
-  landed_lying told b y g real_g at there settled = go (at_home config home home' x.block (Some lift.told) back b y at)
+  landed_lying told b y g real_g at there settled = go (at_home config home home' x.block (Some lift.seen) back b y at)
     where
-      go : ((x.block ≡ b) × (Some lift.told ≡ Some y)) ⊎ ((x.block ≡ b → ⊥) × (home b ≡ Some y)) → y.content ≡ Some (now config past g)
+      go : ((x.block ≡ b) × (Some lift.seen ≡ Some y)) ⊎ ((x.block ≡ b → ⊥) × (home b ≡ Some y)) → y.content ≡ Some (now config past g)
       go (inl mine) =
           let own : g ≡ lift.page = lies_own g (there ∙ ap Some (sym mine.0)) in
           let clear_now : modify f ≡ false = (settled f (fits_lift.held_page ∙ ap Some (sym own))).0 in
           let same = all_found (IsWriting (now config past) (was config past) a.page a.modify) (starts k) flights x (fits.written told) found not_read (clear clear_now) lift.page fits_lift.held_page in
-          subst (λ (z : Told). z.content ≡ Some (now config past g)) (same_Some _ _ mine.1) (content told clear_now ∙ ap Some (sym same ∙ ap (now config past) (sym own)))
+          subst (λ (z : BlockView). z.content ≡ Some (now config past g)) (same_Some _ _ mine.1) (content told clear_now ∙ ap Some (sym same ∙ ap (now config past) (sym own)))
       go (inr theirs) =
           let before = lies_other b g theirs.0 there in
           fits.lying told b y g real_g theirs.1 before.0 (settled_move a.page a.page a.modify modify flights (without_flight k flights) f g (λ h apart. (refl, marks h apart, writes_there h apart))
@@ -136,14 +137,14 @@ module _ (tells tells_plan : Bool) (config : Config) (past : List Entry) (a : Pa
   landed_buffers = buffers_stay config a.state state_of buffer (at_number_field (is state.Reading) a.state f _ (settled_state (nat_eq (shares a.valid f) 0) (modify f) (a.state f) state_is.1 ∙ sym state_is.1)) fits.buffers
 
   landed_homes : HasHomes config (without_flight k flights) home'
-  landed_homes = homes_landed config home home' k x lift.told flights found (starts_once past k) (kept.blocks x.block).flights known back fits.homes
+  landed_homes = homes_landed config home home' k x lift.seen flights found (starts_once past k) (kept.blocks x.block).flights known back fits.homes
 
   landed_held : tells ≡ true → HasHeld (now config past) a.page state_of buffer
   landed_held told = held_move (now config past) (now config past) a.page a.page a.state state_of buffer buffer f (λ h apart. (refl, at_number_other a.state f _ h apart, refl, λ g holds. refl)) (λ g holds filled. fits.held told f g holds state_is.0) (fits.held told)
 
   -- a section's block that is written is of a shared section
   landed_copied : tells ≡ true → HasCopied config home'
-  landed_copied told = copied_put config home home' x.block (Some lift.told) back (λ s i y is here unshared. absurd (none s i is unshared write)) (fits.copied told)
+  landed_copied told = copied_put config home home' x.block (Some lift.seen) back (λ s i y is here unshared. absurd (none s i is unshared write)) (fits.copied told)
     where
       none : (s : SecId) (i : ℕ) → x.block ≡ block.Section s i → shared_of (slice_get config.sections s.0) ≡ false → FitsWrite x lift.page (page_view config a lift.page) (process_view config a) → ⊥
       none s i is unshared (inl section) = true≢false (sym (in_section config (quiet flights) a lift.page s i kept real (section.1 ∙ ap Some is)) ∙ unshared)
@@ -158,16 +159,16 @@ module _ (tells tells_plan : Bool) (config : Config) (past : List Entry) (a : Pa
       clear_before h clear_now (inl same) = subst (λ (i : ℕ). a.modify i ≡ false) same (clear (ap modify same ∙ clear_now))
       clear_before h clear_now (inr apart) = sym (marks h apart) ∙ clear_now
 
-  landed_counted : (longer : List Entry) → ((b : BlockId) → (x.block ≡ b → ⊥) → counts_of b longer ≡ counts_of b past) → HasCounts lift.told (counts_of x.block longer) 0 0 → (lift.told).faults ≡ last_count x.block longer → HasCounted tells_plan config longer home'
-  landed_counted longer others counts faults = counted_put config home home' x.block (Some lift.told) back tells_plan past longer others
-      (λ y is. subst (λ (z : Told). IsCountedBlock tells_plan config longer x.block z) (same_Some _ _ is) (record { counts = counts; faults = faults; plan = fits_lift.plan_is ∙ ap (told_plan config tells_plan) (sym (fits_lift.flight).block) })) fits.counted
+  landed_counted : (longer : List Entry) → ((b : BlockId) → (x.block ≡ b → ⊥) → counts_of b longer ≡ counts_of b past) → HasCounts lift.seen (counts_of x.block longer) 0 0 → (lift.seen).faults ≡ last_count x.block longer → HasCounted tells_plan config longer home'
+  landed_counted longer others counts faults = counted_put config home home' x.block (Some lift.seen) back tells_plan past longer others
+      (λ y is. subst (λ (z : BlockView). IsCountedBlock tells_plan config longer x.block z) (same_Some _ _ is) (record { counts = counts; faults = faults; plan = fits_lift.plan_is ∙ ap (told_plan config tells_plan) (sym (fits_lift.flight).block) })) fits.counted
 
-  pub landed : Landed tells tells_plan config past k x lift.told state_of a.page modify lies buffer home'
+  pub landed : Landed tells tells_plan config past k x lift.seen state_of a.page modify lies buffer home'
   landed = record { buffers = landed_buffers; homes = landed_homes; held = landed_held; lying = landed_lying; written = landed_written; copied = landed_copied; counted = landed_counted }
 
 -- ---- OUTOK and OUTFAIL, of the flight of a lift
-module _ (tells tells_plan : Bool) (config : Config) (past : List Entry) (a : Pager) (buffer : ℕ → Option (List ℕ)) (home home' : BlockId → Option Told) (kept : IsKept config (quiet (open_flights past)) a)
-    (seat : Seat) (n : Pfn) (lift : Lift) (fits_lift : FitsLift tells tells_plan config past a lift) (known : IsBlock config lift.block) (real : is_real config lift.page ≡ true) (back : PutsBlock lift.block (Some lift.told) home home') where
+module _ (tells tells_plan : Bool) (config : Config) (past : List Entry) (a : Pager) (buffer : ℕ → Option (List ℕ)) (home home' : BlockId → Option BlockView) (kept : IsKept config (quiet (open_flights past)) a)
+    (seat : Seat) (n : Pfn) (lift : Lift) (fits_lift : FitsLift tells tells_plan config past a lift) (known : IsBlock config lift.block) (real : is_real config lift.page ≡ true) (back : PutsBlock lift.block (Some lift.seen) home home') where
   abbrev x : Flight
   x = fits_lift.0
 
@@ -179,13 +180,13 @@ module _ (tells tells_plan : Bool) (config : Config) (past : List Entry) (a : Pa
 
   -- for the marks after it, if the block has the written bytes while the frame's mark is clear
   lands_by : (modify : ℕ → Bool) → IsOutOk past seat.0 n.0 k → ((h : ℕ) → (x.frame ≡ h → ⊥) → modify h ≡ a.modify h) → (modify x.frame ≡ false → a.modify x.frame ≡ false)
-      → (tells ≡ true → modify x.frame ≡ false → (lift.told).content ≡ Some (was config past x.start lift.page)) → ContentFits tells tells_plan config past a buffer home
-      → Landed tells tells_plan config past k x lift.told (at_number a.state x.frame (cond (nat_eq (shares a.valid x.frame) 0) (settled_to (modify x.frame)) (a.state x.frame))) a.page modify
+      → (tells ≡ true → modify x.frame ≡ false → (lift.seen).content ≡ Some (was config past x.start lift.page)) → ContentFits tells tells_plan config past a buffer home
+      → Landed tells tells_plan config past k x lift.seen (at_number a.state x.frame (cond (nat_eq (shares a.valid x.frame) 0) (settled_to (modify x.frame)) (a.state x.frame))) a.page modify
       (lies_at a.lies (modify x.frame) (Some lift.page) x.block) buffer home'
   lands_by modify legal marks clear content fits =
       let is = lifted tells tells_plan config past a lift fits_lift seat.0 n.0 legal.flight legal.lands in
       landed tells tells_plan config past a buffer home home' fits k x lift kept is.0.found (ap (λ (y : Flight). y.direction) (sym is.1) ∙ legal.writes) view (subst (IsBlock config) is.0.block known) real
-      (subst (λ (d : BlockId). PutsBlock d (Some lift.told) home home') is.0.block back) modify marks clear content
+      (subst (λ (d : BlockId). PutsBlock d (Some lift.seen) home home') is.0.block back) modify marks clear content
 
   pub out_ok_content : IsOutOk past seat.0 n.0 k → lift.result ≡ good → ContentFits tells tells_plan config past a buffer home
       → ContentFits tells tells_plan config (record { seat = seat; what = what.OutOk n k } ∷ past) (after_out_ok a n.0 (find (starts k) (open_flights past))) buffer home'
@@ -208,12 +209,12 @@ module _ (tells tells_plan : Bool) (config : Config) (past : List Entry) (a : Pa
       result = subst (FitsResult tells lift (counts_of x.block past) (meant config past x.start lift.page x.direction)) landed_well view.result
 
       -- what the block has now: the page's bytes of when the write began
-      content : tells ≡ true → a.modify x.frame ≡ false → (lift.told).content ≡ Some (was config past x.start lift.page)
+      content : tells ≡ true → a.modify x.frame ≡ false → (lift.seen).content ≡ Some (was config past x.start lift.page)
       content told clear =
           let writes_lift : lift.is_read ≡ false = sym ((view.flight).direction) ∙ ap is_reading writes in
           result.3 told writes_lift ∙ ap Some (view.buffer told writes_lift ∙ ap (λ (d : Direction). meant config past x.start lift.page d) writes)
 
-      after : Landed tells tells_plan config past k x lift.told (at_number a.state x.frame (cond (nat_eq (shares a.valid x.frame) 0) (settled_to (a.modify x.frame)) (a.state x.frame))) a.page a.modify
+      after : Landed tells tells_plan config past k x lift.seen (at_number a.state x.frame (cond (nat_eq (shares a.valid x.frame) 0) (settled_to (a.modify x.frame)) (a.state x.frame))) a.page a.modify
           (lies_at a.lies (a.modify x.frame) (Some lift.page) x.block) buffer home'
       after = lands_by a.modify legal (λ h apart. refl) (λ clear. clear) content fits
 
@@ -243,12 +244,12 @@ module _ (tells tells_plan : Bool) (config : Config) (past : List Entry) (a : Pa
       others : (b : BlockId) → (x.block ≡ b → ⊥) → counts_of b (e ∷ past) ≡ counts_of b past
       others b apart = failed_other past k x d b is.0.found apart
 
-      counts : HasCounts lift.told (counts_of x.block (e ∷ past)) 0 0
+      counts : HasCounts lift.seen (counts_of x.block (e ∷ past)) 0 0
       counts = record { reads = result.0.reads; writes = result.0.writes }
 
-      faults : (lift.told).faults ≡ last_count x.block (e ∷ past)
+      faults : (lift.seen).faults ≡ last_count x.block (e ∷ past)
       faults = sym result.2 ∙ sym (failed_own past k x d is.0.found)
 
-      after : Landed tells tells_plan config past k x lift.told (at_number a.state x.frame (cond (nat_eq (shares a.valid x.frame) 0) (settled_to (modify x.frame)) (a.state x.frame))) a.page modify
+      after : Landed tells tells_plan config past k x lift.seen (at_number a.state x.frame (cond (nat_eq (shares a.valid x.frame) 0) (settled_to (modify x.frame)) (a.state x.frame))) a.page modify
           (lies_at a.lies (modify x.frame) (Some lift.page) x.block) buffer home'
       after = lands_by modify legal.write (λ h apart. at_number_other a.modify x.frame true h apart) (λ clear. absurd (true≢false (sym marked_now ∙ clear))) (λ told clear. absurd (true≢false (sym marked_now ∙ clear))) fits

@@ -3,6 +3,7 @@ use Rattle.std.proofs.Common.{◌≡◌, ℕ, ◌<◌, ◌&&◌, Bool, true, fal
 use Rattle.std.proofs.lemmas.Bool.{false_from_ne_true}
 use Rattle.std.proofs.lemmas.List.{length-replicate}
 use Rattle.std.proofs.lemmas.Option.{none-some, same_Some}
+use Rattle.vm_types.specs.BlockView.{BlockView}
 use Rattle.vm_types.specs.declared.names.Page.{Page}
 use Rattle.vm_types.specs.declared.names.Page.TheVariants.{Private}
 use Rattle.vm_types.specs.declared.names.Pfn.{Pfn}
@@ -30,7 +31,6 @@ use Rattle.pager_model.specs.Maps.{Map, Mapped, first_bytes, page_number, proc}
 use Rattle.pager_model.specs.Pager.{Pager}
 use Rattle.pager_model.specs.Sets.{has_page}
 use Rattle.pager_model.specs.Spoken.{flat_after}
-use Rattle.pager_model.specs.Told.{Told}
 use Rattle.pager_model.specs.Zero.{IsDemandZero, IsZero, after_zero}
 use Rattle.pager_rules.proofs.Basics.{at_number_other, at_number_same}
 use Rattle.pager_rules.proofs.Put.{free_row, head_counts}
@@ -41,7 +41,7 @@ untouched_bytes : (config : Config) (flat : FlatState) (q : Proc) (v : ℕ) (o :
 untouched_bytes config flat q v None demand out = absurd demand
 untouched_bytes config flat q v (Some m) demand out = ap₂ (λ (t : Bool) (o : Origin). cond (true && not t) (first_bytes config o) (flat.stored (Private q v))) out demand
 
-module _ (tells tells_plan : Bool) (config : Config) (past : List Entry) (a : Pager) (buffer buffer' : ℕ → Option (List ℕ)) (home : BlockId → Option Told) where
+module _ (tells tells_plan : Bool) (config : Config) (past : List Entry) (a : Pager) (buffer buffer' : ℕ → Option (List ℕ)) (home : BlockId → Option BlockView) where
   pub zero_content : (seat : Seat) (address : Addr) (f : Pfn) → IsKept config (quiet (open_flights past)) a → a.map ≡ (flat_after config past).map → a.touched ≡ (flat_after config past).touched → IsZero config a seat.0 address.0 f.0
       → PutsBuffer f.0 (Some (replicate 512 0)) buffer buffer' → ContentFits tells tells_plan config past a buffer home
       → ContentFits tells tells_plan config (record { seat = seat; what = what.Zero address f } ∷ past) (after_zero config a seat.0 address.0 f.0) buffer' home

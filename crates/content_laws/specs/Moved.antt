@@ -1,5 +1,6 @@
 -- What each kind of entry does to the buffers of frames and to the blocks at home. This project's own.
 use Rattle.std.specs.Prelude.{◌≡◌, ℕ, Bool, List, Option, Some, None, length, replicate}
+use Rattle.vm_types.specs.BlockView.{BlockView}
 use Rattle.vm_types.specs.declared.names.BlockId.{BlockId}
 use Rattle.vm_types.specs.declared.config.Config.{Config}
 use Rattle.vm_types.specs.declared.reference.Ref.{Ref}
@@ -12,7 +13,6 @@ use Rattle.pager_model.specs.Flat.{bytes_after, offset_in_page}
 use Rattle.pager_model.specs.Lookups.{entry_of}
 use Rattle.pager_model.specs.Maps.{page_number}
 use Rattle.pager_model.specs.Pager.{Pager, Valid}
-use Rattle.pager_model.specs.Told.{Told}
 
 -- the frame of a reference's valid entry, and the bytes of its buffer
 pub record FindsBytes (a : Pager) (p : ℕ) (r : Ref) (buffer : ℕ → Option (List ℕ)) (bytes : List ℕ) : Type 0 where
@@ -27,21 +27,21 @@ pub record AppliesOperation (a : Pager) (p : ℕ) (r : Ref) (buffer buffer' : �
   pub put : PutsBuffer (finds.entry).frame (Some (bytes_after r.op bytes (offset_in_page r))) buffer buffer'
 
 -- a lift with this number and result lands: its block comes home
-pub record BringsBlock (tells tells_plan : Bool) (config : Config) (past : List Entry) (a : Pager) (k : ℕ) (result : Result) (home home' : BlockId → Option Told) : Type 0 where
+pub record BringsBlock (tells tells_plan : Bool) (config : Config) (past : List Entry) (a : Pager) (k : ℕ) (result : Result) (home home' : BlockId → Option BlockView) : Type 0 where
   pub lift : Lift
   pub fits : FitsLift tells tells_plan config past a lift
   pub start : lift.start ≡ k
   pub ended : lift.result ≡ result
-  pub back : PutsBlock lift.block (Some lift.told) home home'
+  pub back : PutsBlock lift.block (Some lift.seen) home home'
 
 -- and of a read the buffer too, with the bytes that the lift has
-pub record BringsBuffer (tells tells_plan : Bool) (config : Config) (past : List Entry) (a : Pager) (f k : ℕ) (result : Result) (buffer buffer' : ℕ → Option (List ℕ)) (home home' : BlockId → Option Told) : Type 0 where
+pub record BringsBuffer (tells tells_plan : Bool) (config : Config) (past : List Entry) (a : Pager) (f k : ℕ) (result : Result) (buffer buffer' : ℕ → Option (List ℕ)) (home home' : BlockId → Option BlockView) : Type 0 where
   pub block : BringsBlock tells tells_plan config past a k result home home'
   pub size : length (block.lift).buffer ≡ 512
   pub put : PutsBuffer f (Some (block.lift).buffer) buffer buffer'
 
 -- by its kind: an operation is applied, a page is zeroed, a transfer begins or lands, or nothing moves
-abbrev pub Moves : Bool → Bool → Config → List Entry → Pager → ℕ → What → (ℕ → Option (List ℕ)) → (ℕ → Option (List ℕ)) → (BlockId → Option Told) → (BlockId → Option Told) → Type 0
+abbrev pub Moves : Bool → Bool → Config → List Entry → Pager → ℕ → What → (ℕ → Option (List ℕ)) → (ℕ → Option (List ℕ)) → (BlockId → Option BlockView) → (BlockId → Option BlockView) → Type 0
 Moves tells tells_plan config past a p (what.Done r answer) buffer buffer' home home' = AppliesOperation a p r buffer buffer' × (home' ≡ home)
 Moves tells tells_plan config past a p (what.Zero address f) buffer buffer' home home' = PutsBuffer f.0 (Some (replicate 512 0)) buffer buffer' × (home' ≡ home)
 Moves tells tells_plan config past a p (what.In f b role) buffer buffer' home home' = PutsBuffer f.0 None buffer buffer' × PutsBlock b None home home'

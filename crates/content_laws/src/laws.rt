@@ -25,7 +25,7 @@ pub fn content_stays()
     ensures entries { ContentStays }
 {}
 
-/// If blocks tell their content, what a legal reference reads from its frame's buffer is the flat
+/// If the bytes of blocks are known, what a legal reference reads from its frame's buffer is the flat
 /// machine's reply.
 pub fn done_is_right()
     ensures { DoneIsRight }
@@ -45,7 +45,7 @@ pub fn carried_fits()
     ensures counted { BadIsCounted }
 {}
 
-/// When no flight is open, each block is home and counted. If blocks tell their content, shared pages
+/// When no flight is open, each block is home and counted. If the bytes of blocks are known, shared pages
 /// that aren't dirty are written back, and blocks of copy on reference sections have their first bytes.
 pub fn blocks_are_home()
     ensures home { BlocksAreHome }

@@ -1,6 +1,7 @@
 pub mod Causes
 pub mod Told
 pub mod Body
+pub mod DepotView
 pub mod MemoryBlock
 pub mod MemoryDepot
 pub mod PlainBlock

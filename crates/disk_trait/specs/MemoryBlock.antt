@@ -1,5 +1,6 @@
 -- What a block in memory shows. Source: this project's own.
-use Rattle.std.specs.Prelude.{ℕ, ◌+◌, List, Contains}
+use Rattle.std.specs.Prelude.{ℕ, ◌+◌, List, Some, Contains}
+use Rattle.vm_types.specs.BlockView.{BlockView}
 use Rattle.disk_trait.specs.declared.memory_block.MemoryBlock.{MemoryBlock}
 
 -- its bytes
@@ -21,6 +22,10 @@ writes_of block = block.writes
 -- how often it failed
 abbrev pub faults_of : MemoryBlock → ℕ
 faults_of block = block.body.faults
+
+-- what is seen of it: all is known
+abbrev pub seen_of : MemoryBlock → BlockView
+seen_of block = record { content = Some (bytes_of block); plan = Some (plan_of block); reads = reads_of block; writes = writes_of block; faults = faults_of block }
 
 -- its next call fails
 abbrev pub IsDueToFail : MemoryBlock → Type 0

@@ -1,12 +1,12 @@
--- What a block may tell of itself: some types of block tell it, others don't. Source: this
+-- What may be known of a block: of some types of block it is, of others it isn't. Source: this
 -- project's own.
 use Rattle.std.specs.Prelude.{ℕ, ◌≡◌, List, length, Bool, true, false, Option, Some, None}
 
--- these numbers, where the type tells them
+-- these numbers, where they are known
 abbrev pub told : Bool → List ℕ → Option (List ℕ)
 told true numbers = Some numbers
 told false numbers = None
 
--- any 512 bytes, where the type tells them
+-- any 512 bytes, where they are known
 abbrev pub IsAnyContent : Bool → Option (List ℕ) → Type 0
 IsAnyContent tells content = (bytes : List ℕ) × (length bytes ≡ 512) × (content ≡ told tells bytes)

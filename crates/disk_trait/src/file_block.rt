@@ -7,8 +7,8 @@ use std::io::{Read, Write};
 use std::rt::Files;
 use vm_types::Failed;
 
-/// A block that is a file, opened and closed at each call. It tells neither its content nor its
-/// plan: that the file gives back what was written is up to the system.
+/// A block that is a file, opened and closed at each call. Neither its bytes nor its plan are
+/// known: that the file gives back what was written is up to the system.
 #[derive(Drop)]
 pub struct FileBlock<R: Files> {
     runtime: R,
@@ -59,19 +59,9 @@ impl<R: Files + Drop + Send> Block for FileBlock<R> {
     ghost use Rattle.std.proofs.Math.Nat.{le_trans, lt_of_le_of_lt};
     ghost use Rattle.std.proofs.lemmas.List.{length-replicate};
 
-    ghost tells_content = { false };
+    ghost tells = { record { content = false; plan = false } };
 
-    ghost tells_plan = { false };
-
-    ghost content = { λ _. None };
-
-    ghost plan = { λ _. None };
-
-    ghost reads = { λ b. b.reads };
-
-    ghost writes = { λ b. b.writes };
-
-    ghost faults = { λ b. b.faults };
+    ghost seen = { λ b. record { content = None; plan = None; reads = b.reads; writes = b.writes; faults = b.faults } };
 
     ghost any_content = { λ _. (replicate 512 0, length-replicate {A = ℕ} 512 0, refl) };
 

@@ -1,5 +1,6 @@
 ghost use Rattle.std.specs.Prelude.{◌≡◌, ◌<◌, ◌++◌, [], IfOk, OnErr, OnOk, length};
 
+use crate::block::Block;
 use crate::depot::{Depot, MakeFault};
 use crate::file_block::{FileBlock, create_file};
 use std::alloc::{AllocError, Global};
@@ -25,8 +26,7 @@ impl<R: Files + Clone + Drop + Send> FileDepot<R> {
     /// # Errors
     /// `NoMemory` for want of memory.
     pub fn new(alloc: Global, runtime: R, folder: &str) -> Result<FileDepot<R>, NoMemory>
-        ensures retired { IfOk result (λ d. ⟦<FileDepot<R> as Depot>⟧.retired d ≡ []) }
-        ensures faults { IfOk result (λ d. ⟦<FileDepot<R> as Depot>⟧.faults d ≡ 0) }
+        ensures { IfOk result (λ d. ⟦<FileDepot<R> as Depot>⟧.seen d ≡ record { tells = ⟦<FileBlock<R> as Block>⟧.tells; retired = []; failures = 0 }) }
     {
         Ok(FileDepot {
             alloc,
@@ -48,11 +48,14 @@ fn path_of(alloc: Global, folder: &str, id: BlockId) -> Result<String, AllocErro
 }
 
 impl<R: Files + Clone + Drop + Send> Depot for FileDepot<R> {
+    ghost use Rattle.std.specs.Prelude.{refl};
+    ghost use Rattle.disk_trait.specs.DepotView.{depot_view};
+
     type Block = FileBlock<R>;
 
-    ghost retired = { λ d. d.retired.items };
+    ghost seen = { λ d. depot_view ⟦<FileBlock<R> as Block>⟧.seen ⟦<FileBlock<R> as Block>⟧.tells d.retired.items d.faults };
 
-    ghost faults = { λ d. d.faults };
+    ghost known = { λ _. refl };
 
     fn make(
         &mut self,

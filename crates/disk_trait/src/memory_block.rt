@@ -1,4 +1,4 @@
-ghost use Rattle.std.specs.Prelude.{◌≡◌, ◌+◌, ◌^◌, ◌<◌, ◌≤◌, ◌++◌, ◌↔◌, length, take, drop, Some, true, refl, IsErr, OnOk, OnErr};
+ghost use Rattle.std.specs.Prelude.{◌≡◌, ◌+◌, ◌^◌, ◌<◌, ◌≤◌, ◌++◌, ◌↔◌, length, take, drop, true, refl, IsErr, OnOk, OnErr};
 
 use crate::block::Block;
 use crate::body::Body;
@@ -60,23 +60,13 @@ impl MemoryBlock {
 }
 
 impl Block for MemoryBlock {
-    ghost use Rattle.disk_trait.specs.MemoryBlock.{bytes_of, plan_of, reads_of, writes_of, faults_of, IsDueToFail};
+    ghost use Rattle.disk_trait.specs.MemoryBlock.{bytes_of, plan_of, reads_of, writes_of, faults_of, seen_of, IsDueToFail};
     ghost use Rattle.std.proofs.Common.{lit<};
     ghost use Rattle.std.proofs.Math.Nat.{le_trans, lt_of_le_of_lt};
 
-    ghost tells_content = { true };
+    ghost tells = { record { content = true; plan = true } };
 
-    ghost tells_plan = { true };
-
-    ghost content = { λ b. Some (bytes_of b) };
-
-    ghost plan = { λ b. Some (plan_of b) };
-
-    ghost reads = { reads_of };
-
-    ghost writes = { writes_of };
-
-    ghost faults = { faults_of };
+    ghost seen = { seen_of };
 
     ghost any_content = { λ b. (bytes_of b, b.whole, refl) };
 

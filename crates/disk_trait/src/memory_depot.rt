@@ -1,5 +1,6 @@
 ghost use Rattle.std.specs.Prelude.{◌≡◌, ◌+◌, ◌-◌, ◌^◌, ◌<◌, ◌≤◌, ◌↔◌, [], ◌∷◌, ◌++◌, length, min, map, IsSome, IfSome, IfOk, IsErrOf, OnOk, OnErr, Contains, replicate};
 
+use crate::block::Block;
 use crate::body::Body;
 use crate::depot::{Depot, MakeFault};
 use crate::memory_block::MemoryBlock;
@@ -112,13 +113,15 @@ fn find_block(blocks: &[(BlockId, MemoryBlock)], id: BlockId) -> Option<&MemoryB
 }
 
 impl Depot for MemoryDepot {
+    ghost use Rattle.std.specs.Prelude.{refl};
+    ghost use Rattle.disk_trait.specs.DepotView.{depot_view};
     ghost use Rattle.disk_trait.specs.MemoryBlock.{bytes_of, plan_of, reads_of, writes_of, faults_of};
 
     type Block = MemoryBlock;
 
-    ghost retired = { λ d. d.retired };
+    ghost seen = { λ d. depot_view ⟦<MemoryBlock as Block>⟧.seen ⟦<MemoryBlock as Block>⟧.tells d.retired d.faults };
 
-    ghost faults = { λ d. d.faults };
+    ghost known = { λ _. refl };
 
     fn make(&mut self, id: BlockId, bytes: &[u8], fails: &[u32]) -> Result<MemoryBlock, MakeFault>
         requires { length bytes.now ≡ 512 }

@@ -1,5 +1,6 @@
 ghost use Rattle.std.specs.Prelude.{◌≡◌, ◌<◌, [], ◌∷◌, ◌++◌, OnErr, OnOk, length};
 
+use crate::block::Block;
 use crate::depot::{Depot, MakeFault};
 use crate::plain_block::PlainBlock;
 use std::alloc::Global;
@@ -36,11 +37,14 @@ impl NeverFails {
 }
 
 impl Depot for NeverFails {
+    ghost use Rattle.std.specs.Prelude.{refl};
+    ghost use Rattle.disk_trait.specs.DepotView.{depot_view};
+
     type Block = PlainBlock;
 
-    ghost retired = { λ d. d };
+    ghost seen = { λ d. depot_view ⟦<PlainBlock as Block>⟧.seen ⟦<PlainBlock as Block>⟧.tells d 0 };
 
-    ghost faults = { λ _. 0 };
+    ghost known = { λ _. refl };
 
     fn make(
         &mut self,

@@ -1,10 +1,10 @@
-ghost use Rattle.std.specs.Prelude.{◌≡◌, ◌^◌, ◌<◌, length, Some, None, true, false, refl, IfOk};
+ghost use Rattle.std.specs.Prelude.{◌≡◌, ◌^◌, ◌<◌, length, true, false, refl, IfOk};
 
 use crate::block::Block;
 use std::alloc::Global;
 use vm_types::{Failed, NoMemory};
 
-/// A block in memory that never fails, and tells no plan.
+/// A block in memory that never fails. Its plan is not known.
 #[derive(Drop)]
 pub struct PlainBlock {
     bytes: Vec<u8>,
@@ -37,21 +37,11 @@ impl PlainBlock {
 
 impl Block for PlainBlock {
     ghost use Rattle.std.proofs.Common.{lit<};
-    ghost use Rattle.disk_trait.specs.PlainBlock.{bytes_of, reads_of, writes_of};
+    ghost use Rattle.disk_trait.specs.PlainBlock.{bytes_of, seen_of};
 
-    ghost tells_content = { true };
+    ghost tells = { record { content = true; plan = false } };
 
-    ghost tells_plan = { false };
-
-    ghost content = { λ b. Some (bytes_of b) };
-
-    ghost plan = { λ _. None };
-
-    ghost reads = { reads_of };
-
-    ghost writes = { writes_of };
-
-    ghost faults = { λ _. 0 };
+    ghost seen = { seen_of };
 
     ghost any_content = { λ b. (bytes_of b, b.whole, refl) };
 

@@ -1,6 +1,7 @@
 -- The reads of a cluster, one after another: what is made so far and what is left make the whole.
-use Rattle.std.proofs.Common.{◌≡◌, ℕ, suc, ◌+◌, ◌-◌, ◌*◌, ◌<◌, ◌≤◌, Bool, List, [], ◌∷◌, ◌++◌, Option, Some, None, length, map, refl, sym, ap, ◌∙◌, subst, arith}
+use Rattle.std.proofs.Common.{◌≡◌, ℕ, suc, ◌+◌, ◌-◌, ◌*◌, ◌<◌, ◌≤◌, List, [], ◌∷◌, ◌++◌, Option, Some, None, length, map, refl, sym, ap, ◌∙◌, subst, arith}
 use Rattle.std.specs.List.{range_with_len}
+use Rattle.vm_types.specs.BlockView.{BlockView, Tells}
 use Rattle.vm_types.specs.Configuration.{IsWellFormed}
 use Rattle.vm_types.specs.declared.config.Config.{Config}
 use Rattle.vm_types.specs.declared.names.Addr.{Addr}
@@ -77,9 +78,9 @@ module _ (s : History) (seat : Seat) (r : Ref) (g : Page) (b : BlockId) where
     places = ap (λ (x : CarrierView _). map place_of x.lifts ++ places_in made_all) none;
   }
 
-  module _ {B : Type 0} {content plan : B → Option (List ℕ)} {reads writes faults : B → ℕ} {tells tells_plan : Bool} where
-    pub gives_reads : (s' : History) (old c : CarrierView B) → 1 ≤ length (pager s).free → IsReading (pager s).page (added_each seat made_all s) made_all seat [] s' c → HasBegunLifts content plan reads writes faults tells tells_plan s' seat c
-        → Gives content plan reads writes faults tells tells_plan s s' seat r (at_frame s seat r g (Some b)) Carry old c
+  module _ {B : Type 0} {seen : B → BlockView} {tells : Tells} where
+    pub gives_reads : (s' : History) (old c : CarrierView B) → 1 ≤ length (pager s).free → IsReading (pager s).page (added_each seat made_all s) made_all seat [] s' c → HasBegunLifts seen tells s' seat c
+        → Gives seen tells s s' seat r (at_frame s seat r g (Some b)) Carry old c
     gives_reads s' old c some is has =
         let done = read_all (pager s).page (added_each seat made_all s) made_all seat s' c is in
         gives_as (at_frame s seat r g (Some b)) (given made_all next_carry) (frame_is some) (record {
@@ -135,22 +136,22 @@ module _ (s₀ : History) (seat : Seat) (r : Ref) (g : Page) (b : BlockId) where
 pub no_lifts : {B : Type 0} (c : CarrierView B) (seat : Seat) → c ≡ empty seat → length c.lifts ≡ 0
 no_lifts c seat none = ap (λ (x : CarrierView _). length x.lifts) none
 
-module _ {B : Type 0} {content plan : B → Option (List ℕ)} {reads writes faults : B → ℕ} {tells tells_plan : Bool} where
-  pub none_begun : (s : History) (c : CarrierView B) (seat : Seat) → c ≡ empty seat → HasBegunLifts content plan reads writes faults tells tells_plan s seat c
-  none_begun s c seat none = subst (λ (x : CarrierView B). HasBegunLifts content plan reads writes faults tells tells_plan s seat x) (sym none) (record { own = refl; begun = tt })
+module _ {B : Type 0} {seen : B → BlockView} {tells : Tells} where
+  pub none_begun : (s : History) (c : CarrierView B) (seat : Seat) → c ≡ empty seat → HasBegunLifts seen tells s seat c
+  none_begun s c seat none = subst (λ (x : CarrierView B). HasBegunLifts seen tells s seat x) (sym none) (record { own = refl; begun = tt })
 
 -- ---- how far the reads came: the places before k of n were read
-pub record IsPartRead {B : Type 0} (content plan : B → Option (List ℕ)) (reads writes faults : B → ℕ) (tells tells_plan : Bool) (s₀ : History) (seat : Seat) (r : Ref) (g : Page) (b : BlockId) (k n : ℕ) (s : History) (c : CarrierView B) : Type 0 where
+pub record IsPartRead {B : Type 0} (seen : B → BlockView) (tells : Tells) (s₀ : History) (seat : Seat) (r : Ref) (g : Page) (b : BlockId) (k n : ℕ) (s : History) (c : CarrierView B) : Type 0 where
   pub reading : IsReadingOf s₀ seat r g b (targets_of s₀ seat r g b k n) s c
-  pub begun : HasBegunLifts content plan reads writes faults tells tells_plan s seat c
+  pub begun : HasBegunLifts seen tells s seat c
   pub few : length c.lifts ≤ k
   pub paid : owed s.past + 64 ≤ s.spare + 4 * k
 
-module _ {B : Type 0} {content plan : B → Option (List ℕ)} {reads writes faults : B → ℕ} {tells tells_plan : Bool} (s₀ : History) (seat : Seat) (r : Ref) (g : Page) (b : BlockId) (n : ℕ) where
+module _ {B : Type 0} {seen : B → BlockView} {tells : Tells} (s₀ : History) (seat : Seat) (r : Ref) (g : Page) (b : BlockId) (n : ℕ) where
   pub part_first : (s : History) (c₀ c : CarrierView B) (start : Addr) → IsReadingOf s₀ seat r g b (fault_at s₀ seat r g b start ∷ targets_of s₀ seat r g b 1 n) s₀ c₀ → s ≡ added_each seat (one_read s₀ b (role.Fault (proc seat.0) start)) s₀
       → map place_of c.lifts ≡ map place_of c₀.lifts ++ places_in (one_read s₀ b (role.Fault (proc seat.0) start)) → IsWellFormed s₀.config → IsRun s₀.config s₀.past
-      → HasBegunLifts content plan reads writes faults tells tells_plan s seat c → length c₀.lifts ≡ 0 → length c.lifts ≤ length c₀.lifts + 1 → owed s₀.past + 64 ≤ s₀.spare → owed s.past + s₀.spare ≤ owed s₀.past + s.spare + 4
-      → IsPartRead content plan reads writes faults tells tells_plan s₀ seat r g b 1 n s c
+      → HasBegunLifts seen tells s seat c → length c₀.lifts ≡ 0 → length c.lifts ≤ length c₀.lifts + 1 → owed s₀.past + 64 ≤ s₀.spare → owed s.past + s₀.spare ≤ owed s₀.past + s.spare + 4
+      → IsPartRead seen tells s₀ seat r g b 1 n s c
   part_first s c₀ c start is made each formed run begun none few room paid = record {
     reading = reading_next s₀ seat r g b (fault_at s₀ seat r g b start) (targets_of s₀ seat r g b 1 n) s₀ s c₀ c is made each formed run;
     begun = begun;
@@ -158,24 +159,24 @@ module _ {B : Type 0} {content plan : B → Option (List ℕ)} {reads writes fau
     paid = omega (arith, room, paid);
   }
 
-  module _ (k : ℕ) (s s' s'' : History) (c c' c'' : CarrierView B) (is : IsPartRead content plan reads writes faults tells tells_plan s₀ seat r g b k n s c) (less : k < n) where
+  module _ (k : ℕ) (s s' s'' : History) (c c' c'' : CarrierView B) (is : IsPartRead seen tells s₀ seat r g b k n s c) (less : k < n) where
     pub part_some : (x : Page) (d : BlockId) → Some x ≡ following s₀.config (pager s₀) g b k → d ≡ block_after b k → s' ≡ added_each seat (one_read s d (role.Near x)) s
         → map place_of c'.lifts ≡ map place_of c.lifts ++ places_in (one_read s d (role.Near x)) → IsWellFormed s.config → IsRun s.config s.past
-        → HasBegunLifts content plan reads writes faults tells tells_plan s' seat c' → length c'.lifts ≤ length c.lifts + 1 → owed s'.past + s.spare ≤ owed s.past + s'.spare + 4
-        → s'' ≡ s' → c'' ≡ c' → IsPartRead content plan reads writes faults tells tells_plan s₀ seat r g b (k + 1) n s'' c''
+        → HasBegunLifts seen tells s' seat c' → length c'.lifts ≤ length c.lifts + 1 → owed s'.past + s.spare ≤ owed s.past + s'.spare + 4
+        → s'' ≡ s' → c'' ≡ c' → IsPartRead seen tells s₀ seat r g b (k + 1) n s'' c''
     part_some x d page there made each formed run begun few paid same same_carrier =
-        subst (λ (y : History). IsPartRead content plan reads writes faults tells tells_plan s₀ seat r g b (k + 1) n y c'') (sym same)
-        (subst (λ (y : CarrierView B). IsPartRead content plan reads writes faults tells tells_plan s₀ seat r g b (k + 1) n s' y) (sym same_carrier) (record {
+        subst (λ (y : History). IsPartRead seen tells s₀ seat r g b (k + 1) n y c'') (sym same)
+        (subst (λ (y : CarrierView B). IsPartRead seen tells s₀ seat r g b (k + 1) n s' y) (sym same_carrier) (record {
           reading = reading_next s₀ seat r g b (near s₀ seat r g b d x) (targets_of s₀ seat r g b (k + 1) n) s s' c c' (reading_near s₀ seat r g b s c k n x d is.reading less page there) made each formed run;
           begun = begun;
           few = let so_far = is.few in omega (arith, so_far, few);
           paid = let so_far = is.paid in omega (arith, so_far, paid);
         }))
 
-    pub part_none : None ≡ following s₀.config (pager s₀) g b k → s'' ≡ s → c'' ≡ c → IsPartRead content plan reads writes faults tells tells_plan s₀ seat r g b (k + 1) n s'' c''
+    pub part_none : None ≡ following s₀.config (pager s₀) g b k → s'' ≡ s → c'' ≡ c → IsPartRead seen tells s₀ seat r g b (k + 1) n s'' c''
     part_none page same same_carrier =
-        subst (λ (y : History). IsPartRead content plan reads writes faults tells tells_plan s₀ seat r g b (k + 1) n y c'') (sym same)
-        (subst (λ (y : CarrierView B). IsPartRead content plan reads writes faults tells tells_plan s₀ seat r g b (k + 1) n s y) (sym same_carrier) (record {
+        subst (λ (y : History). IsPartRead seen tells s₀ seat r g b (k + 1) n y c'') (sym same)
+        (subst (λ (y : CarrierView B). IsPartRead seen tells s₀ seat r g b (k + 1) n s y) (sym same_carrier) (record {
           reading = reading_skip s₀ seat r g b s c k n is.reading less page;
           begun = is.begun;
           few = let so_far = is.few in omega (arith, so_far);

@@ -1,7 +1,8 @@
 -- A page that is in a frame, or out.
-use Rattle.std.proofs.Common.{◌≡◌, ℕ, ◌+◌, ◌<◌, ◌≤◌, ◌&&◌, Bool, true, false, cond, not, List, [], ◌∷◌, Option, Some, None, slice_get, refl, sym, ap, ◌∙◌, subst, arith}
+use Rattle.std.proofs.Common.{◌≡◌, ◌+◌, ◌<◌, ◌≤◌, ◌&&◌, Bool, true, false, cond, not, List, [], ◌∷◌, Option, Some, None, slice_get, refl, sym, ap, ◌∙◌, subst, arith}
 use Rattle.std.specs.Option.{option_map}
 use Rattle.std.proofs.lemmas.Option.{none-some, same_Some}
+use Rattle.vm_types.specs.BlockView.{BlockView, Tells}
 use Rattle.vm_types.specs.Configuration.{IsBlock}
 use Rattle.pfn_database.specs.declared.row.Row.{Row}
 use Rattle.vm_types.specs.declared.names.Addr.{Addr}
@@ -119,10 +120,10 @@ module _ (s : History) (seat : Seat) (r : Ref) (ready : IsReadySeat s seat) wher
             let m = may_as s seat _ _ given_is may in
             may_answer_then s s' seat entry r made m.legal.1.0 refl refl m.room
 
-        pub gives_back : {B : Type 0} {content plan : B → Option (List ℕ)} {reads writes faults : B → ℕ} {tells tells_plan : Bool}
+        pub gives_back : {B : Type 0} {seen : B → BlockView} {tells : Tells}
             → s' ≡ added s (entry_by seat entry) → (after : History) (shown : Reply) (c : CarrierView B) → after ≡ added s' (entry_by seat (what.Done r shown))
-            → (tells ≡ true → shown ≡ flat_reply s'.config (flat_after s'.config s'.past) seat.0 r)
-            → Gives content plan reads writes faults tells tells_plan s after seat r (at_held s seat r g) (Answered shown) c c
+            → (tells.content ≡ true → shown ≡ flat_reply s'.config (flat_after s'.config s'.past) seat.0 r)
+            → Gives seen tells s after seat r (at_held s seat r g) (Answered shown) c c
         gives_back first after shown c made flat = answered_then s s' after seat entry r shown c _ given_is first refl refl made flat
 
 -- ---- the free list's head

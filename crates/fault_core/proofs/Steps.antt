@@ -1,6 +1,7 @@
 -- What a step leaves, by what was given for it.
-use Rattle.std.proofs.Common.{◌≡◌, ℕ, ◌+◌, ◌≤◌, Bool, true, false, List, [], ◌∷◌, Option, Some, None, refl, sym, ap, ◌∙◌, subst, arith}
+use Rattle.std.proofs.Common.{◌≡◌, ℕ, ◌+◌, ◌≤◌, Bool, true, false, [], ◌∷◌, Option, Some, None, refl, sym, ap, ◌∙◌, subst, arith}
 use Rattle.std.proofs.lemmas.Option.{none-some}
+use Rattle.vm_types.specs.BlockView.{BlockView, Tells}
 use Rattle.vm_types.specs.declared.names.Addr.{Addr}
 use Rattle.vm_types.specs.declared.names.Page.{Page}
 use Rattle.vm_types.specs.declared.names.Pfn.{Pfn}
@@ -33,12 +34,12 @@ abbrev pub IsFlat : Bool → History → Seat → Ref → Reply → Type 0
 IsFlat tells s seat r shown = tells ≡ true → shown ≡ flat_reply s.config (flat_after s.config s.past) seat.0 r
 
 -- ---- what is left
-module _ {B : Type 0} {content plan : B → Option (List ℕ)} {reads writes faults : B → ℕ} {tells tells_plan : Bool} where
-  pub gives_as : {before after : History} {seat : Seat} {r : Ref} {next : Next} {old new : CarrierView B} (g g' : GivenNext) → g ≡ g' → Gives content plan reads writes faults tells tells_plan before after seat r g' next old new → Gives content plan reads writes faults tells tells_plan before after seat r g next old new
-  gives_as {before} {after} {seat} {r} {next} {old} {new} g g' same is = subst (λ (x : GivenNext). Gives content plan reads writes faults tells tells_plan before after seat r x next old new) (sym same) is
+module _ {B : Type 0} {seen : B → BlockView} {tells : Tells} where
+  pub gives_as : {before after : History} {seat : Seat} {r : Ref} {next : Next} {old new : CarrierView B} (g g' : GivenNext) → g ≡ g' → Gives seen tells before after seat r g' next old new → Gives seen tells before after seat r g next old new
+  gives_as {before} {after} {seat} {r} {next} {old} {new} g g' same is = subst (λ (x : GivenNext). Gives seen tells before after seat r x next old new) (sym same) is
 
   -- nothing is made
-  pub waits : (s : History) (seat : Seat) (r : Ref) (reason : Reason) (c : CarrierView B) (g : GivenNext) → g ≡ gives_again reason → Gives content plan reads writes faults tells tells_plan s s seat r g (Again (again_of reason)) c c
+  pub waits : (s : History) (seat : Seat) (r : Ref) (reason : Reason) (c : CarrierView B) (g : GivenNext) → g ≡ gives_again reason → Gives seen tells s s seat r g (Again (again_of reason)) c c
   waits s seat r reason c g same = gives_as g (gives_again reason) same (record {
     given = record { shown = unsaid; history = refl; answer = refl };
     right = λ t. tt;
@@ -46,7 +47,7 @@ module _ {B : Type 0} {content plan : B → Option (List ℕ)} {reads writes fau
   })
 
   -- an entry is made, and the call is made again
-  pub goes_on : (s after : History) (seat : Seat) (r : Ref) (w : What) (c : CarrierView B) (g : GivenNext) → g ≡ given (w ∷ []) next_more → with_reply unsaid w ≡ w → after ≡ added s (entry_by seat w) → Gives content plan reads writes faults tells tells_plan s after seat r g More c c
+  pub goes_on : (s after : History) (seat : Seat) (r : Ref) (w : What) (c : CarrierView B) (g : GivenNext) → g ≡ given (w ∷ []) next_more → with_reply unsaid w ≡ w → after ≡ added s (entry_by seat w) → Gives seen tells s after seat r g More c c
   goes_on s after seat r w c g same kept made = gives_as g (given (w ∷ []) next_more) same (record {
     given = record { shown = unsaid; history = made ∙ ap (λ (x : What). added s (entry_by seat x)) (sym kept); answer = refl };
     right = λ t. tt;
@@ -70,11 +71,11 @@ may_answer_then s s' seat w r made legal flights calm room =
       paid = let paid = paid_first s seat w 2 (omega arith) flights calm room in omega (arith, paid);
     })
 
-module _ {B : Type 0} {content plan : B → Option (List ℕ)} {reads writes faults : B → ℕ} {tells tells_plan : Bool} where
+module _ {B : Type 0} {seen : B → BlockView} {tells : Tells} where
   -- the reference is refused
   pub refused : (s after : History) (seat : Seat) (r : Ref) (reason : Why) (c : CarrierView B) (g : GivenNext) → g ≡ given (what.Denied r reason ∷ []) next_answered → Some reason ≡ flat_refusal s.config (flat_after s.config s.past) seat.0 r
-      → after ≡ added s (entry_by seat (what.Denied r reason)) → Gives content plan reads writes faults tells tells_plan s after seat r g (Answered (reply.Refused reason)) c c
-  refused s after seat r reason c g same why made = subst (λ (x : GivenNext). Gives content plan reads writes faults tells tells_plan s after seat r x (Answered (reply.Refused reason)) c c) (sym same) (record {
+      → after ≡ added s (entry_by seat (what.Denied r reason)) → Gives seen tells s after seat r g (Answered (reply.Refused reason)) c c
+  refused s after seat r reason c g same why made = subst (λ (x : GivenNext). Gives seen tells s after seat r x (Answered (reply.Refused reason)) c c) (sym same) (record {
     given = record { shown = unsaid; history = made; answer = refl };
     right = λ t. ap (λ (o : Option Why). reply_unless o (reply_from r.op (found_at s.config (flat_after s.config s.past) seat.0 r (mapping_of (flat_after s.config s.past) seat.0 r)) (offset_in_page r))) why;
     carrier = refl;
@@ -82,8 +83,8 @@ module _ {B : Type 0} {content plan : B → Option (List ℕ)} {reads writes fau
 
   -- it is answered
   pub answered : (s after : History) (seat : Seat) (r : Ref) (shown : Reply) (c : CarrierView B) (g : GivenNext) → g ≡ given (what.Done r unsaid ∷ []) next_answered
-      → after ≡ added s (entry_by seat (what.Done r shown)) → IsFlat tells s seat r shown → Gives content plan reads writes faults tells tells_plan s after seat r g (Answered shown) c c
-  answered s after seat r shown c g same made flat = subst (λ (x : GivenNext). Gives content plan reads writes faults tells tells_plan s after seat r x (Answered shown) c c) (sym same) (record {
+      → after ≡ added s (entry_by seat (what.Done r shown)) → IsFlat tells.content s seat r shown → Gives seen tells s after seat r g (Answered shown) c c
+  answered s after seat r shown c g same made flat = subst (λ (x : GivenNext). Gives seen tells s after seat r x (Answered shown) c c) (sym same) (record {
     given = record { shown = shown; history = made; answer = refl };
     right = flat;
     carrier = refl;
@@ -92,34 +93,34 @@ module _ {B : Type 0} {content plan : B → Option (List ℕ)} {reads writes fau
   -- it is answered behind one entry, which the flat machine doesn't see
   pub answered_then : (s s' after : History) (seat : Seat) (w : What) (r : Ref) (shown : Reply) (c : CarrierView B) (g : GivenNext) → g ≡ given (w ∷ what.Done r unsaid ∷ []) next_answered
       → s' ≡ added s (entry_by seat w) → with_reply shown w ≡ w → flat_after s.config (entry_by seat w ∷ s.past) ≡ flat_after s.config s.past
-      → after ≡ added s' (entry_by seat (what.Done r shown)) → IsFlat tells s' seat r shown → Gives content plan reads writes faults tells tells_plan s after seat r g (Answered shown) c c
-  answered_then s s' after seat w r shown c g same first kept unseen made flat = subst (λ (x : GivenNext). Gives content plan reads writes faults tells tells_plan s after seat r x (Answered shown) c c) (sym same) (record {
+      → after ≡ added s' (entry_by seat (what.Done r shown)) → IsFlat tells.content s' seat r shown → Gives seen tells s after seat r g (Answered shown) c c
+  answered_then s s' after seat w r shown c g same first kept unseen made flat = subst (λ (x : GivenNext). Gives seen tells s after seat r x (Answered shown) c c) (sym same) (record {
     given = record {
       shown = shown;
       history = made ∙ (ap (λ (x : History). added x (entry_by seat (what.Done r shown))) first ∙ ap (λ (x : What). added (added s (entry_by seat x)) (entry_by seat (what.Done r shown))) (sym kept));
       answer = refl;
     };
-    right = λ t. subst (λ (x : History). IsFlat tells x seat r shown) first flat t ∙ ap (λ (x : FlatState). flat_reply s.config x seat.0 r) unseen;
+    right = λ t. subst (λ (x : History). IsFlat tells.content x seat r shown) first flat t ∙ ap (λ (x : FlatState). flat_reply s.config x seat.0 r) unseen;
     carrier = refl;
   })
 
   -- it is answered behind a page of zeros
   pub answered_zero : (s s1 s2 after : History) (seat : Seat) (n : ℕ) (o : Option Page) (address : Addr) (f : Pfn) (r : Ref) (shown : Reply) (c : CarrierView B) (g : GivenNext)
       → g ≡ given (reuse_first o n (what.Zero address f ∷ what.Done r unsaid ∷ [])) next_answered → s1 ≡ added_each seat (reuse_first o n []) s → s2 ≡ added s1 (entry_by seat (what.Zero address f))
-      → after ≡ added s2 (entry_by seat (what.Done r shown)) → IsFlat tells s2 seat r shown → Gives content plan reads writes faults tells tells_plan s after seat r g (Answered shown) c c
-  answered_zero s s1 s2 after seat n o address f r shown c g same first second made flat = subst (λ (x : GivenNext). Gives content plan reads writes faults tells tells_plan s after seat r x (Answered shown) c c) (sym same) (by o first)
+      → after ≡ added s2 (entry_by seat (what.Done r shown)) → IsFlat tells.content s2 seat r shown → Gives seen tells s after seat r g (Answered shown) c c
+  answered_zero s s1 s2 after seat n o address f r shown c g same first second made flat = subst (λ (x : GivenNext). Gives seen tells s after seat r x (Answered shown) c c) (sym same) (by o first)
     where
       reached : (x : History) → s1 ≡ x → s2 ≡ added x (entry_by seat (what.Zero address f))
       reached x is = second ∙ ap (λ (y : History). added y (entry_by seat (what.Zero address f))) is
 
-      by : (o : Option Page) → s1 ≡ added_each seat (reuse_first o n []) s → Gives content plan reads writes faults tells tells_plan s after seat r (given (reuse_first o n (what.Zero address f ∷ what.Done r unsaid ∷ [])) next_answered) (Answered shown) c c
+      by : (o : Option Page) → s1 ≡ added_each seat (reuse_first o n []) s → Gives seen tells s after seat r (given (reuse_first o n (what.Zero address f ∷ what.Done r unsaid ∷ [])) next_answered) (Answered shown) c c
       by None is = record {
         given = record { shown = shown; history = made ∙ ap (λ (x : History). added x (entry_by seat (what.Done r shown))) (reached s is); answer = refl };
-        right = λ t. subst (λ (x : History). IsFlat tells x seat r shown) (reached s is) flat t;
+        right = λ t. subst (λ (x : History). IsFlat tells.content x seat r shown) (reached s is) flat t;
         carrier = refl;
       }
       by (Some x) is = record {
         given = record { shown = shown; history = made ∙ ap (λ (y : History). added y (entry_by seat (what.Done r shown))) (reached (added s (entry_by seat (what.Reuse (pfn n) x))) is); answer = refl };
-        right = λ t. subst (λ (y : History). IsFlat tells y seat r shown) (reached (added s (entry_by seat (what.Reuse (pfn n) x))) is) flat t;
+        right = λ t. subst (λ (y : History). IsFlat tells.content y seat r shown) (reached (added s (entry_by seat (what.Reuse (pfn n) x))) is) flat t;
         carrier = refl;
       }

@@ -1,6 +1,7 @@
 -- What a call for a reference makes and returns is what the fault handler's rule gives. This project's own.
-use Rattle.std.specs.Prelude.{◌≡◌, ℕ, Bool, true, ◌+◌, ◌≤◌, List, [], ◌∷◌, Option, Some, None, map}
+use Rattle.std.specs.Prelude.{◌≡◌, ℕ, true, ◌+◌, ◌≤◌, List, [], ◌∷◌, Option, Some, None, map}
 use Rattle.std.specs.Option.{option_map}
+use Rattle.vm_types.specs.BlockView.{BlockView, Tells}
 use Rattle.vm_types.specs.declared.config.Config.{Config}
 use Rattle.vm_types.specs.declared.names.Seat.{Seat}
 use Rattle.vm_types.specs.declared.reference.Ref.{Ref}
@@ -66,9 +67,9 @@ pub record MayGive (s : History) (seat : Seat) (g : GivenNext) : Type 0 where
   pub legal : AreLegal s.config s.past seat.0 g.made
   pub room : owed s.past + 64 ≤ s.spare
 
-module _ {B : Type 0} (content plan : B → Option (List ℕ)) (reads writes faults : B → ℕ) where
+module _ {B : Type 0} (seen : B → BlockView) where
   -- what a call leaves of the history and of the seat's carrier, and what it returns
-  pub record Gives (tells tells_plan : Bool) (before after : History) (seat : Seat) (r : Ref) (g : GivenNext) (next : Next) (old new : CarrierView B) : Type 0 where
+  pub record Gives (tells : Tells) (before after : History) (seat : Seat) (r : Ref) (g : GivenNext) (next : Next) (old new : CarrierView B) : Type 0 where
     pub given : IsGiven before after seat g next
-    pub right : tells ≡ true → IsRightNext before.config before.past seat.0 r next
-    pub carrier : IsCarrying content plan reads writes faults tells tells_plan after seat g.made next old new
+    pub right : tells.content ≡ true → IsRightNext before.config before.past seat.0 r next
+    pub carrier : IsCarrying seen tells after seat g.made next old new

@@ -21,8 +21,7 @@ pub fn answer<B: Block>(state: &mut State<B>, seat: Seat, r: Ref, carrier: &mut 
     requires formed { IsWellFormedReference r }
     requires may { MayGive state.old seat (at_refusal state.old seat r) }
     requires carrier { carrier.old ≡ empty seat }
-    ensures { Gives B.content B.plan B.reads B.writes B.faults B.tells_content B.tells_plan
-        state.old state.new seat r (at_refusal state.old seat r) result carrier.old carrier.new }
+    ensures { Gives B.seen B.tells state.old state.new seat r (at_refusal state.old seat r) result carrier.old carrier.new }
 {
     if let Some(valid) = state.granted(Proc(seat.0), r) {
         if valid {
@@ -42,8 +41,7 @@ fn look<B: Block>(state: &mut State<B>, seat: Seat, r: Ref, carrier: &mut Carrie
     requires formed { IsWellFormedReference r }
     requires may { MayGive state.old seat (at_refusal state.old seat r) }
     requires carrier { carrier.old ≡ empty seat }
-    ensures { Gives B.content B.plan B.reads B.writes B.faults B.tells_content B.tells_plan
-        state.old state.new seat r (at_refusal state.old seat r) result carrier.old carrier.new }
+    ensures { Gives B.seen B.tells state.old state.new seat r (at_refusal state.old seat r) result carrier.old carrier.new }
 {
     let there = state.found(Proc(seat.0), r.addr.0 / 512);
     match state.refusal(Proc(seat.0), r, there) {
@@ -68,8 +66,7 @@ fn entry<B: Block>(
     requires formed { IsWellFormedReference r }
     requires may { MayGive state.old seat (at_entry state.old seat r) }
     requires carrier { carrier.old ≡ empty seat }
-    ensures { Gives B.content B.plan B.reads B.writes B.faults B.tells_content B.tells_plan
-        state.old state.new seat r (at_entry state.old seat r) result carrier.old carrier.new }
+    ensures { Gives B.seen B.tells state.old state.new seat r (at_entry state.old seat r) result carrier.old carrier.new }
 {
     if found.valid {
         Next::Answered(state.done(seat, r))

@@ -44,8 +44,7 @@ pub fn mapped<B: Block>(
     requires formed { IsWellFormedReference r }
     requires may { MayGive state.old seat (at_map state.old seat r) }
     requires carrier { carrier.old ≡ empty seat }
-    ensures { Gives B.content B.plan B.reads B.writes B.faults B.tells_content B.tells_plan
-        state.old state.new seat r (at_map state.old seat r) result carrier.old carrier.new }
+    ensures { Gives B.seen B.tells state.old state.new seat r (at_map state.old seat r) result carrier.old carrier.new }
 {
     let behind = section_of(found.from);
     let backing = state.backing(found.page);
@@ -70,8 +69,7 @@ fn fault<B: Block>(
     requires sought { IsSought state.old seat r x }
     requires may { MayGive state.old seat (at_fault state.old seat r x.page) }
     requires carrier { carrier.old ≡ empty seat }
-    ensures { Gives B.content B.plan B.reads B.writes B.faults B.tells_content B.tells_plan
-        state.old state.new seat r (at_fault state.old seat r x.page) result carrier.old carrier.new }
+    ensures { Gives B.seen B.tells state.old state.new seat r (at_fault state.old seat r x.page) result carrier.old carrier.new }
 {
     match x.backing.frame {
         Some(f) => read(state, seat, r, x, f, carrier),
@@ -132,8 +130,7 @@ pub fn room<B: Block>(
     requires sought { IsSought state.old seat r x }
     requires may { MayGive state.old seat (at_room state.old seat r x.page) }
     requires carrier { carrier.old ≡ empty seat }
-    ensures { Gives B.content B.plan B.reads B.writes B.faults B.tells_content B.tells_plan
-        state.old state.new seat r (at_room state.old seat r x.page) result carrier.old carrier.new }
+    ensures { Gives B.seen B.tells state.old state.new seat r (at_room state.old seat r x.page) result carrier.old carrier.new }
 {
     if is_charging(state, x) {
         Next::Again(AgainWhy::Charging)

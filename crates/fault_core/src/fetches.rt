@@ -41,8 +41,7 @@ pub fn held<B: Block>(
     requires sought { IsSought state.old seat r x }
     requires may { MayGive state.old seat (at_held state.old seat r x.page) }
     requires carrier { carrier.old ≡ empty seat }
-    ensures { Gives B.content B.plan B.reads B.writes B.faults B.tells_content B.tells_plan
-        state.old state.new seat r (at_held state.old seat r x.page) result carrier.old carrier.new }
+    ensures { Gives B.seen B.tells state.old state.new seat r (at_held state.old seat r x.page) result carrier.old carrier.new }
 {
     match x.backing.frame {
         Some(f) => back(state, seat, r, x, f, carrier),
@@ -66,8 +65,7 @@ fn back<B: Block>(
     requires sought { IsSought state.old seat r x }
     requires may { MayGive state.old seat (at_held state.old seat r x.page) }
     requires carrier { carrier.old ≡ empty seat }
-    ensures { Gives B.content B.plan B.reads B.writes B.faults B.tells_content B.tells_plan
-        state.old state.new seat r (at_held state.old seat r x.page) result carrier.old carrier.new }
+    ensures { Gives B.seen B.tells state.old state.new seat r (at_held state.old seat r x.page) result carrier.old carrier.new }
 {
     let row = state.frame(f);
     let start = page_start(r);
@@ -115,8 +113,7 @@ fn fetch<B: Block>(
     requires sought { IsSought state.old seat r x }
     requires may { MayGive state.old seat (at_out state.old seat r x.page) }
     requires carrier { carrier.old ≡ empty seat }
-    ensures { Gives B.content B.plan B.reads B.writes B.faults B.tells_content B.tells_plan
-        state.old state.new seat r (at_out state.old seat r x.page) result carrier.old carrier.new }
+    ensures { Gives B.seen B.tells state.old state.new seat r (at_out state.old seat r x.page) result carrier.old carrier.new }
 {
     let block = source(x);
     if is_busy_block(state, block) {
@@ -141,8 +138,7 @@ fn frame<B: Block>(
     requires sought { IsSought state.old seat r x }
     requires may { MayGive state.old seat (at_frame state.old seat r x.page block) }
     requires carrier { carrier.old ≡ empty seat }
-    ensures { Gives B.content B.plan B.reads B.writes B.faults B.tells_content B.tells_plan
-        state.old state.new seat r (at_frame state.old seat r x.page block) result carrier.old carrier.new }
+    ensures { Gives B.seen B.tells state.old state.new seat r (at_frame state.old seat r x.page block) result carrier.old carrier.new }
 {
     match state.head(ListName::Free) {
         Some(f) => match block {
@@ -169,8 +165,7 @@ fn zero<B: Block>(
     requires sought { IsSought state.old seat r x }
     requires may { MayGive state.old seat (at_frame state.old seat r x.page None) }
     requires carrier { carrier.old ≡ empty seat }
-    ensures { Gives B.content B.plan B.reads B.writes B.faults B.tells_content B.tells_plan
-        state.old state.new seat r (at_frame state.old seat r x.page None) result carrier.old carrier.new }
+    ensures { Gives B.seen B.tells state.old state.new seat r (at_frame state.old seat r x.page None) result carrier.old carrier.new }
 {
     reuse_first(state, seat, f);
     let start = page_start(r);

@@ -36,8 +36,7 @@ pub fn advance<B: Block>(
     ensures room { (result ≡ Next.Room) ↔ (state.old.spare < owed state.old.past + 64) }
     ensures same { result ≡ Next.Room → (state.new ≡ state.old) × (carrier.new ≡ carrier.old) }
     ensures gives { owed state.old.past + 64 ≤ state.old.spare
-        → Gives B.content B.plan B.reads B.writes B.faults B.tells_content B.tells_plan
-        state.old state.new seat r (advance_gives state.old.config state.old.past (pager state.old) p.0 r) result
+        → Gives B.seen B.tells state.old state.new seat r (advance_gives state.old.config state.old.past (pager state.old) p.0 r) result
         carrier.old carrier.new }
 {
     state.run_law();
@@ -64,8 +63,7 @@ fn resident<B: Block>(state: &mut State<B>, seat: Seat, r: Ref, carrier: &mut Ca
     requires formed { IsWellFormedReference r }
     requires may { MayGive state.old seat (at_first state.old seat r) }
     requires carrier { carrier.old ≡ empty seat }
-    ensures { Gives B.content B.plan B.reads B.writes B.faults B.tells_content B.tells_plan
-        state.old state.new seat r (at_first state.old seat r) result carrier.old carrier.new }
+    ensures { Gives B.seen B.tells state.old state.new seat r (at_first state.old seat r) result carrier.old carrier.new }
 {
     match state.pending(Proc(seat.0)) {
         Some((n, faults)) => {

@@ -39,8 +39,7 @@ pub fn read_in<B: Block>(
     requires carrier { carrier.old ≡ empty seat }
     requires exists { IsBlock state.old.config b }
     requires free { 1 ≤ length (pager state.old).free }
-    ensures { Gives B.content B.plan B.reads B.writes B.faults B.tells_content B.tells_plan
-        state.old state.new seat r (at_frame state.old seat r x.page (Some b)) result carrier.old carrier.new }
+    ensures { Gives B.seen B.tells state.old state.new seat r (at_frame state.old seat r x.page (Some b)) result carrier.old carrier.new }
 {
     if is_alone(state, x) {
         let fault = Role::Fault(Proc(seat.0), page_start(r));
@@ -66,8 +65,7 @@ fn read_cluster<B: Block>(
     requires carrier { carrier.old ≡ empty seat }
     requires exists { IsBlock state.old.config b }
     requires free { 1 ≤ length (pager state.old).free }
-    ensures { Gives B.content B.plan B.reads B.writes B.faults B.tells_content B.tells_plan
-        state.old state.new seat r (at_frame state.old seat r x.page (Some b)) result carrier.old carrier.new }
+    ensures { Gives B.seen B.tells state.old state.new seat r (at_frame state.old seat r x.page (Some b)) result carrier.old carrier.new }
 {
     let mut pages = ArrayVec::new();
     let length = cluster(state, x, b, &mut pages);

@@ -65,8 +65,7 @@ pub fn read<B: Block>(
     requires sought { IsSought state.old seat r x }
     requires may { MayGive state.old seat (at_read state.old seat r x.page f.0) }
     requires carrier { carrier.old ≡ empty seat }
-    ensures { Gives B.content B.plan B.reads B.writes B.faults B.tells_content B.tells_plan
-        state.old state.new seat r (at_read state.old seat r x.page f.0) result carrier.old carrier.new }
+    ensures { Gives B.seen B.tells state.old state.new seat r (at_read state.old seat r x.page f.0) result carrier.old carrier.new }
 {
     match state.read_on(f) {
         Some(reader) => {
@@ -96,8 +95,7 @@ fn collide<B: Block>(
     requires formed { IsWellFormedReference r }
     requires may { MayGive state.old seat (at_read state.old seat r x.page f.0) }
     requires carrier { carrier.old ≡ empty seat }
-    ensures { Gives B.content B.plan B.reads B.writes B.faults B.tells_content B.tells_plan
-        state.old state.new seat r (at_read state.old seat r x.page f.0) result carrier.old carrier.new }
+    ensures { Gives B.seen B.tells state.old state.new seat r (at_read state.old seat r x.page f.0) result carrier.old carrier.new }
 {
     let named = state.collided(Proc(seat.0));
     if is_named(named, reader.start) {
@@ -126,8 +124,7 @@ pub fn replace<B: Block>(state: &mut State<B>, seat: Seat, r: Ref, carrier: &mut
     requires formed { IsWellFormedReference r }
     requires may { MayGive state.old seat (at_replace state.old seat) }
     requires carrier { carrier.old ≡ empty seat }
-    ensures { Gives B.content B.plan B.reads B.writes B.faults B.tells_content B.tells_plan
-        state.old state.new seat r (at_replace state.old seat) result carrier.old carrier.new }
+    ensures { Gives B.seen B.tells state.old state.new seat r (at_replace state.old seat) result carrier.old carrier.new }
 {
     let p = Proc(seat.0);
     let choice = state.choice(p);

@@ -1,6 +1,7 @@
 -- What contracts see of a lift: the buffer and the block of an open transfer, which are out of their store
 -- while the transfer is carried. This project's own.
-use Rattle.std.specs.Prelude.{◌≡◌, ℕ, ◌<◌, ◌^◌, Bool, true, false, List, Option}
+use Rattle.std.specs.Prelude.{◌≡◌, ℕ, ◌<◌, ◌^◌, Bool, true, false, List}
+use Rattle.vm_types.specs.BlockView.{BlockView, Tells}
 use Rattle.disk_trait.specs.Told.{told, IsAnyContent}
 use Rattle.vm_types.specs.declared.names.BlockId.{BlockId}
 use Rattle.vm_types.specs.declared.names.Page.{Page}
@@ -38,25 +39,25 @@ MayCall Waiting calls = calls < 2 ^ 48
 MayCall Good calls = Unit {0}
 MayCall (Bad before after) calls = Unit {0}
 
-module _ {B : Type 0} (tells : Bool) (content : B → Option (List ℕ)) (faults : B → ℕ) where
+module _ {B : Type 0} (seen : B → BlockView) (tells : Tells) where
   -- what a call that went well has done: the buffer has the block's bytes after a read, and the block the
   -- buffer's after a write
   abbrev pub IsMoved : LiftView B → LiftView B → Type 0
   IsMoved old new =
-      (new.is_read ≡ true → (content new.held ≡ content old.held) × (content old.held ≡ told tells new.buffer))
-      × (new.is_read ≡ false → content new.held ≡ told tells new.buffer)
+      (new.is_read ≡ true → ((seen new.held).content ≡ (seen old.held).content) × ((seen old.held).content ≡ told tells.content new.buffer))
+      × (new.is_read ≡ false → (seen new.held).content ≡ told tells.content new.buffer)
 
   -- what a call that failed has left: after a read the block's content, after a write any
   abbrev pub IsTorn : LiftView B → LiftView B → Type 0
   IsTorn old new =
-      (new.is_read ≡ true → content new.held ≡ content old.held)
-      × (new.is_read ≡ false → IsAnyContent tells (content new.held))
+      (new.is_read ≡ true → (seen new.held).content ≡ (seen old.held).content)
+      × (new.is_read ≡ false → IsAnyContent tells.content (seen new.held).content)
 
   -- a lift before and after its call: the result says which it was, and tells the block's counts of failures
   abbrev pub CarriedAs : Carried → LiftView B → LiftView B → Type 0
   CarriedAs Waiting old new = ⊥
-  CarriedAs Good old new = IsMoved old new × (faults new.held ≡ faults old.held)
-  CarriedAs (Bad before after) old new = IsTorn old new × (before ≡ faults old.held) × (after ≡ faults new.held) × (before < after)
+  CarriedAs Good old new = IsMoved old new × ((seen new.held).faults ≡ (seen old.held).faults)
+  CarriedAs (Bad before after) old new = IsTorn old new × (before ≡ (seen old.held).faults) × (after ≡ (seen new.held).faults) × (before < after)
 
   abbrev pub IsCarried : LiftView B → LiftView B → Type 0
   IsCarried old new = CarriedAs new.result old new

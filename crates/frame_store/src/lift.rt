@@ -63,11 +63,11 @@ impl<B: Block> Model for Lift<B> {
       is_read = l.read;
       buffer = (l.buf).bytes;
       held = l.block;
-      result = result_of l.stage l.before (B.faults l.block);
+      result = result_of l.stage l.before (B.seen l.block).faults;
       pool = (l.buf).pool;
     } };
 
-    ghost invariant = { λ l. MayCall (result_of l.stage l.before (B.faults l.block)) (B.reads l.block + B.writes l.block) };
+    ghost invariant = { λ l. MayCall (result_of l.stage l.before (B.seen l.block).faults) ((B.seen l.block).reads + (B.seen l.block).writes) };
 }
 
 impl<B: Block> Lift<B> {
@@ -133,10 +133,10 @@ impl<B: Block> Lift<B> {
         } }
         ensures size { length self.new.buffer ≡ 512 }
         ensures written { self.old.is_read ≡ false → self.new.buffer ≡ self.old.buffer }
-        ensures plan { B.plan self.new.held ≡ B.plan self.old.held }
-        ensures reads { B.reads self.new.held ≡ B.reads self.old.held + (if self.old.is_read then 1 else 0) }
-        ensures writes { B.writes self.new.held ≡ B.writes self.old.held + (if self.old.is_read then 0 else 1) }
-        ensures result { IsCarried B.tells_content B.content B.faults self.old self.new }
+        ensures plan { (B.seen self.new.held).plan ≡ (B.seen self.old.held).plan }
+        ensures reads { (B.seen self.new.held).reads ≡ (B.seen self.old.held).reads + (if self.old.is_read then 1 else 0) }
+        ensures writes { (B.seen self.new.held).writes ≡ (B.seen self.old.held).writes + (if self.old.is_read then 0 else 1) }
+        ensures result { IsCarried B.seen B.tells self.old self.new }
     {
         self.before = self.block.faults();
         // Written before the bytes are, since who takes the lift next reads the stage at once.
@@ -149,19 +149,19 @@ impl<B: Block> Lift<B> {
 
 /// Reads the block into the buffer, or writes the buffer to it.
 fn move_bytes<B: Block>(block: &mut B, buf: &mut PageBuf, read: bool) -> Result<(), Failed>
-    requires { B.reads block.old + B.writes block.old < 2 ^ 48 }
+    requires { (B.seen block.old).reads + (B.seen block.old).writes < 2 ^ 48 }
     ensures pool { buf.new.pool ≡ buf.old.pool }
     ensures size { length buf.new.bytes ≡ 512 }
     ensures written { read ≡ false → buf.new ≡ buf.old }
-    ensures plan { B.plan block.new ≡ B.plan block.old }
-    ensures reads { B.reads block.new ≡ B.reads block.old + (if read then 1 else 0) }
-    ensures writes { B.writes block.new ≡ B.writes block.old + (if read then 0 else 1) }
-    ensures ok { OnOk result (B.faults block.new ≡ B.faults block.old) }
-    ensures failed { OnErr result (B.faults block.old < B.faults block.new) }
-    ensures read { read ≡ true → B.content block.new ≡ B.content block.old }
-    ensures bytes { read ≡ true → OnOk result (B.content block.old ≡ told B.tells_content buf.new.bytes) }
-    ensures content { read ≡ false → OnOk result (B.content block.new ≡ told B.tells_content buf.new.bytes) }
-    ensures torn { read ≡ false → OnErr result (IsAnyContent B.tells_content (B.content block.new)) }
+    ensures plan { (B.seen block.new).plan ≡ (B.seen block.old).plan }
+    ensures reads { (B.seen block.new).reads ≡ (B.seen block.old).reads + (if read then 1 else 0) }
+    ensures writes { (B.seen block.new).writes ≡ (B.seen block.old).writes + (if read then 0 else 1) }
+    ensures ok { OnOk result ((B.seen block.new).faults ≡ (B.seen block.old).faults) }
+    ensures failed { OnErr result ((B.seen block.old).faults < (B.seen block.new).faults) }
+    ensures read { read ≡ true → (B.seen block.new).content ≡ (B.seen block.old).content }
+    ensures bytes { read ≡ true → OnOk result ((B.seen block.old).content ≡ told B.tells.content buf.new.bytes) }
+    ensures content { read ≡ false → OnOk result ((B.seen block.new).content ≡ told B.tells.content buf.new.bytes) }
+    ensures torn { read ≡ false → OnErr result (IsAnyContent B.tells.content (B.seen block.new).content) }
 {
     if read {
         block.read(buf.bytes_mut())

@@ -150,7 +150,7 @@ impl<B: Block> Store<B> {
         requires still { held_at self.old.flights f.0 ≡ None }
         requires block { IsSome (held_at self.old.blocks (number_in self.old.ids id)) }
         requires few_calls { IfSome (held_at self.old.blocks (number_in self.old.ids id))
-            (λ b. B.reads b + B.writes b < 2 ^ 48) }
+            (λ b. (B.seen b).reads + (B.seen b).writes < 2 ^ 48) }
         ensures store { self.new ≡ lifted_in self.old f.0 id start }
         ensures lift { result ≡ begun self.old.pool seat page f.0 id start true result.buffer result.held }
         ensures buffer { held_at self.old.buffers f.0 ≡ Some result.buffer }
@@ -184,7 +184,7 @@ impl<B: Block> Store<B> {
         requires still { held_at self.old.flights f.0 ≡ None }
         requires block { IsSome (held_at self.old.blocks (number_in self.old.ids id)) }
         requires few_calls { IfSome (held_at self.old.blocks (number_in self.old.ids id))
-            (λ b. B.reads b + B.writes b < 2 ^ 48) }
+            (λ b. (B.seen b).reads + (B.seen b).writes < 2 ^ 48) }
         ensures store { self.new ≡ lifted_out self.old f.0 id start }
         ensures lift { result ≡ begun self.old.pool seat page f.0 id start false result.buffer result.held }
         ensures buffer { held_at self.old.buffers f.0 ≡ Some result.buffer }

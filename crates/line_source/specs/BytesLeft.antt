@@ -2,15 +2,16 @@
 use Rattle.std.specs.Prelude.{ℕ, List, [], ◌∷◌, Option, Some, None, Result, Ok, Err, take, drop}
 use Rattle.std.specs.Io.KnownBytes.{prepend_known, Consumes, IsAtEnd, Keeps}
 use Rattle.vm_types.specs.declared.faults.Failed.{Failed}
+use Rattle.outside_io.specs.Views.{SourceView}
 use Rattle.line_source.specs.declared.lines.Lines.{Lines}
 
 -- the bytes that were read and not handed out
 abbrev pub pending : List ℕ → ℕ → ℕ → List ℕ
 pending buffer next filled = drop next (take filled buffer)
 
--- those, and then the bytes that the source has left, if it tells them
-abbrev pub bytes_left : {S : Type 0} → (S → Option (List ℕ)) → Lines S → Option (List ℕ)
-bytes_left left lines = prepend_known (pending lines.buffer lines.next lines.filled) (left (lines.source).now)
+-- those, and then the bytes that the source has left, if they are known
+abbrev pub bytes_left : {S : Type 0} → (S → SourceView) → Lines S → Option (List ℕ)
+bytes_left seen lines = prepend_known (pending lines.buffer lines.next lines.filled) (seen (lines.source).now).left
 
 -- a byte was handed out, or none is left; after a failure they are the same
 abbrev pub IsByteOff : Option (List ℕ) → Option (List ℕ) → Result (Option ℕ) Failed → Type 0

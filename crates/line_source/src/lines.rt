@@ -40,8 +40,8 @@ impl<'a, S: Source> Lines<'a, S> {
     /// The lines of all bytes that the source has left. Doesn't allocate.
     pub fn new(source: &'a mut S) -> Lines<'a, S>
         ensures same_reference { result.source.ghost_name ≡ source.entry.ghost_name }
-        ensures left { bytes_left S.left result ≡ S.left source.old }
-        ensures faults { S.faults result.source.now ≡ S.faults source.old }
+        ensures left { bytes_left S.seen result ≡ (S.seen source.old).left }
+        ensures faults { (S.seen result.source.now).failures ≡ (S.seen source.old).failures }
     {
         Lines {
             source,
@@ -56,12 +56,12 @@ impl<'a, S: Source> Lines<'a, S> {
         requires { self.old.next ≡ self.old.filled }
         ensures same_reference { self.new.source.ghost_name ≡ self.old.source.ghost_name }
         ensures first { OnOk result (self.new.next ≡ 0) }
-        ensures left { OnOk result (Keeps (bytes_left S.left self.old) (bytes_left S.left self.new)) }
-        ensures end { OnOk result (self.new.filled ≡ 0 → IsAtEnd (S.left self.new.source.now)) }
-        ensures failed { OnErr result (Keeps (bytes_left S.left self.old) (bytes_left S.left self.new)) }
-        ensures told { IsSome (S.left self.old.source.now) → IsSome (S.left self.new.source.now) }
-        ensures cause { HasCause (S.faults self.old.source.now) (S.faults self.new.source.now) result }
-        ensures quiet { OnOk result (S.faults self.new.source.now ≡ S.faults self.old.source.now) }
+        ensures left { OnOk result (Keeps (bytes_left S.seen self.old) (bytes_left S.seen self.new)) }
+        ensures end { OnOk result (self.new.filled ≡ 0 → IsAtEnd (S.seen self.new.source.now).left) }
+        ensures failed { OnErr result (Keeps (bytes_left S.seen self.old) (bytes_left S.seen self.new)) }
+        ensures known { IsSome (S.seen self.old.source.now).left → IsSome (S.seen self.new.source.now).left }
+        ensures cause { HasCause (S.seen self.old.source.now).failures (S.seen self.new.source.now).failures result }
+        ensures quiet { OnOk result ((S.seen self.new.source.now).failures ≡ (S.seen self.old.source.now).failures) }
     {
         match self.source.read(&mut self.buffer) {
             Ok(count) => {
@@ -78,7 +78,7 @@ impl<'a, S: Source> Lines<'a, S> {
         ensures same_reference { self.new.source.ghost_name ≡ self.old.source.ghost_name }
         ensures source { self.new.source.now ≡ self.old.source.now }
         ensures none { IfNone result ((self.old.next ≡ self.old.filled) × (self.new.next ≡ self.old.next) × (self.new.filled ≡ self.old.filled) × (self.new.buffer ≡ self.old.buffer)) }
-        ensures kept { IfNone result (bytes_left S.left self.new ≡ bytes_left S.left self.old) }
+        ensures kept { IfNone result (bytes_left S.seen self.new ≡ bytes_left S.seen self.old) }
         ensures some { IfSome result (λ b. pending self.old.buffer self.old.next self.old.filled ≡ b ∷ pending self.new.buffer self.new.next self.new.filled) }
     {
         if self.next == self.filled {
@@ -92,10 +92,10 @@ impl<'a, S: Source> Lines<'a, S> {
     // Hands out the next byte, or `None` at the end.
     fn byte(&mut self) -> Result<Option<u8>, Failed>
         ensures same_reference { self.new.source.ghost_name ≡ self.old.source.ghost_name }
-        ensures left { IsByteOff (bytes_left S.left self.old) (bytes_left S.left self.new) result }
-        ensures told { IsSome (S.left self.old.source.now) → IsSome (S.left self.new.source.now) }
-        ensures cause { HasCause (S.faults self.old.source.now) (S.faults self.new.source.now) result }
-        ensures quiet { OnOk result (S.faults self.new.source.now ≡ S.faults self.old.source.now) }
+        ensures left { IsByteOff (bytes_left S.seen self.old) (bytes_left S.seen self.new) result }
+        ensures known { IsSome (S.seen self.old.source.now).left → IsSome (S.seen self.new.source.now).left }
+        ensures cause { HasCause (S.seen self.old.source.now).failures (S.seen self.new.source.now).failures result }
+        ensures quiet { OnOk result ((S.seen self.new.source.now).failures ≡ (S.seen self.old.source.now).failures) }
     {
         match self.held_byte() {
             Some(byte) => Ok(Some(byte)),
@@ -115,10 +115,10 @@ impl<'a, S: Source> Lines<'a, S> {
     pub fn next(&mut self, out: &mut ArrayVec<u8, 256>) -> Result<Line, Failed>
         ensures same_reference { self.new.source.ghost_name ≡ self.old.source.ghost_name }
         ensures gives { Gives result out.new.items }
-        ensures takes { IfSome (bytes_left S.left self.old) (λ bytes. Takes result bytes out.new.items (bytes_left S.left self.new)) }
-        ensures told { IsSome (S.left self.old.source.now) → IsSome (S.left self.new.source.now) }
-        ensures cause { HasCause (S.faults self.old.source.now) (S.faults self.new.source.now) result }
-        ensures quiet { OnOk result (S.faults self.new.source.now ≡ S.faults self.old.source.now) }
+        ensures takes { IfSome (bytes_left S.seen self.old) (λ bytes. Takes result bytes out.new.items (bytes_left S.seen self.new)) }
+        ensures known { IsSome (S.seen self.old.source.now).left → IsSome (S.seen self.new.source.now).left }
+        ensures cause { HasCause (S.seen self.old.source.now).failures (S.seen self.new.source.now).failures result }
+        ensures quiet { OnOk result ((S.seen self.new.source.now).failures ≡ (S.seen self.old.source.now).failures) }
     {
         out.clear();
         while !out.is_full() {

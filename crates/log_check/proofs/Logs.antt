@@ -15,7 +15,7 @@ use Rattle.log_check.specs.declared.verdict.Verdict.{Verdict}
 use Rattle.log_check.specs.Judged.{IsCutShort, Judges}
 use Rattle.log_check.specs.Reading.{AnswersLast, AnswersNext, HasRead}
 
--- what is read, if it is told
+-- what is read, if it is known
 abbrev pub ToldRead : Option (List ℕ) → Followed → Place → ℕ → Option (List ℕ) → Type 0
 ToldRead told f place count left = IfSome told (λ text. HasRead text f.past place count left)
 

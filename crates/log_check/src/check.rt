@@ -60,11 +60,11 @@ fn take_next<S: Source>(
     requires followed { IsFollowed followed.old }
     requires few { count < 16777216 }
     requires fewer { length followed.old.past.past ≤ count }
-    ensures text { AnswersNext followed.old place count (bytes_left S.left lines.old) followed.new (bytes_left S.left lines.new) result }
+    ensures text { AnswersNext followed.old place count (bytes_left S.seen lines.old) followed.new (bytes_left S.seen lines.new) result }
     ensures on { IfOk result (GoesOn followed.old followed.new count) }
-    ensures told { IsSome (S.left lines.old.source.now) → IsSome (S.left lines.new.source.now) }
-    ensures faults { CountsBy result (S.faults lines.old.source.now) (S.faults lines.new.source.now) }
-    ensures faults_later { S.faults lines.old.source.now ≤ S.faults lines.new.source.now }
+    ensures known { IsSome (S.seen lines.old.source.now).left → IsSome (S.seen lines.new.source.now).left }
+    ensures faults { CountsBy result (S.seen lines.old.source.now).failures (S.seen lines.new.source.now).failures }
+    ensures faults_later { (S.seen lines.old.source.now).failures ≤ (S.seen lines.new.source.now).failures }
     ensures same_reference { lines.new.source.ghost_name ≡ lines.old.source.ghost_name }
 {
     match lines.next(out) {
@@ -90,10 +90,10 @@ fn judge_last<S: Source>(
     lines: &mut Lines<'_, S>,
     out: &mut ArrayVec<u8, 256>,
 ) -> Result<Verdict, CheckFault>
-    ensures text { AnswersLast followed.now.past place.now (bytes_left S.left lines.old) (bytes_left S.left lines.new) result }
-    ensures told { IsSome (S.left lines.old.source.now) → IsSome (S.left lines.new.source.now) }
-    ensures faults { CountsBy result (S.faults lines.old.source.now) (S.faults lines.new.source.now) }
-    ensures faults_later { S.faults lines.old.source.now ≤ S.faults lines.new.source.now }
+    ensures text { AnswersLast followed.now.past place.now (bytes_left S.seen lines.old) (bytes_left S.seen lines.new) result }
+    ensures known { IsSome (S.seen lines.old.source.now).left → IsSome (S.seen lines.new.source.now).left }
+    ensures faults { CountsBy result (S.seen lines.old.source.now).failures (S.seen lines.new.source.now).failures }
+    ensures faults_later { (S.seen lines.old.source.now).failures ≤ (S.seen lines.new.source.now).failures }
     ensures same_reference { lines.new.source.ghost_name ≡ lines.old.source.ghost_name }
 {
     match lines.next(out) {
@@ -117,10 +117,10 @@ pub fn check_log<S: Source>(
     lines: &mut Lines<'_, S>,
 ) -> Result<Verdict, CheckFault>
     requires formed { IsWellFormed config.now }
-    ensures text { IfSome (bytes_left S.left lines.old) (λ text. Judges config.now result text (bytes_left S.left lines.new)) }
-    ensures told { IsSome (S.left lines.old.source.now) → IsSome (S.left lines.new.source.now) }
-    ensures faults { CountsBy result (S.faults lines.old.source.now) (S.faults lines.new.source.now) }
-    ensures faults_later { S.faults lines.old.source.now ≤ S.faults lines.new.source.now }
+    ensures text { IfSome (bytes_left S.seen lines.old) (λ text. Judges config.now result text (bytes_left S.seen lines.new)) }
+    ensures known { IsSome (S.seen lines.old.source.now).left → IsSome (S.seen lines.new.source.now).left }
+    ensures faults { CountsBy result (S.seen lines.old.source.now).failures (S.seen lines.new.source.now).failures }
+    ensures faults_later { (S.seen lines.old.source.now).failures ≤ (S.seen lines.new.source.now).failures }
     ensures same_reference { lines.new.source.ghost_name ≡ lines.old.source.ghost_name }
 {
     let mut followed = Followed::new(alloc, config)?;

@@ -1,6 +1,5 @@
 ghost use Rattle.std.specs.Prelude.{◌≡◌, ◌++◌, All, IfOk, nat_eq};
 ghost use Rattle.vm_text.specs.Named.{IsPrintablePage};
-ghost use Rattle.outside_io.specs.Views.{sink_view};
 ghost use Rattle.pager_model.specs.Text.{dirty_lines, status_line};
 ghost use Rattle.program_ends.specs.Ends.{Ends};
 ghost use Rattle.log_model.specs.Stand.{ending_after};
@@ -28,8 +27,7 @@ fn end_status(dirty: &[Page]) -> u8
 /// Writes a line for each dirty page, and the status line. Doesn't allocate.
 fn print_ending<K: Sink>(dirty: &[Page], names: &[Section], sink: &mut K) -> Status
     requires { All (IsPrintablePage names.now) dirty.now }
-    ensures { Ends (sink_view (K.taken sink.old) (K.faults sink.old) (K.stalls sink.old))
-        (sink_view (K.taken sink.new) (K.faults sink.new) (K.stalls sink.new)) (end_status dirty.now)
+    ensures { Ends (K.seen sink.old) (K.seen sink.new) (end_status dirty.now)
         (dirty_lines names.now dirty.now ++ status_line (end_status dirty.now)) result.0 }
 {
     match print_dirty(dirty, names, sink) {

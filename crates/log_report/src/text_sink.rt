@@ -5,7 +5,7 @@ use outside_io::Sink;
 use std::alloc::Global;
 use vm_types::Failed;
 
-/// A text that grows as a sink. It tells the bytes taken; a write fails if memory runs out.
+/// A text that grows as a sink. The bytes taken are known; a write fails if memory runs out.
 #[derive(Drop)]
 pub(crate) struct TextSink {
     text: Vec<u8>,
@@ -15,7 +15,7 @@ pub(crate) struct TextSink {
 impl TextSink {
     /// Nothing is taken yet. Doesn't allocate.
     pub(crate) fn new(alloc: Global) -> TextSink
-        ensures { ⟦<TextSink as Sink>⟧.taken result ≡ Some [] }
+        ensures { (⟦<TextSink as Sink>⟧.seen result).taken ≡ Some [] }
     {
         TextSink {
             text: Vec::new(alloc),
@@ -25,20 +25,14 @@ impl TextSink {
 
     /// The bytes taken, in order. Doesn't allocate.
     pub(crate) fn into_text(self) -> Vec<u8>
-        ensures { ⟦<TextSink as Sink>⟧.taken self ≡ Some result.items }
+        ensures { (⟦<TextSink as Sink>⟧.seen self).taken ≡ Some result.items }
     {
         self.text
     }
 }
 
 impl Sink for TextSink {
-    ghost taken = { λ s. Some s.text.items };
-
-    ghost kept = { λ _. [] };
-
-    ghost faults = { λ s. s.faults };
-
-    ghost stalls = { λ _. 0 };
+    ghost seen = { λ s. record { taken = Some s.text.items; kept = []; failures = s.faults; stalls = 0 } };
 
     fn write(&mut self, piece: &[u8]) -> Result<usize, Failed> {
         match self.text.extend_from_slice(piece) {

@@ -1,6 +1,5 @@
 ghost use Rattle.std.specs.Prelude.{◌≡◌, ◌+◌, ◌≤◌, ◌++◌, List, length, decimal};
 ghost use Rattle.arrayvec.specs.ArrayVec.{array_vec_len};
-ghost use Rattle.outside_io.specs.Views.{sink_view};
 ghost use Rattle.outside_io.specs.Writes.{Writes};
 ghost use Rattle.vm_journal.specs.declared.entry.Entry.{Entry};
 ghost use Rattle.run_record.specs.Tallies.{tallies_of};
@@ -25,8 +24,7 @@ fn push_number(out: &mut ArrayVec<u8, 160>, word: &[u8], number: u64)
 
 /// Which trace was made.
 fn print_made<K: Sink>(make: Make, sink: &mut K) -> Result<(), WriteFault>
-    ensures { Writes (sink_view (K.taken sink.old) (K.faults sink.old) (K.stalls sink.old))
-        (sink_view (K.taken sink.new) (K.faults sink.new) (K.stalls sink.new)) result (made_line make) }
+    ensures { Writes (K.seen sink.old) (K.seen sink.new) result (made_line make) }
 {
     let mut out = ArrayVec::new();
     push_number(&mut out, b"MADE ", u64::from(make.seed));
@@ -37,8 +35,7 @@ fn print_made<K: Sink>(make: Make, sink: &mut K) -> Result<(), WriteFault>
 
 /// How many references were answered, and how many refused.
 fn print_answered<K: Sink>(counts: &Counts, sink: &mut K) -> Result<(), WriteFault>
-    ensures { Writes (sink_view (K.taken sink.old) (K.faults sink.old) (K.stalls sink.old))
-        (sink_view (K.taken sink.new) (K.faults sink.new) (K.stalls sink.new)) result (answered_line counts.now) }
+    ensures { Writes (K.seen sink.old) (K.seen sink.new) result (answered_line counts.now) }
 {
     let mut out = ArrayVec::new();
     push_number(&mut out, b"DONE ", counts.done);
@@ -48,8 +45,7 @@ fn print_answered<K: Sink>(counts: &Counts, sink: &mut K) -> Result<(), WriteFau
 
 /// How many pages came into frames and left working sets, and how many transfers began.
 fn print_paged<K: Sink>(counts: &Counts, sink: &mut K) -> Result<(), WriteFault>
-    ensures { Writes (sink_view (K.taken sink.old) (K.faults sink.old) (K.stalls sink.old))
-        (sink_view (K.taken sink.new) (K.faults sink.new) (K.stalls sink.new)) result (paged_line counts.now) }
+    ensures { Writes (K.seen sink.old) (K.seen sink.new) result (paged_line counts.now) }
 {
     let mut out = ArrayVec::new();
     push_number(&mut out, b"ZERO ", counts.zeros);
@@ -62,8 +58,7 @@ fn print_paged<K: Sink>(counts: &Counts, sink: &mut K) -> Result<(), WriteFault>
 
 /// How often a process changed its status, and how often a limit was adjusted.
 fn print_managed<K: Sink>(counts: &Counts, sink: &mut K) -> Result<(), WriteFault>
-    ensures { Writes (sink_view (K.taken sink.old) (K.faults sink.old) (K.stalls sink.old))
-        (sink_view (K.taken sink.new) (K.faults sink.new) (K.stalls sink.new)) result (managed_line counts.now) }
+    ensures { Writes (K.seen sink.old) (K.seen sink.new) result (managed_line counts.now) }
 {
     let mut out = ArrayVec::new();
     push_number(&mut out, b"TURN ", counts.turns);
@@ -73,8 +68,7 @@ fn print_managed<K: Sink>(counts: &Counts, sink: &mut K) -> Result<(), WriteFaul
 
 /// How many entries there are.
 fn print_all<K: Sink>(all: u64, sink: &mut K) -> Result<(), WriteFault>
-    ensures { Writes (sink_view (K.taken sink.old) (K.faults sink.old) (K.stalls sink.old))
-        (sink_view (K.taken sink.new) (K.faults sink.new) (K.stalls sink.new)) result (entries_line all) }
+    ensures { Writes (K.seen sink.old) (K.seen sink.new) result (entries_line all) }
 {
     let mut out = ArrayVec::new();
     push_number(&mut out, b"ENTRIES ", all);
@@ -88,8 +82,7 @@ fn print_lines<K: Sink>(
     all: u64,
     sink: &mut K,
 ) -> Result<(), WriteFault>
-    ensures { Writes (sink_view (K.taken sink.old) (K.faults sink.old) (K.stalls sink.old))
-        (sink_view (K.taken sink.new) (K.faults sink.new) (K.stalls sink.new)) result (summary_lines make counts.now all) }
+    ensures { Writes (K.seen sink.old) (K.seen sink.new) result (summary_lines make counts.now all) }
 {
     print_made(make, sink)?;
     print_answered(counts, sink)?;
@@ -112,8 +105,7 @@ pub fn print_summary<K: Sink>(
     sink: &mut K,
 ) -> Result<(), WriteFault>
     ensures { (entries : List Entry) → all ≡ length entries → kinds.now ≡ tallies_of entries
-        → Writes (sink_view (K.taken sink.old) (K.faults sink.old) (K.stalls sink.old))
-        (sink_view (K.taken sink.new) (K.faults sink.new) (K.stalls sink.new)) result (make_lines make entries) }
+        → Writes (K.seen sink.old) (K.seen sink.new) result (make_lines make entries) }
 {
     print_lines(make, &counts_in(kinds), all, sink)
 }

@@ -1,5 +1,6 @@
 -- What a call gives: nothing if the list is short enough, else the cluster that begins with its head.
-use Rattle.std.proofs.Common.{◌≡◌, ℕ, ◌||◌, Bool, true, false, List, [], Option, length, nat_eq, refl, sym, subst, arith}
+use Rattle.std.proofs.Common.{◌≡◌, ◌||◌, Bool, true, false, [], length, nat_eq, refl, sym, subst, arith}
+use Rattle.vm_types.specs.BlockView.{BlockView, Tells}
 use Rattle.vm_types.specs.Configuration.{IsWellFormed}
 use Rattle.vm_types.specs.declared.names.Seat.{Seat}
 use Rattle.pager_model.specs.Given.{Given, given}
@@ -37,12 +38,12 @@ module _ (s : History) (seat : Seat) (reason : Reason) where
         seat_there = let there = may.there in omega (arith, there);
       }))
 
-  module _ {B : Type 0} {content plan : B → Option (List ℕ)} {reads writes faults : B → ℕ} {tells tells_plan : Bool} where
-    pub begins_nothing : is_short ≡ true → (c : CarrierView B) → Begins content plan reads writes faults tells tells_plan s s seat (begin_gives s.config (pager s) reason) Nothing c c
-    begins_nothing short c = subst (λ (g : Given BeginIs). Begins content plan reads writes faults tells tells_plan s s seat g Nothing c c) (sym (gives_nothing short))
+  module _ {B : Type 0} {seen : B → BlockView} {tells : Tells} where
+    pub begins_nothing : is_short ≡ true → (c : CarrierView B) → Begins seen tells s s seat (begin_gives s.config (pager s) reason) Nothing c c
+    begins_nothing short c = subst (λ (g : Given BeginIs). Begins seen tells s s seat g Nothing c c) (sym (gives_nothing short))
         (record { history = refl; answer = refl; carrier = refl })
 
-    pub begins_cluster : is_short ≡ false → (s' : History) (old new : CarrierView B) → s' ≡ added_each seat (cluster_writes s) s → HasLifts content plan reads writes faults tells tells_plan s' seat (cluster_writes s) new
-        → Begins content plan reads writes faults tells tells_plan s s' seat (begin_gives s.config (pager s) reason) Carry old new
-    begins_cluster long s' old new made lifts = subst (λ (g : Given BeginIs). Begins content plan reads writes faults tells tells_plan s s' seat g Carry old new) (sym (gives_cluster long))
+    pub begins_cluster : is_short ≡ false → (s' : History) (old new : CarrierView B) → s' ≡ added_each seat (cluster_writes s) s → HasLifts seen tells s' seat (cluster_writes s) new
+        → Begins seen tells s s' seat (begin_gives s.config (pager s) reason) Carry old new
+    begins_cluster long s' old new made lifts = subst (λ (g : Given BeginIs). Begins seen tells s s' seat g Carry old new) (sym (gives_cluster long))
         (record { history = made; answer = refl; carrier = lifts })

@@ -2,6 +2,7 @@
 use Rattle.std.proofs.Common.{◌≡◌, ℕ, suc, ◌+◌, ◌-◌, ◌*◌, ◌<◌, ◌≤◌, Bool, true, false, cond, List, [], ◌∷◌, ◌++◌, Option, Some, None, inl, inr, length, map, refl, sym, ap, ◌∙◌, subst, arith}
 use Rattle.std.proofs.lemmas.List.{append-nil, append_assoc, length-append, length-map}
 use Rattle.std.proofs.lemmas.Option.{none-some, same_Some}
+use Rattle.vm_types.specs.BlockView.{BlockView, Tells}
 use Rattle.vm_types.specs.Configuration.{IsBlock, IsWellFormed}
 use Rattle.vm_types.specs.declared.config.Config.{Config}
 use Rattle.vm_types.specs.declared.names.BlockId.{BlockId}
@@ -120,19 +121,19 @@ one_more : {B : Type 0} (c c' : CarrierView B) (place : ℕ × BlockId) → map 
 one_more c c' place each =
     sym (length-map c'.lifts place_of) ∙ (ap (λ (xs : List (ℕ × BlockId)). length xs) each ∙ (length-append (map place_of c.lifts) (place ∷ []) ∙ ap (λ (n : ℕ). n + 1) (length-map c.lifts place_of)))
 
-module _ {B : Type 0} (content plan : B → Option (List ℕ)) (reads writes faults : B → ℕ) (tells tells_plan : Bool) (s₀ : History) (seat : Seat) (most : ℕ) where
+module _ {B : Type 0} (seen : B → BlockView) (tells : Tells) (s₀ : History) (seat : Seat) (most : ℕ) where
   -- n writes were made
   pub record IsPartWritten (n : ℕ) (last : Option BlockId) (s : History) (c : CarrierView B) : Type 0 where
     pub writing : IsWriting (added_each seat (cluster_writes s₀) s₀) (cluster_writes s₀) seat (most - n) last s c
-    pub begun : HasBegunLifts content plan reads writes faults tells tells_plan s seat c
+    pub begun : HasBegunLifts seen tells s seat c
     pub last_there : (b : BlockId) → last ≡ Some b → IsBlock s.config b
     pub few : length c.lifts ≤ n
     pub paid : owed s.past + 64 ≤ s.spare + 3 * n
 
-module _ {B : Type 0} {content plan : B → Option (List ℕ)} {reads writes faults : B → ℕ} {tells tells_plan : Bool} {s₀ : History} {seat : Seat} {most : ℕ} where
+module _ {B : Type 0} {seen : B → BlockView} {tells : Tells} {s₀ : History} {seat : Seat} {most : ℕ} where
   pub none_written : (c : CarrierView B) → c ≡ empty seat → most ≡ s₀.config.params.wrtcluster → AreLegal s₀.config s₀.past seat.0 (cluster_writes s₀) → owed s₀.past + 64 ≤ s₀.spare
-      → IsPartWritten content plan reads writes faults tells tells_plan s₀ seat most 0 None s₀ c
-  none_written c none is legal room = subst (λ (x : CarrierView B). IsPartWritten content plan reads writes faults tells tells_plan s₀ seat most 0 None s₀ x) (sym none) (record {
+      → IsPartWritten seen tells s₀ seat most 0 None s₀ c
+  none_written c none is legal room = subst (λ (x : CarrierView B). IsPartWritten seen tells s₀ seat most 0 None s₀ x) (sym none) (record {
     writing =
         let left : s₀.config.params.wrtcluster ≡ most - 0 = omega (arith, is) in
         subst (λ (m : ℕ). IsWriting {B = B} (added_each seat (cluster_writes s₀) s₀) (cluster_writes s₀) seat m None s₀ (empty seat)) left (record { legal = legal; history = refl; places = refl });
@@ -142,7 +143,7 @@ module _ {B : Type 0} {content plan : B → Option (List ℕ)} {reads writes fau
     paid = omega (arith, room);
   })
 
-  module _ {n : ℕ} {last : Option BlockId} {s : History} {c : CarrierView B} (is : IsPartWritten content plan reads writes faults tells tells_plan s₀ seat most n last s c) where
+  module _ {n : ℕ} {last : Option BlockId} {s : History} {c : CarrierView B} (is : IsPartWritten seen tells s₀ seat most n last s c) where
     -- ---- one write more
     module _ (less : n < most) (few : most ≤ 16) (f : Pfn) (b : BlockId) (next : Some (f, b) ≡ next_write s.config (pager s) last (pager s).modified) where
       writing_more : IsWriting (added_each seat (cluster_writes s₀) s₀) (cluster_writes s₀) seat (suc (most - (n + 1))) last s c
@@ -151,8 +152,8 @@ module _ {B : Type 0} {content plan : B → Option (List ℕ)} {reads writes fau
       pub may_next : MayAdd s (entry_by seat (what.Out f b))
       may_next = may_write _ _ seat (most - (n + 1)) last s c writing_more f b next (let room = is.paid in omega (arith, room, few, less))
 
-      pub part_next : IsWellFormed s.config → IsRun s.config s.past → (s' : History) (c' : CarrierView B) → s' ≡ added s (entry_by seat (what.Out f b)) → HasBegunLifts content plan reads writes faults tells tells_plan s' seat c'
-          → map place_of c'.lifts ≡ map place_of c.lifts ++ (f.0, b) ∷ [] → IsPartWritten content plan reads writes faults tells tells_plan s₀ seat most (n + 1) (Some b) s' c'
+      pub part_next : IsWellFormed s.config → IsRun s.config s.past → (s' : History) (c' : CarrierView B) → s' ≡ added s (entry_by seat (what.Out f b)) → HasBegunLifts seen tells s' seat c'
+          → map place_of c'.lifts ≡ map place_of c.lifts ++ (f.0, b) ∷ [] → IsPartWritten seen tells s₀ seat most (n + 1) (Some b) s' c'
       part_next formed run s' c' made begun each = record {
         writing = next_writing _ _ seat (most - (n + 1)) last s c writing_more f b next formed run s' c' made each;
         begun = begun;
@@ -162,13 +163,13 @@ module _ {B : Type 0} {content plan : B → Option (List ℕ)} {reads writes fau
       }
 
     -- ---- the cluster is whole: nothing joins it, or it has as many writes as it may have
-    whole_made : left_by (most - n) last s ≡ [] → (s ≡ added_each seat (cluster_writes s₀) s₀) × HasLifts content plan reads writes faults tells tells_plan s seat (cluster_writes s₀) c
+    whole_made : left_by (most - n) last s ≡ [] → (s ≡ added_each seat (cluster_writes s₀) s₀) × HasLifts seen tells s seat (cluster_writes s₀) c
     whole_made none =
         let all = written_all _ _ seat (most - n) last s c is.writing none in
         (all.0, record { own = is.begun.own; each = all.1; begun = is.begun.begun })
 
-    pub stopped : None ≡ next_write s.config (pager s) last (pager s).modified → (s ≡ added_each seat (cluster_writes s₀) s₀) × HasLifts content plan reads writes faults tells tells_plan s seat (cluster_writes s₀) c
+    pub stopped : None ≡ next_write s.config (pager s) last (pager s).modified → (s ≡ added_each seat (cluster_writes s₀) s₀) × HasLifts seen tells s seat (cluster_writes s₀) c
     stopped none = whole_made (left_none s.config (pager s) last (most - n) (pager s).modified none)
 
-    pub full : most ≤ n → (s ≡ added_each seat (cluster_writes s₀) s₀) × HasLifts content plan reads writes faults tells tells_plan s seat (cluster_writes s₀) c
+    pub full : most ≤ n → (s ≡ added_each seat (cluster_writes s₀) s₀) × HasLifts seen tells s seat (cluster_writes s₀) c
     full enough = let no_more : 0 ≡ most - n = omega (arith, enough) in whole_made (subst (λ (m : ℕ). left_by m last s ≡ []) no_more (left_full s.config (pager s) last (pager s).modified))

@@ -1,6 +1,7 @@
 -- What a call for a write cluster makes, leaves and returns is what the modified page writer's rule gives. This
 -- project's own.
-use Rattle.std.specs.Prelude.{◌≡◌, ℕ, Bool, List, Option}
+use Rattle.std.specs.Prelude.{◌≡◌, List}
+use Rattle.vm_types.specs.BlockView.{BlockView, Tells}
 use Rattle.vm_types.specs.declared.names.Seat.{Seat}
 use Rattle.vm_journal.specs.declared.entry.What.{What}
 use Rattle.pager_model.specs.Given.{Given}
@@ -22,14 +23,14 @@ abbrev pub begin_of : BeginIs → Begin
 begin_of begin_carry = Carry
 begin_of begin_nothing = Nothing
 
-module _ {B : Type 0} (content plan : B → Option (List ℕ)) (reads writes faults : B → ℕ) where
+module _ {B : Type 0} (seen : B → BlockView) where
   -- with Carry a carrier has the lifts of the writes that were made; with any other answer it is as before
-  abbrev pub IsCarrying : Bool → Bool → History → Seat → List What → Begin → CarrierView B → CarrierView B → Type 0
-  IsCarrying tells tells_plan s seat made Carry old new = HasLifts content plan reads writes faults tells tells_plan s seat made new
-  IsCarrying tells tells_plan s seat made other old new = new ≡ old
+  abbrev pub IsCarrying : Tells → History → Seat → List What → Begin → CarrierView B → CarrierView B → Type 0
+  IsCarrying tells s seat made Carry old new = HasLifts seen tells s seat made new
+  IsCarrying tells s seat made other old new = new ≡ old
 
   -- what a call leaves of the history and of the seat's carrier, and what it returns
-  pub record Begins (tells tells_plan : Bool) (before after : History) (seat : Seat) (g : Given BeginIs) (begin : Begin) (old new : CarrierView B) : Type 0 where
+  pub record Begins (tells : Tells) (before after : History) (seat : Seat) (g : Given BeginIs) (begin : Begin) (old new : CarrierView B) : Type 0 where
     pub history : after ≡ added_each seat g.made before
     pub answer : begin ≡ begin_of g.answer
-    pub carrier : IsCarrying tells tells_plan after seat g.made begin old new
+    pub carrier : IsCarrying tells after seat g.made begin old new

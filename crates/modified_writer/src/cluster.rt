@@ -38,8 +38,7 @@ pub fn write_cluster<B: Block>(state: &mut State<B>, seat: Seat, carrier: &mut C
     requires paid { owed state.old.past + 64 ≤ state.old.spare }
     requires carrier { carrier.old ≡ empty seat }
     ensures made { state.new ≡ added_each seat (cluster_writes state.old) state.old }
-    ensures lifts { HasLifts B.content B.plan B.reads B.writes B.faults B.tells_content B.tells_plan
-        state.new seat (cluster_writes state.old) carrier.new }
+    ensures lifts { HasLifts B.seen B.tells state.new seat (cluster_writes state.old) carrier.new }
 {
     let most = state.config().params.wrtcluster;
     let mut last = None;

@@ -39,8 +39,7 @@ pub fn begin<B: Block>(
     ensures room { (result ≡ Begin.Room) ↔ (state.old.spare < owed state.old.past + 64) }
     ensures same { result ≡ Begin.Room → (state.new ≡ state.old) × (carrier.new ≡ carrier.old) }
     ensures gives { owed state.old.past + 64 ≤ state.old.spare
-        → Begins B.content B.plan B.reads B.writes B.faults B.tells_content B.tells_plan
-        state.old state.new seat (begin_gives state.old.config (pager state.old) (reason_of reason)) result
+        → Begins B.seen B.tells state.old state.new seat (begin_gives state.old.config (pager state.old) (reason_of reason)) result
         carrier.old carrier.new }
 {
     state.run_law();

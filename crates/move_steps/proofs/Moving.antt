@@ -1,6 +1,7 @@
 -- A move that is made of a seat's entries, and one whose carrier lands behind them.
-use Rattle.std.proofs.Common.{◌≡◌, ℕ, Bool, false, List, [], ◌∷◌, Option, map, refl, sym, ap, ◌∙◌, subst}
+use Rattle.std.proofs.Common.{◌≡◌, Bool, false, List, [], ◌∷◌, map, refl, sym, ap, ◌∙◌, subst}
 use Rattle.std.specs.List.{AllByRecursion}
+use Rattle.vm_types.specs.BlockView.{BlockView, Tells}
 use Rattle.vm_types.specs.declared.config.Config.{Config}
 use Rattle.vm_types.specs.declared.names.Seat.{Seat}
 use Rattle.vm_journal.specs.declared.entry.Entry.{Entry}
@@ -76,16 +77,16 @@ module _ (s t : History) (seat : Seat) (ws : List What) (made : t ≡ added_each
       refusal_legal s.config s.past here.at seat.0 ws onward outcomes _ between here.fits here.body here.is each refl
       (carriers_between s.config s.past here.at seat.0 ws onward outcomes _ between here.fits here.is each refl run) refused))
 
-  module _ {B : Type 0} {content plan : B → Option (List ℕ)} {reads writes faults : B → ℕ} {tells tells_plan : Bool} (c : CarrierView B) where
+  module _ {B : Type 0} {seen : B → BlockView} {tells : Tells} (c : CarrierView B) where
     -- the carrier is loaded with what was begun
-    pub loaded : IsBetween s.config s.past → AreStarts ws → HasLifts content plan reads writes faults tells tells_plan t seat ws c → IsLoaded content plan reads writes faults tells tells_plan t seat c
+    pub loaded : IsBetween s.config s.past → AreStarts ws → HasLifts seen tells t seat ws c → IsLoaded seen tells t seat c
     loaded between starts has = record {
       calm = subst (λ (p : List Entry). awaits_reuse p ≡ false) (sym past_is) (starts_calm seat.0 ws s.past starts between.reused);
       lifts = record { own = has.own; begun = has.begun };
       whole =
           ap (λ (own : Seat). map flight_place (carrier_of own.0 t.past)) (sym has.own)
           ∙ (ap (λ (x : History). map flight_place (carrier_of (c.seat).0 x.past)) made
-          ∙ whole_made seat ws s (starts_land_none ws starts) between.landed c (subst (λ (x : History). HasLifts content plan reads writes faults tells tells_plan x seat ws c) made has));
+          ∙ whole_made seat ws s (starts_land_none ws starts) between.landed c (subst (λ (x : History). HasLifts seen tells x seat ws c) made has));
       alone =
           ap (λ (x : History). of_others seat.0 (open_flights x.past)) made
           ∙ none_of_others seat (open_flights (added_each seat ws s).past) (only_own seat ws s (starts_land_none ws starts) between.landed);

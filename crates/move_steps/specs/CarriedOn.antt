@@ -1,5 +1,6 @@
 -- What the landing of a seat's carrier leaves, and where the policy goes on. This project's own.
-use Rattle.std.specs.Prelude.{◌≡◌, ℕ, Bool, true, false, List, [], Option, length, map}
+use Rattle.std.specs.Prelude.{◌≡◌, ℕ, Bool, true, false, List, [], length, map}
+use Rattle.vm_types.specs.BlockView.{BlockView, Tells}
 use Rattle.vm_types.specs.declared.config.Config.{Config}
 use Rattle.vm_types.specs.declared.names.Seat.{Seat}
 use Rattle.vm_journal.specs.declared.entry.Entry.{Entry}
@@ -30,11 +31,11 @@ pub record IsCarriedOn (tells : Bool) (before after : History) (seat : ℕ) (onw
   pub same : IsSameBut before after
   pub right : tells ≡ true → IsRight before.config before.past → IsRight after.config after.past
 
-module _ {B : Type 0} (content plan : B → Option (List ℕ)) (reads writes faults : B → ℕ) where
+module _ {B : Type 0} (seen : B → BlockView) where
   -- the carrier has the lifts of all flights that are open, in their order, and they are this seat's
-  pub record IsLoaded (tells tells_plan : Bool) (s : History) (seat : Seat) (c : CarrierView B) : Type 0 where
+  pub record IsLoaded (tells : Tells) (s : History) (seat : Seat) (c : CarrierView B) : Type 0 where
     pub calm : awaits_reuse s.past ≡ false
-    pub lifts : HasBegunLifts content plan reads writes faults tells tells_plan s seat c
+    pub lifts : HasBegunLifts seen tells s seat c
     pub whole : map flight_place (carrier_of seat.0 s.past) ≡ map place_of c.lifts
     pub alone : of_others seat.0 (open_flights s.past) ≡ []
 

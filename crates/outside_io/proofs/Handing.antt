@@ -18,9 +18,9 @@ some_handed_on a b c buffer done n before took =
     (rw (rest_is_rest buffer done) at took)
     (sym (take-append-drop n (drop done buffer)) ∙ ap (λ rest. take n (drop done buffer) ++ rest) (drop-drop n done buffer)))
 
--- with a buffer as much is told as without
-pub told_alike : (a b : Option (List ℕ)) (x y : List ℕ) → is_some a ≡ is_some b → is_some (append_known a x) ≡ is_some (append_known b y)
-told_alike None None x y e = e
-told_alike None (Some b) x y e = e
-told_alike (Some a) None x y e = e
-told_alike (Some a) (Some b) x y e = e
+-- with a buffer as much is known as without
+pub known_alike : (a b : Option (List ℕ)) (x y : List ℕ) → is_some a ≡ is_some b → is_some (append_known a x) ≡ is_some (append_known b y)
+known_alike None None x y e = e
+known_alike None (Some b) x y e = e
+known_alike (Some a) None x y e = e
+known_alike (Some a) (Some b) x y e = e

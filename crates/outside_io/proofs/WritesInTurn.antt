@@ -52,7 +52,7 @@ pub writes_then : {a b c : SinkView} {result : Result (Unit {0}) WriteFault} {on
 writes_then {a} {b} {c} {result} {one} {two} first second =
     record {
       bytes = taken_then {T = Unit {0}} a.taken b.taken c.taken tt result one two first.bytes second.bytes;
-      told = second.told ∙ first.told;
+      known = second.known ∙ first.known;
       failures = faults_then {T = Unit {0}} a.failures b.failures c.failures tt result first.failures second.failures;
       failures_later = omega (arith, first.failures_later, second.failures_later);
       stalls = stalls_then {T = Unit {0}} a.stalls b.stalls c.stalls tt result first.stalls second.stalls;
@@ -64,7 +64,7 @@ pub writes_fault : {a b : SinkView} {fault : WriteFault} {one : List ℕ} (two :
 writes_fault {a} {b} {fault} {one} two first =
     record {
       bytes = taken_fault (Unit {0}) (Unit {0}) a.taken b.taken fault one two first.bytes;
-      told = first.told;
+      known = first.known;
       failures = first.failures;
       failures_later = first.failures_later;
       stalls = first.stalls;
@@ -76,7 +76,7 @@ pub writes_none : (a : SinkView) → Writes a a (Ok tt) []
 writes_none a =
     record {
       bytes = Appends-nil a.taken;
-      told = refl;
+      known = refl;
       failures = refl;
       failures_later = omega arith;
       stalls = refl;

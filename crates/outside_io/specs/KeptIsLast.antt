@@ -4,7 +4,7 @@ use Rattle.std.specs.declared.option.Option.{Option}
 use Rattle.std.specs.Io.KnownBytes.{append_known}
 use Rattle.std.proofs.Common.{append-nil, sym}
 
--- if the bytes taken are told, they end with those that are kept
+-- if the bytes taken are known, they end with those that are kept
 abbrev pub IsLast : List ℕ → Option (List ℕ) → Type 0
 IsLast kept taken = IfSome taken (λ bytes. (handed_on : List ℕ) × (bytes ≡ handed_on ++ kept))
 

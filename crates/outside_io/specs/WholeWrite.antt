@@ -5,7 +5,7 @@ use Rattle.outside_io.specs.Causes.{raised, Rose}
 use Rattle.outside_io.specs.declared.whole.WriteFault.{WriteFault}
 use Rattle.outside_io.specs.declared.whole.WriteFault.TheVariants.{Failed, NoneTaken}
 
--- after `Ok` the whole text was taken, after a fault a shorter prefix of it, where the sink tells
+-- after `Ok` the whole text was taken, after a fault a shorter prefix of it, where the bytes taken are known
 abbrev pub TakesText : {T : Type 0} → Option (List ℕ) → Option (List ℕ) → Result T WriteFault → List ℕ → Type 0
 TakesText old new (Ok done) text = Appends old new text
 TakesText old new (Err fault) text = (n : ℕ) × (n < length text) × Appends old new (take n text)

@@ -71,13 +71,7 @@ impl MemorySink {
 }
 
 impl Sink for MemorySink {
-    ghost taken = { λ s. Some s.taken };
-
-    ghost faults = { λ s. s.faults };
-
-    ghost kept = { λ _. [] };
-
-    ghost stalls = { λ s. s.stalls };
+    ghost seen = { λ s. record { taken = Some s.taken; kept = []; failures = s.faults; stalls = s.stalls } };
 
     fn write(&mut self, piece: &[u8]) -> Result<usize, Failed>
         ensures bound { WritesAtMost result piece.now }

@@ -11,8 +11,8 @@ use arrayvec::ArrayVec;
 use std::io;
 use vm_types::Failed;
 
-/// One of std's writers as a sink, with a buffer of 65536 bytes before it. It tells the bytes taken if
-/// the writer's type does: those that the writer holds, and then those that are kept in the buffer.
+/// One of std's writers as a sink, with a buffer of 65536 bytes before it. The bytes taken are known if
+/// the writer's type knows them: those that the writer holds, and then those that are kept in the buffer.
 ///
 /// Once a call has failed, each later one fails too, and the writer isn't called again. So nothing
 /// is written after a failed write, and dropping the sink writes nothing either.
@@ -29,10 +29,10 @@ pub struct StdSink<W: SteadyWrite> {
 impl<W: SteadyWrite> StdSink<W> {
     /// No call has failed yet, and nothing is kept. Doesn't allocate.
     pub fn new(writer: W) -> StdSink<W>
-        ensures taken { ⟦<StdSink<W> as Sink>⟧.taken result ≡ append_known (W.contents writer) [] }
-        ensures kept { ⟦<StdSink<W> as Sink>⟧.kept result ≡ [] }
-        ensures faults { ⟦<StdSink<W> as Sink>⟧.faults result ≡ 0 }
-        ensures stalls { ⟦<StdSink<W> as Sink>⟧.stalls result ≡ 0 }
+        ensures taken { (⟦<StdSink<W> as Sink>⟧.seen result).taken ≡ append_known (W.contents writer) [] }
+        ensures kept { (⟦<StdSink<W> as Sink>⟧.seen result).kept ≡ [] }
+        ensures faults { (⟦<StdSink<W> as Sink>⟧.seen result).failures ≡ 0 }
+        ensures stalls { (⟦<StdSink<W> as Sink>⟧.seen result).stalls ≡ 0 }
     {
         StdSink {
             writer,
@@ -96,19 +96,13 @@ impl<W: SteadyWrite> StdSink<W> {
 }
 
 impl<W: SteadyWrite> Sink for StdSink<W> {
-    ghost taken = { λ s. append_known (W.contents s.writer) (drop s.done s.buffer.items) };
-
-    ghost kept = { λ s. drop s.done s.buffer.items };
-
-    ghost faults = { λ s. s.faults };
-
-    ghost stalls = { λ _. 0 };
+    ghost seen = { λ s. record { taken = append_known (W.contents s.writer) (drop s.done s.buffer.items); kept = drop s.done s.buffer.items; failures = s.faults; stalls = 0 } };
 
     fn write(&mut self, piece: &[u8]) -> Result<usize, Failed>
         ensures bound { WritesAtMost result piece.now }
         ensures bytes { WriteAppends (append_known (W.contents self.old.writer) (drop self.old.done self.old.buffer.items))
             (append_known (W.contents self.new.writer) (drop self.new.done self.new.buffer.items)) result piece.now }
-        ensures told { is_some (append_known (W.contents self.new.writer) (drop self.new.done self.new.buffer.items))
+        ensures known { is_some (append_known (W.contents self.new.writer) (drop self.new.done self.new.buffer.items))
             ≡ is_some (append_known (W.contents self.old.writer) (drop self.old.done self.old.buffer.items)) }
         ensures cause { HasCause self.old.faults self.new.faults result }
         ensures quiet { OnOk result (self.new.faults ≡ self.old.faults) }
@@ -131,7 +125,7 @@ impl<W: SteadyWrite> Sink for StdSink<W> {
     fn flush(&mut self) -> Result<(), Failed>
         ensures bytes { Keeps (append_known (W.contents self.old.writer) (drop self.old.done self.old.buffer.items))
             (append_known (W.contents self.new.writer) (drop self.new.done self.new.buffer.items)) }
-        ensures told { is_some (append_known (W.contents self.new.writer) (drop self.new.done self.new.buffer.items))
+        ensures known { is_some (append_known (W.contents self.new.writer) (drop self.new.done self.new.buffer.items))
             ≡ is_some (append_known (W.contents self.old.writer) (drop self.old.done self.old.buffer.items)) }
         ensures handed_on { OnOk result (drop self.new.done self.new.buffer.items ≡ []) }
         ensures cause { HasCause self.old.faults self.new.faults result }

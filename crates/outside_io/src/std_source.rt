@@ -4,7 +4,7 @@ use crate::source::Source;
 use std::io::Read;
 use vm_types::Failed;
 
-/// One of std's readers as a source. It tells the bytes left where the reader's type does.
+/// One of std's readers as a source. The bytes left are known where the reader's type knows them.
 #[derive(Debug, Drop)]
 pub struct StdSource<R: Read> {
     reader: R,
@@ -14,17 +14,15 @@ pub struct StdSource<R: Read> {
 impl<R: Read> StdSource<R> {
     /// No call has failed yet. Takes no memory.
     pub fn new(reader: R) -> StdSource<R>
-        ensures left { ⟦<StdSource<R> as Source>⟧.left result ≡ R.remaining reader }
-        ensures faults { ⟦<StdSource<R> as Source>⟧.faults result ≡ 0 }
+        ensures left { (⟦<StdSource<R> as Source>⟧.seen result).left ≡ R.remaining reader }
+        ensures faults { (⟦<StdSource<R> as Source>⟧.seen result).failures ≡ 0 }
     {
         StdSource { reader, faults: 0 }
     }
 }
 
 impl<R: Read> Source for StdSource<R> {
-    ghost left = { λ s. R.remaining s.reader };
-
-    ghost faults = { λ s. s.faults };
+    ghost seen = { λ s. record { left = R.remaining s.reader; failures = s.faults } };
 
     fn read(&mut self, buf: &mut [u8]) -> Result<usize, Failed> {
         match self.reader.read(buf) {

@@ -2,8 +2,8 @@ ghost use Rattle.std.specs.Prelude.{◌≡◌, is_some, refl};
 
 use std::io::{Stderr, Stdout, Write};
 
-/// One of std's writers whose type alone says whether it tells the bytes that it holds: all writers
-/// of the type tell them, or none does.
+/// One of std's writers whose type alone says whether the bytes that it holds are known: they are of
+/// all writers of the type, or of none.
 pub trait SteadyWrite: Write {
     ghost steady: { (a b : Self) → is_some (Self.contents a) ≡ is_some (Self.contents b) };
 }

@@ -18,12 +18,12 @@ pub enum WriteFault {
 /// `Failed` only where the sink's count of faults rose. `NoneTaken` exactly where its count of
 /// stalls rose. After either the sink has taken less than the text, a prefix of it.
 pub fn write_whole<K: Sink>(sink: &mut K, text: &[u8]) -> Result<(), WriteFault>
-    ensures bytes { TakesText (K.taken sink.old) (K.taken sink.new) result text.now }
-    ensures told { is_some (K.taken sink.new) ≡ is_some (K.taken sink.old) }
-    ensures faults { FaultsBy (K.faults sink.old) (K.faults sink.new) result }
-    ensures faults_later { K.faults sink.old ≤ K.faults sink.new }
-    ensures stalls { K.stalls sink.new ≡ stalls_by (K.stalls sink.old) result }
-    ensures stalls_later { K.stalls sink.old ≤ K.stalls sink.new }
+    ensures bytes { TakesText (K.seen sink.old).taken (K.seen sink.new).taken result text.now }
+    ensures known { is_some (K.seen sink.new).taken ≡ is_some (K.seen sink.old).taken }
+    ensures faults { FaultsBy (K.seen sink.old).failures (K.seen sink.new).failures result }
+    ensures faults_later { (K.seen sink.old).failures ≤ (K.seen sink.new).failures }
+    ensures stalls { (K.seen sink.new).stalls ≡ stalls_by (K.seen sink.old).stalls result }
+    ensures stalls_later { (K.seen sink.old).stalls ≤ (K.seen sink.new).stalls }
 {
     let mut done = 0;
     while done < text.len() {

@@ -1,6 +1,7 @@
 -- A lift, that is a transfer that was begun and is carried outside the memory lock, still fits the journal.
 -- This project's own.
 use Rattle.std.specs.Prelude.{◌≡◌, ℕ, Bool, true, false, ◌<◌, List, Option, Some, find, nat_eq, not, if◌then◌else◌}
+use Rattle.vm_types.specs.BlockView.{BlockView}
 use Rattle.vm_types.specs.declared.names.Page.{Page}
 use Rattle.vm_types.specs.declared.names.BlockId.{BlockId}
 use Rattle.vm_types.specs.declared.config.Config.{Config}
@@ -12,7 +13,7 @@ use Rattle.pager_model.specs.Counted.{Counts, counts_of}
 use Rattle.pager_model.specs.Flights.{Direction, Flight, is_reading, open_flights, reading, writing}
 use Rattle.pager_model.specs.Pager.{Pager}
 use Rattle.pager_model.specs.Spoken.{flat_after}
-use Rattle.pager_model.specs.Told.{HasCounts, Told, told_plan}
+use Rattle.pager_model.specs.CountedBlock.{HasCounts, told_plan}
 use Rattle.pager_model.specs.Transfers.{starts}
 
 -- what a past and its state say of an open flight: the flight of this number, the page that its frame holds,
@@ -45,7 +46,7 @@ pub record Lift : Type 0 where
   pub block : BlockId
   pub is_read : Bool
   pub buffer : List ℕ
-  pub told : Told
+  pub seen : BlockView
   pub result : Result
 
 -- the lift is of this flight
@@ -61,21 +62,21 @@ one_left b = if b then 1 else 0
 -- by its result: the one call is still to come; or it was made, the buffer has the read bytes, or the block the
 -- written ones; or it failed, and the counts say so
 abbrev pub FitsResult : Bool → Lift → Counts → List ℕ → Result → Type 0
-FitsResult tells lift counts bytes waiting = HasCounts lift.told counts (one_left lift.is_read) (one_left (not lift.is_read)) × ((lift.told).faults ≡ counts.faults)
+FitsResult tells lift counts bytes waiting = HasCounts lift.seen counts (one_left lift.is_read) (one_left (not lift.is_read)) × ((lift.seen).faults ≡ counts.faults)
 FitsResult tells lift counts bytes good =
-    HasCounts lift.told counts 0 0 × ((lift.told).faults ≡ counts.faults)
-    × (tells ≡ true → lift.is_read ≡ true → lift.buffer ≡ bytes) × (tells ≡ true → lift.is_read ≡ false → (lift.told).content ≡ Some lift.buffer)
-FitsResult tells lift counts bytes (bad c d) = HasCounts lift.told counts 0 0 × (c ≡ counts.faults) × (d ≡ (lift.told).faults) × (c < d)
+    HasCounts lift.seen counts 0 0 × ((lift.seen).faults ≡ counts.faults)
+    × (tells ≡ true → lift.is_read ≡ true → lift.buffer ≡ bytes) × (tells ≡ true → lift.is_read ≡ false → (lift.seen).content ≡ Some lift.buffer)
+FitsResult tells lift counts bytes (bad c d) = HasCounts lift.seen counts 0 0 × (c ≡ counts.faults) × (d ≡ (lift.seen).faults) × (c < d)
 
--- the lift is of the flight, which is open, and of the page in its frame; a block that is read tells the page's
+-- the lift is of the flight, which is open, and of the page in its frame; a block that is read has the page's
 -- bytes, and a buffer that is written has those of when the write began
 pub record FitsView (tells : Bool) (plan : Option (List ℕ)) (x : Flight) (view : FlightView) (lift : Lift) : Type 0 where
   pub flight : IsOfFlight lift x
   pub found_x : view.found ≡ Some x
   pub held_page : view.held ≡ Some lift.page
-  pub content : tells ≡ true → lift.is_read ≡ true → (lift.told).content ≡ Some view.bytes
+  pub content : tells ≡ true → lift.is_read ≡ true → (lift.seen).content ≡ Some view.bytes
   pub buffer : tells ≡ true → lift.is_read ≡ false → lift.buffer ≡ view.bytes
-  pub plan_is : (lift.told).plan ≡ plan
+  pub plan_is : (lift.seen).plan ≡ plan
   pub result : FitsResult tells lift view.counts view.bytes lift.result
 
 abbrev pub FitsLift : Bool → Bool → Config → List Entry → Pager → Lift → Type 0
@@ -89,7 +90,7 @@ lands j (what.OutOk f k) = nat_eq j k
 lands j (what.OutFail f k c d) = nat_eq j k
 lands j other = false
 
--- a lift of any type of blocks, by the block's meanings
+-- a lift of any type of blocks, by what is seen of a block
 pub record LiftOf (B : Type 0) : Type 0 where
   pub start : ℕ
   pub page : Page
@@ -100,9 +101,6 @@ pub record LiftOf (B : Type 0) : Type 0 where
   pub held : B
   pub result : Result
 
-module _ {B : Type 0} (content plan : B → Option (List ℕ)) (reads writes faults : B → ℕ) where
-  abbrev pub told_of : B → Told
-  told_of x = record { content = content x; plan = plan x; reads = reads x; writes = writes x; faults = faults x }
-
+module _ {B : Type 0} (seen : B → BlockView) where
   abbrev pub lift_of : LiftOf B → Lift
-  lift_of x = record { start = x.start; page = x.page; frame = x.frame; block = x.block; is_read = x.is_read; buffer = x.buffer; told = told_of x.held; result = x.result }
+  lift_of x = record { start = x.start; page = x.page; frame = x.frame; block = x.block; is_read = x.is_read; buffer = x.buffer; seen = seen x.held; result = x.result }

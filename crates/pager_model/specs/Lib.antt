@@ -10,6 +10,7 @@ pub mod ClusterLength
 pub mod Collide
 pub mod Content
 pub mod Counted
+pub mod CountedBlock
 pub mod Denied
 pub mod Done
 pub mod Evict
@@ -50,7 +51,6 @@ pub mod Spoken
 pub mod Step
 pub mod Swap
 pub mod Text
-pub mod Told
 pub mod Transfers
 pub mod Turn
 pub mod WriteCluster

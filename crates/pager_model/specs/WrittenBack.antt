@@ -1,12 +1,12 @@
 -- What the blocks that were retired have. This project's own.
 use Rattle.std.specs.Prelude.{◌≡◌, ℕ, Bool, true, false, List, Some, slice_get}
 use Rattle.std.specs.List.{AllByRecursion}
+use Rattle.vm_types.specs.BlockView.{Retired}
 use Rattle.vm_types.specs.declared.names.Page.TheVariants.{Shared}
 use Rattle.vm_types.specs.declared.names.SecId.{SecId}
 use Rattle.vm_types.specs.declared.names.BlockId.TheVariants as block
 use Rattle.vm_types.specs.declared.config.Config.{Config}
 use Rattle.vm_journal.specs.declared.entry.Entry.{Entry}
-use Rattle.pager_model.specs.Asked.{Retired}
 use Rattle.pager_model.specs.Bytes.{now}
 use Rattle.pager_model.specs.Maps.{section_bytes, shared_of}
 use Rattle.pager_model.specs.Run.{pager_after}
@@ -16,14 +16,14 @@ use Rattle.pager_model.specs.Text.{is_dirty}
 abbrev pub IsWrittenBack : Config → List Entry → Retired → Type 0
 IsWrittenBack config past x =
     (s : SecId) (i : ℕ) → x.block ≡ block.Section s i → shared_of (slice_get config.sections s.0) ≡ true
-    → is_dirty config (pager_after config past) (Shared s i) ≡ false → (x.told).content ≡ Some (now config past (Shared s i))
+    → is_dirty config (pager_after config past) (Shared s i) ≡ false → (x.seen).content ≡ Some (now config past (Shared s i))
 
 -- a block of a copy on reference section has its first bytes
 abbrev pub IsUnwritten : Config → Retired → Type 0
 IsUnwritten config x =
-    (s : SecId) (i : ℕ) → x.block ≡ block.Section s i → shared_of (slice_get config.sections s.0) ≡ false → (x.told).content ≡ Some (section_bytes config s.0 i)
+    (s : SecId) (i : ℕ) → x.block ≡ block.Section s i → shared_of (slice_get config.sections s.0) ≡ false → (x.seen).content ≡ Some (section_bytes config s.0 i)
 
--- where blocks tell their content, the section blocks that were retired have these bytes; the past is that of
+-- where the bytes of blocks are known, the section blocks that were retired have these bytes; the past is that of
 -- the whole journal, with its rundown
 pub record AreWrittenBack (tells : Bool) (config : Config) (past : List Entry) (retired : List Retired) : Type 0 where
   pub shared : tells ≡ true → AllByRecursion (IsWrittenBack config past) retired

@@ -6,11 +6,12 @@ use Rattle.std.specs.Str.{IsUtf8}
 use Rattle.std.specs.Io.KnownBytes.{Appends, Keeps}
 use Rattle.std.proofs.KnownBytes.{Appends-kept}
 use Rattle.std.proofs.lemmas.List.{take_all}
+use Rattle.vm_types.specs.Moved.{Moved, moved}
 use Rattle.outside_io.specs.Views.{SourceView, SinkView}
 use Rattle.pager_model.specs.Text.{status_line}
 use Rattle.program_ends.specs.Ends.{Ends}
 use Rattle.replay_cli.specs.Commands.{Told}
-use Rattle.replay_cli.specs.DepotView.{DepotView}
+use Rattle.disk_trait.specs.DepotView.{DepotView}
 use Rattle.program_call.specs.ProgramTells.{ProgramTells, ran, no_words}
 
 -- all words of which these are those after the program's own name
@@ -20,30 +21,30 @@ all_words None copied are = ([] ∷ copied, tt, refl)
 all_words (Some all) copied are = (all, refl, sym are)
 
 -- the words are handed over
-pub run_tells : (told : Option (List (List ℕ))) (copied words : List (List ℕ)) (before after : SourceView) (depot depot' : DepotView) (status : ℕ) (text : List ℕ)
-    → IfSome told (λ all. copied ≡ drop 1 all) → words ≡ copied → All IsUtf8 copied → Told words before after depot depot' status text → ProgramTells told before after depot depot' status text
-run_tells told copied words before after depot depot' status text are same utf8 tells =
+pub run_tells : (told : Option (List (List ℕ))) (copied words : List (List ℕ)) (source : Moved SourceView) (depot : Moved DepotView) (status : ℕ) (text : List ℕ)
+    → IfSome told (λ all. copied ≡ drop 1 all) → words ≡ copied → All IsUtf8 copied → Told words source depot status text → ProgramTells told source depot status text
+run_tells told copied words source depot status text are same utf8 tells =
     let all = all_words told copied are in
     ran all.0 words status text all.1 (inl (same ∙ sym all.2, subst (All IsUtf8) (sym all.2) utf8)) tells
 
 -- one of them isn't UTF-8
-pub none_tells : (told : Option (List (List ℕ))) (copied words : List (List ℕ)) (before after : SourceView) (depot depot' : DepotView) (status : ℕ) (text : List ℕ)
-    → IfSome told (λ all. copied ≡ drop 1 all) → words ≡ [] → (All IsUtf8 copied → ⊥) → Told words before after depot depot' status text → ProgramTells told before after depot depot' status text
-none_tells told copied words before after depot depot' status text are none bad tells =
+pub none_tells : (told : Option (List (List ℕ))) (copied words : List (List ℕ)) (source : Moved SourceView) (depot : Moved DepotView) (status : ℕ) (text : List ℕ)
+    → IfSome told (λ all. copied ≡ drop 1 all) → words ≡ [] → (All IsUtf8 copied → ⊥) → Told words source depot status text → ProgramTells told source depot status text
+none_tells told copied words source depot status text are none bad tells =
     let all = all_words told copied are in
     ran all.0 words status text all.1 (inr (none, λ utf8. bad (subst (All IsUtf8) all.2 utf8))) tells
 
 -- memory ran out before
 pub no_words_told : {told : Option (List (List ℕ))} {source : SourceView} {depot : DepotView} {before after : SinkView} {result : ℕ} → Ends before after 7 (status_line 7) result
-    → result ≢ 4 → (text : List ℕ) × ProgramTells told source source depot depot result text × Appends before.taken after.taken text
+    → result ≢ 4 → (text : List ℕ) × ProgramTells told (moved source source) (moved depot depot) result text × Appends before.taken after.taken text
 no_words_told {told} {source} {depot} ends no_four =
     elim ends.how [
-      | inl whole ↦ (status_line 7, subst (λ status. ProgramTells told source source depot depot status (status_line 7)) (sym whole.0) (no_words refl refl), whole.1)
+      | inl whole ↦ (status_line 7, subst (λ status. ProgramTells told (moved source source) (moved depot depot) status (status_line 7)) (sym whole.0) (no_words refl refl), whole.1)
       | inr cut ↦ absurd (no_four cut.0)
     ]
 
 pub no_words_cut : {told : Option (List (List ℕ))} {source : SourceView} {depot : DepotView} {before after : SinkView} {result : ℕ} → Ends before after 7 (status_line 7) result
-    → result ≡ 4 → (status : ℕ) × ((text : List ℕ) × ((n : ℕ) × ProgramTells told source source depot depot status text × (n < length text) × Appends before.taken after.taken (take n text)))
+    → result ≡ 4 → (status : ℕ) × ((text : List ℕ) × ((n : ℕ) × ProgramTells told (moved source source) (moved depot depot) status text × (n < length text) × Appends before.taken after.taken (take n text)))
 no_words_cut ends four =
     elim ends.how [
       | inl whole ↦ absurd (omega (arith, whole.0, four))

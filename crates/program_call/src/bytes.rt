@@ -1,10 +1,10 @@
-ghost use Rattle.std.specs.Prelude.{◌≡◌, ◌≢◌, ◌⊎◌, [], List, ℕ, Some, IfOk, map, refl};
-ghost use Rattle.outside_io.specs.Views.{source_view};
+ghost use Rattle.std.specs.Prelude.{◌≡◌, ◌≢◌, ◌⊎◌, [], List, ℕ, Some, IfOk, refl};
+ghost use Rattle.vm_types.specs.BlockView.{Retired};
 ghost use Rattle.outside_io.specs.KeptIsLast.{all_is_handed_on};
-ghost use Rattle.replay_cli.specs.Commands.{Asks, HasInput, IsDone, Told};
+ghost use Rattle.vm_types.specs.Moved.{moved};
+ghost use Rattle.replay_cli.specs.Commands.{Asks, HasInput, IsDone, Told, texts};
 ghost use Rattle.replay_cli.specs.declared.words.Command.{Command};
-ghost use Rattle.pager_model.specs.Asked.{Retired};
-ghost use Rattle.program_call.specs.ProgramTells.{memory_view};
+ghost use Rattle.program_call.specs.ProgramTells.{bytes_view, memory_view};
 
 use crate::sure_depot::SureDepot;
 use outside_io::{Sink, Source};
@@ -13,7 +13,7 @@ use replay_cli::run_one;
 use std::alloc::Global;
 use vm_types::{Failed, NoMemory};
 
-/// A slice of bytes as a source. It tells the bytes left, and no read fails.
+/// A slice of bytes as a source. The bytes left are known, and no read fails.
 #[derive(Drop)]
 pub struct BytesSource<'a> {
     left: &'a [u8],
@@ -22,16 +22,14 @@ pub struct BytesSource<'a> {
 impl<'a> BytesSource<'a> {
     /// All bytes of the slice are left. Doesn't allocate.
     pub fn new(bytes: &'a [u8]) -> BytesSource<'a>
-        ensures { ⟦<BytesSource<'a> as Source>⟧.left result ≡ Some bytes.now }
+        ensures { (⟦<BytesSource<'a> as Source>⟧.seen result).left ≡ Some bytes.now }
     {
         BytesSource { left: bytes }
     }
 }
 
 impl Source for BytesSource<'_> {
-    ghost left = { λ s. Some s.left.now };
-
-    ghost faults = { λ _. 0 };
+    ghost seen = { λ s. record { left = Some s.left.now; failures = 0 } };
 
     fn read(&mut self, buf: &mut [u8]) -> Result<usize, Failed> {
         let count = self.left.len().min(buf.len());
@@ -42,7 +40,7 @@ impl Source for BytesSource<'_> {
     }
 }
 
-/// A vector that grows as a sink. It tells the bytes taken; a write fails if memory runs out.
+/// A vector that grows as a sink. The bytes taken are known; a write fails if memory runs out.
 #[derive(Drop)]
 pub struct BytesSink {
     bytes: Vec<u8>,
@@ -52,8 +50,8 @@ pub struct BytesSink {
 impl BytesSink {
     /// Nothing is taken yet. Doesn't allocate.
     pub fn new(alloc: Global) -> BytesSink
-        ensures taken { ⟦<BytesSink as Sink>⟧.taken result ≡ Some [] }
-        ensures faults { ⟦<BytesSink as Sink>⟧.faults result ≡ 0 }
+        ensures taken { (⟦<BytesSink as Sink>⟧.seen result).taken ≡ Some [] }
+        ensures faults { (⟦<BytesSink as Sink>⟧.seen result).failures ≡ 0 }
     {
         BytesSink {
             bytes: Vec::new(alloc),
@@ -63,20 +61,14 @@ impl BytesSink {
 
     /// The bytes taken, in order. Doesn't allocate.
     pub fn into_bytes(self) -> Vec<u8>
-        ensures { ⟦<BytesSink as Sink>⟧.taken self ≡ Some result.items }
+        ensures { (⟦<BytesSink as Sink>⟧.seen self).taken ≡ Some result.items }
     {
         self.bytes
     }
 }
 
 impl Sink for BytesSink {
-    ghost taken = { λ s. Some s.bytes.items };
-
-    ghost kept = { λ _. [] };
-
-    ghost faults = { λ s. s.faults };
-
-    ghost stalls = { λ _. 0 };
+    ghost seen = { λ s. record { taken = Some s.bytes.items; kept = []; failures = s.faults; stalls = 0 } };
 
     fn write(&mut self, piece: &[u8]) -> Result<usize, Failed> {
         match self.bytes.extend_from_slice(piece) {
@@ -104,11 +96,11 @@ impl Sink for BytesSink {
 pub fn run_bytes(alloc: Global, words: &[&str], input: &[u8]) -> Result<(Status, Vec<u8>), NoMemory>
     // The headline: what is written is the text that goes with the status, by the words, the bytes and
     // the blocks that were given back.
-    ensures told { IfOk result (λ run. (rest : List ℕ) × ((blocks : List Retired) × Told (map (λ word. word.now) words.now)
-        (source_view (Some input.now) 0) (source_view (Some rest) 0) (memory_view []) (memory_view blocks) run.0.0 run.1.items)) }
+    ensures told { IfOk result (λ run. (rest : List ℕ) × ((blocks : List Retired) × Told (texts words.now)
+        (moved (bytes_view input.now) (bytes_view rest)) (moved (memory_view []) (memory_view blocks)) run.0.0 run.1.items)) }
     // If the words ask for a command and the bytes are what it reads, it did what was asked, with dirty
     // pages left or with none, or found a line of a log that isn't legal, or memory ran out.
-    ensures complete { (command : Command) → Asks (map (λ word. word.now) words.now) command → HasInput command (source_view (Some input.now) 0)
+    ensures complete { (command : Command) → Asks (texts words.now) command → HasInput command (bytes_view input.now)
         → IfOk result (λ run. IsDone command run.0.0) }
     ensures no_failure { IfOk result (λ run. (run.0.0 ≢ 3) × (run.0.0 ≢ 4) × (run.0.0 ≢ 6)) }
 {

@@ -19,10 +19,10 @@ pub struct FirstBytes<K: Sink> {
 impl<K: Sink> FirstBytes<K> {
     /// Nothing is passed on yet. Doesn't allocate.
     pub fn new(sink: K) -> FirstBytes<K>
-        ensures taken { ⟦<FirstBytes<K> as Sink>⟧.taken result ≡ K.taken sink }
-        ensures kept { ⟦<FirstBytes<K> as Sink>⟧.kept result ≡ K.kept sink }
-        ensures faults { ⟦<FirstBytes<K> as Sink>⟧.faults result ≡ K.faults sink }
-        ensures stalls { ⟦<FirstBytes<K> as Sink>⟧.stalls result ≡ K.stalls sink }
+        ensures taken { (⟦<FirstBytes<K> as Sink>⟧.seen result).taken ≡ (K.seen sink).taken }
+        ensures kept { (⟦<FirstBytes<K> as Sink>⟧.seen result).kept ≡ (K.seen sink).kept }
+        ensures faults { (⟦<FirstBytes<K> as Sink>⟧.seen result).failures ≡ (K.seen sink).failures }
+        ensures stalls { (⟦<FirstBytes<K> as Sink>⟧.seen result).stalls ≡ (K.seen sink).stalls }
         ensures first { result.first.items ≡ [] }
     {
         FirstBytes {
@@ -47,22 +47,16 @@ impl<K: Sink> FirstBytes<K> {
 }
 
 impl<K: Sink> Sink for FirstBytes<K> {
-    ghost taken = { λ s. K.taken s.sink };
-
-    ghost kept = { λ s. K.kept s.sink };
-
-    ghost faults = { λ s. K.faults s.sink };
-
-    ghost stalls = { λ s. K.stalls s.sink };
+    ghost seen = { λ s. K.seen s.sink };
 
     fn write(&mut self, piece: &[u8]) -> Result<usize, Failed>
         ensures bound { WritesAtMost result piece.now }
-        ensures bytes { WriteAppends (K.taken self.old.sink) (K.taken self.new.sink) result piece.now }
-        ensures told { is_some (K.taken self.new.sink) ≡ is_some (K.taken self.old.sink) }
-        ensures cause { HasCause (K.faults self.old.sink) (K.faults self.new.sink) result }
-        ensures quiet { OnOk result (K.faults self.new.sink ≡ K.faults self.old.sink) }
-        ensures stalls { K.stalls self.new.sink ≡ stalls_after (K.stalls self.old.sink) result piece.now }
-        ensures stalls_later { K.stalls self.old.sink ≤ K.stalls self.new.sink }
+        ensures bytes { WriteAppends (K.seen self.old.sink).taken (K.seen self.new.sink).taken result piece.now }
+        ensures known { is_some (K.seen self.new.sink).taken ≡ is_some (K.seen self.old.sink).taken }
+        ensures cause { HasCause (K.seen self.old.sink).failures (K.seen self.new.sink).failures result }
+        ensures quiet { OnOk result ((K.seen self.new.sink).failures ≡ (K.seen self.old.sink).failures) }
+        ensures stalls { (K.seen self.new.sink).stalls ≡ stalls_after (K.seen self.old.sink).stalls result piece.now }
+        ensures stalls_later { (K.seen self.old.sink).stalls ≤ (K.seen self.new.sink).stalls }
 
         // It knows the first bytes that were taken.
         ensures first { IfOk result (λ n. self.new.first.items ≡ take 40 (self.old.first.items ++ take n piece.now)) }
@@ -74,12 +68,12 @@ impl<K: Sink> Sink for FirstBytes<K> {
     }
 
     fn flush(&mut self) -> Result<(), Failed>
-        ensures bytes { Keeps (K.taken self.old.sink) (K.taken self.new.sink) }
-        ensures told { is_some (K.taken self.new.sink) ≡ is_some (K.taken self.old.sink) }
-        ensures handed_on { OnOk result (K.kept self.new.sink ≡ []) }
-        ensures cause { HasCause (K.faults self.old.sink) (K.faults self.new.sink) result }
-        ensures quiet { OnOk result (K.faults self.new.sink ≡ K.faults self.old.sink) }
-        ensures stalls { K.stalls self.new.sink ≡ K.stalls self.old.sink }
+        ensures bytes { Keeps (K.seen self.old.sink).taken (K.seen self.new.sink).taken }
+        ensures known { is_some (K.seen self.new.sink).taken ≡ is_some (K.seen self.old.sink).taken }
+        ensures handed_on { OnOk result ((K.seen self.new.sink).kept ≡ []) }
+        ensures cause { HasCause (K.seen self.old.sink).failures (K.seen self.new.sink).failures result }
+        ensures quiet { OnOk result ((K.seen self.new.sink).failures ≡ (K.seen self.old.sink).failures) }
+        ensures stalls { (K.seen self.new.sink).stalls ≡ (K.seen self.old.sink).stalls }
         ensures first { self.new.first.items ≡ self.old.first.items }
     {
         self.sink.flush()

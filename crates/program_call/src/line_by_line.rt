@@ -33,8 +33,8 @@ pub struct LineSource<S: Source> {
 impl<S: Source> LineSource<S> {
     /// Nothing is given yet. Doesn't allocate.
     pub fn new(source: S) -> LineSource<S>
-        ensures left { ⟦<LineSource<S> as Source>⟧.left result ≡ prepend_known [] (S.left source) }
-        ensures faults { ⟦<LineSource<S> as Source>⟧.faults result ≡ S.faults source }
+        ensures left { (⟦<LineSource<S> as Source>⟧.seen result).left ≡ prepend_known [] (S.seen source).left }
+        ensures faults { (⟦<LineSource<S> as Source>⟧.seen result).failures ≡ (S.seen source).failures }
         ensures text { line_begin result.front.items result.buffer result.from result.at ≡ [] }
         ensures number { result.number ≡ 0 }
         ensures ended { result.ended ≡ true }
@@ -67,11 +67,11 @@ impl<S: Source> LineSource<S> {
 
     // Fills the buffer, if all of it is given; what it had of the last line is kept.
     fn refill(&mut self) -> Result<(), Failed>
-        ensures bytes { Keeps (prepend_known (slice_range self.old.buffer self.old.at self.old.filled) (S.left self.old.source))
-            (prepend_known (slice_range self.new.buffer self.new.at self.new.filled) (S.left self.new.source)) }
-        ensures end { OnOk result (self.new.at ≡ self.new.filled → IsAtEnd (S.left self.new.source)) }
-        ensures cause { HasCause (S.faults self.old.source) (S.faults self.new.source) result }
-        ensures quiet { OnOk result (S.faults self.new.source ≡ S.faults self.old.source) }
+        ensures bytes { Keeps (prepend_known (slice_range self.old.buffer self.old.at self.old.filled) (S.seen self.old.source).left)
+            (prepend_known (slice_range self.new.buffer self.new.at self.new.filled) (S.seen self.new.source).left) }
+        ensures end { OnOk result (self.new.at ≡ self.new.filled → IsAtEnd (S.seen self.new.source).left) }
+        ensures cause { HasCause (S.seen self.old.source).failures (S.seen self.new.source).failures result }
+        ensures quiet { OnOk result ((S.seen self.new.source).failures ≡ (S.seen self.old.source).failures) }
         ensures text { line_begin self.new.front.items self.new.buffer self.new.from self.new.at
             ≡ line_begin self.old.front.items self.old.buffer self.old.from self.old.at }
         ensures number { self.new.number ≡ self.old.number }
@@ -154,18 +154,16 @@ fn line_length(bytes: &[u8]) -> usize
 }
 
 impl<S: Source> Source for LineSource<S> {
-    ghost left = { λ s. prepend_known (slice_range s.buffer s.at s.filled) (S.left s.source) };
-
-    ghost faults = { λ s. S.faults s.source };
+    ghost seen = { λ s. record { left = prepend_known (slice_range s.buffer s.at s.filled) (S.seen s.source).left; failures = (S.seen s.source).failures } };
 
     fn read(&mut self, buf: &mut [u8]) -> Result<usize, Failed>
         ensures bound { ReadsAtMost result buf.new }
-        ensures bytes { ReadConsumes (prepend_known (slice_range self.old.buffer self.old.at self.old.filled) (S.left self.old.source))
-            (prepend_known (slice_range self.new.buffer self.new.at self.new.filled) (S.left self.new.source)) result buf.new }
-        ensures told { IsSome (prepend_known (slice_range self.old.buffer self.old.at self.old.filled) (S.left self.old.source))
-            → IsSome (prepend_known (slice_range self.new.buffer self.new.at self.new.filled) (S.left self.new.source)) }
-        ensures cause { HasCause (S.faults self.old.source) (S.faults self.new.source) result }
-        ensures quiet { OnOk result (S.faults self.new.source ≡ S.faults self.old.source) }
+        ensures bytes { ReadConsumes (prepend_known (slice_range self.old.buffer self.old.at self.old.filled) (S.seen self.old.source).left)
+            (prepend_known (slice_range self.new.buffer self.new.at self.new.filled) (S.seen self.new.source).left) result buf.new }
+        ensures known { IsSome (prepend_known (slice_range self.old.buffer self.old.at self.old.filled) (S.seen self.old.source).left)
+            → IsSome (prepend_known (slice_range self.new.buffer self.new.at self.new.filled) (S.seen self.new.source).left) }
+        ensures cause { HasCause (S.seen self.old.source).failures (S.seen self.new.source).failures result }
+        ensures quiet { OnOk result ((S.seen self.new.source).failures ≡ (S.seen self.old.source).failures) }
 
         // It gives a line or less, and knows the last line.
         ensures stops { IfOk result (λ n. StopsAt (take n buf.new) 10) }

@@ -1,6 +1,5 @@
 ghost use Rattle.std.specs.Prelude.{◌≡◌, ◌≢◌, ◌+◌, ◌≤◌, ◌++◌, List, ℕ, IsTrue, IfSome, IfNone, length, filter};
 ghost use Rattle.arrayvec.specs.ArrayVec.{array_vec_len};
-ghost use Rattle.outside_io.specs.Views.{sink_view};
 ghost use Rattle.program_ends.specs.FaultText.{fault_text};
 ghost use Rattle.program_call.specs.Messages.{IsMessage, IsSaid, is_printable, line_message, rule_text};
 
@@ -130,8 +129,7 @@ fn message_of(last: &LastLine, wrong: &[u8]) -> ArrayVec<u8, 320>
 
 // Writes a message and hands it on. What fails is told nowhere.
 fn say<M: Sink>(message: &[u8], messages: &mut M)
-    ensures { IsSaid (sink_view (M.taken messages.old) (M.faults messages.old) (M.stalls messages.old))
-        (sink_view (M.taken messages.new) (M.faults messages.new) (M.stalls messages.new)) message.now }
+    ensures { IsSaid (M.seen messages.old) (M.seen messages.new) message.now }
 {
     match write_whole(messages, message) {
         Ok(()) => {
@@ -147,8 +145,7 @@ fn say<M: Sink>(message: &[u8], messages: &mut M)
 /// The last line that was read and the first bytes that were written tell which. Doesn't allocate.
 pub(crate) fn explain<M: Sink>(status: u8, last: &LastLine, first: &[u8], messages: &mut M)
     ensures { (message : List ℕ) × IsMessage last.now.number last.now.text.items first.now status message
-        × IsSaid (sink_view (M.taken messages.old) (M.faults messages.old) (M.stalls messages.old))
-        (sink_view (M.taken messages.new) (M.faults messages.new) (M.stalls messages.new)) message }
+        × IsSaid (M.seen messages.old) (M.seen messages.new) message }
 {
     match status {
         1 => say(USAGE, messages),

@@ -1,11 +1,12 @@
-ghost use Rattle.std.specs.Prelude.{◌≡◌, ◌<◌, ◌++◌, [], OnErr, OnOk, length, map};
+ghost use Rattle.std.specs.Prelude.{◌≡◌, ◌<◌, ◌++◌, [], OnErr, OnOk, length};
+ghost use Rattle.program_call.specs.ProgramTells.{memory_view};
 
-use disk_trait::{Depot, MakeFault, MemoryBlock, MemoryDepot};
+use disk_trait::{Block, Depot, MakeFault, MemoryBlock, MemoryDepot};
 use std::alloc::Global;
 use vm_types::{BlockId, NoMemory};
 
-/// A depot in memory that never fails: a block is not made only for want of memory. Its blocks tell
-/// content and plan, and fail exactly at the calls that they are made to fail at.
+/// A depot in memory that never fails: a block is not made only for want of memory. The bytes and the
+/// plans of its blocks are known, and they fail exactly at the calls that they are made to fail at.
 #[derive(Drop)]
 pub(crate) struct SureDepot {
     depot: MemoryDepot,
@@ -15,7 +16,7 @@ pub(crate) struct SureDepot {
 impl SureDepot {
     /// A depot that has taken nothing back. Doesn't allocate.
     pub(crate) fn new(alloc: Global) -> SureDepot
-        ensures { ⟦<SureDepot as Depot>⟧.retired result ≡ [] }
+        ensures { ⟦<SureDepot as Depot>⟧.seen result ≡ memory_view [] }
     {
         SureDepot {
             depot: MemoryDepot::new(alloc, Vec::new(alloc)),
@@ -24,11 +25,14 @@ impl SureDepot {
 }
 
 impl Depot for SureDepot {
+    ghost use Rattle.std.specs.Prelude.{refl};
+    ghost use Rattle.disk_trait.specs.DepotView.{depot_view};
+
     type Block = MemoryBlock;
 
-    ghost retired = { λ d. d.depot.retired };
+    ghost seen = { λ d. depot_view ⟦<MemoryBlock as Block>⟧.seen ⟦<MemoryBlock as Block>⟧.tells d.depot.retired 0 };
 
-    ghost faults = { λ _. 0 };
+    ghost known = { λ _. refl };
 
     fn make(&mut self, id: BlockId, bytes: &[u8], fails: &[u32]) -> Result<MemoryBlock, MakeFault> {
         self.depot.make(id, bytes, fails)

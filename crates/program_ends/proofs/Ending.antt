@@ -21,7 +21,7 @@ ends_cut {a} {b} {fault} {one} two status w =
     let within : w.bytes.0 ≤ length one = omega (arith, w.bytes.1) in
     record {
       how = inr (refl, (w.bytes.0, omega (arith, length-append one two, w.bytes.1), rw (take-append-le w.bytes.0 one two within) w.bytes.2), rose_by a b fault one w);
-      told = w.told;
+      known = w.known;
       failures_later = w.failures_later;
       stalls_later = w.stalls_later;
     }
@@ -41,7 +41,7 @@ ends_then {a} {b} {c} {one} {two} {status} {result} w e =
           ],
         )
       ];
-      told = e.told ∙ w.told;
+      known = e.known ∙ w.known;
       failures_later = omega (arith, w.failures_later, e.failures_later);
       stalls_later = omega (arith, w.stalls_later, e.stalls_later);
     }

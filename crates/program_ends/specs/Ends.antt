@@ -9,6 +9,6 @@ use Rattle.outside_io.specs.Views.{SinkView}
 pub record Ends (before after : SinkView) (status : ℕ) (text : List ℕ) (result : ℕ) : Type 0 where
   pub how : ((result ≡ status) × Appends before.taken after.taken text × (after.failures ≡ before.failures) × (after.stalls ≡ before.stalls))
       ⊎ ((result ≡ 4) × ((n : ℕ) × (n < length text) × Appends before.taken after.taken (take n text)) × (Rose before.failures after.failures ⊎ Rose before.stalls after.stalls))
-  pub told : is_some after.taken ≡ is_some before.taken
+  pub known : is_some after.taken ≡ is_some before.taken
   pub failures_later : before.failures ≤ after.failures
   pub stalls_later : before.stalls ≤ after.stalls

@@ -11,7 +11,7 @@ use Rattle.pager_model.specs.Text.{status_line}
 use Rattle.program_ends.specs.Concludes.{IsOutcome}
 use Rattle.program_ends.specs.FaultText.{fault_text, unfinished_text}
 
--- if the source tells its bytes, they stand for the configuration and were read to their end
+-- if the source's bytes are known, they stand for the configuration and were read to their end
 abbrev pub Reads : SourceView → SourceView → Config → Type 0
 Reads before after config = IfSome before.left (λ text. (trace_of text ≡ Configuration config) × (after.left ≡ Some []))
 
@@ -40,6 +40,6 @@ pub data Tells (answer : Config → ℕ → List ℕ → Type 0) (before after :
       → Tells answer before after 3 (status_line 3)
   no_memory : after.failures ≡ before.failures → Tells answer before after 7 (status_line 7)
 
--- the source tells its bytes, and they stand for a configuration
+-- the source's bytes are known, and they stand for a configuration
 abbrev pub IsTrace : SourceView → Type 0
 IsTrace before = (text : List ℕ) × ((config : Config) × (before.left ≡ Some text) × (trace_of text ≡ Configuration config))

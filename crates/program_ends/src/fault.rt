@@ -1,5 +1,4 @@
 ghost use Rattle.std.specs.Prelude.{◌≡◌, ◌++◌, ◌≤◌, length};
-ghost use Rattle.outside_io.specs.Views.{sink_view};
 ghost use Rattle.outside_io.specs.Writes.{Writes};
 ghost use Rattle.pager_model.specs.Text.{status_line};
 ghost use Rattle.program_ends.specs.Ends.{Ends};
@@ -33,8 +32,7 @@ pub fn name_of(cause: Cause) -> &'static [u8]
 
 /// Writes a line that says what is wrong with the trace.
 fn print_fault<K: Sink>(n: u32, cause: Cause, sink: &mut K) -> Result<(), WriteFault>
-    ensures { Writes (sink_view (K.taken sink.old) (K.faults sink.old) (K.stalls sink.old))
-        (sink_view (K.taken sink.new) (K.faults sink.new) (K.stalls sink.new)) result (fault_text n cause) }
+    ensures { Writes (K.seen sink.old) (K.seen sink.new) result (fault_text n cause) }
 {
     let mut out = ArrayVec::new();
     push_word(&mut out, b"TRACE ");
@@ -45,8 +43,7 @@ fn print_fault<K: Sink>(n: u32, cause: Cause, sink: &mut K) -> Result<(), WriteF
 }
 
 fn print_unfinished<K: Sink>(sink: &mut K) -> Result<(), WriteFault>
-    ensures { Writes (sink_view (K.taken sink.old) (K.faults sink.old) (K.stalls sink.old))
-        (sink_view (K.taken sink.new) (K.faults sink.new) (K.stalls sink.new)) result unfinished_text }
+    ensures { Writes (K.seen sink.old) (K.seen sink.new) result unfinished_text }
 {
     let mut out = ArrayVec::new();
     push_word(&mut out, b"TRACE UNFINISHED");
@@ -55,8 +52,7 @@ fn print_unfinished<K: Sink>(sink: &mut K) -> Result<(), WriteFault>
 
 /// Ends with status 2 after the line of the trace that is at fault.
 fn end_faulty<K: Sink>(n: u32, cause: Cause, sink: &mut K) -> Status
-    ensures { Ends (sink_view (K.taken sink.old) (K.faults sink.old) (K.stalls sink.old))
-        (sink_view (K.taken sink.new) (K.faults sink.new) (K.stalls sink.new))
+    ensures { Ends (K.seen sink.old) (K.seen sink.new)
         2 (fault_text n cause ++ status_line 2) result.0 }
 {
     match print_fault(n, cause, sink) {
@@ -67,8 +63,7 @@ fn end_faulty<K: Sink>(n: u32, cause: Cause, sink: &mut K) -> Status
 
 /// Ends with status 2 after a trace that is unfinished.
 fn end_unfinished<K: Sink>(sink: &mut K) -> Status
-    ensures { Ends (sink_view (K.taken sink.old) (K.faults sink.old) (K.stalls sink.old))
-        (sink_view (K.taken sink.new) (K.faults sink.new) (K.stalls sink.new))
+    ensures { Ends (K.seen sink.old) (K.seen sink.new)
         2 (unfinished_text ++ status_line 2) result.0 }
 {
     match print_unfinished(sink) {
@@ -81,8 +76,7 @@ fn end_unfinished<K: Sink>(sink: &mut K) -> Status
 /// with it, with 3 if a read failed, with 7 if memory ran out; with 4 if that can't be written.
 /// Doesn't allocate.
 pub fn end_fault<K: Sink>(fault: TraceFault, sink: &mut K) -> Status
-    ensures { Ends (sink_view (K.taken sink.old) (K.faults sink.old) (K.stalls sink.old))
-        (sink_view (K.taken sink.new) (K.faults sink.new) (K.stalls sink.new))
+    ensures { Ends (K.seen sink.old) (K.seen sink.new)
         (fault_status fault) (fault_told fault) result.0 }
 {
     match fault {

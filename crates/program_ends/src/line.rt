@@ -1,6 +1,5 @@
 ghost use Rattle.std.specs.Prelude.{◌≡◌, ◌+◌, ◌≤◌, ◌++◌, length, decimal};
 ghost use Rattle.arrayvec.specs.ArrayVec.{array_vec_len};
-ghost use Rattle.outside_io.specs.Views.{sink_view};
 ghost use Rattle.outside_io.specs.Writes.{Writes};
 ghost use Rattle.pager_model.specs.Text.{ended};
 
@@ -27,8 +26,7 @@ pub fn push_counted(out: &mut ArrayVec<u8, 160>, word: &[u8], count: u32)
 /// rose. After either the sink has taken less than the line, a prefix of it.
 pub fn write_line<K: Sink>(mut line: ArrayVec<u8, 160>, sink: &mut K) -> Result<(), WriteFault>
     requires { array_vec_len line ≤ 159 }
-    ensures { Writes (sink_view (K.taken sink.old) (K.faults sink.old) (K.stalls sink.old))
-        (sink_view (K.taken sink.new) (K.faults sink.new) (K.stalls sink.new)) result (ended line.items) }
+    ensures { Writes (K.seen sink.old) (K.seen sink.new) result (ended line.items) }
 {
     line.push(b'\n');
     write_whole(sink, line.as_slice())

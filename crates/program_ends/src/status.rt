@@ -1,5 +1,4 @@
 ghost use Rattle.std.specs.Prelude.{◌≢◌};
-ghost use Rattle.outside_io.specs.Views.{sink_view};
 ghost use Rattle.outside_io.specs.Writes.{Writes};
 ghost use Rattle.pager_model.specs.Text.{status_line};
 ghost use Rattle.program_ends.specs.Ends.{Ends};
@@ -15,8 +14,7 @@ use outside_io::{Sink, WriteFault};
 pub struct Status(pub u8);
 
 fn print_status<K: Sink>(n: u8, sink: &mut K) -> Result<(), WriteFault>
-    ensures { Writes (sink_view (K.taken sink.old) (K.faults sink.old) (K.stalls sink.old))
-        (sink_view (K.taken sink.new) (K.faults sink.new) (K.stalls sink.new)) result (status_line n) }
+    ensures { Writes (K.seen sink.old) (K.seen sink.new) result (status_line n) }
 {
     let mut out = ArrayVec::new();
     push_counted(&mut out, b"STATUS ", u32::from(n));
@@ -27,8 +25,7 @@ fn print_status<K: Sink>(n: u8, sink: &mut K) -> Result<(), WriteFault>
 /// with 4 if the line can't be written. Doesn't allocate.
 pub fn end_with<K: Sink>(n: u8, sink: &mut K) -> Status
     requires { n ≢ 4 }
-    ensures { Ends (sink_view (K.taken sink.old) (K.faults sink.old) (K.stalls sink.old))
-        (sink_view (K.taken sink.new) (K.faults sink.new) (K.stalls sink.new)) n (status_line n) result.0 }
+    ensures { Ends (K.seen sink.old) (K.seen sink.new) n (status_line n) result.0 }
 {
     match print_status(n, sink) {
         Ok(()) => Status(n),

@@ -1,20 +1,22 @@
 -- A run that has ended is an answer to its configuration.
 use Rattle.std.proofs.Common.{◌≡◌, ℕ, Bool, true, false, List, ◌++◌, length, refl, sym, ◌∙◌, ap, subst, inl, inr}
-use Rattle.std.specs.Prelude.{◌⊎◌, Option, nat_eq, if◌then◌else◌}
+use Rattle.std.specs.Prelude.{◌⊎◌, nat_eq, if◌then◌else◌}
+use Rattle.vm_types.specs.BlockView.{Retired, Tells}
 use Rattle.vm_types.specs.Configuration.{IsWellFormed}
 use Rattle.vm_types.specs.declared.config.Config.{Config}
-use Rattle.vm_types.specs.declared.names.BlockId.{BlockId}
 use Rattle.vm_types.specs.declared.names.Page.{Page}
 use Rattle.vm_journal.specs.declared.entry.Entry.{Entry}
+use Rattle.disk_trait.specs.DepotView.{DepotView}
 use Rattle.pager_model.specs.Text.{run_text}
 use Rattle.pager_laws.specs.Laws.{RunsAreSound}
+use Rattle.vm_types.specs.Moved.{moved}
+use Rattle.pager_model.specs.Serial.{IsSerial}
 use Rattle.program_ends.specs.Concludes.{IsOutcome}
 use Rattle.run_text.specs.Parts.{run_status}
 use Rattle.run_text.specs.Reported.{AreParts, IsReported}
 use Rattle.serial_run.specs.Ended.{IsFinished}
 use Rattle.serial_run.specs.declared.finished.Finished.{Finished}
-use Rattle.replay_cli.specs.DepotView.{depot_view}
-use Rattle.replay_cli.specs.SerialAnswer.{IsFinishedRun}
+use Rattle.replay_cli.specs.Headline.{IsFinishedRun}
 use Rattle.replay_cli.proofs.Overs.{run_over}
 
 abbrev status_by : Bool → ℕ
@@ -30,9 +32,8 @@ run_ends dirty = by (nat_eq (length dirty) 0) where
 pub run_outcome : (dirty : List Page) → IsOutcome (run_status dirty)
 run_outcome dirty = elim (run_ends dirty) [ inl zero ↦ inl zero | inr five ↦ inr (inl five) ]
 
-module _ {B : Type 0} (content plan : B → Option (List ℕ)) (reads writes faults : B → ℕ) (tells_content tells_plan : Bool)
-    (config : Config) (taken : List (BlockId × B)) (f : Finished) (entries : List Entry) (dirty : List Page)
-    (formed : IsWellFormed config) (ended : IsFinished content plan reads writes faults tells_content tells_plan config taken f)
+module _ (tells : Tells) (config : Config) (taken : List Retired) (f : Finished) (entries : List Entry) (dirty : List Page)
+    (formed : IsWellFormed config) (ended : IsFinished tells config taken f)
     (all : entries ≡ (f.entries).items) (left : dirty ≡ (f.dirty).items) where
   pub are_parts : AreParts entries f.at ended.past ended.rest
   are_parts = record { all = all ∙ ended.all; place = ended.at }
@@ -51,13 +52,12 @@ module _ {B : Type 0} (content plan : B → Option (List ℕ)) (reads writes fau
         last = left ∙ ended.over.left;
       })
 
-  module _ (got got' : List (BlockId × B)) (count count' : ℕ) (longer : got' ≡ got ++ taken) (sound : RunsAreSound) where
-    pub finished_run : IsFinishedRun (depot_view content plan reads writes faults tells_content tells_plan got count) (depot_view content plan reads writes faults tells_content tells_plan got' count')
-        config (run_status dirty) (run_text f.config ended.past ended.rest (run_status dirty))
+  module _ (depot depot' : DepotView) (known : depot.tells ≡ tells) (longer : depot'.retired ≡ depot.retired ++ taken) (sound : RunsAreSound) where
+    pub finished_run : IsFinishedRun (IsSerial config) (moved depot depot') config (run_status dirty) (run_text f.config ended.past ended.rest (run_status dirty))
     finished_run = record {
       past = ended.past;
       rest = ended.rest;
-      over = run_over content plan reads writes faults tells_content tells_plan config taken (f.dirty).items ended.past ended.rest got got' count count' formed ended.over longer sound;
+      over = run_over tells config taken (f.dirty).items ended.past ended.rest depot depot' known formed ended.over longer sound;
       ending = ap run_status (left ∙ ended.over.left);
       lines = ap (λ (x : Config). run_text x ended.past ended.rest (run_status dirty)) ended.same;
     }

@@ -4,4 +4,5 @@ pub mod Serving
 pub mod Making
 pub mod MakeOptions
 pub mod Obeying
+mod Served
 pub mod Asking

@@ -2,7 +2,9 @@
 use Rattle.std.proofs.Common.{◌≡◌, ◌≢◌, ℕ, List, ◌∷◌, ◌++◌, refl, sym, ◌∙◌, subst, arith, inl, inr}
 use Rattle.std.specs.Prelude.{◌⊎◌}
 use Rattle.vm_types.specs.declared.config.Config.{Config}
+use Rattle.disk_trait.specs.DepotView.{DepotView}
 use Rattle.outside_io.specs.Causes.{Rose}
+use Rattle.vm_types.specs.Moved.{moved}
 use Rattle.outside_io.specs.Views.{SinkView, SourceView}
 use Rattle.pager_model.specs.Run.{pager_after}
 use Rattle.pager_model.specs.Text.{dirty_pages}
@@ -17,8 +19,7 @@ use Rattle.study_command.specs.StudyText.{IsStudyAnswer}
 use Rattle.replay_cli.specs.Commands.{Asks, HasInput, IsDone, Obeys, Told, usage, obeyed}
 use Rattle.replay_cli.specs.MakeAnswer.{IsMakeAnswer, MakeTells, made as counted, no_memory as memory_out}
 use Rattle.make_summary.specs.declared.make.Make.{Make}
-use Rattle.replay_cli.specs.DepotView.{DepotView}
-use Rattle.replay_cli.specs.SerialAnswer.{IsSerialAnswer}
+use Rattle.replay_cli.specs.Headline.{IsSerialAnswer}
 use Rattle.replay_cli.specs.declared.words.Command.{Command}
 use Rattle.replay_cli.specs.declared.words.Command.TheVariants.{Serial, Study, Make as MakeCommand, Check}
 use Rattle.replay_cli.proofs.Finishing.{run_ends}
@@ -27,7 +28,7 @@ use Rattle.replay_cli.proofs.Finishing.{run_ends}
 abbrev HasEnding : DepotView → DepotView → ℕ → Type 0
 HasEnding depot depot' status = ((status ≡ 0) ⊎ (status ≡ 5)) ⊎ ((status ≡ 6) × Rose depot.failures depot'.failures)
 
-serial_ending : (depot depot' : DepotView) (config : Config) (status : ℕ) (text : List ℕ) → IsSerialAnswer depot depot' config status text → HasEnding depot depot' status
+serial_ending : (depot depot' : DepotView) (config : Config) (status : ℕ) (text : List ℕ) → IsSerialAnswer (moved depot depot') config status text → HasEnding depot depot' status
 serial_ending depot depot' config status text (inl run) =
     inl (subst (λ n. (n ≡ 0) ⊎ (n ≡ 5)) (sym run.ending) (run_ends (dirty_pages config (pager_after config (run.rest ++ run.past)))))
 serial_ending depot depot' config status text (inr none) = inr (none.ending, none.failed)
@@ -35,7 +36,7 @@ serial_ending depot depot' config status text (inr none) = inr (none.ending, non
 study_ending : (depot depot' : DepotView) (status : ℕ) → status ≡ 0 → HasEnding depot depot' status
 study_ending depot depot' status zero = inl (inl zero)
 
-make_ending : (make : Make) (depot depot' : DepotView) (status : ℕ) (text : List ℕ) → IsMakeAnswer make depot depot' status text → HasEnding depot depot' status
+make_ending : (make : Make) (depot depot' : DepotView) (status : ℕ) (text : List ℕ) → IsMakeAnswer make (moved depot depot') status text → HasEnding depot depot' status
 make_ending make depot depot' status text (inl run) =
     let config = made_config make.seed make.procs make.refs in
     inl (subst (λ n. (n ≡ 0) ⊎ (n ≡ 5)) (sym run.ending) (run_ends (dirty_pages config (pager_after config (run.rest ++ run.past)))))
@@ -127,7 +128,7 @@ module _ (depot depot' : DepotView) {before after : SourceView} (answer : Config
   }
 
 module _ {before after : SourceView} {depot depot' : DepotView} where
-  told_by_make : (make : Make) (status : ℕ) (text : List ℕ) → MakeTells make depot depot' status text → Holds (Unit {0}) HasRun before after depot depot' status
+  told_by_make : (make : Make) (status : ℕ) (text : List ℕ) → MakeTells make (moved depot depot') status text → Holds (Unit {0}) HasRun before after depot depot' status
   told_by_make make status text (counted own t outcome right) =
       let ends = make_ending make depot depot' status text right in
       record {
@@ -154,45 +155,45 @@ module _ {before after : SourceView} {depot depot' : DepotView} where
     complete = λ input unfailed failed. checking.told_complete status text told input unfailed;
   }
 
-  obeys_holds : (command : Command) (status : ℕ) (text : List ℕ) → Obeys command before after depot depot' status text
+  obeys_holds : (command : Command) (status : ℕ) (text : List ℕ) → Obeys command (moved before after) (moved depot depot') status text
       → Holds (HasInput command before) (IsDone command) before after depot depot' status
-  obeys_holds Serial status text obeys = tells_holds depot depot' (IsSerialAnswer depot depot') (serial_ending depot depot') status text obeys.tells
+  obeys_holds Serial status text obeys = tells_holds depot depot' (IsSerialAnswer (moved depot depot')) (serial_ending depot depot') status text obeys.tells
   obeys_holds (Study study) status text obeys = tells_holds depot depot' (IsStudyAnswer study) (λ config n t answer. study_ending depot depot' n answer.0) status text obeys.0
   obeys_holds (MakeCommand make) status text obeys = told_by_make make status text obeys.0
   obeys_holds Check status text obeys = told_by_check status text obeys.0
 
 -- no text goes with status 4
-pub not_four : {words : List (List ℕ)} {before after : SourceView} {depot depot' : DepotView} (status : ℕ) (text : List ℕ) → Told words before after depot depot' status text → status ≢ 4
+pub not_four : {words : List (List ℕ)} {before after : SourceView} {depot depot' : DepotView} (status : ℕ) (text : List ℕ) → Told words (moved before after) (moved depot depot') status text → status ≢ 4
 not_four status text (usage other same kept) e = absurd (omega arith)
 not_four status text (obeyed command n t asks obeys) e = (obeys_holds command n t obeys).not_four e
 
 module _ {words : List (List ℕ)} {before after : SourceView} {depot depot' : DepotView} where
   -- with status 1 the words ask for nothing
-  told_usage : (status : ℕ) (text : List ℕ) → Told words before after depot depot' status text → status ≡ 1 → (command : Command) → Asks words command → ⊥
+  told_usage : (status : ℕ) (text : List ℕ) → Told words (moved before after) (moved depot depot') status text → status ≡ 1 → (command : Command) → Asks words command → ⊥
   told_usage status text (usage other same kept) e = other
   told_usage status text (obeyed command n t asks obeys) e = absurd ((obeys_holds command n t obeys).not_one e)
 
-  told_one : (status : ℕ) (text : List ℕ) → Told words before after depot depot' status text → ((command : Command) → Asks words command → ⊥) → status ≡ 1
+  told_one : (status : ℕ) (text : List ℕ) → Told words (moved before after) (moved depot depot') status text → ((command : Command) → Asks words command → ⊥) → status ≡ 1
   told_one status text (usage other same kept) bad = refl
   told_one status text (obeyed command n t asks obeys) bad = absurd (bad command asks)
 
-  told_read : (status : ℕ) (text : List ℕ) → Told words before after depot depot' status text → status ≡ 3 → Rose before.failures after.failures
+  told_read : (status : ℕ) (text : List ℕ) → Told words (moved before after) (moved depot depot') status text → status ≡ 3 → Rose before.failures after.failures
   told_read status text (usage other same kept) e = absurd (omega arith)
   told_read status text (obeyed command n t asks obeys) e = (obeys_holds command n t obeys).read e
 
   -- with status 6 the depot failed
-  told_depot : (status : ℕ) (text : List ℕ) → Told words before after depot depot' status text → status ≡ 6 → Rose depot.failures depot'.failures
+  told_depot : (status : ℕ) (text : List ℕ) → Told words (moved before after) (moved depot depot') status text → status ≡ 6 → Rose depot.failures depot'.failures
   told_depot status text (usage other same kept) e = absurd (omega arith)
   told_depot status text (obeyed command n t asks obeys) e = (obeys_holds command n t obeys).made e
 
-  told_complete : (status : ℕ) (text : List ℕ) → Told words before after depot depot' status text → (command : Command) → Asks words command → HasInput command before
+  told_complete : (status : ℕ) (text : List ℕ) → Told words (moved before after) (moved depot depot') status text → (command : Command) → Asks words command → HasInput command before
       → (Rose before.failures after.failures → ⊥) → (Rose depot.failures depot'.failures → ⊥) → IsDone command status
   told_complete status text (usage other same_source kept) command asks input unfailed made = absurd (other command asks)
   told_complete status text (obeyed own n t own_asks obeys) command asks input unfailed made =
       let are = same words before command own asks own_asks in are.done n ((obeys_holds own n t obeys).complete (are.input input) unfailed made)
 
   -- the same of the status that is answered
-  module _ {sink sink' : SinkView} {result : ℕ} (c : Concludes (Told words before after depot depot') sink sink' result) where
+  module _ {sink sink' : SinkView} {result : ℕ} (c : Concludes (Told words (moved before after) (moved depot depot')) sink sink' result) where
     pub usage_status : ((command : Command) → Asks words command → ⊥) → (result ≡ 1) ⊎ (result ≡ 4)
     usage_status bad = elim (its_status c) [ inl is ↦ inl (is ∙ told_one c.status c.text c.tells_it bad) | inr four ↦ inr four ]
 

@@ -2,6 +2,8 @@
 use Rattle.std.proofs.Common.{◌≡◌, ℕ, refl, arith, inl, inr}
 use Rattle.std.specs.Prelude.{◌⊎◌, IfSome, Ok, Err}
 use Rattle.vm_types.specs.declared.config.Config.{Config}
+use Rattle.vm_types.specs.Moved.{moved}
+use Rattle.disk_trait.specs.DepotView.{DepotView}
 use Rattle.outside_io.specs.Views.{SinkView, SourceView}
 use Rattle.trace_reader.specs.Answer.{Answers, FaultsBy}
 use Rattle.trace_reader.specs.declared.fault.TraceFault.{TraceFault}
@@ -11,9 +13,7 @@ use Rattle.program_ends.specs.Ends.{Ends}
 use Rattle.program_ends.specs.FaultText.{fault_status, fault_told}
 use Rattle.program_ends.specs.Tells.{answered, no_memory}
 use Rattle.program_ends.proofs.Telling.{fault_tells}
-use Rattle.replay_cli.specs.Commands.{SerialTells}
-use Rattle.replay_cli.specs.DepotView.{DepotView}
-use Rattle.replay_cli.specs.SerialAnswer.{IsSerialAnswer}
+use Rattle.replay_cli.specs.Headline.{IsSerialAnswer, SerialTells}
 
 -- an outcome isn't that of input that is no trace or can't be read
 not_early : (status : ℕ) → IsOutcome status → (status ≡ 2) ⊎ (status ≡ 3) → ⊥
@@ -29,7 +29,7 @@ not_early status outcome early =
 module _ {before after : SourceView} {depot depot' : DepotView} {sink sink' : SinkView} {result : ℕ} where
   -- the trace was read, and its configuration was answered
   pub concludes_run : (config : Config) → IfSome before.left (λ text. Answers (Ok config) text after.left) → FaultsBy (Ok config) before.failures after.failures
-      → EndsAnswered (IsSerialAnswer depot depot' config) sink sink' result → Concludes (SerialTells before after depot depot') sink sink' result
+      → EndsAnswered (IsSerialAnswer (moved depot depot') config) sink sink' result → Concludes (SerialTells (moved before after) (moved depot depot')) sink sink' result
   concludes_run config means counts (inl told) = record {
     status = told.status;
     text = told.text;
@@ -52,10 +52,10 @@ module _ {before after : SourceView} {depot depot' : DepotView} {sink sink' : Si
 -- there is no configuration, and no block was made
 pub concludes_unread : {before after : SourceView} {depot : DepotView} {sink sink' : SinkView} {result : ℕ} (f : TraceFault)
     → IfSome before.left (λ text. Answers (Err f) text after.left) → FaultsBy (Err f) before.failures after.failures
-    → Ends sink sink' (fault_status f) (fault_told f) result → Concludes (SerialTells before after depot depot) sink sink' result
+    → Ends sink sink' (fault_status f) (fault_told f) result → Concludes (SerialTells (moved before after) (moved depot depot)) sink sink' result
 concludes_unread {depot = depot} f means counts ends = record {
   status = fault_status f;
   text = fault_told f;
-  tells_it = record { tells = fault_tells (IsSerialAnswer depot depot) f means counts; keeps = λ early. refl };
+  tells_it = record { tells = fault_tells (IsSerialAnswer (moved depot depot)) f means counts; keeps = λ early. refl };
   ends = ends;
 }

@@ -1,18 +1,24 @@
 -- The command lines, and what each command answers. A further command is a case more of each.
 -- Source: this project's own.
-use Rattle.std.specs.Prelude.{◌≡◌, ◌⊎◌, ℕ, ◌≤◌, List, [], ◌∷◌, codes}
+use Rattle.std.specs.Prelude.{◌≡◌, ◌⊎◌, ℕ, ◌≤◌, List, [], ◌∷◌, codes, map}
+use Rattle.std.specs.Borrow.{Bor}
+use Rattle.vm_types.specs.Moved.{Moved}
+use Rattle.disk_trait.specs.DepotView.{DepotView}
 use Rattle.outside_io.specs.Views.{SourceView}
 use Rattle.pager_model.specs.Text.{status_line}
 use Rattle.check_command.specs.CheckTells.{CheckTells, HasCheckInput}
 use Rattle.program_ends.specs.Tells.{IsTrace, Tells}
 use Rattle.study_command.specs.CommandLine.{AsksFor}
 use Rattle.study_command.specs.StudyText.{IsStudyAnswer}
-use Rattle.replay_cli.specs.DepotView.{DepotView}
+use Rattle.replay_cli.specs.Headline.{SerialTells}
 use Rattle.replay_cli.specs.MakeAnswer.{MakeTells}
 use Rattle.replay_cli.specs.MakeLine.{AsksToMake, IsMakeable}
-use Rattle.replay_cli.specs.SerialAnswer.{IsSerialAnswer}
 use Rattle.replay_cli.specs.declared.words.Command.{Command}
 use Rattle.replay_cli.specs.declared.words.Command.TheVariants.{Serial, Study, Make, Check}
+
+-- the words as texts
+abbrev pub texts : List (Bor (List ℕ)) → List (List ℕ)
+texts words = map (λ word. word.now) words
 
 -- the words ask for the command: `serial` or `check` alone, or `study` or `make` and its options
 abbrev pub Asks : List (List ℕ) → Command → Type 0
@@ -28,7 +34,7 @@ IsBounded (Study study) = (1 ≤ study.frames) × (study.frames ≤ 1024)
 IsBounded (Make make) = IsMakeable make
 IsBounded Check = Unit {0}
 
--- the source tells what it reads: a trace, a trace and a log that isn't too long, or nothing
+-- what the command reads is known: a trace, a trace and a log that isn't too long, or nothing
 abbrev pub HasInput : Command → SourceView → Type 0
 HasInput Serial before = IsTrace before
 HasInput (Study study) before = IsTrace before
@@ -43,24 +49,19 @@ IsDone (Study study) status = (status ≡ 0) ⊎ ((status ≡ 5) ⊎ (status ≡
 IsDone (Make make) status = (status ≡ 0) ⊎ ((status ≡ 5) ⊎ (status ≡ 7))
 IsDone Check status = (status ≡ 0) ⊎ ((status ≡ 8) ⊎ (status ≡ 7))
 
--- what `serial` tells: no block is made for input that is no trace or can't be read
-pub record SerialTells (before after : SourceView) (depot depot' : DepotView) (status : ℕ) (text : List ℕ) : Type 0 where
-  pub tells : Tells (IsSerialAnswer depot depot') before after status text
-  pub keeps : (status ≡ 2) ⊎ (status ≡ 3) → depot' ≡ depot
-
 -- what the command tells with a status, by what is seen of the source and of the depot before and after; a study
 -- and a check make no block, and `make` reads nothing
-abbrev pub Obeys : Command → SourceView → SourceView → DepotView → DepotView → ℕ → List ℕ → Type 0
-Obeys Serial before after depot depot' status text = SerialTells before after depot depot' status text
-Obeys (Study study) before after depot depot' status text = Tells (IsStudyAnswer study) before after status text × (depot' ≡ depot)
-Obeys (Make make) before after depot depot' status text = MakeTells make depot depot' status text × (after ≡ before)
-Obeys Check before after depot depot' status text = CheckTells before after status text × (depot' ≡ depot)
+abbrev pub Obeys : Command → Moved SourceView → Moved DepotView → ℕ → List ℕ → Type 0
+Obeys Serial source depot status text = SerialTells source depot status text
+Obeys (Study study) source depot status text = Tells (IsStudyAnswer study) source.before source.after status text × (depot.after ≡ depot.before)
+Obeys (Make make) source depot status text = MakeTells make depot status text × (source.after ≡ source.before)
+Obeys Check source depot status text = CheckTells source.before source.after status text × (depot.after ≡ depot.before)
 
 -- the text that goes with a status, each with its cause: by the words, and by what is seen of the
 -- source and of the depot before and after
-pub data Told (words : List (List ℕ)) (before after : SourceView) (depot depot' : DepotView) : ℕ → List ℕ → Type 0 where
+pub data Told (words : List (List ℕ)) (source : Moved SourceView) (depot : Moved DepotView) : ℕ → List ℕ → Type 0 where
   -- no command line: nothing is read, and no block is made
-  usage : ((command : Command) → Asks words command → ⊥) → after ≡ before → depot' ≡ depot → Told words before after depot depot' 1 (status_line 1)
+  usage : ((command : Command) → Asks words command → ⊥) → source.after ≡ source.before → depot.after ≡ depot.before → Told words source depot 1 (status_line 1)
   -- what the command tells
-  obeyed : (command : Command) (status : ℕ) (text : List ℕ) → Asks words command → Obeys command before after depot depot' status text
-      → Told words before after depot depot' status text
+  obeyed : (command : Command) (status : ℕ) (text : List ℕ) → Asks words command → Obeys command source depot status text
+      → Told words source depot status text

@@ -1,5 +1,5 @@
-pub mod DepotView
-pub mod SerialAnswer
+pub mod Headline
 pub mod MakeLine
 pub mod MakeAnswer
 pub mod Commands
+pub mod CommandRun

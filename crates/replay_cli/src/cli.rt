@@ -1,19 +1,17 @@
 //! The program's one call.
 
-ghost use Rattle.std.specs.Prelude.{◌≡◌, ◌≢◌, ◌⊎◌, ◌≤◌, is_some, map};
-ghost use Rattle.outside_io.specs.Causes.{Rose};
-ghost use Rattle.outside_io.specs.Views.{sink_view, source_view};
+ghost use Rattle.std.specs.Prelude.{◌≤◌};
+ghost use Rattle.vm_types.specs.Moved.{moved};
 ghost use Rattle.vm_types.specs.Configuration.{IsWellFormed};
-ghost use Rattle.program_ends.specs.Concludes.{Concludes, EndsAnswered, HasTold, WasCut};
-ghost use Rattle.replay_cli.specs.Commands.{Asks, HasInput, IsDone, SerialTells, Told};
-ghost use Rattle.replay_cli.specs.DepotView.{depot_view};
-ghost use Rattle.replay_cli.specs.SerialAnswer.{IsSerialAnswer};
-ghost use Rattle.replay_cli.specs.declared.words.Command.{Command};
+ghost use Rattle.program_ends.specs.Concludes.{Concludes, EndsAnswered};
+ghost use Rattle.replay_cli.specs.CommandRun.{IsCommandRun};
+ghost use Rattle.replay_cli.specs.Commands.{Told, texts};
+ghost use Rattle.replay_cli.specs.Headline.{IsSerialAnswer, SerialTells};
 
 use crate::make_run::run_made;
 use crate::words::{Command, command_of};
 use check_command::check;
-use disk_trait::{Block, Depot};
+use disk_trait::Depot;
 use outside_io::{Sink, Source};
 use pager_laws::runs_are_sound;
 use program_ends::{Status, end_fault, end_with};
@@ -32,10 +30,9 @@ fn run_config<K: Sink, D: Depot>(
     depot: &mut D,
 ) -> Status
     requires { IsWellFormed config }
-    ensures outcome { let seen = depot_view D.Block.content D.Block.plan D.Block.reads D.Block.writes D.Block.faults D.Block.tells_content D.Block.tells_plan in
-        EndsAnswered (IsSerialAnswer (seen (D.retired depot.old) (D.faults depot.old)) (seen (D.retired depot.new) (D.faults depot.new)) config)
-        (sink_view (K.taken sink.old) (K.faults sink.old) (K.stalls sink.old)) (sink_view (K.taken sink.new) (K.faults sink.new) (K.stalls sink.new)) result.0 }
-    ensures depot_later { D.faults depot.old ≤ D.faults depot.new }
+    ensures outcome { EndsAnswered (IsSerialAnswer (moved (D.seen depot.old) (D.seen depot.new)) config)
+        (K.seen sink.old) (K.seen sink.new) result.0 }
+    ensures depot_later { (D.seen depot.old).failures ≤ (D.seen depot.new).failures }
 {
     match run_serial(alloc, config, depot) {
         Ok(finished) => {
@@ -61,12 +58,11 @@ fn serial<S: Source, K: Sink, D: Depot>(
     sink: &mut K,
     depot: &mut D,
 ) -> Status
-    ensures outcome { let seen = depot_view D.Block.content D.Block.plan D.Block.reads D.Block.writes D.Block.faults D.Block.tells_content D.Block.tells_plan in
-        Concludes (SerialTells (source_view (S.left source.old) (S.faults source.old)) (source_view (S.left source.new) (S.faults source.new))
-        (seen (D.retired depot.old) (D.faults depot.old)) (seen (D.retired depot.new) (D.faults depot.new)))
-        (sink_view (K.taken sink.old) (K.faults sink.old) (K.stalls sink.old)) (sink_view (K.taken sink.new) (K.faults sink.new) (K.stalls sink.new)) result.0 }
-    ensures faults_later { S.faults source.old ≤ S.faults source.new }
-    ensures depot_later { D.faults depot.old ≤ D.faults depot.new }
+    ensures outcome { Concludes (SerialTells (moved (S.seen source.old) (S.seen source.new))
+        (moved (D.seen depot.old) (D.seen depot.new)))
+        (K.seen sink.old) (K.seen sink.new) result.0 }
+    ensures faults_later { (S.seen source.old).failures ≤ (S.seen source.new).failures }
+    ensures depot_later { (D.seen depot.old).failures ≤ (D.seen depot.new).failures }
 {
     match read_trace(source, alloc) {
         Ok(config) => run_config(alloc, config, sink, depot),
@@ -82,12 +78,11 @@ fn conclude<S: Source, K: Sink, D: Depot>(
     sink: &mut K,
     depot: &mut D,
 ) -> Status
-    ensures outcome { let seen = depot_view D.Block.content D.Block.plan D.Block.reads D.Block.writes D.Block.faults D.Block.tells_content D.Block.tells_plan in
-        Concludes (Told (map (λ word. word.now) words.now) (source_view (S.left source.old) (S.faults source.old)) (source_view (S.left source.new) (S.faults source.new))
-        (seen (D.retired depot.old) (D.faults depot.old)) (seen (D.retired depot.new) (D.faults depot.new)))
-        (sink_view (K.taken sink.old) (K.faults sink.old) (K.stalls sink.old)) (sink_view (K.taken sink.new) (K.faults sink.new) (K.stalls sink.new)) result.0 }
-    ensures faults_later { S.faults source.old ≤ S.faults source.new }
-    ensures depot_later { D.faults depot.old ≤ D.faults depot.new }
+    ensures outcome { Concludes (Told (texts words.now) (moved (S.seen source.old) (S.seen source.new))
+        (moved (D.seen depot.old) (D.seen depot.new)))
+        (K.seen sink.old) (K.seen sink.new) result.0 }
+    ensures faults_later { (S.seen source.old).failures ≤ (S.seen source.new).failures }
+    ensures depot_later { (D.seen depot.old).failures ≤ (D.seen depot.new).failures }
 {
     match command_of(words) {
         None => end_with(1, sink),
@@ -117,37 +112,10 @@ pub fn run_one<S: Source, K: Sink, D: Depot>(
     sink: &mut K,
     depot: &mut D,
 ) -> Status
-    // The headline: with every status but 4 what was written is the text that goes with it.
-    ensures told { let seen = depot_view D.Block.content D.Block.plan D.Block.reads D.Block.writes D.Block.faults D.Block.tells_content D.Block.tells_plan in
-        result.0 ≢ 4 → HasTold (Told (map (λ word. word.now) words.now) (source_view (S.left source.old) (S.faults source.old)) (source_view (S.left source.new) (S.faults source.new))
-        (seen (D.retired depot.old) (D.faults depot.old)) (seen (D.retired depot.new) (D.faults depot.new)))
-        (sink_view (K.taken sink.old) (K.faults sink.old) (K.stalls sink.old)) (sink_view (K.taken sink.new) (K.faults sink.new) (K.stalls sink.new)) result.0 }
-    // With status 4 it is a proper prefix of the text that would have been written.
-    ensures cut { let seen = depot_view D.Block.content D.Block.plan D.Block.reads D.Block.writes D.Block.faults D.Block.tells_content D.Block.tells_plan in
-        result.0 ≡ 4 → WasCut (Told (map (λ word. word.now) words.now) (source_view (S.left source.old) (S.faults source.old)) (source_view (S.left source.new) (S.faults source.new))
-        (seen (D.retired depot.old) (D.faults depot.old)) (seen (D.retired depot.new) (D.faults depot.new)))
-        (sink_view (K.taken sink.old) (K.faults sink.old) (K.stalls sink.old)) (sink_view (K.taken sink.new) (K.faults sink.new) (K.stalls sink.new)) }
-
-    // Status 1 comes exactly if the words ask for no command, unless the write fails.
-    ensures usage { ((command : Command) → Asks (map (λ word. word.now) words.now) command → ⊥) → (result.0 ≡ 1) ⊎ (result.0 ≡ 4) }
-    ensures no_usage { result.0 ≡ 1 → (command : Command) → Asks (map (λ word. word.now) words.now) command → ⊥ }
-    // Status 3 comes only if a read failed, 4 only if a write failed or took nothing, and 6 only if
-    // the depot failed.
-    ensures read_fault { result.0 ≡ 3 → Rose (S.faults source.old) (S.faults source.new) }
-    ensures write_fault { result.0 ≡ 4 → Rose (K.faults sink.old) (K.faults sink.new) ⊎ Rose (K.stalls sink.old) (K.stalls sink.new) }
-    ensures depot_fault { result.0 ≡ 6 → Rose (D.faults depot.old) (D.faults depot.new) }
-    ensures unfailed { result.0 ≢ 4 → (K.faults sink.new ≡ K.faults sink.old) × (K.stalls sink.new ≡ K.stalls sink.old) }
-    // If the command has its input and no count rises, it did what was asked, with dirty pages left
-    // or with none, or found a line of a log that isn't legal, or memory ran out.
-    ensures complete { (command : Command) → Asks (map (λ word. word.now) words.now) command → HasInput command (source_view (S.left source.old) (S.faults source.old))
-        → (Rose (S.faults source.old) (S.faults source.new) → ⊥) → (Rose (K.faults sink.old) (K.faults sink.new) → ⊥)
-        → (Rose (K.stalls sink.old) (K.stalls sink.new) → ⊥) → (Rose (D.faults depot.old) (D.faults depot.new) → ⊥)
-        → IsDone command result.0 }
-
-    ensures told_later { is_some (K.taken sink.new) ≡ is_some (K.taken sink.old) }
-    ensures read_later { S.faults source.old ≤ S.faults source.new }
-    ensures write_later { (K.faults sink.old ≤ K.faults sink.new) × (K.stalls sink.old ≤ K.stalls sink.new) }
-    ensures depot_later { D.faults depot.old ≤ D.faults depot.new }
+    // With status 0 or 5 of `serial` the trace was served; what every other status means is said too.
+    ensures { IsCommandRun (texts words.now) (moved (S.seen source.old) (S.seen source.new))
+        (moved (D.seen depot.old) (D.seen depot.new))
+        (moved (K.seen sink.old) (K.seen sink.new)) result.0 }
 {
     conclude(alloc, words, source, sink, depot)
 }

@@ -2,18 +2,17 @@
 
 ghost use Rattle.std.specs.Prelude.{◌≡◌, ◌≤◌, ◌++◌, List, length};
 ghost use Rattle.vm_journal.specs.declared.entry.Entry.{Entry};
-ghost use Rattle.outside_io.specs.Views.{sink_view};
 ghost use Rattle.pager_model.specs.Text.{status_line};
+ghost use Rattle.vm_types.specs.Moved.{moved};
 ghost use Rattle.program_ends.specs.Concludes.{EndsAnswered};
 ghost use Rattle.program_ends.specs.Ends.{Ends};
 ghost use Rattle.run_text.specs.Parts.{run_status};
 ghost use Rattle.run_record.specs.Tallies.{tallies_of};
 ghost use Rattle.make_summary.specs.MakeText.{make_lines};
-ghost use Rattle.replay_cli.specs.DepotView.{depot_view};
 ghost use Rattle.replay_cli.specs.MakeAnswer.{IsMakeAnswer};
 ghost use Rattle.replay_cli.specs.MakeLine.{IsMakeable};
 
-use disk_trait::{Block, Depot};
+use disk_trait::Depot;
 use make_summary::{Make, print_summary};
 use outside_io::Sink;
 use pager_laws::runs_are_sound;
@@ -32,8 +31,7 @@ fn status_of(dirty: &[Page]) -> u8
 
 /// Writes the counts and the status.
 fn end_made<K: Sink>(make: Make, run: &Counted, sink: &mut K) -> Status
-    ensures { (entries : List Entry) → run.now.all ≡ length entries → run.now.kinds ≡ tallies_of entries → Ends (sink_view (K.taken sink.old) (K.faults sink.old) (K.stalls sink.old))
-        (sink_view (K.taken sink.new) (K.faults sink.new) (K.stalls sink.new)) (run_status ((run.now).dirty).items)
+    ensures { (entries : List Entry) → run.now.all ≡ length entries → run.now.kinds ≡ tallies_of entries → Ends (K.seen sink.old) (K.seen sink.new) (run_status ((run.now).dirty).items)
         (make_lines make entries ++ status_line (run_status ((run.now).dirty).items)) result.0 }
 {
     match print_summary(make, run.all, &run.kinds, sink) {
@@ -51,10 +49,9 @@ pub(crate) fn run_made<K: Sink, D: Depot>(
     depot: &mut D,
 ) -> Status
     requires { IsMakeable make }
-    ensures outcome { let seen = depot_view D.Block.content D.Block.plan D.Block.reads D.Block.writes D.Block.faults D.Block.tells_content D.Block.tells_plan in
-        EndsAnswered (IsMakeAnswer make (seen (D.retired depot.old) (D.faults depot.old)) (seen (D.retired depot.new) (D.faults depot.new)))
-        (sink_view (K.taken sink.old) (K.faults sink.old) (K.stalls sink.old)) (sink_view (K.taken sink.new) (K.faults sink.new) (K.stalls sink.new)) result.0 }
-    ensures depot_later { D.faults depot.old ≤ D.faults depot.new }
+    ensures outcome { EndsAnswered (IsMakeAnswer make (moved (D.seen depot.old) (D.seen depot.new)))
+        (K.seen sink.old) (K.seen sink.new) result.0 }
+    ensures depot_later { (D.seen depot.old).failures ≤ (D.seen depot.new).failures }
 {
     let Ok(config) = make_trace(alloc, u64::from(make.seed), make.procs, make.refs) else {
         return end_with(7, sink);

@@ -1,7 +1,6 @@
 ghost use Rattle.std.specs.Prelude.{◌++◌, All, codes};
 ghost use Rattle.vm_text.specs.Names.{page_text};
 ghost use Rattle.vm_text.specs.Named.{IsPrintablePage};
-ghost use Rattle.outside_io.specs.Views.{sink_view};
 ghost use Rattle.outside_io.specs.Writes.{Writes};
 ghost use Rattle.pager_model.specs.Text.{dirty_lines, ended};
 
@@ -13,8 +12,7 @@ use vm_types::{Page, Section};
 
 fn print_dirty_page<K: Sink>(page: Page, names: &[Section], sink: &mut K) -> Result<(), WriteFault>
     requires { IsPrintablePage names.now page }
-    ensures { Writes (sink_view (K.taken sink.old) (K.faults sink.old) (K.stalls sink.old))
-        (sink_view (K.taken sink.new) (K.faults sink.new) (K.stalls sink.new)) result (ended (codes "DIRTY " ++ page_text names.now page)) }
+    ensures { Writes (K.seen sink.old) (K.seen sink.new) result (ended (codes "DIRTY " ++ page_text names.now page)) }
 {
     let mut out = ArrayVec::new();
     push_word(&mut out, b"DIRTY ");
@@ -34,8 +32,7 @@ pub fn print_dirty<K: Sink>(
     sink: &mut K,
 ) -> Result<(), WriteFault>
     requires { All (IsPrintablePage names.now) dirty.now }
-    ensures { Writes (sink_view (K.taken sink.old) (K.faults sink.old) (K.stalls sink.old))
-        (sink_view (K.taken sink.new) (K.faults sink.new) (K.stalls sink.new)) result (dirty_lines names.now dirty.now) }
+    ensures { Writes (K.seen sink.old) (K.seen sink.new) result (dirty_lines names.now dirty.now) }
 {
     for page in dirty {
         print_dirty_page(*page, names, sink)?;

@@ -1,7 +1,6 @@
 ghost use Rattle.std.specs.Prelude.{◌≡◌, ◌+◌, ◌<◌, ◌≤◌, ◌++◌, [], length, map, decimal, codes, All, IfSome};
 ghost use Rattle.arrayvec.specs.ArrayVec.{array_vec_len};
 ghost use Rattle.vm_text.specs.Named.{IsPrintablePage};
-ghost use Rattle.outside_io.specs.Views.{sink_view};
 ghost use Rattle.outside_io.specs.Writes.{Writes};
 ghost use Rattle.pager_model.specs.Text.{ended, held_text, frame_line, frame_lines, states_text, page_file_text, process_text, process_lines, report_text};
 ghost use Rattle.report_lines.specs.Printable.{IsPrintable, IsPrintableRow};
@@ -18,8 +17,7 @@ use vm_types::{FrameState, Page, Proc, Section};
 
 // How many entries were before it.
 fn print_at<K: Sink>(at: u64, sink: &mut K) -> Result<(), WriteFault>
-    ensures { Writes (sink_view (K.taken sink.old) (K.faults sink.old) (K.stalls sink.old))
-        (sink_view (K.taken sink.new) (K.faults sink.new) (K.stalls sink.new)) result (ended (codes "PFN AT " ++ decimal at)) }
+    ensures { Writes (K.seen sink.old) (K.seen sink.new) result (ended (codes "PFN AT " ++ decimal at)) }
 {
     let mut out = ArrayVec::new();
     push_word(&mut out, b"PFN AT ");
@@ -30,8 +28,7 @@ fn print_at<K: Sink>(at: u64, sink: &mut K) -> Result<(), WriteFault>
 // How many frames are in each state.
 fn print_states<K: Sink>(states: &[u32], sink: &mut K) -> Result<(), WriteFault>
     requires { length states.now ≡ 8 }
-    ensures { Writes (sink_view (K.taken sink.old) (K.faults sink.old) (K.stalls sink.old))
-        (sink_view (K.taken sink.new) (K.faults sink.new) (K.stalls sink.new)) result (ended (states_text states.now)) }
+    ensures { Writes (K.seen sink.old) (K.seen sink.new) result (ended (states_text states.now)) }
 {
     let mut out = ArrayVec::new();
     push_states(&mut out, states);
@@ -60,8 +57,7 @@ fn print_frames<K: Sink>(
     sink: &mut K,
 ) -> Result<(), WriteFault>
     requires { All (IsPrintableRow names.now) (map frame_view frames.now) }
-    ensures { Writes (sink_view (K.taken sink.old) (K.faults sink.old) (K.stalls sink.old))
-        (sink_view (K.taken sink.new) (K.faults sink.new) (K.stalls sink.new)) result
+    ensures { Writes (K.seen sink.old) (K.seen sink.new) result
         (frame_lines names.now 0 (map frame_view frames.now)) }
 {
     for (f, row) in frames.iter().enumerate() {
@@ -78,8 +74,7 @@ fn print_frame<K: Sink>(
     sink: &mut K,
 ) -> Result<(), WriteFault>
     requires { IfSome row.page (IsPrintablePage names.now) }
-    ensures { Writes (sink_view (K.taken sink.old) (K.faults sink.old) (K.stalls sink.old))
-        (sink_view (K.taken sink.new) (K.faults sink.new) (K.stalls sink.new)) result (frame_line names.now f (frame_view row)) }
+    ensures { Writes (K.seen sink.old) (K.seen sink.new) result (frame_line names.now f (frame_view row)) }
 {
     let mut out = ArrayVec::new();
     match row.page {
@@ -121,8 +116,7 @@ fn push_bad(out: &mut ArrayVec<u8, 160>, f: u64)
 }
 
 fn print_page_file<K: Sink>(report: &Report, sink: &mut K) -> Result<(), WriteFault>
-    ensures { Writes (sink_view (K.taken sink.old) (K.faults sink.old) (K.stalls sink.old))
-        (sink_view (K.taken sink.new) (K.faults sink.new) (K.stalls sink.new)) result
+    ensures { Writes (K.seen sink.old) (K.seen sink.new) result
         (ended (page_file_text report.now)) }
 {
     let mut out = ArrayVec::new();
@@ -134,8 +128,7 @@ fn print_page_file<K: Sink>(report: &Report, sink: &mut K) -> Result<(), WriteFa
 
 fn print_processes<K: Sink>(processes: &[ProcessRow], sink: &mut K) -> Result<(), WriteFault>
     requires { length processes.now ≤ 16 }
-    ensures { Writes (sink_view (K.taken sink.old) (K.faults sink.old) (K.stalls sink.old))
-        (sink_view (K.taken sink.new) (K.faults sink.new) (K.stalls sink.new)) result
+    ensures { Writes (K.seen sink.old) (K.seen sink.new) result
         (process_lines 0 (map process_view processes.now)) }
 {
     for (p, row) in processes.iter().enumerate() {
@@ -146,8 +139,7 @@ fn print_processes<K: Sink>(processes: &[ProcessRow], sink: &mut K) -> Result<()
 
 fn print_process<K: Sink>(p: u32, row: ProcessRow, sink: &mut K) -> Result<(), WriteFault>
     requires { p < 16 }
-    ensures { Writes (sink_view (K.taken sink.old) (K.faults sink.old) (K.stalls sink.old))
-        (sink_view (K.taken sink.new) (K.faults sink.new) (K.stalls sink.new)) result (ended (process_text p (process_view row))) }
+    ensures { Writes (K.seen sink.old) (K.seen sink.new) result (ended (process_text p (process_view row))) }
 {
     let mut out = ArrayVec::new();
     push_word(&mut out, b"PROCESS ");
@@ -169,8 +161,7 @@ fn print_process<K: Sink>(p: u32, row: ProcessRow, sink: &mut K) -> Result<(), W
 /// stalls rose. After either the sink has taken less than the lines, a prefix of them.
 pub fn print<K: Sink>(report: &Report, names: &[Section], sink: &mut K) -> Result<(), WriteFault>
     requires { IsPrintable names.now report.now }
-    ensures { Writes (sink_view (K.taken sink.old) (K.faults sink.old) (K.stalls sink.old))
-        (sink_view (K.taken sink.new) (K.faults sink.new) (K.stalls sink.new)) result (report_text names.now report.now) }
+    ensures { Writes (K.seen sink.old) (K.seen sink.new) result (report_text names.now report.now) }
 {
     print_at(report.at, sink)?;
     print_states(report.states.items(), sink)?;

@@ -4,7 +4,6 @@ ghost use Rattle.vm_types.specs.Configuration.{IsWellFormed, section_pages};
 ghost use Rattle.vm_types.specs.declared.config.Section.{Section};
 ghost use Rattle.vm_types.specs.declared.names.BlockId.{BlockId};
 ghost use Rattle.disk_trait.specs.Causes.{Rose};
-ghost use Rattle.pager_model.specs.Fits.{told_of};
 ghost use Rattle.frame_store.specs.Blocks.{blocks_of, file_blocks, section_block, section_blocks, swap_block, swap_blocks};
 ghost use Rattle.vm_state.specs.Made.{IsMade};
 ghost use Rattle.run_blocks.specs.Adds.{Adds, AreFirst};
@@ -26,10 +25,9 @@ fn make_one<D: Depot>(
 ) -> Result<(), MakeFault>
     requires size { length bytes.now ≡ 512 }
     requires first { AreFirst config.now id bytes.now }
-    ensures adds { OnOk result (Adds D.Block.content D.Block.plan D.Block.reads D.Block.writes D.Block.faults D.Block.tells_content D.Block.tells_plan
-        config.now (id ∷ []) blocks.old.items blocks.new.items) }
-    ensures retired { D.retired depot.new ≡ D.retired depot.old }
-    ensures cause { HasCause (D.faults depot.old) (D.faults depot.new) result }
+    ensures adds { OnOk result (Adds D.Block.seen D.Block.tells config.now (id ∷ []) blocks.old.items blocks.new.items) }
+    ensures retired { (D.seen depot.new).retired ≡ (D.seen depot.old).retired }
+    ensures cause { HasCause (D.seen depot.old).failures (D.seen depot.new).failures result }
 {
     let block = depot.make(id, bytes, planned_calls(config, id))?;
     match blocks.push((id, block)) {
@@ -46,10 +44,9 @@ fn make_one_of_zeros<D: Depot>(
     blocks: &mut Vec<(BlockId, D::Block)>,
 ) -> Result<(), MakeFault>
     requires { AreFirst config.now id (replicate 512 0) }
-    ensures adds { OnOk result (Adds D.Block.content D.Block.plan D.Block.reads D.Block.writes D.Block.faults D.Block.tells_content D.Block.tells_plan
-        config.now (id ∷ []) blocks.old.items blocks.new.items) }
-    ensures retired { D.retired depot.new ≡ D.retired depot.old }
-    ensures cause { HasCause (D.faults depot.old) (D.faults depot.new) result }
+    ensures adds { OnOk result (Adds D.Block.seen D.Block.tells config.now (id ∷ []) blocks.old.items blocks.new.items) }
+    ensures retired { (D.seen depot.new).retired ≡ (D.seen depot.old).retired }
+    ensures cause { HasCause (D.seen depot.old).failures (D.seen depot.new).failures result }
 {
     let block = depot.make_zeros(id, planned_calls(config, id))?;
     match blocks.push((id, block)) {
@@ -68,10 +65,10 @@ fn make_section<D: Depot>(
 ) -> Result<(), MakeFault>
     requires formed { IsWellFormed config.now }
     requires there { Some section.now ≡ slice_get config.now.sections s.0 }
-    ensures adds { OnOk result (Adds D.Block.content D.Block.plan D.Block.reads D.Block.writes D.Block.faults D.Block.tells_content D.Block.tells_plan
+    ensures adds { OnOk result (Adds D.Block.seen D.Block.tells
         config.now (map (section_block s.0) (range_with_len 0 (section_pages section.now))) blocks.old.items blocks.new.items) }
-    ensures retired { D.retired depot.new ≡ D.retired depot.old }
-    ensures cause { HasCause (D.faults depot.old) (D.faults depot.new) result }
+    ensures retired { (D.seen depot.new).retired ≡ (D.seen depot.old).retired }
+    ensures cause { HasCause (D.seen depot.old).failures (D.seen depot.new).failures result }
 {
     let bytes = section.bytes.items();
     for i in 0..(bytes.len() / 512) as u32 {
@@ -89,10 +86,9 @@ fn make_sections<D: Depot>(
     blocks: &mut Vec<(BlockId, D::Block)>,
 ) -> Result<(), MakeFault>
     requires { IsWellFormed config.now }
-    ensures adds { OnOk result (Adds D.Block.content D.Block.plan D.Block.reads D.Block.writes D.Block.faults D.Block.tells_content D.Block.tells_plan
-        config.now (section_blocks config.now.sections) blocks.old.items blocks.new.items) }
-    ensures retired { D.retired depot.new ≡ D.retired depot.old }
-    ensures cause { HasCause (D.faults depot.old) (D.faults depot.new) result }
+    ensures adds { OnOk result (Adds D.Block.seen D.Block.tells config.now (section_blocks config.now.sections) blocks.old.items blocks.new.items) }
+    ensures retired { (D.seen depot.new).retired ≡ (D.seen depot.old).retired }
+    ensures cause { HasCause (D.seen depot.old).failures (D.seen depot.new).failures result }
 {
     for (s, section) in config.sections.items().iter().enumerate() {
         make_section(config, depot, SecId(s as u32), section, blocks)?;
@@ -106,10 +102,9 @@ fn make_file<D: Depot>(
     depot: &mut D,
     blocks: &mut Vec<(BlockId, D::Block)>,
 ) -> Result<(), MakeFault>
-    ensures adds { OnOk result (Adds D.Block.content D.Block.plan D.Block.reads D.Block.writes D.Block.faults D.Block.tells_content D.Block.tells_plan
-        config.now (file_blocks config.now.pagefile) blocks.old.items blocks.new.items) }
-    ensures retired { D.retired depot.new ≡ D.retired depot.old }
-    ensures cause { HasCause (D.faults depot.old) (D.faults depot.new) result }
+    ensures adds { OnOk result (Adds D.Block.seen D.Block.tells config.now (file_blocks config.now.pagefile) blocks.old.items blocks.new.items) }
+    ensures retired { (D.seen depot.new).retired ≡ (D.seen depot.old).retired }
+    ensures cause { HasCause (D.seen depot.old).failures (D.seen depot.new).failures result }
 {
     for n in 0..config.pagefile {
         make_one_of_zeros(config, depot, BlockId::PageFile(n), blocks)?;
@@ -125,10 +120,10 @@ fn make_swap<D: Depot>(
     slots: u32,
     blocks: &mut Vec<(BlockId, D::Block)>,
 ) -> Result<(), MakeFault>
-    ensures adds { OnOk result (Adds D.Block.content D.Block.plan D.Block.reads D.Block.writes D.Block.faults D.Block.tells_content D.Block.tells_plan
+    ensures adds { OnOk result (Adds D.Block.seen D.Block.tells
         config.now (map (swap_block p.0) (range_with_len 0 slots)) blocks.old.items blocks.new.items) }
-    ensures retired { D.retired depot.new ≡ D.retired depot.old }
-    ensures cause { HasCause (D.faults depot.old) (D.faults depot.new) result }
+    ensures retired { (D.seen depot.new).retired ≡ (D.seen depot.old).retired }
+    ensures cause { HasCause (D.seen depot.old).failures (D.seen depot.new).failures result }
 {
     for n in 0..slots {
         make_one_of_zeros(config, depot, BlockId::Swap(p, n), blocks)?;
@@ -143,10 +138,9 @@ fn make_swaps<D: Depot>(
     blocks: &mut Vec<(BlockId, D::Block)>,
 ) -> Result<(), MakeFault>
     requires { IsWellFormed config.now }
-    ensures adds { OnOk result (Adds D.Block.content D.Block.plan D.Block.reads D.Block.writes D.Block.faults D.Block.tells_content D.Block.tells_plan
-        config.now (swap_blocks config.now.procs) blocks.old.items blocks.new.items) }
-    ensures retired { D.retired depot.new ≡ D.retired depot.old }
-    ensures cause { HasCause (D.faults depot.old) (D.faults depot.new) result }
+    ensures adds { OnOk result (Adds D.Block.seen D.Block.tells config.now (swap_blocks config.now.procs) blocks.old.items blocks.new.items) }
+    ensures retired { (D.seen depot.new).retired ≡ (D.seen depot.old).retired }
+    ensures cause { HasCause (D.seen depot.old).failures (D.seen depot.new).failures result }
 {
     for (p, spec) in config.procs.items().iter().enumerate() {
         make_swap(config, depot, Proc(p as u32), spec.extent, blocks)?;
@@ -168,11 +162,10 @@ pub fn make_blocks<D: Depot>(
 ) -> Result<Vec<(BlockId, D::Block)>, MakeFault>
     requires { IsWellFormed config.now }
     ensures names { IfOk result (λ v. map (λ (p : BlockId × D.Block). p.0) v.items ≡ blocks_of config.now) }
-    ensures made { IfOk result (λ v. All (λ (p : BlockId × D.Block). IsMade D.Block.tells_content D.Block.tells_plan config.now p.0
-        (told_of D.Block.content D.Block.plan D.Block.reads D.Block.writes D.Block.faults p.1)) v.items) }
-    ensures retired { D.retired depot.new ≡ D.retired depot.old }
-    ensures failed { IsErrOf result MakeFault.Failed → Rose (D.faults depot.old) (D.faults depot.new) }
-    ensures later { D.faults depot.old ≤ D.faults depot.new }
+    ensures made { IfOk result (λ v. All (λ (p : BlockId × D.Block). IsMade D.Block.tells config.now p.0 (D.Block.seen p.1)) v.items) }
+    ensures retired { (D.seen depot.new).retired ≡ (D.seen depot.old).retired }
+    ensures failed { IsErrOf result MakeFault.Failed → Rose (D.seen depot.old).failures (D.seen depot.new).failures }
+    ensures later { (D.seen depot.old).failures ≤ (D.seen depot.new).failures }
 {
     let mut blocks = Vec::with_capacity(alloc, block_count(alloc, config)?)?;
     make_sections(config, depot, &mut blocks)?;

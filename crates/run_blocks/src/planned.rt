@@ -1,6 +1,6 @@
 ghost use Rattle.std.specs.Prelude.{◌≡◌};
 ghost use Rattle.vm_types.specs.Same.{same_block};
-ghost use Rattle.pager_model.specs.Told.{plan_of};
+ghost use Rattle.pager_model.specs.CountedBlock.{plan_of};
 
 use vm_types::{BlockId, Config};
 

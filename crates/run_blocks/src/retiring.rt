@@ -1,6 +1,7 @@
-ghost use Rattle.std.specs.Prelude.{◌≡◌, ℕ, ◌≤◌, ◌<◌, ◌++◌, OnErr, OnOk, length, take};
+ghost use Rattle.std.specs.Prelude.{◌≡◌, ℕ, ◌≤◌, ◌<◌, ◌++◌, OnErr, OnOk, length, map, take};
+ghost use Rattle.disk_trait.specs.DepotView.{given_back};
 
-use disk_trait::Depot;
+use disk_trait::{Block, Depot};
 use vm_types::{BlockId, NoMemory};
 
 /// Gives blocks back to a depot, in their order.
@@ -12,9 +13,9 @@ pub fn retire_blocks<D: Depot>(
     blocks: Vec<(BlockId, D::Block)>,
     depot: &mut D,
 ) -> Result<(), NoMemory>
-    ensures ok { OnOk result (D.retired depot.new ≡ D.retired depot.old ++ blocks.items) }
-    ensures err { OnErr result ((n : ℕ) × (n < length blocks.items) × (D.retired depot.new ≡ D.retired depot.old ++ take n blocks.items)) }
-    ensures later { D.faults depot.old ≤ D.faults depot.new }
+    ensures ok { OnOk result ((D.seen depot.new).retired ≡ (D.seen depot.old).retired ++ map (given_back D.Block.seen) blocks.items) }
+    ensures err { OnErr result ((n : ℕ) × (n < length blocks.items) × ((D.seen depot.new).retired ≡ (D.seen depot.old).retired ++ map (given_back D.Block.seen) (take n blocks.items))) }
+    ensures later { (D.seen depot.old).failures ≤ (D.seen depot.new).failures }
 {
     depot.retire_all(blocks)
 }

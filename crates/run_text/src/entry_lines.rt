@@ -3,7 +3,6 @@ ghost use Rattle.arrayvec.specs.ArrayVec.{array_vec_len};
 ghost use Rattle.vm_text.specs.Named.{AreNames};
 ghost use Rattle.vm_journal.specs.HasLine.{HasLine};
 ghost use Rattle.vm_journal.specs.Line.{line_text};
-ghost use Rattle.outside_io.specs.Views.{sink_view};
 ghost use Rattle.outside_io.specs.Writes.{Writes};
 ghost use Rattle.pager_model.specs.Text.{ended, entry_lines};
 
@@ -26,8 +25,7 @@ fn push_line(number: u64, e: &Entry, procs: u32, names: &[Section], lines: &mut 
 
 // Writes these lines in one write of a whole text.
 fn write_lines<K: Sink>(lines: &ArrayVec<u8, 2048>, sink: &mut K) -> Result<(), WriteFault>
-    ensures { Writes (sink_view (K.taken sink.old) (K.faults sink.old) (K.stalls sink.old))
-        (sink_view (K.taken sink.new) (K.faults sink.new) (K.stalls sink.new)) result lines.now.items }
+    ensures { Writes (K.seen sink.old) (K.seen sink.new) result lines.now.items }
 {
     write_whole(sink, lines.as_slice())
 }
@@ -50,8 +48,7 @@ pub fn print_entries<K: Sink>(
     requires numbers { first + length entries.now < 2 ^ 64 }
     requires names { AreNames procs names.now }
     requires have_lines { All (HasLine procs names.now) entries.now }
-    ensures { Writes (sink_view (K.taken sink.old) (K.faults sink.old) (K.stalls sink.old))
-        (sink_view (K.taken sink.new) (K.faults sink.new) (K.stalls sink.new)) result (entry_lines first procs names.now entries.now) }
+    ensures { Writes (K.seen sink.old) (K.seen sink.new) result (entry_lines first procs names.now entries.now) }
 {
     let mut number = first;
     let mut lines = ArrayVec::new();

@@ -2,7 +2,6 @@ ghost use Rattle.std.specs.Prelude.{◌≡◌, ◌+◌, ◌^◌, ◌<◌, ◌++�
 ghost use Rattle.vm_text.specs.Named.{AreNames, IsPrintablePage};
 ghost use Rattle.vm_journal.specs.HasLine.{HasLine};
 ghost use Rattle.vm_journal.specs.declared.entry.Entry.{Entry};
-ghost use Rattle.outside_io.specs.Views.{sink_view};
 ghost use Rattle.outside_io.specs.Writes.{Writes};
 ghost use Rattle.pager_model.specs.Text.{run_text, status_line};
 ghost use Rattle.report_lines.specs.Printable.{IsPrintable};
@@ -33,8 +32,7 @@ fn print_parts<K: Sink>(
     requires report { IsPrintable names.now report.now }
     requires after_lines { All (HasLine procs names.now) after.now }
     requires dirty { All (IsPrintablePage names.now) dirty.now }
-    ensures { Writes (sink_view (K.taken sink.old) (K.faults sink.old) (K.stalls sink.old))
-        (sink_view (K.taken sink.new) (K.faults sink.new) (K.stalls sink.new)) result
+    ensures { Writes (K.seen sink.old) (K.seen sink.new) result
         (parts_text procs names.now before.now report.now after.now dirty.now) }
 {
     let next = before.len() as u64 + 1;
@@ -66,8 +64,7 @@ fn end_parts<K: Sink>(
     requires report { IsPrintable names.now report.now }
     requires after_lines { All (HasLine procs names.now) after.now }
     requires dirty { All (IsPrintablePage names.now) dirty.now }
-    ensures { Ends (sink_view (K.taken sink.old) (K.faults sink.old) (K.stalls sink.old))
-        (sink_view (K.taken sink.new) (K.faults sink.new) (K.stalls sink.new)) (run_status dirty.now)
+    ensures { Ends (K.seen sink.old) (K.seen sink.new) (run_status dirty.now)
         (parts_text procs names.now before.now report.now after.now dirty.now ++ status_line (run_status dirty.now)) result.0 }
 {
     match print_parts(before, report, after, dirty, procs, names, sink) {
@@ -91,8 +88,7 @@ pub fn print_run<K: Sink>(
     sink: &mut K,
 ) -> Status
     requires { IsReported config.now entries.now at report.now dirty.now }
-    ensures { (past rest : List Entry) → AreParts entries.now at past rest → Ends (sink_view (K.taken sink.old) (K.faults sink.old) (K.stalls sink.old))
-        (sink_view (K.taken sink.new) (K.faults sink.new) (K.stalls sink.new)) (run_status dirty.now)
+    ensures { (past rest : List Entry) → AreParts entries.now at past rest → Ends (K.seen sink.old) (K.seen sink.new) (run_status dirty.now)
         (run_text config.now past rest (run_status dirty.now)) result.0 }
 {
     let names = config.sections.items();

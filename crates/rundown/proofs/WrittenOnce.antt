@@ -1,6 +1,7 @@
 -- One cluster of the writer's seat, and what its carrying and landing makes of it.
 use Rattle.std.proofs.Common.{◌≡◌, ℕ, zero, suc, ◌+◌, ◌*◌, ◌≤◌, ◌||◌, Bool, false, true, cond, List, [], ◌∷◌, Option, Some, None, length, map, nat_eq, refl, sym, ap, ◌∙◌, subst, arith}
 use Rattle.std.proofs.lemmas.List.{length-map}
+use Rattle.vm_types.specs.BlockView.{BlockView, Tells}
 use Rattle.vm_types.specs.declared.config.Config.{Config}
 use Rattle.vm_types.specs.declared.names.BlockId.{BlockId}
 use Rattle.vm_types.specs.declared.names.Seat.{Seat}
@@ -71,27 +72,27 @@ module _ (s t : History) (seat own : Seat) (answer : CarrierLanded) where
       let there : HaveLanded s.config seat.0 s.past t.past answer = subst (λ (x : Seat). HaveLanded s.config x.0 s.past t.past answer) is landed in
       goes_there s t seat answer there same tells onward c (ap (λ (b : Bool). onward b (first_bad there.outcomes)) (sym there.all_failed) ∙ to (first_bad there.outcomes))
 
-module _ {B : Type 0} {content plan : B → Option (List ℕ)} {reads writes faults : B → ℕ} {tells tells_plan : Bool} where
+module _ {B : Type 0} {seen : B → BlockView} {tells : Tells} where
   -- ---- a loaded carrier, as its own seat's
-  pub own_lifts : (s : History) (seat : Seat) (c : CarrierView B) → IsLoaded content plan reads writes faults tells tells_plan s seat c → HasBegunLifts content plan reads writes faults tells tells_plan s c.seat c
-  own_lifts s seat c is = subst (λ (x : Seat). HasBegunLifts content plan reads writes faults tells tells_plan s x c) (sym is.lifts.own) is.lifts
+  pub own_lifts : (s : History) (seat : Seat) (c : CarrierView B) → IsLoaded seen tells s seat c → HasBegunLifts seen tells s c.seat c
+  own_lifts s seat c is = subst (λ (x : Seat). HasBegunLifts seen tells s x c) (sym is.lifts.own) is.lifts
 
-  pub own_whole : (s : History) (seat : Seat) (c : CarrierView B) → IsLoaded content plan reads writes faults tells tells_plan s seat c → map flight_place (carrier_of (c.seat).0 s.past) ≡ map place_of c.lifts
+  pub own_whole : (s : History) (seat : Seat) (c : CarrierView B) → IsLoaded seen tells s seat c → map flight_place (carrier_of (c.seat).0 s.past) ≡ map place_of c.lifts
   own_whole s seat c is = subst (λ (x : Seat). map flight_place (carrier_of x.0 s.past) ≡ map place_of c.lifts) (sym is.lifts.own) is.whole
 
   -- ---- the cluster that was begun
   module _ (s t : History) (seat : Seat) (begin : Begin) (old new : CarrierView B) (steady : IsSteady s) (is : old ≡ empty seat)
-      (begins : Begins content plan reads writes faults tells tells_plan s t seat (begin_gives s.config (pager s) reason_need) begin old new) where
-    has_lifts : HasLifts content plan reads writes faults tells tells_plan t seat (written_for_need s.config (pager s)) new
+      (begins : Begins seen tells s t seat (begin_gives s.config (pager s) reason_need) begin old new) where
+    has_lifts : HasLifts seen tells t seat (written_for_need s.config (pager s)) new
     has_lifts = begun_lifts s t seat reason_need begin old new is begins
 
-    pub cluster_loaded : IsLoaded content plan reads writes faults tells tells_plan t seat new
+    pub cluster_loaded : IsLoaded seen tells t seat new
     cluster_loaded = loaded s t seat (written_for_need s.config (pager s)) begins.history new steady.between (begin_starts s reason_need) has_lifts
 
     pub cluster_counted : (count : ℕ) → count ≡ length new.lifts → count ≡ length (written_for_need s.config (pager s))
     cluster_counted count count_is = count_is ∙ (sym (length-map new.lifts place_of) ∙ (ap (λ (xs : List (ℕ × BlockId)). length xs) has_lifts.each ∙ all_placed s.config (pager s)))
 
-    pub cluster_written : (after : History) (all_failed : Bool) → seat ≡ writer_seat s → HasLanded tells t after seat.0 all_failed → HasWritten tells s after all_failed
+    pub cluster_written : (after : History) (all_failed : Bool) → seat ≡ writer_seat s → HasLanded tells.content t after seat.0 all_failed → HasWritten tells.content s after all_failed
     cluster_written after all_failed own landed = λ onward c to.
-        subst (λ (x : Seat). IsMoved tells s after (carries x.0 (written_for_need s.config (pager s)) onward) c) own
-        (carries_move s t seat (written_for_need s.config (pager s)) begins.history tells after onward c (starts_mute (written_for_need s.config (pager s)) (begin_starts s reason_need)) (landed onward c to))
+        subst (λ (x : Seat). IsMoved tells.content s after (carries x.0 (written_for_need s.config (pager s)) onward) c) own
+        (carries_move s t seat (written_for_need s.config (pager s)) begins.history tells.content after onward c (starts_mute (written_for_need s.config (pager s)) (begin_starts s reason_need)) (landed onward c to))

@@ -23,10 +23,9 @@ pub struct Cluster {
 
 /// What a seat has begun is carried and lands. Says whether each lift failed. Doesn't allocate.
 fn land_writes<B: Block>(state: &mut State<B>, seat: Seat, carrier: &mut Carrier<B>) -> bool
-    requires { IsLoaded B.content B.plan B.reads B.writes B.faults B.tells_content B.tells_plan
-        state.old seat carrier.old }
+    requires { IsLoaded B.seen B.tells state.old seat carrier.old }
     ensures carrier { carrier.new ≡ empty seat }
-    ensures landed { HasLanded B.tells_content state.old state.new seat.0 result }
+    ensures landed { HasLanded B.tells.content state.old state.new seat.0 result }
 {
     let landed = carry_and_land(state, carrier);
     landed.all_failed
@@ -39,7 +38,7 @@ pub fn write_one_cluster<B: Block>(state: &mut State<B>, carrier: &mut Carrier<B
     requires carrier { carrier.old ≡ empty (writer_seat state.old) }
     ensures carrier { carrier.new ≡ carrier.old }
     ensures writes { result.writes ≡ length (written_for_need state.old.config (pager state.old)) }
-    ensures written { HasWritten B.tells_content state.old state.new result.all_failed }
+    ensures written { HasWritten B.tells.content state.old state.new result.all_failed }
 {
     let seat = writer(state);
     begin(state, seat, Reason::Need, carrier);

@@ -29,7 +29,7 @@ pub fn clean_at<B: Block>(
     requires there { IsThere state.old at }
     requires carrier { carrier.old ≡ empty (writer_seat state.old) }
     ensures carrier { carrier.new ≡ carrier.old }
-    ensures cleans { Cleans B.tells_content state.old state.new (place_as at) failed (option_map control_at result) }
+    ensures cleans { Cleans B.tells.content state.old state.new (place_as at) failed (option_map control_at result) }
 {
     match see(state, at.process, at.slot) {
         Some(x) => {

@@ -31,7 +31,7 @@ fn clean_later<B: Block>(
     requires there { IsThere state.old at }
     requires carrier { carrier.old ≡ empty (writer_seat state.old) }
     ensures carrier { carrier.new ≡ carrier.old }
-    ensures moved { MovesTo B.tells_content state.old state.new
+    ensures moved { MovesTo B.tells.content state.old state.new
         (later_move state.old.config state.old.past (pager state.old) (place_as at)) (option_map control_at result) }
 {
     match shared_place(state, at.process, at.slot + 1) {
@@ -51,7 +51,7 @@ fn clean_from<B: Block>(
     requires there { IsThere state.old at }
     requires carrier { carrier.old ≡ empty (writer_seat state.old) }
     ensures carrier { carrier.new ≡ carrier.old }
-    ensures moved { MovesTo B.tells_content state.old state.new
+    ensures moved { MovesTo B.tells.content state.old state.new
         (move_at state.old (place_as at) failed (later_move state.old.config state.old.past (pager state.old) (place_as at)))
         (option_map control_at result) }
 {
@@ -72,7 +72,7 @@ fn evict_from<B: Block>(
     requires can { CanClean state.old }
     requires carrier { carrier.old ≡ empty (writer_seat state.old) }
     ensures carrier { carrier.new ≡ carrier.old }
-    ensures moved { MovesTo B.tells_content state.old state.new
+    ensures moved { MovesTo B.tells.content state.old state.new
         (cleaning_move state.old.config state.old.past (pager state.old) (evicting p.0 n failed)) (option_map control_at result) }
 {
     match shared_place(state, p, n) {
@@ -96,7 +96,7 @@ pub fn make_move<B: Block>(
     requires answered { IsAnswered state.old.config state.old.past }
     requires carrier { carrier.old ≡ empty (record { 0 = length state.old.config.procs }) }
     ensures carrier { carrier.new ≡ carrier.old }
-    ensures moved { IfOk result (λ goes. MovesTo B.tells_content state.old state.new
+    ensures moved { IfOk result (λ goes. MovesTo B.tells.content state.old state.new
         (move_of state.old.config state.old.past (control_at at)) (option_map control_at goes)) }
     ensures same { IsSameBut state.old state.new }
     ensures none_made { OnErr result (state.new.past ≡ state.old.past) }

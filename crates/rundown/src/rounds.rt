@@ -26,7 +26,7 @@ fn write_round<B: Block>(
     requires steady { IsSteady state.old }
     requires carrier { carrier.old ≡ empty (writer_seat state.old) }
     ensures carrier { carrier.new ≡ carrier.old }
-    ensures moved { IsMoved B.tells_content state.old state.new
+    ensures moved { IsMoved B.tells.content state.old state.new
         (round_move state.old.config (pager state.old) following left) (control_at result) }
 {
     let cluster = write_one_cluster(state, carrier);
@@ -49,7 +49,7 @@ pub fn write_rounds<B: Block>(
     requires steady { IsSteady state.old }
     requires carrier { carrier.old ≡ empty (writer_seat state.old) }
     ensures carrier { carrier.new ≡ carrier.old }
-    ensures moved { MovesTo B.tells_content state.old state.new
+    ensures moved { MovesTo B.tells.content state.old state.new
         (rounds_move state.old.config (pager state.old) following left) (option_map control_at result) }
 {
     if !is_shared_listed(state) {

@@ -30,7 +30,7 @@ fn make_moves<B: Block>(state: &mut State<B>, carrier: &mut Carrier<B>) -> Resul
     ensures same { IsSameBut state.old state.new }
     ensures between { IsBetween state.new.config state.new.past }
     ensures answered { IsAnswered state.new.config state.new.past }
-    ensures right { B.tells_content ≡ true → IsRight state.old.config state.old.past → IsRight state.new.config state.new.past }
+    ensures right { B.tells.content ≡ true → IsRight state.old.config state.old.past → IsRight state.new.config state.new.past }
     ensures rundown { OnOk result ((rest : List Entry) × (state.new.past ≡ rest ++ state.old.past)
         × IsRundown state.old.config state.old.past rest) }
 {
@@ -67,7 +67,7 @@ pub fn rundown<B: Block>(alloc: Global, state: &mut State<B>) -> Result<Vec<Page
     ensures rundown { OnOk result ((rest : List Entry) × (state.new.past ≡ rest ++ state.old.past)
         × IsRundown state.old.config state.old.past rest) }
     ensures dirty { IfOk result (λ v. v.items ≡ dirty_pages state.new.config (pager state.new)) }
-    ensures right { B.tells_content ≡ true → IsRight state.old.config state.old.past → IsRight state.new.config state.new.past }
+    ensures right { B.tells.content ≡ true → IsRight state.old.config state.old.past → IsRight state.new.config state.new.past }
 {
     let seat = writer(state);
     let mut carrier = Carrier::new(alloc, seat)?;

@@ -27,7 +27,7 @@ fn small(alloc: Global) -> Result<Config, Fail>
 
 /// Whether the second of two reads fails.
 fn fails_at_second<B: Block>(block: &mut B) -> bool
-    requires { B.reads block.old + B.writes block.old < 2 ^ 47 }
+    requires { (B.seen block.old).reads + (B.seen block.old).writes < 2 ^ 47 }
 {
     let mut buf = [0; 512];
     block.read(&mut buf).is_ok() && block.read(&mut buf).is_err()

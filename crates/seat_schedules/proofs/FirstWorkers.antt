@@ -2,6 +2,7 @@
 use Rattle.std.proofs.Common.{◌≡◌, ℕ, ◌+◌, ◌<◌, Bool, true, false, List, [], ◌∷◌, ◌++◌, Some, length, nat_eq, slice_get, length-append, refl, sym, ap, ◌∙◌, subst, arith}
 use Rattle.std.proofs.lemmas.Bool.{eqb-true, eq-eqb, false≢true}
 use Rattle.std.proofs.lemmas.Option.{same_Some, slice_get_within}
+use Rattle.vm_types.specs.BlockView.{BlockView, Tells}
 use Rattle.pager_model.specs.Flights.{awaits_reuse}
 use Rattle.pager_model.specs.Landings.{carrier_of}
 use Rattle.frame_store.proofs.Rows.{get_left, get_right}
@@ -29,13 +30,13 @@ one_more {B} ws new x n first is made = subst (λ (vs : List (Worker B)). AreFir
     there i less false other = get_left ws (x ∷ []) i (idle (record { 0 = i })) (first.each i (omega (arith, less, (λ (same : i ≡ n). false≢true (sym other ∙ eq-eqb i n same)))))
 
 -- before the first entry they are at work
-pub first_at_work : {B : Type 0} {content plan : B → Rattle.std.proofs.Common.Option (List ℕ)} {reads writes faults : B → ℕ} {tells tells_plan : Bool} (s : History) (ws : List (Worker B)) (n : ℕ) → s.past ≡ [] → n ≡ length s.config.procs + 2 → AreFirst ws n
-    → AreAtWork content plan reads writes faults tells tells_plan s ws
-first_at_work {B} {content} {plan} {reads} {writes} {faults} {tells} {tells_plan} s ws n none seats first = record {
+pub first_at_work : {B : Type 0} {seen : B → BlockView} {tells : Tells} (s : History) (ws : List (Worker B)) (n : ℕ) → s.past ≡ [] → n ≡ length s.config.procs + 2 → AreFirst ws n
+    → AreAtWork seen tells s ws
+first_at_work {B} {seen} {tells} s ws n none seats first = record {
   count = first.count ∙ seats;
   calm = ap awaits_reuse none;
   each = λ i w is.
       let here : w ≡ idle (record { 0 = i }) = same_Some w (idle (record { 0 = i })) (sym is ∙ first.each i (let within = slice_get_within ws i w is in let count = first.count in omega (arith, within, count))) in
-      subst (λ (x : Worker B). IsAtWork content plan reads writes faults tells tells_plan s (record { 0 = i }) x) (sym here)
+      subst (λ (x : Worker B). IsAtWork seen tells s (record { 0 = i }) x) (sym here)
       (idle_at_work s (record { 0 = i }) (ap (carrier_of i) none));
 }

@@ -1,6 +1,7 @@
 -- The landing of a seat's carrier, and a refusal, leave the seat at work.
-use Rattle.std.proofs.Common.{◌≡◌, ℕ, ◌<◌, Bool, true, false, List, [], ◌∷◌, Option, Some, None, length, map, refl, sym, ap, ◌∙◌, subst, arith}
+use Rattle.std.proofs.Common.{◌≡◌, ◌<◌, Bool, true, false, List, [], ◌∷◌, Some, None, length, map, refl, sym, ap, ◌∙◌, subst, arith}
 use Rattle.std.proofs.lemmas.Option.{none-some}
+use Rattle.vm_types.specs.BlockView.{BlockView, Tells}
 use Rattle.vm_types.specs.WellFormed.{IsWellFormedReference}
 use Rattle.vm_types.specs.declared.names.Seat.{Seat}
 use Rattle.vm_types.specs.declared.reference.Ref.{Ref}
@@ -28,10 +29,10 @@ not_false : (b : Bool) → Rattle.std.proofs.Common.not b ≡ false → b ≡ tr
 not_false true is = refl
 not_false false is = sym is
 
-module _ {B : Type 0} {content plan : B → Option (List ℕ)} {reads writes faults : B → ℕ} {tells tells_plan : Bool} (s : History) (seat : Seat) (w : Worker B) (old : IsAtWork content plan reads writes faults tells tells_plan s seat w) where
+module _ {B : Type 0} {seen : B → BlockView} {tells : Tells} (s : History) (seat : Seat) (w : Worker B) (old : IsAtWork seen tells s seat w) where
   -- ---- what the landing asks for
-  pub own_lifts : HasBegunLifts content plan reads writes faults tells tells_plan s w.carrier.seat w.carrier
-  own_lifts = subst (λ (x : Seat). HasBegunLifts content plan reads writes faults tells tells_plan s x w.carrier) (sym old.lifts.own) old.lifts
+  pub own_lifts : HasBegunLifts seen tells s w.carrier.seat w.carrier
+  own_lifts = subst (λ (x : Seat). HasBegunLifts seen tells s x w.carrier) (sym old.lifts.own) old.lifts
 
   pub own_whole : map flight_place (carrier_of (w.carrier.seat).0 s.past) ≡ map place_of w.carrier.lifts
   own_whole = ap (λ (x : Seat). map flight_place (carrier_of x.0 s.past)) old.lifts.own ∙ old.whole
@@ -48,7 +49,7 @@ module _ {B : Type 0} {content plan : B → Option (List ℕ)} {reads writes fau
     none_lifted : new.carrier.lifts ≡ []
     none_lifted = ap (λ (c : CarrierView B). c.lifts) emptied
 
-    pub landed_worked : ((r : Ref) → new.reference ≡ Some r → IsWellFormedReference r) → ((r : Ref) → new.reference ≡ Some r → IsLost t.past seat.0 r) → HasWorked content plan reads writes faults tells tells_plan s t seat new
+    pub landed_worked : ((r : Ref) → new.reference ≡ Some r → IsWellFormedReference r) → ((r : Ref) → new.reference ≡ Some r → IsLost t.past seat.0 r) → HasWorked seen tells s t seat new
     landed_worked formed lost =
         let made = landed_made s.config seat.0 (carrier_of seat.0 s.past) landed_here.outcomes s.past in
         record {
@@ -59,7 +60,7 @@ module _ {B : Type 0} {content plan : B → Option (List ℕ)} {reads writes fau
           at_work = record {
             lifts = record {
               own = ap (λ (c : CarrierView B). c.seat) emptied ∙ old.lifts.own;
-              begun = subst (λ (lifts : List (LiftView B)). Rattle.std.specs.List.AllByRecursion (Rattle.call_steps.specs.Lifted.IsBegun content plan reads writes faults tells tells_plan t seat) lifts) (sym none_lifted) tt;
+              begun = subst (λ (lifts : List (LiftView B)). Rattle.std.specs.List.AllByRecursion (Rattle.call_steps.specs.Lifted.IsBegun seen tells t seat) lifts) (sym none_lifted) tt;
             };
             whole = ap (map flight_place) none_open ∙ ap (map place_of) (sym none_lifted);
             formed = formed;
@@ -68,11 +69,11 @@ module _ {B : Type 0} {content plan : B → Option (List ℕ)} {reads writes fau
         }
 
     -- the first read didn't fail, and no reference is left
-    pub landed_well : new.reference ≡ None → HasWorked content plan reads writes faults tells tells_plan s t seat new
+    pub landed_well : new.reference ≡ None → HasWorked seen tells s t seat new
     landed_well none = landed_worked (λ r some. absurd (none-some r (sym none ∙ some))) (λ r some. absurd (none-some r (sym none ∙ some)))
 
     -- or it failed
-    pub landed_badly : new.reference ≡ w.reference → Rattle.std.proofs.Common.not answer.first_failed ≡ false → (0 < length w.carrier.lifts) → HasWorked content plan reads writes faults tells tells_plan s t seat new
+    pub landed_badly : new.reference ≡ w.reference → Rattle.std.proofs.Common.not answer.first_failed ≡ false → (0 < length w.carrier.lifts) → HasWorked seen tells s t seat new
     landed_badly kept failed some =
         landed_worked (λ r is. old.formed r (sym kept ∙ is))
         (λ r is. subst (λ (past : List Entry). IsLost past seat.0 r) (sym landed_here.landed)
@@ -96,5 +97,5 @@ module _ {B : Type 0} {content plan : B → Option (List ℕ)} {reads writes fau
   pub idle_again : w.carrier.lifts ≡ [] → record w { reference = None } ≡ idle seat
   idle_again none = λ i. record { carrier = record { seat = old.lifts.own i; lifts = none i }; reference = None }
 
-  pub refused_worked : (r : Ref) → IsFreeSeat s seat → w.carrier.lifts ≡ [] → (t : History) → t ≡ added s (entry_by seat (what.Denied r why.DiskFault)) → HasWorked content plan reads writes faults tells tells_plan s t seat (record w { reference = None })
+  pub refused_worked : (r : Ref) → IsFreeSeat s seat → w.carrier.lifts ≡ [] → (t : History) → t ≡ added s (entry_by seat (what.Denied r why.DiskFault)) → HasWorked seen tells s t seat (record w { reference = None })
   refused_worked r free none t made = still_worked s seat free t (what.Denied r why.DiskFault ∷ []) made (tt, tt) (record w { reference = None }) (idle_again none)

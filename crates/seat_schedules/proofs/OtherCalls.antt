@@ -1,7 +1,8 @@
 -- A service's step, a write cluster, a turn and a step of a leaving process leave their seat at work.
-use Rattle.std.proofs.Common.{◌≡◌, ℕ, Bool, List, [], ◌∷◌, Option, Some, None, refl, sym, ap, ◌∙◌, arith}
+use Rattle.std.proofs.Common.{◌≡◌, ℕ, List, [], ◌∷◌, Some, None, refl, sym, ap, ◌∙◌, arith}
 use Rattle.std.specs.Option.{option_map}
 use Rattle.std.proofs.lemmas.Option.{none-some}
+use Rattle.vm_types.specs.BlockView.{BlockView, Tells}
 use Rattle.vm_types.specs.declared.names.Proc.{Proc}
 use Rattle.vm_types.specs.declared.names.ProcStatus.TheVariants as status
 use Rattle.vm_types.specs.declared.names.Seat.{Seat}
@@ -50,24 +51,24 @@ swap_still swap swap_more made other same shape = quiet_are_still made shape
 swap_still swap swap_settled made other same shape = quiet_are_still made shape
 swap_still swap (swap_again reason) made other same shape = none_are_still made shape
 
-module _ {B : Type 0} (content plan : B → Option (List ℕ)) (reads writes faults : B → ℕ) (tells tells_plan : Bool) where
-  as_before : (t : History) (seat : Seat) (made : List What) (swap : Swap) (old new : CarrierView B) → (swap ≡ Carry → ⊥) → IsCarrying content plan reads writes faults tells tells_plan t seat made swap old new → new ≡ old
+module _ {B : Type 0} (seen : B → BlockView) (tells : Tells) where
+  as_before : (t : History) (seat : Seat) (made : List What) (swap : Swap) (old new : CarrierView B) → (swap ≡ Carry → ⊥) → IsCarrying seen tells t seat made swap old new → new ≡ old
   as_before t seat made Carry old new other carrying = absurd (other refl)
   as_before t seat made More old new other carrying = carrying
   as_before t seat made Settled old new other carrying = carrying
   as_before t seat made (Again why) old new other carrying = carrying
   as_before t seat made Room old new other carrying = carrying
 
-module _ {B : Type 0} {content plan : B → Option (List ℕ)} {reads writes faults : B → ℕ} {tells tells_plan : Bool} where
-  pub service_worked : (s t : History) (seat : Seat) (x : Service) (next : ServeNext) → IsFreeSeat s seat → Serves s t seat (serve_gives s.config s.past (pager s) seat.0 x) next → HasWorked content plan reads writes faults tells tells_plan s t seat (idle {B = B} seat)
+module _ {B : Type 0} {seen : B → BlockView} {tells : Tells} where
+  pub service_worked : (s t : History) (seat : Seat) (x : Service) (next : ServeNext) → IsFreeSeat s seat → Serves s t seat (serve_gives s.config s.past (pager s) seat.0 x) next → HasWorked seen tells s t seat (idle {B = B} seat)
   service_worked s t seat x next free serves =
       let g = serve_gives s.config s.past (pager s) seat.0 x in
       still_worked s seat free t g.made serves.history (served_still g.answer g.made (serve_shape s.config s.past (pager s) seat.0 x)) (idle seat) refl
 
   -- ---- a write cluster
   pub write_worked : (s t : History) (seat : Seat) (reason : Reason) (begin : Begin) (w : Worker B) (new : CarrierView B) → IsFreeSeat s seat → w ≡ idle seat
-      → Begins content plan reads writes faults tells tells_plan s t seat (begin_gives s.config (pager s) reason) begin w.carrier new
-      → HasWorked content plan reads writes faults tells tells_plan s t seat (record w { carrier = new })
+      → Begins seen tells s t seat (begin_gives s.config (pager s) reason) begin w.carrier new
+      → HasWorked seen tells s t seat (record w { carrier = new })
   write_worked s t seat reason begin w new free is begins =
       let made = (begin_gives s.config (pager s) reason).made in
       starts_worked s seat free t made begins.history (begin_starts s reason) (record w { carrier = new })
@@ -76,16 +77,16 @@ module _ {B : Type 0} {content plan : B → Option (List ℕ)} {reads writes fau
 
   -- ---- a step of a leaving process
   leave_stays : (s t : History) (seat : Seat) (p : ℕ) (swap : Swap) (w : Worker B) (new : CarrierView B) → (swap ≡ Carry → ⊥) → IsFreeSeat s seat → w ≡ idle seat
-      → Swaps content plan reads writes faults tells tells_plan s t seat (leave_gives s.config s.past (pager s) p) swap w.carrier new
-      → HasWorked content plan reads writes faults tells tells_plan s t seat (record w { carrier = new })
+      → Swaps seen tells s t seat (leave_gives s.config s.past (pager s) p) swap w.carrier new
+      → HasWorked seen tells s t seat (record w { carrier = new })
   leave_stays s t seat p swap w new other free is swaps =
       let g = leave_gives s.config s.past (pager s) p in
       still_worked s seat free t g.made swaps.history (swap_still swap g.answer g.made other swaps.answer (leave_shape s.config s.past (pager s) p)) (record w { carrier = new })
-      (ap (λ (c : CarrierView B). record w { carrier = c }) (as_before content plan reads writes faults tells tells_plan t seat g.made swap w.carrier new other swaps.carrier) ∙ is)
+      (ap (λ (c : CarrierView B). record w { carrier = c }) (as_before seen tells t seat g.made swap w.carrier new other swaps.carrier) ∙ is)
 
   pub leave_worked : (s t : History) (seat : Seat) (p : ℕ) (swap : Swap) (w : Worker B) (new : CarrierView B) → IsFreeSeat s seat → w ≡ idle seat
-      → Swaps content plan reads writes faults tells tells_plan s t seat (leave_gives s.config s.past (pager s) p) swap w.carrier new
-      → HasWorked content plan reads writes faults tells tells_plan s t seat (record w { carrier = new })
+      → Swaps seen tells s t seat (leave_gives s.config s.past (pager s) p) swap w.carrier new
+      → HasWorked seen tells s t seat (record w { carrier = new })
   leave_worked s t seat p Carry w new free is swaps =
       let g = leave_gives s.config s.past (pager s) p in
       starts_worked s seat free t g.made swaps.history (swap_starts g.answer g.made swaps.answer (leave_shape s.config s.past (pager s) p)) (record w { carrier = new }) swaps.carrier
@@ -96,7 +97,7 @@ module _ {B : Type 0} {content plan : B → Option (List ℕ)} {reads writes fau
   leave_worked s t seat p Room w new free is swaps = leave_stays s t seat p Room w new (λ same. cc) free is swaps
 
   -- ---- a turn
-  pub turn_worked : (s t : History) (seat : Seat) (q : Proc) → IsFreeSeat s seat → t ≡ added s (entry_by seat (what.Turn q status.Leaving)) → HasWorked content plan reads writes faults tells tells_plan s t seat (idle {B = B} seat)
+  pub turn_worked : (s t : History) (seat : Seat) (q : Proc) → IsFreeSeat s seat → t ≡ added s (entry_by seat (what.Turn q status.Leaving)) → HasWorked seen tells s t seat (idle {B = B} seat)
   turn_worked s t seat q free made = still_worked s seat free t (what.Turn q status.Leaving ∷ []) made (tt, tt) (idle seat) refl
 
 pub may_turn : (s : History) (seat : Seat) (q : Proc) → VictimIsTurned → IsFreeSeat s seat → IsWellFormed s.config → IsRun s.config s.past → option_map process_number (Some q) ≡ victim_gives s.config s.past (pager s) None

@@ -1,6 +1,7 @@
 -- While a seat makes entries, every other seat stays at work as it was.
-use Rattle.std.proofs.Common.{◌≡◌, ℕ, Bool, false, List, [], ◌∷◌, Option, map, nat_eq, sym, ap, ◌∙◌, subst}
+use Rattle.std.proofs.Common.{◌≡◌, ℕ, false, List, [], ◌∷◌, map, nat_eq, sym, ap, ◌∙◌, subst}
 use Rattle.std.specs.List.{AllByRecursion}
+use Rattle.vm_types.specs.BlockView.{BlockView, Tells}
 use Rattle.vm_types.specs.Configuration.{IsWellFormed}
 use Rattle.vm_types.specs.declared.config.Config.{Config}
 use Rattle.vm_types.specs.declared.names.Seat.{Seat}
@@ -61,12 +62,12 @@ run_made : (config : Config) (seat : ℕ) (ws : List What) (past : List Entry) �
 run_made config seat [] past run = run
 run_made config seat (w ∷ ws) past run = (run_made config seat ws (by_seat seat w ∷ past) run).0
 
-module _ {B : Type 0} (content plan : B → Option (List ℕ)) (reads writes faults : B → ℕ) (tells tells_plan : Bool) (s : History) where
+module _ {B : Type 0} (seen : B → BlockView) (tells : Tells) (s : History) where
   abbrev Begun : List Entry → ℕ → Seat → LiftView B → Type 0
-  Begun past spare seat lift = IsBegun content plan reads writes faults tells tells_plan (at s past spare) seat lift
+  Begun past spare seat lift = IsBegun seen tells (at s past spare) seat lift
 
   abbrev Works : List Entry → ℕ → Seat → Worker B → Type 0
-  Works past spare seat w = IsAtWork content plan reads writes faults tells tells_plan (at s past spare) seat w
+  Works past spare seat w = IsAtWork seen tells (at s past spare) seat w
 
   -- ---- other spare places
   pub respared : (past : List Entry) (m n : ℕ) (q : Seat) (w : Worker B) → Works past m q w → Works past n q w
@@ -93,7 +94,7 @@ module _ {B : Type 0} (content plan : B → Option (List ℕ)) (reads writes fau
           pool_is = begun.0.pool_is;
           waits = begun.0.waits;
           fits =
-              lifts_stay tells tells_plan s.config past (by_seat p.0 w) (lift_seen content plan reads writes faults lift) formed run
+              lifts_stay tells.content tells.plan s.config past (by_seat p.0 w) (lift_seen seen lift) formed run
               (lands_none p.0 q.0 apart s.config past w lift.start x run.1.row are.0 own.0) begun.0.fits;
         },
         each_stays xs lifts are.1 own.1 begun.1,
@@ -102,13 +103,13 @@ module _ {B : Type 0} (content plan : B → Option (List ℕ)) (reads writes fau
       one_stays : (x : Worker B) → Works past spare q x → Works (by_seat p.0 w ∷ past) spare q x
       one_stays x old =
           let flights : carrier_of q.0 (by_seat p.0 w ∷ past) ≡ carrier_of q.0 past = carrier_stays p.0 q.0 apart s.config past w run.1.row in
-          let fit = each_weaker (Begun past spare q) (λ (lift : LiftView B). LiftFits content plan reads writes faults tells tells_plan s.config past lift) (λ lift begun. begun.fits) x.carrier.lifts old.lifts.begun in
+          let fit = each_weaker (Begun past spare q) (λ (lift : LiftView B). LiftFits seen tells s.config past lift) (λ lift begun. begun.fits) x.carrier.lifts old.lifts.begun in
           record {
             lifts = record {
               own = old.lifts.own;
               begun =
                   each_stays (carrier_of q.0 past) x.carrier.lifts
-                  (whole_flights content plan reads writes faults tells tells_plan (at s past spare) q.0 x.carrier.lifts formed run.0 old.whole fit)
+                  (whole_flights seen tells (at s past spare) q.0 x.carrier.lifts formed run.0 old.whole fit)
                   (carrier_by q.0 past) old.lifts.begun;
             };
             whole = ap (map flight_place) flights ∙ old.whole;
@@ -121,11 +122,11 @@ module _ {B : Type 0} (content plan : B → Option (List ℕ)) (reads writes fau
     all_stay (w ∷ ws) past run x old = all_stay ws (by_seat p.0 w ∷ past) run x (one_stays w past (run_made s.config p.0 ws (by_seat p.0 w ∷ past) run) x old)
 
 -- ---- all that another seat does
-pub other_at_work : {B : Type 0} {content plan : B → Option (List ℕ)} {reads writes faults : B → ℕ} {tells tells_plan : Bool} (s t : History) (p q : Seat) (w x : Worker B) → nat_eq p.0 q.0 ≡ false → IsWellFormed s.config → IsRun t.config t.past
-    → HasWorked content plan reads writes faults tells tells_plan s t p w → IsAtWork content plan reads writes faults tells tells_plan s q x → IsAtWork content plan reads writes faults tells tells_plan t q x
-other_at_work {B} {content} {plan} {reads} {writes} {faults} {tells} {tells_plan} s t p q w x apart formed run worked old =
+pub other_at_work : {B : Type 0} {seen : B → BlockView} {tells : Tells} (s t : History) (p q : Seat) (w x : Worker B) → nat_eq p.0 q.0 ≡ false → IsWellFormed s.config → IsRun t.config t.past
+    → HasWorked seen tells s t p w → IsAtWork seen tells s q x → IsAtWork seen tells t q x
+other_at_work {B} {seen} {tells} s t p q w x apart formed run worked old =
     let config_is : t.config ≡ s.config = ap (λ (u : History). u.config) worked.same in
     let run_is : IsRun s.config (made_by p.0 worked.made s.past) = subst (IsRun s.config) worked.past (subst (λ (c : Config). IsRun c t.past) config_is run) in
-    let kept = all_stay content plan reads writes faults tells tells_plan s formed p q apart s.spare worked.made s.past run_is x old in
-    subst (λ (u : History). IsAtWork content plan reads writes faults tells tells_plan u q x) (sym worked.same)
-    (respared content plan reads writes faults tells tells_plan s t.past s.spare t.spare q x (subst (λ (past : List Entry). IsAtWork content plan reads writes faults tells tells_plan (at s past s.spare) q x) (sym worked.past) kept))
+    let kept = all_stay seen tells s formed p q apart s.spare worked.made s.past run_is x old in
+    subst (λ (u : History). IsAtWork seen tells u q x) (sym worked.same)
+    (respared seen tells s t.past s.spare t.spare q x (subst (λ (past : List Entry). IsAtWork seen tells (at s past s.spare) q x) (sym worked.past) kept))

@@ -1,9 +1,10 @@
 -- What a seat's own call leaves of its work.
-use Rattle.std.proofs.Common.{◌≡◌, ℕ, ◌+◌, ◌<◌, ◌++◌, Bool, false, List, [], ◌∷◌, Option, Some, filter, length, map, refl, sym, ap, ◌∙◌, subst}
+use Rattle.std.proofs.Common.{◌≡◌, ℕ, ◌+◌, ◌<◌, ◌++◌, false, List, [], ◌∷◌, Some, filter, length, map, refl, sym, ap, ◌∙◌, subst}
 use Rattle.std.specs.List.{AllByRecursion}
 use Rattle.std.proofs.lemmas.List.{length-map, nil_from_length}
 use Rattle.std.proofs.lemmas.List.Sums.{length-filter}
 use Rattle.std.proofs.lemmas.Option.{none-some}
+use Rattle.vm_types.specs.BlockView.{BlockView, Tells}
 use Rattle.vm_types.specs.WellFormed.{IsWellFormedReference}
 use Rattle.vm_types.specs.declared.names.Seat.{Seat}
 use Rattle.vm_types.specs.declared.reference.Ref.{Ref}
@@ -137,8 +138,8 @@ reads_for t seat r [] whole read = absurd (let some = read.carrier in let none =
 reads_for t seat r (lift ∷ lifts) whole read = read
 
 -- ---- the seat's work after its call
-module _ {B : Type 0} {content plan : B → Option (List ℕ)} {reads writes faults : B → ℕ} {tells tells_plan : Bool} (s : History) (seat : Seat) where
-  pub idle_at_work : carrier_of seat.0 s.past ≡ [] → IsAtWork content plan reads writes faults tells tells_plan s seat (idle seat)
+module _ {B : Type 0} {seen : B → BlockView} {tells : Tells} (s : History) (seat : Seat) where
+  pub idle_at_work : carrier_of seat.0 s.past ≡ [] → IsAtWork seen tells s seat (idle seat)
   idle_at_work free = record {
     lifts = record { own = refl; begun = tt };
     whole = ap (map flight_place) free;
@@ -147,22 +148,22 @@ module _ {B : Type 0} {content plan : B → Option (List ℕ)} {reads writes fau
   }
 
   -- nothing at all
-  pub none_worked : (w : Worker B) → awaits_reuse s.past ≡ false → IsAtWork content plan reads writes faults tells tells_plan s seat w → HasWorked content plan reads writes faults tells tells_plan s s seat w
+  pub none_worked : (w : Worker B) → awaits_reuse s.past ≡ false → IsAtWork seen tells s seat w → HasWorked seen tells s s seat w
   none_worked w calm at_work = record { made = []; past = refl; same = refl; calm = calm; at_work = at_work }
 
 -- nothing at all
-pub idle_stays : {B : Type 0} {content plan : B → Option (List ℕ)} {reads writes faults : B → ℕ} {tells tells_plan : Bool} (s : History) (seat : Seat) → IsFreeSeat s seat → (w : Worker B) → w ≡ idle seat → HasWorked content plan reads writes faults tells tells_plan s s seat w
-idle_stays {B} {content} {plan} {reads} {writes} {faults} {tells} {tells_plan} s seat free w is =
-    none_worked s seat w free.calm (subst (λ (x : Worker B). IsAtWork content plan reads writes faults tells tells_plan s seat x) (sym is) (idle_at_work s seat free.free))
+pub idle_stays : {B : Type 0} {seen : B → BlockView} {tells : Tells} (s : History) (seat : Seat) → IsFreeSeat s seat → (w : Worker B) → w ≡ idle seat → HasWorked seen tells s s seat w
+idle_stays {B} {seen} {tells} s seat free w is =
+    none_worked s seat w free.calm (subst (λ (x : Worker B). IsAtWork seen tells s seat x) (sym is) (idle_at_work s seat free.free))
 
 -- the seat of a process that may refer to memory
 pub idle_seat : (s : History) (seat : Seat) → IsFreeSeat s seat → seat.0 < length s.config.procs → IsIdleSeat s seat
 idle_seat s seat free process = record { process = process; idle = not_busy seat.0 s.past free.free; calm = free.calm }
 
 -- entries that begin and land nothing
-pub still_worked : {B : Type 0} {content plan : B → Option (List ℕ)} {reads writes faults : B → ℕ} {tells tells_plan : Bool} (s : History) (seat : Seat) → IsFreeSeat s seat → (t : History) (ws : List What) → t ≡ added_each seat ws s → AreStill ws
-    → (w : Worker B) → w ≡ idle seat → HasWorked content plan reads writes faults tells tells_plan s t seat w
-still_worked {B} {content} {plan} {reads} {writes} {faults} {tells} {tells_plan} s seat free t ws history still w is =
+pub still_worked : {B : Type 0} {seen : B → BlockView} {tells : Tells} (s : History) (seat : Seat) → IsFreeSeat s seat → (t : History) (ws : List What) → t ≡ added_each seat ws s → AreStill ws
+    → (w : Worker B) → w ≡ idle seat → HasWorked seen tells s t seat w
+still_worked {B} {seen} {tells} s seat free t ws history still w is =
     let leaves = still_made seat.0 ws s.past still in
     let none : carrier_of seat.0 t.past ≡ [] =
     ap (carrier_of seat.0) (past_is s seat t ws history) ∙ (ap (λ (xs : List Flight). Rattle.std.proofs.Common.reverse (filter (is_by seat.0) xs)) leaves.flights ∙ free.free) in
@@ -171,13 +172,13 @@ still_worked {B} {content} {plan} {reads} {writes} {faults} {tells} {tells_plan}
       past = past_is s seat t ws history;
       same = same_is s seat t ws history;
       calm = ap awaits_reuse (past_is s seat t ws history) ∙ leaves.calm free.calm;
-      at_work = subst (λ (x : Worker B). IsAtWork content plan reads writes faults tells tells_plan t seat x) (sym is) (idle_at_work t seat none);
+      at_work = subst (λ (x : Worker B). IsAtWork seen tells t seat x) (sym is) (idle_at_work t seat none);
     }
 
 -- transfers that begin
-pub starts_worked : {B : Type 0} {content plan : B → Option (List ℕ)} {reads writes faults : B → ℕ} {tells tells_plan : Bool} (s : History) (seat : Seat) → IsFreeSeat s seat → (t : History) (ws : List What) → t ≡ added_each seat ws s → AreStarts ws
-    → (w : Worker B) → HasLifts content plan reads writes faults tells tells_plan t seat ws w.carrier → ((r : Ref) → w.reference ≡ Some r → IsWellFormedReference r) → ((r : Ref) → w.reference ≡ Some r → IsReadFor t.past seat.0 r)
-    → HasWorked content plan reads writes faults tells tells_plan s t seat w
+pub starts_worked : {B : Type 0} {seen : B → BlockView} {tells : Tells} (s : History) (seat : Seat) → IsFreeSeat s seat → (t : History) (ws : List What) → t ≡ added_each seat ws s → AreStarts ws
+    → (w : Worker B) → HasLifts seen tells t seat ws w.carrier → ((r : Ref) → w.reference ≡ Some r → IsWellFormedReference r) → ((r : Ref) → w.reference ≡ Some r → IsReadFor t.past seat.0 r)
+    → HasWorked seen tells s t seat w
 starts_worked s seat free t ws history starts w has formed read =
     let whole : map flight_place (carrier_of seat.0 t.past) ≡ map place_of w.carrier.lifts =
     ap (λ (u : History). map flight_place (carrier_of seat.0 u.past)) history

@@ -1,6 +1,7 @@
 -- The next step of a reference leaves its seat at work.
-use Rattle.std.proofs.Common.{◌≡◌, ℕ, Bool, List, Option, Some, None, map, refl, sym, ap, ◌∙◌, subst}
+use Rattle.std.proofs.Common.{◌≡◌, List, Option, Some, None, map, refl, sym, ap, ◌∙◌, subst}
 use Rattle.std.proofs.lemmas.Option.{none-some, same_Some}
+use Rattle.vm_types.specs.BlockView.{BlockView, Tells}
 use Rattle.vm_types.specs.WellFormed.{IsWellFormedReference}
 use Rattle.vm_types.specs.declared.names.Seat.{Seat}
 use Rattle.vm_types.specs.declared.reference.Ref.{Ref}
@@ -49,44 +50,44 @@ module _ (s : History) (seat : Seat) (r : Ref) where
   made_still next shown other is =
       shape_still r g.answer g.made (λ carries. other (same_Some next Carry (is ∙ ap (λ (x : NextIs). returned x shown) carries))) (advance_shape s.config s.past (pager s) seat.0 r)
 
-module _ {B : Type 0} (content plan : B → Option (List ℕ)) (reads writes faults : B → ℕ) (tells tells_plan : Bool) where
+module _ {B : Type 0} (seen : B → BlockView) (tells : Tells) where
   -- ---- no read was begun
-  as_before : (t : History) (seat : Seat) (made : List What) (next : Next) (old new : CarrierView B) → (next ≡ Carry → ⊥) → IsCarrying content plan reads writes faults tells tells_plan t seat made next old new → new ≡ old
+  as_before : (t : History) (seat : Seat) (made : List What) (next : Next) (old new : CarrierView B) → (next ≡ Carry → ⊥) → IsCarrying seen tells t seat made next old new → new ≡ old
   as_before t seat made Carry old new other carrying = absurd (other refl)
   as_before t seat made (Answered reply) old new other carrying = carrying
   as_before t seat made More old new other carrying = carrying
   as_before t seat made (Again why) old new other carrying = carrying
   as_before t seat made Room old new other carrying = carrying
 
-module _ {B : Type 0} {content plan : B → Option (List ℕ)} {reads writes faults : B → ℕ} {tells tells_plan : Bool} where
+module _ {B : Type 0} {seen : B → BlockView} {tells : Tells} where
   stays_by : (s t : History) (seat : Seat) (r : Ref) (next : Next) (w : Worker B) (new : CarrierView B) → (next ≡ Carry → ⊥) → IsFreeSeat s seat → w ≡ idle seat
-      → Gives content plan reads writes faults tells tells_plan s t seat r (advance_gives s.config s.past (pager s) seat.0 r) next w.carrier new
-      → HasWorked content plan reads writes faults tells tells_plan s t seat (record w { carrier = new })
+      → Gives seen tells s t seat r (advance_gives s.config s.past (pager s) seat.0 r) next w.carrier new
+      → HasWorked seen tells s t seat (record w { carrier = new })
   stays_by s t seat r next w new other free is gives =
       let shown = gives.given.shown in
       let still = made_still s seat r next (last_reply (map (with_reply shown) (g s seat r).made)) other gives.given.answer in
       still_worked s seat free t (map (with_reply shown) (g s seat r).made) gives.given.history (shown_are_still shown (g s seat r).made still) (record w { carrier = new })
-      (ap (λ (c : CarrierView B). record w { carrier = c }) (as_before content plan reads writes faults tells tells_plan t seat (g s seat r).made next w.carrier new other gives.carrier) ∙ is)
+      (ap (λ (c : CarrierView B). record w { carrier = c }) (as_before seen tells t seat (g s seat r).made next w.carrier new other gives.carrier) ∙ is)
 
   pub reference_answered : (s t : History) (seat : Seat) (r : Ref) (reply : Reply) (w : Worker B) (new : CarrierView B) → IsFreeSeat s seat → w ≡ idle seat
-      → Gives content plan reads writes faults tells tells_plan s t seat r (advance_gives s.config s.past (pager s) seat.0 r) (Answered reply) w.carrier new
-      → HasWorked content plan reads writes faults tells tells_plan s t seat (record w { carrier = new })
+      → Gives seen tells s t seat r (advance_gives s.config s.past (pager s) seat.0 r) (Answered reply) w.carrier new
+      → HasWorked seen tells s t seat (record w { carrier = new })
   reference_answered s t seat r reply w new = stays_by s t seat r (Answered reply) w new (λ same. cc)
 
   pub reference_more : (s t : History) (seat : Seat) (r : Ref) (w : Worker B) (new : CarrierView B) → IsFreeSeat s seat → w ≡ idle seat
-      → Gives content plan reads writes faults tells tells_plan s t seat r (advance_gives s.config s.past (pager s) seat.0 r) More w.carrier new
-      → HasWorked content plan reads writes faults tells tells_plan s t seat (record w { carrier = new })
+      → Gives seen tells s t seat r (advance_gives s.config s.past (pager s) seat.0 r) More w.carrier new
+      → HasWorked seen tells s t seat (record w { carrier = new })
   reference_more s t seat r w new = stays_by s t seat r More w new (λ same. cc)
 
   pub reference_again : (s t : History) (seat : Seat) (r : Ref) (why : AgainWhy) (w : Worker B) (new : CarrierView B) → IsFreeSeat s seat → w ≡ idle seat
-      → Gives content plan reads writes faults tells tells_plan s t seat r (advance_gives s.config s.past (pager s) seat.0 r) (Again why) w.carrier new
-      → HasWorked content plan reads writes faults tells tells_plan s t seat (record w { carrier = new })
+      → Gives seen tells s t seat r (advance_gives s.config s.past (pager s) seat.0 r) (Again why) w.carrier new
+      → HasWorked seen tells s t seat (record w { carrier = new })
   reference_again s t seat r why w new = stays_by s t seat r (Again why) w new (λ same. cc)
 
   -- ---- reads were begun
   pub reference_carried : (s t : History) (seat : Seat) (r : Ref) (old new : CarrierView B) → IsFreeSeat s seat → IsWellFormedReference r
-      → Gives content plan reads writes faults tells tells_plan s t seat r (advance_gives s.config s.past (pager s) seat.0 r) Carry old new
-      → HasWorked content plan reads writes faults tells tells_plan s t seat (record { carrier = new; reference = Some r })
+      → Gives seen tells s t seat r (advance_gives s.config s.past (pager s) seat.0 r) Carry old new
+      → HasWorked seen tells s t seat (record { carrier = new; reference = Some r })
   reference_carried s t seat r old new free formed gives =
       let shown = gives.given.shown in
       let kind = carry_is (g s seat r).answer (last_reply (map (with_reply shown) (g s seat r).made)) gives.given.answer in

@@ -1,5 +1,6 @@
 -- Seats at work beside one another. This project's own.
-use Rattle.std.specs.Prelude.{◌≡◌, ℕ, ◌+◌, ◌<◌, ◌≤◌, Bool, false, List, [], ◌∷◌, Option, Some, None, length, map, slice_get}
+use Rattle.std.specs.Prelude.{◌≡◌, ℕ, ◌+◌, ◌<◌, ◌≤◌, false, List, [], ◌∷◌, Some, None, length, map, slice_get}
+use Rattle.vm_types.specs.BlockView.{BlockView, Tells}
 use Rattle.vm_types.specs.WellFormed.{IsWellFormedReference}
 use Rattle.vm_types.specs.declared.names.Seat.{Seat}
 use Rattle.vm_types.specs.declared.reference.Ref.{Ref}
@@ -32,10 +33,10 @@ pub record IsFreeSeat (s : History) (seat : Seat) : Type 0 where
   pub calm : awaits_reuse s.past ≡ false
   pub room : owed s.past + 64 ≤ s.spare
 
-module _ {B : Type 0} (content plan : B → Option (List ℕ)) (reads writes faults : B → ℕ) (tells tells_plan : Bool) where
+module _ {B : Type 0} (seen : B → BlockView) (tells : Tells) where
   -- the worker has the lifts of all open transfers of its seat, in their order
   pub record IsAtWork (s : History) (seat : Seat) (w : Worker B) : Type 0 where
-    pub lifts : HasBegunLifts content plan reads writes faults tells tells_plan s seat w.carrier
+    pub lifts : HasBegunLifts seen tells s seat w.carrier
     pub whole : map flight_place (carrier_of seat.0 s.past) ≡ map place_of w.carrier.lifts
     pub formed : (r : Ref) → w.reference ≡ Some r → IsWellFormedReference r
     pub waits : (r : Ref) → w.reference ≡ Some r → IsFor s.past seat.0 r w.carrier.lifts

@@ -16,7 +16,7 @@ fn refer<B: Block>(state: &mut State<B>, worker: &mut Worker<B>, seat: Seat, r: 
     requires formed { IsWellFormedReference r }
     requires free { IsFreeSeat state.old seat }
     requires worker { worker.old ≡ idle seat }
-    ensures { HasWorked B.content B.plan B.reads B.writes B.faults B.tells_content B.tells_plan state.old state.new seat worker.new }
+    ensures { HasWorked B.seen B.tells state.old state.new seat worker.new }
 {
     match advance(state, seat, Proc(seat.0), r, &mut worker.carrier) {
         Next::Answered(_) => Went::Made,
@@ -35,7 +35,7 @@ fn serve_next<B: Block>(state: &mut State<B>, seat: Seat, s: Service) -> Went
     requires process { seat.0 < length state.old.config.procs }
     requires formed { IsWellFormedService s }
     requires free { IsFreeSeat state.old seat }
-    ensures { HasWorked B.content B.plan B.reads B.writes B.faults B.tells_content B.tells_plan state.old state.new seat (idle seat) }
+    ensures { HasWorked B.seen B.tells state.old state.new seat (idle seat) }
 {
     match serve(state, seat, Proc(seat.0), s) {
         ServeNext::Answered(_) => Went::Made,
@@ -49,7 +49,7 @@ fn serve_next<B: Block>(state: &mut State<B>, seat: Seat, s: Service) -> Went
 pub fn ask<B: Block>(state: &mut State<B>, worker: &mut Worker<B>, seat: Seat, place: usize) -> Went
     requires free { IsFreeSeat state.old seat }
     requires worker { worker.old ≡ idle seat }
-    ensures { HasWorked B.content B.plan B.reads B.writes B.faults B.tells_content B.tells_plan state.old state.new seat worker.new }
+    ensures { HasWorked B.seen B.tells state.old state.new seat worker.new }
 {
     state.run_law();
     match state.config().body.items().get(place).copied() {

@@ -12,8 +12,8 @@ use vm_types::Seat;
 /// The seat's carrier is carried and lands, if it has lifts.
 pub fn land<B: Block>(state: &mut State<B>, worker: &mut Worker<B>, seat: Seat) -> Went
     requires calm { awaits_reuse state.old.past ≡ false }
-    requires at_work { IsAtWork B.content B.plan B.reads B.writes B.faults B.tells_content B.tells_plan state.old seat worker.old }
-    ensures { HasWorked B.content B.plan B.reads B.writes B.faults B.tells_content B.tells_plan state.old state.new seat worker.new }
+    requires at_work { IsAtWork B.seen B.tells state.old seat worker.old }
+    ensures { HasWorked B.seen B.tells state.old state.new seat worker.new }
 {
     if worker.carrier.len() == 0 {
         return Went::Barred;

@@ -4,7 +4,6 @@ ghost use Rattle.disk_trait.specs.Causes.{Rose};
 ghost use Rattle.disk_trait.specs.declared.depot.MakeFault.{MakeFault};
 ghost use Rattle.vm_types.specs.Configuration.{IsWellFormed};
 ghost use Rattle.vm_types.specs.declared.names.BlockId.{BlockId};
-ghost use Rattle.pager_model.specs.Fits.{told_of};
 ghost use Rattle.frame_store.specs.Blocks.{blocks_of};
 ghost use Rattle.vm_state.specs.History.{pager};
 ghost use Rattle.vm_state.specs.Made.{IsMade};
@@ -154,8 +153,7 @@ fn play_blocks<B: Block>(
 ) -> Result<Played, NoMemory>
     requires formed { IsWellFormed config }
     requires names { map (λ (p : BlockId × B). p.0) blocks.items ≡ blocks_of config }
-    requires made { All (λ (p : BlockId × B). IsMade B.tells_content B.tells_plan config p.0
-        (told_of B.content B.plan B.reads B.writes B.faults p.1)) blocks.items }
+    requires made { All (λ (p : BlockId × B). IsMade B.tells config p.0 (B.seen p.1)) blocks.items }
     ensures { IfOk result (IsPlayed config) }
 {
     let mut state = State::start(alloc, config, blocks)?;
@@ -175,8 +173,8 @@ pub fn play_schedule<D: Depot>(
 ) -> Result<Played, MakeFault>
     requires { IsWellFormed config }
     ensures played { IfOk result (IsPlayed config) }
-    ensures failed { IsErrOf result MakeFault.Failed → Rose (D.faults depot.old) (D.faults depot.new) }
-    ensures later { D.faults depot.old ≤ D.faults depot.new }
+    ensures failed { IsErrOf result MakeFault.Failed → Rose (D.seen depot.old).failures (D.seen depot.new).failures }
+    ensures later { (D.seen depot.old).failures ≤ (D.seen depot.new).failures }
 {
     let blocks = make_blocks(alloc, &config, depot)?;
     Ok(play_blocks(alloc, config, blocks, steps)?)

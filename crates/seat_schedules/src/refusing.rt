@@ -35,9 +35,9 @@ fn is_unmet<B: Block>(state: &State<B>, p: Proc, r: Ref) -> bool
 /// The reference is refused whose read failed.
 pub fn refuse<B: Block>(state: &mut State<B>, worker: &mut Worker<B>, seat: Seat) -> Went
     requires free { IsFreeSeat state.old seat }
-    requires at_work { IsAtWork B.content B.plan B.reads B.writes B.faults B.tells_content B.tells_plan state.old seat worker.old }
+    requires at_work { IsAtWork B.seen B.tells state.old seat worker.old }
     requires empty { worker.old.carrier.lifts ≡ [] }
-    ensures { HasWorked B.content B.plan B.reads B.writes B.faults B.tells_content B.tells_plan state.old state.new seat worker.new }
+    ensures { HasWorked B.seen B.tells state.old state.new seat worker.new }
 {
     if seat.0 as usize >= state.config().procs.items().len() {
         return Went::Barred;

@@ -21,8 +21,8 @@ pub fn take<B: Block>(
     seat: Seat,
     act: Act,
 ) -> Result<Went, NoMemory>
-    requires { AreAtWork B.content B.plan B.reads B.writes B.faults B.tells_content B.tells_plan state.old workers.old }
-    ensures at_work { AreAtWork B.content B.plan B.reads B.writes B.faults B.tells_content B.tells_plan state.new workers.new }
+    requires { AreAtWork B.seen B.tells state.old workers.old }
+    ensures at_work { AreAtWork B.seen B.tells state.new workers.new }
     ensures config { state.new.config ≡ state.old.config }
     ensures keeps { state.new.keeps ≡ state.old.keeps }
     ensures made { OnOk result ((made : List What) × (state.new.past ≡ made_by seat.0 made state.old.past)) }
@@ -47,8 +47,8 @@ pub fn play<B: Block>(
     workers: &mut [Worker<B>],
     steps: &[(Seat, Act)],
 ) -> Result<Went, NoMemory>
-    requires { AreAtWork B.content B.plan B.reads B.writes B.faults B.tells_content B.tells_plan state.old workers.old }
-    ensures at_work { AreAtWork B.content B.plan B.reads B.writes B.faults B.tells_content B.tells_plan state.new workers.new }
+    requires { AreAtWork B.seen B.tells state.old workers.old }
+    ensures at_work { AreAtWork B.seen B.tells state.new workers.new }
     ensures config { state.new.config ≡ state.old.config }
     ensures keeps { state.new.keeps ≡ state.old.keeps }
 {

@@ -16,7 +16,7 @@ use vm_types::{Proc, ProcStatus, Seat};
 pub fn write<B: Block>(state: &mut State<B>, worker: &mut Worker<B>, seat: Seat) -> Went
     requires free { IsFreeSeat state.old seat }
     requires worker { worker.old ≡ idle seat }
-    ensures { HasWorked B.content B.plan B.reads B.writes B.faults B.tells_content B.tells_plan state.old state.new seat worker.new }
+    ensures { HasWorked B.seen B.tells state.old state.new seat worker.new }
 {
     match begin(state, seat, Reason::Need, &mut worker.carrier) {
         Begin::Carry => Went::Made,
@@ -28,7 +28,7 @@ pub fn write<B: Block>(state: &mut State<B>, worker: &mut Worker<B>, seat: Seat)
 /// The process that is chosen to leave turns to leaving.
 pub fn choose<B: Block>(state: &mut State<B>, seat: Seat) -> Went
     requires free { IsFreeSeat state.old seat }
-    ensures { HasWorked B.content B.plan B.reads B.writes B.faults B.tells_content B.tells_plan state.old state.new seat (idle seat) }
+    ensures { HasWorked B.seen B.tells state.old state.new seat (idle seat) }
 {
     state.run_law();
     turns_are_legal();
@@ -52,7 +52,7 @@ fn is_leaving(s: ProcStatus) -> bool
 pub fn leave<B: Block>(state: &mut State<B>, worker: &mut Worker<B>, seat: Seat, p: Proc) -> Went
     requires free { IsFreeSeat state.old seat }
     requires worker { worker.old ≡ idle seat }
-    ensures { HasWorked B.content B.plan B.reads B.writes B.faults B.tells_content B.tells_plan state.old state.new seat worker.new }
+    ensures { HasWorked B.seen B.tells state.old state.new seat worker.new }
 {
     if p.0 as usize >= state.config().procs.items().len() {
         return Went::Barred;

@@ -18,7 +18,7 @@ use vm_types::Seat;
 fn begin_work<B: Block>(state: &mut State<B>, worker: &mut Worker<B>, seat: Seat, act: Act) -> Went
     requires free { IsFreeSeat state.old seat }
     requires worker { worker.old ≡ idle seat }
-    ensures { HasWorked B.content B.plan B.reads B.writes B.faults B.tells_content B.tells_plan state.old state.new seat worker.new }
+    ensures { HasWorked B.seen B.tells state.old state.new seat worker.new }
 {
     match act {
         Act::Ask(place) => ask(state, worker, seat, place),
@@ -35,8 +35,8 @@ pub fn work<B: Block>(state: &mut State<B>, worker: &mut Worker<B>, seat: Seat, 
     requires there { seat.0 < length state.old.config.procs + 2 }
     requires calm { awaits_reuse state.old.past ≡ false }
     requires room { owed state.old.past + 64 ≤ state.old.spare }
-    requires at_work { IsAtWork B.content B.plan B.reads B.writes B.faults B.tells_content B.tells_plan state.old seat worker.old }
-    ensures { HasWorked B.content B.plan B.reads B.writes B.faults B.tells_content B.tells_plan state.old state.new seat worker.new }
+    requires at_work { IsAtWork B.seen B.tells state.old seat worker.old }
+    ensures { HasWorked B.seen B.tells state.old state.new seat worker.new }
 {
     if let Act::Land = act {
         return land(state, worker, seat);

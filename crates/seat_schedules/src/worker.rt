@@ -35,7 +35,7 @@ fn new_worker<B: Block>(alloc: Global, seat: Seat) -> Result<Worker<B>, NoMemory
 /// `NoMemory` if out of memory.
 pub fn all_workers<B: Block>(alloc: Global, state: &State<B>) -> Result<Vec<Worker<B>>, NoMemory>
     requires first { state.now.past ≡ [] }
-    ensures { IfOk result (λ v. AreAtWork B.content B.plan B.reads B.writes B.faults B.tells_content B.tells_plan state.now v.items) }
+    ensures { IfOk result (λ v. AreAtWork B.seen B.tells state.now v.items) }
 {
     state.run_law();
     let seats = state.config().procs.items().len() as u32 + 2;

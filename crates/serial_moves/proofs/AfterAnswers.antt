@@ -1,6 +1,7 @@
 -- The swapper's and the writer's part after an answer, as moves of the serial policy.
 use Rattle.std.proofs.Common.{◌≡◌, ℕ, ◌+◌, ◌<◌, ◌≤◌, Bool, true, false, cond, ◌&&◌, List, [], Option, Some, None, Result, IfOk, IfSome, length, refl, sym, ap, ◌∙◌, subst, arith}
 use Rattle.std.specs.Option.{option_map}
+use Rattle.vm_types.specs.BlockView.{BlockView, Tells}
 use Rattle.vm_types.specs.declared.config.Config.{Config}
 use Rattle.vm_types.specs.declared.config.Task.{Task}
 use Rattle.vm_types.specs.declared.names.Proc.{Proc}
@@ -138,28 +139,28 @@ written_of s = (begin_gives s.config (pager s) reason_high).made
 abbrev saves_at : History → Bool → ℕ → Move
 saves_at s begun p = saving_move s.config s.past (pager s) begun p
 
-module _ {B : Type 0} {content plan : B → Option (List ℕ)} {reads writes faults : B → ℕ} {tells tells_plan : Bool} (s t : History) (seat : Seat) (old new : CarrierView B) (begun : Bool) (p : ℕ) (steady : IsSteady s)
+module _ {B : Type 0} {seen : B → BlockView} {tells : Tells} (s t : History) (seat : Seat) (old new : CarrierView B) (begun : Bool) (p : ℕ) (steady : IsSteady s)
     (saving : is_saving s.config (pager s) begun ≡ true) where
-  module _ (own : seat.0 ≡ writer_of s.config) (is : old ≡ empty seat) (begins : Begins content plan reads writes faults tells tells_plan s t seat (begin_gives s.config (pager s) reason_high) Carry old new) where
+  module _ (own : seat.0 ≡ writer_of s.config) (is : old ≡ empty seat) (begins : Begins seen tells s t seat (begin_gives s.config (pager s) reason_high) Carry old new) where
     move_is : saves_at s begun p ≡ carries seat.0 (written_of s) (after_saving p)
     move_is = saves_some s.config s.past (pager s) begun p seat.0 saving (carry_is (begin_gives s.config (pager s) reason_high).answer begins.answer) own
 
-    save_loaded : IsLoaded content plan reads writes faults tells tells_plan t seat new
+    save_loaded : IsLoaded seen tells t seat new
     save_loaded = loaded s t seat (written_of s) begins.history new steady.between (begin_starts s reason_high) (begun_lifts s t seat reason_high Carry old new is begins)
 
-    pub save_loaded_at : (x : CarrierView B) → x ≡ new → IsLoaded content plan reads writes faults tells tells_plan t seat x
-    save_loaded_at x same = subst (λ (y : CarrierView B). IsLoaded content plan reads writes faults tells tells_plan t seat y) (sym same) save_loaded
+    pub save_loaded_at : (x : CarrierView B) → x ≡ new → IsLoaded seen tells t seat x
+    save_loaded_at x same = subst (λ (y : CarrierView B). IsLoaded seen tells t seat y) (sym same) save_loaded
 
     pub save_may : IsMoveHere s (saves_at s begun p) → MayRefuse t.config t.past seat.0 (after_saving p)
     save_may here = may_refuse s t seat (written_of s) begins.history (after_saving p) steady.between (here_as s (saves_at s begun p) (carries seat.0 (written_of s) (after_saving p)) move_is here)
 
-    pub save_moved : (after : History) (c : ControlIs) → IsCarriedOn tells t after seat.0 (after_saving p) c → IsMoved tells s after (saves_at s begun p) c
+    pub save_moved : (after : History) (c : ControlIs) → IsCarriedOn tells.content t after seat.0 (after_saving p) c → IsMoved tells.content s after (saves_at s begun p) c
     save_moved after c carried =
-        subst (λ (m : Move). IsMoved tells s after m c) (sym move_is)
-        (carries_move s t seat (written_of s) begins.history tells after (after_saving p) c (starts_mute (written_of s) (begin_starts s reason_high)) carried)
+        subst (λ (m : Move). IsMoved tells.content s after m c) (sym move_is)
+        (carries_move s t seat (written_of s) begins.history tells.content after (after_saving p) c (starts_mute (written_of s) (begin_starts s reason_high)) carried)
 
   -- nothing is written
-  module _ (begins : Begins content plan reads writes faults tells tells_plan s t seat (begin_gives s.config (pager s) reason_high) Nothing old new) where
+  module _ (begins : Begins seen tells s t seat (begin_gives s.config (pager s) reason_high) Nothing old new) where
     nothing : (begin_gives s.config (pager s) reason_high).answer ≡ begin_nothing
     nothing = nothing_is (begin_gives s.config (pager s) reason_high).answer begins.answer
 
@@ -181,7 +182,7 @@ module _ {B : Type 0} {content plan : B → Option (List ℕ)} {reads writes fau
     pub goes_here : IsMoveHere s (saves_at s begun p) → IsMoveHere t (freeing_move t.config t.past (pager t) None false p)
     goes_here here = subst (λ (x : History). IsMoveHere x (freeing_move x.config x.past (pager x) None false p)) (sym unchanged) (here_as s (saves_at s begun p) (freeing_move s.config s.past (pager s) None false p) goes_over here)
 
-    pub goes_comes : {E : Type 0} (after : History) (r : Result AfterAnswer E) → IfOk r (ComesTo tells t after (freeing_move t.config t.past (pager t) None false p)) → IfOk r (ComesTo tells s after (saves_at s begun p))
+    pub goes_comes : {E : Type 0} (after : History) (r : Result AfterAnswer E) → IfOk r (ComesTo tells.content t after (freeing_move t.config t.past (pager t) None false p)) → IfOk r (ComesTo tells.content s after (saves_at s begun p))
     goes_comes after r comes =
-        comes_as tells s after (saves_at s begun p) (freeing_move s.config s.past (pager s) None false p) r goes_over
-        (subst (λ (x : History). IfOk r (ComesTo tells x after (freeing_move x.config x.past (pager x) None false p))) unchanged comes)
+        comes_as tells.content s after (saves_at s begun p) (freeing_move s.config s.past (pager s) None false p) r goes_over
+        (subst (λ (x : History). IfOk r (ComesTo tells.content x after (freeing_move x.config x.past (pager x) None false p))) unchanged comes)

@@ -1,6 +1,7 @@
 -- Where the policy goes on after a carrier has landed, in the words of the code.
-use Rattle.std.proofs.Common.{◌≡◌, ℕ, Bool, true, false, List, [], Option, Result, IfOk, map, sym, ap, ◌∙◌, subst}
+use Rattle.std.proofs.Common.{◌≡◌, Bool, true, false, List, [], Result, IfOk, map, sym, ap, ◌∙◌, subst}
 use Rattle.std.proofs.lemmas.Result.{IfOk-weaker}
+use Rattle.vm_types.specs.BlockView.{BlockView, Tells}
 use Rattle.vm_types.specs.declared.faults.NoMemory.{NoMemory}
 use Rattle.vm_types.specs.declared.names.Seat.{Seat}
 use Rattle.vm_journal.specs.declared.entry.Entry.{Entry}
@@ -25,10 +26,10 @@ use Rattle.serial_moves.specs.declared.control.Ends.{Ends}
 use Rattle.serial_moves.specs.declared.control.Ends.TheVariants.{Part, Request}
 
 -- ---- what the landing asks for, and what it leaves
-module _ {B : Type 0} {content plan : B → Option (List ℕ)} {reads writes faults : B → ℕ} {tells tells_plan : Bool} (s : History) (seat : Seat) (old : CarrierView B)
-    (loaded : IsLoaded content plan reads writes faults tells tells_plan s seat old) where
-  pub own_lifts : HasBegunLifts content plan reads writes faults tells tells_plan s old.seat old
-  own_lifts = subst (λ (x : Seat). HasBegunLifts content plan reads writes faults tells tells_plan s x old) (sym loaded.lifts.own) loaded.lifts
+module _ {B : Type 0} {seen : B → BlockView} {tells : Tells} (s : History) (seat : Seat) (old : CarrierView B)
+    (loaded : IsLoaded seen tells s seat old) where
+  pub own_lifts : HasBegunLifts seen tells s old.seat old
+  own_lifts = subst (λ (x : Seat). HasBegunLifts seen tells s x old) (sym loaded.lifts.own) loaded.lifts
 
   pub own_whole : map flight_place (carrier_of (old.seat).0 s.past) ≡ map place_of old.lifts
   own_whole = ap (λ (x : Seat). map flight_place (carrier_of x.0 s.past)) loaded.lifts.own ∙ loaded.whole

@@ -1,5 +1,6 @@
 -- A step of a process that leaves, as a move of the serial policy.
-use Rattle.std.proofs.Common.{◌≡◌, ℕ, Bool, List, Option, refl, sym, ap, ◌∙◌, subst}
+use Rattle.std.proofs.Common.{◌≡◌, ℕ, List, refl, sym, ap, ◌∙◌, subst}
+use Rattle.vm_types.specs.BlockView.{BlockView, Tells}
 use Rattle.vm_types.specs.declared.names.Seat.{Seat}
 use Rattle.vm_journal.specs.declared.entry.What.{What}
 use Rattle.pager_model.specs.Moves.{Control as ControlIs, Doing as DoingIs, Move, carries, control, makes, rests, while_leaving}
@@ -119,41 +120,41 @@ left_made s q = (leave_gives s.config s.past (pager s) q).made
 left_shape : (s : History) (q : ℕ) (x : SwapIs) → (leave_gives s.config s.past (pager s) q).answer ≡ x → SwapShape x (left_made s q)
 left_shape s q x is = subst (λ (y : SwapIs). SwapShape y (left_made s q)) is (leave_shape s.config s.past (pager s) q)
 
-module _ {B : Type 0} {content plan : B → Option (List ℕ)} {reads writes faults : B → ℕ} {tells tells_plan : Bool} (s t : History) (seat : Seat) (q : ℕ) (ends : Ends) (doing : DoingIs) (old new : CarrierView B) where
+module _ {B : Type 0} {seen : B → BlockView} {tells : Tells} (s t : History) (seat : Seat) (q : ℕ) (ends : Ends) (doing : DoingIs) (old new : CarrierView B) where
   -- its carrier is loaded, and the policy goes on once that has landed
-  pub leave_loaded : IsBetween s.config s.past → Swaps content plan reads writes faults tells tells_plan s t seat (leave_gives s.config s.past (pager s) q) Carry old new → IsLoaded content plan reads writes faults tells tells_plan t seat new
+  pub leave_loaded : IsBetween s.config s.past → Swaps seen tells s t seat (leave_gives s.config s.past (pager s) q) Carry old new → IsLoaded seen tells t seat new
   leave_loaded between swaps = loaded s t seat (left_made s q) swaps.history new between (left_shape s q swap_carry (carry_is (leave_gives s.config s.past (pager s) q).answer swaps.answer)) swaps.carrier
 
-  pub leave_may : IsBetween s.config s.past → Swaps content plan reads writes faults tells tells_plan s t seat (leave_gives s.config s.past (pager s) q) Carry old new → IsMoveHere s (leave_move s.config s.past (pager s) seat.0 q ends doing)
+  pub leave_may : IsBetween s.config s.past → Swaps seen tells s t seat (leave_gives s.config s.past (pager s) q) Carry old new → IsMoveHere s (leave_move s.config s.past (pager s) seat.0 q ends doing)
       → MayRefuse t.config t.past seat.0 (unless_all_failed ends (while_leaving doing q))
   leave_may between swaps here =
       may_refuse s t seat (left_made s q) swaps.history (unless_all_failed ends (while_leaving doing q)) between
       (subst (IsMoveHere s) (carries_on s seat.0 q ends doing (carry_is (leave_gives s.config s.past (pager s) q).answer swaps.answer)) here)
 
-  pub left_carried : Swaps content plan reads writes faults tells tells_plan s t seat (leave_gives s.config s.past (pager s) q) Carry old new → (after : History) (c : ControlIs)
-      → IsCarriedOn tells t after seat.0 (unless_all_failed ends (while_leaving doing q)) c → IsMoved tells s after (leave_move s.config s.past (pager s) seat.0 q ends doing) c
+  pub left_carried : Swaps seen tells s t seat (leave_gives s.config s.past (pager s) q) Carry old new → (after : History) (c : ControlIs)
+      → IsCarriedOn tells.content t after seat.0 (unless_all_failed ends (while_leaving doing q)) c → IsMoved tells.content s after (leave_move s.config s.past (pager s) seat.0 q ends doing) c
   left_carried swaps after c carried =
       let is = carry_is (leave_gives s.config s.past (pager s) q).answer swaps.answer in
-      subst (λ (m : Move). IsMoved tells s after m c) (sym (carries_on s seat.0 q ends doing is))
-      (carries_move s t seat (left_made s q) swaps.history tells after (unless_all_failed ends (while_leaving doing q)) c (starts_mute (left_made s q) (left_shape s q swap_carry is)) carried)
+      subst (λ (m : Move). IsMoved tells.content s after m c) (sym (carries_on s seat.0 q ends doing is))
+      (carries_move s t seat (left_made s q) swaps.history tells.content after (unless_all_failed ends (while_leaving doing q)) c (starts_mute (left_made s q) (left_shape s q swap_carry is)) carried)
 
   -- an entry was made
-  pub left_more : Swaps content plan reads writes faults tells tells_plan s t seat (leave_gives s.config s.past (pager s) q) More old new → IsMoved tells s t (leave_move s.config s.past (pager s) seat.0 q ends doing) (while_leaving doing q)
+  pub left_more : Swaps seen tells s t seat (leave_gives s.config s.past (pager s) q) More old new → IsMoved tells.content s t (leave_move s.config s.past (pager s) seat.0 q ends doing) (while_leaving doing q)
   left_more swaps =
       let is = more_is (leave_gives s.config s.past (pager s) q).answer swaps.answer in
-      subst (λ (m : Move). IsMoved tells s t m (while_leaving doing q)) (sym (makes_more s seat.0 q ends doing is))
-      (makes_move s t seat (left_made s q) swaps.history tells (while_leaving doing q)
+      subst (λ (m : Move). IsMoved tells.content s t m (while_leaving doing q)) (sym (makes_more s seat.0 q ends doing is))
+      (makes_move s t seat (left_made s q) swaps.history tells.content (while_leaving doing q)
       (quiet_mute (left_made s q) (left_shape s q swap_more is)))
 
-  pub left_settled : Swaps content plan reads writes faults tells tells_plan s t seat (leave_gives s.config s.past (pager s) q) Settled old new → IsMoved tells s t (leave_move s.config s.past (pager s) seat.0 q ends doing) (control doing)
+  pub left_settled : Swaps seen tells s t seat (leave_gives s.config s.past (pager s) q) Settled old new → IsMoved tells.content s t (leave_move s.config s.past (pager s) seat.0 q ends doing) (control doing)
   left_settled swaps =
       let is = settled_is (leave_gives s.config s.past (pager s) q).answer swaps.answer in
-      subst (λ (m : Move). IsMoved tells s t m (control doing)) (sym (makes_last s seat.0 q ends doing is))
-      (makes_move s t seat (left_made s q) swaps.history tells (control doing)
+      subst (λ (m : Move). IsMoved tells.content s t m (control doing)) (sym (makes_last s seat.0 q ends doing is))
+      (makes_move s t seat (left_made s q) swaps.history tells.content (control doing)
       (quiet_mute (left_made s q) (left_shape s q swap_settled is)))
 
   -- nothing was made, for this reason
-  module _ (why : SwapWhy) (swaps : Swaps content plan reads writes faults tells tells_plan s t seat (leave_gives s.config s.past (pager s) q) (Again why) old new) where
+  module _ (why : SwapWhy) (swaps : Swaps seen tells s t seat (leave_gives s.config s.past (pager s) q) (Again why) old new) where
     again : (leave_gives s.config s.past (pager s) q).answer ≡ swap_again (reason_of why)
     again = again_is (leave_gives s.config s.past (pager s) q).answer why swaps.answer
 
@@ -174,7 +175,7 @@ module _ {B : Type 0} {content plan : B → Option (List ℕ)} {reads writes fau
     writes_here is =
         here_there s t left_same (leave_move s.config s.past (pager s) seat.0 q ends doing) (λ (x : History). writing_move x.config (pager x) seat.0 ends (while_leaving doing q)) (left_writes is)
 
-    pub left_written : why ≡ ModifiedFull → (after : History) (c : ControlIs) → IsMoved tells t after (writing_move t.config (pager t) seat.0 ends (while_leaving doing q)) c
-        → IsMoved tells s after (leave_move s.config s.past (pager s) seat.0 q ends doing) c
+    pub left_written : why ≡ ModifiedFull → (after : History) (c : ControlIs) → IsMoved tells.content t after (writing_move t.config (pager t) seat.0 ends (while_leaving doing q)) c
+        → IsMoved tells.content s after (leave_move s.config s.past (pager s) seat.0 q ends doing) c
     left_written is after c moved =
-        moved_there s t left_same (leave_move s.config s.past (pager s) seat.0 q ends doing) (λ (x : History). writing_move x.config (pager x) seat.0 ends (while_leaving doing q)) (left_writes is) tells after c moved
+        moved_there s t left_same (leave_move s.config s.past (pager s) seat.0 q ends doing) (λ (x : History). writing_move x.config (pager x) seat.0 ends (while_leaving doing q)) (left_writes is) tells.content after c moved

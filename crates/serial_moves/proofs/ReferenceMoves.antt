@@ -2,6 +2,7 @@
 use Rattle.std.proofs.Common.{◌≡◌, ℕ, Bool, true, false, List, [], Option, Some, None, map, refl, sym, ap, ◌∙◌, subst}
 use Rattle.std.specs.List.{AllByRecursion}
 use Rattle.std.proofs.lemmas.Option.{none-some, same_Some}
+use Rattle.vm_types.specs.BlockView.{BlockView, Tells}
 use Rattle.vm_types.specs.declared.names.Seat.{Seat}
 use Rattle.vm_types.specs.declared.reference.Ref.{Ref}
 use Rattle.vm_types.specs.declared.reply.Reply.{Reply}
@@ -130,21 +131,21 @@ abbrev pub after_reading : Bool → Bool → After
 after_reading = unless_first_failed (control asking)
 
 -- ---- the call for the seat's own process
-module _ {B : Type 0} {content plan : B → Option (List ℕ)} {reads writes faults : B → ℕ} {tells tells_plan : Bool} {old new : CarrierView B} (s t : History) (seat : Seat) (r : Ref) (p : ℕ) (own : seat.0 ≡ p) where
-  own_gives : (next : Next) → Gives content plan reads writes faults tells tells_plan s t seat r (advance_gives s.config s.past (pager s) p r) next old new → Gives content plan reads writes faults tells tells_plan s t seat r (g s seat r) next old new
-  own_gives next gives = subst (λ (n : ℕ). Gives content plan reads writes faults tells tells_plan s t seat r (advance_gives s.config s.past (pager s) n r) next old new) (sym own) gives
+module _ {B : Type 0} {seen : B → BlockView} {tells : Tells} {old new : CarrierView B} (s t : History) (seat : Seat) (r : Ref) (p : ℕ) (own : seat.0 ≡ p) where
+  own_gives : (next : Next) → Gives seen tells s t seat r (advance_gives s.config s.past (pager s) p r) next old new → Gives seen tells s t seat r (g s seat r) next old new
+  own_gives next gives = subst (λ (n : ℕ). Gives seen tells s t seat r (advance_gives s.config s.past (pager s) n r) next old new) (sym own) gives
 
   -- an answer
-  pub advance_answered : (reply : Reply) (c : ControlIs) → Gives content plan reads writes faults tells tells_plan s t seat r (advance_gives s.config s.past (pager s) p r) (Answered reply) old new → c ≡ control (saving false p) → IsMoved tells s t (the_move s seat r) c
+  pub advance_answered : (reply : Reply) (c : ControlIs) → Gives seen tells s t seat r (advance_gives s.config s.past (pager s) p r) (Answered reply) old new → c ≡ control (saving false p) → IsMoved tells.content s t (the_move s seat r) c
   advance_answered reply c gives goes =
       let made = own_gives (Answered reply) gives in
       let is = answered_is (g s seat r).answer (last_reply (map (with_reply made.given.shown) (g s seat r).made)) reply made.given.answer in
-      subst (λ (x : ControlIs). IsMoved tells s t (the_move s seat r) x) (ap (λ (n : ℕ). control (saving false n)) own ∙ sym goes)
-      (answered_moved s seat r t tells made.given.shown reply made.given.history is.kind is.reply_is made.right)
+      subst (λ (x : ControlIs). IsMoved tells.content s t (the_move s seat r) x) (ap (λ (n : ℕ). control (saving false n)) own ∙ sym goes)
+      (answered_moved s seat r t tells.content made.given.shown reply made.given.history is.kind is.reply_is made.right)
 
   -- reads were begun
-  module _ (gives : Gives content plan reads writes faults tells tells_plan s t seat r (advance_gives s.config s.past (pager s) p r) Carry old new) where
-    begun : Gives content plan reads writes faults tells tells_plan s t seat r (g s seat r) Carry old new
+  module _ (gives : Gives seen tells s t seat r (advance_gives s.config s.past (pager s) p r) Carry old new) where
+    begun : Gives seen tells s t seat r (g s seat r) Carry old new
     begun = own_gives Carry gives
 
     kind : (g s seat r).answer ≡ next_carry
@@ -159,29 +160,29 @@ module _ {B : Type 0} {content plan : B → Option (List ℕ)} {reads writes fau
     carries_is : the_move s seat r ≡ carries seat.0 (g s seat r).made after_reading
     carries_is = move_by s seat r next_carry kind
 
-    pub advance_loaded : IsSteady s → IsLoaded content plan reads writes faults tells tells_plan t seat new
+    pub advance_loaded : IsSteady s → IsLoaded seen tells t seat new
     advance_loaded steady = loaded s t seat (g s seat r).made history new steady.between starts begun.carrier
 
     pub advance_may : IsSteady s → IsMoveHere s (the_move s seat r) → MayRefuse t.config t.past seat.0 after_reading
     advance_may steady here = may_refuse s t seat (g s seat r).made history after_reading steady.between (subst (λ (m : Move). IsMoveHere s m) carries_is here)
 
-    pub advance_carried : (after : History) (c : ControlIs) → IsCarriedOn tells t after seat.0 after_reading c → IsMoved tells s after (the_move s seat r) c
+    pub advance_carried : (after : History) (c : ControlIs) → IsCarriedOn tells.content t after seat.0 after_reading c → IsMoved tells.content s after (the_move s seat r) c
     advance_carried after c carried =
-        subst (λ (m : Move). IsMoved tells s after m c) (sym carries_is)
-        (carries_move s t seat (g s seat r).made history tells after after_reading c (starts_mute (g s seat r).made starts) carried)
+        subst (λ (m : Move). IsMoved tells.content s after m c) (sym carries_is)
+        (carries_move s t seat (g s seat r).made history tells.content after after_reading c (starts_mute (g s seat r).made starts) carried)
 
   -- an entry was made
-  pub advance_more : Gives content plan reads writes faults tells tells_plan s t seat r (advance_gives s.config s.past (pager s) p r) More old new → IsMoved tells s t (the_move s seat r) (control asking)
+  pub advance_more : Gives seen tells s t seat r (advance_gives s.config s.past (pager s) p r) More old new → IsMoved tells.content s t (the_move s seat r) (control asking)
   advance_more gives =
       let made = own_gives More gives in
       let is = more_is (g s seat r).answer (last_reply (map (with_reply made.given.shown) (g s seat r).made)) made.given.answer in
       let mute = quiet_mute (g s seat r).made (shape_by s seat r next_more is) in
-      subst (λ (m : Move). IsMoved tells s t m (control asking)) (sym (move_by s seat r next_more is))
-      (makes_move s t seat (g s seat r).made (muted s seat r t made.given.shown mute made.given.history) tells (control asking) mute)
+      subst (λ (m : Move). IsMoved tells.content s t m (control asking)) (sym (move_by s seat r next_more is))
+      (makes_move s t seat (g s seat r).made (muted s seat r t made.given.shown mute made.given.history) tells.content (control asking) mute)
 
   -- nothing was made
-  module _ (why : AgainWhy) (gives : Gives content plan reads writes faults tells tells_plan s t seat r (advance_gives s.config s.past (pager s) p r) (Again why) old new) where
-    waits : Gives content plan reads writes faults tells tells_plan s t seat r (g s seat r) (Again why) old new
+  module _ (why : AgainWhy) (gives : Gives seen tells s t seat r (advance_gives s.config s.past (pager s) p r) (Again why) old new) where
+    waits : Gives seen tells s t seat r (g s seat r) (Again why) old new
     waits = own_gives (Again why) gives
 
     stands : (g s seat r).answer ≡ next_again (reason_of why)

@@ -37,7 +37,7 @@ pub fn ask_next<B: Block>(
     requires carriers { AreIdle state.old carriers.old }
     requires here { IsMoveHere state.old (asking_move state.old.config state.old.past (pager state.old) (option_map number_of leaving)) }
     ensures carriers { carriers.new ≡ carriers.old }
-    ensures moved { IfOk result (Moves B.tells_content state.old state.new
+    ensures moved { IfOk result (Moves B.tells.content state.old state.new
         (asking_move state.old.config state.old.past (pager state.old) (option_map number_of leaving))) }
 {
     if let Some(task) = next_task(state) {
@@ -101,7 +101,7 @@ pub fn free<B: Block>(
     requires carriers { AreIdle state.old carriers.old }
     requires here { IsMoveHere state.old (freeing_move state.old.config state.old.past (pager state.old) (option_map number_of leaving) begun p.0) }
     ensures carriers { carriers.new ≡ carriers.old }
-    ensures comes { IfOk result (ComesTo B.tells_content state.old state.new
+    ensures comes { IfOk result (ComesTo B.tells.content state.old state.new
         (freeing_move state.old.config state.old.past (pager state.old) (option_map number_of leaving) begun p.0)) }
 {
     let seat = Seat(processes(state) + 1);
@@ -161,7 +161,7 @@ pub fn save<B: Block>(
     requires carriers { AreIdle state.old carriers.old }
     requires here { IsMoveHere state.old (saving_move state.old.config state.old.past (pager state.old) begun p.0) }
     ensures carriers { carriers.new ≡ carriers.old }
-    ensures comes { IfOk result (ComesTo B.tells_content state.old state.new
+    ensures comes { IfOk result (ComesTo B.tells.content state.old state.new
         (saving_move state.old.config state.old.past (pager state.old) begun p.0)) }
 {
     if !is_saving(state, begun) {
@@ -188,11 +188,10 @@ fn save_on<B: Block>(
     p: Proc,
     carrier: &mut Carrier<B>,
 ) -> Result<Control, NoMemory>
-    requires loaded { IsLoaded B.content B.plan B.reads B.writes B.faults B.tells_content B.tells_plan
-        state.old seat carrier.old }
+    requires loaded { IsLoaded B.seen B.tells state.old seat carrier.old }
     requires may { MayRefuse state.old.config state.old.past seat.0 (after_saving p.0) }
     ensures carrier { carrier.new ≡ empty seat }
-    ensures carried { IfOk result (λ c. IsCarriedOn B.tells_content state.old state.new seat.0 (after_saving p.0) (control_in c)) }
+    ensures carried { IfOk result (λ c. IsCarriedOn B.tells.content state.old state.new seat.0 (after_saving p.0) (control_in c)) }
 {
     let failed = Control {
         doing: Doing::Freeing {

@@ -53,7 +53,7 @@ pub fn refuse<B: Block>(state: &mut State<B>, seat: Seat) -> Result<Control, NoM
     requires landed { open_flights state.old.past ≡ [] }
     requires reused { awaits_reuse state.old.past ≡ false }
     requires legal { IsRefusedLegally state.old.config state.old.past seat.0 }
-    ensures { IfOk result (λ c. IsRefusedThere B.tells_content state.old state.new (control_in c)) }
+    ensures { IfOk result (λ c. IsRefusedThere B.tells.content state.old state.new (control_in c)) }
 {
     prepare(state)?;
     match next_task(state) {
@@ -77,11 +77,10 @@ pub fn carry_on<B: Block>(
     next: Control,
     carrier: &mut Carrier<B>,
 ) -> Result<Control, NoMemory>
-    requires loaded { IsLoaded B.content B.plan B.reads B.writes B.faults B.tells_content B.tells_plan
-        state.old seat carrier.old }
+    requires loaded { IsLoaded B.seen B.tells state.old seat carrier.old }
     requires may { MayRefuse state.old.config state.old.past seat.0 (unless_all_failed (ends_in ends) (control_in next)) }
     ensures carrier { carrier.new ≡ empty seat }
-    ensures carried { IfOk result (λ c. IsCarriedOn B.tells_content state.old state.new seat.0
+    ensures carried { IfOk result (λ c. IsCarriedOn B.tells.content state.old state.new seat.0
         (unless_all_failed (ends_in ends) (control_in next)) (control_in c)) }
 {
     let landed = carry_and_land(state, carrier);
@@ -106,11 +105,10 @@ pub fn carry_reads<B: Block>(
     next: Control,
     carrier: &mut Carrier<B>,
 ) -> Result<Control, NoMemory>
-    requires loaded { IsLoaded B.content B.plan B.reads B.writes B.faults B.tells_content B.tells_plan
-        state.old seat carrier.old }
+    requires loaded { IsLoaded B.seen B.tells state.old seat carrier.old }
     requires may { MayRefuse state.old.config state.old.past seat.0 (unless_first_failed (control_in next)) }
     ensures carrier { carrier.new ≡ empty seat }
-    ensures carried { IfOk result (λ c. IsCarriedOn B.tells_content state.old state.new seat.0
+    ensures carried { IfOk result (λ c. IsCarriedOn B.tells.content state.old state.new seat.0
         (unless_first_failed (control_in next)) (control_in c)) }
 {
     let landed = carry_and_land(state, carrier);
@@ -139,7 +137,7 @@ pub fn write_for_room<B: Block>(
     requires carrier { carrier.old ≡ empty seat }
     requires here { IsMoveHere state.old (writing_move state.old.config (pager state.old) seat.0 (ends_in ends) (control_in next)) }
     ensures carrier { carrier.new ≡ carrier.old }
-    ensures moved { IfOk result (λ c. IsMoved B.tells_content state.old state.new
+    ensures moved { IfOk result (λ c. IsMoved B.tells.content state.old state.new
         (writing_move state.old.config (pager state.old) seat.0 (ends_in ends) (control_in next)) (control_in c)) }
 {
     begin(state, seat, Reason::Need, carrier);

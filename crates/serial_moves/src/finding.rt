@@ -107,7 +107,7 @@ pub fn find_frame<B: Block>(
     requires there { IsFinder state.old finder }
     requires here { IsMoveHere state.old (finding_by state.old.config state.old.past (pager state.old) seat.0 (ends_in ends) (doing_in doing) finder) }
     ensures carrier { carrier.new ≡ carrier.old }
-    ensures moved { IfOk result (Moves B.tells_content state.old state.new
+    ensures moved { IfOk result (Moves B.tells.content state.old state.new
         (finding_by state.old.config state.old.past (pager state.old) seat.0 (ends_in ends) (doing_in doing) finder)) }
 {
     match finder {

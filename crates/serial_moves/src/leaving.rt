@@ -32,7 +32,7 @@ pub fn leave<B: Block>(
     requires carrier { carrier.old ≡ empty seat }
     requires here { IsMoveHere state.old (leave_move state.old.config state.old.past (pager state.old) seat.0 q.0 (ends_in ends) (doing_in doing)) }
     ensures carrier { carrier.new ≡ carrier.old }
-    ensures moved { IfOk result (Moves B.tells_content state.old state.new
+    ensures moved { IfOk result (Moves B.tells.content state.old state.new
         (leave_move state.old.config state.old.past (pager state.old) seat.0 q.0 (ends_in ends) (doing_in doing))) }
 {
     let next = Control {

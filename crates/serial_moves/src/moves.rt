@@ -28,7 +28,7 @@ pub fn make_move<B: Block>(
     requires fits { IsControlled state.old.config state.old.past (control_in c) }
     requires carriers { AreIdle state.old carriers.old }
     ensures carriers { carriers.new ≡ carriers.old }
-    ensures moved { IfOk result (Moves B.tells_content state.old state.new (move_of state.old.config state.old.past (control_in c))) }
+    ensures moved { IfOk result (Moves B.tells.content state.old state.new (move_of state.old.config state.old.past (control_in c))) }
 {
     prepare(state)?;
     match after_answer(state, c, carriers)? {
@@ -51,7 +51,7 @@ fn after_answer<B: Block>(
     requires fits { IsControlled state.old.config state.old.past (control_in c) }
     requires carriers { AreIdle state.old carriers.old }
     ensures carriers { carriers.new ≡ carriers.old }
-    ensures comes { IfOk result (ComesTo B.tells_content state.old state.new (move_of state.old.config state.old.past (control_in c))) }
+    ensures comes { IfOk result (ComesTo B.tells.content state.old state.new (move_of state.old.config state.old.past (control_in c))) }
 {
     match c.doing {
         Doing::Asking => Ok(AfterAnswer::Over(c.leaving)),

@@ -53,7 +53,7 @@ fn coming_process<B: Block>(state: &State<B>) -> Option<Proc>
 fn gone<B: Block>(state: &mut State<B>, seat: Seat) -> Option<Control>
     requires steady { IsSteady state.old }
     requires here { IsMoveHere state.old (gone_move seat.0 (coming_process state.old.config (pager state.old))) }
-    ensures { Moves B.tells_content state.old state.new (gone_move seat.0 (coming_process state.old.config (pager state.old))) result }
+    ensures { Moves B.tells.content state.old state.new (gone_move seat.0 (coming_process state.old.config (pager state.old))) result }
 {
     match coming_process(state) {
         Some(q) => {
@@ -85,7 +85,7 @@ fn come<B: Block>(
     requires carrier { carrier.old ≡ empty seat }
     requires here { IsMoveHere state.old (come_move state.old seat.0) }
     ensures carrier { carrier.new ≡ carrier.old }
-    ensures moved { IfOk result (Moves B.tells_content state.old state.new (come_move state.old seat.0)) }
+    ensures moved { IfOk result (Moves B.tells.content state.old state.new (come_move state.old seat.0)) }
 {
     match come_some(state, seat, Proc(seat.0), carrier) {
         Swap::Carry => Ok(Some(carry_on(state, seat, Ends::Request, ASKING, carrier)?)),
@@ -115,7 +115,7 @@ fn find_for_request<B: Block>(
     requires carrier { carrier.old ≡ empty seat }
     requires here { IsMoveHere state.old (finding_for state.old seat.0) }
     ensures carrier { carrier.new ≡ carrier.old }
-    ensures moved { IfOk result (Moves B.tells_content state.old state.new (finding_for state.old seat.0)) }
+    ensures moved { IfOk result (Moves B.tells.content state.old state.new (finding_for state.old seat.0)) }
 {
     match who_finds(state, Proc(seat.0)) {
         Some(found) => find_frame(state, seat, found, Ends::Request, Doing::Asking, carrier),
@@ -142,7 +142,7 @@ fn refer<B: Block>(
     requires carrier { carrier.old ≡ empty seat }
     requires here { IsMoveHere state.old (resident_move state.old.config state.old.past (pager state.old) seat.0 (Request.Reference r)) }
     ensures carrier { carrier.new ≡ carrier.old }
-    ensures moved { IfOk result (Moves B.tells_content state.old state.new
+    ensures moved { IfOk result (Moves B.tells.content state.old state.new
         (resident_move state.old.config state.old.past (pager state.old) seat.0 (Request.Reference r))) }
 {
     match advance(state, seat, p, r, carrier) {
@@ -178,7 +178,7 @@ fn serve_next<B: Block>(
     requires carrier { carrier.old ≡ empty seat }
     requires here { IsMoveHere state.old (resident_move state.old.config state.old.past (pager state.old) seat.0 (Request.Service s)) }
     ensures carrier { carrier.new ≡ carrier.old }
-    ensures moved { IfOk result (Moves B.tells_content state.old state.new
+    ensures moved { IfOk result (Moves B.tells.content state.old state.new
         (resident_move state.old.config state.old.past (pager state.old) seat.0 (Request.Service s))) }
 {
     match serve(state, seat, p, s) {
@@ -217,7 +217,7 @@ fn by_status<B: Block>(
     requires carrier { carrier.old ≡ empty seat }
     requires here { IsMoveHere state.old (asked_move state.old.config state.old.past (pager state.old) None seat.0 task.request) }
     ensures carrier { carrier.new ≡ carrier.old }
-    ensures moved { IfOk result (Moves B.tells_content state.old state.new
+    ensures moved { IfOk result (Moves B.tells.content state.old state.new
         (asked_move state.old.config state.old.past (pager state.old) None seat.0 task.request)) }
 {
     match state.status(task.proc) {
@@ -287,7 +287,7 @@ fn ask_other<B: Block>(
     requires carrier { carrier.old ≡ empty (record { 0 = (task.proc).0 }) }
     requires here { IsMoveHere state.old (asked_move state.old.config state.old.past (pager state.old) (option_map number_of leaving) (task.proc).0 task.request) }
     ensures carrier { carrier.new ≡ carrier.old }
-    ensures moved { IfOk result (Moves B.tells_content state.old state.new
+    ensures moved { IfOk result (Moves B.tells.content state.old state.new
         (asked_move state.old.config state.old.past (pager state.old) (option_map number_of leaving) (task.proc).0 task.request)) }
 {
     let seat = Seat(task.proc.0);
@@ -315,7 +315,7 @@ pub fn ask<B: Block>(
     requires carrier { carrier.old ≡ empty (record { 0 = (task.proc).0 }) }
     requires here { IsMoveHere state.old (asked_move state.old.config state.old.past (pager state.old) (option_map number_of leaving) (task.proc).0 task.request) }
     ensures carrier { carrier.new ≡ carrier.old }
-    ensures moved { IfOk result (Moves B.tells_content state.old state.new
+    ensures moved { IfOk result (Moves B.tells.content state.old state.new
         (asked_move state.old.config state.old.past (pager state.old) (option_map number_of leaving) (task.proc).0 task.request)) }
 {
     if let Some(r) = resident_reference(state, leaving, task) {

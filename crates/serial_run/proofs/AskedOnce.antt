@@ -1,20 +1,21 @@
 -- The blocks that are given back are those of the configuration, each once.
-use Rattle.std.proofs.Common.{◌≡◌, ℕ, zero, suc, ◌+◌, ◌<◌, Bool, true, false, List, [], ◌∷◌, Option, Some, length, map, count_by, slice_get, slice_index_or, refl, sym, ap, ◌∙◌, arith}
+use Rattle.std.proofs.Common.{◌≡◌, ℕ, zero, suc, ◌+◌, ◌<◌, Bool, true, false, List, [], ◌∷◌, Some, length, map, count_by, slice_get, slice_index_or, refl, sym, ap, ◌∙◌, arith}
 use Rattle.std.specs.List.{AllByRecursion}
+use Rattle.vm_types.specs.BlockView.{BlockView, Retired, Tells}
 use Rattle.vm_types.specs.Same.{same_block}
 use Rattle.vm_types.specs.Configuration.{IsBlock}
 use Rattle.vm_types.specs.declared.config.Config.{Config}
 use Rattle.vm_types.specs.declared.names.BlockId.{BlockId}
 use Rattle.vm_journal.specs.declared.entry.Entry.{Entry}
-use Rattle.pager_model.specs.Asked.{IsAsked, Retired, is_retired}
-use Rattle.pager_model.specs.Told.{IsCountedBlock}
+use Rattle.pager_model.specs.Asked.{IsAsked, is_retired}
+use Rattle.pager_model.specs.CountedBlock.{IsCountedBlock}
 use Rattle.pager_model.specs.WrittenBack.{AreWrittenBack, IsUnwritten, IsWrittenBack}
 use Rattle.pager_rules.proofs.Basics.{count_cons_no, count_cons_yes}
+use Rattle.disk_trait.specs.DepotView.{given_back}
 use Rattle.frame_store.specs.Blocks.{blocks_of, number_of}
 use Rattle.frame_store.proofs.Blocks.{is_block, number_only, number_there}
 use Rattle.frame_store.proofs.Places.{block_itself, blocks_equal}
 use Rattle.vm_state.specs.Ends.{AreGivenBack}
-use Rattle.serial_run.specs.Ended.{given_back}
 
 -- ---- what is in one place alone is counted once
 module _ {X : Type 0} (test : X → Bool) where
@@ -43,12 +44,12 @@ module _ {X : Type 0} (test : X → Bool) where
       first true is = absurd (let bad = alone 0 y refl is in omega (arith, bad))
 
 -- ---- the blocks of a configuration that are given back
-module _ {B : Type 0} (content plan : B → Option (List ℕ)) (reads writes faults : B → ℕ) where
+module _ {B : Type 0} (seen : B → BlockView) where
   abbrev name : BlockId × B → BlockId
   name p = p.0
 
   abbrev back : BlockId × B → Retired
-  back p = given_back content plan reads writes faults p
+  back p = given_back seen p
 
   counted_names : (b : BlockId) (xs : List (BlockId × B)) → count_by (is_retired b) (map back xs) ≡ count_by (same_block b) (map name xs)
   counted_names b [] = refl
@@ -68,21 +69,21 @@ module _ {B : Type 0} (content plan : B → Option (List ℕ)) (reads writes fau
   each_named Q [] each = tt
   each_named Q (x ∷ xs) each = (each 0 x.0 refl, each_named Q xs (λ k b there. each (suc k) b there))
 
-  module _ (tells tells_plan : Bool) (config : Config) (past : List Entry) (taken : List (BlockId × B)) (names : map name taken ≡ blocks_of config)
-      (given : AreGivenBack content plan reads writes faults tells tells_plan config past taken) where
+  module _ (tells : Tells) (config : Config) (past : List Entry) (taken : List (BlockId × B)) (names : map name taken ≡ blocks_of config)
+      (given : AreGivenBack seen tells config past taken) where
     once : (b : BlockId) → IsBlock config b → count_by (same_block b) (blocks_of config) ≡ 1
     once b is =
         counted_once (same_block b) (blocks_of config) (number_of config b) b (number_there config b is) (block_itself b)
         (λ k c there same. sym (number_only config k c there) ∙ ap (number_of config) (sym (blocks_equal b c same)))
 
-    pub asked : IsAsked tells_plan config past (map back taken)
+    pub asked : IsAsked tells.plan config past (map back taken)
     asked = record {
       all = λ b is. counted_names b taken ∙ (ap (count_by (same_block b)) names ∙ once b is);
       only = each_named (IsBlock config) taken (λ k b there. is_block config k b (ap (λ (ids : List BlockId). slice_get ids k) (sym names) ∙ there));
-      counted = each_back (λ (x : Retired). IsCountedBlock tells_plan config past x.block x.told) taken (λ k d less. (given k d less).counted);
+      counted = each_back (λ (x : Retired). IsCountedBlock tells.plan config past x.block x.seen) taken (λ k d less. (given k d less).counted);
     }
 
-    pub written : AreWrittenBack tells config past (map back taken)
+    pub written : AreWrittenBack tells.content config past (map back taken)
     written = record {
       shared = λ told. each_back (IsWrittenBack config past) taken (λ k d less. ((given k d less).written told).0);
       copied = λ told. each_back (IsUnwritten config) taken (λ k d less. ((given k d less).written told).1);

@@ -1,5 +1,6 @@
 -- A run that has ended, once its blocks are given back.
-use Rattle.std.proofs.Common.{◌≡◌, ℕ, Bool, List, ◌++◌, Option, length, map, reverse, sym, ap, ◌∙◌, subst}
+use Rattle.std.proofs.Common.{◌≡◌, List, ◌++◌, length, map, reverse, sym, ap, ◌∙◌, subst}
+use Rattle.vm_types.specs.BlockView.{BlockView, Tells}
 use Rattle.vm_types.specs.declared.config.Config.{Config}
 use Rattle.vm_types.specs.declared.names.BlockId.{BlockId}
 use Rattle.vm_types.specs.declared.names.Page.{Page}
@@ -10,37 +11,38 @@ use Rattle.pager_model.specs.Run.{pager_after}
 use Rattle.pager_model.specs.Text.{dirty_pages}
 use Rattle.pager_model.specs.WrittenBack.{AreWrittenBack}
 use Rattle.report_lines.specs.Printable.{IsPrintable}
+use Rattle.disk_trait.specs.DepotView.{given_back}
 use Rattle.frame_store.specs.Blocks.{blocks_of}
 use Rattle.vm_state.specs.Ends.{AreGivenBack}
 use Rattle.vm_state.specs.History.{History}
 use Rattle.run_record.specs.Tallies.{tallies_of}
-use Rattle.serial_run.specs.Ended.{HasEnded, IsCounted, IsFinished, IsOver, IsWholeRun, given_back}
+use Rattle.serial_run.specs.Ended.{HasEnded, IsCounted, IsFinished, IsOver, IsWholeRun}
 use Rattle.serial_run.specs.declared.finished.Counted.{Counted}
 use Rattle.serial_run.specs.declared.finished.Finished.{Finished}
 use Rattle.serial_run.specs.declared.run.Ending.{Ending}
 use Rattle.serial_run.proofs.AskedOnce.{asked, written}
 
-module _ {B : Type 0} (content plan : B → Option (List ℕ)) (reads writes faults : B → ℕ) (tells tells_plan : Bool) where
-  is_over : (config : Config) (s : History) (ending : Ending) (dirty : List Page) (taken : List (BlockId × B)) → s.config ≡ config → (ended : HasEnded tells s ending) → dirty ≡ (ending.dirty).items
-      → map (λ (p : BlockId × B). p.0) taken ≡ blocks_of s.config → AreGivenBack content plan reads writes faults tells tells_plan s.config s.past taken
-      → IsOver content plan reads writes faults tells tells_plan config taken dirty ended.past ended.rest
+module _ {B : Type 0} (seen : B → BlockView) (tells : Tells) where
+  is_over : (config : Config) (s : History) (ending : Ending) (dirty : List Page) (taken : List (BlockId × B)) → s.config ≡ config → (ended : HasEnded tells.content s ending) → dirty ≡ (ending.dirty).items
+      → map (λ (p : BlockId × B). p.0) taken ≡ blocks_of s.config → AreGivenBack seen tells s.config s.past taken
+      → IsOver tells config (map (given_back seen) taken) dirty ended.past ended.rest
   is_over config s ending dirty taken same ended left names given = record {
-    run = subst (λ (k : Config). IsWholeRun tells k ended.past ended.rest) same ended.run;
+    run = subst (λ (k : Config). IsWholeRun tells.content k ended.past ended.rest) same ended.run;
     left = left ∙ (ended.dirty ∙ ap (λ (k : Config). dirty_pages k (pager_after k (ended.rest ++ ended.past))) same);
     asked =
-        subst (λ (k : Config). IsAsked tells_plan k (ended.rest ++ ended.past) (map (given_back content plan reads writes faults) taken)) same
-        (subst (λ (p : List Entry). IsAsked tells_plan s.config p (map (given_back content plan reads writes faults) taken)) ended.all
-        (asked content plan reads writes faults tells tells_plan s.config s.past taken names given));
+        subst (λ (k : Config). IsAsked tells.plan k (ended.rest ++ ended.past) (map (given_back seen) taken)) same
+        (subst (λ (p : List Entry). IsAsked tells.plan s.config p (map (given_back seen) taken)) ended.all
+        (asked seen tells s.config s.past taken names given));
     written =
-        subst (λ (k : Config). AreWrittenBack tells k (ended.rest ++ ended.past) (map (given_back content plan reads writes faults) taken)) same
-        (subst (λ (p : List Entry). AreWrittenBack tells s.config p (map (given_back content plan reads writes faults) taken)) ended.all
-        (written content plan reads writes faults tells tells_plan s.config s.past taken names given));
+        subst (λ (k : Config). AreWrittenBack tells.content k (ended.rest ++ ended.past) (map (given_back seen) taken)) same
+        (subst (λ (p : List Entry). AreWrittenBack tells.content s.config p (map (given_back seen) taken)) ended.all
+        (written seen tells s.config s.past taken names given));
   }
 
-  pub is_finished : (config : Config) (s : History) (ending : Ending) (f : Finished) (taken : List (BlockId × B)) → s.config ≡ config → HasEnded tells s ending
+  pub is_finished : (config : Config) (s : History) (ending : Ending) (f : Finished) (taken : List (BlockId × B)) → s.config ≡ config → HasEnded tells.content s ending
       → f.config ≡ s.config → (f.entries).items ≡ reverse s.past → f.at ≡ ending.at → f.report ≡ ending.report → (f.dirty).items ≡ (ending.dirty).items
-      → map (λ (p : BlockId × B). p.0) taken ≡ blocks_of s.config → AreGivenBack content plan reads writes faults tells tells_plan s.config s.past taken
-      → IsFinished content plan reads writes faults tells tells_plan config taken f
+      → map (λ (p : BlockId × B). p.0) taken ≡ blocks_of s.config → AreGivenBack seen tells s.config s.past taken
+      → IsFinished tells config (map (given_back seen) taken) f
   is_finished config s ending f taken same ended own entries at report left names given = record {
     past = ended.past;
     rest = ended.rest;
@@ -52,10 +54,10 @@ module _ {B : Type 0} (content plan : B → Option (List ℕ)) (reads writes fau
     printable = subst (IsPrintable config.sections) (sym report) (subst (λ (k : Config). IsPrintable k.sections ending.report) same ended.printable);
   }
 
-  pub is_counted : (config : Config) (s : History) (ending : Ending) (c : Counted) (taken : List (BlockId × B)) → s.config ≡ config → HasEnded tells s ending
+  pub is_counted : (config : Config) (s : History) (ending : Ending) (c : Counted) (taken : List (BlockId × B)) → s.config ≡ config → HasEnded tells.content s ending
       → c.all ≡ length s.past → c.kinds ≡ tallies_of (reverse s.past) → (c.dirty).items ≡ (ending.dirty).items
-      → map (λ (p : BlockId × B). p.0) taken ≡ blocks_of s.config → AreGivenBack content plan reads writes faults tells tells_plan s.config s.past taken
-      → IsCounted content plan reads writes faults tells tells_plan config taken c
+      → map (λ (p : BlockId × B). p.0) taken ≡ blocks_of s.config → AreGivenBack seen tells s.config s.past taken
+      → IsCounted tells config (map (given_back seen) taken) c
   is_counted config s ending c taken same ended all kinds left names given = record {
     past = ended.past;
     rest = ended.rest;

@@ -1,11 +1,10 @@
 -- A serial run that has ended. A past is a journal's list of entries, the newest first. This project's own.
-use Rattle.std.specs.Prelude.{◌≡◌, ℕ, Bool, true, List, [], ◌++◌, Option, length, map, reverse}
+use Rattle.std.specs.Prelude.{◌≡◌, Bool, true, List, [], ◌++◌, length, reverse}
+use Rattle.vm_types.specs.BlockView.{Retired, Tells}
 use Rattle.vm_types.specs.declared.config.Config.{Config}
-use Rattle.vm_types.specs.declared.names.BlockId.{BlockId}
 use Rattle.vm_types.specs.declared.names.Page.{Page}
 use Rattle.vm_journal.specs.declared.entry.Entry.{Entry}
-use Rattle.pager_model.specs.Asked.{IsAsked, Retired}
-use Rattle.pager_model.specs.Fits.{told_of}
+use Rattle.pager_model.specs.Asked.{IsAsked}
 use Rattle.pager_model.specs.Order.{IsInOrder}
 use Rattle.pager_model.specs.Report.{report_of}
 use Rattle.pager_model.specs.Run.{IsRun, pager_after}
@@ -21,8 +20,8 @@ use Rattle.serial_run.specs.declared.finished.Finished.{Finished}
 use Rattle.serial_run.specs.declared.run.Ending.{Ending}
 use Rattle.vm_state.specs.History.{History}
 
--- the entries up to the report's place and those after it are one legal run with right values where blocks tell
--- their content, each process's requests once and in order; up to the report's place they are what the serial policy makes,
+-- the entries up to the report's place and those after it are one legal run with right values where the bytes of
+-- blocks are known, each process's requests once and in order; up to the report's place they are what the serial policy makes,
 -- every request is answered there, and the others are the rundown
 pub record IsWholeRun (tells : Bool) (config : Config) (past rest : List Entry) : Type 0 where
   pub run : IsRun config (rest ++ past)
@@ -43,34 +42,29 @@ pub record HasEnded (tells : Bool) (s : History) (ending : Ending) : Type 0 wher
   pub printable : IsPrintable s.config.sections ending.report
   pub dirty : (ending.dirty).items ≡ dirty_pages s.config (pager_after s.config (rest ++ past))
 
-module _ {B : Type 0} (content plan : B → Option (List ℕ)) (reads writes faults : B → ℕ) where
-  -- a block with its name as it was given back
-  abbrev pub given_back : BlockId × B → Retired
-  given_back p = record { block = p.0; told = told_of content plan reads writes faults p.1 }
+-- the run of a configuration has ended with these entries and left these pages dirty, and these blocks were given
+-- back: each block of the configuration once, and counted; where the bytes of blocks are known they are written back
+pub record IsOver (tells : Tells) (config : Config) (taken : List Retired) (dirty : List Page) (past rest : List Entry) : Type 0 where
+  pub run : IsWholeRun tells.content config past rest
+  pub left : dirty ≡ dirty_pages config (pager_after config (rest ++ past))
+  pub asked : IsAsked tells.plan config (rest ++ past) taken
+  pub written : AreWrittenBack tells.content config (rest ++ past) taken
 
-  -- the run of a configuration has ended with these entries and left these pages dirty, and these blocks were given
-  -- back: each block of the configuration once, and counted; where blocks tell their content they are written back
-  pub record IsOver (tells tells_plan : Bool) (config : Config) (taken : List (BlockId × B)) (dirty : List Page) (past rest : List Entry) : Type 0 where
-    pub run : IsWholeRun tells config past rest
-    pub left : dirty ≡ dirty_pages config (pager_after config (rest ++ past))
-    pub asked : IsAsked tells_plan config (rest ++ past) (map given_back taken)
-    pub written : AreWrittenBack tells config (rest ++ past) (map given_back taken)
+-- such a run, its entries, and the report on them
+pub record IsFinished (tells : Tells) (config : Config) (taken : List Retired) (f : Finished) : Type 0 where
+  pub past : List Entry
+  pub rest : List Entry
+  pub over : IsOver tells config taken (f.dirty).items past rest
+  pub same : f.config ≡ config
+  pub all : (f.entries).items ≡ reverse (rest ++ past)
+  pub at : f.at ≡ length past
+  pub report : f.report ≡ report_of config past (pager_after config past)
+  pub printable : IsPrintable config.sections f.report
 
-  -- such a run, its entries, and the report on them
-  pub record IsFinished (tells tells_plan : Bool) (config : Config) (taken : List (BlockId × B)) (f : Finished) : Type 0 where
-    pub past : List Entry
-    pub rest : List Entry
-    pub over : IsOver tells tells_plan config taken (f.dirty).items past rest
-    pub same : f.config ≡ config
-    pub all : (f.entries).items ≡ reverse (rest ++ past)
-    pub at : f.at ≡ length past
-    pub report : f.report ≡ report_of config past (pager_after config past)
-    pub printable : IsPrintable config.sections f.report
-
-  -- such a run, and how many entries it has
-  pub record IsCounted (tells tells_plan : Bool) (config : Config) (taken : List (BlockId × B)) (c : Counted) : Type 0 where
-    pub past : List Entry
-    pub rest : List Entry
-    pub over : IsOver tells tells_plan config taken (c.dirty).items past rest
-    pub all : c.all ≡ length (rest ++ past)
-    pub kinds : c.kinds ≡ tallies_of (reverse (rest ++ past))
+-- such a run, and how many entries it has
+pub record IsCounted (tells : Tells) (config : Config) (taken : List Retired) (c : Counted) : Type 0 where
+  pub past : List Entry
+  pub rest : List Entry
+  pub over : IsOver tells config taken (c.dirty).items past rest
+  pub all : c.all ≡ length (rest ++ past)
+  pub kinds : c.kinds ≡ tallies_of (reverse (rest ++ past))

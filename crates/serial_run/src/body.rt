@@ -24,7 +24,7 @@ pub fn run_body<B: Block>(state: &mut State<B>, carriers: &mut [Carrier<B>]) -> 
     ensures same { OnOk result (IsSameBut state.old state.new) }
     ensures between { OnOk result (IsBetween state.new.config state.new.past) }
     ensures serial { OnOk result (IsSerial state.new.config state.new.past) }
-    ensures right { OnOk result (B.tells_content ≡ true → IsRight state.new.config state.new.past) }
+    ensures right { OnOk result (B.tells.content ≡ true → IsRight state.new.config state.new.past) }
 {
     first_control_fits();
     let mut control = Control {

@@ -1,7 +1,7 @@
 ghost use Rattle.std.specs.Prelude.{◌≡◌, ◌≤◌, ◌++◌, [], IfOk, IsErrOf, List, OnOk};
 ghost use Rattle.disk_trait.specs.Causes.{Rose};
+ghost use Rattle.vm_types.specs.BlockView.{Retired};
 ghost use Rattle.vm_types.specs.Configuration.{IsWellFormed};
-ghost use Rattle.vm_types.specs.declared.names.BlockId.{BlockId};
 ghost use Rattle.move_steps.specs.Moved.{IsSameBut};
 ghost use Rattle.serial_run.specs.Ended.{HasEnded, IsCounted, IsFinished};
 ghost use Rattle.serial_run.specs.declared.finished.RunFault.{RunFault};
@@ -46,7 +46,7 @@ fn reserve_answers<B: Block>(state: &mut State<B>)
 fn run_state<B: Block>(alloc: Global, state: &mut State<B>) -> Result<Ending, NoMemory>
     requires { state.old.past ≡ [] }
     ensures same { OnOk result (IsSameBut state.old state.new) }
-    ensures ended { IfOk result (HasEnded B.tells_content state.new) }
+    ensures ended { IfOk result (HasEnded B.tells.content state.new) }
 {
     state.run_law();
     reserve_answers(state);
@@ -69,10 +69,10 @@ pub fn run_serial<D: Depot>(
     depot: &mut D,
 ) -> Result<Finished, RunFault>
     requires { IsWellFormed config }
-    ensures finished { IfOk result (λ f. (taken : List (BlockId × D.Block)) × (D.retired depot.new ≡ D.retired depot.old ++ taken)
-        × IsFinished D.Block.content D.Block.plan D.Block.reads D.Block.writes D.Block.faults D.Block.tells_content D.Block.tells_plan config taken f) }
-    ensures failed { IsErrOf result RunFault.DepotFault → Rose (D.faults depot.old) (D.faults depot.new) }
-    ensures later { D.faults depot.old ≤ D.faults depot.new }
+    ensures finished { IfOk result (λ f. (taken : List Retired) × ((D.seen depot.new).retired ≡ (D.seen depot.old).retired ++ taken)
+        × IsFinished D.Block.tells config taken f) }
+    ensures failed { IsErrOf result RunFault.DepotFault → Rose (D.seen depot.old).failures (D.seen depot.new).failures }
+    ensures later { (D.seen depot.old).failures ≤ (D.seen depot.new).failures }
 {
     let blocks = make_blocks(alloc, &config, depot)?;
     let mut state = State::start(alloc, config, blocks)?;
@@ -98,10 +98,10 @@ pub fn count_serial<D: Depot>(
     depot: &mut D,
 ) -> Result<Counted, RunFault>
     requires { IsWellFormed config }
-    ensures counted { IfOk result (λ f. (taken : List (BlockId × D.Block)) × (D.retired depot.new ≡ D.retired depot.old ++ taken)
-        × IsCounted D.Block.content D.Block.plan D.Block.reads D.Block.writes D.Block.faults D.Block.tells_content D.Block.tells_plan config taken f) }
-    ensures failed { IsErrOf result RunFault.DepotFault → Rose (D.faults depot.old) (D.faults depot.new) }
-    ensures later { D.faults depot.old ≤ D.faults depot.new }
+    ensures counted { IfOk result (λ f. (taken : List Retired) × ((D.seen depot.new).retired ≡ (D.seen depot.old).retired ++ taken)
+        × IsCounted D.Block.tells config taken f) }
+    ensures failed { IsErrOf result RunFault.DepotFault → Rose (D.seen depot.old).failures (D.seen depot.new).failures }
+    ensures later { (D.seen depot.old).failures ≤ (D.seen depot.new).failures }
 {
     let blocks = make_blocks(alloc, &config, depot)?;
     let mut state = State::start_counting(alloc, config, blocks)?;

@@ -6,14 +6,14 @@ use std::fs;
 use std::test::Fail;
 use vm_types::{BlockId, Failed, Proc, SecId};
 
-/// Writes bytes and reads them back, as any block that tells its content gives them.
+/// Writes bytes and reads them back, as any block whose bytes are known gives them.
 fn write_and_read<B: Block>(block: &mut B, bytes: &[u8], buf: &mut [u8]) -> Result<(), Failed>
     requires size { length bytes.now ≡ 512 }
     requires buf_size { length buf.old ≡ 512 }
-    requires few_calls { B.reads block.old + B.writes block.old + 1 < 2 ^ 48 }
-    ensures same { OnOk result (B.tells_content ≡ true → buf.new ≡ bytes.now) }
-    ensures failed { OnErr result (B.faults block.old < B.faults block.new) }
-    ensures calls { B.reads block.new + B.writes block.new < B.reads block.old + B.writes block.old + 3 }
+    requires few_calls { (B.seen block.old).reads + (B.seen block.old).writes + 1 < 2 ^ 48 }
+    ensures same { OnOk result (B.tells.content ≡ true → buf.new ≡ bytes.now) }
+    ensures failed { OnErr result ((B.seen block.old).faults < (B.seen block.new).faults) }
+    ensures calls { (B.seen block.new).reads + (B.seen block.new).writes < (B.seen block.old).reads + (B.seen block.old).writes + 3 }
 {
     block.write(bytes)?;
     block.read(buf)
@@ -22,7 +22,7 @@ fn write_and_read<B: Block>(block: &mut B, bytes: &[u8], buf: &mut [u8]) -> Resu
 /// Makes a block and gives it back at once.
 fn make_and_retire<D: Depot>(depot: &mut D, id: BlockId, bytes: &[u8]) -> Result<(), MakeFault>
     requires { length bytes.now ≡ 512 }
-    ensures { IsErrOf result MakeFault.Failed → Rose (D.faults depot.old) (D.faults depot.new) }
+    ensures { IsErrOf result MakeFault.Failed → Rose (D.seen depot.old).failures (D.seen depot.new).failures }
 {
     let block = depot.make(id, bytes, &[])?;
     depot.retire(id, block)?;

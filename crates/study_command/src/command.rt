@@ -1,6 +1,5 @@
 ghost use Rattle.std.specs.Prelude.{◌≡◌, ◌≢◌, ◌⊎◌, ◌≤◌, ◌++◌, length};
 ghost use Rattle.outside_io.specs.Causes.{Rose};
-ghost use Rattle.outside_io.specs.Views.{sink_view, source_view};
 ghost use Rattle.vm_types.specs.Configuration.{IsWellFormed};
 ghost use Rattle.program_ends.specs.Concludes.{Concludes, EndsAnswered, HasTold, WasCut};
 ghost use Rattle.program_ends.specs.Ends.{Ends};
@@ -20,8 +19,7 @@ use vm_types::Config;
 // Writes the lines and the status 0.
 fn end_answers<K: Sink>(answers: &Answers, frames: u32, sink: &mut K) -> Status
     requires { length answers.now.lru.items ≤ 1024 }
-    ensures { Ends (sink_view (K.taken sink.old) (K.faults sink.old) (K.stalls sink.old))
-        (sink_view (K.taken sink.new) (K.faults sink.new) (K.stalls sink.new)) 0
+    ensures { Ends (K.seen sink.old) (K.seen sink.new) 0
         (answer_lines answers.now.pages answers.now.distinct frames answers.now.ring answers.now.lru.items
         answers.now.least.faults answers.now.drops.items answers.now.least.cuts.items ++ status_line 0) result.0 }
 {
@@ -35,8 +33,7 @@ fn end_answers<K: Sink>(answers: &Answers, frames: u32, sink: &mut K) -> Status
 fn study_config<K: Sink>(alloc: Global, config: &Config, study: Study, sink: &mut K) -> Status
     requires frames { (1 ≤ study.frames) × (study.frames ≤ 1024) }
     requires formed { IsWellFormed config.now }
-    ensures { EndsAnswered (IsStudyAnswer study config.now) (sink_view (K.taken sink.old) (K.faults sink.old) (K.stalls sink.old))
-        (sink_view (K.taken sink.new) (K.faults sink.new) (K.stalls sink.new)) result.0 }
+    ensures { EndsAnswered (IsStudyAnswer study config.now) (K.seen sink.old) (K.seen sink.new) result.0 }
 {
     match answers_of(alloc, config, study) {
         Ok(answers) => end_answers(&answers, study.frames, sink),
@@ -47,9 +44,9 @@ fn study_config<K: Sink>(alloc: Global, config: &Config, study: Study, sink: &mu
 // The outcome of the command.
 fn conclude<S: Source, K: Sink>(alloc: Global, study: Study, source: &mut S, sink: &mut K) -> Status
     requires { (1 ≤ study.frames) × (study.frames ≤ 1024) }
-    ensures outcome { Concludes (Tells (IsStudyAnswer study) (source_view (S.left source.old) (S.faults source.old)) (source_view (S.left source.new) (S.faults source.new)))
-        (sink_view (K.taken sink.old) (K.faults sink.old) (K.stalls sink.old)) (sink_view (K.taken sink.new) (K.faults sink.new) (K.stalls sink.new)) result.0 }
-    ensures faults_later { S.faults source.old ≤ S.faults source.new }
+    ensures outcome { Concludes (Tells (IsStudyAnswer study) (S.seen source.old) (S.seen source.new))
+        (K.seen sink.old) (K.seen sink.new) result.0 }
+    ensures faults_later { (S.seen source.old).failures ≤ (S.seen source.new).failures }
 {
     match read_trace(source, alloc) {
         Ok(config) => study_config(alloc, &config, study, sink),
@@ -75,23 +72,23 @@ pub fn study_trace<S: Source, K: Sink>(
 ) -> Status
     requires { (1 ≤ study.frames) × (study.frames ≤ 1024) }
     // A status with the text that goes with it, and how the text was written.
-    ensures outcome { Concludes (Tells (IsStudyAnswer study) (source_view (S.left source.old) (S.faults source.old)) (source_view (S.left source.new) (S.faults source.new)))
-        (sink_view (K.taken sink.old) (K.faults sink.old) (K.stalls sink.old)) (sink_view (K.taken sink.new) (K.faults sink.new) (K.stalls sink.new)) result.0 }
+    ensures outcome { Concludes (Tells (IsStudyAnswer study) (S.seen source.old) (S.seen source.new))
+        (K.seen sink.old) (K.seen sink.new) result.0 }
     // So with every status but 4 what was written is the text that goes with it, and no count of the
     // sink changed.
-    ensures told { result.0 ≢ 4 → HasTold (Tells (IsStudyAnswer study) (source_view (S.left source.old) (S.faults source.old)) (source_view (S.left source.new) (S.faults source.new)))
-        (sink_view (K.taken sink.old) (K.faults sink.old) (K.stalls sink.old)) (sink_view (K.taken sink.new) (K.faults sink.new) (K.stalls sink.new)) result.0 }
-    ensures unfailed { result.0 ≢ 4 → (K.faults sink.new ≡ K.faults sink.old) × (K.stalls sink.new ≡ K.stalls sink.old) }
+    ensures told { result.0 ≢ 4 → HasTold (Tells (IsStudyAnswer study) (S.seen source.old) (S.seen source.new))
+        (K.seen sink.old) (K.seen sink.new) result.0 }
+    ensures unfailed { result.0 ≢ 4 → ((K.seen sink.new).failures ≡ (K.seen sink.old).failures) × ((K.seen sink.new).stalls ≡ (K.seen sink.old).stalls) }
     // With status 4 it is a proper prefix of a text that goes with another status.
-    ensures cut { result.0 ≡ 4 → WasCut (Tells (IsStudyAnswer study) (source_view (S.left source.old) (S.faults source.old)) (source_view (S.left source.new) (S.faults source.new)))
-        (sink_view (K.taken sink.old) (K.faults sink.old) (K.stalls sink.old)) (sink_view (K.taken sink.new) (K.faults sink.new) (K.stalls sink.new)) }
-    ensures read_fault { result.0 ≡ 3 → Rose (S.faults source.old) (S.faults source.new) }
-    ensures write_fault { result.0 ≡ 4 → Rose (K.faults sink.old) (K.faults sink.new) ⊎ Rose (K.stalls sink.old) (K.stalls sink.new) }
+    ensures cut { result.0 ≡ 4 → WasCut (Tells (IsStudyAnswer study) (S.seen source.old) (S.seen source.new))
+        (K.seen sink.old) (K.seen sink.new) }
+    ensures read_fault { result.0 ≡ 3 → Rose (S.seen source.old).failures (S.seen source.new).failures }
+    ensures write_fault { result.0 ≡ 4 → Rose (K.seen sink.old).failures (K.seen sink.new).failures ⊎ Rose (K.seen sink.old).stalls (K.seen sink.new).stalls }
     // If the input is a trace and no count rises, the status is 0, or memory ran out.
-    ensures complete { IsTrace (source_view (S.left source.old) (S.faults source.old))
-        → (Rose (S.faults source.old) (S.faults source.new) → ⊥) → (Rose (K.faults sink.old) (K.faults sink.new) → ⊥)
-        → (Rose (K.stalls sink.old) (K.stalls sink.new) → ⊥) → (result.0 ≡ 0) ⊎ (result.0 ≡ 7) }
-    ensures faults_later { S.faults source.old ≤ S.faults source.new }
+    ensures complete { IsTrace (S.seen source.old)
+        → (Rose (S.seen source.old).failures (S.seen source.new).failures → ⊥) → (Rose (K.seen sink.old).failures (K.seen sink.new).failures → ⊥)
+        → (Rose (K.seen sink.old).stalls (K.seen sink.new).stalls → ⊥) → (result.0 ≡ 0) ⊎ (result.0 ≡ 7) }
+    ensures faults_later { (S.seen source.old).failures ≤ (S.seen source.new).failures }
 {
     conclude(alloc, study, source, sink)
 }

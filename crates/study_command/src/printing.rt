@@ -1,5 +1,4 @@
 ghost use Rattle.std.specs.Prelude.{◌≤◌, length};
-ghost use Rattle.outside_io.specs.Views.{sink_view};
 ghost use Rattle.outside_io.specs.Writes.{Writes};
 ghost use Rattle.study_command.specs.StudyText.{answer_lines, faults_line, lru_lines, pages_line, place_line, place_lines};
 
@@ -10,8 +9,7 @@ use program_ends::{push_counted, write_line};
 
 // How many references there are, and to how many distinct pages.
 fn print_pages<K: Sink>(pages: u32, distinct: u32, sink: &mut K) -> Result<(), WriteFault>
-    ensures { Writes (sink_view (K.taken sink.old) (K.faults sink.old) (K.stalls sink.old))
-        (sink_view (K.taken sink.new) (K.faults sink.new) (K.stalls sink.new)) result (pages_line pages distinct) }
+    ensures { Writes (K.seen sink.old) (K.seen sink.new) result (pages_line pages distinct) }
 {
     let mut out = ArrayVec::new();
     push_counted(&mut out, b"PAGES ", pages);
@@ -27,8 +25,7 @@ fn print_faults<K: Sink>(
     sink: &mut K,
 ) -> Result<(), WriteFault>
     requires { length word.now ≤ 20 }
-    ensures { Writes (sink_view (K.taken sink.old) (K.faults sink.old) (K.stalls sink.old))
-        (sink_view (K.taken sink.new) (K.faults sink.new) (K.stalls sink.new)) result (faults_line word.now frames faults) }
+    ensures { Writes (K.seen sink.old) (K.seen sink.new) result (faults_line word.now frames faults) }
 {
     let mut out = ArrayVec::new();
     push_counted(&mut out, word, frames);
@@ -39,8 +36,7 @@ fn print_faults<K: Sink>(
 // The faults with one frame, with two, and so on.
 fn print_lru<K: Sink>(lru: &[u32], sink: &mut K) -> Result<(), WriteFault>
     requires { length lru.now ≤ 1024 }
-    ensures { Writes (sink_view (K.taken sink.old) (K.faults sink.old) (K.stalls sink.old))
-        (sink_view (K.taken sink.new) (K.faults sink.new) (K.stalls sink.new)) result (lru_lines 1 lru.now) }
+    ensures { Writes (K.seen sink.old) (K.seen sink.new) result (lru_lines 1 lru.now) }
 {
     for (i, faults) in lru.iter().enumerate() {
         print_faults(b"LRU ", i as u32 + 1, *faults, sink)?;
@@ -50,8 +46,7 @@ fn print_lru<K: Sink>(lru: &[u32], sink: &mut K) -> Result<(), WriteFault>
 
 fn print_place<K: Sink>(word: &[u8], place: u32, sink: &mut K) -> Result<(), WriteFault>
     requires { length word.now ≤ 20 }
-    ensures { Writes (sink_view (K.taken sink.old) (K.faults sink.old) (K.stalls sink.old))
-        (sink_view (K.taken sink.new) (K.faults sink.new) (K.stalls sink.new)) result (place_line word.now place) }
+    ensures { Writes (K.seen sink.old) (K.seen sink.new) result (place_line word.now place) }
 {
     let mut out = ArrayVec::new();
     push_counted(&mut out, word, place);
@@ -61,8 +56,7 @@ fn print_place<K: Sink>(word: &[u8], place: u32, sink: &mut K) -> Result<(), Wri
 // A line for each place.
 fn print_places<K: Sink>(word: &[u8], places: &[u32], sink: &mut K) -> Result<(), WriteFault>
     requires { length word.now ≤ 20 }
-    ensures { Writes (sink_view (K.taken sink.old) (K.faults sink.old) (K.stalls sink.old))
-        (sink_view (K.taken sink.new) (K.faults sink.new) (K.stalls sink.new)) result (place_lines word.now places.now) }
+    ensures { Writes (K.seen sink.old) (K.seen sink.new) result (place_lines word.now places.now) }
 {
     for place in places {
         print_place(word, *place, sink)?;
@@ -77,8 +71,7 @@ pub(crate) fn print_answers<K: Sink>(
     sink: &mut K,
 ) -> Result<(), WriteFault>
     requires { length answers.now.lru.items ≤ 1024 }
-    ensures { Writes (sink_view (K.taken sink.old) (K.faults sink.old) (K.stalls sink.old))
-        (sink_view (K.taken sink.new) (K.faults sink.new) (K.stalls sink.new)) result
+    ensures { Writes (K.seen sink.old) (K.seen sink.new) result
         (answer_lines answers.now.pages answers.now.distinct frames answers.now.ring answers.now.lru.items
         answers.now.least.faults answers.now.drops.items answers.now.least.cuts.items) }
 {

@@ -1,4 +1,4 @@
--- What the reader of a log's front has told, by what its source tells.
+-- What the reader of a log's front has told, by what is known of its source.
 use Rattle.std.proofs.Common.{◌≡◌, ℕ, ◌+◌, Bool, true, false, List, Option, Some, None, Result, Ok, Err, refl, sym, ap, subst, ◌∙◌}
 use Rattle.std.specs.Prelude.{IfSome}
 use Rattle.vm_types.specs.Configuration.{IsWellFormed}
@@ -28,7 +28,7 @@ pub told_first : (told : Option (List ℕ)) (part : Part) (number : ℕ) → par
 told_first None part number p n = tt
 told_first (Some text) part number p n = record { rest = text; gone = rw (p, n) (gone_first text); left_over = refl }
 
--- what was left before, where it is told
+-- what was left before, where it is known
 abbrev TookOf : Option (List ℕ) → Result Line Failed → List ℕ → Option (List ℕ) → Type 0
 TookOf left answer out new = IfSome left (λ text. Takes answer text out new)
 

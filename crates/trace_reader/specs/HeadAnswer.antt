@@ -56,7 +56,7 @@ pub record IsGoneTo (text : List ℕ) (part : Part) (number : ℕ) (left : Optio
   pub gone : HasGone text part number rest
   pub left_over : left ≡ Some rest
 
--- of what was left at first, if it was told
+-- of what was left at first, if it was known
 abbrev pub IsTold : Option (List ℕ) → Part → ℕ → Option (List ℕ) → Type 0
 IsTold told part number left = IfSome told (λ text. IsGoneTo text part number left)
 

@@ -122,10 +122,10 @@ fn next_front<S: Source>(
 ) -> Result<bool, TraceFault>
     requires { IsReading reader.old.draft reader.old.number }
     ensures kept { IfOk result (IsKeptNext reader.new.draft reader.old.number reader.new.number) }
-    ensures text { AnswersNext reader.old.draft.part reader.old.number (bytes_left S.left lines.old) reader.new.draft.part reader.new.number (bytes_left S.left lines.new) result }
-    ensures told { IsSome (S.left lines.old.source.now) → IsSome (S.left lines.new.source.now) }
-    ensures faults { CountsBy result (S.faults lines.old.source.now) (S.faults lines.new.source.now) }
-    ensures faults_later { S.faults lines.old.source.now ≤ S.faults lines.new.source.now }
+    ensures text { AnswersNext reader.old.draft.part reader.old.number (bytes_left S.seen lines.old) reader.new.draft.part reader.new.number (bytes_left S.seen lines.new) result }
+    ensures known { IsSome (S.seen lines.old.source.now).left → IsSome (S.seen lines.new.source.now).left }
+    ensures faults { CountsBy result (S.seen lines.old.source.now).failures (S.seen lines.new.source.now).failures }
+    ensures faults_later { (S.seen lines.old.source.now).failures ≤ (S.seen lines.new.source.now).failures }
     ensures same_reference { lines.new.source.ghost_name ≡ lines.old.source.ghost_name }
 {
     match lines.next(out) {
@@ -146,10 +146,10 @@ fn next_front<S: Source>(
 /// ran out at a line that isn't at fault.
 pub fn read_head<S: Source>(lines: &mut Lines<'_, S>, alloc: Global) -> Result<Config, TraceFault>
     ensures well_formed { IfOk result IsWellFormed }
-    ensures text { IfSome (bytes_left S.left lines.old) (λ text. HeadAnswers result text (bytes_left S.left lines.new)) }
-    ensures told { IsSome (S.left lines.old.source.now) → IsSome (S.left lines.new.source.now) }
-    ensures faults { FaultsBy result (S.faults lines.old.source.now) (S.faults lines.new.source.now) }
-    ensures faults_later { S.faults lines.old.source.now ≤ S.faults lines.new.source.now }
+    ensures text { IfSome (bytes_left S.seen lines.old) (λ text. HeadAnswers result text (bytes_left S.seen lines.new)) }
+    ensures known { IsSome (S.seen lines.old.source.now).left → IsSome (S.seen lines.new.source.now).left }
+    ensures faults { FaultsBy result (S.seen lines.old.source.now).failures (S.seen lines.new.source.now).failures }
+    ensures faults_later { (S.seen lines.old.source.now).failures ≤ (S.seen lines.new.source.now).failures }
     ensures same_reference { lines.new.source.ghost_name ≡ lines.old.source.ghost_name }
 {
     let mut reader = Reader {

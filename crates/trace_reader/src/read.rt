@@ -30,10 +30,10 @@ const ROOM: usize = 8192;
 /// show no fault, but for those of the last piece, at most 8192.
 pub fn read_trace<S: Source>(source: &mut S, alloc: Global) -> Result<Config, TraceFault>
     ensures well_formed { IfOk result IsWellFormed }
-    ensures text { IfSome (S.left source.old) (λ text. Answers result text (S.left source.new)) }
-    ensures told { IsSome (S.left source.old) → IsSome (S.left source.new) }
-    ensures faults { FaultsBy result (S.faults source.old) (S.faults source.new) }
-    ensures faults_later { S.faults source.old ≤ S.faults source.new }
+    ensures text { IfSome (S.seen source.old).left (λ text. Answers result text (S.seen source.new).left) }
+    ensures known { IsSome (S.seen source.old).left → IsSome (S.seen source.new).left }
+    ensures faults { FaultsBy result (S.seen source.old).failures (S.seen source.new).failures }
+    ensures faults_later { (S.seen source.old).failures ≤ (S.seen source.new).failures }
 {
     let mut buffer = vec![in alloc; 0; ROOM]?;
     let reader = Reader {
@@ -55,10 +55,10 @@ fn read_pieces<S: Source>(
     requires seen { IsSeen reader.draft.seen reader.draft.part.config }
     requires room { length buffer.old ≡ 8192 }
     ensures well_formed { IfOk result IsWellFormed }
-    ensures text { IfSome (S.left source.old) (λ text. Answers result text (S.left source.new)) }
-    ensures told { IsSome (S.left source.old) → IsSome (S.left source.new) }
-    ensures faults { FaultsBy result (S.faults source.old) (S.faults source.new) }
-    ensures faults_later { S.faults source.old ≤ S.faults source.new }
+    ensures text { IfSome (S.seen source.old).left (λ text. Answers result text (S.seen source.new).left) }
+    ensures known { IsSome (S.seen source.old).left → IsSome (S.seen source.new).left }
+    ensures faults { FaultsBy result (S.seen source.old).failures (S.seen source.new).failures }
+    ensures faults_later { (S.seen source.old).failures ≤ (S.seen source.new).failures }
 {
     let mut held = 0;
     loop {
@@ -79,12 +79,12 @@ fn fill<S: Source>(source: &mut S, buffer: &mut [u8], held: usize) -> Result<usi
     requires { held < length buffer.old }
     ensures kept { take held buffer.new ≡ take held buffer.old }
     ensures bound { IfOk result (λ n. held + n ≤ length buffer.old) }
-    ensures bytes { IfOk result (λ n. Consumes (S.left source.old) (S.left source.new) (take n (drop held buffer.new))) }
-    ensures end { IfOk result (λ n. n ≡ 0 → IsAtEnd (S.left source.new)) }
-    ensures failed { OnErr result (Keeps (S.left source.old) (S.left source.new)) }
-    ensures told { IsSome (S.left source.old) → IsSome (S.left source.new) }
-    ensures cause { HasCause (S.faults source.old) (S.faults source.new) result }
-    ensures quiet { OnOk result (S.faults source.new ≡ S.faults source.old) }
+    ensures bytes { IfOk result (λ n. Consumes (S.seen source.old).left (S.seen source.new).left (take n (drop held buffer.new))) }
+    ensures end { IfOk result (λ n. n ≡ 0 → IsAtEnd (S.seen source.new).left) }
+    ensures failed { OnErr result (Keeps (S.seen source.old).left (S.seen source.new).left) }
+    ensures known { IsSome (S.seen source.old).left → IsSome (S.seen source.new).left }
+    ensures cause { HasCause (S.seen source.old).failures (S.seen source.new).failures result }
+    ensures quiet { OnOk result ((S.seen source.new).failures ≡ (S.seen source.old).failures) }
 {
     source.read(&mut buffer[held..])
 }

@@ -10,12 +10,12 @@ fn read_more<S: Source>(source: &mut S, buffer: &mut [u8], held: usize) -> Resul
     requires { held < length buffer.old }
     ensures kept { take held buffer.new ≡ take held buffer.old }
     ensures bound { IfOk result (λ n. held + n ≤ length buffer.old) }
-    ensures bytes { IfOk result (λ n. Consumes (S.left source.old) (S.left source.new) (take n (drop held buffer.new))) }
-    ensures end { IfOk result (λ n. n ≡ 0 → IsAtEnd (S.left source.new)) }
-    ensures failed { OnErr result (Keeps (S.left source.old) (S.left source.new)) }
-    ensures told { IsSome (S.left source.old) → IsSome (S.left source.new) }
-    ensures cause { HasCause (S.faults source.old) (S.faults source.new) result }
-    ensures quiet { OnOk result (S.faults source.new ≡ S.faults source.old) }
+    ensures bytes { IfOk result (λ n. Consumes (S.seen source.old).left (S.seen source.new).left (take n (drop held buffer.new))) }
+    ensures end { IfOk result (λ n. n ≡ 0 → IsAtEnd (S.seen source.new).left) }
+    ensures failed { OnErr result (Keeps (S.seen source.old).left (S.seen source.new).left) }
+    ensures known { IsSome (S.seen source.old).left → IsSome (S.seen source.new).left }
+    ensures cause { HasCause (S.seen source.old).failures (S.seen source.new).failures result }
+    ensures quiet { OnOk result ((S.seen source.new).failures ≡ (S.seen source.old).failures) }
 {
     source.read(&mut buffer[held..])
 }
@@ -24,11 +24,11 @@ fn read_more<S: Source>(source: &mut S, buffer: &mut [u8], held: usize) -> Resul
 /// read, and whether a read failed after them.
 pub(crate) fn fill<S: Source>(source: &mut S, buffer: &mut [u8]) -> (usize, Result<(), Failed>)
     ensures bound { result.0 ≤ length buffer.new }
-    ensures bytes { Consumes (S.left source.old) (S.left source.new) (take result.0 buffer.new) }
-    ensures end { OnOk result.1 (result.0 < length buffer.new → IsAtEnd (S.left source.new)) }
-    ensures told { IsSome (S.left source.old) → IsSome (S.left source.new) }
-    ensures cause { HasCause (S.faults source.old) (S.faults source.new) result.1 }
-    ensures quiet { OnOk result.1 (S.faults source.new ≡ S.faults source.old) }
+    ensures bytes { Consumes (S.seen source.old).left (S.seen source.new).left (take result.0 buffer.new) }
+    ensures end { OnOk result.1 (result.0 < length buffer.new → IsAtEnd (S.seen source.new).left) }
+    ensures known { IsSome (S.seen source.old).left → IsSome (S.seen source.new).left }
+    ensures cause { HasCause (S.seen source.old).failures (S.seen source.new).failures result.1 }
+    ensures quiet { OnOk result.1 ((S.seen source.new).failures ≡ (S.seen source.old).failures) }
 {
     let mut held = 0;
     while held < buffer.len() {

@@ -25,10 +25,10 @@ const ROOM: usize = 786_793;
 /// `NoMemory` if memory ran out; nothing was read then.
 pub fn read_dump<S: Source>(source: &mut S, alloc: Global) -> Result<Dump, DumpFault>
     ensures bounds { IfOk result (λ dump. IsDump (dumped dump)) }
-    ensures text { IfSome (S.left source.old) (λ text. Answers result text (S.left source.new)) }
-    ensures told { IsSome (S.left source.old) → IsSome (S.left source.new) }
-    ensures faults { FaultsBy result (S.faults source.old) (S.faults source.new) }
-    ensures faults_later { S.faults source.old ≤ S.faults source.new }
+    ensures text { IfSome (S.seen source.old).left (λ text. Answers result text (S.seen source.new).left) }
+    ensures known { IsSome (S.seen source.old).left → IsSome (S.seen source.new).left }
+    ensures faults { FaultsBy result (S.seen source.old).failures (S.seen source.new).failures }
+    ensures faults_later { (S.seen source.old).failures ≤ (S.seen source.new).failures }
 {
     let mut dump = dump_with_room(alloc)?;
     let mut buffer = zeros(alloc, ROOM)?;
@@ -50,10 +50,10 @@ fn read_into<S: Source>(source: &mut S, buffer: &mut [u8], dump: &mut Dump) -> R
     requires room { IsRoomy dump.old }
     requires long { 786792 < length buffer.old }
     ensures bounds { OnOk result (IsDump (dumped dump.new)) }
-    ensures text { IfSome (S.left source.old) (λ text. Answers (answer_of dump.new result) text (S.left source.new)) }
-    ensures told { IsSome (S.left source.old) → IsSome (S.left source.new) }
-    ensures faults { FaultsBy (answer_of dump.new result) (S.faults source.old) (S.faults source.new) }
-    ensures faults_later { S.faults source.old ≤ S.faults source.new }
+    ensures text { IfSome (S.seen source.old).left (λ text. Answers (answer_of dump.new result) text (S.seen source.new).left) }
+    ensures known { IsSome (S.seen source.old).left → IsSome (S.seen source.new).left }
+    ensures faults { FaultsBy (answer_of dump.new result) (S.seen source.old).failures (S.seen source.new).failures }
+    ensures faults_later { (S.seen source.old).failures ≤ (S.seen source.new).failures }
 {
     let (held, ended) = fill(source, buffer);
     match (whole_in(&buffer[..held], dump), ended) {

@@ -1,6 +1,5 @@
 ghost use Rattle.std.specs.Prelude.{map, All};
 ghost use Rattle.std.specs.List.{flat_map};
-ghost use Rattle.outside_io.specs.Views.{sink_view};
 ghost use Rattle.outside_io.specs.Writes.{Writes};
 ghost use Rattle.vm_dump.specs.Bounds.{IsDump};
 ghost use Rattle.vm_dump.specs.Dumped.{dumped, process_of};
@@ -13,15 +12,13 @@ use arrayvec::ArrayVec;
 use outside_io::{Sink, WriteFault, write_whole};
 
 fn write_row<K: Sink>(row: ArrayVec<u8, 36>, sink: &mut K) -> Result<(), WriteFault>
-    ensures { Writes (sink_view (K.taken sink.old) (K.faults sink.old) (K.stalls sink.old))
-        (sink_view (K.taken sink.new) (K.faults sink.new) (K.stalls sink.new)) result row.items }
+    ensures { Writes (K.seen sink.old) (K.seen sink.new) result row.items }
 {
     write_whole(sink, row.as_slice())
 }
 
 fn write_frames<K: Sink>(frames: &[FrameRec], sink: &mut K) -> Result<(), WriteFault>
-    ensures { Writes (sink_view (K.taken sink.old) (K.faults sink.old) (K.stalls sink.old))
-        (sink_view (K.taken sink.new) (K.faults sink.new) (K.stalls sink.new)) result (flat_map frame_text frames.now) }
+    ensures { Writes (K.seen sink.old) (K.seen sink.new) result (flat_map frame_text frames.now) }
 {
     for frame in frames {
         write_row(frame_row(*frame), sink)?;
@@ -30,15 +27,13 @@ fn write_frames<K: Sink>(frames: &[FrameRec], sink: &mut K) -> Result<(), WriteF
 }
 
 fn write_number<K: Sink>(n: u32, sink: &mut K) -> Result<(), WriteFault>
-    ensures { Writes (sink_view (K.taken sink.old) (K.faults sink.old) (K.stalls sink.old))
-        (sink_view (K.taken sink.new) (K.faults sink.new) (K.stalls sink.new)) result (number n) }
+    ensures { Writes (K.seen sink.old) (K.seen sink.new) result (number n) }
 {
     write_whole(sink, &n.to_be_bytes())
 }
 
 fn write_numbers<K: Sink>(numbers: &[u32], sink: &mut K) -> Result<(), WriteFault>
-    ensures { Writes (sink_view (K.taken sink.old) (K.faults sink.old) (K.stalls sink.old))
-        (sink_view (K.taken sink.new) (K.faults sink.new) (K.stalls sink.new)) result (flat_map number numbers.now) }
+    ensures { Writes (K.seen sink.old) (K.seen sink.new) result (flat_map number numbers.now) }
 {
     for n in numbers {
         write_number(*n, sink)?;
@@ -47,8 +42,7 @@ fn write_numbers<K: Sink>(numbers: &[u32], sink: &mut K) -> Result<(), WriteFaul
 }
 
 fn write_slots<K: Sink>(slots: &[SlotRec], sink: &mut K) -> Result<(), WriteFault>
-    ensures { Writes (sink_view (K.taken sink.old) (K.faults sink.old) (K.stalls sink.old))
-        (sink_view (K.taken sink.new) (K.faults sink.new) (K.stalls sink.new)) result (flat_map slot_text slots.now) }
+    ensures { Writes (K.seen sink.old) (K.seen sink.new) result (flat_map slot_text slots.now) }
 {
     for slot in slots {
         write_row(slot_row(*slot), sink)?;
@@ -57,8 +51,7 @@ fn write_slots<K: Sink>(slots: &[SlotRec], sink: &mut K) -> Result<(), WriteFaul
 }
 
 fn write_entries<K: Sink>(entries: &[(u32, u32)], sink: &mut K) -> Result<(), WriteFault>
-    ensures { Writes (sink_view (K.taken sink.old) (K.faults sink.old) (K.stalls sink.old))
-        (sink_view (K.taken sink.new) (K.faults sink.new) (K.stalls sink.new)) result (flat_map word_text entries.now) }
+    ensures { Writes (K.seen sink.old) (K.seen sink.new) result (flat_map word_text entries.now) }
 {
     for entry in entries {
         write_row(entry_row(*entry), sink)?;
@@ -68,8 +61,7 @@ fn write_entries<K: Sink>(entries: &[(u32, u32)], sink: &mut K) -> Result<(), Wr
 
 fn write_process<K: Sink>(proc: &ProcRec, sink: &mut K) -> Result<(), WriteFault>
     requires { IsShort proc.now }
-    ensures { Writes (sink_view (K.taken sink.old) (K.faults sink.old) (K.stalls sink.old))
-        (sink_view (K.taken sink.new) (K.faults sink.new) (K.stalls sink.new)) result (process_text (process_of proc.now)) }
+    ensures { Writes (K.seen sink.old) (K.seen sink.new) result (process_text (process_of proc.now)) }
 {
     write_row(process_row(proc), sink)?;
     write_slots(&proc.slots, sink)?;
@@ -79,8 +71,7 @@ fn write_process<K: Sink>(proc: &ProcRec, sink: &mut K) -> Result<(), WriteFault
 
 fn write_processes<K: Sink>(procs: &[ProcRec], sink: &mut K) -> Result<(), WriteFault>
     requires { All IsShort procs.now }
-    ensures { Writes (sink_view (K.taken sink.old) (K.faults sink.old) (K.stalls sink.old))
-        (sink_view (K.taken sink.new) (K.faults sink.new) (K.stalls sink.new)) result (flat_map process_text (map process_of procs.now)) }
+    ensures { Writes (K.seen sink.old) (K.seen sink.new) result (flat_map process_text (map process_of procs.now)) }
 {
     for proc in procs {
         write_process(proc, sink)?;
@@ -96,8 +87,7 @@ fn write_processes<K: Sink>(procs: &[ProcRec], sink: &mut K) -> Result<(), Write
 /// rose. After either the sink has taken less than the dump's bytes, a prefix of them.
 pub fn write_dump<K: Sink>(dump: &Dump, sink: &mut K) -> Result<(), WriteFault>
     requires { IsDump (dumped dump.now) }
-    ensures { Writes (sink_view (K.taken sink.old) (K.faults sink.old) (K.stalls sink.old))
-        (sink_view (K.taken sink.new) (K.faults sink.new) (K.stalls sink.new)) result (dump_text (dumped dump.now)) }
+    ensures { Writes (K.seen sink.old) (K.seen sink.new) result (dump_text (dumped dump.now)) }
 {
     write_row(head_row(dump), sink)?;
     write_frames(&dump.frames, sink)?;

@@ -1,5 +1,6 @@
 -- BACK closes, and its calls may be made.
-use Rattle.std.proofs.Common.{◌≡◌, ℕ, ◌+◌, ◌-◌, ◌≤◌, Bool, true, false, List, ◌∷◌, Option, Some, slice_index_or, slice_set, refl, sym, ap, ap₂, ◌∙◌, arith}
+use Rattle.std.proofs.Common.{◌≡◌, ℕ, ◌+◌, ◌-◌, ◌≤◌, Bool, true, false, List, ◌∷◌, Some, slice_index_or, slice_set, refl, sym, ap, ap₂, ◌∙◌, arith}
+use Rattle.vm_types.specs.BlockView.{BlockView, Tells}
 use Rattle.vm_types.specs.PagePlaces.{changed_at}
 use Rattle.vm_types.specs.declared.config.Config.{Config}
 use Rattle.vm_types.specs.declared.names.Addr.{Addr}
@@ -44,8 +45,8 @@ use Rattle.vm_state.specs.StateKept.{IsState}
 use Rattle.vm_state.proofs.Closing.{closed, kept, right}
 use Rattle.vm_state.proofs.Numbered.{can_share}
 
-module _ {B : Type 0} {content plan : B → Option (List ℕ)} {reads writes faults : B → ℕ} {tells tells_plan : Bool} {config : Config} {past : List Entry} {spare : ℕ} {store : StoreView B} {fields : Parts} {numbers : List ℕ}
-    (before : IsState content plan reads writes faults tells tells_plan config past spare store fields numbers) (seat : Seat) (q : Proc) (address : Addr) (f : Pfn) (from : FrameState)
+module _ {B : Type 0} {seen : B → BlockView} {tells : Tells} {config : Config} {past : List Entry} {spare : ℕ} {store : StoreView B} {fields : Parts} {numbers : List ℕ}
+    (before : IsState seen tells config past spare store fields numbers) (seat : Seat) (q : Proc) (address : Addr) (f : Pfn) (from : FrameState)
     (legal : IsLegal config past (pager_after config past) (record { seat = seat; what = what.Back q address f from })) where
   abbrev a : Pager
   a = pager_after config past
@@ -116,7 +117,7 @@ module _ {B : Type 0} {content plan : B → Option (List ℕ)} {reads writes fau
       pub back_closes : owed (e ∷ past) + 1 ≤ spare → TakesSlot x.status q.0 v x row' fields.pages pages' fields.swaps swaps' slot
           → (modify : Bool) → modify ≡ mark_back x.status (row_of fields.frames f.0).modify → (held : ℕ) → held ≡ page_slot g slot
           → frames'.rows ≡ slice_set fields.frames.rows f.0 (entered_row g modify held (row_of fields.frames f.0))
-          → IsState content plan reads writes faults tells tells_plan config (e ∷ past) (spare - 1) (record store { frames = frames' }) left numbers
+          → IsState seen tells config (e ∷ past) (spare - 1) (record store { frames = frames' }) left numbers
       back_closes paid taken modify marked held held_is rows =
           closed before e legal paid (record store { frames = frames' }) left
           (by_status x.status refl taken (rows ∙ ap₂ (λ (m : Bool) (n : ℕ). slice_set fields.frames.rows f.0 (entered_row g m n (row_of fields.frames f.0))) marked held_is)) (refl, refl)

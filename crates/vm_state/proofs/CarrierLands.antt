@@ -1,8 +1,9 @@
 -- The lifts of a carrier land one after another.
-use Rattle.std.proofs.Common.{◌≡◌, ℕ, ◌+◌, ◌≤◌, ◌<◌, Bool, true, false, not, List, [], ◌∷◌, ◌++◌, Option, length, reverse, nat_eq, count_by, if◌then◌else◌, refl, sym, ap, ◌∙◌, subst, arith}
+use Rattle.std.proofs.Common.{◌≡◌, ℕ, ◌+◌, ◌≤◌, ◌<◌, Bool, true, false, not, List, [], ◌∷◌, ◌++◌, length, reverse, nat_eq, count_by, if◌then◌else◌, refl, sym, ap, ◌∙◌, subst, arith}
 use Rattle.std.specs.List.{AllByRecursion}
 use Rattle.std.proofs.lemmas.Bool.{eqb-false, eqb-true}
 use Rattle.std.proofs.lemmas.List.{reverse-append, reverse-reverse}
+use Rattle.vm_types.specs.BlockView.{BlockView, Tells}
 use Rattle.vm_types.specs.declared.names.Seat.{Seat}
 use Rattle.pager_model.specs.Flights.{awaits_reuse}
 use Rattle.pager_rules.proofs.Basics.{count_cons_no, count_cons_yes, each_of_two}
@@ -49,12 +50,12 @@ module _ {B : Type 0} where
   none_left [] none = refl
   none_left (lift ∷ lifts) none = absurd (omega (arith, none))
 
-module _ {B : Type 0} (content plan : B → Option (List ℕ)) (reads writes faults : B → ℕ) (tells tells_plan : Bool) where
+module _ {B : Type 0} (seen : B → BlockView) (tells : Tells) where
   -- n lifts have landed, these are left, and the numbers are those of the landed ones
   pub record AreLandedTo (seat : Seat) (n : ℕ) (first : History) (all : List (LiftView B)) (s : History) (lifts : List (LiftView B)) (landed : Landed) : Type 0 where
     pub many : length lifts + n ≡ length all
     pub calm : awaits_reuse s.past ≡ false
-    pub each : AllByRecursion (MayLand content plan reads writes faults tells tells_plan s seat) lifts
+    pub each : AllByRecursion (MayLand seen tells s seat) lifts
     pub apart : HaveOwnStarts lifts
     pub same : landed_each seat lifts s ≡ landed_each seat all first
     pub good : landed.good + goods lifts ≡ goods all
@@ -62,12 +63,12 @@ module _ {B : Type 0} (content plan : B → Option (List ℕ)) (reads writes fau
     pub none_yet : n ≡ 0 → (lifts ≡ all) × (landed.first_bad ≡ false)
     pub first_bad : 0 < n → landed.first_bad ≡ first_failed all
 
-  pub none_landed : (seat : Seat) (s : History) (c : CarrierView B) → seat ≡ c.seat → CarrierMayLand content plan reads writes faults tells tells_plan s c
+  pub none_landed : (seat : Seat) (s : History) (c : CarrierView B) → seat ≡ c.seat → CarrierMayLand seen tells s c
       → AreLandedTo seat 0 s c.lifts s c.lifts (record { good = 0; bad = 0; first_bad = false })
   none_landed seat s c is may = record {
     many = omega arith;
     calm = may.calm;
-    each = subst (λ (p : Seat). AllByRecursion (MayLand content plan reads writes faults tells tells_plan s p) c.lifts) (sym is) may.each;
+    each = subst (λ (p : Seat). AllByRecursion (MayLand seen tells s p) c.lifts) (sym is) may.each;
     apart = may.apart;
     same = refl;
     good = omega arith;
@@ -77,7 +78,7 @@ module _ {B : Type 0} (content plan : B → Option (List ℕ)) (reads writes fau
   }
 
   module _ (seat : Seat) (n : ℕ) (first : History) (all : List (LiftView B)) (s t : History) (lift : LiftView B) (lifts : List (LiftView B)) (landed : Landed) (so_far : AreLandedTo seat n first all s (lift ∷ lifts) landed) where
-    pub may_land : MayLand content plan reads writes faults tells tells_plan s seat lift
+    pub may_land : MayLand seen tells s seat lift
     may_land = so_far.each.0
 
     pub room : length all < 17 → landed.good + landed.bad < 16
@@ -88,13 +89,13 @@ module _ {B : Type 0} (content plan : B → Option (List ℕ)) (reads writes fau
         let whole = either all in
         omega (arith, good, bad, left, whole, few)
 
-    pub one_landed : HasLanded content plan reads writes faults tells tells_plan seat lift s t → (failed : Bool) → failed ≡ lift_failed lift → (is_first : Bool) → is_first ≡ nat_eq n 0 → (next : Landed)
+    pub one_landed : HasLanded seen tells seat lift s t → (failed : Bool) → failed ≡ lift_failed lift → (is_first : Bool) → is_first ≡ nat_eq n 0 → (next : Landed)
         → next.good ≡ landed.good + (if failed then 0 else 1) → next.bad ≡ landed.bad + (if failed then 1 else 0) → next.first_bad ≡ (if is_first then failed else landed.first_bad)
         → AreLandedTo seat (n + 1) first all t lifts next
     one_landed has failed failed_is is_first first_is next good bad first_bad = record {
       many = (let many = so_far.many in omega (arith, many));
       calm = has.calm;
-      each = each_of_two (λ (o : LiftView B). nat_eq lift.start o.start ≡ false) (MayLand content plan reads writes faults tells tells_plan s seat) (MayLand content plan reads writes faults tells tells_plan t seat)
+      each = each_of_two (λ (o : LiftView B). nat_eq lift.start o.start ≡ false) (MayLand seen tells s seat) (MayLand seen tells t seat)
           (λ o apart may. has.others o apart may) lifts so_far.apart.0 so_far.each.1;
       apart = so_far.apart.1;
       same = ap (landed_each seat lifts) has.now ∙ so_far.same;

@@ -1,6 +1,7 @@
 -- How each method closes: the parts stand for the state after the entry, and buffers and blocks have moved as it says.
-use Rattle.std.proofs.Common.{◌≡◌, ℕ, ◌+◌, ◌-◌, ◌≤◌, Bool, List, [], ◌∷◌, ◌++◌, Option, length, reverse, sym, ap, ◌∙◌, subst, subst₂, arith}
+use Rattle.std.proofs.Common.{◌≡◌, ℕ, ◌+◌, ◌-◌, ◌≤◌, Bool, List, [], ◌∷◌, ◌++◌, length, reverse, sym, ap, ◌∙◌, subst, subst₂, arith}
 use Rattle.std.proofs.lemmas.List.{length-reverse, reverse-append}
+use Rattle.vm_types.specs.BlockView.{BlockView, Tells}
 use Rattle.vm_types.specs.declared.config.Config.{Config}
 use Rattle.run_record.specs.RunRecord.{Recorded}
 use Rattle.vm_journal.specs.declared.entry.Entry.{Entry}
@@ -32,15 +33,15 @@ newest_first before now spare e is = ap (λ (j : Recorded). reverse j.entries) i
 pub next_number : (before : List Entry) (count : ℕ) → count ≡ length before → count + 1 ≡ length (reverse before) + 1
 next_number before count is = ap (λ (n : ℕ). n + 1) (is ∙ sym (length-reverse before))
 
-module _ {B : Type 0} {content plan : B → Option (List ℕ)} {reads writes faults : B → ℕ} {tells tells_plan : Bool} {config : Config} where
+module _ {B : Type 0} {seen : B → BlockView} {tells : Tells} {config : Config} where
   -- with the newest entry in front it holds, so it does once the entry is pushed
   pub pushed : {store : StoreView B} {fields : Parts} {numbers : List ℕ} (before : List Entry) (spare : ℕ) (e : Entry) (new : Recorded) {keeps : Bool} → new ≡ record { entries = before ++ e ∷ []; spare = spare; keeps = keeps }
-      → IsState content plan reads writes faults tells tells_plan config (e ∷ reverse before) spare store fields numbers
-      → IsState content plan reads writes faults tells tells_plan config (reverse new.entries) new.spare store fields numbers
+      → IsState seen tells config (e ∷ reverse before) spare store fields numbers
+      → IsState seen tells config (reverse new.entries) new.spare store fields numbers
   pushed {store} {fields} {numbers} before spare e new is state =
-      subst₂ (λ (p : List Entry) (n : ℕ). IsState content plan reads writes faults tells tells_plan config p n store fields numbers) (sym (newest_first before new spare e is)) (sym (ap (λ (j : Recorded). j.spare) is)) state
+      subst₂ (λ (p : List Entry) (n : ℕ). IsState seen tells config p n store fields numbers) (sym (newest_first before new spare e is)) (sym (ap (λ (j : Recorded). j.spare) is)) state
 
-  module _ {past : List Entry} {spare : ℕ} {store : StoreView B} {fields : Parts} {numbers : List ℕ} (before : IsState content plan reads writes faults tells tells_plan config past spare store fields numbers) where
+  module _ {past : List Entry} {spare : ℕ} {store : StoreView B} {fields : Parts} {numbers : List ℕ} (before : IsState seen tells config past spare store fields numbers) where
     pub kept : IsKept config (past_view past) (pager_after config past)
     kept = run_kept config past before.formed before.run
 
@@ -50,9 +51,9 @@ module _ {B : Type 0} {content plan : B → Option (List ℕ)} {reads writes fau
     -- the store as it was, or with other buffers and blocks
     pub closed : (e : Entry) → IsLegal config past (pager_after config past) e → owed (e ∷ past) + 1 ≤ spare → (store' : StoreView B) (fields' : Parts)
         → PartsFit config (e ∷ past) (pager_after config (e ∷ past)) fields'
-        → Moves tells tells_plan config past (pager_after config past) (e.seat).0 e.what (held_at store.buffers) (held_at store'.buffers) (home_in content plan reads writes faults config store) (home_in content plan reads writes faults config store')
+        → Moves tells.content tells.plan config past (pager_after config past) (e.seat).0 e.what (held_at store.buffers) (held_at store'.buffers) (home_in seen config store) (home_in seen config store')
         → IsStoreOf config (open_flights (e ∷ past)) store' numbers
-        → IsState content plan reads writes faults tells tells_plan config (e ∷ past) (spare - 1) store' fields' numbers
+        → IsState seen tells config (e ∷ past) (spare - 1) store' fields' numbers
     closed e legal paid store' fields' fit moves places =
         record {
           formed = before.formed;
@@ -60,7 +61,7 @@ module _ {B : Type 0} {content plan : B → Option (List ℕ)} {reads writes fau
           short = (let short = before.short in omega (arith, short, paid));
           paid = omega (arith, paid);
           parts = fit;
-          bytes = content_stays tells tells_plan config past e (held_at store.buffers) (held_at store'.buffers) (home_in content plan reads writes faults config store) (home_in content plan reads writes faults config store')
+          bytes = content_stays tells.content tells.plan config past e (held_at store.buffers) (held_at store'.buffers) (home_in seen config store) (home_in seen config store')
               before.formed (before.run, legal) moves before.bytes;
           places = places;
         }

@@ -1,6 +1,7 @@
 -- A deletion closes, and its calls may be made: a page of the range after the other.
-use Rattle.std.proofs.Common.{◌≡◌, ℕ, ◌+◌, ◌-◌, ◌≤◌, ◌<◌, Bool, false, List, [], ◌∷◌, ◌++◌, Option, Some, None, length, slice_index_or, slice_set, refl, sym, ap, subst}
+use Rattle.std.proofs.Common.{◌≡◌, ℕ, ◌+◌, ◌-◌, ◌≤◌, ◌<◌, false, List, [], ◌∷◌, ◌++◌, Option, Some, None, length, slice_index_or, slice_set, refl, sym, ap, subst}
 use Rattle.std.specs.Prelude.{IsSome}
+use Rattle.vm_types.specs.BlockView.{BlockView, Tells}
 use Rattle.vm_types.specs.PagePlaces.{changed_at}
 use Rattle.vm_types.specs.declared.config.Config.{Config}
 use Rattle.vm_types.specs.declared.names.Addr.{Addr}
@@ -50,8 +51,8 @@ pushed_on before now new e is pushed = subst (λ (j : Recorded). new ≡ record 
 pub frames_in : {B : Type 0} (before now : StoreView B) (frames frames' : Frames) → now ≡ record before { frames = frames } → record now { frames = frames' } ≡ record before { frames = frames' }
 frames_in {B} before now frames frames' is = ap (λ (s : StoreView B). record s { frames = frames' }) is
 
-module _ {B : Type 0} {content plan : B → Option (List ℕ)} {reads writes faults : B → ℕ} {tells tells_plan : Bool} {config : Config} {past : List Entry} {spare : ℕ} {store : StoreView B} {fields : Parts} {numbers : List ℕ}
-    (before : IsState content plan reads writes faults tells tells_plan config past spare store fields numbers) (seat : Seat) (at : Addr) (pages : ℕ)
+module _ {B : Type 0} {seen : B → BlockView} {tells : Tells} {config : Config} {past : List Entry} {spare : ℕ} {store : StoreView B} {fields : Parts} {numbers : List ℕ}
+    (before : IsState seen tells config past spare store fields numbers) (seat : Seat) (at : Addr) (pages : ℕ)
     (legal : IsLegal config past (pager_after config past) (record { seat = seat; what = what.Served (service.Delete at pages) answer.Good })) where
   abbrev a : Pager
   a = pager_after config past
@@ -105,7 +106,7 @@ module _ {B : Type 0} {content plan : B → Option (List ℕ)} {reads writes fau
       → (i : ℕ) → i ≡ pages → (fields' : Parts) → FitDeleted i fields' → (config' : Config) → config' ≡ config → (numbers' : List ℕ) → numbers' ≡ numbers
       → (frames : Frames) (store' : StoreView B) → store' ≡ record store { frames = frames }
       → (y : SpokenRow) → y ≡ slice_index_or fields'.spoken seat.0 y → (number : ℕ) → number ≡ length past + 1
-      → IsState content plan reads writes faults tells tells_plan config' (record { seat = seat; what = what.Served (service.Delete at pages) answer.Good } ∷ past) (spare - 1) store'
+      → IsState seen tells config' (record { seat = seat; what = what.Served (service.Delete at pages) answer.Good } ∷ past) (spare - 1) store'
       (record fields' { spoken = slice_set fields'.spoken seat.0 (record { last = Some number; count = y.count + 1 }) }) numbers'
   delete_closes paid i all fields' fit config' config_is numbers' numbers_is frames store' store_is y read_y number is =
       rw (config_is, numbers_is, store_is)

@@ -2,6 +2,7 @@
 use Rattle.std.specs.Prelude.{if◌then◌else◌}
 use Rattle.std.proofs.Common.{◌≡◌, ℕ, ◌+◌, ◌-◌, ◌≤◌, ◌<◌, ◌^◌, Bool, true, List, ◌∷◌, Option, Some, None, IsSome, length, slice_index_or, slice_set, refl, sym, ap, ◌∙◌, subst, arith, length-set}
 use Rattle.std.specs.Option.{option_map}
+use Rattle.vm_types.specs.BlockView.{BlockView, Tells}
 use Rattle.vm_types.specs.PagePlaces.{region_place}
 use Rattle.vm_types.specs.WellFormed.{IsWellFormedReference, width_bytes}
 use Rattle.vm_types.specs.declared.config.Config.{Config}
@@ -85,8 +86,8 @@ number_is (Some g) n e = (refl, λ f is. let same : g.0 ≡ n = cc in let it : g
 mappable_place : (w : ℕ) → IsMappable w → IsSome (region_place w)
 mappable_place w is = grind (arith, common_steps)
 
-module _ {B : Type 0} {content plan : B → Option (List ℕ)} {reads writes faults : B → ℕ} {tells tells_plan : Bool} {config : Config} {past : List Entry} {spare : ℕ} {store : StoreView B} {fields : Parts} {numbers : List ℕ}
-    (before : IsState content plan reads writes faults tells tells_plan config past spare store fields numbers) (seat : Seat) (r : Ref)
+module _ {B : Type 0} {seen : B → BlockView} {tells : Tells} {config : Config} {past : List Entry} {spare : ℕ} {store : StoreView B} {fields : Parts} {numbers : List ℕ}
+    (before : IsState seen tells config past spare store fields numbers) (seat : Seat) (r : Ref)
     {answer : Reply} (legal : IsLegal config past (pager_after config past) (record { seat = seat; what = what.Done r answer })) where
   abbrev a : Pager
   a = pager_after config past
@@ -162,7 +163,7 @@ module _ {B : Type 0} {content plan : B → Option (List ℕ)} {reads writes fau
         → (frames' : Frames) → frames'.rows ≡ slice_set fields.frames.rows f.0 (record (row_of fields.frames f.0) { modify = m }) → frames'.free ≡ fields.frames.free → frames'.modified ≡ fields.frames.modified
         → (page : Page) → row.page ≡ Some page → (pages' : ChargedTable) → pages'.procs ≡ (fields.pages).procs → ((q w : ℕ) → charged_at pages' q w ≡ touched_rows page (charged_at fields.pages) q w)
         → (bytes bytes' : List ℕ) → held_at store.buffers f.0 ≡ Some bytes → bytes' ≡ bytes_after r.op bytes (offset_in_page r)
-        → IsState content plan reads writes faults tells tells_plan config (record { seat = seat; what = what.Done r answer } ∷ past) (spare - 1) (record store { frames = frames'; buffers = slice_set store.buffers f.0 (Some bytes') })
+        → IsState seen tells config (record { seat = seat; what = what.Done r answer } ∷ past) (spare - 1) (record store { frames = frames'; buffers = slice_set store.buffers f.0 (Some bytes') })
         (record fields { frames = frames'; processes = slice_set fields.processes seat.0 (record x { references = x.references + 1 }); spoken = slice_set fields.spoken seat.0 (record { last = Some number; count = y.count + 1 }); pages = pages' }) numbers
     done_closes paid x read y read_y number counted row row_is m m_is frames' rows free modified page page_is pages' procs touched bytes bytes' there bytes_is =
         let m_row : m ≡ (if is_change r.op then true else (row_of fields.frames f.0).modify) = m_is ∙ ap (λ (z : Row). if is_change r.op then true else z.modify) row_is in
@@ -184,8 +185,8 @@ module _ {B : Type 0} {content plan : B → Option (List ℕ)} {reads writes fau
         )
         (record { ids = before.places.ids; buffers = length-set store.buffers f.0 (Some bytes') ∙ before.places.buffers; blocks = before.places.blocks; left = before.places.left; firsts = before.places.firsts }))
 
-    pub done_right : (bytes : List ℕ) → held_at store.buffers f.0 ≡ Some bytes → answer ≡ reply_from r.op bytes (offset_in_page r) → tells ≡ true
+    pub done_right : (bytes : List ℕ) → held_at store.buffers f.0 ≡ Some bytes → answer ≡ reply_from r.op bytes (offset_in_page r) → tells.content ≡ true
         → answer ≡ flat_reply config (flat_after config past) seat.0 r
     done_right bytes there is told =
-        is ∙ done_is_right tells tells_plan config past seat r answer (held_at store.buffers) (home_in content plan reads writes faults config store) bytes before.formed (before.run, legal)
+        is ∙ done_is_right tells.content tells.plan config past seat r answer (held_at store.buffers) (home_in seen config store) bytes before.formed (before.run, legal)
         (record { entry = e; valid = legal.row.valid.1; has = subst (λ (n : ℕ). held_at store.buffers n ≡ Some bytes) same there }) before.bytes told

@@ -1,16 +1,16 @@
 -- The blocks that a state gives back once no transfer is open: each is home, counted and written back.
-use Rattle.std.proofs.Common.{◌≡◌, ℕ, ◌<◌, Bool, List, [], Option, Some, None, IsSome, length, map, slice_get, slice_index_or, refl, sym, ap, ◌∙◌, subst, arith}
+use Rattle.std.proofs.Common.{◌≡◌, ℕ, ◌<◌, List, [], Option, Some, None, IsSome, length, map, slice_get, slice_index_or, refl, sym, ap, ◌∙◌, subst, arith}
 use Rattle.std.specs.Option.{option_map}
 use Rattle.std.proofs.lemmas.Option.{get_or_from_slice_get, none-some, slice_get-get_or, slice_get-map}
+use Rattle.vm_types.specs.BlockView.{BlockView, Tells}
 use Rattle.vm_types.specs.Configuration.{IsBlock}
 use Rattle.vm_types.specs.declared.config.Config.{Config}
 use Rattle.vm_types.specs.declared.names.BlockId.{BlockId}
 use Rattle.vm_types.specs.declared.names.BlockId.TheVariants as block
 use Rattle.vm_journal.specs.declared.entry.Entry.{Entry}
-use Rattle.pager_model.specs.Fits.{told_of}
 use Rattle.pager_model.specs.Flights.{open_flights}
 use Rattle.pager_model.specs.Run.{pager_after}
-use Rattle.pager_model.specs.Told.{IsCountedBlock, Told}
+use Rattle.pager_model.specs.CountedBlock.{IsCountedBlock}
 use Rattle.content_laws.proofs.EndContent.{block_home, blocks_written_back}
 use Rattle.frame_store.specs.Blocks.{block_at, blocks_of, held_at}
 use Rattle.frame_store.specs.StoreView.{StoreView}
@@ -20,17 +20,14 @@ use Rattle.state_fits.specs.Parts.{Parts}
 use Rattle.vm_state.specs.Ends.{IsGivenBack}
 use Rattle.vm_state.specs.StateKept.{IsState, home_in}
 
-module _ {B : Type 0} {content plan : B → Option (List ℕ)} {reads writes faults : B → ℕ} {tells tells_plan : Bool} {config : Config} {past : List Entry} {spare : ℕ} {store : StoreView B} {fields : Parts} {numbers : List ℕ}
-    (before : IsState content plan reads writes faults tells tells_plan config past spare store fields numbers) (none : open_flights past ≡ []) where
-  abbrev told : B → Told
-  told = told_of content plan reads writes faults
-
+module _ {B : Type 0} {seen : B → BlockView} {tells : Tells} {config : Config} {past : List Entry} {spare : ℕ} {store : StoreView B} {fields : Parts} {numbers : List ℕ}
+    (before : IsState seen tells config past spare store fields numbers) (none : open_flights past ≡ []) where
   -- a block of the configuration is home
   at_home : (b : BlockId) → IsBlock config b → (x : B) × (block_at config store.blocks b ≡ Some x)
-  at_home b is = go (block_at config store.blocks b) refl (block_home tells tells_plan config past (pager_after config past) (held_at store.buffers) (home_in content plan reads writes faults config store) none before.bytes b is)
+  at_home b is = go (block_at config store.blocks b) refl (block_home tells.content tells.plan config past (pager_after config past) (held_at store.buffers) (home_in seen config store) none before.bytes b is)
     where
-      go : (o : Option B) → block_at config store.blocks b ≡ o → (x : Told) × (home_in content plan reads writes faults config store b ≡ Some x) × IsCountedBlock tells_plan config past b x → (x : B) × (block_at config store.blocks b ≡ Some x)
-      go None at home = absurd (none-some home.0 (ap (option_map told) (sym at) ∙ home.1))
+      go : (o : Option B) → block_at config store.blocks b ≡ o → (x : BlockView) × (home_in seen config store b ≡ Some x) × IsCountedBlock tells.plan config past b x → (x : B) × (block_at config store.blocks b ≡ Some x)
+      go None at home = absurd (none-some home.0 (ap (option_map seen) (sym at) ∙ home.1))
       go (Some x) at home = (x, at)
 
   pub all_home : (k : ℕ) (d : Option B) → k < length store.blocks → IsSome (slice_index_or store.blocks k d)
@@ -45,10 +42,10 @@ module _ {B : Type 0} {content plan : B → Option (List ℕ)} {reads writes fau
 
   -- the blocks with their names, as they are given
   module _ (blocks : List (BlockId × B)) (names : map (λ (p : BlockId × B). p.0) blocks ≡ store.ids) (places : map (λ (p : BlockId × B). Some p.1) blocks ≡ store.blocks) where
-    given : (k : ℕ) (p : BlockId × B) → slice_get blocks k ≡ Some p → IsGivenBack tells tells_plan config past p.0 (told p.1)
+    given : (k : ℕ) (p : BlockId × B) → slice_get blocks k ≡ Some p → IsGivenBack tells config past p.0 (seen p.1)
     given k p at = record {
-      counted = before.bytes.counted p.0 (told p.1) home;
-      written = λ says. blocks_written_back tells tells_plan config past (held_at store.buffers) (home_in content plan reads writes faults config store) p.0 (told p.1) before.formed before.run none says before.bytes home;
+      counted = before.bytes.counted p.0 (seen p.1) home;
+      written = λ says. blocks_written_back tells.content tells.plan config past (held_at store.buffers) (home_in seen config store) p.0 (seen p.1) before.formed before.run none says before.bytes home;
     }
       where
         name : slice_get (blocks_of config) k ≡ Some p.0
@@ -57,8 +54,8 @@ module _ {B : Type 0} {content plan : B → Option (List ℕ)} {reads writes fau
         place : slice_get store.blocks k ≡ Some (Some p.1)
         place = ap (λ (xs : List (Option B)). slice_get xs k) (sym places) ∙ (slice_get-map (λ (q : BlockId × B). Some q.1) blocks k ∙ ap (option_map (λ (q : BlockId × B). Some q.1)) at)
 
-        home : home_in content plan reads writes faults config store p.0 ≡ Some (told p.1)
-        home = ap (option_map told) (ap (held_at store.blocks) (number_only config k p.0 name) ∙ get_held store.blocks k (Some p.1) place)
+        home : home_in seen config store p.0 ≡ Some (seen p.1)
+        home = ap (option_map seen) (ap (held_at store.blocks) (number_only config k p.0 name) ∙ get_held store.blocks k (Some p.1) place)
 
-    pub given_back : (k : ℕ) (d : BlockId × B) → k < length blocks → IsGivenBack tells tells_plan config past (slice_index_or blocks k d).0 (told (slice_index_or blocks k d).1)
+    pub given_back : (k : ℕ) (d : BlockId × B) → k < length blocks → IsGivenBack tells config past (slice_index_or blocks k d).0 (seen (slice_index_or blocks k d).1)
     given_back k d within = given k (slice_index_or blocks k d) (slice_get-get_or blocks k d within)

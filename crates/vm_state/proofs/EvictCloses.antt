@@ -1,5 +1,6 @@
 -- EVICT closes, and its calls may be made.
-use Rattle.std.proofs.Common.{◌≡◌, ℕ, ◌+◌, ◌-◌, ◌≤◌, Bool, List, ◌∷◌, Option, Some, slice_index_or, slice_set, refl, ap, ◌∙◌}
+use Rattle.std.proofs.Common.{◌≡◌, ℕ, ◌+◌, ◌-◌, ◌≤◌, List, ◌∷◌, Some, slice_index_or, slice_set, refl, ap, ◌∙◌}
+use Rattle.vm_types.specs.BlockView.{BlockView, Tells}
 use Rattle.vm_types.specs.PagePlaces.{changed_at}
 use Rattle.vm_types.specs.Ring.{Ring}
 use Rattle.vm_types.specs.declared.config.Config.{Config}
@@ -37,8 +38,8 @@ use Rattle.vm_state.specs.StateKept.{IsState}
 use Rattle.vm_state.proofs.Closing.{closed, kept, right}
 use Rattle.vm_state.proofs.Numbered.{has_share}
 
-module _ {B : Type 0} {content plan : B → Option (List ℕ)} {reads writes faults : B → ℕ} {tells tells_plan : Bool} {config : Config} {past : List Entry} {spare : ℕ} {store : StoreView B} {fields : Parts} {numbers : List ℕ}
-    (before : IsState content plan reads writes faults tells tells_plan config past spare store fields numbers) (seat : Seat) (q : Proc) (address : Addr) (f : Pfn) (why : EvictWhy) (to : FrameState)
+module _ {B : Type 0} {seen : B → BlockView} {tells : Tells} {config : Config} {past : List Entry} {spare : ℕ} {store : StoreView B} {fields : Parts} {numbers : List ℕ}
+    (before : IsState seen tells config past spare store fields numbers) (seat : Seat) (q : Proc) (address : Addr) (f : Pfn) (why : EvictWhy) (to : FrameState)
     (legal : IsLegal config past (pager_after config past) (record { seat = seat; what = what.Evict q address f why to })) where
   abbrev a : Pager
   a = pager_after config past
@@ -60,7 +61,7 @@ module _ {B : Type 0} {content plan : B → Option (List ℕ)} {reads writes fau
       → (place : Place) → place ≡ place_left config f.0 g
       → (tables' : PageTables) (old : Pte) → tables'.procs ≡ (fields.tables).procs → ((r w : ℕ) → pte_in tables' r w ≡ changed_at (pte_in fields.tables) q.0 v (Some (record { prot = old.prot; place = place })) r w) → pte_in fields.tables q.0 v ≡ Some old
       → (globals' : GlobalPages) → globals' ≡ unshared_in config g fields.globals
-      → IsState content plan reads writes faults tells tells_plan config (record { seat = seat; what = what.Evict q address f why to } ∷ past) (spare - 1) (record store { frames = frames' })
+      → IsState seen tells config (record { seat = seat; what = what.Evict q address f why to } ∷ past) (spare - 1) (record store { frames = frames' })
       (record fields { frames = frames'; processes = slice_set fields.processes q.0 (record x { ring = ring }); tables = tables'; globals = globals' }) numbers
   evict_closes paid x read ring given g page frames' rows free modified place place_is tables' old procs changed there globals' unshared =
       rw (given, unshared) (closed before (record { seat = seat; what = what.Evict q address f why to }) legal paid (record store { frames = frames' }) _

@@ -7,6 +7,7 @@ use Rattle.std.proofs.lemmas.Bool.{and_from, and_parts, eqb-true, false≢true, 
 use Rattle.std.proofs.lemmas.Grind.{reverse_onto}
 use Rattle.std.proofs.lemmas.List.{length-reverse}
 use Rattle.std.proofs.lemmas.Option.{get_or_from_slice_get, none-some, slice_get-map, slice_get_within}
+use Rattle.vm_types.specs.BlockView.{BlockView, Tells}
 use Rattle.vm_types.specs.declared.config.Config.{Config}
 use Rattle.vm_journal.specs.declared.entry.Entry.{Entry}
 use Rattle.vm_journal.specs.declared.entry.Role.{Role}
@@ -190,8 +191,8 @@ come_role : (p : ℕ) (d : Direction) → is_come p d ≡ true → comes p (role
 come_role p (reading r) comes_back = comes_back
 come_role p writing comes_back = comes_back
 
-module _ {B : Type 0} {content plan : B → Option (List ℕ)} {reads writes faults : B → ℕ} {tells tells_plan : Bool} {config : Config} {past : List Entry} {spare : ℕ} {store : StoreView B} {fields : Parts} {numbers : List ℕ}
-    (before : IsState content plan reads writes faults tells tells_plan config past spare store fields numbers) where
+module _ {B : Type 0} {seen : B → BlockView} {tells : Tells} {config : Config} {past : List Entry} {spare : ℕ} {store : StoreView B} {fields : Parts} {numbers : List ℕ}
+    (before : IsState seen tells config past spare store fields numbers) where
   one : (f : ℕ) → count_by (is_on_frame f) (open_flights past) ≤ 1
   one f = one_on_frame config (past_view past) (pager_after config past) f (kept before)
 

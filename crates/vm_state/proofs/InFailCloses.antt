@@ -1,5 +1,6 @@
 -- INFAIL closes, and its calls may be made.
-use Rattle.std.proofs.Common.{◌≡◌, ℕ, ◌+◌, ◌-◌, ◌≤◌, ◌<◌, Bool, List, ◌∷◌, Option, Some, None, length, slice_get, slice_index_or, slice_set, sym, ap, ◌∙◌, subst, subst₂}
+use Rattle.std.proofs.Common.{◌≡◌, ℕ, ◌+◌, ◌-◌, ◌≤◌, ◌<◌, List, ◌∷◌, Option, Some, None, length, slice_get, slice_index_or, slice_set, sym, ap, ◌∙◌, subst, subst₂}
+use Rattle.vm_types.specs.BlockView.{BlockView, Tells}
 use Rattle.vm_types.specs.declared.config.Config.{Config}
 use Rattle.vm_types.specs.declared.names.BlockId.{BlockId}
 use Rattle.vm_types.specs.declared.names.FrameState.TheVariants as state
@@ -29,10 +30,10 @@ use Rattle.vm_state.specs.StateKept.{IsState}
 use Rattle.vm_state.proofs.Closing.{closed, kept}
 use Rattle.vm_state.proofs.ReadLands as land
 
-module _ {B : Type 0} {content plan : B → Option (List ℕ)} {reads writes faults : B → ℕ} {tells tells_plan : Bool} {config : Config} {past : List Entry} {spare : ℕ} {store : StoreView B} {fields : Parts} {numbers : List ℕ}
-    (before : IsState content plan reads writes faults tells tells_plan config past spare store fields numbers) (seat : Seat) (lift : LiftView B) (c d : ℕ)
+module _ {B : Type 0} {seen : B → BlockView} {tells : Tells} {config : Config} {past : List Entry} {spare : ℕ} {store : StoreView B} {fields : Parts} {numbers : List ℕ}
+    (before : IsState seen tells config past spare store fields numbers) (seat : Seat) (lift : LiftView B) (c d : ℕ)
     (legal : IsLegal config past (pager_after config past) (record { seat = seat; what = what.InFail (record { 0 = lift.frame }) lift.start c d }))
-    (fits : LiftFits content plan reads writes faults tells tells_plan config past lift) where
+    (fits : LiftFits seen tells config past lift) where
   abbrev a : Pager
   a = pager_after config past
 
@@ -63,14 +64,14 @@ module _ {B : Type 0} {content plan : B → Option (List ℕ)} {reads writes fau
     abbrev Closes : Option BlockId → ℕ → ℕ → Type 0
     Closes failed f k =
         frames'.rows ≡ slice_set (fields.frames).rows f (record (row_of fields.frames f) { state = state.ReadError; refs = counted_references (row_of fields.frames f).shares 0; flights = 0 })
-        → IsState content plan reads writes faults tells tells_plan config (record { seat = seat; what = what.InFail (record { 0 = f }) k c d } ∷ past) (spare - 1) store'
+        → IsState seen tells config (record { seat = seat; what = what.InFail (record { 0 = f }) k c d } ∷ past) (spare - 1) store'
         (record fields { frames = store'.frames; starts = store'.flights; roles = slice_set fields.roles f None; busy = slice_set fields.busy seat.0 (n - 1); in_flight = fields.in_flight - 1; failed = failed }) numbers
 
     closes_here : lift.result ≡ Bad c d → length lift.buffer ≡ 512 → owed (record { seat = seat; what = what.InFail (record { 0 = lift.frame }) lift.start c d } ∷ past) + 1 ≤ spare → Closes (Some legal.row.flight.block) lift.frame lift.start
     closes_here ended size paid rows =
         let its = legal.row in
         rw (landed_is, land.landed_is before seat lift fits its.flight its.role its.lands its.reads on.within on.state frames')
-        (subst (λ (starts : List (Option ℕ)). IsState content plan reads writes faults tells tells_plan config (record { seat = seat; what = what.InFail (record { 0 = lift.frame }) lift.start c d } ∷ past) (spare - 1)
+        (subst (λ (starts : List (Option ℕ)). IsState seen tells config (record { seat = seat; what = what.InFail (record { 0 = lift.frame }) lift.start c d } ∷ past) (spare - 1)
         (land.store_after before seat lift fits its.flight its.role its.lands its.reads on.within on.state frames')
         (record fields { frames = frames'; starts = slice_set starts lift.frame None; roles = slice_set fields.roles lift.frame None; busy = slice_set fields.busy seat.0 (n - 1); in_flight = fields.in_flight - 1; failed = Some its.flight.block }) numbers) same
         (closed before (record { seat = seat; what = what.InFail (record { 0 = lift.frame }) lift.start c d }) legal paid (land.store_after before seat lift fits its.flight its.role its.lands its.reads on.within on.state frames') _

@@ -1,6 +1,7 @@
 -- INOK closes, and its calls may be made.
-use Rattle.std.proofs.Common.{◌≡◌, ℕ, ◌+◌, ◌-◌, ◌≤◌, ◌<◌, Bool, List, [], ◌∷◌, ◌++◌, Option, Some, None, length, slice_get, slice_index_or, slice_set, sym, ap, ◌∙◌, subst, subst₂}
+use Rattle.std.proofs.Common.{◌≡◌, ℕ, ◌+◌, ◌-◌, ◌≤◌, ◌<◌, List, [], ◌∷◌, ◌++◌, Option, Some, None, length, slice_get, slice_index_or, slice_set, sym, ap, ◌∙◌, subst, subst₂}
 use Rattle.std.proofs.lemmas.Option.{same_Some}
+use Rattle.vm_types.specs.BlockView.{BlockView, Tells}
 use Rattle.vm_types.specs.declared.config.Config.{Config}
 use Rattle.vm_types.specs.declared.names.Page.{Page}
 use Rattle.vm_types.specs.declared.names.FrameState.TheVariants as state
@@ -34,10 +35,10 @@ use Rattle.vm_state.specs.StateKept.{IsState}
 use Rattle.vm_state.proofs.Closing.{closed, kept, right}
 use Rattle.vm_state.proofs.ReadLands as land
 
-module _ {B : Type 0} {content plan : B → Option (List ℕ)} {reads writes faults : B → ℕ} {tells tells_plan : Bool} {config : Config} {past : List Entry} {spare : ℕ} {store : StoreView B} {fields : Parts} {numbers : List ℕ}
-    (before : IsState content plan reads writes faults tells tells_plan config past spare store fields numbers) (seat : Seat) (lift : LiftView B)
+module _ {B : Type 0} {seen : B → BlockView} {tells : Tells} {config : Config} {past : List Entry} {spare : ℕ} {store : StoreView B} {fields : Parts} {numbers : List ℕ}
+    (before : IsState seen tells config past spare store fields numbers) (seat : Seat) (lift : LiftView B)
     (legal : IsLegal config past (pager_after config past) (record { seat = seat; what = what.InOk (record { 0 = lift.frame }) lift.start }))
-    (fits : LiftFits content plan reads writes faults tells tells_plan config past lift) where
+    (fits : LiftFits seen tells config past lift) where
   abbrev a : Pager
   a = pager_after config past
 
@@ -75,14 +76,14 @@ module _ {B : Type 0} {content plan : B → Option (List ℕ)} {reads writes fau
     ClosesNear f k =
         frames'.rows ≡ slice_set (fields.frames).rows f (record (row_of fields.frames f) { state = state.Free; slot = 0; refs = counted_references (row_of fields.frames f).shares 0; flights = 0 })
         → frames'.free ≡ (fields.frames).free ++ f ∷ []
-        → IsState content plan reads writes faults tells tells_plan config (record { seat = seat; what = what.InOk (record { 0 = f }) k } ∷ past) (spare - 1) store'
+        → IsState seen tells config (record { seat = seat; what = what.InOk (record { 0 = f }) k } ∷ past) (spare - 1) store'
         (record fields { frames = store'.frames; starts = store'.flights; roles = slice_set fields.roles f None; busy = slice_set fields.busy seat.0 (n - 1); in_flight = fields.in_flight - 1 }) numbers
 
     near_here : (g : Page) → legal.row.role ≡ role.Near g → lift.result ≡ Good → length lift.buffer ≡ 512 → owed (record { seat = seat; what = what.InOk (record { 0 = lift.frame }) lift.start } ∷ past) + 1 ≤ spare → ClosesNear lift.frame lift.start
     near_here g near ended size paid rows free =
         let its = legal.row in
         rw (landed_is, land.landed_is before seat lift fits its.flight its.role its.lands its.reads on.within on.state frames')
-        (subst (λ (starts : List (Option ℕ)). IsState content plan reads writes faults tells tells_plan config (record { seat = seat; what = what.InOk (record { 0 = lift.frame }) lift.start } ∷ past) (spare - 1)
+        (subst (λ (starts : List (Option ℕ)). IsState seen tells config (record { seat = seat; what = what.InOk (record { 0 = lift.frame }) lift.start } ∷ past) (spare - 1)
         (land.store_after before seat lift fits its.flight its.role its.lands its.reads on.within on.state frames')
         (record fields { frames = frames'; starts = slice_set starts lift.frame None; roles = slice_set fields.roles lift.frame None; busy = slice_set fields.busy seat.0 (n - 1); in_flight = fields.in_flight - 1 }) numbers) same
         (closed before (record { seat = seat; what = what.InOk (record { 0 = lift.frame }) lift.start }) legal paid (land.store_after before seat lift fits its.flight its.role its.lands its.reads on.within on.state frames') _

@@ -1,6 +1,7 @@
 -- The role of a read that lands well is the one that is kept of its frame.
 use Rattle.std.proofs.Common.{◌≡◌, ℕ, ◌<◌, Bool, true, List, Option, Some, IsSome, length, slice_index_or, refl, sym, ap₂, ◌∙◌, subst}
 use Rattle.std.proofs.lemmas.Option.{same_Some}
+use Rattle.vm_types.specs.BlockView.{BlockView, Tells}
 use Rattle.vm_types.specs.declared.config.Config.{Config}
 use Rattle.vm_types.specs.declared.names.Seat.{Seat}
 use Rattle.vm_journal.specs.declared.entry.Entry.{Entry}
@@ -24,10 +25,10 @@ use Rattle.vm_state.proofs.InOkCloses as ended
 pub landed_well : {B : Type 0} (lift : LiftView B) → lift.is_read ≡ true → lift.result ≡ Good → landing_of lift ≡ what.InOk (pfn lift.frame) lift.start
 landed_well lift reads good = ap₂ (λ (b : Bool) (r : Carried). ended_as b lift.frame lift.start r) reads good
 
-module _ {B : Type 0} {content plan : B → Option (List ℕ)} {reads writes faults : B → ℕ} {tells tells_plan : Bool} {config : Config} {past : List Entry} {spare : ℕ} {store : StoreView B} {fields : Parts} {numbers : List ℕ}
-    (before : IsState content plan reads writes faults tells tells_plan config past spare store fields numbers) (seat : Seat) (lift : LiftView B)
+module _ {B : Type 0} {seen : B → BlockView} {tells : Tells} {config : Config} {past : List Entry} {spare : ℕ} {store : StoreView B} {fields : Parts} {numbers : List ℕ}
+    (before : IsState seen tells config past spare store fields numbers) (seat : Seat) (lift : LiftView B)
     (may : IsLegal config past (pager_after config past) (record { seat = seat; what = landing_of lift }))
-    (fits : LiftFits content plan reads writes faults tells tells_plan config past lift) (is_read : lift.is_read ≡ true) (good : lift.result ≡ Good) where
+    (fits : LiftFits seen tells config past lift) (is_read : lift.is_read ≡ true) (good : lift.result ≡ Good) where
   legal : IsLegal config past (pager_after config past) (record { seat = seat; what = what.InOk (pfn lift.frame) lift.start })
   legal = subst (λ (w : What). IsLegal config past (pager_after config past) (record { seat = seat; what = w })) (landed_well lift is_read good) may
 

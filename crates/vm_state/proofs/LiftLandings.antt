@@ -2,6 +2,7 @@
 use Rattle.std.proofs.Common.{◌≡◌, ℕ, ◌+◌, ◌-◌, ◌*◌, ◌^◌, ◌≤◌, ◌<◌, Bool, true, false, List, [], ◌∷◌, Option, Some, None, find, length, nat_eq, if◌then◌else◌, refl, sym, ap, ◌∙◌, subst, inl, inr, arith}
 use Rattle.std.proofs.lemmas.Bool.{and_from, eq-eqb, eqb-false, eqb-true, ne_eqb, true≢false}
 use Rattle.std.proofs.lemmas.Option.{none-some, same_Some, slice_get_within}
+use Rattle.vm_types.specs.BlockView.{BlockView, Tells}
 use Rattle.vm_types.specs.Configuration.{IsWellFormed}
 use Rattle.vm_types.specs.declared.config.Config.{Config}
 use Rattle.vm_types.specs.declared.names.Page.{Page}
@@ -68,12 +69,12 @@ named_page config formed (Shared s i) of =
     let most = formed.sections.pages in
     (record { there = there; small = omega (arith, few, there) }, omega (arith, number, most))
 
-module _ {B : Type 0} (content plan : B → Option (List ℕ)) (reads writes faults : B → ℕ) (tells tells_plan : Bool) where
+module _ {B : Type 0} (seen : B → BlockView) (tells : Tells) where
   abbrev Fits : Config → List Entry → LiftView B → Type 0
-  Fits config past lift = LiftFits content plan reads writes faults tells tells_plan config past lift
+  Fits config past lift = LiftFits seen tells config past lift
 
   abbrev May : History → Seat → LiftView B → Type 0
-  May s seat lift = MayLand content plan reads writes faults tells tells_plan s seat lift
+  May s seat lift = MayLand seen tells s seat lift
 
   found : (config : Config) (past : List Entry) (lift : LiftView B) (fits : Fits config past lift) → find (starts lift.start) (open_flights past) ≡ Some fits.0
   found config past lift fits = subst (λ (j : ℕ). find (starts j) (open_flights past) ≡ Some fits.0) ((fits.1).flight).start (fits.1).found_x
@@ -81,7 +82,7 @@ module _ {B : Type 0} (content plan : B → Option (List ℕ)) (reads writes fau
   -- a lift that may land still may after an entry that doesn't land it
   stays : (s : History) (e : Entry) (seat : Seat) (lift : LiftView B) → IsWellFormed s.config → IsRun s.config (e ∷ s.past) → lands lift.start e.what ≡ false → May s seat lift → May (added s e) seat lift
   stays s e seat lift formed run other may =
-      let later : Fits s.config (e ∷ s.past) lift = lifts_stay tells tells_plan s.config s.past e (lift_seen content plan reads writes faults lift) formed run other may.fits in
+      let later : Fits s.config (e ∷ s.past) lift = lifts_stay tells.content tells.plan s.config s.past e (lift_seen seen lift) formed run other may.fits in
       record {
         carried = may.carried;
         fits = later;
@@ -140,28 +141,28 @@ module _ {B : Type 0} (content plan : B → Option (List ℕ)) (reads writes fau
     in_ok is = record {
       in_turn = turn (what.InOk (pfn lift.frame) lift.start) refl refl;
       line = record { seat = there; what = (frame_small, start_small) };
-      row = in_ok_legal tells tells_plan s.config s.past a (lift_seen content plan reads writes faults lift) may.fits seat.0 may.own is;
+      row = in_ok_legal tells.content tells.plan s.config s.past a (lift_seen seen lift) may.fits seat.0 may.own is;
     }
 
     out_ok : lift.is_read ≡ false → Legal (what.OutOk (pfn lift.frame) lift.start)
     out_ok is = record {
       in_turn = turn (what.OutOk (pfn lift.frame) lift.start) refl refl;
       line = record { seat = there; what = (frame_small, start_small) };
-      row = out_ok_legal tells tells_plan s.config s.past a (lift_seen content plan reads writes faults lift) may.fits seat.0 may.own is;
+      row = out_ok_legal tells.content tells.plan s.config s.past a (lift_seen seen lift) may.fits seat.0 may.own is;
     }
 
     in_fail : (c d : ℕ) → c < 2 ^ 64 → d < 2 ^ 64 → lift.is_read ≡ true → lift.result ≡ Bad c d → Legal (what.InFail (pfn lift.frame) lift.start c d)
     in_fail c d c_small d_small is bad = record {
       in_turn = turn (what.InFail (pfn lift.frame) lift.start c d) refl refl;
       line = record { seat = there; what = (frame_small, start_small, c_small, d_small) };
-      row = in_fail_legal tells tells_plan s.config s.past a (lift_seen content plan reads writes faults lift) may.fits seat.0 may.own c d is (ap result_of bad);
+      row = in_fail_legal tells.content tells.plan s.config s.past a (lift_seen seen lift) may.fits seat.0 may.own c d is (ap result_of bad);
     }
 
     out_fail : (c d : ℕ) → c < 2 ^ 64 → d < 2 ^ 64 → lift.is_read ≡ false → lift.result ≡ Bad c d → Legal (what.OutFail (pfn lift.frame) lift.start c d)
     out_fail c d c_small d_small is bad = record {
       in_turn = turn (what.OutFail (pfn lift.frame) lift.start c d) refl refl;
       line = record { seat = there; what = (frame_small, start_small, c_small, d_small) };
-      row = out_fail_legal tells tells_plan s.config s.past a (lift_seen content plan reads writes faults lift) may.fits seat.0 may.own c d is (ap result_of bad);
+      row = out_fail_legal tells.content tells.plan s.config s.past a (lift_seen seen lift) may.fits seat.0 may.own c d is (ap result_of bad);
     }
 
     -- ---- and paid for
@@ -203,7 +204,7 @@ module _ {B : Type 0} (content plan : B → Option (List ℕ)) (reads writes fau
     apart_too other apart = ne_eqb other.start lift.start (λ same. eqb-false lift.start other.start apart (sym same))
 
     abbrev Landed : History → Type 0
-    Landed t = HasLanded content plan reads writes faults tells tells_plan seat lift s t
+    Landed t = HasLanded seen tells seat lift s t
 
     -- by one entry alone
     alone : (w : What) → landing_of lift ≡ w → fails_read w ≡ false → ((j : ℕ) → lands j w ≡ nat_eq j lift.start) → reuse_after lift.is_read lift.result lift.frame lift.page ≡ [] → Legal w

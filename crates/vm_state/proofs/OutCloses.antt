@@ -1,5 +1,6 @@
 -- OUT closes, and its calls may be made.
-use Rattle.std.proofs.Common.{◌≡◌, ℕ, ◌+◌, ◌-◌, ◌≤◌, Bool, false, List, ◌∷◌, Option, Some, None, length, slice_set, refl, sym, ap, ◌∙◌, subst, subst₂}
+use Rattle.std.proofs.Common.{◌≡◌, ℕ, ◌+◌, ◌-◌, ◌≤◌, false, List, ◌∷◌, Option, Some, None, length, slice_set, refl, sym, ap, ◌∙◌, subst, subst₂}
+use Rattle.vm_types.specs.BlockView.{BlockView, Tells}
 use Rattle.vm_types.specs.declared.config.Config.{Config}
 use Rattle.vm_types.specs.declared.names.BlockId.{BlockId}
 use Rattle.vm_types.specs.declared.names.Page.{Page}
@@ -28,16 +29,16 @@ use Rattle.vm_state.proofs.Closing.{closed, kept, right}
 use Rattle.vm_state.proofs.WriteBegins as begin
 
 -- what a method ensures of a lift is of the value, what is known is of the fields
-pub begun_before : {B : Type 0} (content plan : B → Option (List ℕ)) (reads writes faults : B → ℕ) (tells tells_plan : Bool) (seat : Seat) (f : Pfn) (b : BlockId) (lift : LiftView B) {s t : History} → s ≡ t
-    → HasBegun content plan reads writes faults tells tells_plan s seat (what.Out f b) f.0 b false lift → HasBegun content plan reads writes faults tells tells_plan t seat (what.Out f b) f.0 b false lift
-begun_before content plan reads writes faults tells tells_plan seat f b lift same begun = subst (λ (x : History). HasBegun content plan reads writes faults tells tells_plan x seat (what.Out f b) f.0 b false lift) same begun
+pub begun_before : {B : Type 0} (seen : B → BlockView) (tells : Tells) (seat : Seat) (f : Pfn) (b : BlockId) (lift : LiftView B) {s t : History} → s ≡ t
+    → HasBegun seen tells s seat (what.Out f b) f.0 b false lift → HasBegun seen tells t seat (what.Out f b) f.0 b false lift
+begun_before seen tells seat f b lift same begun = subst (λ (x : History). HasBegun seen tells x seat (what.Out f b) f.0 b false lift) same begun
 
 -- the page, by the row that was read before
 pub pages_given : (pages pages' : ChargedTable) (o p : Option Page) → o ≡ p → (b : BlockId) → ((q w : ℕ) → charged_at pages' q w ≡ block_given b o (charged_at pages) q w) → (q w : ℕ) → charged_at pages' q w ≡ block_given b p (charged_at pages) q w
 pages_given pages pages' o p is b now = subst (λ (x : Option Page). (q w : ℕ) → charged_at pages' q w ≡ block_given b x (charged_at pages) q w) is now
 
-module _ {B : Type 0} {content plan : B → Option (List ℕ)} {reads writes faults : B → ℕ} {tells tells_plan : Bool} {config : Config} {past : List Entry} {spare : ℕ} {store : StoreView B} {fields : Parts} {numbers : List ℕ}
-    (before : IsState content plan reads writes faults tells tells_plan config past spare store fields numbers) (seat : Seat) (f : Pfn) (b : BlockId)
+module _ {B : Type 0} {seen : B → BlockView} {tells : Tells} {config : Config} {past : List Entry} {spare : ℕ} {store : StoreView B} {fields : Parts} {numbers : List ℕ}
+    (before : IsState seen tells config past spare store fields numbers) (seat : Seat) (f : Pfn) (b : BlockId)
     (legal : IsLegal config past (pager_after config past) (record { seat = seat; what = what.Out f b })) where
   abbrev a : Pager
   a = pager_after config past
@@ -55,13 +56,13 @@ module _ {B : Type 0} {content plan : B → Option (List ℕ)} {reads writes fau
     abbrev Closes : ℕ → Blocks → Type 0
     Closes k file' =
         store' ≡ lifted_out (record store { frames = frames' }) f.0 b k
-        → IsState content plan reads writes faults tells tells_plan config (record { seat = seat; what = what.Out f b } ∷ past) (spare - 1) store'
+        → IsState seen tells config (record { seat = seat; what = what.Out f b } ∷ past) (spare - 1) store'
         (record fields { frames = store'.frames; starts = store'.flights; roles = slice_set fields.roles f.0 None; pages = pages'; file = file'; busy = slice_set fields.busy seat.0 (n + 1); in_flight = fields.in_flight + 1 }) numbers
 
     closes_here : owed (record { seat = seat; what = what.Out f b } ∷ past) + 1 ≤ spare → IsOutDone fields (length past + 1) seat.0 f.0 b frames' n pages' → Closes (length past + 1) (block_taken b page (charged_at fields.pages) fields.file)
     closes_here paid done lifted =
         rw lifted
-        (subst (λ (starts : List (Option ℕ)). IsState content plan reads writes faults tells tells_plan config (record { seat = seat; what = what.Out f b } ∷ past) (spare - 1)
+        (subst (λ (starts : List (Option ℕ)). IsState seen tells config (record { seat = seat; what = what.Out f b } ∷ past) (spare - 1)
         (begin.store_after before seat f b legal frames' (length past + 1))
         (record fields { frames = frames'; starts = slice_set starts f.0 (Some (length past + 1)); roles = slice_set fields.roles f.0 None; pages = pages'; file = block_taken b page (charged_at fields.pages) fields.file; busy = slice_set fields.busy seat.0 (n + 1); in_flight = fields.in_flight + 1 }) numbers) same
         (closed before (record { seat = seat; what = what.Out f b }) legal paid (begin.store_after before seat f b legal frames' (length past + 1)) _

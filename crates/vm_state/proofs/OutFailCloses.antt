@@ -1,5 +1,6 @@
 -- OUTFAIL closes, and its calls may be made.
-use Rattle.std.proofs.Common.{◌≡◌, ℕ, ◌+◌, ◌-◌, ◌≤◌, ◌<◌, Bool, true, List, ◌∷◌, Option, Some, None, length, slice_get, slice_set, refl, sym, ap, subst, subst₂, arith}
+use Rattle.std.proofs.Common.{◌≡◌, ℕ, ◌+◌, ◌-◌, ◌≤◌, ◌<◌, true, List, ◌∷◌, Option, Some, None, length, slice_get, slice_set, refl, sym, ap, subst, subst₂, arith}
+use Rattle.vm_types.specs.BlockView.{BlockView, Tells}
 use Rattle.vm_types.specs.declared.config.Config.{Config}
 use Rattle.vm_types.specs.declared.names.BlockId.{BlockId}
 use Rattle.vm_types.specs.declared.names.Pfn.{Pfn}
@@ -26,10 +27,10 @@ use Rattle.vm_state.specs.StateKept.{IsState}
 use Rattle.vm_state.proofs.Closing.{closed, kept, right}
 use Rattle.vm_state.proofs.WriteLands as land
 
-module _ {B : Type 0} {content plan : B → Option (List ℕ)} {reads writes faults : B → ℕ} {tells tells_plan : Bool} {config : Config} {past : List Entry} {spare : ℕ} {store : StoreView B} {fields : Parts} {numbers : List ℕ}
-    (before : IsState content plan reads writes faults tells tells_plan config past spare store fields numbers) (seat : Seat) (lift : LiftView B) (c d : ℕ)
+module _ {B : Type 0} {seen : B → BlockView} {tells : Tells} {config : Config} {past : List Entry} {spare : ℕ} {store : StoreView B} {fields : Parts} {numbers : List ℕ}
+    (before : IsState seen tells config past spare store fields numbers) (seat : Seat) (lift : LiftView B) (c d : ℕ)
     (legal : IsLegal config past (pager_after config past) (record { seat = seat; what = what.OutFail (record { 0 = lift.frame }) lift.start c d }))
-    (fits : LiftFits content plan reads writes faults tells tells_plan config past lift) where
+    (fits : LiftFits seen tells config past lift) where
   abbrev a : Pager
   a = pager_after config past
 
@@ -53,14 +54,14 @@ module _ {B : Type 0} {content plan : B → Option (List ℕ)} {reads writes fau
     abbrev Closes : BlockId → ℕ → ℕ → Type 0
     Closes b f k =
         IsLandingDone fields seat.0 f b true frames' n fields.pages fields.swaps
-        → IsState content plan reads writes faults tells tells_plan config (record { seat = seat; what = what.OutFail (record { 0 = f }) k c d } ∷ past) (spare - 1) store'
+        → IsState seen tells config (record { seat = seat; what = what.OutFail (record { 0 = f }) k c d } ∷ past) (spare - 1) store'
         (record fields { frames = store'.frames; starts = store'.flights; roles = slice_set fields.roles f None; busy = slice_set fields.busy seat.0 (n - 1); in_flight = fields.in_flight - 1 }) numbers
 
     closes_here : lift.result ≡ Bad c d → owed (record { seat = seat; what = what.OutFail (record { 0 = lift.frame }) lift.start c d } ∷ past) + 1 ≤ spare → Closes (legal.row.write.flight).block lift.frame lift.start
     closes_here ended paid done =
         let its = legal.row.write in
         rw (landed_is, land.landed_is before seat lift fits its.flight its.lands its.writes on.within frames')
-        (subst (λ (starts : List (Option ℕ)). IsState content plan reads writes faults tells tells_plan config (record { seat = seat; what = what.OutFail (record { 0 = lift.frame }) lift.start c d } ∷ past) (spare - 1)
+        (subst (λ (starts : List (Option ℕ)). IsState seen tells config (record { seat = seat; what = what.OutFail (record { 0 = lift.frame }) lift.start c d } ∷ past) (spare - 1)
         (land.store_after before seat lift fits its.flight its.lands its.writes on.within frames')
         (record fields { frames = frames'; starts = slice_set starts lift.frame None; roles = slice_set fields.roles lift.frame None; busy = slice_set fields.busy seat.0 (n - 1); in_flight = fields.in_flight - 1 }) numbers) same
         (closed before (record { seat = seat; what = what.OutFail (record { 0 = lift.frame }) lift.start c d }) legal paid (land.store_after before seat lift fits its.flight its.lands its.writes on.within frames') _

@@ -1,5 +1,6 @@
 -- OUTOK closes, and its calls may be made.
-use Rattle.std.proofs.Common.{◌≡◌, ℕ, ◌+◌, ◌-◌, ◌≤◌, ◌<◌, Bool, false, List, ◌∷◌, Option, Some, None, length, slice_get, slice_set, refl, sym, ap, subst, subst₂, arith}
+use Rattle.std.proofs.Common.{◌≡◌, ℕ, ◌+◌, ◌-◌, ◌≤◌, ◌<◌, false, List, ◌∷◌, Option, Some, None, length, slice_get, slice_set, refl, sym, ap, subst, subst₂, arith}
+use Rattle.vm_types.specs.BlockView.{BlockView, Tells}
 use Rattle.vm_types.specs.declared.config.Config.{Config}
 use Rattle.vm_types.specs.declared.names.BlockId.{BlockId}
 use Rattle.vm_types.specs.declared.names.Pfn.{Pfn}
@@ -41,10 +42,10 @@ pub swaps_after : (pages : ChargedTable) (swaps swaps' : SwapTable) (row r : Row
     → (q m : ℕ) → swapped_at swaps' q m ≡ swaps_landed r.modify r.page b (charged_at pages) (swapped_at swaps) q m
 swaps_after pages swaps swaps' row r read c b named now = subst₂ (λ (x : Row) (d : BlockId). (q m : ℕ) → swapped_at swaps' q m ≡ swaps_landed x.modify x.page d (charged_at pages) (swapped_at swaps) q m) read named now
 
-module _ {B : Type 0} {content plan : B → Option (List ℕ)} {reads writes faults : B → ℕ} {tells tells_plan : Bool} {config : Config} {past : List Entry} {spare : ℕ} {store : StoreView B} {fields : Parts} {numbers : List ℕ}
-    (before : IsState content plan reads writes faults tells tells_plan config past spare store fields numbers) (seat : Seat) (lift : LiftView B)
+module _ {B : Type 0} {seen : B → BlockView} {tells : Tells} {config : Config} {past : List Entry} {spare : ℕ} {store : StoreView B} {fields : Parts} {numbers : List ℕ}
+    (before : IsState seen tells config past spare store fields numbers) (seat : Seat) (lift : LiftView B)
     (legal : IsLegal config past (pager_after config past) (record { seat = seat; what = what.OutOk (record { 0 = lift.frame }) lift.start }))
-    (fits : LiftFits content plan reads writes faults tells tells_plan config past lift) where
+    (fits : LiftFits seen tells config past lift) where
   abbrev a : Pager
   a = pager_after config past
 
@@ -75,14 +76,14 @@ module _ {B : Type 0} {content plan : B → Option (List ℕ)} {reads writes fau
     abbrev Closes : BlockId → ℕ → ℕ → Type 0
     Closes b f k =
         IsLandingDone fields seat.0 f b false frames' n pages' swaps'
-        → IsState content plan reads writes faults tells tells_plan config (record { seat = seat; what = what.OutOk (record { 0 = f }) k } ∷ past) (spare - 1) store'
+        → IsState seen tells config (record { seat = seat; what = what.OutOk (record { 0 = f }) k } ∷ past) (spare - 1) store'
         (record fields { frames = store'.frames; starts = store'.flights; roles = slice_set fields.roles f None; pages = pages'; swaps = swaps'; busy = slice_set fields.busy seat.0 (n - 1); in_flight = fields.in_flight - 1 }) numbers
 
     closes_here : lift.result ≡ Good → owed (record { seat = seat; what = what.OutOk (record { 0 = lift.frame }) lift.start } ∷ past) + 1 ≤ spare → Closes (legal.row.flight).block lift.frame lift.start
     closes_here ended paid done =
         let its = legal.row in
         rw (landed_is, land.landed_is before seat lift fits its.flight its.lands its.writes on.within frames')
-        (subst (λ (starts : List (Option ℕ)). IsState content plan reads writes faults tells tells_plan config (record { seat = seat; what = what.OutOk (record { 0 = lift.frame }) lift.start } ∷ past) (spare - 1)
+        (subst (λ (starts : List (Option ℕ)). IsState seen tells config (record { seat = seat; what = what.OutOk (record { 0 = lift.frame }) lift.start } ∷ past) (spare - 1)
         (land.store_after before seat lift fits its.flight its.lands its.writes on.within frames')
         (record fields { frames = frames'; starts = slice_set starts lift.frame None; roles = slice_set fields.roles lift.frame None; pages = pages'; swaps = swaps'; busy = slice_set fields.busy seat.0 (n - 1); in_flight = fields.in_flight - 1 }) numbers) same
         (closed before (record { seat = seat; what = what.OutOk (record { 0 = lift.frame }) lift.start }) legal paid (land.store_after before seat lift fits its.flight its.lands its.writes on.within frames') _

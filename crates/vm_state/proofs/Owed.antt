@@ -3,6 +3,7 @@ use Rattle.std.proofs.Common.{◌≡◌, ℕ, ◌+◌, ◌*◌, ◌≤◌, Bool,
 use Rattle.std.specs.Option.{is_some, option_map}
 use mir.Val.{bool_byte}
 use Rattle.std.proofs.lemmas.Bool.{true≢false}
+use Rattle.vm_types.specs.BlockView.{BlockView, Tells}
 use Rattle.vm_types.specs.declared.config.Config.{Config}
 use Rattle.vm_journal.specs.declared.entry.Entry.{Entry}
 use Rattle.vm_journal.specs.declared.entry.What.{What}
@@ -36,8 +37,8 @@ failed_frame (entry ∷ past) e = of_what entry.what e
     of_what (what.InFail g k c d) waits = (g.0, nat_eq_refl g.0)
     of_what other waits = absurd (true≢false (sym waits))
 
-module _ {B : Type 0} {content plan : B → Option (List ℕ)} {reads writes faults : B → ℕ} {tells tells_plan : Bool} {config : Config} {past : List Entry} {spare : ℕ} {store : StoreView B} {fields : Parts} {numbers : List ℕ}
-    (before : IsState content plan reads writes faults tells tells_plan config past spare store fields numbers) where
+module _ {B : Type 0} {seen : B → BlockView} {tells : Tells} {config : Config} {past : List Entry} {spare : ℕ} {store : StoreView B} {fields : Parts} {numbers : List ℕ}
+    (before : IsState seen tells config past spare store fields numbers) where
   waits : (b : Bool) → awaits_reuse past ≡ b → is_some fields.failed ≡ b
   waits false e = ap is_some (before.parts.failed ∙ ap (λ (o : Option Flight). option_map (λ (x : Flight). x.block) o) (no_failure past e))
   waits true e =

@@ -2,6 +2,7 @@
 use Rattle.std.proofs.Common.{◌≡◌, ℕ, ◌+◌, ◌<◌, Bool, true, not, List, Option, Some, None, find, length, slice_get, slice_set, if◌then◌else◌, refl, sym, ap, ◌∙◌, subst, arith, length-set}
 use Rattle.std.specs.Option.{option_map}
 use Rattle.std.proofs.lemmas.Option.{none-some, same_Some, slice_get-get_or}
+use Rattle.vm_types.specs.BlockView.{BlockView, Tells}
 use Rattle.vm_types.specs.Configuration.{IsBlock}
 use Rattle.vm_types.specs.declared.config.Config.{Config}
 use Rattle.vm_types.specs.declared.names.BlockId.{BlockId}
@@ -11,13 +12,12 @@ use Rattle.vm_journal.specs.declared.entry.Entry.{Entry}
 use Rattle.vm_journal.specs.declared.entry.Role.{Role}
 use Rattle.pfn_database.specs.Frames.{Frames}
 use Rattle.pager_laws.proofs.FlightsBegun.{flight_blocks}
-use Rattle.pager_model.specs.Fits.{Result, told_of}
+use Rattle.pager_model.specs.Fits.{Result}
 use Rattle.pager_model.specs.Flights.{Flight, is_reading, open_flights, reading, without_flight}
 use Rattle.pager_model.specs.InOk.{IsLanding}
 use Rattle.pager_model.specs.Lookups.{is}
 use Rattle.pager_model.specs.Pager.{Pager}
 use Rattle.pager_model.specs.Run.{pager_after}
-use Rattle.pager_model.specs.Told.{Told}
 use Rattle.pager_model.specs.Transfers.{starts}
 use Rattle.pager_rules.proofs.Lists.{all_found, count_removed_no}
 use Rattle.pager_rules.proofs.Quiet.{starts_once}
@@ -35,23 +35,23 @@ use Rattle.vm_state.specs.LiftsFit.{LiftFits, lift_seen, result_of}
 use Rattle.vm_state.specs.StateKept.{IsState, IsStoreOf, home_in, is_writing}
 
 -- what a method requires of a lift is of the value, what it needs is of the fields
-pub fits_before : {B : Type 0} (content plan : B → Option (List ℕ)) (reads writes faults : B → ℕ) (tells tells_plan : Bool) (lift : LiftView B) {s t : History} → s ≡ t
-    → LiftFits content plan reads writes faults tells tells_plan t.config t.past lift → LiftFits content plan reads writes faults tells tells_plan s.config s.past lift
-fits_before content plan reads writes faults tells tells_plan lift same fits = subst (λ (x : History). LiftFits content plan reads writes faults tells tells_plan x.config x.past lift) (sym same) fits
+pub fits_before : {B : Type 0} (seen : B → BlockView) (tells : Tells) (lift : LiftView B) {s t : History} → s ≡ t
+    → LiftFits seen tells t.config t.past lift → LiftFits seen tells s.config s.past lift
+fits_before seen tells lift same fits = subst (λ (x : History). LiftFits seen tells x.config x.past lift) (sym same) fits
 
 pub none_there : {X Y : Type 0} (f : X → Y) (o : Option X) → option_map f o ≡ None → o ≡ None
 none_there f None is = refl
 none_there f (Some x) is = absurd (none-some (f x) (sym is))
 
-module _ {B : Type 0} {content plan : B → Option (List ℕ)} {reads writes faults : B → ℕ} {tells tells_plan : Bool} {config : Config} {past : List Entry} {spare : ℕ} {store : StoreView B} {fields : Parts} {numbers : List ℕ}
-    (before : IsState content plan reads writes faults tells tells_plan config past spare store fields numbers) (seat : Seat) (lift : LiftView B)
-    (fits : LiftFits content plan reads writes faults tells tells_plan config past lift) (x : Flight) (r : Role) (lands : IsLanding past seat.0 lift.frame lift.start x) (its_role : x.direction ≡ reading r)
+module _ {B : Type 0} {seen : B → BlockView} {tells : Tells} {config : Config} {past : List Entry} {spare : ℕ} {store : StoreView B} {fields : Parts} {numbers : List ℕ}
+    (before : IsState seen tells config past spare store fields numbers) (seat : Seat) (lift : LiftView B)
+    (fits : LiftFits seen tells config past lift) (x : Flight) (r : Role) (lands : IsLanding past seat.0 lift.frame lift.start x) (its_role : x.direction ≡ reading r)
     (within : lift.frame < config.frames) (is_read_now : (pager_after config past).state lift.frame ≡ state.Reading) where
   abbrev a : Pager
   a = pager_after config past
 
-  abbrev home : StoreView B → BlockId → Option Told
-  home s = home_in content plan reads writes faults config s
+  abbrev home : StoreView B → BlockId → Option BlockView
+  home s = home_in seen config s
 
   -- the lift is of the flight that lands
   same : fits.0 ≡ x
@@ -82,7 +82,7 @@ module _ {B : Type 0} {content plan : B → Option (List ℕ)} {reads writes fau
   pub block_out : slice_get store.blocks (number_in store.ids lift.block) ≡ Some None
   block_out =
       slice_get-get_or store.blocks (number_in store.ids lift.block) None below
-      ∙ ap Some (ap (held_at store.blocks) place ∙ none_there (told_of content plan reads writes faults) (block_at config store.blocks lift.block) away)
+      ∙ ap Some (ap (held_at store.blocks) place ∙ none_there seen (block_at config store.blocks lift.block) away)
 
   pub buffer_out : held_at store.buffers lift.frame ≡ None
   buffer_out = buffer_away config a.state (held_at store.buffers) lift.frame before.bytes.buffers within (ap (is state.Reading) is_read_now)
@@ -109,19 +109,19 @@ module _ {B : Type 0} {content plan : B → Option (List ℕ)} {reads writes fau
       flights = slice_set store.flights lift.frame None;
     }) is_read
 
-    block_back : PutsBlock lift.block (Some (told_of content plan reads writes faults lift.held)) (home store) (home store_after)
+    block_back : PutsBlock lift.block (Some (seen lift.held)) (home store) (home store_after)
     block_back =
-        subst (λ (n : ℕ). PutsBlock lift.block (Some (told_of content plan reads writes faults lift.held)) (home store) (λ (b : BlockId). option_map (told_of content plan reads writes faults) (block_at config (slice_set store.blocks n (Some lift.held)) b)))
+        subst (λ (n : ℕ). PutsBlock lift.block (Some (seen lift.held)) (home store) (λ (b : BlockId). option_map seen (block_at config (slice_set store.blocks n (Some lift.held)) b)))
         (sym place)
         (record {
-          here = ap (option_map (told_of content plan reads writes faults)) (block_set config store.blocks before.places.blocks lift.block known (Some lift.held));
-          others = λ c apart. ap (option_map (told_of content plan reads writes faults)) (block_kept config store.blocks before.places.blocks lift.block known (Some lift.held) c apart);
+          here = ap (option_map seen) (block_set config store.blocks before.places.blocks lift.block known (Some lift.held));
+          others = λ c apart. ap (option_map seen) (block_kept config store.blocks before.places.blocks lift.block known (Some lift.held) c apart);
         })
 
     pub brings : (result : Result) → result_of lift.result ≡ result → length lift.buffer ≡ 512
-        → BringsBuffer tells tells_plan config past a lift.frame lift.start result (held_at store.buffers) (held_at store_after.buffers) (home store) (home store_after)
+        → BringsBuffer tells.content tells.plan config past a lift.frame lift.start result (held_at store.buffers) (held_at store_after.buffers) (home store) (home store_after)
     brings result ended size = record {
-      block = record { lift = lift_seen content plan reads writes faults lift; fits = fits; start = refl; ended = ended; back = block_back };
+      block = record { lift = lift_seen seen lift; fits = fits; start = refl; ended = ended; back = block_back };
       size = size;
       put = list_puts_buffer store.buffers lift.frame (Some lift.buffer) frame_there;
     }

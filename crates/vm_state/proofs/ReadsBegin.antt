@@ -1,8 +1,9 @@
 -- IN closes, its calls may be made, and the lift that begins fits.
-use Rattle.std.proofs.Common.{◌≡◌, ℕ, ◌+◌, ◌-◌, ◌^◌, ◌≤◌, ◌<◌, Bool, true, List, [], ◌∷◌, ◌++◌, Option, Some, None, IsSome, IfSome, length, slice_index_or, slice_set, refl, sym, ap, ◌∙◌, subst, arith, length-set}
+use Rattle.std.proofs.Common.{◌≡◌, ℕ, ◌+◌, ◌-◌, ◌^◌, ◌≤◌, ◌<◌, true, List, [], ◌∷◌, ◌++◌, Option, Some, None, IsSome, IfSome, length, slice_index_or, slice_set, refl, sym, ap, ◌∙◌, subst, arith, length-set}
 use Rattle.std.specs.List.{AllByRecursion}
 use Rattle.std.specs.Option.{option_map}
 use Rattle.std.proofs.lemmas.Option.{get_or_from_slice_get, same_Some, slice_get_within}
+use Rattle.vm_types.specs.BlockView.{BlockView, Tells}
 use Rattle.vm_types.specs.Configuration.{IsBlock}
 use Rattle.vm_types.specs.declared.config.Config.{Config}
 use Rattle.vm_types.specs.declared.names.BlockId.{BlockId}
@@ -25,7 +26,7 @@ use Rattle.page_moves.specs.Moves.{HasNumber, MayHold, number_by}
 use Rattle.page_tables.specs.PageTables.{PageTables}
 use Rattle.pfn_database.specs.Frames.{Frames}
 use Rattle.pager_laws.proofs.FewCounts.{counts_few}
-use Rattle.pager_model.specs.Fits.{FitsLift, told_of}
+use Rattle.pager_model.specs.Fits.{FitsLift}
 use Rattle.pager_model.specs.Flights.{open_flights}
 use Rattle.pager_model.specs.In.{IsIn, after_in}
 use Rattle.pager_model.specs.Lookups.{is, page_by}
@@ -34,7 +35,6 @@ use Rattle.pager_model.specs.Own.{IsEmptyHead}
 use Rattle.pager_model.specs.Pager.{Pager}
 use Rattle.pager_model.specs.Run.{pager_after}
 use Rattle.pager_model.specs.Step.{IsLegal, after}
-use Rattle.pager_model.specs.Told.{Told}
 use Rattle.pager_model.specs.Transfers.{IsHome}
 use Rattle.pager_rules.proofs.Basics.{at_number_same}
 use Rattle.pager_rules.proofs.Put.{head_counts}
@@ -96,8 +96,8 @@ none_mapped : {X Y : Type 0} (f : X → Y) (o : Option X) (y : Y) → option_map
 none_mapped f None y is = absurd (cc is)
 none_mapped f (Some x) y is = (x, refl, same_Some _ _ is)
 
-module _ {B : Type 0} {content plan : B → Option (List ℕ)} {reads writes faults : B → ℕ} {tells tells_plan : Bool} {config : Config} {past : List Entry} {spare : ℕ} {store : StoreView B} {fields : Parts} {numbers : List ℕ}
-    (before : IsState content plan reads writes faults tells tells_plan config past spare store fields numbers) (seat : Seat) (f : Pfn) (d : BlockId) where
+module _ {B : Type 0} {seen : B → BlockView} {tells : Tells} {config : Config} {past : List Entry} {spare : ℕ} {store : StoreView B} {fields : Parts} {numbers : List ℕ}
+    (before : IsState seen tells config past spare store fields numbers) (seat : Seat) (f : Pfn) (d : BlockId) where
   abbrev a : Pager
   a = pager_after config past
 
@@ -157,8 +157,8 @@ module _ {B : Type 0} {content plan : B → Option (List ℕ)} {reads writes fau
   may_charge (role.Come q address) legal x page = tt
 
   -- ---- the block
-  home_told : (r : Role) → Legal r → (told : Told) × (home_in content plan reads writes faults config store d ≡ Some told)
-  home_told r legal = block_is_home config (open_flights past) (home_in content plan reads writes faults config store) d before.bytes.homes (home_of r config past a seat.0 f.0 d legal.row)
+  home_told : (r : Role) → Legal r → (view : BlockView) × (home_in seen config store d ≡ Some view)
+  home_told r legal = block_is_home config (open_flights past) (home_in seen config store) d before.bytes.homes (home_of r config past a seat.0 f.0 d legal.row)
 
   place : number_in store.ids d ≡ number_of config d
   place = ap (λ (ids : List BlockId). number_in ids d) before.places.ids
@@ -166,11 +166,11 @@ module _ {B : Type 0} {content plan : B → Option (List ℕ)} {reads writes fau
   home_here : (r : Role) → Legal r → (held : B) × (held_at store.blocks (number_in store.ids d) ≡ Some held)
   home_here r legal =
       let told = home_told r legal in
-      let found = none_mapped (told_of content plan reads writes faults) (block_at config store.blocks d) told.0 told.1 in
+      let found = none_mapped seen (block_at config store.blocks d) told.0 told.1 in
       (found.0, ap (held_at store.blocks) place ∙ found.1)
 
-  home_as : (held : B) → held_at store.blocks (number_in store.ids d) ≡ Some held → home_in content plan reads writes faults config store d ≡ Some (told_of content plan reads writes faults held)
-  home_as held is = ap (option_map (told_of content plan reads writes faults)) (sym (ap (held_at store.blocks) place) ∙ is)
+  home_as : (held : B) → held_at store.blocks (number_in store.ids d) ≡ Some held → home_in seen config store d ≡ Some (seen held)
+  home_as held is = ap (option_map seen) (sym (ap (held_at store.blocks) place) ∙ is)
 
   module _ (r : Role) (legal : Legal r) where
     abbrev e : Entry
@@ -269,13 +269,13 @@ module _ {B : Type 0} {content plan : B → Option (List ℕ)} {reads writes fau
         abbrev store_after : StoreView B
         store_after = lifted_in (record store { frames = frames' }) f.0 d (length past + 1)
 
-        block_away : PutsBlock d None (home_in content plan reads writes faults config store) (home_in content plan reads writes faults config store_after)
+        block_away : PutsBlock d None (home_in seen config store) (home_in seen config store_after)
         block_away =
-            subst (λ (k : ℕ). PutsBlock d None (home_in content plan reads writes faults config store) (λ (b : BlockId). option_map (told_of content plan reads writes faults) (block_at config (slice_set store.blocks k None) b)))
+            subst (λ (k : ℕ). PutsBlock d None (home_in seen config store) (λ (b : BlockId). option_map seen (block_at config (slice_set store.blocks k None) b)))
             (sym place)
             (record {
-              here = ap (option_map (told_of content plan reads writes faults)) (block_set config store.blocks before.places.blocks d known None);
-              others = λ c apart. ap (option_map (told_of content plan reads writes faults)) (block_kept config store.blocks before.places.blocks d known None c apart);
+              here = ap (option_map seen) (block_set config store.blocks before.places.blocks d known None);
+              others = λ c apart. ap (option_map seen) (block_kept config store.blocks before.places.blocks d known None c apart);
             })
 
         places : IsStoreOf config (open_flights (e ∷ past)) store_after numbers
@@ -288,16 +288,16 @@ module _ {B : Type 0} {content plan : B → Option (List ℕ)} {reads writes fau
         }
 
         closes_here : fields.starts ≡ store.flights → owed (e ∷ past) + 1 ≤ spare → IsReadBegun config fields f.0 x frames' tables' globals' → CountsFault r fields.processes rows' → ChargesFault r x fields.pages pages' fields.file file'
-            → IsState content plan reads writes faults tells tells_plan config (e ∷ past) (spare - 1) store_after (after_parts r (slice_set store.flights f.0 (Some (length past + 1)))) numbers
+            → IsState seen tells config (e ∷ past) (spare - 1) store_after (after_parts r (slice_set store.flights f.0 (Some (length past + 1)))) numbers
         closes_here same paid moved counts charges =
-            subst (λ (starts : List (Option ℕ)). IsState content plan reads writes faults tells tells_plan config (e ∷ past) (spare - 1) store_after (after_parts r (slice_set starts f.0 (Some (length past + 1)))) numbers) same
+            subst (λ (starts : List (Option ℕ)). IsState seen tells config (e ∷ past) (spare - 1) store_after (after_parts r (slice_set starts f.0 (Some (length past + 1)))) numbers) same
             (closed before e legal paid store_after _ (parts_by r legal page moved counts charges)
             (list_puts_buffer store.buffers f.0 None frame_there, block_away) places)
 
         -- with the store that the call leaves
         pub begin_closes : fields.starts ≡ store.flights → owed (e ∷ past) + 1 ≤ spare → IsReadBegun config fields f.0 x frames' tables' globals' → CountsFault r fields.processes rows' → ChargesFault r x fields.pages pages' fields.file file'
             → (start : ℕ) → start ≡ length past + 1 → (store' : StoreView B) → store' ≡ lifted_in (record store { frames = frames' }) f.0 d start
-            → IsState content plan reads writes faults tells tells_plan config (e ∷ past) (spare - 1) store' (record fields {
+            → IsState seen tells config (e ∷ past) (spare - 1) store' (record fields {
               frames = store'.frames;
               starts = store'.flights;
               roles = slice_set fields.roles f.0 (Some r);
@@ -310,7 +310,7 @@ module _ {B : Type 0} {content plan : B → Option (List ℕ)} {reads writes fau
               in_flight = fields.in_flight + 1;
             }) numbers
         begin_closes same paid moved counts charges start start_is store' store_is =
-            subst (λ (s : StoreView B). IsState content plan reads writes faults tells tells_plan config (e ∷ past) (spare - 1) s (record fields {
+            subst (λ (s : StoreView B). IsState seen tells config (e ∷ past) (spare - 1) s (record fields {
               frames = s.frames;
               starts = s.flights;
               roles = slice_set fields.roles f.0 (Some r);
@@ -325,14 +325,14 @@ module _ {B : Type 0} {content plan : B → Option (List ℕ)} {reads writes fau
 
       -- ---- the lift
       fits_read : (bytes : List ℕ) (held : B) → held_at store.blocks (number_in store.ids d) ≡ Some held
-          → FitsLift tells tells_plan config (e ∷ past) (pager_after config (e ∷ past)) (read_lift past f.0 d x bytes (told_of content plan reads writes faults held))
+          → FitsLift tells.content tells.plan config (e ∷ past) (pager_after config (e ∷ past)) (read_lift past f.0 d x bytes (seen held))
       fits_read bytes held is =
-          read_begins tells tells_plan config past seat f d r x bytes (told_of content plan reads writes faults held) (held_at store.buffers) (home_in content plan reads writes faults config store)
+          read_begins tells.content tells.plan config past seat f d r x bytes (seen held) (held_at store.buffers) (home_in seen config store)
           before.formed (before.run, legal) (page_after r x page) (home_as held is) before.bytes
 
-      pub few : owed (e ∷ past) + 1 ≤ spare → (held : B) → held_at store.blocks (number_in store.ids d) ≡ Some held → reads held + writes held < 2 ^ 48
+      pub few : owed (e ∷ past) + 1 ≤ spare → (held : B) → held_at store.blocks (number_in store.ids d) ≡ Some held → (seen held).reads + (seen held).writes < 2 ^ 48
       few paid held is =
-          let calls = few_calls tells tells_plan config (e ∷ past) (pager_after config (e ∷ past)) (read_lift past f.0 d x [] (told_of content plan reads writes faults held)) (fits_read [] held is) refl in
+          let calls = few_calls tells.content tells.plan config (e ∷ past) (pager_after config (e ∷ past)) (read_lift past f.0 d x [] (seen held)) (fits_read [] held is) refl in
           let short = before.short in
           omega (arith, paid, calls, short)
 
@@ -342,12 +342,12 @@ module _ {B : Type 0} {content plan : B → Option (List ℕ)} {reads writes fau
           is ∙ (λ i. begun pool seat (own i) f.0 d (start_is i) true lift.buffer lift.held)
 
       pub lift_fits : (lift : LiftView B) (start : ℕ) (pool : PoolName) → lift ≡ begun pool seat x f.0 d start true lift.buffer lift.held → start ≡ length past + 1 → held_at store.blocks (number_in store.ids d) ≡ Some lift.held
-          → LiftFits content plan reads writes faults tells tells_plan config (e ∷ past) lift
+          → LiftFits seen tells config (e ∷ past) lift
       lift_fits lift start pool is start_is held =
-          subst (LiftFits content plan reads writes faults tells tells_plan config (e ∷ past))
+          subst (LiftFits seen tells config (e ∷ past))
           (sym (is ∙ ap (λ (k : ℕ). begun pool seat x f.0 d k true lift.buffer lift.held) start_is))
           (fits_read lift.buffer lift.held held)
 
     -- ---- the others
-    pub other_fits : (lift : LiftView B) → LiftFits content plan reads writes faults tells tells_plan config past lift → LiftFits content plan reads writes faults tells tells_plan config (e ∷ past) lift
-    other_fits lift fit = lifts_stay tells tells_plan config past e (lift_seen content plan reads writes faults lift) before.formed (before.run, legal) refl fit
+    pub other_fits : (lift : LiftView B) → LiftFits seen tells config past lift → LiftFits seen tells config (e ∷ past) lift
+    other_fits lift fit = lifts_stay tells.content tells.plan config past e (lift_seen seen lift) before.formed (before.run, legal) refl fit

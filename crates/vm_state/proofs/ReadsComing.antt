@@ -1,6 +1,7 @@
 -- INOK closes for a process that comes back, and its calls may be made.
-use Rattle.std.proofs.Common.{◌≡◌, ℕ, ◌+◌, ◌-◌, ◌≤◌, Bool, true, false, List, ◌∷◌, Option, Some, None, length, slice_index_or, slice_set, refl, sym, ap, ◌∙◌, subst, subst₂, arith}
+use Rattle.std.proofs.Common.{◌≡◌, ℕ, ◌+◌, ◌-◌, ◌≤◌, true, false, List, ◌∷◌, Option, Some, None, length, slice_index_or, slice_set, refl, sym, ap, ◌∙◌, subst, subst₂, arith}
 use Rattle.std.proofs.lemmas.Option.{same_Some}
+use Rattle.vm_types.specs.BlockView.{BlockView, Tells}
 use Rattle.vm_types.specs.PagePlaces.{changed_at}
 use Rattle.vm_types.specs.declared.config.Config.{Config}
 use Rattle.vm_types.specs.declared.names.Addr.{Addr}
@@ -50,10 +51,10 @@ use Rattle.vm_state.proofs.InOkCloses as ended
 use Rattle.vm_state.proofs.ReadLands as land
 use Rattle.vm_state.proofs.ReadsValid as valid
 
-module _ {B : Type 0} {content plan : B → Option (List ℕ)} {reads writes faults : B → ℕ} {tells tells_plan : Bool} {config : Config} {past : List Entry} {spare : ℕ} {store : StoreView B} {fields : Parts} {numbers : List ℕ}
-    (before : IsState content plan reads writes faults tells tells_plan config past spare store fields numbers) (seat : Seat) (lift : LiftView B)
+module _ {B : Type 0} {seen : B → BlockView} {tells : Tells} {config : Config} {past : List Entry} {spare : ℕ} {store : StoreView B} {fields : Parts} {numbers : List ℕ}
+    (before : IsState seen tells config past spare store fields numbers) (seat : Seat) (lift : LiftView B)
     (legal : IsLegal config past (pager_after config past) (record { seat = seat; what = what.InOk (record { 0 = lift.frame }) lift.start }))
-    (fits : LiftFits content plan reads writes faults tells tells_plan config past lift) (q : Proc) (address : Addr) (as_come : IsReadAs past lift.start (role.Come q address)) where
+    (fits : LiftFits seen tells config past lift) (q : Proc) (address : Addr) (as_come : IsReadAs past lift.start (role.Come q address)) where
   abbrev a : Pager
   a = pager_after config past
 
@@ -129,7 +130,7 @@ module _ {B : Type 0} {content plan : B → Option (List ℕ)} {reads writes fau
           flights = 0;
         })
         → ((p w : ℕ) → pte_in tables' p w ≡ changed_at (pte_in fields.tables) q.0 v (Some (record { prot = old.prot; place = place.Valid false f })) p w)
-        → IsState content plan reads writes faults tells tells_plan config (record { seat = seat; what = what.InOk f k } ∷ past) (spare - 1) store'
+        → IsState seen tells config (record { seat = seat; what = what.InOk f k } ∷ past) (spare - 1) store'
         (record fields {
           frames = store'.frames;
           starts = store'.flights;
@@ -148,7 +149,7 @@ module _ {B : Type 0} {content plan : B → Option (List ℕ)} {reads writes fau
         let its = legal.row in
         let on = ended.on before seat lift legal fits in
         rw (landed_is, land.landed_is before seat lift fits its.flight its.role its.lands its.reads on.within on.state frames')
-        (subst (λ (starts : List (Option ℕ)). IsState content plan reads writes faults tells tells_plan config (record { seat = seat; what = what.InOk (record { 0 = lift.frame }) lift.start } ∷ past) (spare - 1)
+        (subst (λ (starts : List (Option ℕ)). IsState seen tells config (record { seat = seat; what = what.InOk (record { 0 = lift.frame }) lift.start } ∷ past) (spare - 1)
         (land.store_after before seat lift fits its.flight its.role its.lands its.reads on.within on.state frames')
         (record fields {
           frames = frames';

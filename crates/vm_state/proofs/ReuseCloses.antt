@@ -1,6 +1,7 @@
 -- REUSE closes, and its calls may be made.
-use Rattle.std.proofs.Common.{◌≡◌, ℕ, ◌+◌, ◌-◌, ◌≤◌, Bool, true, false, List, ◌∷◌, Option, Some, None, slice_set, refl, sym, ap, ap₂, ◌∙◌, subst}
+use Rattle.std.proofs.Common.{◌≡◌, ℕ, ◌+◌, ◌-◌, ◌≤◌, true, false, List, ◌∷◌, Option, Some, None, slice_set, refl, sym, ap, ap₂, ◌∙◌, subst}
 use Rattle.std.specs.Option.{option_map}
+use Rattle.vm_types.specs.BlockView.{BlockView, Tells}
 use Rattle.vm_types.specs.declared.config.Config.{Config}
 use Rattle.vm_types.specs.declared.config.Origin.{Origin}
 use Rattle.vm_types.specs.declared.config.Origin.TheVariants as origin
@@ -40,8 +41,8 @@ use Rattle.vm_state.specs.StateKept.{IsState}
 use Rattle.vm_state.proofs.Closing.{closed, kept, right}
 use Rattle.vm_state.proofs.Numbered.{has_number, numbered_page}
 
-module _ {B : Type 0} {content plan : B → Option (List ℕ)} {reads writes faults : B → ℕ} {tells tells_plan : Bool} {config : Config} {past : List Entry} {spare : ℕ} {store : StoreView B} {fields : Parts} {numbers : List ℕ}
-    (before : IsState content plan reads writes faults tells tells_plan config past spare store fields numbers) (seat : Seat) (f : Pfn) (page : Page)
+module _ {B : Type 0} {seen : B → BlockView} {tells : Tells} {config : Config} {past : List Entry} {spare : ℕ} {store : StoreView B} {fields : Parts} {numbers : List ℕ}
+    (before : IsState seen tells config past spare store fields numbers) (seat : Seat) (f : Pfn) (page : Page)
     (legal : IsLegal config past (pager_after config past) (record { seat = seat; what = what.Reuse f page })) where
   abbrev a : Pager
   a = pager_after config past
@@ -126,7 +127,7 @@ module _ {B : Type 0} {content plan : B → Option (List ℕ)} {reads writes fau
         rw (rest, there, same.0, same.1) (reuse_shared_parts config past a seat f page fields (kept before) (right before) legal before.parts frames' (ap is_private is) (rows, free, modified))
 
     pub reuse_closes : owed (e ∷ past) + 1 ≤ spare → Rests config fields.pages fields.sections fields.tables tables' page → globals' ≡ released_in config page fields.globals → Uncharges page fields.failed fields.pages pages' fields.file file'
-        → IsState content plan reads writes faults tells tells_plan config (e ∷ past) (spare - 1) (record store { frames = frames' }) left numbers
+        → IsState seen tells config (e ∷ past) (spare - 1) (record store { frames = frames' }) left numbers
     reuse_closes paid rest globals charge =
         closed before e legal paid (record store { frames = frames' }) left (by_page page refl rest globals charge) (refl, refl)
         (record { ids = before.places.ids; buffers = before.places.buffers; blocks = before.places.blocks; left = before.places.left; firsts = before.places.firsts })

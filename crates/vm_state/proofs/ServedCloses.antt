@@ -1,6 +1,7 @@
 -- SERVED closes, by service and answer.
-use Rattle.std.proofs.Common.{◌≡◌, ℕ, ◌+◌, ◌-◌, ◌≤◌, Bool, true, false, List, ◌∷◌, Option, Some, length, slice_index_or, slice_set, refl}
+use Rattle.std.proofs.Common.{◌≡◌, ℕ, ◌+◌, ◌-◌, ◌≤◌, true, false, List, ◌∷◌, Option, Some, length, slice_index_or, slice_set, refl}
 use Rattle.std.specs.Option.{option_map}
+use Rattle.vm_types.specs.BlockView.{BlockView, Tells}
 use Rattle.vm_types.specs.Ring.{Ring}
 use Rattle.vm_types.specs.declared.config.Config.{Config}
 use Rattle.vm_types.specs.declared.config.Origin.{Origin}
@@ -33,12 +34,12 @@ use Rattle.vm_state.specs.History.{owed}
 use Rattle.vm_state.specs.StateKept.{IsState}
 use Rattle.vm_state.proofs.Closing.{closed, kept}
 
-module _ {B : Type 0} {content plan : B → Option (List ℕ)} {reads writes faults : B → ℕ} {tells tells_plan : Bool} {config : Config} {past : List Entry} {spare : ℕ} {store : StoreView B} {fields : Parts} {numbers : List ℕ}
-    (before : IsState content plan reads writes faults tells tells_plan config past spare store fields numbers) (seat : Seat) where
+module _ {B : Type 0} {seen : B → BlockView} {tells : Tells} {config : Config} {past : List Entry} {spare : ℕ} {store : StoreView B} {fields : Parts} {numbers : List ℕ}
+    (before : IsState seen tells config past spare store fields numbers) (seat : Seat) where
   -- no buffer and no block moves; a deletion changes the frames
   pub answered_closes : (s : Service) (w : Answer) → IsLegal config past (pager_after config past) (record { seat = seat; what = what.Served s w }) → owed (record { seat = seat; what = what.Served s w } ∷ past) + 1 ≤ spare
       → (frames : Frames) (fields' : Parts) → FitAfter config past (pager_after config past) seat s w fields'
-      → IsState content plan reads writes faults tells tells_plan config (record { seat = seat; what = what.Served s w } ∷ past) (spare - 1) (record store { frames = frames }) fields' numbers
+      → IsState seen tells config (record { seat = seat; what = what.Served s w } ∷ past) (spare - 1) (record store { frames = frames }) fields' numbers
   answered_closes s w legal paid frames fields' fit =
       closed before (record { seat = seat; what = what.Served s w }) legal paid (record store { frames = frames }) fields' fit (refl, refl)
       (record { ids = before.places.ids; buffers = before.places.buffers; blocks = before.places.blocks; left = before.places.left; firsts = before.places.firsts })
@@ -51,7 +52,7 @@ module _ {B : Type 0} {content plan : B → Option (List ℕ)} {reads writes fau
     abbrev Closes : Service → Answer → Parts → Type 0
     Closes s w fields' =
         IsLegal config past (pager_after config past) (record { seat = seat; what = what.Served s w }) → owed (record { seat = seat; what = what.Served s w } ∷ past) + 1 ≤ spare
-        → IsState content plan reads writes faults tells tells_plan config (record { seat = seat; what = what.Served s w } ∷ past) (spare - 1) store fields' numbers
+        → IsState seen tells config (record { seat = seat; what = what.Served s w } ∷ past) (spare - 1) store fields' numbers
 
     pub left_closes : (s : Service) (w : Answer) → is_serving s w ≡ false → Closes s w (record fields { spoken = said })
     left_closes s w serving legal paid = rw is (answered_closes s w legal paid store.frames _ (left_parts config past (pager_after config past) seat fields before.parts y read_y s w serving legal))
@@ -91,7 +92,7 @@ module _ {B : Type 0} {content plan : B → Option (List ℕ)} {reads writes fau
       → owed (record { seat = seat; what = what.Served (service.Delete at pages) answer.Good } ∷ past) + 1 ≤ spare
       → (frames : Frames) (fields' : Parts) → PartsFit config past (after_delete config (pager_after config past) seat.0 at.0 pages) fields'
       → (y : SpokenRow) → y ≡ slice_index_or fields'.spoken seat.0 y → (number : ℕ) → number ≡ length past + 1
-      → IsState content plan reads writes faults tells tells_plan config (record { seat = seat; what = what.Served (service.Delete at pages) answer.Good } ∷ past) (spare - 1) (record store { frames = frames })
+      → IsState seen tells config (record { seat = seat; what = what.Served (service.Delete at pages) answer.Good } ∷ past) (spare - 1) (record store { frames = frames })
       (record fields' { spoken = slice_set fields'.spoken seat.0 (record { last = Some number; count = y.count + 1 }) }) numbers
   deleted_closes at pages legal paid frames fields' fit y read_y number is =
       rw is (answered_closes (service.Delete at pages) answer.Good legal paid frames _ (deleted_parts config past (pager_after config past) seat at pages legal fields' fit y read_y))

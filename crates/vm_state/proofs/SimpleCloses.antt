@@ -1,5 +1,6 @@
 -- DENIED, COLLIDE, LIMIT and TURN close.
-use Rattle.std.proofs.Common.{◌≡◌, inl, inr, ℕ, ◌+◌, ◌-◌, ◌≤◌, ◌<◌, Bool, true, false, List, [], ◌∷◌, Option, Some, length, nat_eq, slice_index_or, slice_set, refl, sym, ap, subst, arith}
+use Rattle.std.proofs.Common.{◌≡◌, inl, inr, ℕ, ◌+◌, ◌-◌, ◌≤◌, ◌<◌, Bool, true, false, List, [], ◌∷◌, Some, length, nat_eq, slice_index_or, slice_set, refl, sym, ap, subst, arith}
+use Rattle.vm_types.specs.BlockView.{BlockView, Tells}
 use Rattle.vm_types.specs.declared.config.Config.{Config}
 use Rattle.vm_types.specs.declared.names.Addr.{Addr}
 use Rattle.vm_types.specs.declared.names.Pfn.{Pfn}
@@ -49,11 +50,11 @@ pub spoken_by_few : (p : ℕ) (past : List Entry) → (spoken_by p past).count �
 spoken_by_few p [] = omega arith
 spoken_by_few p (e ∷ past) = let few = spoken_with_few e.what (nat_eq (e.seat).0 p) (length past + 1) (length past) (spoken_by p past) (spoken_by_few p past) in subst (λ (n : ℕ). (spoken_by p (e ∷ past)).count ≤ n) (omega arith) few
 
-module _ {B : Type 0} {content plan : B → Option (List ℕ)} {reads writes faults : B → ℕ} {tells tells_plan : Bool} {config : Config} {past : List Entry} {spare : ℕ} {store : StoreView B} {fields : Parts} {numbers : List ℕ}
-    (before : IsState content plan reads writes faults tells tells_plan config past spare store fields numbers) where
+module _ {B : Type 0} {seen : B → BlockView} {tells : Tells} {config : Config} {past : List Entry} {spare : ℕ} {store : StoreView B} {fields : Parts} {numbers : List ℕ}
+    (before : IsState seen tells config past spare store fields numbers) where
   pub collide_closes : (seat : Seat) (address : Addr) (f : Pfn) (k : ℕ) → IsLegal config past (pager_after config past) (record { seat = seat; what = what.Collide address f k }) → owed (record { seat = seat; what = what.Collide address f k } ∷ past) + 1 ≤ spare
       → (x : ProcessRow) → x ≡ slice_index_or fields.processes seat.0 x
-      → IsState content plan reads writes faults tells tells_plan config (record { seat = seat; what = what.Collide address f k } ∷ past) (spare - 1) store
+      → IsState seen tells config (record { seat = seat; what = what.Collide address f k } ∷ past) (spare - 1) store
       (record fields { processes = slice_set fields.processes seat.0 (record x { collided = Some k }) }) numbers
   collide_closes seat address f k legal paid x read =
       closed before (record { seat = seat; what = what.Collide address f k }) legal paid store _
@@ -61,7 +62,7 @@ module _ {B : Type 0} {content plan : B → Option (List ℕ)} {reads writes fau
 
   pub limit_closes : (seat : Seat) (n faulted : ℕ) → IsLegal config past (pager_after config past) (record { seat = seat; what = what.Limit n faulted }) → owed (record { seat = seat; what = what.Limit n faulted } ∷ past) + 1 ≤ spare
       → (x : ProcessRow) → x ≡ slice_index_or fields.processes seat.0 x
-      → IsState content plan reads writes faults tells tells_plan config (record { seat = seat; what = what.Limit n faulted } ∷ past) (spare - 1) store
+      → IsState seen tells config (record { seat = seat; what = what.Limit n faulted } ∷ past) (spare - 1) store
       (record fields { processes = slice_set fields.processes seat.0 (record x { limit = n; references = 0; faults = 0 }) }) numbers
   limit_closes seat n faulted legal paid x read =
       closed before (record { seat = seat; what = what.Limit n faulted }) legal paid store _
@@ -69,7 +70,7 @@ module _ {B : Type 0} {content plan : B → Option (List ℕ)} {reads writes fau
 
   pub turn_closes : (seat : Seat) (p : Proc) (s : ProcStatus) → IsLegal config past (pager_after config past) (record { seat = seat; what = what.Turn p s }) → owed (record { seat = seat; what = what.Turn p s } ∷ past) + 1 ≤ spare
       → (x : ProcessRow) → x ≡ slice_index_or fields.processes p.0 x → (ring : Ring) → ring ≡ turned_ring s x.ring
-      → IsState content plan reads writes faults tells tells_plan config (record { seat = seat; what = what.Turn p s } ∷ past) (spare - 1) store
+      → IsState seen tells config (record { seat = seat; what = what.Turn p s } ∷ past) (spare - 1) store
       (record fields { processes = slice_set fields.processes p.0 (record x { status = s; ring = ring }) }) numbers
   turn_closes seat p s legal paid x read ring is =
       rw is (closed before (record { seat = seat; what = what.Turn p s }) legal paid store _
@@ -77,7 +78,7 @@ module _ {B : Type 0} {content plan : B → Option (List ℕ)} {reads writes fau
 
   pub denied_closes : (seat : Seat) (r : Ref) (reason : Why) → IsLegal config past (pager_after config past) (record { seat = seat; what = what.Denied r reason }) → owed (record { seat = seat; what = what.Denied r reason } ∷ past) + 1 ≤ spare
       → (x : ProcessRow) → x ≡ slice_index_or fields.processes seat.0 x → (y : SpokenRow) → y ≡ slice_index_or fields.spoken seat.0 y → (number : ℕ) → number ≡ length past + 1
-      → IsState content plan reads writes faults tells tells_plan config (record { seat = seat; what = what.Denied r reason } ∷ past) (spare - 1) store
+      → IsState seen tells config (record { seat = seat; what = what.Denied r reason } ∷ past) (spare - 1) store
       (record fields { processes = slice_set fields.processes seat.0 (record x { references = x.references + 1 }); spoken = slice_set fields.spoken seat.0 (record { last = Some number; count = y.count + 1 }) }) numbers
   denied_closes seat r reason legal paid x read y read_y number is =
       rw is (closed before (record { seat = seat; what = what.Denied r reason }) legal paid store _

@@ -5,13 +5,12 @@ use Rattle.std.specs.Option.{is_some, option_map}
 use Rattle.std.proofs.lemmas.Bool.{cases_lt}
 use Rattle.std.proofs.lemmas.List.{get_or-replicate, length-map, length-replicate}
 use Rattle.std.proofs.lemmas.Option.{get_or_from_slice_get, slice_get-map, slice_get_within, none-some}
+use Rattle.vm_types.specs.BlockView.{BlockView, Tells}
 use Rattle.vm_types.specs.Configuration.{IsBlock, IsWellFormed}
 use Rattle.vm_types.specs.declared.config.Config.{Config}
 use Rattle.vm_types.specs.declared.names.BlockId.{BlockId}
 use Rattle.vm_types.specs.declared.names.BlockId.TheVariants as block
 use Rattle.run_record.specs.RunRecord.{Recorded}
-use Rattle.pager_model.specs.Fits.{told_of}
-use Rattle.pager_model.specs.Told.{Told}
 use Rattle.content_laws.specs.Opening.{HasNewBuffers, HasNewHomes, IsNewBlock}
 use Rattle.content_laws.proofs.OpeningContent.{opening_content}
 use Rattle.frame_store.specs.Blocks.{block_at, blocks_of, held_at, number_of}
@@ -25,10 +24,7 @@ use Rattle.page_states.specs.Laying.{HasFirsts}
 use Rattle.vm_state.specs.Made.{IsMade}
 use Rattle.vm_state.specs.StateKept.{IsState, home_in}
 
-module _ {B : Type 0} (content plan : B → Option (List ℕ)) (reads writes faults : B → ℕ) (tells tells_plan : Bool) (config : Config) (blocks : List (BlockId × B)) (store : StoreView B) where
-  abbrev told : B → Told
-  told = told_of content plan reads writes faults
-
+module _ {B : Type 0} (seen : B → BlockView) (tells : Tells) (config : Config) (blocks : List (BlockId × B)) (store : StoreView B) where
   abbrev name : (BlockId × B) → BlockId
   name p = p.0
 
@@ -41,7 +37,7 @@ module _ {B : Type 0} (content plan : B → Option (List ℕ)) (reads writes fau
     pub ids : store.ids ≡ blocks_of config
     pub blocks_are : store.blocks ≡ map place blocks
     pub names : map name blocks ≡ blocks_of config
-    pub made : All (λ (p : BlockId × B). IsMade tells tells_plan config p.0 (told p.1)) blocks
+    pub made : All (λ (p : BlockId × B). IsMade tells config p.0 (seen p.1)) blocks
 
   module _ (opened : IsOpened) where
     -- ---- buffers
@@ -82,41 +78,41 @@ module _ {B : Type 0} (content plan : B → Option (List ℕ)) (reads writes fau
         let pair = pair_of (number_of config b) b (slice_get blocks (number_of config b)) refl (number_there config b is) in
         (pair.0, pair.1, get_held store.blocks (number_of config b) (Some pair.0) (ap (λ (xs : List (Option B)). slice_get xs (number_of config b)) opened.blocks_are ∙ (slice_get-map place blocks (number_of config b) ∙ ap (option_map place) pair.1)))
 
-    -- what is told at home is of a block that was made
-    made_at : (b : BlockId) (x : Told) → home_in content plan reads writes faults config store b ≡ Some x → (y : B) × (x ≡ told y) × IsBlock config b × IsMade tells tells_plan config b (told y)
+    -- what is seen at home is a block that was made
+    made_at : (b : BlockId) (x : BlockView) → home_in seen config store b ≡ Some x → (y : B) × (x ≡ seen y) × IsBlock config b × IsMade tells config b (seen y)
     made_at b x there = go (block_at config store.blocks b) refl there
       where
-        go : (o : Option B) → block_at config store.blocks b ≡ o → option_map told o ≡ Some x → (y : B) × (x ≡ told y) × IsBlock config b × IsMade tells tells_plan config b (told y)
+        go : (o : Option B) → block_at config store.blocks b ≡ o → option_map seen o ≡ Some x → (y : B) × (x ≡ seen y) × IsBlock config b × IsMade tells config b (seen y)
         go None is e = absurd (none-some x e)
         go (Some y) is e =
             let real : IsBlock config b = only_blocks config store.blocks many b y is in
             let home = at_home b real in
             let same : Some home.0 ≡ Some y = sym home.2 ∙ is in
             let it : home.0 ≡ y = cc in
-            let shown : told y ≡ x = cc in
+            let shown : seen y ≡ x = cc in
             let within = slice_get_within blocks (number_of config b) (b, home.0) home.1 in
-            let made : IsMade tells tells_plan config (slice_index_or blocks (number_of config b) (b, home.0)).0 (told (slice_index_or blocks (number_of config b) (b, home.0)).1) = opened.made (number_of config b) (b, home.0) within in
+            let made : IsMade tells config (slice_index_or blocks (number_of config b) (b, home.0)).0 (seen (slice_index_or blocks (number_of config b) (b, home.0)).1) = opened.made (number_of config b) (b, home.0) within in
             let pair : slice_index_or blocks (number_of config b) (b, home.0) ≡ (b, home.0) = get_or_from_slice_get blocks (number_of config b) (b, home.0) (b, home.0) home.1 in
-            (y, sym shown, real, subst (λ (z : B). IsMade tells tells_plan config b (told z)) it (subst (λ (p : BlockId × B). IsMade tells tells_plan config p.0 (told p.1)) pair made))
+            (y, sym shown, real, subst (λ (z : B). IsMade tells config b (seen z)) it (subst (λ (p : BlockId × B). IsMade tells config p.0 (seen p.1)) pair made))
 
-    new_homes : HasNewHomes tells tells_plan config (home_in content plan reads writes faults config store)
+    new_homes : HasNewHomes tells.content tells.plan config (home_in seen config store)
     new_homes = record {
-      blocks = λ b is. ap (λ (o : Option B). is_some (option_map told o)) (at_home b is).2;
+      blocks = λ b is. ap (λ (o : Option B). is_some (option_map seen o)) (at_home b is).2;
       only = λ b x there. (made_at b x there).2;
-      fresh = λ b x there. let made = made_at b x there in subst (λ (t : Told). IsNewBlock tells_plan config b t) (sym made.1) (made.3).fresh;
-      first = λ telling s i x there. let made = made_at (block.Section s i) x there in ap (λ (t : Told). t.content) made.1 ∙ (made.3).first telling s i refl;
+      fresh = λ b x there. let made = made_at b x there in subst (λ (t : BlockView). IsNewBlock tells.plan config b t) (sym made.1) (made.3).fresh;
+      first = λ telling s i x there. let made = made_at (block.Section s i) x there in ap (λ (t : BlockView). t.content) made.1 ∙ (made.3).first telling s i refl;
     }
 
     pub started : (fields : Parts) (numbers : List ℕ) (journal : Recorded) {keeps : Bool} → IsWellFormed config → AreFirst config fields → HasFirsts config numbers → journal ≡ record { entries = []; spare = 0; keeps = keeps }
-        → IsState content plan reads writes faults tells tells_plan config (reverse journal.entries) journal.spare store fields numbers
+        → IsState seen tells config (reverse journal.entries) journal.spare store fields numbers
     started fields numbers journal formed first have is =
-        subst (λ (j : Recorded). IsState content plan reads writes faults tells tells_plan config (reverse j.entries) j.spare store fields numbers) (sym is) (record {
+        subst (λ (j : Recorded). IsState seen tells config (reverse j.entries) j.spare store fields numbers) (sym is) (record {
           formed = formed;
           run = tt;
           short = omega arith;
           paid = omega arith;
           parts = opening_parts config fields first;
-          bytes = opening_content tells tells_plan config (held_at store.buffers) (home_in content plan reads writes faults config store) new_buffers new_homes;
+          bytes = opening_content tells.content tells.plan config (held_at store.buffers) (home_in seen config store) new_buffers new_homes;
           places = record {
             ids = opened.ids;
             buffers = ap length opened.buffers ∙ length-replicate config.frames (Some (replicate 512 0));

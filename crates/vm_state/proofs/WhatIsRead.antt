@@ -1,8 +1,9 @@
 -- What readers show is what the parts stand for.
-use Rattle.std.proofs.Common.{◌≡◌, ℕ, ◌+◌, ◌≤◌, ◌<◌, Bool, true, false, List, [], ◌∷◌, Option, length, nat_lt, count_by, slice_index_or, refl, sym, ap, ◌∙◌, arith}
+use Rattle.std.proofs.Common.{◌≡◌, ℕ, ◌+◌, ◌≤◌, ◌<◌, Bool, true, false, List, [], ◌∷◌, length, nat_lt, count_by, slice_index_or, refl, sym, ap, ◌∙◌, arith}
 use Rattle.std.specs.Prelude.{◌||◌}
 use Rattle.std.specs.List.{list_any}
 use Rattle.std.proofs.lemmas.Bool.{lt-ltb}
+use Rattle.vm_types.specs.BlockView.{BlockView, Tells}
 use Rattle.vm_types.specs.Ring.{choose}
 use Rattle.vm_types.specs.declared.config.Config.{Config}
 use Rattle.vm_types.specs.declared.ring_choice.Choice.{Choice}
@@ -34,8 +35,8 @@ some_counted p (x ∷ xs) = go (p x) refl (some_counted p xs)
     go true e rest = (let one = count_cons_yes p x xs e in lt-ltb 0 (count_by p (x ∷ xs)) (omega (arith, one))) ∙ sym (ap (λ (c : Bool). c || list_any p xs) e)
     go false e rest = ap (nat_lt 0) (count_cons_no p x xs e) ∙ rest ∙ sym (ap (λ (c : Bool). c || list_any p xs) e)
 
-module _ {B : Type 0} {content plan : B → Option (List ℕ)} {reads writes faults : B → ℕ} {tells tells_plan : Bool} {config : Config} {past : List Entry} {spare : ℕ} {store : StoreView B} {fields : Parts} {numbers : List ℕ}
-    (before : IsState content plan reads writes faults tells tells_plan config past spare store fields numbers) where
+module _ {B : Type 0} {seen : B → BlockView} {tells : Tells} {config : Config} {past : List Entry} {spare : ℕ} {store : StoreView B} {fields : Parts} {numbers : List ℕ}
+    (before : IsState seen tells config past spare store fields numbers) where
   abbrev a : Pager
   a = pager_after config past
 

@@ -1,8 +1,9 @@
 -- A write begins: what it requires of the store, and how blocks move.
-use Rattle.std.proofs.Common.{◌≡◌, ℕ, ◌+◌, ◌-◌, ◌≤◌, ◌<◌, ◌^◌, Bool, false, List, [], ◌∷◌, Option, Some, None, length, slice_set, refl, sym, ap, ◌∙◌, subst, inl, inr, arith, length-set}
+use Rattle.std.proofs.Common.{◌≡◌, ℕ, ◌+◌, ◌-◌, ◌≤◌, ◌<◌, ◌^◌, false, List, [], ◌∷◌, Option, Some, None, length, slice_set, refl, sym, ap, ◌∙◌, subst, inl, inr, arith, length-set}
 use Rattle.std.specs.Prelude.{IfSome, IsSome, is_some}
 use Rattle.std.specs.Option.{option_map}
 use Rattle.std.proofs.lemmas.Option.{get_or_from_slice_get, none-some, same_Some}
+use Rattle.vm_types.specs.BlockView.{BlockView, Tells}
 use Rattle.vm_types.specs.declared.config.Config.{Config}
 use Rattle.vm_types.specs.declared.names.BlockId.{BlockId}
 use Rattle.vm_types.specs.declared.names.FrameState.{FrameState}
@@ -16,14 +17,13 @@ use Rattle.vm_journal.specs.declared.entry.What.TheVariants as what
 use Rattle.pfn_database.specs.Frames.{Frames, row_of}
 use Rattle.pfn_database.specs.Rows.{IsOneOf}
 use Rattle.pfn_database.specs.declared.row.Row.{Row}
-use Rattle.pager_model.specs.Fits.{FitsLift, told_of}
+use Rattle.pager_model.specs.Fits.{FitsLift}
 use Rattle.pager_model.specs.Flights.{Flight, open_flights, writing}
 use Rattle.pager_model.specs.Lookups.{is}
 use Rattle.pager_model.specs.Out.{IsAnyOut}
 use Rattle.pager_model.specs.Pager.{Pager}
 use Rattle.pager_model.specs.Run.{pager_after}
 use Rattle.pager_model.specs.Step.{IsLegal}
-use Rattle.pager_model.specs.Told.{Told}
 use Rattle.pager_model.specs.Transfers.{IsHome, reads_on, writes_on}
 use Rattle.pager_rules.proofs.Basics.{count_cons_yes, find_none_from_count}
 use Rattle.content_laws.specs.Begun.{write_lift}
@@ -57,14 +57,14 @@ not_reading s (inl modified) = ap (is state.Reading) modified
 not_reading s (inr (inl active)) = ap (is state.Reading) active
 not_reading s (inr (inr none)) = elim none [ ]
 
-module _ {B : Type 0} {content plan : B → Option (List ℕ)} {reads writes faults : B → ℕ} {tells tells_plan : Bool} {config : Config} {past : List Entry} {spare : ℕ} {store : StoreView B} {fields : Parts} {numbers : List ℕ}
-    (before : IsState content plan reads writes faults tells tells_plan config past spare store fields numbers) (seat : Seat) (f : Pfn) (b : BlockId)
+module _ {B : Type 0} {seen : B → BlockView} {tells : Tells} {config : Config} {past : List Entry} {spare : ℕ} {store : StoreView B} {fields : Parts} {numbers : List ℕ}
+    (before : IsState seen tells config past spare store fields numbers) (seat : Seat) (f : Pfn) (b : BlockId)
     (legal : IsLegal config past (pager_after config past) (record { seat = seat; what = what.Out f b })) where
   abbrev a : Pager
   a = pager_after config past
 
-  abbrev home : StoreView B → BlockId → Option Told
-  home s = home_in content plan reads writes faults config s
+  abbrev home : StoreView B → BlockId → Option BlockView
+  home s = home_in seen config s
 
   -- ---- the frame and the block
   pub record IsBegun : Type 0 where
@@ -108,11 +108,11 @@ module _ {B : Type 0} {content plan : B → Option (List ℕ)} {reads writes fau
   place : number_in store.ids b ≡ number_of config b
   place = ap (λ (ids : List BlockId). number_in ids b) before.places.ids
 
-  found_told : (told : Told) × (home store b ≡ Some told)
-  found_told = block_is_home config (open_flights past) (home store) b before.bytes.homes on.at_home
+  found_view : (view : BlockView) × (home store b ≡ Some view)
+  found_view = block_is_home config (open_flights past) (home store) b before.bytes.homes on.at_home
 
-  found_block : (x : B) × (block_at config store.blocks b ≡ Some x) × (told_of content plan reads writes faults x ≡ found_told.0)
-  found_block = there_by (told_of content plan reads writes faults) (block_at config store.blocks b) found_told.0 found_told.1
+  found_block : (x : B) × (block_at config store.blocks b ≡ Some x) × (seen x ≡ found_view.0)
+  found_block = there_by seen (block_at config store.blocks b) found_view.0 found_view.1
 
   block_here : held_at store.blocks (number_in store.ids b) ≡ Some found_block.0
   block_here = ap (held_at store.blocks) place ∙ found_block.1
@@ -131,29 +131,29 @@ module _ {B : Type 0} {content plan : B → Option (List ℕ)} {reads writes fau
 
   -- ---- the lift
   module _ (bytes : List ℕ) (has : held_at store.buffers f.0 ≡ Some bytes) (x : B) (at : held_at store.blocks (number_in store.ids b) ≡ Some x) where
-    fits_seen : FitsLift tells tells_plan config (record { seat = seat; what = what.Out f b } ∷ past) (pager_after config (record { seat = seat; what = what.Out f b } ∷ past)) (write_lift past f.0 b on.page bytes (told_of content plan reads writes faults x))
-    fits_seen = write_begins tells tells_plan config past seat f b on.page bytes (told_of content plan reads writes faults x) (held_at store.buffers) (home store)
-        before.formed (before.run, legal) on.holds has (ap (option_map (told_of content plan reads writes faults)) (sym (ap (held_at store.blocks) place) ∙ at)) before.bytes
+    fits_seen : FitsLift tells.content tells.plan config (record { seat = seat; what = what.Out f b } ∷ past) (pager_after config (record { seat = seat; what = what.Out f b } ∷ past)) (write_lift past f.0 b on.page bytes (seen x))
+    fits_seen = write_begins tells.content tells.plan config past seat f b on.page bytes (seen x) (held_at store.buffers) (home store)
+        before.formed (before.run, legal) on.holds has (ap (option_map seen) (sym (ap (held_at store.blocks) place) ∙ at)) before.bytes
 
-    called_little : 1 ≤ spare → reads x + writes x < 2 ^ 48
+    called_little : 1 ≤ spare → (seen x).reads + (seen x).writes < 2 ^ 48
     called_little some =
-        let calls = few_calls tells tells_plan config (record { seat = seat; what = what.Out f b } ∷ past) (pager_after config (record { seat = seat; what = what.Out f b } ∷ past)) (write_lift past f.0 b on.page bytes (told_of content plan reads writes faults x)) fits_seen refl in
+        let calls = few_calls tells.content tells.plan config (record { seat = seat; what = what.Out f b } ∷ past) (pager_after config (record { seat = seat; what = what.Out f b } ∷ past)) (write_lift past f.0 b on.page bytes (seen x)) fits_seen refl in
         let short = before.short in
         omega (arith, calls, short, some)
 
     pub lift_fits : (pool : PoolName) (g : Page) → g ≡ on.page → (k : ℕ) → k ≡ length past + 1 → (lift : LiftView B) → lift ≡ begun pool seat g f.0 b k false bytes x
-        → (lift ≡ begun pool seat lift.page f.0 b (length past + 1) false lift.buffer lift.held) × LiftFits content plan reads writes faults tells tells_plan config (record { seat = seat; what = what.Out f b } ∷ past) lift
+        → (lift ≡ begun pool seat lift.page f.0 b (length past + 1) false lift.buffer lift.held) × LiftFits seen tells config (record { seat = seat; what = what.Out f b } ∷ past) lift
     lift_fits pool g page_is k number_is lift begun_is =
         let here : lift ≡ begun pool seat on.page f.0 b (length past + 1) false bytes x = begun_is ∙ (λ i. begun pool seat (page_is i) f.0 b (number_is i) false bytes x) in
-        subst (λ (l : LiftView B). (l ≡ begun pool seat l.page f.0 b (length past + 1) false l.buffer l.held) × LiftFits content plan reads writes faults tells tells_plan config (record { seat = seat; what = what.Out f b } ∷ past) l)
+        subst (λ (l : LiftView B). (l ≡ begun pool seat l.page f.0 b (length past + 1) false l.buffer l.held) × LiftFits seen tells config (record { seat = seat; what = what.Out f b } ∷ past) l)
         (sym here) (refl, fits_seen)
 
-  pub few : 1 ≤ spare → IfSome (held_at store.blocks (number_in store.ids b)) (λ (x : B). reads x + writes x < 2 ^ 48)
-  few some = subst (λ (o : Option B). IfSome o (λ (x : B). reads x + writes x < 2 ^ 48)) (sym block_here) (called_little found_bytes.0 found_bytes.1 found_block.0 block_here some)
+  pub few : 1 ≤ spare → IfSome (held_at store.blocks (number_in store.ids b)) (λ (x : B). (seen x).reads + (seen x).writes < 2 ^ 48)
+  few some = subst (λ (o : Option B). IfSome o (λ (x : B). (seen x).reads + (seen x).writes < 2 ^ 48)) (sym block_here) (called_little found_bytes.0 found_bytes.1 found_block.0 block_here some)
 
   -- every other lift that fits still does
-  pub other_fits : (lift : LiftView B) → LiftFits content plan reads writes faults tells tells_plan config past lift → LiftFits content plan reads writes faults tells tells_plan config (record { seat = seat; what = what.Out f b } ∷ past) lift
-  other_fits lift fit = lifts_stay tells tells_plan config past (record { seat = seat; what = what.Out f b }) (lift_seen content plan reads writes faults lift) before.formed (before.run, legal) refl fit
+  pub other_fits : (lift : LiftView B) → LiftFits seen tells config past lift → LiftFits seen tells config (record { seat = seat; what = what.Out f b } ∷ past) lift
+  other_fits lift fit = lifts_stay tells.content tells.plan config past (record { seat = seat; what = what.Out f b }) (lift_seen seen lift) before.formed (before.run, legal) refl fit
 
   -- ---- the store after it
   module _ (frames' : Frames) (k : ℕ) where
@@ -162,11 +162,11 @@ module _ {B : Type 0} {content plan : B → Option (List ℕ)} {reads writes fau
 
     pub block_away : PutsBlock b None (home store) (home store_after)
     block_away =
-        subst (λ (n : ℕ). PutsBlock b None (home store) (λ (c : BlockId). option_map (told_of content plan reads writes faults) (block_at config (slice_set store.blocks n None) c)))
+        subst (λ (n : ℕ). PutsBlock b None (home store) (λ (c : BlockId). option_map seen (block_at config (slice_set store.blocks n None) c)))
         (sym place)
         (record {
-          here = ap (option_map (told_of content plan reads writes faults)) (block_set config store.blocks before.places.blocks b on.at_home.exists None);
-          others = λ c apart. ap (option_map (told_of content plan reads writes faults)) (block_kept config store.blocks before.places.blocks b on.at_home.exists None c apart);
+          here = ap (option_map seen) (block_set config store.blocks before.places.blocks b on.at_home.exists None);
+          others = λ c apart. ap (option_map seen) (block_kept config store.blocks before.places.blocks b on.at_home.exists None c apart);
         })
 
     pub places : IsStoreOf config (open_flights (record { seat = seat; what = what.Out f b } ∷ past)) store_after numbers

@@ -2,6 +2,7 @@
 use Rattle.std.proofs.Common.{◌≡◌, ℕ, ◌+◌, ◌<◌, Bool, false, not, List, Option, Some, None, find, length, slice_get, slice_set, if◌then◌else◌, refl, sym, ap, ◌∙◌, subst, arith, length-set}
 use Rattle.std.specs.Option.{option_map}
 use Rattle.std.proofs.lemmas.Option.{same_Some, slice_get-get_or}
+use Rattle.vm_types.specs.BlockView.{BlockView, Tells}
 use Rattle.vm_types.specs.Configuration.{IsBlock}
 use Rattle.vm_types.specs.declared.config.Config.{Config}
 use Rattle.vm_types.specs.declared.names.BlockId.{BlockId}
@@ -9,12 +10,11 @@ use Rattle.vm_types.specs.declared.names.Seat.{Seat}
 use Rattle.vm_journal.specs.declared.entry.Entry.{Entry}
 use Rattle.pfn_database.specs.Frames.{Frames}
 use Rattle.pager_laws.proofs.FlightsBegun.{flight_blocks}
-use Rattle.pager_model.specs.Fits.{Result, told_of}
+use Rattle.pager_model.specs.Fits.{Result}
 use Rattle.pager_model.specs.Flights.{Flight, is_reading, open_flights, without_flight, writing}
 use Rattle.pager_model.specs.InOk.{IsLanding}
 use Rattle.pager_model.specs.Pager.{Pager}
 use Rattle.pager_model.specs.Run.{pager_after}
-use Rattle.pager_model.specs.Told.{Told}
 use Rattle.pager_model.specs.Transfers.{starts}
 use Rattle.pager_rules.proofs.Lists.{all_found, count_removed_yes}
 use Rattle.pager_rules.proofs.Quiet.{starts_once}
@@ -30,15 +30,15 @@ use Rattle.vm_state.specs.LiftsFit.{LiftFits, lift_seen, result_of}
 use Rattle.vm_state.specs.StateKept.{IsState, IsStoreOf, home_in, is_writing}
 use Rattle.vm_state.proofs.ReadLands.{none_there}
 
-module _ {B : Type 0} {content plan : B → Option (List ℕ)} {reads writes faults : B → ℕ} {tells tells_plan : Bool} {config : Config} {past : List Entry} {spare : ℕ} {store : StoreView B} {fields : Parts} {numbers : List ℕ}
-    (before : IsState content plan reads writes faults tells tells_plan config past spare store fields numbers) (seat : Seat) (lift : LiftView B)
-    (fits : LiftFits content plan reads writes faults tells tells_plan config past lift) (x : Flight) (lands : IsLanding past seat.0 lift.frame lift.start x) (is_out : x.direction ≡ writing)
+module _ {B : Type 0} {seen : B → BlockView} {tells : Tells} {config : Config} {past : List Entry} {spare : ℕ} {store : StoreView B} {fields : Parts} {numbers : List ℕ}
+    (before : IsState seen tells config past spare store fields numbers) (seat : Seat) (lift : LiftView B)
+    (fits : LiftFits seen tells config past lift) (x : Flight) (lands : IsLanding past seat.0 lift.frame lift.start x) (is_out : x.direction ≡ writing)
     (within : lift.frame < config.frames) where
   abbrev a : Pager
   a = pager_after config past
 
-  abbrev home : StoreView B → BlockId → Option Told
-  home s = home_in content plan reads writes faults config s
+  abbrev home : StoreView B → BlockId → Option BlockView
+  home s = home_in seen config s
 
   -- the lift is of the flight that lands
   same : fits.0 ≡ x
@@ -69,7 +69,7 @@ module _ {B : Type 0} {content plan : B → Option (List ℕ)} {reads writes fau
   pub block_out : slice_get store.blocks (number_in store.ids lift.block) ≡ Some None
   block_out =
       slice_get-get_or store.blocks (number_in store.ids lift.block) None below
-      ∙ ap Some (ap (held_at store.blocks) place ∙ none_there (told_of content plan reads writes faults) (block_at config store.blocks lift.block) away)
+      ∙ ap Some (ap (held_at store.blocks) place ∙ none_there seen (block_at config store.blocks lift.block) away)
 
   pub frame_there : lift.frame < length store.buffers
   frame_there = let count = before.places.buffers in omega (arith, within, count)
@@ -93,17 +93,17 @@ module _ {B : Type 0} {content plan : B → Option (List ℕ)} {reads writes fau
       flights = slice_set store.flights lift.frame None;
     }) is_write
 
-    block_back : PutsBlock lift.block (Some (told_of content plan reads writes faults lift.held)) (home store) (home store_after)
+    block_back : PutsBlock lift.block (Some (seen lift.held)) (home store) (home store_after)
     block_back =
-        subst (λ (n : ℕ). PutsBlock lift.block (Some (told_of content plan reads writes faults lift.held)) (home store) (λ (b : BlockId). option_map (told_of content plan reads writes faults) (block_at config (slice_set store.blocks n (Some lift.held)) b)))
+        subst (λ (n : ℕ). PutsBlock lift.block (Some (seen lift.held)) (home store) (λ (b : BlockId). option_map seen (block_at config (slice_set store.blocks n (Some lift.held)) b)))
         (sym place)
         (record {
-          here = ap (option_map (told_of content plan reads writes faults)) (block_set config store.blocks before.places.blocks lift.block known (Some lift.held));
-          others = λ c apart. ap (option_map (told_of content plan reads writes faults)) (block_kept config store.blocks before.places.blocks lift.block known (Some lift.held) c apart);
+          here = ap (option_map seen) (block_set config store.blocks before.places.blocks lift.block known (Some lift.held));
+          others = λ c apart. ap (option_map seen) (block_kept config store.blocks before.places.blocks lift.block known (Some lift.held) c apart);
         })
 
-    pub brings : (result : Result) → result_of lift.result ≡ result → BringsBlock tells tells_plan config past a lift.start result (home store) (home store_after)
-    brings result ended = record { lift = lift_seen content plan reads writes faults lift; fits = fits; start = refl; ended = ended; back = block_back }
+    pub brings : (result : Result) → result_of lift.result ≡ result → BringsBlock tells.content tells.plan config past a lift.start result (home store) (home store_after)
+    brings result ended = record { lift = lift_seen seen lift; fits = fits; start = refl; ended = ended; back = block_back }
 
     pub places : IsStoreOf config (without_flight lift.start (open_flights past)) store_after numbers
     places = record {

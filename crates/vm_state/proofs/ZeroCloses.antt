@@ -1,7 +1,8 @@
 -- ZERO closes, and its calls may be made.
-use Rattle.std.proofs.Common.{Result, ◌≡◌, ◌≢◌, ℕ, ◌+◌, ◌-◌, ◌≤◌, ◌<◌, ◌^◌, Bool, true, false, List, [], ◌∷◌, Option, Some, None, IsSome, IfSome, length, replicate, slice_get, slice_index_or, slice_set, refl, sym, ap, ◌∙◌, subst, arith, length-set}
+use Rattle.std.proofs.Common.{Result, ◌≡◌, ◌≢◌, ℕ, ◌+◌, ◌-◌, ◌≤◌, ◌<◌, ◌^◌, true, false, List, [], ◌∷◌, Option, Some, None, IsSome, IfSome, length, replicate, slice_get, slice_index_or, slice_set, refl, sym, ap, ◌∙◌, subst, arith, length-set}
 use Rattle.std.specs.Prelude.{Ok, Err, IsErr, OnOk, ◌↔◌}
 use Rattle.std.proofs.lemmas.Option.{slice_get-get_or}
+use Rattle.vm_types.specs.BlockView.{BlockView, Tells}
 use Rattle.vm_types.specs.WellFormed.{IsCode}
 use Rattle.vm_types.specs.PagePlaces.{changed_at}
 use Rattle.vm_types.specs.Ring.{Ring, choose}
@@ -52,8 +53,8 @@ pub slice_get_within_some : {X : Type 0} (xs : List X) (i : ℕ) → i < length 
 slice_get_within_some [] i less = absurd (omega (arith, less))
 slice_get_within_some (x ∷ xs) i less = (slice_index_or (x ∷ xs) i x, slice_get-get_or (x ∷ xs) i x less)
 
-module _ {B : Type 0} {content plan : B → Option (List ℕ)} {reads writes faults : B → ℕ} {tells tells_plan : Bool} {config : Config} {past : List Entry} {spare : ℕ} {store : StoreView B} {fields : Parts} {numbers : List ℕ}
-    (before : IsState content plan reads writes faults tells tells_plan config past spare store fields numbers) (seat : Seat) (address : Addr) (f : Pfn)
+module _ {B : Type 0} {seen : B → BlockView} {tells : Tells} {config : Config} {past : List Entry} {spare : ℕ} {store : StoreView B} {fields : Parts} {numbers : List ℕ}
+    (before : IsState seen tells config past spare store fields numbers) (seat : Seat) (address : Addr) (f : Pfn)
     (legal : IsLegal config past (pager_after config past) (record { seat = seat; what = what.Zero address f })) where
   abbrev a : Pager
   a = pager_after config past
@@ -123,11 +124,11 @@ module _ {B : Type 0} {content plan : B → Option (List ℕ)} {reads writes fau
       → (tables' : PageTables) (old : Pte) → tables'.procs ≡ (fields.tables).procs → ((q w : ℕ) → pte_in tables' q w ≡ changed_at (pte_in fields.tables) seat.0 v (Some (record { prot = old.prot; place = place.Valid false f })) q w) → pte_in fields.tables seat.0 v ≡ Some old
       → (pages' : ChargedTable) → pages'.procs ≡ (fields.pages).procs → ((q w : ℕ) → charged_at pages' q w ≡ changed_at (charged_at fields.pages) seat.0 v (Some (record { touched = false; lies = None; assigned = None })) q w)
       → (file' : Blocks) → file' ≡ record fields.file { charged = fields.file.charged + 1 }
-      → IsState content plan reads writes faults tells tells_plan config (record { seat = seat; what = what.Zero address f } ∷ past) (spare - 1) store'
+      → IsState seen tells config (record { seat = seat; what = what.Zero address f } ∷ past) (spare - 1) store'
       (record fields { frames = store'.frames; starts = store'.flights; processes = slice_set fields.processes seat.0 (record x { ring = ring; faults = x.faults + 1 }); tables = tables'; pages = pages'; file = file' }) numbers
   zero_closes same paid x read slot ring chosen taken frames' rows free modified store' store_is tables' old procs changed there pages' procs' changed' file' file_is =
       let is = row_is x read in
-      rw (taken, store_is, file_is) (subst (λ (starts : List (Option ℕ)). IsState content plan reads writes faults tells tells_plan config (record { seat = seat; what = what.Zero address f } ∷ past) (spare - 1)
+      rw (taken, store_is, file_is) (subst (λ (starts : List (Option ℕ)). IsState seen tells config (record { seat = seat; what = what.Zero address f } ∷ past) (spare - 1)
       (record store { frames = frames'; buffers = slice_set store.buffers f.0 (Some (replicate 512 0)) })
       (record fields { frames = frames'; starts = starts; processes = slice_set fields.processes seat.0 (record x { ring = placed x.ring x.limit v; faults = x.faults + 1 }); tables = tables'; pages = pages'; file = record fields.file { charged = fields.file.charged + 1 } }) numbers) same
       (closed before (record { seat = seat; what = what.Zero address f }) legal paid (record store { frames = frames'; buffers = slice_set store.buffers f.0 (Some (replicate 512 0)) }) _

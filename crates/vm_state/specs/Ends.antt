@@ -1,19 +1,19 @@
 -- The blocks that a state gives back at its end. This project's own.
-use Rattle.std.specs.Prelude.{◌≡◌, ℕ, Bool, true, List, Option, All}
+use Rattle.std.specs.Prelude.{◌≡◌, true, List, All}
+use Rattle.vm_types.specs.BlockView.{BlockView, Tells}
 use Rattle.vm_types.specs.declared.config.Config.{Config}
 use Rattle.vm_types.specs.declared.names.BlockId.{BlockId}
 use Rattle.vm_journal.specs.declared.entry.Entry.{Entry}
-use Rattle.pager_model.specs.Fits.{told_of}
-use Rattle.pager_model.specs.Told.{IsCountedBlock, Told}
+use Rattle.pager_model.specs.CountedBlock.{IsCountedBlock}
 use Rattle.pager_model.specs.WrittenBack.{IsUnwritten, IsWrittenBack}
 
--- a block by its name and what it tells: it is counted; and if blocks tell their content, it is written back, or has
+-- a block by its name and what is seen of it: it is counted; and if the bytes of blocks are known, it is written back, or has
 -- its first bytes
-pub record IsGivenBack (tells tells_plan : Bool) (config : Config) (past : List Entry) (b : BlockId) (x : Told) : Type 0 where
-  pub counted : IsCountedBlock tells_plan config past b x
-  pub written : tells ≡ true → IsWrittenBack config past (record { block = b; told = x }) × IsUnwritten config (record { block = b; told = x })
+pub record IsGivenBack (tells : Tells) (config : Config) (past : List Entry) (b : BlockId) (x : BlockView) : Type 0 where
+  pub counted : IsCountedBlock tells.plan config past b x
+  pub written : tells.content ≡ true → IsWrittenBack config past (record { block = b; seen = x }) × IsUnwritten config (record { block = b; seen = x })
 
-module _ {B : Type 0} (content plan : B → Option (List ℕ)) (reads writes faults : B → ℕ) where
-  abbrev pub AreGivenBack : Bool → Bool → Config → List Entry → List (BlockId × B) → Type 0
-  AreGivenBack tells tells_plan config past blocks =
-      All (λ (p : BlockId × B). IsGivenBack tells tells_plan config past p.0 (told_of content plan reads writes faults p.1)) blocks
+module _ {B : Type 0} (seen : B → BlockView) where
+  abbrev pub AreGivenBack : Tells → Config → List Entry → List (BlockId × B) → Type 0
+  AreGivenBack tells config past blocks =
+      All (λ (p : BlockId × B). IsGivenBack tells config past p.0 (seen p.1)) blocks

@@ -1,5 +1,6 @@
 -- A lift as the pager's rules see it, and that it fits the journal. This project's own.
-use Rattle.std.specs.Prelude.{ℕ, Bool, List, Option}
+use Rattle.std.specs.Prelude.{List}
+use Rattle.vm_types.specs.BlockView.{BlockView, Tells}
 use Rattle.vm_types.specs.declared.config.Config.{Config}
 use Rattle.vm_journal.specs.declared.entry.Entry.{Entry}
 use Rattle.pager_model.specs.Fits.{FitsLift, Lift, Result, lift_of, waiting, good, bad}
@@ -13,11 +14,11 @@ result_of Waiting = waiting
 result_of Good = good
 result_of (Bad before after) = bad before after
 
-module _ {B : Type 0} (content plan : B → Option (List ℕ)) (reads writes faults : B → ℕ) where
+module _ {B : Type 0} (seen : B → BlockView) where
   abbrev pub lift_seen : LiftView B → Lift
   lift_seen lift =
-      lift_of content plan reads writes faults
+      lift_of seen
       (record { start = lift.start; page = lift.page; frame = lift.frame; block = lift.block; is_read = lift.is_read; buffer = lift.buffer; held = lift.held; result = result_of lift.result })
 
-  abbrev pub LiftFits : Bool → Bool → Config → List Entry → LiftView B → Type 0
-  LiftFits tells tells_plan config past lift = FitsLift tells tells_plan config past (pager_after config past) (lift_seen lift)
+  abbrev pub LiftFits : Tells → Config → List Entry → LiftView B → Type 0
+  LiftFits tells config past lift = FitsLift tells.content tells.plan config past (pager_after config past) (lift_seen lift)

@@ -1,6 +1,7 @@
 -- What the landing of a carrier adds to the journal, when it may land, and what is counted of it. This project's own.
-use Rattle.std.specs.Prelude.{◌≡◌, ℕ, Bool, true, false, not, List, [], ◌∷◌, Option, count_by, nat_eq}
+use Rattle.std.specs.Prelude.{◌≡◌, ℕ, Bool, true, false, not, List, [], ◌∷◌, count_by, nat_eq}
 use Rattle.std.specs.List.{AllByRecursion}
+use Rattle.vm_types.specs.BlockView.{BlockView, Tells}
 use Rattle.vm_types.specs.declared.names.Page.{Page}
 use Rattle.vm_types.specs.declared.names.Seat.{Seat}
 use Rattle.vm_journal.specs.declared.entry.What.{What}
@@ -40,11 +41,11 @@ abbrev pub HaveOwnStarts : {B : Type 0} → List (LiftView B) → Type 0
 HaveOwnStarts [] = Unit {0}
 HaveOwnStarts {B} (lift ∷ lifts) = AllByRecursion (λ (other : LiftView B). nat_eq lift.start other.start ≡ false) lifts × HaveOwnStarts lifts
 
-module _ {B : Type 0} (content plan : B → Option (List ℕ)) (reads writes faults : B → ℕ) (tells tells_plan : Bool) where
+module _ {B : Type 0} (seen : B → BlockView) (tells : Tells) where
   -- it was carried and fits the journal, its transfer is one of the seat's, and its buffer is of the state's pool
   pub record MayLand (s : History) (seat : Seat) (lift : LiftView B) : Type 0 where
     pub carried : lift.result ≡ Waiting → ⊥
-    pub fits : LiftFits content plan reads writes faults tells tells_plan s.config s.past lift
+    pub fits : LiftFits seen tells s.config s.past lift
     pub own : (fits.0).seat ≡ seat.0
     pub pool : lift.pool ≡ s.pool
 

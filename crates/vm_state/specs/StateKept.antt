@@ -1,15 +1,14 @@
 -- What a state keeps. This project's own.
 use Rattle.std.specs.Prelude.{◌≡◌, ℕ, Bool, not, ◌+◌, ◌*◌, ◌^◌, ◌≤◌, ◌<◌, List, Option, Some, length, count_by, slice_get}
 use Rattle.std.specs.Option.{option_map}
+use Rattle.vm_types.specs.BlockView.{BlockView, Tells}
 use Rattle.vm_types.specs.Configuration.{IsWellFormed}
 use Rattle.vm_types.specs.declared.config.Config.{Config}
 use Rattle.vm_types.specs.declared.names.BlockId.{BlockId}
 use Rattle.vm_journal.specs.declared.entry.Entry.{Entry}
 use Rattle.pager_model.specs.Content.{ContentFits}
-use Rattle.pager_model.specs.Fits.{told_of}
 use Rattle.pager_model.specs.Flights.{Flight, is_reading, open_flights}
 use Rattle.pager_model.specs.Run.{IsRun, pager_after}
-use Rattle.pager_model.specs.Told.{Told}
 use Rattle.frame_store.specs.Blocks.{block_at, blocks_of, held_at}
 use Rattle.frame_store.specs.StoreView.{StoreView}
 use Rattle.state_fits.specs.Entries.{section_page_number}
@@ -30,18 +29,18 @@ pub record IsStoreOf {B : Type 0} (config : Config) (flights : List Flight) (sto
   pub left : 16 * (length config.procs + 2) ≤ store.left + count_by is_writing flights
   pub firsts : (s : ℕ) → s < length config.sections → slice_get numbers s ≡ Some (section_page_number config s 0)
 
-module _ {B : Type 0} (content plan : B → Option (List ℕ)) (reads writes faults : B → ℕ) where
-  -- what a block at home tells
-  abbrev pub home_in : Config → StoreView B → BlockId → Option Told
-  home_in config store b = option_map (told_of content plan reads writes faults) (block_at config store.blocks b)
+module _ {B : Type 0} (seen : B → BlockView) where
+  -- what is seen of a block at home
+  abbrev pub home_in : Config → StoreView B → BlockId → Option BlockView
+  home_in config store b = option_map seen (block_at config store.blocks b)
 
   -- the entries are a run; the parts stand for the state that it leads to; buffers and blocks have the bytes that
   -- they should; and what is due is paid for
-  pub record IsState (tells tells_plan : Bool) (config : Config) (past : List Entry) (spare : ℕ) (store : StoreView B) (fields : Parts) (numbers : List ℕ) : Type 0 where
+  pub record IsState (tells : Tells) (config : Config) (past : List Entry) (spare : ℕ) (store : StoreView B) (fields : Parts) (numbers : List ℕ) : Type 0 where
     pub formed : IsWellFormed config
     pub run : IsRun config past
     pub short : length past + spare ≤ 2 ^ 48
     pub paid : owed past ≤ spare
     pub parts : PartsFit config past (pager_after config past) fields
-    pub bytes : ContentFits tells tells_plan config past (pager_after config past) (held_at store.buffers) (home_in config store)
+    pub bytes : ContentFits tells.content tells.plan config past (pager_after config past) (held_at store.buffers) (home_in config store)
     pub places : IsStoreOf config (open_flights past) store numbers

@@ -63,12 +63,11 @@ impl<B: Block> Carrier<B> {
     pub fn carry(&mut self)
         requires { AllByRecursion (λ (lift : LiftView B). lift.result ≡ Carried.Waiting) self.old.lifts }
         ensures seat { self.new.seat ≡ self.old.seat }
-        ensures carried { AreCarried B.tells_content B.content B.plan B.reads B.writes B.faults
-            self.old.lifts self.new.lifts }
+        ensures carried { AreCarried B.seen B.tells self.old.lifts self.new.lifts }
         ensures fits { (config : Config) (past : List Entry)
-            → AllByRecursion (LiftFits B.content B.plan B.reads B.writes B.faults B.tells_content B.tells_plan config past)
+            → AllByRecursion (LiftFits B.seen B.tells config past)
             self.old.lifts
-            → AllByRecursion (LiftFits B.content B.plan B.reads B.writes B.faults B.tells_content B.tells_plan config past)
+            → AllByRecursion (LiftFits B.seen B.tells config past)
             self.new.lifts }
     {
         for n in 0..self.lifts.len() {

@@ -15,8 +15,7 @@ impl<B: Block> State<B> {
     /// The lifts of a carrier land, in their order, each failed read followed by the reuse of its frame;
     /// the carrier is empty afterwards. Doesn't allocate.
     pub fn land(&mut self, carrier: &mut Carrier<B>) -> Landed
-        requires { CarrierMayLand B.content B.plan B.reads B.writes B.faults B.tells_content B.tells_plan
-            self.old carrier.old }
+        requires { CarrierMayLand B.seen B.tells self.old carrier.old }
         ensures state { self.new ≡ landed_each carrier.old.seat carrier.old.lifts self.old }
         ensures calm { awaits_reuse self.new.past ≡ false }
         ensures carrier { carrier.new ≡ record carrier.old { lifts = [] } }
@@ -43,10 +42,8 @@ impl<B: Block> State<B> {
     #[inline(always)]
     fn land_lift(&mut self, seat: Seat, lift: Lift<B>) -> bool
         requires calm { awaits_reuse self.old.past ≡ false }
-        requires may { MayLand B.content B.plan B.reads B.writes B.faults B.tells_content B.tells_plan
-            self.old seat lift }
-        ensures landed { HasLanded B.content B.plan B.reads B.writes B.faults B.tells_content B.tells_plan
-            seat lift self.old self.new }
+        requires may { MayLand B.seen B.tells self.old seat lift }
+        ensures landed { HasLanded B.seen B.tells seat lift self.old self.new }
         ensures failed { result ≡ lift_failed lift }
     {
         match lift.result() {
@@ -66,11 +63,9 @@ impl<B: Block> State<B> {
     #[inline(always)]
     fn land_good(&mut self, seat: Seat, lift: Lift<B>)
         requires calm { awaits_reuse self.old.past ≡ false }
-        requires may { MayLand B.content B.plan B.reads B.writes B.faults B.tells_content B.tells_plan
-            self.old seat lift }
+        requires may { MayLand B.seen B.tells self.old seat lift }
         requires good { lift.result ≡ Carried.Good }
-        ensures { HasLanded B.content B.plan B.reads B.writes B.faults B.tells_content B.tells_plan
-            seat lift self.old self.new }
+        ensures { HasLanded B.seen B.tells seat lift self.old self.new }
     {
         // The proof learns here what the state keeps.
         let _ = &self.config;
@@ -83,11 +78,9 @@ impl<B: Block> State<B> {
     /// One lift lands badly; a read's frame is reused at once.
     fn land_bad(&mut self, seat: Seat, lift: Lift<B>, before: u64, after: u64)
         requires calm { awaits_reuse self.old.past ≡ false }
-        requires may { MayLand B.content B.plan B.reads B.writes B.faults B.tells_content B.tells_plan
-            self.old seat lift }
+        requires may { MayLand B.seen B.tells self.old seat lift }
         requires bad { lift.result ≡ Carried.Bad before after }
-        ensures { HasLanded B.content B.plan B.reads B.writes B.faults B.tells_content B.tells_plan
-            seat lift self.old self.new }
+        ensures { HasLanded B.seen B.tells seat lift self.old self.new }
     {
         // The proof learns here what the state keeps.
         let _ = &self.config;

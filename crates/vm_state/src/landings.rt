@@ -15,8 +15,7 @@ impl<B: Block> State<B> {
     /// it was for one.
     pub fn in_ok(&mut self, seat: Seat, lift: Lift<B>)
         requires may { MayAdd self.old (entry_by seat (landing_of lift)) }
-        requires fits { LiftFits B.content B.plan B.reads B.writes B.faults B.tells_content B.tells_plan
-            self.old.config self.old.past lift }
+        requires fits { LiftFits B.seen B.tells self.old.config self.old.past lift }
         requires read { lift.is_read ≡ true }
         requires good { lift.result ≡ Carried.Good }
         requires pool { lift.pool ≡ self.old.pool }
@@ -33,8 +32,7 @@ impl<B: Block> State<B> {
     /// A read fails: its block failed. The frame keeps the page until it is reused.
     pub fn in_fail(&mut self, seat: Seat, lift: Lift<B>)
         requires may { MayAdd self.old (entry_by seat (landing_of lift)) }
-        requires fits { LiftFits B.content B.plan B.reads B.writes B.faults B.tells_content B.tells_plan
-            self.old.config self.old.past lift }
+        requires fits { LiftFits B.seen B.tells self.old.config self.old.past lift }
         requires read { lift.is_read ≡ true }
         requires bad { HasFailed lift.result }
         requires pool { lift.pool ≡ self.old.pool }

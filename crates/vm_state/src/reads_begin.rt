@@ -33,11 +33,10 @@ impl<B: Block> State<B> {
         requires room { CanTake carrier.old seat }
         ensures state { self.new ≡ added self.old (entry_by seat (What.In f block role)) }
         ensures lift { (lift : LiftView B)
-            × HasBegun B.content B.plan B.reads B.writes B.faults B.tells_content B.tells_plan
-            self.old seat (What.In f block role) f.0 block true lift
+            × HasBegun B.seen B.tells self.old seat (What.In f block role) f.0 block true lift
             × (carrier.new ≡ taking carrier.old lift) }
-        ensures fit { LiftsFit B.content B.plan B.reads B.writes B.faults B.tells_content B.tells_plan self.old carrier.old
-            → LiftsFit B.content B.plan B.reads B.writes B.faults B.tells_content B.tells_plan self.new carrier.new }
+        ensures fit { LiftsFit B.seen B.tells self.old carrier.old
+            → LiftsFit B.seen B.tells self.new carrier.new }
     {
         let lift = self.lift_in(seat, f, block, role);
         carrier.take(lift);
@@ -48,11 +47,10 @@ impl<B: Block> State<B> {
     fn lift_in(&mut self, seat: Seat, f: Pfn, block: BlockId, role: Role) -> Lift<B>
         requires { MayAdd self.old (entry_by seat (What.In f block role)) }
         ensures state { self.new ≡ added self.old (entry_by seat (What.In f block role)) }
-        ensures lift { HasBegun B.content B.plan B.reads B.writes B.faults B.tells_content B.tells_plan
-            self.old seat (What.In f block role) f.0 block true result }
+        ensures lift { HasBegun B.seen B.tells self.old seat (What.In f block role) f.0 block true result }
         ensures others { (lift : LiftView B)
-            → LiftFits B.content B.plan B.reads B.writes B.faults B.tells_content B.tells_plan self.old.config self.old.past lift
-            → LiftFits B.content B.plan B.reads B.writes B.faults B.tells_content B.tells_plan self.new.config self.new.past lift }
+            → LiftFits B.seen B.tells self.old.config self.old.past lift
+            → LiftFits B.seen B.tells self.new.config self.new.past lift }
     {
         let page = read_page(&self.config, &self.sections, role).unwrap();
         let number = global_number(&self.firsts, page);

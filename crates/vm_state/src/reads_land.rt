@@ -18,8 +18,7 @@ impl<B: Block> State<B> {
     /// A read fails, whose block failed; its count of failures was `before` and is `after`.
     pub(crate) fn in_fail_counted(&mut self, seat: Seat, lift: Lift<B>, before: u64, after: u64)
         requires may { MayAdd self.old (entry_by seat (What.InFail (record { 0 = lift.frame }) lift.start before after)) }
-        requires fits { LiftFits B.content B.plan B.reads B.writes B.faults B.tells_content B.tells_plan
-            self.old.config self.old.past lift }
+        requires fits { LiftFits B.seen B.tells self.old.config self.old.past lift }
         requires bad { lift.result ≡ Carried.Bad before after }
         requires pool { lift.pool ≡ self.old.pool }
         ensures { self.new ≡ added self.old (entry_by seat (What.InFail (record { 0 = lift.frame }) lift.start before after)) }
@@ -47,8 +46,7 @@ impl<B: Block> State<B> {
     /// A read for a neighbour lands well.
     pub(crate) fn in_ok_near(&mut self, seat: Seat, lift: Lift<B>)
         requires may { MayAdd self.old (entry_by seat (What.InOk (record { 0 = lift.frame }) lift.start)) }
-        requires fits { LiftFits B.content B.plan B.reads B.writes B.faults B.tells_content B.tells_plan
-            self.old.config self.old.past lift }
+        requires fits { LiftFits B.seen B.tells self.old.config self.old.past lift }
         requires good { lift.result ≡ Carried.Good }
         requires pool { lift.pool ≡ self.old.pool }
         requires near { (page : Page) × IsReadAs self.old.past lift.start (Role.Near page) }

@@ -22,8 +22,7 @@ impl<B: Block> State<B> {
     /// ring offers.
     pub(crate) fn in_ok_fault(&mut self, seat: Seat, lift: Lift<B>, q: Proc, a: Addr)
         requires may { MayAdd self.old (entry_by seat (What.InOk (record { 0 = lift.frame }) lift.start)) }
-        requires fits { LiftFits B.content B.plan B.reads B.writes B.faults B.tells_content B.tells_plan
-            self.old.config self.old.past lift }
+        requires fits { LiftFits B.seen B.tells self.old.config self.old.past lift }
         requires good { lift.result ≡ Carried.Good }
         requires pool { lift.pool ≡ self.old.pool }
         requires fault { IsReadAs self.old.past lift.start (Role.Fault q a) }
@@ -63,8 +62,7 @@ impl<B: Block> State<B> {
     /// whose swap block it came from.
     pub(crate) fn in_ok_come(&mut self, seat: Seat, lift: Lift<B>, q: Proc, a: Addr)
         requires may { MayAdd self.old (entry_by seat (What.InOk (record { 0 = lift.frame }) lift.start)) }
-        requires fits { LiftFits B.content B.plan B.reads B.writes B.faults B.tells_content B.tells_plan
-            self.old.config self.old.past lift }
+        requires fits { LiftFits B.seen B.tells self.old.config self.old.past lift }
         requires good { lift.result ≡ Carried.Good }
         requires pool { lift.pool ≡ self.old.pool }
         requires come { IsReadAs self.old.past lift.start (Role.Come q a) }

@@ -15,13 +15,13 @@ impl<B: Block> State<B> {
     ghost use Rattle.vm_state.specs.History.{MayAdd, MayAnswer, added, entry_by};
 
     /// Answers a reference of the seat's process whose page is valid. Returns the reply that its entry
-    /// shows, which is the flat machine's if blocks tell their content.
+    /// shows, which is the flat machine's if the bytes of blocks are known.
     #[inline(always)]
     pub fn done(&mut self, seat: Seat, r: Ref) -> Reply
         requires { MayAnswer self.old seat r }
         ensures added { self.new ≡ added self.old (entry_by seat (What.Done r result)) }
         ensures answers { Answers r.op result }
-        ensures right { B.tells_content ≡ true
+        ensures right { B.tells.content ≡ true
             → result ≡ flat_reply self.old.config (flat_after self.old.config self.old.past) seat.0 r }
     {
         let look = self.tables.look(Proc(seat.0), r.addr.0 / 512);

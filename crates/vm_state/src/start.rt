@@ -3,7 +3,6 @@ ghost use Rattle.std.specs.Option.{option_map};
 ghost use Rattle.vm_types.specs.Configuration.{IsWellFormed, section_pages};
 ghost use Rattle.vm_types.specs.declared.names.BlockId.{BlockId};
 ghost use Rattle.page_tables.specs.PageTables.{entry_of};
-ghost use Rattle.pager_model.specs.Fits.{told_of};
 ghost use Rattle.pager_model.specs.Maps.{first_map};
 ghost use Rattle.frame_store.specs.Blocks.{blocks_of};
 ghost use Rattle.state_fits.specs.Opening.{first_pte, unspoken};
@@ -88,8 +87,7 @@ impl<B: Block> State<B> {
     ) -> Result<State<B>, NoMemory>
         requires formed { IsWellFormed config }
         requires names { map (λ (p : BlockId × B). p.0) blocks.items ≡ blocks_of config }
-        requires made { All (λ (p : BlockId × B). IsMade B.tells_content B.tells_plan config p.0
-            (told_of B.content B.plan B.reads B.writes B.faults p.1)) blocks.items }
+        requires made { All (λ (p : BlockId × B). IsMade B.tells config p.0 (B.seen p.1)) blocks.items }
         ensures { IfOk result (λ s. s ≡ record { config = config; past = []; spare = 0; pool = s.pool; halted = false; keeps = true }) }
     {
         State::start_with(alloc, config, blocks, RunRecord::new(alloc))
@@ -106,8 +104,7 @@ impl<B: Block> State<B> {
     ) -> Result<State<B>, NoMemory>
         requires formed { IsWellFormed config }
         requires names { map (λ (p : BlockId × B). p.0) blocks.items ≡ blocks_of config }
-        requires made { All (λ (p : BlockId × B). IsMade B.tells_content B.tells_plan config p.0
-            (told_of B.content B.plan B.reads B.writes B.faults p.1)) blocks.items }
+        requires made { All (λ (p : BlockId × B). IsMade B.tells config p.0 (B.seen p.1)) blocks.items }
         ensures { IfOk result (λ s. s ≡ record { config = config; past = []; spare = 0; pool = s.pool; halted = false; keeps = false }) }
     {
         State::start_with(alloc, config, blocks, RunRecord::counting(alloc))
@@ -122,8 +119,7 @@ impl<B: Block> State<B> {
     ) -> Result<State<B>, NoMemory>
         requires formed { IsWellFormed config }
         requires names { map (λ (p : BlockId × B). p.0) blocks.items ≡ blocks_of config }
-        requires made { All (λ (p : BlockId × B). IsMade B.tells_content B.tells_plan config p.0
-            (told_of B.content B.plan B.reads B.writes B.faults p.1)) blocks.items }
+        requires made { All (λ (p : BlockId × B). IsMade B.tells config p.0 (B.seen p.1)) blocks.items }
         requires empty { journal ≡ record { entries = []; spare = 0; keeps = journal.keeps } }
         ensures { IfOk result (λ s. s ≡ record { config = config; past = []; spare = 0; pool = s.pool; halted = false; keeps = journal.keeps }) }
     {

@@ -49,8 +49,7 @@ impl<B: Block> Model for State<B> {
       keeps = s.journal.keeps;
     } };
 
-    ghost invariant = { λ s. IsState B.content B.plan B.reads B.writes B.faults B.tells_content B.tells_plan
-        s.config (reverse s.journal.entries) s.journal.spare s.store
+    ghost invariant = { λ s. IsState B.seen B.tells s.config (reverse s.journal.entries) s.journal.spare s.store
         (record {
           frames = (s.store).frames;
           starts = (s.store).flights;

@@ -22,8 +22,7 @@ impl<B: Block> State<B> {
     /// A write has gone well.
     pub fn out_ok(&mut self, seat: Seat, lift: Lift<B>)
         requires may { MayAdd self.old (entry_by seat (landing_of lift)) }
-        requires fits { LiftFits B.content B.plan B.reads B.writes B.faults B.tells_content B.tells_plan
-            self.old.config self.old.past lift }
+        requires fits { LiftFits B.seen B.tells self.old.config self.old.past lift }
         requires write { lift.is_read ≡ false }
         requires good { lift.result ≡ Carried.Good }
         requires pool { lift.pool ≡ self.old.pool }
@@ -35,8 +34,7 @@ impl<B: Block> State<B> {
     /// A write has failed.
     pub fn out_fail(&mut self, seat: Seat, lift: Lift<B>)
         requires may { MayAdd self.old (entry_by seat (landing_of lift)) }
-        requires fits { LiftFits B.content B.plan B.reads B.writes B.faults B.tells_content B.tells_plan
-            self.old.config self.old.past lift }
+        requires fits { LiftFits B.seen B.tells self.old.config self.old.past lift }
         requires write { lift.is_read ≡ false }
         requires bad { HasFailed lift.result }
         requires pool { lift.pool ≡ self.old.pool }
@@ -51,8 +49,7 @@ impl<B: Block> State<B> {
     /// A write has landed well. The page lies in the block, unless it was modified meanwhile.
     fn out_ok_well(&mut self, seat: Seat, lift: Lift<B>)
         requires may { MayAdd self.old (entry_by seat (What.OutOk (record { 0 = lift.frame }) lift.start)) }
-        requires fits { LiftFits B.content B.plan B.reads B.writes B.faults B.tells_content B.tells_plan
-            self.old.config self.old.past lift }
+        requires fits { LiftFits B.seen B.tells self.old.config self.old.past lift }
         requires good { lift.result ≡ Carried.Good }
         requires pool { lift.pool ≡ self.old.pool }
         ensures { self.new ≡ added self.old (entry_by seat (What.OutOk (record { 0 = lift.frame }) lift.start)) }
@@ -83,8 +80,7 @@ impl<B: Block> State<B> {
     /// A write has failed; its block's count of failures was `before` and is `after`.
     fn out_fail_counted(&mut self, seat: Seat, lift: Lift<B>, before: u64, after: u64)
         requires may { MayAdd self.old (entry_by seat (What.OutFail (record { 0 = lift.frame }) lift.start before after)) }
-        requires fits { LiftFits B.content B.plan B.reads B.writes B.faults B.tells_content B.tells_plan
-            self.old.config self.old.past lift }
+        requires fits { LiftFits B.seen B.tells self.old.config self.old.past lift }
         requires bad { lift.result ≡ Carried.Bad before after }
         requires pool { lift.pool ≡ self.old.pool }
         ensures { self.new ≡ added self.old (entry_by seat (What.OutFail (record { 0 = lift.frame }) lift.start before after)) }

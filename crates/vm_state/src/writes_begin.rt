@@ -25,11 +25,10 @@ impl<B: Block> State<B> {
         requires room { CanTake carrier.old seat }
         ensures state { self.new ≡ added self.old (entry_by seat (What.Out f block)) }
         ensures lift { (lift : LiftView B)
-            × HasBegun B.content B.plan B.reads B.writes B.faults B.tells_content B.tells_plan
-            self.old seat (What.Out f block) f.0 block false lift
+            × HasBegun B.seen B.tells self.old seat (What.Out f block) f.0 block false lift
             × (carrier.new ≡ taking carrier.old lift) }
-        ensures fit { LiftsFit B.content B.plan B.reads B.writes B.faults B.tells_content B.tells_plan self.old carrier.old
-            → LiftsFit B.content B.plan B.reads B.writes B.faults B.tells_content B.tells_plan self.new carrier.new }
+        ensures fit { LiftsFit B.seen B.tells self.old carrier.old
+            → LiftsFit B.seen B.tells self.new carrier.new }
     {
         let lift = self.lift_out(seat, f, block);
         carrier.take(lift);
@@ -40,11 +39,10 @@ impl<B: Block> State<B> {
     fn lift_out(&mut self, seat: Seat, f: Pfn, block: BlockId) -> Lift<B>
         requires { MayAdd self.old (entry_by seat (What.Out f block)) }
         ensures state { self.new ≡ added self.old (entry_by seat (What.Out f block)) }
-        ensures lift { HasBegun B.content B.plan B.reads B.writes B.faults B.tells_content B.tells_plan
-            self.old seat (What.Out f block) f.0 block false result }
+        ensures lift { HasBegun B.seen B.tells self.old seat (What.Out f block) f.0 block false result }
         ensures others { (lift : LiftView B)
-            → LiftFits B.content B.plan B.reads B.writes B.faults B.tells_content B.tells_plan self.old.config self.old.past lift
-            → LiftFits B.content B.plan B.reads B.writes B.faults B.tells_content B.tells_plan self.new.config self.new.past lift }
+            → LiftFits B.seen B.tells self.old.config self.old.past lift
+            → LiftFits B.seen B.tells self.new.config self.new.past lift }
     {
         let start = self.journal.len() + 1;
         let kept = self.store.frames().row(f);

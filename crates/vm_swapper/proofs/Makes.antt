@@ -1,5 +1,6 @@
 -- What a step leaves, by what was given for it.
-use Rattle.std.proofs.Common.{◌≡◌, ℕ, Bool, List, [], ◌∷◌, Option, refl, sym, subst, arith}
+use Rattle.std.proofs.Common.{◌≡◌, List, [], ◌∷◌, refl, sym, subst, arith}
+use Rattle.vm_types.specs.BlockView.{BlockView, Tells}
 use Rattle.vm_types.specs.declared.names.Seat.{Seat}
 use Rattle.vm_journal.specs.declared.entry.What.{What}
 use Rattle.pager_model.specs.Given.{given}
@@ -34,19 +35,19 @@ never_room swap_more same = cc
 never_room swap_settled same = cc
 never_room (swap_again reason) same = cc
 
-module _ {B : Type 0} {content plan : B → Option (List ℕ)} {reads writes faults : B → ℕ} {tells tells_plan : Bool} (s after : History) (seat : Seat) where
-  pub swaps_as : {swap : Swap} {old new : CarrierView B} (g g' : GivenSwap) → g ≡ g' → Swaps content plan reads writes faults tells tells_plan s after seat g' swap old new → Swaps content plan reads writes faults tells tells_plan s after seat g swap old new
-  swaps_as {swap} {old} {new} g g' same is = subst (λ (x : GivenSwap). Swaps content plan reads writes faults tells tells_plan s after seat x swap old new) (sym same) is
+module _ {B : Type 0} {seen : B → BlockView} {tells : Tells} (s after : History) (seat : Seat) where
+  pub swaps_as : {swap : Swap} {old new : CarrierView B} (g g' : GivenSwap) → g ≡ g' → Swaps seen tells s after seat g' swap old new → Swaps seen tells s after seat g swap old new
+  swaps_as {swap} {old} {new} g g' same is = subst (λ (x : GivenSwap). Swaps seen tells s after seat x swap old new) (sym same) is
 
   -- nothing is made
-  pub waits : (reason : Reason) (c : CarrierView B) (g : GivenSwap) → g ≡ given [] (swap_again reason) → after ≡ s → Swaps content plan reads writes faults tells tells_plan s after seat g (Again (again_of reason)) c c
+  pub waits : (reason : Reason) (c : CarrierView B) (g : GivenSwap) → g ≡ given [] (swap_again reason) → after ≡ s → Swaps seen tells s after seat g (Again (again_of reason)) c c
   waits reason c g same made = swaps_as g (given [] (swap_again reason)) same (record { history = made; answer = refl; carrier = refl })
 
   -- an entry is made, and the call is made again
-  pub goes_on : (w : What) (c : CarrierView B) (g : GivenSwap) → g ≡ given (w ∷ []) swap_more → after ≡ added s (entry_by seat w) → Swaps content plan reads writes faults tells tells_plan s after seat g More c c
+  pub goes_on : (w : What) (c : CarrierView B) (g : GivenSwap) → g ≡ given (w ∷ []) swap_more → after ≡ added s (entry_by seat w) → Swaps seen tells s after seat g More c c
   goes_on w c g same made = swaps_as g (given (w ∷ []) swap_more) same (record { history = made; answer = refl; carrier = refl })
 
   -- transfers begin
-  pub carries : (made : List What) (old new : CarrierView B) (g : GivenSwap) → g ≡ given made swap_carry → after ≡ added_each seat made s → HasLifts content plan reads writes faults tells tells_plan after seat made new
-      → Swaps content plan reads writes faults tells tells_plan s after seat g Carry old new
+  pub carries : (made : List What) (old new : CarrierView B) (g : GivenSwap) → g ≡ given made swap_carry → after ≡ added_each seat made s → HasLifts seen tells after seat made new
+      → Swaps seen tells s after seat g Carry old new
   carries made old new g same is lifts = swaps_as g (given made swap_carry) same (record { history = is; answer = refl; carrier = lifts })

@@ -1,6 +1,7 @@
 -- What a step of a process that leaves, or comes back, makes and returns is what the swapper's rule gives. This project's
 -- own.
-use Rattle.std.specs.Prelude.{◌≡◌, ℕ, Bool, ◌+◌, ◌≤◌, List, Option}
+use Rattle.std.specs.Prelude.{◌≡◌, ◌+◌, ◌≤◌, List}
+use Rattle.vm_types.specs.BlockView.{BlockView, Tells}
 use Rattle.vm_types.specs.declared.names.Seat.{Seat}
 use Rattle.vm_journal.specs.declared.entry.What.{What}
 use Rattle.pager_model.specs.Swap.{GivenSwap, SwapIs, SwapWhy as Reason, swap_again, swap_carry, swap_in_flight, swap_modified_full, swap_more, swap_no_frame, swap_settled}
@@ -31,14 +32,14 @@ pub record MaySwap (s : History) (seat : Seat) (g : GivenSwap) : Type 0 where
   pub legal : AreLegal s.config s.past seat.0 g.made
   pub room : owed s.past + 64 ≤ s.spare
 
-module _ {B : Type 0} (content plan : B → Option (List ℕ)) (reads writes faults : B → ℕ) where
+module _ {B : Type 0} (seen : B → BlockView) where
   -- with Carry a carrier has the lifts of the transfers that were begun; with any other answer it is as before
-  abbrev pub IsCarrying : Bool → Bool → History → Seat → List What → Swap → CarrierView B → CarrierView B → Type 0
-  IsCarrying tells tells_plan s seat made Carry old new = HasLifts content plan reads writes faults tells tells_plan s seat made new
-  IsCarrying tells tells_plan s seat made other old new = new ≡ old
+  abbrev pub IsCarrying : Tells → History → Seat → List What → Swap → CarrierView B → CarrierView B → Type 0
+  IsCarrying tells s seat made Carry old new = HasLifts seen tells s seat made new
+  IsCarrying tells s seat made other old new = new ≡ old
 
   -- what a step leaves of the history and of the seat's carrier, and what it returns
-  pub record Swaps (tells tells_plan : Bool) (before after : History) (seat : Seat) (g : GivenSwap) (swap : Swap) (old new : CarrierView B) : Type 0 where
+  pub record Swaps (tells : Tells) (before after : History) (seat : Seat) (g : GivenSwap) (swap : Swap) (old new : CarrierView B) : Type 0 where
     pub history : after ≡ added_each seat g.made before
     pub answer : swap ≡ returned g.answer
-    pub carrier : IsCarrying tells tells_plan after seat g.made swap old new
+    pub carrier : IsCarrying tells after seat g.made swap old new

@@ -34,8 +34,7 @@ pub fn come_some<B: Block>(
     ensures room { (result ≡ Swap.Room) ↔ (state.old.spare < owed state.old.past + 64) }
     ensures same { result ≡ Swap.Room → (state.new ≡ state.old) × (carrier.new ≡ carrier.old) }
     ensures gives { owed state.old.past + 64 ≤ state.old.spare
-        → Swaps B.content B.plan B.reads B.writes B.faults B.tells_content B.tells_plan
-        state.old state.new seat (come_gives state.old.config state.old.past (pager state.old) p.0) result
+        → Swaps B.seen B.tells state.old state.new seat (come_gives state.old.config state.old.past (pager state.old) p.0) result
         carrier.old carrier.new }
 {
     state.run_law();
@@ -50,8 +49,7 @@ fn come<B: Block>(state: &mut State<B>, seat: Seat, p: Proc, carrier: &mut Carri
     requires process { p.0 < length state.old.config.procs }
     requires may { MaySwap state.old seat (at_come state.old p.0) }
     requires carrier { carrier.old ≡ empty seat }
-    ensures { Swaps B.content B.plan B.reads B.writes B.faults B.tells_content B.tells_plan
-        state.old state.new seat (at_come state.old p.0) result carrier.old carrier.new }
+    ensures { Swaps B.seen B.tells state.old state.new seat (at_come state.old p.0) result carrier.old carrier.new }
 {
     match first(state, p, Look::OnFree) {
         Some(n) => back_at(state, seat, p, n, carrier),
@@ -64,8 +62,7 @@ fn come_out<B: Block>(state: &mut State<B>, seat: Seat, p: Proc, carrier: &mut C
     requires process { p.0 < length state.old.config.procs }
     requires may { MaySwap state.old seat (at_out state.old p.0) }
     requires carrier { carrier.old ≡ empty seat }
-    ensures { Swaps B.content B.plan B.reads B.writes B.faults B.tells_content B.tells_plan
-        state.old state.new seat (at_out state.old p.0) result carrier.old carrier.new }
+    ensures { Swaps B.seen B.tells state.old state.new seat (at_out state.old p.0) result carrier.old carrier.new }
 {
     match first(state, p, Look::Out) {
         Some(n) => read_from(state, seat, p, n, carrier),
@@ -83,8 +80,7 @@ fn back_at<B: Block>(
 ) -> Swap
     requires may { MaySwap state.old seat (at_back state.old p.0 n) }
     requires carrier { carrier.old ≡ empty seat }
-    ensures { Swaps B.content B.plan B.reads B.writes B.faults B.tells_content B.tells_plan
-        state.old state.new seat (at_back state.old p.0 n) result carrier.old carrier.new }
+    ensures { Swaps B.seen B.tells state.old state.new seat (at_back state.old p.0 n) result carrier.old carrier.new }
 {
     state.run_law();
     if let Some(page) = state.swapped(p, n) {
@@ -114,8 +110,7 @@ fn read_from<B: Block>(
     requires slot { n < 1024 }
     requires may { MaySwap state.old seat (at_reads state.old p.0 n) }
     requires carrier { carrier.old ≡ empty seat }
-    ensures { Swaps B.content B.plan B.reads B.writes B.faults B.tells_content B.tells_plan
-        state.old state.new seat (at_reads state.old p.0 n) result carrier.old carrier.new }
+    ensures { Swaps B.seen B.tells state.old state.new seat (at_reads state.old p.0 n) result carrier.old carrier.new }
 {
     state.run_law();
     let free = state.free_len();
@@ -137,8 +132,7 @@ fn turn_resident<B: Block>(
 ) -> Swap
     requires may { MaySwap state.old seat (at_resident state.old p.0) }
     requires carrier { carrier.old ≡ empty seat }
-    ensures { Swaps B.content B.plan B.reads B.writes B.faults B.tells_content B.tells_plan
-        state.old state.new seat (at_resident state.old p.0) result carrier.old carrier.new }
+    ensures { Swaps B.seen B.tells state.old state.new seat (at_resident state.old p.0) result carrier.old carrier.new }
 {
     if state.has_come(p) {
         Swap::Again(SwapWhy::InFlight)

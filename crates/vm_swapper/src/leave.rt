@@ -35,8 +35,7 @@ pub fn leave_some<B: Block>(
     ensures room { (result ≡ Swap.Room) ↔ (state.old.spare < owed state.old.past + 64) }
     ensures same { result ≡ Swap.Room → (state.new ≡ state.old) × (carrier.new ≡ carrier.old) }
     ensures gives { owed state.old.past + 64 ≤ state.old.spare
-        → Swaps B.content B.plan B.reads B.writes B.faults B.tells_content B.tells_plan
-        state.old state.new seat (leave_gives state.old.config state.old.past (pager state.old) p.0) result
+        → Swaps B.seen B.tells state.old state.new seat (leave_gives state.old.config state.old.past (pager state.old) p.0) result
         carrier.old carrier.new }
 {
     state.run_law();
@@ -51,8 +50,7 @@ fn leave<B: Block>(state: &mut State<B>, seat: Seat, p: Proc, carrier: &mut Carr
     requires process { p.0 < length state.old.config.procs }
     requires may { MaySwap state.old seat (at_leave state.old p.0) }
     requires carrier { carrier.old ≡ empty seat }
-    ensures { Swaps B.content B.plan B.reads B.writes B.faults B.tells_content B.tells_plan
-        state.old state.new seat (at_leave state.old p.0) result carrier.old carrier.new }
+    ensures { Swaps B.seen B.tells state.old state.new seat (at_leave state.old p.0) result carrier.old carrier.new }
 {
     match first(state, p, Look::Shared) {
         Some(n) => evict_at(state, seat, p, n, carrier),
@@ -70,8 +68,7 @@ fn leave_private<B: Block>(
     requires process { p.0 < length state.old.config.procs }
     requires may { MaySwap state.old seat (at_private state.old p.0) }
     requires carrier { carrier.old ≡ empty seat }
-    ensures { Swaps B.content B.plan B.reads B.writes B.faults B.tells_content B.tells_plan
-        state.old state.new seat (at_private state.old p.0) result carrier.old carrier.new }
+    ensures { Swaps B.seen B.tells state.old state.new seat (at_private state.old p.0) result carrier.old carrier.new }
 {
     match first(state, p, Look::Saved) {
         Some(n) => evict_at(state, seat, p, n, carrier),
@@ -89,8 +86,7 @@ fn leave_unsaved<B: Block>(
     requires process { p.0 < length state.old.config.procs }
     requires may { MaySwap state.old seat (at_unsaved state.old p.0) }
     requires carrier { carrier.old ≡ empty seat }
-    ensures { Swaps B.content B.plan B.reads B.writes B.faults B.tells_content B.tells_plan
-        state.old state.new seat (at_unsaved state.old p.0) result carrier.old carrier.new }
+    ensures { Swaps B.seen B.tells state.old state.new seat (at_unsaved state.old p.0) result carrier.old carrier.new }
 {
     match first(state, p, Look::Unsaved) {
         Some(n) => write_from(state, seat, p, n, carrier),
@@ -109,8 +105,7 @@ fn evict_at<B: Block>(
     requires process { p.0 < length state.old.config.procs }
     requires may { MaySwap state.old seat (at_slot state.old p.0 n) }
     requires carrier { carrier.old ≡ empty seat }
-    ensures { Swaps B.content B.plan B.reads B.writes B.faults B.tells_content B.tells_plan
-        state.old state.new seat (at_slot state.old p.0 n) result carrier.old carrier.new }
+    ensures { Swaps B.seen B.tells state.old state.new seat (at_slot state.old p.0 n) result carrier.old carrier.new }
 {
     match see(state, p, n) {
         Some(x) => {
@@ -140,8 +135,7 @@ fn write_from<B: Block>(
     requires slot { n < 1024 }
     requires may { MaySwap state.old seat (at_writes state.old p.0 n) }
     requires carrier { carrier.old ≡ empty seat }
-    ensures { Swaps B.content B.plan B.reads B.writes B.faults B.tells_content B.tells_plan
-        state.old state.new seat (at_writes state.old p.0 n) result carrier.old carrier.new }
+    ensures { Swaps B.seen B.tells state.old state.new seat (at_writes state.old p.0 n) result carrier.old carrier.new }
 {
     state.run_law();
     let frames = frames_from(state, p, n, state.config().params.wrtcluster);
@@ -154,8 +148,7 @@ fn turn_gone<B: Block>(state: &mut State<B>, seat: Seat, p: Proc, carrier: &mut 
     requires process { p.0 < length state.old.config.procs }
     requires may { MaySwap state.old seat (at_gone state.old p.0) }
     requires carrier { carrier.old ≡ empty seat }
-    ensures { Swaps B.content B.plan B.reads B.writes B.faults B.tells_content B.tells_plan
-        state.old state.new seat (at_gone state.old p.0) result carrier.old carrier.new }
+    ensures { Swaps B.seen B.tells state.old state.new seat (at_gone state.old p.0) result carrier.old carrier.new }
 {
     if state.count(p) > 0 {
         Swap::Again(SwapWhy::InFlight)

@@ -29,7 +29,7 @@ pub fn write_all<B: Block>(
     requires room { owed state.old.past + 64 ≤ state.old.spare }
     requires carrier { carrier.old ≡ empty seat }
     ensures made { state.new ≡ added_each seat (writes_from p.0 n frames.now) state.old }
-    ensures lifts { HasLifts B.content B.plan B.reads B.writes B.faults B.tells_content B.tells_plan state.new seat
+    ensures lifts { HasLifts B.seen B.tells state.new seat
         (writes_from p.0 n frames.now) carrier.new }
 {
     let mut slot = n;
@@ -57,7 +57,7 @@ pub fn read_all<B: Block>(
     requires carrier { carrier.old ≡ empty seat }
     ensures made { state.new
         ≡ added_each seat (reads_made (pager state.old).page (pager state.old).free (reads_from p.0 n addresses.now)) state.old }
-    ensures lifts { HasLifts B.content B.plan B.reads B.writes B.faults B.tells_content B.tells_plan state.new seat
+    ensures lifts { HasLifts B.seen B.tells state.new seat
         (reads_made (pager state.old).page (pager state.old).free (reads_from p.0 n addresses.now)) carrier.new }
 {
     let mut slot = n;

@@ -9,3 +9,5 @@ pub mod Loan
 pub mod Cluster
 pub mod PagePlaces
 pub mod Behind
+pub mod BlockView
+pub mod Moved

@@ -1,6 +1,5 @@
 use Rattle.std.proofs.Common.{ap, subst, ◌∙◌, ◌++◌, List, ℕ}
 use Rattle.std.specs.Prelude.{codes}
-use Rattle.outside_io.specs.Views.{sink_view}
 use Rattle.pager_model.specs.Text.{ended, status_line}
 use Rattle.program_ends.specs.Ends.{Ends}
 use Rattle.check_command.proofs.ending.end_too_long.Goals as goal
@@ -8,5 +7,5 @@ use Rattle.check_command.proofs.ending.end_too_long.Goals as goal
 pub returns : goal.returns
 returns g c =
     let items = c.push_word.ensures.items ∙ ap (λ items. items ++ codes "LOG TOOMANY") c.new-line.ensures in
-    subst (λ (line : List ℕ). Ends (sink_view (g.K.Sink.taken c.args.sink.now) (g.K.Sink.faults c.args.sink.now) (g.K.Sink.stalls c.args.sink.now))
-    (sink_view (g.K.Sink.taken c.end_line.new.sink) (g.K.Sink.faults c.end_line.new.sink) (g.K.Sink.stalls c.end_line.new.sink)) 2 (ended line ++ status_line 2) c.end_line.result.0) items c.end_line.ensures
+    subst (λ (line : List ℕ). Ends (g.K.Sink.seen c.args.sink.now)
+    (g.K.Sink.seen c.end_line.new.sink) 2 (ended line ++ status_line 2) c.end_line.result.0) items c.end_line.ensures

@@ -4,7 +4,7 @@ use Rattle.check_command.proofs.judging.judge_lines.Goals as goal
 
 pub returns-in-Ok-clause-text : goal.returns-in-Ok-clause-text
 returns-in-Ok-clause-text g c =
-    log_told c.in-Ok.config c.check_log.result (bytes_left g.S.Source.left c.args.lines.now) (bytes_left g.S.Source.left c.read_head.new.lines) (bytes_left g.S.Source.left c.check_log.new.lines)
+    log_told c.in-Ok.config c.check_log.result (bytes_left g.S.Source.seen c.args.lines.now) (bytes_left g.S.Source.seen c.read_head.new.lines) (bytes_left g.S.Source.seen c.check_log.new.lines)
     c.in-Ok.ensures.text c.check_log.ensures.text
 
 pub returns-in-Ok-clause-faults : goal.returns-in-Ok-clause-faults

@@ -6,5 +6,5 @@ use Rattle.check_command.proofs.judging.judge_source.Goals as goal
 pub returns-clause-text : goal.returns-clause-text
 returns-clause-text g c =
     let lines = c.judge_lines-answer.new.lines in
-    read_told c.judge_lines-answer.result (g.S.Source.left c.args.source.now) (bytes_left g.S.Source.left c.new-lines.result) (g.S.Source.left lines.source.now) _ (pending lines.buffer lines.next lines.filled)
+    read_told c.judge_lines-answer.result (g.S.Source.seen c.args.source.now).left (bytes_left g.S.Source.seen c.new-lines.result) (g.S.Source.seen lines.source.now).left _ (pending lines.buffer lines.next lines.filled)
     c.new-lines.ensures.left (search rules) c.let_go.ensures.few c.judge_lines-answer.ensures.text

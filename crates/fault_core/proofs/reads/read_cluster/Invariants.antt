@@ -4,5 +4,4 @@ use Rattle.fault_core.proofs.reads.read_cluster.Given as goal
 -- the places before this one were read
 abbrev pub invariant-loop-places : goal.invariant-loop-places
 invariant-loop-places g l =
-    IsPartRead g.B.Block.content g.B.Block.plan g.B.Block.reads g.B.Block.writes g.B.Block.faults g.B.Block.tells_content g.B.Block.tells_plan
-    l.fn.state l.fn.seat l.fn.r (l.fn.x).page l.fn.b l.places l.length l.state l.carrier
+    IsPartRead g.B.Block.seen g.B.Block.tells l.fn.state l.fn.seat l.fn.r (l.fn.x).page l.fn.b l.places l.length l.state l.carrier

@@ -7,11 +7,11 @@ use Rattle.log_check.proofs.check.check_log.Goals as goal
 pub returns-in_err-followed-clause-text : goal.returns-in_err-followed-clause-text
 returns-in_err-followed-clause-text g c =
     let p = err_from_is_err_and c.from_residual.result c.from_residual.ensures.1 in
-    log_unbegun c.args.config.now (bytes_left g.S.Source.left c.args.lines.now) c.from_residual.result p.0 p.1 p.2
+    log_unbegun c.args.config.now (bytes_left g.S.Source.seen c.args.lines.now) c.from_residual.result p.0 p.1 p.2
 
 pub returns-in-Ok-Judged-clause-text : goal.returns-in-Ok-Judged-clause-text
 returns-in-Ok-Judged-clause-text g c =
-    log_judged c.args.config.now (bytes_left g.S.Source.left c.args.lines.now) (bytes_left g.S.Source.left c.lines.lines) (bytes_left g.S.Source.left c.take_next.new.lines)
+    log_judged c.args.config.now (bytes_left g.S.Source.seen c.args.lines.now) (bytes_left g.S.Source.seen c.lines.lines) (bytes_left g.S.Source.seen c.take_next.new.lines)
     c.lines.followed c.take_next.new.followed c.lines.place c.lines.count c.in-Ok-Judged.field-0 c.in-Ok-Judged.verdict
     c.lines.invariant.read c.in-Ok-Judged.ensures.text c.in-Ok-Judged.field-0-is c.lines.invariant.config
 
@@ -19,6 +19,6 @@ pub returns-clause-text : goal.returns-clause-text
 returns-clause-text g c =
     let most = c.lines.invariant.most in
     let over = c.lines-test.false in
-    log_ended c.args.config.now (bytes_left g.S.Source.left c.args.lines.now) (bytes_left g.S.Source.left c.lines.lines) (bytes_left g.S.Source.left c.judge_last.new.lines)
+    log_ended c.args.config.now (bytes_left g.S.Source.seen c.args.lines.now) (bytes_left g.S.Source.seen c.lines.lines) (bytes_left g.S.Source.seen c.judge_last.new.lines)
     c.lines.followed c.lines.place c.lines.count c.judge_last.result
     c.lines.invariant.read c.judge_last.ensures.text (omega (arith, most, over)) c.lines.invariant.config

@@ -13,7 +13,7 @@ invariant-lines g l = record {
   config : l.followed.past.config ≡ l.fn.config;
   fewer : length l.followed.past.past ≤ l.count;
   most : l.count ≤ 16777216;
-  read : IfSome (bytes_left g.S.Source.left l.fn.lines) (λ text. HasRead text l.followed.past l.place l.count (bytes_left g.S.Source.left l.lines));
-  still_told : IsSome (g.S.Source.left l.fn.lines.source.now) → IsSome (g.S.Source.left l.lines.source.now);
-  faults : g.S.Source.faults l.lines.source.now ≡ g.S.Source.faults l.fn.lines.source.now;
+  read : IfSome (bytes_left g.S.Source.seen l.fn.lines) (λ text. HasRead text l.followed.past l.place l.count (bytes_left g.S.Source.seen l.lines));
+  still_told : IsSome (g.S.Source.seen l.fn.lines.source.now).left → IsSome (g.S.Source.seen l.lines.source.now).left;
+  faults : (g.S.Source.seen l.lines.source.now).failures ≡ (g.S.Source.seen l.fn.lines.source.now).failures;
 }

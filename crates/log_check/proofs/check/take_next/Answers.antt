@@ -5,44 +5,44 @@ use Rattle.log_check.proofs.check.take_next.Goals as goal
 
 pub returns-in-Ok-Some-clause-text : goal.returns-in-Ok-Some-clause-text
 returns-in-Ok-Some-clause-text g c =
-    λ text read. told_on text c.args.followed.now c.args.place c.args.count (bytes_left g.S.Source.left c.args.lines.now) (bytes_left g.S.Source.left c.next.new.self) c.next.new.out.items read
+    λ text read. told_on text c.args.followed.now c.args.place c.args.count (bytes_left g.S.Source.seen c.args.lines.now) (bytes_left g.S.Source.seen c.next.new.self) c.next.new.out.items read
     c.in-Ok-Text-true.field-0 c.in-Ok-Text-true.field-0-0 c.take.new.followed c.in-Ok-Some.next c.as_slice.result.now c.in-Ok-Some.field-0
     c.in-Ok-Text-true.field-0-is c.in-Ok-Text-true.field-0-0-test c.in-Ok-Text-true.ensures.takes c.as_slice.ensures.value c.in-Ok-Some.field-0-is c.in-Ok-Some.ensures
 
 pub returns-in-Ok-None-clause-text : goal.returns-in-Ok-None-clause-text
 returns-in-Ok-None-clause-text g c =
-    λ text read. told_fault text c.args.followed.now c.args.place c.args.count (bytes_left g.S.Source.left c.args.lines.now) (bytes_left g.S.Source.left c.next.new.self) c.next.new.out.items read
+    λ text read. told_fault text c.args.followed.now c.args.place c.args.count (bytes_left g.S.Source.seen c.args.lines.now) (bytes_left g.S.Source.seen c.next.new.self) c.next.new.out.items read
     c.in-Ok-Text-true.field-0 c.in-Ok-Text-true.field-0-0 c.take.new.followed c.as_slice.result.now c.in-Ok-None.field-0
     c.requires.few c.in-Ok-Text-true.field-0-is c.in-Ok-Text-true.field-0-0-test c.in-Ok-Text-true.ensures.gives c.in-Ok-Text-true.ensures.takes c.as_slice.ensures.value c.in-Ok-None.field-0-is c.in-Ok-None.ensures
 
 pub returns-in-Err-take-clause-text : goal.returns-in-Err-take-clause-text
 returns-in-Err-take-clause-text g c =
-    λ text read. told_short text c.args.followed.now c.args.place c.args.count (bytes_left g.S.Source.left c.args.lines.now) (bytes_left g.S.Source.left c.next.new.self) c.next.new.out.items read
+    λ text read. told_short text c.args.followed.now c.args.place c.args.count (bytes_left g.S.Source.seen c.args.lines.now) (bytes_left g.S.Source.seen c.next.new.self) c.next.new.out.items read
     c.in-Ok-Text-true.field-0 c.in-Ok-Text-true.field-0-0
     c.requires.few c.in-Ok-Text-true.field-0-is c.in-Ok-Text-true.field-0-0-test c.in-Ok-Text-true.ensures.gives c.in-Ok-Text-true.ensures.takes
 
 pub returns-in-Ok-Text-false-clause-text : goal.returns-in-Ok-Text-false-clause-text
 returns-in-Ok-Text-false-clause-text g c =
-    λ text read. told_unended text c.args.followed.now c.args.place c.args.count (bytes_left g.S.Source.left c.args.lines.now) (bytes_left g.S.Source.left c.next.new.self) c.next.new.out.items read
+    λ text read. told_unended text c.args.followed.now c.args.place c.args.count (bytes_left g.S.Source.seen c.args.lines.now) (bytes_left g.S.Source.seen c.next.new.self) c.next.new.out.items read
     c.in-Ok-Text-false.field-0 c.in-Ok-Text-false.field-0-0
     c.requires.few c.in-Ok-Text-false.field-0-is c.in-Ok-Text-false.field-0-0-test c.in-Ok-Text-false.ensures.gives c.in-Ok-Text-false.ensures.takes
 
 pub returns-in-Ok-Long-clause-text : goal.returns-in-Ok-Long-clause-text
 returns-in-Ok-Long-clause-text g c =
-    λ text read. told_long text c.args.followed.now c.args.place c.args.count (bytes_left g.S.Source.left c.args.lines.now) (bytes_left g.S.Source.left c.next.new.self) c.next.new.out.items read
+    λ text read. told_long text c.args.followed.now c.args.place c.args.count (bytes_left g.S.Source.seen c.args.lines.now) (bytes_left g.S.Source.seen c.next.new.self) c.next.new.out.items read
     c.in-Ok-Long.field-0
     c.legal_lines_are_short.ensures c.requires.followed.follows.tables.formed c.requires.few c.in-Ok-Long.field-0-is c.in-Ok-Long.ensures.gives c.in-Ok-Long.ensures.takes
 
 pub returns-in-Ok-End-clause-text : goal.returns-in-Ok-End-clause-text
 returns-in-Ok-End-clause-text g c =
     let few = c.requires.few in
-    λ text read. told_end text c.args.followed.now c.args.place c.args.count (bytes_left g.S.Source.left c.args.lines.now) (bytes_left g.S.Source.left c.next.new.self) c.next.new.out.items read
+    λ text read. told_end text c.args.followed.now c.args.place c.args.count (bytes_left g.S.Source.seen c.args.lines.now) (bytes_left g.S.Source.seen c.next.new.self) c.next.new.out.items read
     c.in-Ok-End.field-0 c.end_of.result
     (omega (arith, few)) c.in-Ok-End.field-0-is c.in-Ok-End.ensures.takes c.end_of.ensures
 
 pub returns-in-Err-clause-text : goal.returns-in-Err-clause-text
 returns-in-Err-clause-text g c =
     let few = c.requires.few in
-    λ text read. told_unread text c.args.followed.now c.args.place c.args.count (bytes_left g.S.Source.left c.args.lines.now) (bytes_left g.S.Source.left c.next.new.self) c.next.new.out.items read
+    λ text read. told_unread text c.args.followed.now c.args.place c.args.count (bytes_left g.S.Source.seen c.args.lines.now) (bytes_left g.S.Source.seen c.next.new.self) c.next.new.out.items read
     c.in-Err.field-0
     (omega (arith, few)) c.in-Err.ensures.gives c.in-Err.ensures.takes

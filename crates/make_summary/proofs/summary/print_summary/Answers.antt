@@ -1,5 +1,4 @@
 use Rattle.std.proofs.Common.{◌∙◌, ap, subst}
-use Rattle.outside_io.specs.Views.{sink_view}
 use Rattle.outside_io.specs.Writes.{Writes}
 use Rattle.make_summary.specs.MakeText.{summary_lines}
 use Rattle.make_summary.specs.Tallies.{counts_in}
@@ -9,6 +8,6 @@ use Rattle.make_summary.proofs.summary.print_summary.Goals as goal
 pub returns : goal.returns
 returns g c = λ entries all kinds.
     let counts = c.counts_in.ensures ∙ (ap counts_in kinds ∙ counts_told entries) in
-    subst (Writes (sink_view (g.K.Sink.taken c.args.sink.now) (g.K.Sink.faults c.args.sink.now) (g.K.Sink.stalls c.args.sink.now))
-    (sink_view (g.K.Sink.taken c.print_lines.new.sink) (g.K.Sink.faults c.print_lines.new.sink) (g.K.Sink.stalls c.print_lines.new.sink)) c.print_lines.result)
+    subst (Writes (g.K.Sink.seen c.args.sink.now)
+    (g.K.Sink.seen c.print_lines.new.sink) c.print_lines.result)
     (λ i. summary_lines c.args.make (counts i) (all i)) c.print_lines.ensures

@@ -5,10 +5,10 @@ use Rattle.outside_io.proofs.whole.write_whole.Given as goal
 abbrev pub invariant-loop-done : goal.invariant-loop-done
 invariant-loop-done g l = record {
   within : l.done ≤ length l.text;
-  bytes : Appends (g.K.Sink.taken l.initial.sink) (g.K.Sink.taken l.sink) (take l.done l.text);
-  told : is_some (g.K.Sink.taken l.sink) ≡ is_some (g.K.Sink.taken l.initial.sink);
-  faults : g.K.Sink.faults l.sink ≡ g.K.Sink.faults l.initial.sink;
-  stalls : g.K.Sink.stalls l.sink ≡ g.K.Sink.stalls l.initial.sink;
+  bytes : Appends (g.K.Sink.seen l.initial.sink).taken (g.K.Sink.seen l.sink).taken (take l.done l.text);
+  known : is_some (g.K.Sink.seen l.sink).taken ≡ is_some (g.K.Sink.seen l.initial.sink).taken;
+  faults : (g.K.Sink.seen l.sink).failures ≡ (g.K.Sink.seen l.initial.sink).failures;
+  stalls : (g.K.Sink.seen l.sink).stalls ≡ (g.K.Sink.seen l.initial.sink).stalls;
 }
 
 abbrev pub decreases-loop-done : goal.decreases-loop-done

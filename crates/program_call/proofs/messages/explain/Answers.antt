@@ -1,6 +1,5 @@
 use Rattle.std.proofs.Common.{rules, ◌≢◌, ◌∙◌, ℕ, List, [], ap, sym, subst, refl, inl, arith}
 use Rattle.std.proofs.KnownBytes.{Appends-nil}
-use Rattle.outside_io.specs.Views.{sink_view}
 use Rattle.program_call.specs.Messages.{IsMessage, IsSaid, usage, faulty, too_long, unfinished, in_log, no_message, usage_text, too_long_message, unfinished_message, fault_message, line_message, log_message}
 use Rattle.program_call.proofs.messages.explain.Goals as goal
 
@@ -14,8 +13,8 @@ returns-in-Some g c =
     let is = c.as_slice.ensures.value ∙ c.message_of.ensures ∙ ap (λ (rule : List ℕ). line_message c.args.last.now.number rule c.args.last.now.text.items) c.rule_of.ensures.value in (
       message,
       subst (λ status. IsMessage c.args.last.now.number c.args.last.now.text.items c.args.first.now status message) (sym c.in-2.is) (faulty c.in-Some.cause c.in-Some.ensures.some.0 c.in-Some.ensures.some.1),
-      subst (IsSaid (sink_view (g.M.Sink.taken c.args.messages.now) (g.M.Sink.faults c.args.messages.now) (g.M.Sink.stalls c.args.messages.now))
-          (sink_view (g.M.Sink.taken c.say-in-Some.new.messages) (g.M.Sink.faults c.say-in-Some.new.messages) (g.M.Sink.stalls c.say-in-Some.new.messages))) is c.say-in-Some.ensures,
+      subst (IsSaid (g.M.Sink.seen c.args.messages.now)
+          (g.M.Sink.seen c.say-in-Some.new.messages)) is c.say-in-Some.ensures,
     )
 
 pub returns-in-Some-after : goal.returns-in-Some-after
@@ -38,8 +37,8 @@ returns-in-8 g c =
     let is = c.as_slice-in-8.ensures.value ∙ c.message_of-in-8.ensures in (
       message,
       subst (λ status. IsMessage c.args.last.now.number c.args.last.now.text.items c.args.first.now status message) (sym c.in-8.is) in_log,
-      subst (IsSaid (sink_view (g.M.Sink.taken c.args.messages.now) (g.M.Sink.faults c.args.messages.now) (g.M.Sink.stalls c.args.messages.now))
-          (sink_view (g.M.Sink.taken c.say-in-8.new.messages) (g.M.Sink.faults c.say-in-8.new.messages) (g.M.Sink.stalls c.say-in-8.new.messages))) is c.say-in-8.ensures,
+      subst (IsSaid (g.M.Sink.seen c.args.messages.now)
+          (g.M.Sink.seen c.say-in-8.new.messages)) is c.say-in-8.ensures,
     )
 
 pub returns-in_default : goal.returns-in_default
@@ -47,4 +46,4 @@ returns-in_default g c =
     let one : c.args.status ≢ 1 = search rules in
     let two : c.args.status ≢ 2 = search rules in
     let eight : c.args.status ≢ 8 = search rules in
-    ([], no_message c.args.status one two eight, (0, omega arith, Appends-nil (g.M.Sink.taken c.args.messages.now), inl refl))
+    ([], no_message c.args.status one two eight, (0, omega arith, Appends-nil (g.M.Sink.seen c.args.messages.now).taken, inl refl))

@@ -1,30 +1,24 @@
 use Rattle.program_ends.proofs.Concluding.{has_told, was_cut, faulty_write, no_failed_write}
 use Rattle.replay_cli.proofs.Obeying.{not_four, usage_status, no_usage_status, read_status, depot_status, complete_status}
+use Rattle.replay_cli.proofs.Served.{served}
 use Rattle.replay_cli.proofs.cli.run_one.Goals as goal
 
-pub returns-clause-told : goal.returns-clause-told
-returns-clause-told g c = has_told c.conclude.ensures.outcome
-
-pub returns-clause-cut : goal.returns-clause-cut
-returns-clause-cut g c = was_cut c.conclude.ensures.outcome not_four
-
-pub returns-clause-write_fault : goal.returns-clause-write_fault
-returns-clause-write_fault g c = faulty_write c.conclude.ensures.outcome not_four
-
-pub returns-clause-usage : goal.returns-clause-usage
-returns-clause-usage g c = usage_status c.conclude.ensures.outcome
-
-pub returns-clause-no_usage : goal.returns-clause-no_usage
-returns-clause-no_usage g c = no_usage_status c.conclude.ensures.outcome
-
-pub returns-clause-read_fault : goal.returns-clause-read_fault
-returns-clause-read_fault g c = read_status c.conclude.ensures.outcome
-
-pub returns-clause-depot_fault : goal.returns-clause-depot_fault
-returns-clause-depot_fault g c = depot_status c.conclude.ensures.outcome
-
-pub returns-clause-complete : goal.returns-clause-complete
-returns-clause-complete g c = complete_status c.conclude.ensures.outcome
-
-pub returns-clause-unfailed : goal.returns-clause-unfailed
-returns-clause-unfailed g c = no_failed_write c.conclude.ensures.outcome
+pub returns : goal.returns
+returns g c =
+    let outcome = c.conclude.ensures.outcome in
+    record {
+      told = has_told outcome;
+      cut = was_cut outcome not_four;
+      served = served (has_told outcome);
+      usage = usage_status outcome;
+      no_usage = no_usage_status outcome;
+      read_fault = read_status outcome;
+      write_fault = faulty_write outcome not_four;
+      depot_fault = depot_status outcome;
+      unfailed = no_failed_write outcome;
+      complete = complete_status outcome;
+      known_later = outcome.ends.known;
+      read_later = c.conclude.ensures.faults_later;
+      write_later = (outcome.ends.failures_later, outcome.ends.stalls_later);
+      depot_later = c.conclude.ensures.depot_later;
+    }

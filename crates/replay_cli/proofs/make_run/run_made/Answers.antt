@@ -20,9 +20,8 @@ returns-in-Ok-count_serial-clause-outcome g c =
       status = status;
       text = make_lines make entries ++ status_line status;
       outcome = run_outcome run.dirty.items;
-      answers = inl (counted_run g.D.Block.Block.content g.D.Block.Block.plan g.D.Block.Block.reads g.D.Block.Block.writes g.D.Block.Block.faults g.D.Block.Block.tells_content g.D.Block.Block.tells_plan
-          make c.in-Ok.config is c.in-Ok-count_serial.ensures.counted.0 run c.in-Ok.ensures.well_formed ended
-          (g.D.Depot.retired c.args.depot.now) (g.D.Depot.retired c.count_serial.new.depot) (g.D.Depot.faults c.args.depot.now) (g.D.Depot.faults c.count_serial.new.depot)
+      answers = inl (counted_run g.D.Block.Block.tells make c.in-Ok.config is c.in-Ok-count_serial.ensures.counted.0 run c.in-Ok.ensures.well_formed ended
+          (g.D.Depot.seen c.args.depot.now) (g.D.Depot.seen c.count_serial.new.depot) (g.D.Depot.known c.args.depot.now)
           c.in-Ok-count_serial.ensures.counted.1 c.runs_are_sound.ensures);
       ends = c.end_made.ensures entries (ended.all ∙ sym (length-reverse (ended.rest ++ ended.past))) ended.kinds;
     })

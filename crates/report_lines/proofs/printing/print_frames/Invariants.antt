@@ -1,11 +1,10 @@
 use Rattle.std.proofs.Common.{drop, map}
 use Rattle.pager_model.specs.Text.{frame_lines}
 use Rattle.report_lines.specs.Rows.{frame_view}
-use Rattle.outside_io.specs.Views.{sink_view}
 use Rattle.outside_io.proofs.WritesInTurn.{Progress}
 use Rattle.report_lines.proofs.printing.print_frames.Given as goal
 
 abbrev pub invariant-loop-f : goal.invariant-loop-f
 invariant-loop-f g l =
-    Progress (sink_view (g.K.Sink.taken l.initial.sink) (g.K.Sink.faults l.initial.sink) (g.K.Sink.stalls l.initial.sink)) (sink_view (g.K.Sink.taken l.sink) (g.K.Sink.faults l.sink) (g.K.Sink.stalls l.sink))
+    Progress (g.K.Sink.seen l.initial.sink) (g.K.Sink.seen l.sink)
     (frame_lines l.names 0 (map frame_view l.frames)) (frame_lines l.names l.f (map frame_view (drop l.f l.frames)))

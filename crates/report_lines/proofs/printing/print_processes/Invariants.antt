@@ -1,11 +1,10 @@
 use Rattle.std.proofs.Common.{drop, map}
 use Rattle.pager_model.specs.Text.{process_lines}
 use Rattle.report_lines.specs.Rows.{process_view}
-use Rattle.outside_io.specs.Views.{sink_view}
 use Rattle.outside_io.proofs.WritesInTurn.{Progress}
 use Rattle.report_lines.proofs.printing.print_processes.Given as goal
 
 abbrev pub invariant-loop-p : goal.invariant-loop-p
 invariant-loop-p g l =
-    Progress (sink_view (g.K.Sink.taken l.initial.sink) (g.K.Sink.faults l.initial.sink) (g.K.Sink.stalls l.initial.sink)) (sink_view (g.K.Sink.taken l.sink) (g.K.Sink.faults l.sink) (g.K.Sink.stalls l.sink))
+    Progress (g.K.Sink.seen l.initial.sink) (g.K.Sink.seen l.sink)
     (process_lines 0 (map process_view l.processes)) (process_lines l.p (map process_view (drop l.p l.processes)))

@@ -15,4 +15,4 @@ returns-clause-names g c =
 
 pub returns-clause-made : goal.returns-clause-made
 returns-clause-made g c =
-    c.in_ok-make_swaps.ensures.adds.made (c.in_ok-make_file.ensures.adds.made (c.in_ok-make_sections.ensures.adds.made (none_made g.D.Block.Block.content g.D.Block.Block.plan g.D.Block.Block.reads g.D.Block.Block.writes g.D.Block.Block.faults g.D.Block.Block.tells_content g.D.Block.Block.tells_plan c.args.config.now _ c.in_ok-blocks.ensures.items)))
+    c.in_ok-make_swaps.ensures.adds.made (c.in_ok-make_file.ensures.adds.made (c.in_ok-make_sections.ensures.adds.made (none_made g.D.Block.Block.seen g.D.Block.Block.tells c.args.config.now _ c.in_ok-blocks.ensures.items)))

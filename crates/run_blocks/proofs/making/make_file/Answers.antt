@@ -7,7 +7,7 @@ pub loop-n-preserved : goal.loop-n-preserved
 loop-n-preserved g c =
     let one = c.in_ok-make_one_of_zeros.ensures in
     record {
-      adds = added_item _ _ _ _ _ _ _ _ block.PageFile c.loop-n.n _ _ _ c.loop-n.invariant.adds one.adds;
+      adds = added_item _ _ _ block.PageFile c.loop-n.n _ _ _ c.loop-n.invariant.adds one.adds;
       retired = one.retired ∙ c.loop-n.invariant.retired;
       later = omega (arith, one.cause.later, c.loop-n.invariant.later);
     }

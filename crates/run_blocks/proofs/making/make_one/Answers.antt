@@ -6,8 +6,7 @@ pub returns-clause-adds : goal.returns-clause-adds
 returns-clause-adds g c =
     elim c.match-push.branch [
       | in-Ok w ↦ rw (w.result-is, w.in-Ok.ensures.items)
-          (added_one g.D.Block.Block.content g.D.Block.Block.plan g.D.Block.Block.reads g.D.Block.Block.writes g.D.Block.Block.faults g.D.Block.Block.tells_content g.D.Block.Block.tells_plan
-          c.args.config.now c.args.id c.in_ok-block.block c.args.bytes.now c.planned_calls.result.now c.args.blocks.now.items
+          (added_one g.D.Block.Block.seen g.D.Block.Block.tells c.args.config.now c.args.id c.in_ok-block.block c.args.bytes.now c.planned_calls.result.now c.args.blocks.now.items
           (record {
             content_is = c.in_ok-block.ensures.content;
             plan_is = c.in_ok-block.ensures.plan;

@@ -8,7 +8,7 @@ pub loop-i-preserved : goal.loop-i-preserved
 loop-i-preserved g c =
     let one = c.in_ok-make_one.ensures in
     record {
-      adds = added_item _ _ _ _ _ _ _ _ (section_block (c.args.s).0) c.loop-i.i _ _ _ c.loop-i.invariant.adds one.adds;
+      adds = added_item _ _ _ (section_block (c.args.s).0) c.loop-i.i _ _ _ c.loop-i.invariant.adds one.adds;
       retired = one.retired ∙ c.loop-i.invariant.retired;
       later = omega (arith, one.cause.later, c.loop-i.invariant.later);
     }

@@ -6,8 +6,8 @@ use Rattle.run_blocks.proofs.making.make_section.Given as goal
 
 abbrev pub invariant-loop-i : goal.invariant-loop-i
 invariant-loop-i g l = record {
-  adds : Adds g.D.Block.Block.content g.D.Block.Block.plan g.D.Block.Block.reads g.D.Block.Block.writes g.D.Block.Block.faults g.D.Block.Block.tells_content g.D.Block.Block.tells_plan l.config
+  adds : Adds g.D.Block.Block.seen g.D.Block.Block.tells l.config
       (map (section_block l.s.0) (range_with_len 0 l.i)) l.initial.blocks.items l.blocks.items;
-  retired : g.D.Depot.retired l.depot ≡ g.D.Depot.retired l.initial.depot;
-  later : g.D.Depot.faults l.initial.depot ≤ g.D.Depot.faults l.depot;
+  retired : (g.D.Depot.seen l.depot).retired ≡ (g.D.Depot.seen l.initial.depot).retired;
+  later : (g.D.Depot.seen l.initial.depot).failures ≤ (g.D.Depot.seen l.depot).failures;
 }

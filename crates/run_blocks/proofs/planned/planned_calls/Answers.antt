@@ -1,7 +1,7 @@
 use Rattle.std.proofs.Common.{◌<◌, ◌≤◌, ◌∙◌, List, ap, length, sym, subst}
 use Rattle.vm_types.specs.Same.{same_block}
 use Rattle.vm_types.specs.declared.config.Fails.{Fails}
-use Rattle.pager_model.specs.Told.{calls_of}
+use Rattle.pager_model.specs.CountedBlock.{calls_of}
 use Rattle.run_blocks.proofs.ListItems.{found_here, found_later, found_nowhere}
 use Rattle.run_blocks.proofs.planned.planned_calls.Goals as goal
 

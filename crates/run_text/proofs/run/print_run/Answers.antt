@@ -2,7 +2,6 @@ use Rattle.std.proofs.Common.{ℕ, ◌++◌, List, All, length, sym, ◌∙◌, 
 use Rattle.std.proofs.lemmas.List.Elements.{All-drop, All-take}
 use Rattle.vm_journal.specs.HasLine.{HasLine}
 use Rattle.vm_journal.specs.declared.entry.Entry.{Entry}
-use Rattle.outside_io.specs.Views.{sink_view}
 use Rattle.pager_model.specs.Run.{pager_after}
 use Rattle.pager_model.specs.Text.{run_text}
 use Rattle.program_ends.specs.Ends.{Ends}
@@ -33,8 +32,8 @@ end_parts-requires-clause-dirty g c =
 pub returns : goal.returns
 returns g c = λ past rest parts.
     let TellsText : List ℕ → Type 0 = λ text.
-    Ends (sink_view (g.K.Sink.taken c.args.sink.now) (g.K.Sink.faults c.args.sink.now) (g.K.Sink.stalls c.args.sink.now))
-    (sink_view (g.K.Sink.taken c.end_parts.new.sink) (g.K.Sink.faults c.end_parts.new.sink) (g.K.Sink.stalls c.end_parts.new.sink))
+    Ends (g.K.Sink.seen c.args.sink.now)
+    (g.K.Sink.seen c.end_parts.new.sink)
     (run_status c.args.dirty.now) text c.end_parts.result.0 in
     let before = c.split_at.ensures.front ∙ first_part c.args.entries.now c.args.at c.requires.past c.requires.rest c.requires.parts in
     let after = c.split_at.ensures.back ∙ second_part c.args.entries.now c.args.at c.requires.past c.requires.rest c.requires.parts in

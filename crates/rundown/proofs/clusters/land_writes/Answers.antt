@@ -18,5 +18,5 @@ returns-clause-carrier g c = c.carry_and_land-landed.ensures.carrier ∙ ap (λ 
 
 pub returns-clause-landed : goal.returns-clause-landed
 returns-clause-landed g c =
-    landed_so c.args.state.now c.carry_and_land-landed.new.state c.args.seat (c.args.carrier.now).seat c.carry_and_land-landed.result g.B.Block.tells_content c.requires.lifts.own
+    landed_so c.args.state.now c.carry_and_land-landed.new.state c.args.seat (c.args.carrier.now).seat c.carry_and_land-landed.result g.B.Block.tells.content c.requires.lifts.own
     c.carry_and_land-landed.ensures.landed c.carry_and_land-landed.ensures.same

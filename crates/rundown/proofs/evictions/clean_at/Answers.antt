@@ -24,7 +24,7 @@ pub returns-then-not-is_stopped-clause-cleans : goal.returns-then-not-is_stopped
 returns-then-not-is_stopped-clause-cleans g c =
     λ later. evicted_moved c.args.state.now c.args.at c.in-Some.x c.in-Some.ensures.seen c.writer-seat.result c.writer-seat.ensures c.goes_to-to.result
     (c.goes_to-to.ensures ∙ (ap (λ (z : Row). evicted_to z.shares z.flights z.modify) c.frame-row.ensures ∙ row_goes c.args.state.now ((c.in-Some.x).frame).0))
-    (sym c.is_stopped.ensures ∙ c.if-not-is_stopped.true) c.evict.new.self g.B.Block.tells_content c.args.failed later c.evict.ensures
+    (sym c.is_stopped.ensures ∙ c.if-not-is_stopped.true) c.evict.new.self g.B.Block.tells.content c.args.failed later c.evict.ensures
 
 pub returns-then-failed-clause-cleans : goal.returns-then-failed-clause-cleans
 returns-then-failed-clause-cleans g c = (
@@ -34,7 +34,7 @@ returns-then-failed-clause-cleans g c = (
 
 pub returns-else-failed-clause-cleans : goal.returns-else-failed-clause-cleans
 returns-else-failed-clause-cleans g c =
-    λ later. written_moved c.args.state.now c.args.at c.in-Some.x c.in-Some.ensures.seen (sym c.is_stopped.ensures ∙ c.if-not-is_stopped.false) c.write_one_cluster-cluster.new.state g.B.Block.tells_content c.args.failed
+    λ later. written_moved c.args.state.now c.args.at c.in-Some.x c.in-Some.ensures.seen (sym c.is_stopped.ensures ∙ c.if-not-is_stopped.false) c.write_one_cluster-cluster.new.state g.B.Block.tells.content c.args.failed
     (c.write_one_cluster-cluster.result).all_failed later c.if-failed.false c.write_one_cluster-cluster.ensures.written
 
 pub returns-in-None-clause-cleans : goal.returns-in-None-clause-cleans

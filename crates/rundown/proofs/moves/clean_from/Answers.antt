@@ -23,4 +23,4 @@ clean_later-requires-clause-carrier g c κs within = c.clean_at.ensures.carrier 
 
 pub returns-in-None-clause-moved : goal.returns-in-None-clause-moved
 returns-in-None-clause-moved g c =
-    cleaned_later g.B.Block.tells_content c.args.state.now c.clean_at.new.state c.clean_later.new.state (place_as c.args.at) c.args.failed (option_map control_at c.clean_later.result) c.in-None.ensures.cleans c.clean_later.ensures.moved
+    cleaned_later g.B.Block.tells.content c.args.state.now c.clean_at.new.state c.clean_later.new.state (place_as c.args.at) c.args.failed (option_map control_at c.clean_later.result) c.in-None.ensures.cleans c.clean_later.ensures.moved

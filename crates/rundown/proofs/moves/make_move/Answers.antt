@@ -20,14 +20,14 @@ evict_from-requires-clause-carrier g c κs within =
 
 pub returns-in-Evicting-clause-moved : goal.returns-in-Evicting-clause-moved
 returns-in-Evicting-clause-moved g c =
-    moves_as g.B.Block.tells_content c.args.state.now c.evict_from.new.state _ _ (option_map control_at c.evict_from.result)
+    moves_as g.B.Block.tells.content c.args.state.now c.evict_from.new.state _ _ (option_map control_at c.evict_from.result)
     (ap (λ (x : Cleaning). cleaning_move c.args.state.now.config c.args.state.now.past (pager c.args.state.now) (cleaning_in x)) c.in-Evicting.is)
-    (moves_from g.B.Block.tells_content c.args.state.now c.prepare.new.state c.evict_from.new.state (evicting (c.in-Evicting.process).0 c.in-Evicting.slot c.in-Evicting.failed) (option_map control_at c.evict_from.result)
+    (moves_from g.B.Block.tells.content c.args.state.now c.prepare.new.state c.evict_from.new.state (evicting (c.in-Evicting.process).0 c.in-Evicting.slot c.in-Evicting.failed) (option_map control_at c.evict_from.result)
     c.prepare.ensures.same c.prepare.ensures.past c.evict_from.ensures.moved)
 
 pub returns-in-Evicting-clause-same : goal.returns-in-Evicting-clause-same
 returns-in-Evicting-clause-same g c =
-    same_then c.args.state.now c.prepare.new.state c.evict_from.new.state c.prepare.ensures.same (moves_same g.B.Block.tells_content c.prepare.new.state c.evict_from.new.state _ (option_map control_at c.evict_from.result) c.evict_from.ensures.moved)
+    same_then c.args.state.now c.prepare.new.state c.evict_from.new.state c.prepare.ensures.same (moves_same g.B.Block.tells.content c.prepare.new.state c.evict_from.new.state _ (option_map control_at c.evict_from.result) c.evict_from.ensures.moved)
 
 pub write_rounds-requires-clause-steady : goal.write_rounds-requires-clause-steady
 write_rounds-requires-clause-steady g c κs within =
@@ -39,11 +39,11 @@ write_rounds-requires-clause-carrier g c κs within =
 
 pub returns-in-Rounds-clause-moved : goal.returns-in-Rounds-clause-moved
 returns-in-Rounds-clause-moved g c =
-    moves_as g.B.Block.tells_content c.args.state.now c.write_rounds.new.state _ _ (option_map control_at c.write_rounds.result)
+    moves_as g.B.Block.tells.content c.args.state.now c.write_rounds.new.state _ _ (option_map control_at c.write_rounds.result)
     (ap (λ (x : Cleaning). cleaning_move c.args.state.now.config c.args.state.now.past (pager c.args.state.now) (cleaning_in x)) c.in-Rounds.is)
-    (moves_from g.B.Block.tells_content c.args.state.now c.prepare.new.state c.write_rounds.new.state (rounds c.in-Rounds.following c.in-Rounds.left) (option_map control_at c.write_rounds.result)
+    (moves_from g.B.Block.tells.content c.args.state.now c.prepare.new.state c.write_rounds.new.state (rounds c.in-Rounds.following c.in-Rounds.left) (option_map control_at c.write_rounds.result)
     c.prepare.ensures.same c.prepare.ensures.past c.write_rounds.ensures.moved)
 
 pub returns-in-Rounds-clause-same : goal.returns-in-Rounds-clause-same
 returns-in-Rounds-clause-same g c =
-    same_then c.args.state.now c.prepare.new.state c.write_rounds.new.state c.prepare.ensures.same (moves_same g.B.Block.tells_content c.prepare.new.state c.write_rounds.new.state _ (option_map control_at c.write_rounds.result) c.write_rounds.ensures.moved)
+    same_then c.args.state.now c.prepare.new.state c.write_rounds.new.state c.prepare.ensures.same (moves_same g.B.Block.tells.content c.prepare.new.state c.write_rounds.new.state _ (option_map control_at c.write_rounds.result) c.write_rounds.ensures.moved)

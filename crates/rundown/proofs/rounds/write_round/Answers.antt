@@ -3,5 +3,5 @@ use Rattle.rundown.proofs.rounds.write_round.Goals as goal
 
 pub returns-clause-moved : goal.returns-clause-moved
 returns-clause-moved g c =
-    round_moved c.args.state.now c.write_one_cluster-cluster.new.state g.B.Block.tells_content (c.write_one_cluster-cluster.result).all_failed c.args.following c.args.left c.saturating_sub-rest.result
+    round_moved c.args.state.now c.write_one_cluster-cluster.new.state g.B.Block.tells.content (c.write_one_cluster-cluster.result).all_failed c.args.following c.args.left c.saturating_sub-rest.result
     (c.write_one_cluster-cluster.result).writes c.saturating_sub-rest.ensures c.write_one_cluster-cluster.ensures.writes c.write_one_cluster-cluster.ensures.written

@@ -9,7 +9,7 @@ returns-then-not-is_shared_listed-clause-moved g c =
 
 pub returns-then-left-gt0-clause-moved : goal.returns-then-left-gt0-clause-moved
 returns-then-left-gt0-clause-moved g c =
-    moved_as g.B.Block.tells_content c.args.state.now c.write_round.new.state _ _ (control_at c.write_round.result)
+    moved_as g.B.Block.tells.content c.args.state.now c.write_round.new.state _ _ (control_at c.write_round.result)
     (goes_on c.args.state.now c.args.following c.args.left (sym c.if-not-is_shared_listed.false ∙ c.is_shared_listed.ensures) c.if-left-gt0.true) c.write_round.ensures.moved
 
 pub returns-then-following-eq0-clause-moved : goal.returns-then-following-eq0-clause-moved
@@ -18,6 +18,6 @@ returns-then-following-eq0-clause-moved g c =
 
 pub returns-clause-moved : goal.returns-clause-moved
 returns-clause-moved g c =
-    moved_as g.B.Block.tells_content c.args.state.now c.write_round-2.new.state _ _ (control_at c.write_round-2.result)
+    moved_as g.B.Block.tells.content c.args.state.now c.write_round-2.new.state _ _ (control_at c.write_round-2.result)
     (next_begins c.args.state.now c.args.following c.args.left (sym c.if-not-is_shared_listed.false ∙ c.is_shared_listed.ensures) c.modified_len-listed.result c.if-left-gt0.false
     (let some = c.if-following-eq0.false in omega (arith, some)) c.modified_len-listed.ensures) c.write_round-2.ensures.moved

@@ -8,7 +8,7 @@ use Rattle.rundown.proofs.runs.make_moves.Given as goal
 -- the moves so far are those of the rundown
 abbrev pub invariant-moves : goal.invariant-moves
 invariant-moves g l = record {
-  down : IsRunningDown g.B.Block.tells_content l.fn.state l.state (control_at l.at);
+  down : IsRunningDown g.B.Block.tells.content l.fn.state l.state (control_at l.at);
   carrier : l.carrier ≡ empty (writer_seat l.fn.state);
 }
 

@@ -30,7 +30,7 @@ returns-in-Some-clause-carriers g c = kept_at c.args.state.now c.args.carriers.n
 
 pub returns-in-Some-clause-moved : goal.returns-in-Some-clause-moved
 returns-in-Some-clause-moved g c =
-    moved_as g.B.Block.tells_content c.args.state.now c.ask.new.state _ _ c.ask.result
+    moved_as g.B.Block.tells.content c.args.state.now c.ask.new.state _ _ c.ask.result
     (asks_task c.args.state.now.config c.args.state.now.past (pager c.args.state.now) (option_map number_of c.args.leaving) (Some c.in-Some.task) c.in-Some.ensures) c.ask.ensures.moved
 
 pub returns-clause-moved : goal.returns-clause-moved

@@ -35,7 +35,7 @@ returns-in_ok-next-in-Some-clause-carriers g c = kept_at c.args.state.now c.args
 
 pub returns-in_ok-next-in-Some-clause-comes : goal.returns-in_ok-next-in-Some-clause-comes
 returns-in_ok-next-in-Some-clause-comes g c =
-    move_as g.B.Block.tells_content c.args.state.now c.leave.new.state _ _ _
+    move_as g.B.Block.tells.content c.args.state.now c.leave.new.state _ _ _
     (leaves_on c.args.state.now.config c.args.state.now.past (pager c.args.state.now) c.args.begun (c.args.p).0 c.args.leaving c.in-Some.q (c.processes.result + 1) c.in-Some.is (ap (λ (n : ℕ). n + 1) c.processes.ensures.count))
     c.in_ok-next-in-Some.ensures.moved
 
@@ -71,7 +71,7 @@ returns-in_ok-next-in-Some-finder-clause-carriers g c =
 
 pub returns-in_ok-next-in-Some-finder-clause-comes : goal.returns-in_ok-next-in-Some-finder-clause-comes
 returns-in_ok-next-in-Some-finder-clause-comes g c =
-    move_as g.B.Block.tells_content c.args.state.now c.find_frame.new.state _ _ _
+    move_as g.B.Block.tells.content c.args.state.now c.find_frame.new.state _ _ _
     (none_left c.args.state.now.config c.args.state.now.past (pager c.args.state.now) c.args.begun (c.args.p).0 c.args.leaving c.in-None.is
     ∙ c.in-Some-finder.ensures.move_is (c.processes.result + 1) (ap (λ (n : ℕ). n + 1) c.processes.ensures.count))
     c.in_ok-next-in-Some-finder.ensures.moved

@@ -12,7 +12,7 @@ free-requires-clause-here g c κs within =
 
 pub returns-then-not-is_saving-clause-comes : goal.returns-then-not-is_saving-clause-comes
 returns-then-not-is_saving-clause-comes g c =
-    comes_as g.B.Block.tells_content c.args.state.now c.free.new.state _ _ c.free.result
+    comes_as g.B.Block.tells.content c.args.state.now c.free.new.state _ _ c.free.result
     (frees_next c.args.state.now.config c.args.state.now.past (pager c.args.state.now) c.args.begun (c.args.p).0 (sym c.is_saving.ensures ∙ c.if-not-is_saving.true)) c.free.ensures.comes
 
 -- ---- a cluster begins

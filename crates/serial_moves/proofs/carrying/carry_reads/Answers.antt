@@ -14,7 +14,7 @@ pub refuse-requires-clause-legal : goal.refuse-requires-clause-legal
 refuse-requires-clause-legal g c κs within =
     first_legal c.args.state.now c.carry_and_land-landed.new.state c.args.seat c.carry_and_land-landed.result
     (landed_here c.args.state.now c.args.seat c.args.carrier.now c.requires.loaded _ _ c.carry_and_land-landed.ensures.landed) c.carry_and_land-landed.ensures.same
-    g.B.Block.tells_content c.args.next c.if-landed.true c.requires.may c.run_law.ensures.run
+    g.B.Block.tells.content c.args.next c.if-landed.true c.requires.may c.run_law.ensures.run
 
 pub returns-then-landed-clause-carrier : goal.returns-then-landed-clause-carrier
 returns-then-landed-clause-carrier g c = emptied c.args.state.now c.args.seat c.args.carrier.now c.requires.loaded _ c.carry_and_land-landed.ensures.carrier
@@ -23,7 +23,7 @@ pub returns-then-landed-clause-carried : goal.returns-then-landed-clause-carried
 returns-then-landed-clause-carried g c =
     first_lost c.args.state.now c.carry_and_land-landed.new.state c.args.seat c.carry_and_land-landed.result
     (landed_here c.args.state.now c.args.seat c.args.carrier.now c.requires.loaded _ _ c.carry_and_land-landed.ensures.landed) c.carry_and_land-landed.ensures.same
-    g.B.Block.tells_content c.args.next c.refuse.new.state c.refuse.result c.if-landed.true c.refuse.ensures
+    g.B.Block.tells.content c.args.next c.refuse.new.state c.refuse.result c.if-landed.true c.refuse.ensures
 
 pub returns-else-landed-clause-carrier : goal.returns-else-landed-clause-carrier
 returns-else-landed-clause-carrier g c = emptied c.args.state.now c.args.seat c.args.carrier.now c.requires.loaded _ c.carry_and_land-landed.ensures.carrier
@@ -32,4 +32,4 @@ pub returns-else-landed-clause-carried : goal.returns-else-landed-clause-carried
 returns-else-landed-clause-carried g c =
     first_landed c.args.state.now c.carry_and_land-landed.new.state c.args.seat c.carry_and_land-landed.result
     (landed_here c.args.state.now c.args.seat c.args.carrier.now c.requires.loaded _ _ c.carry_and_land-landed.ensures.landed) c.carry_and_land-landed.ensures.same
-    g.B.Block.tells_content c.args.next c.if-landed.false
+    g.B.Block.tells.content c.args.next c.if-landed.false

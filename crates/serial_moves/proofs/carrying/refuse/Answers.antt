@@ -13,4 +13,4 @@ refuse_task-requires-clause-may g c κs within =
 pub returns : goal.returns
 returns g c =
     refused_there c.args.state.now c.prepare.new.state c.args.seat c.prepare.ensures.same c.prepare.ensures.past c.requires.legal c.in-Some.task c.in-Some.ensures
-    g.B.Block.tells_content c.refuse_task.new.state _ c.refuse_task.ensures c.answered.ensures
+    g.B.Block.tells.content c.refuse_task.new.state _ c.refuse_task.ensures c.answered.ensures

@@ -25,8 +25,8 @@ carry_on-requires-clause-may g c κs within =
 pub returns-clause-moved : goal.returns-clause-moved
 returns-clause-moved g c =
     IfOk-weaker c.carry_on.result
-    (λ (x : Control). IsCarriedOn g.B.Block.tells_content c.begin.new.state c.carry_on.new.state (c.args.seat).0 (unless_all_failed (ends_in c.args.ends) (control_in c.args.next)) (control_in x))
-    (λ (x : Control). IsMoved g.B.Block.tells_content c.args.state.now c.carry_on.new.state (writing_move c.args.state.now.config (pager c.args.state.now) (c.args.seat).0 (ends_in c.args.ends) (control_in c.args.next)) (control_in x))
+    (λ (x : Control). IsCarriedOn g.B.Block.tells.content c.begin.new.state c.carry_on.new.state (c.args.seat).0 (unless_all_failed (ends_in c.args.ends) (control_in c.args.next)) (control_in x))
+    (λ (x : Control). IsMoved g.B.Block.tells.content c.args.state.now c.carry_on.new.state (writing_move c.args.state.now.config (pager c.args.state.now) (c.args.seat).0 (ends_in c.args.ends) (control_in c.args.next)) (control_in x))
     (λ x carried.
     write_moved c.args.state.now c.begin.new.state c.args.seat (ends_in c.args.ends) (control_in c.args.next) c.begin.result c.args.carrier.now c.begin.new.carrier c.requires.steady c.requires.carrier
     (c.begin.ensures.gives (has_room c.args.state.now c.requires.steady)) c.carry_on.new.state (control_in x) carried)

@@ -29,15 +29,15 @@ turn-requires-after_bounds g c κs within =
 
 pub returns-in_ok-write_for_room-in-Writer-clause-moved : goal.returns-in_ok-write_for_room-in-Writer-clause-moved
 returns-in_ok-write_for_room-in-Writer-clause-moved g c =
-    subst (λ (f : Finder). IsMoved g.B.Block.tells_content c.args.state.now c.write_for_room.new.state (finding_by c.args.state.now.config c.args.state.now.past (pager c.args.state.now) (c.args.seat).0 (ends_in c.args.ends) (doing_in c.args.doing) f) (control_in c.in_ok-write_for_room-in-Writer.field-0))
+    subst (λ (f : Finder). IsMoved g.B.Block.tells.content c.args.state.now c.write_for_room.new.state (finding_by c.args.state.now.config c.args.state.now.past (pager c.args.state.now) (c.args.seat).0 (ends_in c.args.ends) (doing_in c.args.doing) f) (control_in c.in_ok-write_for_room-in-Writer.field-0))
     (sym c.in-Writer.is) c.in_ok-write_for_room-in-Writer.ensures.moved
 
 pub returns-in-Leaving-clause-moved : goal.returns-in-Leaving-clause-moved
 returns-in-Leaving-clause-moved g c =
-    moved_as g.B.Block.tells_content c.args.state.now c.leave.new.state _ _ c.leave.result (finds_as c.args.state.now (c.args.seat).0 (ends_in c.args.ends) (doing_in c.args.doing) _ _ c.in-Leaving.is) c.leave.ensures.moved
+    moved_as g.B.Block.tells.content c.args.state.now c.leave.new.state _ _ c.leave.result (finds_as c.args.state.now (c.args.seat).0 (ends_in c.args.ends) (doing_in c.args.doing) _ _ c.in-Leaving.is) c.leave.ensures.moved
 
 pub returns-in-Victim-clause-moved : goal.returns-in-Victim-clause-moved
 returns-in-Victim-clause-moved g c =
-    subst (λ (f : Finder). IsMoved g.B.Block.tells_content c.args.state.now c.turn.new.self (finding_by c.args.state.now.config c.args.state.now.past (pager c.args.state.now) (c.args.seat).0 (ends_in c.args.ends) (doing_in c.args.doing) f) (while_leaving (doing_in c.args.doing) (c.in-Victim.q).0))
+    subst (λ (f : Finder). IsMoved g.B.Block.tells.content c.args.state.now c.turn.new.self (finding_by c.args.state.now.config c.args.state.now.past (pager c.args.state.now) (c.args.seat).0 (ends_in c.args.ends) (doing_in c.args.doing) f) (while_leaving (doing_in c.args.doing) (c.in-Victim.q).0))
     (sym c.in-Victim.is)
-    (turn_moved c.args.state.now c.args.seat c.in-Victim.q status.Leaving (while_leaving (doing_in c.args.doing) (c.in-Victim.q).0) g.B.Block.tells_content c.turn.new.self c.turn.ensures)
+    (turn_moved c.args.state.now c.args.seat c.in-Victim.q status.Leaving (while_leaving (doing_in c.args.doing) (c.in-Victim.q).0) g.B.Block.tells.content c.turn.new.self c.turn.ensures)

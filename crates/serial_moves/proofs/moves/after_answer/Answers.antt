@@ -15,7 +15,7 @@ save-requires-clause-here g c κs within = here_at c.args.state.now c.args.c c.r
 
 pub returns-in-Saving-clause-comes : goal.returns-in-Saving-clause-comes
 returns-in-Saving-clause-comes g c =
-    comes_at c.args.state.now c.args.c c.requires.fits g.B.Block.tells_content c.save.new.state c.save.result (Saving c.in-Saving.begun c.in-Saving.process) c.in-Saving.is c.save.ensures.comes
+    comes_at c.args.state.now c.args.c c.requires.fits g.B.Block.tells.content c.save.new.state c.save.result (Saving c.in-Saving.begun c.in-Saving.process) c.in-Saving.is c.save.ensures.comes
 
 -- ---- in the swapper's part
 pub free-requires-clause-process : goal.free-requires-clause-process
@@ -29,4 +29,4 @@ free-requires-clause-here g c κs within = here_at c.args.state.now c.args.c c.r
 
 pub returns-in-Freeing-clause-comes : goal.returns-in-Freeing-clause-comes
 returns-in-Freeing-clause-comes g c =
-    comes_at c.args.state.now c.args.c c.requires.fits g.B.Block.tells_content c.free.new.state c.free.result (Freeing c.in-Freeing.begun c.in-Freeing.process) c.in-Freeing.is c.free.ensures.comes
+    comes_at c.args.state.now c.args.c c.requires.fits g.B.Block.tells.content c.free.new.state c.free.result (Freeing c.in-Freeing.begun c.in-Freeing.process) c.in-Freeing.is c.free.ensures.comes

@@ -22,29 +22,29 @@ after_answer-requires-clause-carriers g c κs within =
 -- ---- a move of it was made
 pub returns-in-Made-clause-moved : goal.returns-in-Made-clause-moved
 returns-in-Made-clause-moved g c =
-    moved_then c.args.state.now c.prepare.new.state c.args.c c.requires.between c.requires.fits c.in_ok-prepare.ensures.same c.in_ok-prepare.ensures.past g.B.Block.tells_content c.after_answer.new.state c.in-Made.next (subst (ComesTo g.B.Block.tells_content c.prepare.new.state c.after_answer.new.state (move_of c.prepare.new.state.config c.prepare.new.state.past (control_in c.args.c))) c.in-Made.is c.in_ok-next.ensures.comes)
+    moved_then c.args.state.now c.prepare.new.state c.args.c c.requires.between c.requires.fits c.in_ok-prepare.ensures.same c.in_ok-prepare.ensures.past g.B.Block.tells.content c.after_answer.new.state c.in-Made.next (subst (ComesTo g.B.Block.tells.content c.prepare.new.state c.after_answer.new.state (move_of c.prepare.new.state.config c.prepare.new.state.past (control_in c.args.c))) c.in-Made.is c.in_ok-next.ensures.comes)
 
 -- ---- or the next request follows
 pub ask_next-requires-clause-steady : goal.ask_next-requires-clause-steady
 ask_next-requires-clause-steady g c κs within =
-    over_steady c.args.state.now c.prepare.new.state c.args.c c.requires.between c.requires.fits c.in_ok-prepare.ensures.same c.in_ok-prepare.ensures.past c.after_answer.new.state c.in-Over.leaving (subst (ComesTo g.B.Block.tells_content c.prepare.new.state c.after_answer.new.state (move_of c.prepare.new.state.config c.prepare.new.state.past (control_in c.args.c))) c.in-Over.is c.in_ok-next.ensures.comes)
+    over_steady c.args.state.now c.prepare.new.state c.args.c c.requires.between c.requires.fits c.in_ok-prepare.ensures.same c.in_ok-prepare.ensures.past c.after_answer.new.state c.in-Over.leaving (subst (ComesTo g.B.Block.tells.content c.prepare.new.state c.after_answer.new.state (move_of c.prepare.new.state.config c.prepare.new.state.past (control_in c.args.c))) c.in-Over.is c.in_ok-next.ensures.comes)
     c.in_ok-prepare.ensures.room
 
 pub ask_next-requires-clause-left : goal.ask_next-requires-clause-left
 ask_next-requires-clause-left g c κs within =
-    over_left c.args.state.now c.prepare.new.state c.args.c c.requires.between c.requires.fits c.in_ok-prepare.ensures.same c.in_ok-prepare.ensures.past c.after_answer.new.state c.in-Over.leaving (subst (ComesTo g.B.Block.tells_content c.prepare.new.state c.after_answer.new.state (move_of c.prepare.new.state.config c.prepare.new.state.past (control_in c.args.c))) c.in-Over.is c.in_ok-next.ensures.comes)
+    over_left c.args.state.now c.prepare.new.state c.args.c c.requires.between c.requires.fits c.in_ok-prepare.ensures.same c.in_ok-prepare.ensures.past c.after_answer.new.state c.in-Over.leaving (subst (ComesTo g.B.Block.tells.content c.prepare.new.state c.after_answer.new.state (move_of c.prepare.new.state.config c.prepare.new.state.past (control_in c.args.c))) c.in-Over.is c.in_ok-next.ensures.comes)
 
 pub ask_next-requires-clause-carriers : goal.ask_next-requires-clause-carriers
 ask_next-requires-clause-carriers g c κs within =
     idle_then c.args.state.now c.args.carriers.now c.requires.carriers c.after_answer.new.state c.after_answer.new.carriers
-    (over_config c.args.state.now c.prepare.new.state c.args.c c.requires.between c.requires.fits c.in_ok-prepare.ensures.same c.in_ok-prepare.ensures.past c.after_answer.new.state c.in-Over.leaving (subst (ComesTo g.B.Block.tells_content c.prepare.new.state c.after_answer.new.state (move_of c.prepare.new.state.config c.prepare.new.state.past (control_in c.args.c))) c.in-Over.is c.in_ok-next.ensures.comes))
+    (over_config c.args.state.now c.prepare.new.state c.args.c c.requires.between c.requires.fits c.in_ok-prepare.ensures.same c.in_ok-prepare.ensures.past c.after_answer.new.state c.in-Over.leaving (subst (ComesTo g.B.Block.tells.content c.prepare.new.state c.after_answer.new.state (move_of c.prepare.new.state.config c.prepare.new.state.past (control_in c.args.c))) c.in-Over.is c.in_ok-next.ensures.comes))
     c.in_ok-next.ensures.carriers
 
 pub ask_next-requires-clause-here : goal.ask_next-requires-clause-here
 ask_next-requires-clause-here g c κs within =
-    over_here c.args.state.now c.prepare.new.state c.args.c c.requires.between c.requires.fits c.in_ok-prepare.ensures.same c.in_ok-prepare.ensures.past c.after_answer.new.state c.in-Over.leaving (subst (ComesTo g.B.Block.tells_content c.prepare.new.state c.after_answer.new.state (move_of c.prepare.new.state.config c.prepare.new.state.past (control_in c.args.c))) c.in-Over.is c.in_ok-next.ensures.comes)
+    over_here c.args.state.now c.prepare.new.state c.args.c c.requires.between c.requires.fits c.in_ok-prepare.ensures.same c.in_ok-prepare.ensures.past c.after_answer.new.state c.in-Over.leaving (subst (ComesTo g.B.Block.tells.content c.prepare.new.state c.after_answer.new.state (move_of c.prepare.new.state.config c.prepare.new.state.past (control_in c.args.c))) c.in-Over.is c.in_ok-next.ensures.comes)
 
 pub returns-in-Over-clause-moved : goal.returns-in-Over-clause-moved
 returns-in-Over-clause-moved g c =
-    over_moved c.args.state.now c.prepare.new.state c.args.c c.requires.between c.requires.fits c.in_ok-prepare.ensures.same c.in_ok-prepare.ensures.past c.after_answer.new.state c.in-Over.leaving (subst (ComesTo g.B.Block.tells_content c.prepare.new.state c.after_answer.new.state (move_of c.prepare.new.state.config c.prepare.new.state.past (control_in c.args.c))) c.in-Over.is c.in_ok-next.ensures.comes)
-    g.B.Block.tells_content c.ask_next.new.state c.ask_next.result c.ask_next.ensures.moved
+    over_moved c.args.state.now c.prepare.new.state c.args.c c.requires.between c.requires.fits c.in_ok-prepare.ensures.same c.in_ok-prepare.ensures.past c.after_answer.new.state c.in-Over.leaving (subst (ComesTo g.B.Block.tells.content c.prepare.new.state c.after_answer.new.state (move_of c.prepare.new.state.config c.prepare.new.state.past (control_in c.args.c))) c.in-Over.is c.in_ok-next.ensures.comes)
+    g.B.Block.tells.content c.ask_next.new.state c.ask_next.result c.ask_next.ensures.moved

@@ -14,7 +14,7 @@ refer-requires-clause-here g c κs within = here_as c.args.state.now _ _ (asked_
 
 pub returns-in-Some-clause-moved : goal.returns-in-Some-clause-moved
 returns-in-Some-clause-moved g c =
-    leads_as g.B.Block.tells_content c.args.state.now c.refer.new.state _ _ c.refer.result (asked_resident c.args.state.now c.args.leaving c.args.task c.in-Some.r c.in-Some.ensures.some) c.refer.ensures.moved
+    leads_as g.B.Block.tells.content c.args.state.now c.refer.new.state _ _ c.refer.result (asked_resident c.args.state.now c.args.leaving c.args.task c.in-Some.r c.in-Some.ensures.some) c.refer.ensures.moved
 
 -- ---- another request
 pub ask_other-requires-clause-rare : goal.ask_other-requires-clause-rare

@@ -22,14 +22,14 @@ pub leave-requires-clause-here : goal.leave-requires-clause-here
 leave-requires-clause-here g c κs within = here_as c.args.state.now _ _ (ap (λ (o : Option ℕ). asked_move c.args.state.now.config c.args.state.now.past (pager c.args.state.now) o (c.args.task.proc).0 c.args.task.request) (ap (λ (o : Option Proc). option_map number_of o) c.in-Some.is)) c.requires.here
 
 pub returns-in-Some-clause-moved : goal.returns-in-Some-clause-moved
-returns-in-Some-clause-moved g c = leads_as g.B.Block.tells_content c.args.state.now c.leave.new.state _ _ c.leave.result (ap (λ (o : Option ℕ). asked_move c.args.state.now.config c.args.state.now.past (pager c.args.state.now) o (c.args.task.proc).0 c.args.task.request) (ap (λ (o : Option Proc). option_map number_of o) c.in-Some.is)) c.leave.ensures.moved
+returns-in-Some-clause-moved g c = leads_as g.B.Block.tells.content c.args.state.now c.leave.new.state _ _ c.leave.result (ap (λ (o : Option ℕ). asked_move c.args.state.now.config c.args.state.now.past (pager c.args.state.now) o (c.args.task.proc).0 c.args.task.request) (ap (λ (o : Option Proc). option_map number_of o) c.in-Some.is)) c.leave.ensures.moved
 
 -- ---- none is
 pub by_status-requires-clause-here : goal.by_status-requires-clause-here
 by_status-requires-clause-here g c κs within = here_as c.args.state.now _ _ (ap (λ (o : Option ℕ). asked_move c.args.state.now.config c.args.state.now.past (pager c.args.state.now) o (c.args.task.proc).0 c.args.task.request) (ap (λ (o : Option Proc). option_map number_of o) c.in-None.is)) c.requires.here
 
 pub returns-in-None-clause-moved : goal.returns-in-None-clause-moved
-returns-in-None-clause-moved g c = leads_as g.B.Block.tells_content c.args.state.now c.by_status.new.state _ _ c.by_status.result (ap (λ (o : Option ℕ). asked_move c.args.state.now.config c.args.state.now.past (pager c.args.state.now) o (c.args.task.proc).0 c.args.task.request) (ap (λ (o : Option Proc). option_map number_of o) c.in-None.is)) c.by_status.ensures.moved
+returns-in-None-clause-moved g c = leads_as g.B.Block.tells.content c.args.state.now c.by_status.new.state _ _ c.by_status.result (ap (λ (o : Option ℕ). asked_move c.args.state.now.config c.args.state.now.past (pager c.args.state.now) o (c.args.task.proc).0 c.args.task.request) (ap (λ (o : Option Proc). option_map number_of o) c.in-None.is)) c.by_status.ensures.moved
 
 pub by_status-requires-clause-rare : goal.by_status-requires-clause-rare
 by_status-requires-clause-rare g c κs within = c.requires.rare c.in-None.is

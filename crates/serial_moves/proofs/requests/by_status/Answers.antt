@@ -17,7 +17,7 @@ serve_next-requires-clause-here g c κs within = here_as c.args.state.now _ _ (a
 
 pub returns-in-Service-clause-moved : goal.returns-in-Service-clause-moved
 returns-in-Service-clause-moved g c =
-    leads_as g.B.Block.tells_content c.args.state.now c.serve_next.new.state _ _ c.serve_next.result (asked_service c.args.state.now (c.args.seat).0 (c.args.task.proc).0 c.requires.own c.args.task.request c.in-Service.s c.in-Resident.ensures c.in-Service.is) c.serve_next.ensures.moved
+    leads_as g.B.Block.tells.content c.args.state.now c.serve_next.new.state _ _ c.serve_next.result (asked_service c.args.state.now (c.args.seat).0 (c.args.task.proc).0 c.requires.own c.args.task.request c.in-Service.s c.in-Resident.ensures c.in-Service.is) c.serve_next.ensures.moved
 
 -- ---- it is leaving
 pub leave-requires-clause-seat : goal.leave-requires-clause-seat
@@ -33,14 +33,14 @@ pub leave-requires-clause-here : goal.leave-requires-clause-here
 leave-requires-clause-here g c κs within = here_as c.args.state.now _ _ (asked_leaving c.args.state.now (c.args.seat).0 (c.args.task.proc).0 c.requires.own c.args.task.request c.in-Leaving.ensures) c.requires.here
 
 pub returns-in-Leaving-clause-moved : goal.returns-in-Leaving-clause-moved
-returns-in-Leaving-clause-moved g c = leads_as g.B.Block.tells_content c.args.state.now c.leave.new.state _ _ c.leave.result (asked_leaving c.args.state.now (c.args.seat).0 (c.args.task.proc).0 c.requires.own c.args.task.request c.in-Leaving.ensures) c.leave.ensures.moved
+returns-in-Leaving-clause-moved g c = leads_as g.B.Block.tells.content c.args.state.now c.leave.new.state _ _ c.leave.result (asked_leaving c.args.state.now (c.args.seat).0 (c.args.task.proc).0 c.requires.own c.args.task.request c.in-Leaving.ensures) c.leave.ensures.moved
 
 -- ---- it is gone
 pub gone-requires-clause-here : goal.gone-requires-clause-here
 gone-requires-clause-here g c κs within = here_as c.args.state.now _ _ (asked_gone c.args.state.now (c.args.seat).0 (c.args.task.proc).0 c.requires.own c.args.task.request c.in-Gone.ensures) c.requires.here
 
 pub returns-in-Gone-clause-moved : goal.returns-in-Gone-clause-moved
-returns-in-Gone-clause-moved g c = goes_as g.B.Block.tells_content c.args.state.now c.gone.new.state _ _ c.gone.result (asked_gone c.args.state.now (c.args.seat).0 (c.args.task.proc).0 c.requires.own c.args.task.request c.in-Gone.ensures) c.gone.ensures
+returns-in-Gone-clause-moved g c = goes_as g.B.Block.tells.content c.args.state.now c.gone.new.state _ _ c.gone.result (asked_gone c.args.state.now (c.args.seat).0 (c.args.task.proc).0 c.requires.own c.args.task.request c.in-Gone.ensures) c.gone.ensures
 
 -- ---- it is coming
 pub come-requires-clause-coming : goal.come-requires-clause-coming
@@ -50,7 +50,7 @@ pub come-requires-clause-here : goal.come-requires-clause-here
 come-requires-clause-here g c κs within = here_as c.args.state.now _ _ (asked_coming c.args.state.now (c.args.seat).0 (c.args.task.proc).0 c.requires.own c.args.task.request c.in-Coming.ensures) c.requires.here
 
 pub returns-in-Coming-clause-moved : goal.returns-in-Coming-clause-moved
-returns-in-Coming-clause-moved g c = leads_as g.B.Block.tells_content c.args.state.now c.come.new.state _ _ c.come.result (asked_coming c.args.state.now (c.args.seat).0 (c.args.task.proc).0 c.requires.own c.args.task.request c.in-Coming.ensures) c.come.ensures.moved
+returns-in-Coming-clause-moved g c = leads_as g.B.Block.tells.content c.args.state.now c.come.new.state _ _ c.come.result (asked_coming c.args.state.now (c.args.seat).0 (c.args.task.proc).0 c.requires.own c.args.task.request c.in-Coming.ensures) c.come.ensures.moved
 
 -- ---- a reference of a resident process isn't here
 pub unreachable-requires : goal.unreachable-requires

@@ -57,7 +57,7 @@ returns-in-NoFrame-clause-carrier g c = c.find_for_request.ensures.carrier ∙ (
 pub returns-in-NoFrame-clause-moved : goal.returns-in-NoFrame-clause-moved
 returns-in-NoFrame-clause-moved g c =
     goes_there c.args.state.now c.come_some.new.state (come_same c.args.state.now c.come_some.new.state c.args.seat c.in-Again.why (c.in-Again.ensures.gives (has_room c.args.state.now c.requires.steady))) _ (λ (x : History). finding_for x (c.args.seat).0)
-    (come_finds c.args.state.now c.come_some.new.state c.args.seat c.in-Again.why c.in-NoFrame.is (c.in-Again.ensures.gives (has_room c.args.state.now c.requires.steady))) g.B.Block.tells_content c.find_for_request.new.state c.find_for_request.result
+    (come_finds c.args.state.now c.come_some.new.state c.args.seat c.in-Again.why c.in-NoFrame.is (c.in-Again.ensures.gives (has_room c.args.state.now c.requires.steady))) g.B.Block.tells.content c.find_for_request.new.state c.find_for_request.result
     c.find_for_request.ensures.moved
 
 -- ---- it waits

@@ -15,8 +15,8 @@ turn-requires-in-None-after_bounds g c κs within =
 
 pub returns-in-Some : goal.returns-in-Some
 returns-in-Some g c =
-    turned_moved c.args.state.now c.args.seat c.in-Some.q status.Leaving _ (while_leaving asking (c.in-Some.q).0) (ap (gone_move (c.args.seat).0) (sym c.in-Some.ensures)) g.B.Block.tells_content c.turn.new.self c.turn.ensures
+    turned_moved c.args.state.now c.args.seat c.in-Some.q status.Leaving _ (while_leaving asking (c.in-Some.q).0) (ap (gone_move (c.args.seat).0) (sym c.in-Some.ensures)) g.B.Block.tells.content c.turn.new.self c.turn.ensures
 
 pub returns-in-None : goal.returns-in-None
 returns-in-None g c =
-    turned_moved c.args.state.now c.args.seat (record { 0 = (c.args.seat).0 }) status.Coming _ (control asking) (ap (gone_move (c.args.seat).0) (sym c.in-None.ensures)) g.B.Block.tells_content c.turn-in-None.new.self c.turn-in-None.ensures
+    turned_moved c.args.state.now c.args.seat (record { 0 = (c.args.seat).0 }) status.Coming _ (control asking) (ap (gone_move (c.args.seat).0) (sym c.in-None.ensures)) g.B.Block.tells.content c.turn-in-None.new.self c.turn-in-None.ensures

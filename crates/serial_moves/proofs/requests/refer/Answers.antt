@@ -52,7 +52,7 @@ write_for_room-requires-clause-here g c κs within =
 pub returns-in-ModifiedFull-clause-moved : goal.returns-in-ModifiedFull-clause-moved
 returns-in-ModifiedFull-clause-moved g c =
     moved_there c.args.state.now c.advance.new.state (advance_same c.args.state.now c.advance.new.state c.args.seat c.args.r c.args.p.0 c.requires.own c.in-Again.why (c.in-Again.ensures.gives (has_room c.args.state.now c.requires.steady))) _ (λ (x : History). writing_move x.config (pager x) (c.args.seat).0 ends_request (control asking))
-    (advance_writes c.args.state.now c.advance.new.state c.args.seat c.args.r c.args.p.0 c.requires.own c.in-Again.why (c.in-Again.ensures.gives (has_room c.args.state.now c.requires.steady)) c.in-ModifiedFull.is) g.B.Block.tells_content c.write_for_room.new.state _ c.in_ok-write_for_room-in-ModifiedFull.ensures.moved
+    (advance_writes c.args.state.now c.advance.new.state c.args.seat c.args.r c.args.p.0 c.requires.own c.in-Again.why (c.in-Again.ensures.gives (has_room c.args.state.now c.requires.steady)) c.in-ModifiedFull.is) g.B.Block.tells.content c.write_for_room.new.state _ c.in_ok-write_for_room-in-ModifiedFull.ensures.moved
 
 -- ---- there is no frame
 pub find_for_request-requires-clause-steady : goal.find_for_request-requires-clause-steady
@@ -74,7 +74,7 @@ returns-in-NoFrame-clause-carrier g c = c.find_for_request.ensures.carrier ∙ (
 pub returns-in-NoFrame-clause-moved : goal.returns-in-NoFrame-clause-moved
 returns-in-NoFrame-clause-moved g c =
     goes_there c.args.state.now c.advance.new.state (advance_same c.args.state.now c.advance.new.state c.args.seat c.args.r c.args.p.0 c.requires.own c.in-Again.why (c.in-Again.ensures.gives (has_room c.args.state.now c.requires.steady))) _ (λ (x : History). finding_for x (c.args.seat).0) (advance_finds c.args.state.now c.advance.new.state c.args.seat c.args.r c.args.p.0 c.requires.own c.in-Again.why (c.in-Again.ensures.gives (has_room c.args.state.now c.requires.steady)) c.in-NoFrame.is)
-    g.B.Block.tells_content c.find_for_request.new.state c.find_for_request.result c.find_for_request.ensures.moved
+    g.B.Block.tells.content c.find_for_request.new.state c.find_for_request.result c.find_for_request.ensures.moved
 
 -- ---- it waits
 pub returns-in_default-clause-carrier : goal.returns-in_default-clause-carrier

@@ -11,11 +11,11 @@ serve-requires-clause-idle g c κs within = idle_seat c.args.state.now c.require
 
 -- ---- it is answered
 pub returns-in-Answered-clause-moved : goal.returns-in-Answered-clause-moved
-returns-in-Answered-clause-moved g c = serve_answers c.args.state.now c.serve.new.state c.args.seat c.args.s c.args.p.0 c.requires.own g.B.Block.tells_content c.in-Answered.field-0 _ (c.in-Answered.ensures.gives (has_room c.args.state.now c.requires.steady)) c.answered.ensures
+returns-in-Answered-clause-moved g c = serve_answers c.args.state.now c.serve.new.state c.args.seat c.args.s c.args.p.0 c.requires.own g.B.Block.tells.content c.in-Answered.field-0 _ (c.in-Answered.ensures.gives (has_room c.args.state.now c.requires.steady)) c.answered.ensures
 
 -- ---- an entry was made
 pub returns-in-More-clause-moved : goal.returns-in-More-clause-moved
-returns-in-More-clause-moved g c = serve_makes c.args.state.now c.serve.new.state c.args.seat c.args.s c.args.p.0 c.requires.own g.B.Block.tells_content (c.in-More.ensures.gives (has_room c.args.state.now c.requires.steady))
+returns-in-More-clause-moved g c = serve_makes c.args.state.now c.serve.new.state c.args.seat c.args.s c.args.p.0 c.requires.own g.B.Block.tells.content (c.in-More.ensures.gives (has_room c.args.state.now c.requires.steady))
 
 -- ---- the modified list is full
 pub write_for_room-requires-clause-steady : goal.write_for_room-requires-clause-steady
@@ -32,7 +32,7 @@ write_for_room-requires-clause-here g c κs within =
 pub returns-in_ok-write_for_room-in-ModifiedFull-clause-moved : goal.returns-in_ok-write_for_room-in-ModifiedFull-clause-moved
 returns-in_ok-write_for_room-in-ModifiedFull-clause-moved g c =
     moved_there c.args.state.now c.serve.new.state (serve_same c.args.state.now c.serve.new.state c.args.seat c.args.s c.args.p.0 c.requires.own c.in-Again.why (c.in-Again.ensures.gives (has_room c.args.state.now c.requires.steady))) _ (λ (x : History). writing_move x.config (pager x) (c.args.seat).0 ends_request (control asking))
-    (serve_writes c.args.state.now c.serve.new.state c.args.seat c.args.s c.args.p.0 c.requires.own c.in-Again.why (c.in-Again.ensures.gives (has_room c.args.state.now c.requires.steady)) c.in-ModifiedFull.is) g.B.Block.tells_content c.write_for_room.new.state _ c.in_ok-write_for_room-in-ModifiedFull.ensures.moved
+    (serve_writes c.args.state.now c.serve.new.state c.args.seat c.args.s c.args.p.0 c.requires.own c.in-Again.why (c.in-Again.ensures.gives (has_room c.args.state.now c.requires.steady)) c.in-ModifiedFull.is) g.B.Block.tells.content c.write_for_room.new.state _ c.in_ok-write_for_room-in-ModifiedFull.ensures.moved
 
 -- ---- it waits
 pub returns-in_default-clause-moved : goal.returns-in_default-clause-moved

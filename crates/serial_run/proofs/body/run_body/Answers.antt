@@ -6,7 +6,7 @@ use Rattle.serial_run.proofs.BodyRuns.{at_first, goes_on, in_body, is_longer, re
 use Rattle.serial_run.proofs.body.run_body.Goals as goal
 
 pub moves-init : goal.moves-init
-moves-init g c = record { way = at_first g.B.Block.tells_content c.args.state.now c.requires.first c.requires.formed c.first_control_fits.ensures.first; carriers = refl }
+moves-init g c = record { way = at_first g.B.Block.tells.content c.args.state.now c.requires.first c.requires.formed c.first_control_fits.ensures.first; carriers = refl }
 
 pub make_move-requires-clause-between : goal.make_move-requires-clause-between
 make_move-requires-clause-between g c κs within = c.moves.invariant.way.between
@@ -20,37 +20,37 @@ make_move-requires-clause-carriers g c κs within = still_idle c.args.state.now 
 -- ---- the policy rests
 pub returns-in-None-clause-same : goal.returns-in-None-clause-same
 returns-in-None-clause-same g c =
-    rests_same g.B.Block.tells_content c.args.state.now c.moves.state c.make_move.new.state (control_in c.moves.control) c.moves.invariant.way (in_body (c.moves.control).doing)
-    (subst (λ (o : Option Control). Moves g.B.Block.tells_content c.moves.state c.make_move.new.state (move_of c.moves.state.config c.moves.state.past (control_in c.moves.control)) o) c.in-None.is c.in_ok-step.ensures.moved)
+    rests_same g.B.Block.tells.content c.args.state.now c.moves.state c.make_move.new.state (control_in c.moves.control) c.moves.invariant.way (in_body (c.moves.control).doing)
+    (subst (λ (o : Option Control). Moves g.B.Block.tells.content c.moves.state c.make_move.new.state (move_of c.moves.state.config c.moves.state.past (control_in c.moves.control)) o) c.in-None.is c.in_ok-step.ensures.moved)
 
 pub returns-in-None-clause-between : goal.returns-in-None-clause-between
 returns-in-None-clause-between g c =
-    rests_between g.B.Block.tells_content c.args.state.now c.moves.state c.make_move.new.state (control_in c.moves.control) c.moves.invariant.way (in_body (c.moves.control).doing)
-    (subst (λ (o : Option Control). Moves g.B.Block.tells_content c.moves.state c.make_move.new.state (move_of c.moves.state.config c.moves.state.past (control_in c.moves.control)) o) c.in-None.is c.in_ok-step.ensures.moved)
+    rests_between g.B.Block.tells.content c.args.state.now c.moves.state c.make_move.new.state (control_in c.moves.control) c.moves.invariant.way (in_body (c.moves.control).doing)
+    (subst (λ (o : Option Control). Moves g.B.Block.tells.content c.moves.state c.make_move.new.state (move_of c.moves.state.config c.moves.state.past (control_in c.moves.control)) o) c.in-None.is c.in_ok-step.ensures.moved)
 
 pub returns-in-None-clause-serial : goal.returns-in-None-clause-serial
 returns-in-None-clause-serial g c =
-    rests_there g.B.Block.tells_content c.args.state.now c.moves.state c.make_move.new.state (control_in c.moves.control) c.moves.invariant.way (in_body (c.moves.control).doing)
-    (subst (λ (o : Option Control). Moves g.B.Block.tells_content c.moves.state c.make_move.new.state (move_of c.moves.state.config c.moves.state.past (control_in c.moves.control)) o) c.in-None.is c.in_ok-step.ensures.moved)
+    rests_there g.B.Block.tells.content c.args.state.now c.moves.state c.make_move.new.state (control_in c.moves.control) c.moves.invariant.way (in_body (c.moves.control).doing)
+    (subst (λ (o : Option Control). Moves g.B.Block.tells.content c.moves.state c.make_move.new.state (move_of c.moves.state.config c.moves.state.past (control_in c.moves.control)) o) c.in-None.is c.in_ok-step.ensures.moved)
 
 pub returns-in-None-clause-right : goal.returns-in-None-clause-right
 returns-in-None-clause-right g c =
-    rests_right g.B.Block.tells_content c.args.state.now c.moves.state c.make_move.new.state (control_in c.moves.control) c.moves.invariant.way (in_body (c.moves.control).doing)
-    (subst (λ (o : Option Control). Moves g.B.Block.tells_content c.moves.state c.make_move.new.state (move_of c.moves.state.config c.moves.state.past (control_in c.moves.control)) o) c.in-None.is c.in_ok-step.ensures.moved)
+    rests_right g.B.Block.tells.content c.args.state.now c.moves.state c.make_move.new.state (control_in c.moves.control) c.moves.invariant.way (in_body (c.moves.control).doing)
+    (subst (λ (o : Option Control). Moves g.B.Block.tells.content c.moves.state c.make_move.new.state (move_of c.moves.state.config c.moves.state.past (control_in c.moves.control)) o) c.in-None.is c.in_ok-step.ensures.moved)
 
 -- ---- one move more
 pub moves-preserved : goal.moves-preserved
 moves-preserved g c = record {
   way =
-      goes_on g.B.Block.tells_content c.args.state.now c.moves.state c.make_move.new.state (control_in c.moves.control) c.moves.invariant.way (control_in c.in-Some.next)
-      (subst (λ (o : Option Control). Moves g.B.Block.tells_content c.moves.state c.make_move.new.state (move_of c.moves.state.config c.moves.state.past (control_in c.moves.control)) o) c.in-Some.is c.in_ok-step.ensures.moved)
+      goes_on g.B.Block.tells.content c.args.state.now c.moves.state c.make_move.new.state (control_in c.moves.control) c.moves.invariant.way (control_in c.in-Some.next)
+      (subst (λ (o : Option Control). Moves g.B.Block.tells.content c.moves.state c.make_move.new.state (move_of c.moves.state.config c.moves.state.past (control_in c.moves.control)) o) c.in-Some.is c.in_ok-step.ensures.moved)
       c.run_law.ensures.run;
   carriers = c.make_move.ensures.carriers ∙ c.moves.invariant.carriers;
 }
 
 pub moves-smaller : goal.moves-smaller
 moves-smaller g c =
-    let longer = is_longer g.B.Block.tells_content c.args.state.now c.moves.state c.make_move.new.state (control_in c.moves.control) c.moves.invariant.way (control_in c.in-Some.next)
-    (subst (λ (o : Option Control). Moves g.B.Block.tells_content c.moves.state c.make_move.new.state (move_of c.moves.state.config c.moves.state.past (control_in c.moves.control)) o) c.in-Some.is c.in_ok-step.ensures.moved) in
+    let longer = is_longer g.B.Block.tells.content c.args.state.now c.moves.state c.make_move.new.state (control_in c.moves.control) c.moves.invariant.way (control_in c.in-Some.next)
+    (subst (λ (o : Option Control). Moves g.B.Block.tells.content c.moves.state c.make_move.new.state (move_of c.moves.state.config c.moves.state.past (control_in c.moves.control)) o) c.in-Some.is c.in_ok-step.ensures.moved) in
     let short = c.run_law.ensures.short in
     omega (arith, longer, short)

@@ -6,7 +6,7 @@ use Rattle.serial_run.proofs.body.run_body.Given as goal
 -- the moves so far are those of the body
 abbrev pub invariant-moves : goal.invariant-moves
 invariant-moves g l = record {
-  way : IsOnItsWay g.B.Block.tells_content l.fn.state l.state (control_in l.control);
+  way : IsOnItsWay g.B.Block.tells.content l.fn.state l.state (control_in l.control);
   carriers : l.carriers ≡ l.fn.carriers;
 }
 

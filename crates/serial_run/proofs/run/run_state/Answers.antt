@@ -6,5 +6,5 @@ rundown-requires-clause-answered g c κs within = answered_there c.run_body.new.
 
 pub returns-clause-ended : goal.returns-clause-ended
 returns-clause-ended g c =
-    has_ended g.B.Block.tells_content c.run_body.new.state c.rundown.new.state _ c.rundown.ensures.same c.in_ok-run_body.ensures.between c.in_ok-run_body.ensures.serial c.rundown.ensures.between c.rundown.ensures.answered
+    has_ended g.B.Block.tells.content c.run_body.new.state c.rundown.new.state _ c.rundown.ensures.same c.in_ok-run_body.ensures.between c.in_ok-run_body.ensures.serial c.rundown.ensures.between c.rundown.ensures.answered
     (λ told. c.rundown.ensures.right told (c.in_ok-run_body.ensures.right told)) c.in_ok-dirty.ensures.rundown c.entry_count-at.ensures c.in_ok-report.ensures.report c.in_ok-report.ensures.printable c.in_ok-dirty.ensures.dirty

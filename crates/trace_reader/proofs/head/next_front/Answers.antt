@@ -9,16 +9,16 @@ use Rattle.trace_reader.proofs.head.next_front.Goals as goal
 
 pub returns-in-Ok-Text-clause-text : goal.returns-in-Ok-Text-clause-text
 returns-in-Ok-Text-clause-text g c =
-    c.take_ended.ensures.line (bytes_left g.S.Source.left c.args.lines.now) (bytes_left g.S.Source.left c.next.new.self)
+    c.take_ended.ensures.line (bytes_left g.S.Source.seen c.args.lines.now) (bytes_left g.S.Source.seen c.next.new.self)
     (subst (λ (line : List ℕ). HandsOut (Text c.in-Ok-Text.ended) line) (sym c.as_slice.ensures.value) (subst (λ (x : Line). HandsOut x c.next.new.out.items) c.in-Ok-Text.field-0-is c.in-Ok-Text.ensures.gives))
-    (subst (λ (line : List ℕ). IfSome (bytes_left g.S.Source.left c.args.lines.now) (λ text. Takes (Ok (Text c.in-Ok-Text.ended)) text line (bytes_left g.S.Source.left c.next.new.self))) (sym c.as_slice.ensures.value)
-    (subst (λ (x : Line). IfSome (bytes_left g.S.Source.left c.args.lines.now) (λ text. Takes (Ok x) text c.next.new.out.items (bytes_left g.S.Source.left c.next.new.self))) c.in-Ok-Text.field-0-is c.in-Ok-Text.ensures.takes))
+    (subst (λ (line : List ℕ). IfSome (bytes_left g.S.Source.seen c.args.lines.now) (λ text. Takes (Ok (Text c.in-Ok-Text.ended)) text line (bytes_left g.S.Source.seen c.next.new.self))) (sym c.as_slice.ensures.value)
+    (subst (λ (x : Line). IfSome (bytes_left g.S.Source.seen c.args.lines.now) (λ text. Takes (Ok x) text c.next.new.out.items (bytes_left g.S.Source.seen c.next.new.self))) c.in-Ok-Text.field-0-is c.in-Ok-Text.ensures.takes))
 
 pub returns-in-Ok-Text-clause-faults : goal.returns-in-Ok-Text-clause-faults
 returns-in-Ok-Text-clause-faults g c = quiet_counts c.take_ended.result _ _ c.in-Ok-Text.ensures.quiet (c.take_ended.ensures.no_read _)
 
 pub returns-in-Ok-Long-clause-text : goal.returns-in-Ok-Long-clause-text
 returns-in-Ok-Long-clause-text g c =
-    λ told h. told_long told (bytes_left g.S.Source.left c.args.lines.now) (bytes_left g.S.Source.left c.next.new.self) c.args.reader.now.draft.part c.args.reader.now.number c.next.new.out.items h
+    λ told h. told_long told (bytes_left g.S.Source.seen c.args.lines.now) (bytes_left g.S.Source.seen c.next.new.self) c.args.reader.now.draft.part c.args.reader.now.number c.next.new.out.items h
     (subst (λ (x : Line). HandsOut x c.next.new.out.items) c.in-Ok-Long.field-0-is c.in-Ok-Long.ensures.gives)
-    (subst (λ (x : Line). IfSome (bytes_left g.S.Source.left c.args.lines.now) (λ text. Takes (Ok x) text c.next.new.out.items (bytes_left g.S.Source.left c.next.new.self))) c.in-Ok-Long.field-0-is c.in-Ok-Long.ensures.takes)
+    (subst (λ (x : Line). IfSome (bytes_left g.S.Source.seen c.args.lines.now) (λ text. Takes (Ok x) text c.next.new.out.items (bytes_left g.S.Source.seen c.next.new.self))) c.in-Ok-Long.field-0-is c.in-Ok-Long.ensures.takes)

@@ -9,9 +9,9 @@ abbrev pub invariant-front : goal.invariant-front
 invariant-front g l = record {
   same_reference : l.lines.source.ghost_name ≡ l.fn.lines.source.ghost_name;
   reading : IsReading l.reader.draft l.reader.number;
-  told : IsTold (bytes_left g.S.Source.left l.fn.lines) l.reader.draft.part l.reader.number (bytes_left g.S.Source.left l.lines);
-  still_told : IsSome (g.S.Source.left l.fn.lines.source.now) → IsSome (g.S.Source.left l.lines.source.now);
-  faults : g.S.Source.faults l.lines.source.now ≡ g.S.Source.faults l.fn.lines.source.now;
+  told : IsTold (bytes_left g.S.Source.seen l.fn.lines) l.reader.draft.part l.reader.number (bytes_left g.S.Source.seen l.lines);
+  still_told : IsSome (g.S.Source.seen l.fn.lines.source.now).left → IsSome (g.S.Source.seen l.lines.source.now).left;
+  faults : (g.S.Source.seen l.lines.source.now).failures ≡ (g.S.Source.seen l.fn.lines.source.now).failures;
 }
 
 abbrev pub decreases-front : goal.decreases-front

@@ -7,18 +7,18 @@ use Rattle.trace_reader.proofs.read.read_pieces.Goals as goal
 
 pub loop-count-init : goal.loop-count-init
 loop-count-init g c = record {
-  between = from_start (g.S.Source.left c.args.source.now) c.args.buffer.now c.args.reader.draft c.args.reader.number c.requires.room c.requires.start c.requires.first c.requires.seen;
+  between = from_start (g.S.Source.seen c.args.source.now).left c.args.buffer.now c.args.reader.draft c.args.reader.number c.requires.room c.requires.start c.requires.first c.requires.seen;
   faults = refl;
 }
 
 pub returns-in_default-clause-text : goal.returns-in_default-clause-text
 returns-in_default-clause-text g c =
-    read_failed (g.S.Source.left c.args.source.now) (g.S.Source.left c.loop-count.source) (g.S.Source.left c.fill.new.source)
+    read_failed (g.S.Source.seen c.args.source.now).left (g.S.Source.seen c.loop-count.source).left (g.S.Source.seen c.fill.new.source).left
     c.loop-count.buffer c.loop-count.reader.draft c.loop-count.reader.number c.loop-count.held c.loop-count.invariant.between c.in_default.ensures.failed
 
 pub returns-then-count-eq0-clause-text : goal.returns-then-count-eq0-clause-text
 returns-then-count-eq0-clause-text g c =
-    text_ended c.end.result (g.S.Source.left c.args.source.now) (g.S.Source.left c.loop-count.source) (g.S.Source.left c.fill.new.source)
+    text_ended c.end.result (g.S.Source.seen c.args.source.now).left (g.S.Source.seen c.loop-count.source).left (g.S.Source.seen c.fill.new.source).left
     c.loop-count.buffer c.fill.new.buffer c.loop-count.reader.draft c.loop-count.reader.number c.loop-count.held c.in-Ok.count c.loop-count.invariant.between
     c.in-Ok.ensures.kept c.if-count-eq0.true c.in-Ok.ensures.bytes (c.in-Ok.ensures.end c.if-count-eq0.true)
     c.end.ensures.means
@@ -26,25 +26,25 @@ returns-then-count-eq0-clause-text g c =
 pub returns-in_err-held-clause-text : goal.returns-in_err-held-clause-text
 returns-in_err-held-clause-text g c =
     let p = err_from_is_err_and c.from_residual.result c.from_residual.ensures.1 in
-    let held = came (g.S.Source.left c.args.source.now) (g.S.Source.left c.loop-count.source) (g.S.Source.left c.fill.new.source)
+    let held = came (g.S.Source.seen c.args.source.now).left (g.S.Source.seen c.loop-count.source).left (g.S.Source.seen c.fill.new.source).left
     c.loop-count.buffer c.fill.new.buffer c.loop-count.reader.draft c.loop-count.reader.number c.loop-count.held c.in-Ok.count c.loop-count.invariant.between
     c.in-Ok.ensures.kept c.in-Ok.ensures.bytes in
     let room : length c.loop-count.buffer ≡ 8192 = c.loop-count.invariant.between.room in
     let few : length (take (c.loop-count.held + c.in-Ok.count) c.fill.new.buffer) ≤ 8192 = rw (length-take-le (c.loop-count.held + c.in-Ok.count) c.fill.new.buffer (omega (arith, c.in-Ok.ensures.bound))) (omega (arith, c.in-Ok.ensures.bound)) in
-    answers_along (g.S.Source.left c.args.source.now) (g.S.Source.left c.fill.new.source) c.from_residual.result (Err c.in_err-held.field-0.0) (p.1 ∙ ap (λ (f : TraceFault). Err f) p.2)
-    (piece_fault (g.S.Source.left c.args.source.now) (g.S.Source.left c.fill.new.source) (take (c.loop-count.held + c.in-Ok.count) c.fill.new.buffer)
+    answers_along (g.S.Source.seen c.args.source.now).left (g.S.Source.seen c.fill.new.source).left c.from_residual.result (Err c.in_err-held.field-0.0) (p.1 ∙ ap (λ (f : TraceFault). Err f) p.2)
+    (piece_fault (g.S.Source.seen c.args.source.now).left (g.S.Source.seen c.fill.new.source).left (take (c.loop-count.held + c.in-Ok.count) c.fill.new.buffer)
     c.loop-count.reader.draft.part c.loop-count.reader.number c.in_err-held.field-0.0 few held
     c.in_err-held.ensures.err)
 
 pub loop-count-preserved : goal.loop-count-preserved
 loop-count-preserved g c =
-    let held = came (g.S.Source.left c.args.source.now) (g.S.Source.left c.loop-count.source) (g.S.Source.left c.fill.new.source)
+    let held = came (g.S.Source.seen c.args.source.now).left (g.S.Source.seen c.loop-count.source).left (g.S.Source.seen c.fill.new.source).left
     c.loop-count.buffer c.fill.new.buffer c.loop-count.reader.draft c.loop-count.reader.number c.loop-count.held c.in-Ok.count c.loop-count.invariant.between
     c.in-Ok.ensures.kept c.in-Ok.ensures.bytes in
     let whole : length (take (c.loop-count.held + c.in-Ok.count) c.fill.new.buffer) ≡ c.loop-count.held + c.in-Ok.count =
     length-take-le (c.loop-count.held + c.in-Ok.count) c.fill.new.buffer (omega (arith, c.in-Ok.ensures.bound)) in
     record {
-      between = went_on (g.S.Source.left c.args.source.now) (g.S.Source.left c.fill.new.source) (take (c.loop-count.held + c.in-Ok.count) c.fill.new.buffer) c.keep_last.new.buffer
+      between = went_on (g.S.Source.seen c.args.source.now).left (g.S.Source.seen c.fill.new.source).left (take (c.loop-count.held + c.in-Ok.count) c.fill.new.buffer) c.keep_last.new.buffer
           c.loop-count.reader.draft.part c.take_piece.new.self.draft c.loop-count.reader.number c.take_piece.new.self.number c.in_ok-held.held held
           c.in_ok-held.ensures.ok (omega arith)
           (c.keep_last.ensures ∙ ap (λ (n : ℕ). drop (n - c.in_ok-held.held) (take (c.loop-count.held + c.in-Ok.count) c.fill.new.buffer)) (sym whole));

@@ -4,8 +4,8 @@ use Rattle.trace_reader.proofs.read.read_pieces.Given as goal
 
 abbrev pub invariant-loop-count : goal.invariant-loop-count
 invariant-loop-count g l = record {
-  between : IsBetween (g.S.Source.left l.fn.source) (g.S.Source.left l.source) l.buffer l.reader.draft l.reader.number l.held;
-  faults : g.S.Source.faults l.source ≡ g.S.Source.faults l.fn.source;
+  between : IsBetween (g.S.Source.seen l.fn.source).left (g.S.Source.seen l.source).left l.buffer l.reader.draft l.reader.number l.held;
+  faults : (g.S.Source.seen l.source).failures ≡ (g.S.Source.seen l.fn.source).failures;
 }
 
 abbrev pub decreases-loop-count : goal.decreases-loop-count

@@ -6,9 +6,9 @@ use Rattle.vm_dump.proofs.fill.fill.Given as goal
 abbrev pub invariant-loop-held : goal.invariant-loop-held
 invariant-loop-held g l = record {
   within : l.held ≤ length l.buffer;
-  bytes : Consumes (g.S.Source.left l.initial.source) (g.S.Source.left l.source) (take l.held l.buffer);
-  told : IsSome (g.S.Source.left l.initial.source) → IsSome (g.S.Source.left l.source);
-  faults : g.S.Source.faults l.source ≡ g.S.Source.faults l.initial.source;
+  bytes : Consumes (g.S.Source.seen l.initial.source).left (g.S.Source.seen l.source).left (take l.held l.buffer);
+  known : IsSome (g.S.Source.seen l.initial.source).left → IsSome (g.S.Source.seen l.source).left;
+  faults : (g.S.Source.seen l.source).failures ≡ (g.S.Source.seen l.initial.source).failures;
 }
 
 abbrev pub decreases-loop-held : goal.decreases-loop-held

@@ -27,7 +27,7 @@ returns-in-Ok-Ok-clause-text g c =
     let count = length-take-le held c.fill-held.new.buffer c.fill-held.ensures.bound in
     let long : 786792 < length c.fill-held.new.buffer = omega arith in
     let end = rw c.in-Ok-Ok.is-1 at c.fill-held.ensures.end in
-    whole_read (g.S.Source.left c.args.source.now) (g.S.Source.left c.fill-held.new.source) (take held c.fill-held.new.buffer) (dumped c.whole_in.new.dump) (length c.fill-held.new.buffer)
+    whole_read (g.S.Source.seen c.args.source.now).left (g.S.Source.seen c.fill-held.new.source).left (take held c.fill-held.new.buffer) (dumped c.whole_in.new.dump) (length c.fill-held.new.buffer)
     c.fill-held.ensures.bytes long (λ lt. end (omega (arith, lt, count))) (rw c.in-Ok-Ok.is-0 at c.whole_in.ensures)
 
 pub returns-in-Err-Ok-clause-text : goal.returns-in-Err-Ok-clause-text
@@ -37,25 +37,25 @@ returns-in-Err-Ok-clause-text g c =
     let long : 786792 < length c.fill-held.new.buffer = omega arith in
     let within : length (take held c.fill-held.new.buffer) ≤ length c.fill-held.new.buffer = omega (arith, count, c.fill-held.ensures.bound) in
     let end = rw c.in-Err-Ok.is-1 at c.fill-held.ensures.end in
-    let bad = bad_ended (g.S.Source.left c.args.source.now) (g.S.Source.left c.fill-held.new.source) (take held c.fill-held.new.buffer) c.in-Err-Ok.left.0 (length c.fill-held.new.buffer)
+    let bad = bad_ended (g.S.Source.seen c.args.source.now).left (g.S.Source.seen c.fill-held.new.source).left (take held c.fill-held.new.buffer) c.in-Err-Ok.left.0 (length c.fill-held.new.buffer)
     c.fill-held.ensures.bytes long within (λ lt. end (omega (arith, lt, count))) c.in-Err-Ok.ensures in
-    subst (λ (n : ℕ). IfSome (g.S.Source.left c.args.source.now) (λ text. IsBadAfter text (n - c.in-Err-Ok.left.0))) count bad
+    subst (λ (n : ℕ). IfSome (g.S.Source.seen c.args.source.now).left (λ text. IsBadAfter text (n - c.in-Err-Ok.left.0))) count bad
 
 pub returns-in-Err-Err-clause-text : goal.returns-in-Err-Err-clause-text
 returns-in-Err-Err-clause-text g c =
     let held = c.fill-held.result.0 in
     let count = length-take-le held c.fill-held.new.buffer c.fill-held.ensures.bound in
-    let bad = bad_inside (g.S.Source.left c.args.source.now) (g.S.Source.left c.fill-held.new.source) (take held c.fill-held.new.buffer) c.in-Err-Err.left.0
+    let bad = bad_inside (g.S.Source.seen c.args.source.now).left (g.S.Source.seen c.fill-held.new.source).left (take held c.fill-held.new.buffer) c.in-Err-Err.left.0
     c.fill-held.ensures.bytes c.if-left-gt0.true c.in-Err-Err.ensures in
-    subst (λ (n : ℕ). IfSome (g.S.Source.left c.args.source.now) (λ text. IsBadAfter text (n - c.in-Err-Err.left.0))) count bad
+    subst (λ (n : ℕ). IfSome (g.S.Source.seen c.args.source.now).left (λ text. IsBadAfter text (n - c.in-Err-Err.left.0))) count bad
 
 pub returns-in_default-Err-clause-text : goal.returns-in_default-Err-clause-text
 returns-in_default-Err-clause-text g c =
-    cut_told (g.S.Source.left c.args.source.now) (g.S.Source.left c.fill-held.new.source) (take c.fill-held.result.0 c.fill-held.new.buffer) c.fill-held.ensures.bytes
+    cut_told (g.S.Source.seen c.args.source.now).left (g.S.Source.seen c.fill-held.new.source).left (take c.fill-held.result.0 c.fill-held.new.buffer) c.fill-held.ensures.bytes
     (whole_begins (take c.fill-held.result.0 c.fill-held.new.buffer) (dumped c.whole_in.new.dump) (rw c.in_default-Err.is-0 at c.whole_in.ensures))
 
 pub returns-in_default-Err-2-clause-text : goal.returns-in_default-Err-2-clause-text
 returns-in_default-Err-2-clause-text g c =
     let none : c.in-Err-Err.left.0 ≡ 0 = omega arith in
-    cut_told (g.S.Source.left c.args.source.now) (g.S.Source.left c.fill-held.new.source) (take c.fill-held.result.0 c.fill-held.new.buffer) c.fill-held.ensures.bytes
+    cut_told (g.S.Source.seen c.args.source.now).left (g.S.Source.seen c.fill-held.new.source).left (take c.fill-held.result.0 c.fill-held.new.buffer) c.fill-held.ensures.bytes
     (cut_begins (take c.fill-held.result.0 c.fill-held.new.buffer) (rw none at c.in-Err-Err.ensures))

@@ -1,6 +1,5 @@
 use Rattle.std.proofs.Common.{drop, map}
 use Rattle.std.specs.List.{flat_map}
-use Rattle.outside_io.specs.Views.{sink_view}
 use Rattle.outside_io.proofs.WritesInTurn.{Progress}
 use Rattle.vm_dump.specs.Dumped.{process_of}
 use Rattle.vm_dump.specs.Text.{process_text}
@@ -8,5 +7,5 @@ use Rattle.vm_dump.proofs.write.write_processes.Given as goal
 
 abbrev pub invariant-loop-proc : goal.invariant-loop-proc
 invariant-loop-proc g l =
-    Progress (sink_view (g.K.Sink.taken l.initial.sink) (g.K.Sink.faults l.initial.sink) (g.K.Sink.stalls l.initial.sink)) (sink_view (g.K.Sink.taken l.sink) (g.K.Sink.faults l.sink) (g.K.Sink.stalls l.sink))
+    Progress (g.K.Sink.seen l.initial.sink) (g.K.Sink.seen l.sink)
     (flat_map process_text (map process_of l.procs)) (flat_map process_text (map process_of (drop l.proc-index l.procs)))

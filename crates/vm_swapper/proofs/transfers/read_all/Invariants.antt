@@ -5,7 +5,7 @@ use Rattle.vm_swapper.proofs.transfers.read_all.Given as goal
 -- the pages from this one on are left
 abbrev pub invariant-loop-a : goal.invariant-loop-a
 invariant-loop-a g l = record {
-  reading : IsReadingFrom g.B.Block.content g.B.Block.plan g.B.Block.reads g.B.Block.writes g.B.Block.faults g.B.Block.tells_content g.B.Block.tells_plan
+  reading : IsReadingFrom g.B.Block.seen g.B.Block.tells
       l.fn.state l.fn.seat (l.fn.p).0 (all_reads l.fn.state (l.fn.p).0 l.fn.n l.addresses) (drop l.a-index l.addresses) l.slot l.a-index l.state l.carrier;
   slot : l.slot ≡ l.fn.n + l.a-index;
 }

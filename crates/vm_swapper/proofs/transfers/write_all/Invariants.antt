@@ -6,7 +6,6 @@ use Rattle.vm_swapper.proofs.transfers.write_all.Given as goal
 -- the frames from this one on are left
 abbrev pub invariant-loop-f : goal.invariant-loop-f
 invariant-loop-f g l = record {
-  writing : IsWriting g.B.Block.content g.B.Block.plan g.B.Block.reads g.B.Block.writes g.B.Block.faults g.B.Block.tells_content g.B.Block.tells_plan
-      l.fn.state l.fn.seat (l.fn.p).0 (writes_from (l.fn.p).0 l.fn.n l.frames) (drop l.f-index l.frames) l.slot l.f-index l.state l.carrier;
+  writing : IsWriting g.B.Block.seen g.B.Block.tells l.fn.state l.fn.seat (l.fn.p).0 (writes_from (l.fn.p).0 l.fn.n l.frames) (drop l.f-index l.frames) l.slot l.f-index l.state l.carrier;
   slot : l.slot ≡ l.fn.n + l.f-index;
 }

@@ -20,8 +20,8 @@ returns-clause-held g c = subst (λ (s : StoreView g.row.B.Denot). held_at s.blo
 
 pub invariant_of-result : goal.invariant_of-result
 invariant_of-result g c =
-    let few = subst (λ (s : StoreView g.row.B.Denot). IfSome (held_at s.blocks (number_in s.ids c.args.id)) (λ b. g.B.Block.reads b + g.B.Block.writes b < 2 ^ 48)) (sym c.self.view_is) c.requires.few_calls in
-    subst (λ (o : Option g.row.B.Denot). IfSome o (λ b. g.B.Block.reads b + g.B.Block.writes b < 2 ^ 48)) c.take-block.ensures.block few
+    let few = subst (λ (s : StoreView g.row.B.Denot). IfSome (held_at s.blocks (number_in s.ids c.args.id)) (λ b. (g.B.Block.seen b).reads + (g.B.Block.seen b).writes < 2 ^ 48)) (sym c.self.view_is) c.requires.few_calls in
+    subst (λ (o : Option g.row.B.Denot). IfSome o (λ b. (g.B.Block.seen b).reads + (g.B.Block.seen b).writes < 2 ^ 48)) c.take-block.ensures.block few
 
 pub returns-clause-store : goal.returns-clause-store
 returns-clause-store g c =

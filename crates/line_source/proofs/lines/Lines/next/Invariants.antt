@@ -9,9 +9,9 @@ abbrev pub invariant-loop-self : goal.invariant-loop-self
 invariant-loop-self g l = record {
   same_reference : l.self.source.ghost_name ≡ l.fn.self.source.ghost_name;
   in_line : IsInLine l.out.items;
-  split : IsSplit (bytes_left g.S.Source.left l.fn.self) (bytes_left g.S.Source.left l.self) l.out.items;
-  told : IsSome (g.S.Source.left l.fn.self.source.now) → IsSome (g.S.Source.left l.self.source.now);
-  quiet : g.S.Source.faults l.self.source.now ≡ g.S.Source.faults l.fn.self.source.now;
+  split : IsSplit (bytes_left g.S.Source.seen l.fn.self) (bytes_left g.S.Source.seen l.self) l.out.items;
+  known : IsSome (g.S.Source.seen l.fn.self.source.now).left → IsSome (g.S.Source.seen l.self.source.now).left;
+  quiet : (g.S.Source.seen l.self.source.now).failures ≡ (g.S.Source.seen l.fn.self.source.now).failures;
 }
 
 abbrev pub decreases-loop-self : goal.decreases-loop-self

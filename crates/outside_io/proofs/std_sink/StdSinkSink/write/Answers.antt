@@ -1,10 +1,10 @@
-use Rattle.outside_io.proofs.Handing.{told_alike}
+use Rattle.outside_io.proofs.Handing.{known_alike}
 use Rattle.outside_io.proofs.std_sink.StdSinkSink.write.Goals as goal
 
-pub returns-in_err-empty_buffer-clause-told : goal.returns-in_err-empty_buffer-clause-told
-returns-in_err-empty_buffer-clause-told g c =
-    told_alike _ _ _ _ (g.met.W.SteadyWrite.steady c.empty_buffer.new.self.writer c.args.self.now.writer)
+pub returns-in_err-empty_buffer-clause-known : goal.returns-in_err-empty_buffer-clause-known
+returns-in_err-empty_buffer-clause-known g c =
+    known_alike _ _ _ _ (g.met.W.SteadyWrite.steady c.empty_buffer.new.self.writer c.args.self.now.writer)
 
-pub returns-clause-told : goal.returns-clause-told
-returns-clause-told g c =
-    told_alike _ _ _ _ (g.met.W.SteadyWrite.steady c.if-self-gt0.self.writer c.args.self.now.writer)
+pub returns-clause-known : goal.returns-clause-known
+returns-clause-known g c =
+    known_alike _ _ _ _ (g.met.W.SteadyWrite.steady c.if-self-gt0.self.writer c.args.self.now.writer)

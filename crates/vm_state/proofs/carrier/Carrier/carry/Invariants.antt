@@ -9,5 +9,5 @@ invariant-loop-n g l = record {
   seat : l.self-inside.seat ≡ l.initial.self-inside.seat;
   room : 16 ≤ vec_capacity l.self-inside.lifts;
   many : vec_len l.self-inside.lifts ≡ vec_len l.initial.self-inside.lifts;
-  carried : AreCarriedTo g.B.Block.tells_content g.B.Block.content g.B.Block.plan g.B.Block.reads g.B.Block.writes g.B.Block.faults l.n l.initial.self-inside.lifts.items l.self-inside.lifts.items;
+  carried : AreCarriedTo g.B.Block.seen g.B.Block.tells l.n l.initial.self-inside.lifts.items l.self-inside.lifts.items;
 }

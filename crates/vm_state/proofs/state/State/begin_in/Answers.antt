@@ -9,7 +9,7 @@ use Rattle.vm_state.proofs.state.State.begin_in.Goals as goal
 
 pub returns-clause-fit : goal.returns-clause-fit
 returns-clause-fit g c = λ all.
-    subst (λ (v : CarrierView g.row.B.Denot). AllByRecursion (LiftFits g.B.Block.content g.B.Block.plan g.B.Block.reads g.B.Block.writes g.B.Block.faults g.B.Block.tells_content g.B.Block.tells_plan c.lift_in-lift.new.self.config c.lift_in-lift.new.self.past) v.lifts) (sym c.take.ensures)
-    (all_and_one (LiftFits g.B.Block.content g.B.Block.plan g.B.Block.reads g.B.Block.writes g.B.Block.faults g.B.Block.tells_content g.B.Block.tells_plan c.lift_in-lift.new.self.config c.lift_in-lift.new.self.past) c.args.carrier.now.lifts c.lift_in-lift.result
-    (each_weaker (LiftFits g.B.Block.content g.B.Block.plan g.B.Block.reads g.B.Block.writes g.B.Block.faults g.B.Block.tells_content g.B.Block.tells_plan c.args.self.now.config c.args.self.now.past) (LiftFits g.B.Block.content g.B.Block.plan g.B.Block.reads g.B.Block.writes g.B.Block.faults g.B.Block.tells_content g.B.Block.tells_plan c.lift_in-lift.new.self.config c.lift_in-lift.new.self.past) c.lift_in-lift.ensures.others c.args.carrier.now.lifts all)
-    (fits_before g.B.Block.content g.B.Block.plan g.B.Block.reads g.B.Block.writes g.B.Block.faults g.B.Block.tells_content g.B.Block.tells_plan c.lift_in-lift.result c.lift_in-lift.ensures.state c.lift_in-lift.ensures.lift.fits))
+    subst (λ (v : CarrierView g.row.B.Denot). AllByRecursion (LiftFits g.B.Block.seen g.B.Block.tells c.lift_in-lift.new.self.config c.lift_in-lift.new.self.past) v.lifts) (sym c.take.ensures)
+    (all_and_one (LiftFits g.B.Block.seen g.B.Block.tells c.lift_in-lift.new.self.config c.lift_in-lift.new.self.past) c.args.carrier.now.lifts c.lift_in-lift.result
+    (each_weaker (LiftFits g.B.Block.seen g.B.Block.tells c.args.self.now.config c.args.self.now.past) (LiftFits g.B.Block.seen g.B.Block.tells c.lift_in-lift.new.self.config c.lift_in-lift.new.self.past) c.lift_in-lift.ensures.others c.args.carrier.now.lifts all)
+    (fits_before g.B.Block.seen g.B.Block.tells c.lift_in-lift.result c.lift_in-lift.ensures.state c.lift_in-lift.ensures.lift.fits))

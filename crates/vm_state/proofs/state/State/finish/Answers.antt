@@ -11,7 +11,7 @@ into_blocks-requires-after_bounds g c κs within = close.all_home c.self.invaria
 
 pub returns-clause-blocks : goal.returns-clause-blocks
 returns-clause-blocks g c =
-    subst (λ (s : History). AreGivenBack g.B.Block.content g.B.Block.plan g.B.Block.reads g.B.Block.writes g.B.Block.faults g.B.Block.tells_content g.B.Block.tells_plan s.config s.past c.into_blocks.result.items) c.self.view_is
+    subst (λ (s : History). AreGivenBack g.B.Block.seen g.B.Block.tells s.config s.past c.into_blocks.result.items) c.self.view_is
     (close.given_back c.self.invariant (subst (λ (s : History). open_flights s.past ≡ []) (sym c.self.view_is) c.requires) c.into_blocks.result.items c.into_blocks.ensures.ids c.into_blocks.ensures.blocks)
 
 pub returns-clause-entries : goal.returns-clause-entries

@@ -9,16 +9,16 @@ use Rattle.vm_state.proofs.ReadLands.{fits_before}
 use Rattle.vm_state.proofs.state.State.in_ok.Goals as goal
 
 pub index-requires : goal.index-requires
-index-requires g c = let less = landing.frame_there c.self.invariant c.args.seat c.args.lift (may_before c.self.view_is c.requires.may).legal (fits_before g.B.Block.content g.B.Block.plan g.B.Block.reads g.B.Block.writes g.B.Block.faults g.B.Block.tells_content g.B.Block.tells_plan c.args.lift c.self.view_is c.requires.fits) c.requires.read c.requires.good in omega (arith, less, c.frame.ensures, c.self.inside.roles.ok.0)
+index-requires g c = let less = landing.frame_there c.self.invariant c.args.seat c.args.lift (may_before c.self.view_is c.requires.may).legal (fits_before g.B.Block.seen g.B.Block.tells c.args.lift c.self.view_is c.requires.fits) c.requires.read c.requires.good in omega (arith, less, c.frame.ensures, c.self.inside.roles.ok.0)
 
 pub unwrap-role-requires : goal.unwrap-role-requires
-unwrap-role-requires g c = landing.role_there c.self.invariant c.args.seat c.args.lift (may_before c.self.view_is c.requires.may).legal (fits_before g.B.Block.content g.B.Block.plan g.B.Block.reads g.B.Block.writes g.B.Block.faults g.B.Block.tells_content g.B.Block.tells_plan c.args.lift c.self.view_is c.requires.fits) c.requires.read c.requires.good c.index.result.now (c.index.ensures ∙ ap (λ (f : ℕ). slice_index_or c.self.inside.roles.items f c.index.result.now) c.frame.ensures)
+unwrap-role-requires g c = landing.role_there c.self.invariant c.args.seat c.args.lift (may_before c.self.view_is c.requires.may).legal (fits_before g.B.Block.seen g.B.Block.tells c.args.lift c.self.view_is c.requires.fits) c.requires.read c.requires.good c.index.result.now (c.index.ensures ∙ ap (λ (f : ℕ). slice_index_or c.self.inside.roles.items f c.index.result.now) c.frame.ensures)
 
 pub in_ok_fault-requires-clause-fault : goal.in_ok_fault-requires-clause-fault
-in_ok_fault-requires-clause-fault g c κs within = subst (λ (s : History). IsReadAs s.past c.args.lift.start (role.Fault c.in-Fault.q c.in-Fault.a)) c.self.view_is (landing.role_as c.self.invariant c.args.seat c.args.lift (may_before c.self.view_is c.requires.may).legal (fits_before g.B.Block.content g.B.Block.plan g.B.Block.reads g.B.Block.writes g.B.Block.faults g.B.Block.tells_content g.B.Block.tells_plan c.args.lift c.self.view_is c.requires.fits) c.requires.read c.requires.good c.index.result.now (c.index.ensures ∙ ap (λ (f : ℕ). slice_index_or c.self.inside.roles.items f c.index.result.now) c.frame.ensures) (role.Fault c.in-Fault.q c.in-Fault.a) (c.unwrap-role.ensures ∙ ap Some c.in-Fault.is))
+in_ok_fault-requires-clause-fault g c κs within = subst (λ (s : History). IsReadAs s.past c.args.lift.start (role.Fault c.in-Fault.q c.in-Fault.a)) c.self.view_is (landing.role_as c.self.invariant c.args.seat c.args.lift (may_before c.self.view_is c.requires.may).legal (fits_before g.B.Block.seen g.B.Block.tells c.args.lift c.self.view_is c.requires.fits) c.requires.read c.requires.good c.index.result.now (c.index.ensures ∙ ap (λ (f : ℕ). slice_index_or c.self.inside.roles.items f c.index.result.now) c.frame.ensures) (role.Fault c.in-Fault.q c.in-Fault.a) (c.unwrap-role.ensures ∙ ap Some c.in-Fault.is))
 
 pub in_ok_near-requires-clause-near : goal.in_ok_near-requires-clause-near
-in_ok_near-requires-clause-near g c κs within = subst (λ (s : History). (page : Page) × IsReadAs s.past c.args.lift.start (role.Near page)) c.self.view_is (c.in-Near.field-0, landing.role_as c.self.invariant c.args.seat c.args.lift (may_before c.self.view_is c.requires.may).legal (fits_before g.B.Block.content g.B.Block.plan g.B.Block.reads g.B.Block.writes g.B.Block.faults g.B.Block.tells_content g.B.Block.tells_plan c.args.lift c.self.view_is c.requires.fits) c.requires.read c.requires.good c.index.result.now (c.index.ensures ∙ ap (λ (f : ℕ). slice_index_or c.self.inside.roles.items f c.index.result.now) c.frame.ensures) (role.Near c.in-Near.field-0) (c.unwrap-role.ensures ∙ ap Some c.in-Near.is))
+in_ok_near-requires-clause-near g c κs within = subst (λ (s : History). (page : Page) × IsReadAs s.past c.args.lift.start (role.Near page)) c.self.view_is (c.in-Near.field-0, landing.role_as c.self.invariant c.args.seat c.args.lift (may_before c.self.view_is c.requires.may).legal (fits_before g.B.Block.seen g.B.Block.tells c.args.lift c.self.view_is c.requires.fits) c.requires.read c.requires.good c.index.result.now (c.index.ensures ∙ ap (λ (f : ℕ). slice_index_or c.self.inside.roles.items f c.index.result.now) c.frame.ensures) (role.Near c.in-Near.field-0) (c.unwrap-role.ensures ∙ ap Some c.in-Near.is))
 
 pub in_ok_come-requires-clause-come : goal.in_ok_come-requires-clause-come
-in_ok_come-requires-clause-come g c κs within = subst (λ (s : History). IsReadAs s.past c.args.lift.start (role.Come c.in-Come.q c.in-Come.a)) c.self.view_is (landing.role_as c.self.invariant c.args.seat c.args.lift (may_before c.self.view_is c.requires.may).legal (fits_before g.B.Block.content g.B.Block.plan g.B.Block.reads g.B.Block.writes g.B.Block.faults g.B.Block.tells_content g.B.Block.tells_plan c.args.lift c.self.view_is c.requires.fits) c.requires.read c.requires.good c.index.result.now (c.index.ensures ∙ ap (λ (f : ℕ). slice_index_or c.self.inside.roles.items f c.index.result.now) c.frame.ensures) (role.Come c.in-Come.q c.in-Come.a) (c.unwrap-role.ensures ∙ ap Some c.in-Come.is))
+in_ok_come-requires-clause-come g c κs within = subst (λ (s : History). IsReadAs s.past c.args.lift.start (role.Come c.in-Come.q c.in-Come.a)) c.self.view_is (landing.role_as c.self.invariant c.args.seat c.args.lift (may_before c.self.view_is c.requires.may).legal (fits_before g.B.Block.seen g.B.Block.tells c.args.lift c.self.view_is c.requires.fits) c.requires.read c.requires.good c.index.result.now (c.index.ensures ∙ ap (λ (f : ℕ). slice_index_or c.self.inside.roles.items f c.index.result.now) c.frame.ensures) (role.Come c.in-Come.q c.in-Come.a) (c.unwrap-role.ensures ∙ ap Some c.in-Come.is))

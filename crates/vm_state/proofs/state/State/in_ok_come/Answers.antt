@@ -12,49 +12,49 @@ use Rattle.vm_state.proofs.ReadsComing as close
 use Rattle.vm_state.proofs.state.State.in_ok_come.Goals as goal
 
 pub index_mut-row-requires : goal.index_mut-row-requires
-index_mut-row-requires g c = let less = (close.come_can c.self.invariant c.args.seat c.args.lift (may_before c.self.view_is c.requires.may).legal (fits_before g.B.Block.content g.B.Block.plan g.B.Block.reads g.B.Block.writes g.B.Block.faults g.B.Block.tells_content g.B.Block.tells_plan c.args.lift c.self.view_is c.requires.fits) c.args.q c.args.a (subst (λ (s : History). IsReadAs s.past c.args.lift.start (role.Come c.args.q c.args.a)) (sym c.self.view_is) c.requires.come)).process in omega (arith, less)
+index_mut-row-requires g c = let less = (close.come_can c.self.invariant c.args.seat c.args.lift (may_before c.self.view_is c.requires.may).legal (fits_before g.B.Block.seen g.B.Block.tells c.args.lift c.self.view_is c.requires.fits) c.args.q c.args.a (subst (λ (s : History). IsReadAs s.past c.args.lift.start (role.Come c.args.q c.args.a)) (sym c.self.view_is) c.requires.come)).process in omega (arith, less)
 
 pub come_home-slot-requires : goal.come_home-slot-requires
-come_home-slot-requires g c = close.can_home c.self.invariant c.args.seat c.args.lift (may_before c.self.view_is c.requires.may).legal (fits_before g.B.Block.content g.B.Block.plan g.B.Block.reads g.B.Block.writes g.B.Block.faults g.B.Block.tells_content g.B.Block.tells_plan c.args.lift c.self.view_is c.requires.fits) c.args.q c.args.a (subst (λ (s : History). IsReadAs s.past c.args.lift.start (role.Come c.args.q c.args.a)) (sym c.self.view_is) c.requires.come) c.index_mut-row.result.now c.index_mut-row.ensures.value
+come_home-slot-requires g c = close.can_home c.self.invariant c.args.seat c.args.lift (may_before c.self.view_is c.requires.may).legal (fits_before g.B.Block.seen g.B.Block.tells c.args.lift c.self.view_is c.requires.fits) c.args.q c.args.a (subst (λ (s : History). IsReadAs s.past c.args.lift.start (role.Come c.args.q c.args.a)) (sym c.self.view_is) c.requires.come) c.index_mut-row.result.now c.index_mut-row.ensures.value
 
 pub end_read-requires-clause-below : goal.end_read-requires-clause-below
-end_read-requires-clause-below g c = rw ((c.frames_mut.ensures.value ∙ (ap (λ (s : StoreView g.row.B.Denot). s.frames) c.land.ensures.store)), c.frame-f.ensures) ((ended.can c.self.invariant c.args.seat c.args.lift (may_before c.self.view_is c.requires.may).legal (fits_before g.B.Block.content g.B.Block.plan g.B.Block.reads g.B.Block.writes g.B.Block.faults g.B.Block.tells_content g.B.Block.tells_plan c.args.lift c.self.view_is c.requires.fits)).below)
+end_read-requires-clause-below g c = rw ((c.frames_mut.ensures.value ∙ (ap (λ (s : StoreView g.row.B.Denot). s.frames) c.land.ensures.store)), c.frame-f.ensures) ((ended.can c.self.invariant c.args.seat c.args.lift (may_before c.self.view_is c.requires.may).legal (fits_before g.B.Block.seen g.B.Block.tells c.args.lift c.self.view_is c.requires.fits)).below)
 
 pub end_read-requires-clause-reading : goal.end_read-requires-clause-reading
-end_read-requires-clause-reading g c = rw ((c.frames_mut.ensures.value ∙ (ap (λ (s : StoreView g.row.B.Denot). s.frames) c.land.ensures.store)), c.frame-f.ensures) (ended.is_reading c.self.invariant c.args.seat c.args.lift (may_before c.self.view_is c.requires.may).legal (fits_before g.B.Block.content g.B.Block.plan g.B.Block.reads g.B.Block.writes g.B.Block.faults g.B.Block.tells_content g.B.Block.tells_plan c.args.lift c.self.view_is c.requires.fits))
+end_read-requires-clause-reading g c = rw ((c.frames_mut.ensures.value ∙ (ap (λ (s : StoreView g.row.B.Denot). s.frames) c.land.ensures.store)), c.frame-f.ensures) (ended.is_reading c.self.invariant c.args.seat c.args.lift (may_before c.self.view_is c.requires.may).legal (fits_before g.B.Block.seen g.B.Block.tells c.args.lift c.self.view_is c.requires.fits))
 
 pub end_read-requires-clause-flights : goal.end_read-requires-clause-flights
-end_read-requires-clause-flights g c = rw ((c.frames_mut.ensures.value ∙ (ap (λ (s : StoreView g.row.B.Denot). s.frames) c.land.ensures.store)), c.frame-f.ensures) (ended.one_flight c.self.invariant c.args.seat c.args.lift (may_before c.self.view_is c.requires.may).legal (fits_before g.B.Block.content g.B.Block.plan g.B.Block.reads g.B.Block.writes g.B.Block.faults g.B.Block.tells_content g.B.Block.tells_plan c.args.lift c.self.view_is c.requires.fits))
+end_read-requires-clause-flights g c = rw ((c.frames_mut.ensures.value ∙ (ap (λ (s : StoreView g.row.B.Denot). s.frames) c.land.ensures.store)), c.frame-f.ensures) (ended.one_flight c.self.invariant c.args.seat c.args.lift (may_before c.self.view_is c.requires.may).legal (fits_before g.B.Block.seen g.B.Block.tells c.args.lift c.self.view_is c.requires.fits))
 
 pub end_read-requires-clause-page : goal.end_read-requires-clause-page
-end_read-requires-clause-page g c = rw ((c.frames_mut.ensures.value ∙ (ap (λ (s : StoreView g.row.B.Denot). s.frames) c.land.ensures.store)), c.frame-f.ensures) (close.come_page c.self.invariant c.args.seat c.args.lift (may_before c.self.view_is c.requires.may).legal (fits_before g.B.Block.content g.B.Block.plan g.B.Block.reads g.B.Block.writes g.B.Block.faults g.B.Block.tells_content g.B.Block.tells_plan c.args.lift c.self.view_is c.requires.fits) c.args.q c.args.a (subst (λ (s : History). IsReadAs s.past c.args.lift.start (role.Come c.args.q c.args.a)) (sym c.self.view_is) c.requires.come))
+end_read-requires-clause-page g c = rw ((c.frames_mut.ensures.value ∙ (ap (λ (s : StoreView g.row.B.Denot). s.frames) c.land.ensures.store)), c.frame-f.ensures) (close.come_page c.self.invariant c.args.seat c.args.lift (may_before c.self.view_is c.requires.may).legal (fits_before g.B.Block.seen g.B.Block.tells c.args.lift c.self.view_is c.requires.fits) c.args.q c.args.a (subst (λ (s : History). IsReadAs s.past c.args.lift.start (role.Come c.args.q c.args.a)) (sym c.self.view_is) c.requires.come))
 
 pub unwrap-prot-requires : goal.unwrap-prot-requires
-unwrap-prot-requires g c = subst IsSome (sym (looked c.self.inside.tables c.args.q.0 (c.args.a.0 / 512) c.look-look.result c.entry_in.result c.look-look.ensures.value c.entry_in.ensures)) (close.come_can c.self.invariant c.args.seat c.args.lift (may_before c.self.view_is c.requires.may).legal (fits_before g.B.Block.content g.B.Block.plan g.B.Block.reads g.B.Block.writes g.B.Block.faults g.B.Block.tells_content g.B.Block.tells_plan c.args.lift c.self.view_is c.requires.fits) c.args.q c.args.a (subst (λ (s : History). IsReadAs s.past c.args.lift.start (role.Come c.args.q c.args.a)) (sym c.self.view_is) c.requires.come)).mapped
+unwrap-prot-requires g c = subst IsSome (sym (looked c.self.inside.tables c.args.q.0 (c.args.a.0 / 512) c.look-look.result c.entry_in.result c.look-look.ensures.value c.entry_in.ensures)) (close.come_can c.self.invariant c.args.seat c.args.lift (may_before c.self.view_is c.requires.may).legal (fits_before g.B.Block.seen g.B.Block.tells c.args.lift c.self.view_is c.requires.fits) c.args.q c.args.a (subst (λ (s : History). IsReadAs s.past c.args.lift.start (role.Come c.args.q c.args.a)) (sym c.self.view_is) c.requires.come)).mapped
 
 pub set-requires-clause-entry : goal.set-requires-clause-entry
-set-requires-clause-entry g c = rw c.frame-f.ensures ((close.come_can c.self.invariant c.args.seat c.args.lift (may_before c.self.view_is c.requires.may).legal (fits_before g.B.Block.content g.B.Block.plan g.B.Block.reads g.B.Block.writes g.B.Block.faults g.B.Block.tells_content g.B.Block.tells_plan c.args.lift c.self.view_is c.requires.fits) c.args.q c.args.a (subst (λ (s : History). IsReadAs s.past c.args.lift.start (role.Come c.args.q c.args.a)) (sym c.self.view_is) c.requires.come)).entry c.unwrap-prot.result (sym (looked c.self.inside.tables c.args.q.0 (c.args.a.0 / 512) c.look-look.result c.entry_in.result c.look-look.ensures.value c.entry_in.ensures) ∙ c.unwrap-prot.ensures))
+set-requires-clause-entry g c = rw c.frame-f.ensures ((close.come_can c.self.invariant c.args.seat c.args.lift (may_before c.self.view_is c.requires.may).legal (fits_before g.B.Block.seen g.B.Block.tells c.args.lift c.self.view_is c.requires.fits) c.args.q c.args.a (subst (λ (s : History). IsReadAs s.past c.args.lift.start (role.Come c.args.q c.args.a)) (sym c.self.view_is) c.requires.come)).entry c.unwrap-prot.result (sym (looked c.self.inside.tables c.args.q.0 (c.args.a.0 / 512) c.look-look.result c.entry_in.result c.look-look.ensures.value c.entry_in.ensures) ∙ c.unwrap-prot.ensures))
 
 pub index_mut-requires : goal.index_mut-requires
-index_mut-requires g c = let less = (ended.can c.self.invariant c.args.seat c.args.lift (may_before c.self.view_is c.requires.may).legal (fits_before g.B.Block.content g.B.Block.plan g.B.Block.reads g.B.Block.writes g.B.Block.faults g.B.Block.tells_content g.B.Block.tells_plan c.args.lift c.self.view_is c.requires.fits)).roles in omega (arith, less, c.frame-f.ensures, c.self.inside.roles.ok.0)
+index_mut-requires g c = let less = (ended.can c.self.invariant c.args.seat c.args.lift (may_before c.self.view_is c.requires.may).legal (fits_before g.B.Block.seen g.B.Block.tells c.args.lift c.self.view_is c.requires.fits)).roles in omega (arith, less, c.frame-f.ensures, c.self.inside.roles.ok.0)
 
 pub overflow_sub-busy : goal.overflow_sub-busy
-overflow_sub-busy g c = let some = (ended.can c.self.invariant c.args.seat c.args.lift (may_before c.self.view_is c.requires.may).legal (fits_before g.B.Block.content g.B.Block.plan g.B.Block.reads g.B.Block.writes g.B.Block.faults g.B.Block.tells_content g.B.Block.tells_plan c.args.lift c.self.view_is c.requires.fits)).busy c.index_mut-busy.result.now c.index_mut-busy.ensures.value in omega (arith, some)
+overflow_sub-busy g c = let some = (ended.can c.self.invariant c.args.seat c.args.lift (may_before c.self.view_is c.requires.may).legal (fits_before g.B.Block.seen g.B.Block.tells c.args.lift c.self.view_is c.requires.fits)).busy c.index_mut-busy.result.now c.index_mut-busy.ensures.value in omega (arith, some)
 
 pub land-requires-clause-frame : goal.land-requires-clause-frame
-land-requires-clause-frame g c κs within = ended.frame_there c.self.invariant c.args.seat c.args.lift (may_before c.self.view_is c.requires.may).legal (fits_before g.B.Block.content g.B.Block.plan g.B.Block.reads g.B.Block.writes g.B.Block.faults g.B.Block.tells_content g.B.Block.tells_plan c.args.lift c.self.view_is c.requires.fits)
+land-requires-clause-frame g c κs within = ended.frame_there c.self.invariant c.args.seat c.args.lift (may_before c.self.view_is c.requires.may).legal (fits_before g.B.Block.seen g.B.Block.tells c.args.lift c.self.view_is c.requires.fits)
 
 pub land-requires-clause-buffer : goal.land-requires-clause-buffer
-land-requires-clause-buffer g c κs within = λ reads. ended.buffer_out c.self.invariant c.args.seat c.args.lift (may_before c.self.view_is c.requires.may).legal (fits_before g.B.Block.content g.B.Block.plan g.B.Block.reads g.B.Block.writes g.B.Block.faults g.B.Block.tells_content g.B.Block.tells_plan c.args.lift c.self.view_is c.requires.fits)
+land-requires-clause-buffer g c κs within = λ reads. ended.buffer_out c.self.invariant c.args.seat c.args.lift (may_before c.self.view_is c.requires.may).legal (fits_before g.B.Block.seen g.B.Block.tells c.args.lift c.self.view_is c.requires.fits)
 
 pub land-requires-clause-block : goal.land-requires-clause-block
-land-requires-clause-block g c κs within = ended.block_out c.self.invariant c.args.seat c.args.lift (may_before c.self.view_is c.requires.may).legal (fits_before g.B.Block.content g.B.Block.plan g.B.Block.reads g.B.Block.writes g.B.Block.faults g.B.Block.tells_content g.B.Block.tells_plan c.args.lift c.self.view_is c.requires.fits)
+land-requires-clause-block g c κs within = ended.block_out c.self.invariant c.args.seat c.args.lift (may_before c.self.view_is c.requires.may).legal (fits_before g.B.Block.seen g.B.Block.tells c.args.lift c.self.view_is c.requires.fits)
 
 pub invariant_of-self : goal.invariant_of-self
 invariant_of-self g c =
     let may = may_before c.self.view_is c.requires.may in
     pushed _ _ (entry_by c.args.seat (what.InOk c.frame-f.result c.start-k.result)) c.push.new.self c.push.ensures
-    (close.come_closes c.self.invariant c.args.seat c.args.lift (may_before c.self.view_is c.requires.may).legal (fits_before g.B.Block.content g.B.Block.plan g.B.Block.reads g.B.Block.writes g.B.Block.faults g.B.Block.tells_content g.B.Block.tells_plan c.args.lift c.self.view_is c.requires.fits) c.args.q c.args.a (subst (λ (s : History). IsReadAs s.past c.args.lift.start (role.Come c.args.q c.args.a)) (sym c.self.view_is) c.requires.come)
+    (close.come_closes c.self.invariant c.args.seat c.args.lift (may_before c.self.view_is c.requires.may).legal (fits_before g.B.Block.seen g.B.Block.tells c.args.lift c.self.view_is c.requires.fits) c.args.q c.args.a (subst (λ (s : History). IsReadAs s.past c.args.lift.start (role.Come c.args.q c.args.a)) (sym c.self.view_is) c.requires.come)
     c.index_mut-row.result.now c.index_mut-row.ensures.value c.come_home-slot.new.row c.come_home-slot.result c.come_home-slot.new.pages c.come_home-slot.new.swaps c.come_home-slot.ensures
     c.end_read.new.frames (rw (← (c.frames_mut.ensures.value ∙ (ap (λ (s : StoreView g.row.B.Denot). s.frames) c.land.ensures.store))) c.end_read.ensures.free) (rw (← (c.frames_mut.ensures.value ∙ (ap (λ (s : StoreView g.row.B.Denot). s.frames) c.land.ensures.store))) c.end_read.ensures.modified)
     c.set.new.self c.unwrap-prot.result (sym (looked c.self.inside.tables c.args.q.0 (c.args.a.0 / 512) c.look-look.result c.entry_in.result c.look-look.ensures.value c.entry_in.ensures) ∙ c.unwrap-prot.ensures) c.set.ensures.procs

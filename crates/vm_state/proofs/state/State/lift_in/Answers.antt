@@ -77,7 +77,7 @@ invariant_of-self g c =
 
 pub returns-clause-lift : goal.returns-clause-lift
 returns-clause-lift g c =
-    subst (λ (s : History). HasBegun g.B.Block.content g.B.Block.plan g.B.Block.reads g.B.Block.writes g.B.Block.faults g.B.Block.tells_content g.B.Block.tells_plan s c.args.seat (what.In c.args.f c.args.block c.args.role) c.args.f.0 c.args.block true c.lift_in-lift.result) c.self.view_is
+    subst (λ (s : History). HasBegun g.B.Block.seen g.B.Block.tells s c.args.seat (what.In c.args.f c.args.block c.args.role) c.args.f.0 c.args.block true c.lift_in-lift.result) c.self.view_is
     (record {
       begins = close.lift_begun c.self.invariant c.args.seat c.args.f c.args.block c.args.role (may_before c.self.view_is c.requires).legal c.unwrap-page.result (sym c.read_page.ensures ∙ c.unwrap-page.ensures) c.lift_in-lift.result _ _ c.lift_in-lift.ensures.lift (next_number _ c.len-start.result c.len-start.ensures.len);
       fits = close.lift_fits c.self.invariant c.args.seat c.args.f c.args.block c.args.role (may_before c.self.view_is c.requires).legal c.unwrap-page.result (sym c.read_page.ensures ∙ c.unwrap-page.ensures) c.lift_in-lift.result _ _ c.lift_in-lift.ensures.lift (next_number _ c.len-start.result c.len-start.ensures.len) c.lift_in-lift.ensures.held;
@@ -85,5 +85,5 @@ returns-clause-lift g c =
 
 pub returns-clause-others : goal.returns-clause-others
 returns-clause-others g c = λ lift fit.
-    subst (λ (past : List Entry). LiftFits g.B.Block.content g.B.Block.plan g.B.Block.reads g.B.Block.writes g.B.Block.faults g.B.Block.tells_content g.B.Block.tells_plan c.self.inside.config past lift) (sym (newest_first _ c.push.new.self _ (entry_by c.args.seat (what.In c.args.f c.args.block c.args.role)) c.push.ensures))
-    (close.other_fits c.self.invariant c.args.seat c.args.f c.args.block c.args.role (may_before c.self.view_is c.requires).legal lift (fits_before g.B.Block.content g.B.Block.plan g.B.Block.reads g.B.Block.writes g.B.Block.faults g.B.Block.tells_content g.B.Block.tells_plan lift c.self.view_is fit))
+    subst (λ (past : List Entry). LiftFits g.B.Block.seen g.B.Block.tells c.self.inside.config past lift) (sym (newest_first _ c.push.new.self _ (entry_by c.args.seat (what.In c.args.f c.args.block c.args.role)) c.push.ensures))
+    (close.other_fits c.self.invariant c.args.seat c.args.f c.args.block c.args.role (may_before c.self.view_is c.requires).legal lift (fits_before g.B.Block.seen g.B.Block.tells lift c.self.view_is fit))

@@ -78,10 +78,10 @@ returns-clause-lift g c =
     let its = begin.lift_fits c.self.invariant c.args.seat c.args.f c.args.block (may_before c.self.view_is c.requires).legal c.lift_out-lift.result.buffer c.lift_out-lift.ensures.buffer c.lift_out-lift.result.held c.lift_out-lift.ensures.held
     c.self.inside.store.pool c.unwrap-page.result (begin.page_is c.self.invariant c.args.seat c.args.f c.args.block (may_before c.self.view_is c.requires).legal c.row-kept.result.page page_is c.unwrap-page.result c.unwrap-page.ensures)
     _ (next_number _ c.len-start.result c.len-start.ensures.len) c.lift_out-lift.result c.lift_out-lift.ensures.lift in
-    close.begun_before g.B.Block.content g.B.Block.plan g.B.Block.reads g.B.Block.writes g.B.Block.faults g.B.Block.tells_content g.B.Block.tells_plan c.args.seat c.args.f c.args.block c.lift_out-lift.result c.self.view_is
+    close.begun_before g.B.Block.seen g.B.Block.tells c.args.seat c.args.f c.args.block c.lift_out-lift.result c.self.view_is
     (record { begins = its.0; fits = its.1 })
 
 pub returns-clause-others : goal.returns-clause-others
 returns-clause-others g c = λ lift fit.
-    subst (λ (past : List Entry). LiftFits g.B.Block.content g.B.Block.plan g.B.Block.reads g.B.Block.writes g.B.Block.faults g.B.Block.tells_content g.B.Block.tells_plan c.self.inside.config past lift) (sym (newest_first _ c.push.new.self _ (entry_by c.args.seat (what.Out c.args.f c.args.block)) c.push.ensures))
-    (begin.other_fits c.self.invariant c.args.seat c.args.f c.args.block (may_before c.self.view_is c.requires).legal lift (fits_before g.B.Block.content g.B.Block.plan g.B.Block.reads g.B.Block.writes g.B.Block.faults g.B.Block.tells_content g.B.Block.tells_plan lift c.self.view_is fit))
+    subst (λ (past : List Entry). LiftFits g.B.Block.seen g.B.Block.tells c.self.inside.config past lift) (sym (newest_first _ c.push.new.self _ (entry_by c.args.seat (what.Out c.args.f c.args.block)) c.push.ensures))
+    (begin.other_fits c.self.invariant c.args.seat c.args.f c.args.block (may_before c.self.view_is c.requires).legal lift (fits_before g.B.Block.seen g.B.Block.tells lift c.self.view_is fit))

@@ -6,7 +6,7 @@ use Rattle.vm_state.proofs.state.State.start_with.Goals as goal
 
 pub invariant_of-result : goal.invariant_of-result
 invariant_of-result g c =
-    started g.B.Block.content g.B.Block.plan g.B.Block.reads g.B.Block.writes g.B.Block.faults g.B.Block.tells_content g.B.Block.tells_plan c.args.config c.args.blocks.items c.in_ok-store.store
+    started g.B.Block.seen g.B.Block.tells c.args.config c.args.blocks.items c.in_ok-store.store
     (record {
       left = c.in_ok-store.ensures.left;
       buffers = c.in_ok-store.ensures.buffers;

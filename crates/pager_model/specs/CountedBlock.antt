@@ -1,19 +1,13 @@
--- A block by what it tells, and which calls the configuration makes it fail at. This project's own.
+-- What a journal counts of a block as it is seen, and which calls the configuration makes it fail at. This
+-- project's own.
 use Rattle.std.specs.Prelude.{◌≡◌, ℕ, Bool, ◌+◌, List, [], Option, Some, None, find, if◌then◌else◌}
+use Rattle.vm_types.specs.BlockView.{BlockView}
 use Rattle.vm_types.specs.Same.{same_block}
 use Rattle.vm_types.specs.declared.names.BlockId.{BlockId}
 use Rattle.vm_types.specs.declared.config.Config.{Config}
 use Rattle.vm_types.specs.declared.config.Fails.{Fails}
 use Rattle.vm_journal.specs.declared.entry.Entry.{Entry}
 use Rattle.pager_model.specs.Counted.{Counts, counts_of, last_count}
-
--- its bytes and its plan, where it tells them, and the counts of its reads, writes and failures
-pub record Told : Type 0 where
-  pub content : Option (List ℕ)
-  pub plan : Option (List ℕ)
-  pub reads : ℕ
-  pub writes : ℕ
-  pub faults : ℕ
 
 abbrev pub calls_of : Option Fails → List ℕ
 calls_of None = []
@@ -27,13 +21,13 @@ abbrev pub told_plan : Config → Bool → BlockId → Option (List ℕ)
 told_plan config tells_plan b = if tells_plan then Some (plan_of config b) else None
 
 -- the block's own counts are these, but for calls that are still to come
-pub record HasCounts (x : Told) (counts : Counts) (reads_left writes_left : ℕ) : Type 0 where
+pub record HasCounts (x : BlockView) (counts : Counts) (reads_left writes_left : ℕ) : Type 0 where
   pub reads : x.reads + reads_left ≡ counts.reads
   pub writes : x.writes + writes_left ≡ counts.writes
 
 -- a block is counted in a past where its reads and writes are the entries that name it, its failures those
--- that its last failed flight left, and its plan, where it tells one, that of the configuration
-pub record IsCountedBlock (tells_plan : Bool) (config : Config) (past : List Entry) (b : BlockId) (x : Told) : Type 0 where
+-- that its last failed flight left, and its plan, where it is known, that of the configuration
+pub record IsCountedBlock (tells_plan : Bool) (config : Config) (past : List Entry) (b : BlockId) (x : BlockView) : Type 0 where
   pub counts : HasCounts x (counts_of b past) 0 0
   pub faults : x.faults ≡ last_count b past
   pub plan : x.plan ≡ told_plan config tells_plan b
