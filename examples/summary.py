@@ -26,68 +26,28 @@ hits by DONE lines. Rows are processes, then MPW and SWP if they did something, 
 | evicted, reused | EVICT of this process's pages; REUSE by this seat |
 | left, limits | TURN to LEAVING; LIMIT |
 
-It needs Python 3.9 and no packages. What isn't the output of a run is refused, with status 2.
+It needs Python 3.9 and `python/neqysbar.py`, and no packages. What isn't the output of a run is refused, with status 2.
 """
 
 import csv
 import json
+import pathlib
 import sys
+
+sys.path.insert(0, str(pathlib.Path(__file__).resolve().parent.parent / "python"))
+from neqysbar import NoEntry, entry_of  # noqa: E402
 
 COLUMNS = (
     "references denied services hits faults zero free modified active writing release read collided "
     "near come came_free out failed evicted reused left limits"
 ).split()
-# the words of each kind of entry, behind its number and its seat
-WORDS = {
-    "REUSE": "frame page", "ZERO": "address frame", "BACK": "process address frame state",
-    "COLLIDE": "address frame start", "INOK": "frame start", "INFAIL": "frame start before after",
-    "OUT": "frame block", "OUTOK": "frame start", "OUTFAIL": "frame start before after",
-    "EVICT": "process address frame why state", "LIMIT": "limit faults", "TURN": "process status",
-    "IN": "frame block role page",
-}
 FIELDS = (
     "number seat kind op service address pages protection limit value reply answer frame page block "
     "role process state why start before after faults status"
 ).split()
-OPERANDS = {
-    "CRETVA": "address pages protection", "DELTVA": "address pages", "SETPRT": "address pages protection",
-    "LKWSET": "address pages", "ULWSET": "address pages", "PURGWS": "address pages", "ADJWSL": "limit",
-}
-
 
 class NoRun(Exception):
     """The input is no output of a run."""
-
-
-def request_fields(kind, words):
-    """The words of a DONE, a DENIED or a SERVED, in columns."""
-    if kind == "SERVED":
-        names = OPERANDS[words[0]].split()
-        named = {"service": words[0], **dict(zip(names, words[1:]))}
-        return {**named, "answer": " ".join(words[1 + len(names):])}
-    named = {"op": words[0], "address": words[1]}
-    rest = words[2:]
-    if kind == "DENIED":
-        named["why"] = rest.pop()
-    if rest and "R" not in words[0]:
-        named["value"] = rest.pop(0)
-    if rest:
-        named["reply"] = rest.pop(0)
-    return named
-
-
-def entry_of(line):
-    """An entry line as a dictionary of its words."""
-    words = line.split(" ")
-    number, seat, kind, rest = int(words[0]), words[1], words[2], words[3:]
-    if kind in ("DONE", "DENIED", "SERVED"):
-        named = request_fields(kind, rest)
-    else:
-        names = WORDS[kind].split()
-        if len(rest) != len(names):
-            raise ValueError(line)
-        named = dict(zip(names, rest))
-    return {"number": number, "seat": seat, "kind": kind, **named}
 
 
 def entries_of(lines):
@@ -101,7 +61,7 @@ def entries_of(lines):
         if first.isdecimal():
             try:
                 entries.append(entry_of(line))
-            except (KeyError, IndexError, ValueError):
+            except NoEntry:
                 raise NoRun(f"line {number} is no entry: {line}") from None
         elif first == "STATUS":
             status = line.split(" ")[-1]

@@ -1,0 +1,54 @@
+/*
+ * Neqysbar as a library: the program over bytes in one call.
+ *
+ * Link with libneqysbar.a or libneqysbar.so, which need the C library alone. The library has no state
+ * and opens no file, so calls may run at the same time in any number of threads.
+ */
+#ifndef NEQYSBAR_H
+#define NEQYSBAR_H
+
+#include <stddef.h>
+#include <stdint.h>
+
+#ifdef __cplusplus
+extern "C" {
+#endif
+
+/* The statuses of a call; 3, 4 and 6 of the program don't come here, since no read and no write fails
+ * and each block is made. */
+enum neqysbar_status {
+    NEQYSBAR_DONE = 0,       /* the command did what was asked */
+    NEQYSBAR_USAGE = 1,      /* the words are no command line */
+    NEQYSBAR_NO_TRACE = 2,   /* the input is no trace, or its log is too long */
+    NEQYSBAR_DIRTY = 5,      /* as 0, but the run left shared pages dirty */
+    NEQYSBAR_NO_MEMORY = 7,  /* memory ran out */
+    NEQYSBAR_NO_RUN = 8      /* a line of the log isn't legal */
+};
+
+/*
+ * Runs a command over an input, and returns its status.
+ *
+ * line, line_length: the words, without the program's name. Each word is ended by a byte 0, and the
+ *     last one there or at the end: "serial" with length 6, or "study\0--process\0A\0--frames\0" "8"
+ *     with its sizeof.
+ * input, input_length: the bytes that the program would read: a trace, or a trace with a log.
+ * output, room: where the bytes that the program would write go, and how many bytes there is room for.
+ *     What is behind a shorter output isn't written.
+ * number: how many bytes the output has. If they are more than room, make room and call again: the
+ *     same words and input have the same output.
+ *
+ * With status 7 and the number 0 memory ran out for the words or the output, and nothing is written.
+ *
+ * What the caller owes: no pointer is null, also where a length is 0; the parts of memory are as long as
+ * is said, output and number overlap with nothing else, and nothing that is handed over is changed by
+ * others while the call runs; the call isn't made in a signal handler.
+ */
+uint8_t neqysbar_run(const uint8_t *line, size_t line_length,
+                     const uint8_t *input, size_t input_length,
+                     uint8_t *output, size_t room, size_t *number);
+
+#ifdef __cplusplus
+}
+#endif
+
+#endif
