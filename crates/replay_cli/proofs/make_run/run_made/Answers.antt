@@ -21,7 +21,7 @@ returns-in-Ok-count_serial-clause-outcome g c =
       text = make_lines make entries ++ status_line status;
       outcome = run_outcome run.dirty.items;
       answers = inl (counted_run g.D.Block.Block.tells make c.in-Ok.config is c.in-Ok-count_serial.ensures.counted.0 run c.in-Ok.ensures.well_formed ended
-          (g.D.Depot.seen c.args.depot.now) (g.D.Depot.seen c.count_serial.new.depot) (g.D.Depot.known c.args.depot.now)
+          (g.D.Depot.seen c.args.depot.now) (g.D.Depot.seen c.count_serial.new.depot) (g.met.D.Depot.known c.args.depot.now)
           c.in-Ok-count_serial.ensures.counted.1 c.runs_are_sound.ensures);
       ends = c.end_made.ensures entries (ended.all ∙ sym (length-reverse (ended.rest ++ ended.past))) ended.kinds;
     })
