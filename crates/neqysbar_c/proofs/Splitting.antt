@@ -1,5 +1,5 @@
 -- A text's first word stands before its first zero byte.
-use Rattle.std.proofs.Common.{◌≡◌, ℕ, zero, suc, ◌+◌, ◌<◌, ◌≤◌, Bool, true, false, ◌==◌, List, [], ◌∷◌, length, take, drop, slice_index, if◌then◌else◌, ◌++◌, refl, sym, ◌∙◌, ap, arith, append-nil, append_assoc, All}
+use Rattle.std.proofs.Common.{◌≡◌, ℕ, zero, suc, ◌<◌, ◌≤◌, Bool, true, false, ◌==◌, List, [], ◌∷◌, length, take, drop, slice_index, if◌then◌else◌, ◌++◌, refl, sym, ◌∙◌, ap, arith, append-nil, append_assoc, All}
 use Rattle.std.specs.Str.{IsUtf8}
 use Rattle.std.proofs.lemmas.List.Elements.{All-head, All-tail}
 use Rattle.neqysbar_c.specs.Words.{words_of, with_byte}

@@ -1,5 +1,5 @@
-use Rattle.std.proofs.Common.{add-one, ◌∙◌, ap, sym, take, drop, arith, rules, ◌≡◌, ◌<◌, ◌∷◌, length, map, IfOk, ℕ, ◌+◌, ◌-◌, ◌*◌, ◌≤◌, ◌/◌, ◌%◌, Bool, true, false, nat_eq, nat_lt, List, [], ◌++◌, slice_index_or, slice_set, bit_and, bit_or, Fits, w8, w32, w64, Bor, MutBor}
-use Rattle.neqysbar_c.specs.Words.{IsCommandLine, words_of}
+use Rattle.std.proofs.Common.{add-one, ◌∙◌, ap, sym, take, drop, arith, ◌∷◌, ◌+◌}
+use Rattle.neqysbar_c.specs.Words.{words_of}
 use Rattle.std.proofs.lemmas.List.{take_all, length-drop}
 use Rattle.neqysbar_c.proofs.Splitting.{words_first, words_last}
 use Rattle.neqysbar_c.proofs.words.first_word.Goals as goal
@@ -11,7 +11,7 @@ returns-in-Some-clause-words c =
     let n = c.in-Some.end in
     words_first text n c.in-Some.ensures.0.high c.in-Some.ensures.1 c.in-Some.ensures.0.before
     ∙ ap (λ rest. take n text ∷ words_of rest)
-        (ap (λ k. drop k text) (sym (add-one n)) ∙ sym (take_all _ (drop (n + 1) text) (omega (arith, length-drop (n + 1) text))))
+    (ap (λ k. drop k text) (sym (add-one n)) ∙ sym (take_all _ (drop (n + 1) text) (omega (arith, length-drop (n + 1) text))))
 
 -- src/words.rt:10:1
 pub returns-in-None-clause-words : goal.returns-in-None-clause-words

@@ -1,10 +1,10 @@
-use Rattle.std.proofs.Common.{le_of_eq, ◌≡◌, ℕ, List, [], ◌∷◌, ◌++◌, length, map, All, Bor, inl, inr, refl, sym, ◌∙◌, ap, subst, arith}
+use Rattle.std.proofs.Common.{le_of_eq, ℕ, List, [], ◌∷◌, ◌++◌, length, map, All, Bor, inl, inr, sym, ◌∙◌, ap, subst, arith}
 use Rattle.std.proofs.lemmas.Bool.{eqb-true}
 use Rattle.std.specs.Str.{IsUtf8}
 use Rattle.std.proofs.lemmas.List.{map-append}
 use Rattle.std.proofs.lemmas.List.Elements.{All-nil, All-push}
 use Rattle.neqysbar_c.proofs.Splitting.{words_more, words_ended, utf8_there}
-use Rattle.neqysbar_c.specs.Words.{IsCommandLine, words_of}
+use Rattle.neqysbar_c.specs.Words.{words_of}
 use Rattle.neqysbar_c.proofs.words.words_in.Goals as goal
 
 pub loop-init : goal.loop-init
@@ -21,9 +21,11 @@ returns-then-is_empty c =
 
 pub returns-in-Err : goal.returns-in-Err
 returns-in-Err c =
-    inr (ap (λ (items : List (Bor (List ℕ))). map (λ word. word.now) items) c.new.ensures.items,
+    inr (
+      ap (λ (items : List (Bor (List ℕ))). map (λ word. word.now) items) c.new.ensures.items,
       λ all. c.in-Err.ensures.cases.0 (utf8_there (map (λ word. word.now) c.loop.words.items) c.first_word.result.0.now (words_of c.first_word.result.1.now)
-        (subst (All IsUtf8) (c.loop.invariant.words ∙ ap (λ words. map (λ word. word.now) c.loop.words.items ++ words) c.first_word.ensures.words) all)))
+          (subst (All IsUtf8) (c.loop.invariant.words ∙ ap (λ words. map (λ word. word.now) c.loop.words.items ++ words) c.first_word.ensures.words) all)),
+    )
 
 pub loop-preserved : goal.loop-preserved
 loop-preserved c =

@@ -13,7 +13,7 @@ returns g c =
     let words = c.run_words-status.ensures in
     let end = c.finish.ensures in
     let tells = ProgramTells (g.A.Arguments.left c.args.arguments.now) (moved (g.S.Source.seen c.args.source.now) (g.S.Source.seen c.run_words-status.new.source))
-        (moved (g.D.Depot.seen c.args.depot.now) (g.D.Depot.seen c.run_words-status.new.depot)) in
+    (moved (g.D.Depot.seen c.args.depot.now) (g.D.Depot.seen c.run_words-status.new.depot)) in
     record {
       told = λ no_four.
           let run = end.run no_four in
