@@ -1,11 +1,11 @@
 -- The places that are the last with their page, and the distances that they give.
-use Rattle.std.proofs.Common.{◌≡◌, ◌≢◌, ℕ, suc, zero, ◌+◌, ◌-◌, ◌<◌, ◌≤◌, Bool, true, false, min, List, [], ◌∷◌, ◌++◌, length, get_or, ap, sym, ◌∙◌, refl, subst, inl, inr, arith, eqb, leb, ltb, ◌&&◌, ◌||◌, not}
+use Rattle.std.proofs.Common.{◌≡◌, ◌≢◌, ℕ, suc, zero, ◌+◌, ◌-◌, ◌<◌, ◌≤◌, Bool, true, false, List, [], ◌∷◌, ◌++◌, length, get_or, ap, sym, ◌∙◌, refl, subst, inl, inr, arith, eqb, leb, ltb, ◌&&◌, ◌||◌, not}
 use Rattle.std.proofs.lemmas.Bool.{cases_lt, cases_eq, cases_Bool, eqb-true, eqb-false, eq-eqb, ne_eqb, and_left, and_right, or_right, lt-ltb, le-ltb, not_from_true}
-use Rattle.std.proofs.lemmas.List.{get_or_append_left, get_or-append_right}
+use Rattle.std.proofs.lemmas.List.{get_or_append_left, get_or-append_right, get_or_past}
 use Rattle.paging_study.specs.Places.{one_if, flag_at, count_places, last_place}
 use Rattle.paging_study.specs.Intervals.{begins}
 use Rattle.paging_study.specs.Recency.{is_last, distance, is_hit, is_at_distance}
-use Rattle.paging_study.proofs.Counts.{count_same, count_none}
+use Rattle.paging_study.proofs.Counts.{count_same, count_none, last_place-le}
 use Rattle.paging_study.proofs.Begins.{begins-page}
 
 pub count_places-le : (f : ℕ → Bool) (n : ℕ) → count_places f n ≤ n
@@ -90,30 +90,37 @@ module _ (page : ℕ → ℕ) where
 pub none_after : (first n : ℕ) (flag : ℕ → Bool) → n ≤ first → count_places (λ t. ltb first t && flag t) n ≡ 0
 none_after first n flag within = count_none (λ t. ltb first t && flag t) n (λ i below. and_left _ _ (le-ltb first (suc i) (omega arith)))
 
--- the flags up to the place give its distance, as far as it matters
-pub between_is : (page : ℕ → ℕ) (flags : List Bool) (n first most between places : ℕ) → first ≡ begins page (suc n) → n ≤ places
-    → ((t : ℕ) → t < places → get_or flags t false ≡ is_last page n (suc t))
-    → between ≡ min most (count_places (λ t. ltb first t && flag_at flags t) n) → between ≡ min most (distance page (suc n))
-between_is page flags n first most between places first_is within last is =
+-- no place after the first n is the last of them with its page
+pub late_not_last : (page : ℕ → ℕ) (n t : ℕ) → n ≤ t → is_last page n (suc t) ≡ false
+late_not_last page n t late = ne_eqb _ _ (λ e. omega (arith, e, last_place-le (λ i. eqb (page i) (page (suc t))) n))
+
+-- so their flags are not set
+pub none_late : (page : ℕ → ℕ) (flags : List Bool) (n : ℕ) → ((t : ℕ) → t < length flags → get_or flags t false ≡ is_last page n (suc t)) → (t : ℕ) → n ≤ t → flag_at flags (suc t) ≡ false
+none_late page flags n last t late =
+    let at : suc t - 1 ≡ t = omega arith in
+    ap (λ (k : ℕ). get_or flags k false) at ∙ (elim (cases_lt t (length flags)) [
+      | inl within ↦ last t within ∙ late_not_last page n t late
+      | inr past ↦ get_or_past flags t false past
+    ])
+
+-- the flags up to the place give its distance
+pub between_is : (page : ℕ → ℕ) (flags : List Bool) (n first between : ℕ) → first ≡ begins page (suc n) → n ≤ length flags
+    → ((t : ℕ) → t < length flags → get_or flags t false ≡ is_last page n (suc t))
+    → between ≡ count_places (λ t. ltb first t && flag_at flags t) n → between ≡ distance page (suc n)
+between_is page flags n first between first_is within last is =
     let before : suc n - 1 ≡ n = omega arith in
     let same : count_places (λ t. ltb first t && flag_at flags t) n ≡ count_places (λ t. ltb (begins page (suc n)) t && is_last page n t) n =
     count_same (λ t. ltb first t && flag_at flags t) (λ t. ltb (begins page (suc n)) t && is_last page n t) n (λ i below.
     let at : suc i - 1 ≡ i = omega arith in
     let flag : flag_at flags (suc i) ≡ is_last page n (suc i) = ap (λ (k : ℕ). get_or flags k false) at ∙ last i (omega arith) in
     rw (first_is, flag) refl) in
-    is ∙ (ap (λ (k : ℕ). min most k) same ∙ ap (λ (k : ℕ). min most (count_places (λ t. ltb (begins page (suc n)) t && is_last page k t) k)) (sym before))
+    is ∙ (same ∙ ap (λ (k : ℕ). count_places (λ t. ltb (begins page (suc n)) t && is_last page k t) k) (sym before))
 
-same_test : (most between x d : ℕ) → between ≡ min most x → d < most → eqb between d ≡ eqb x d
-same_test most between x d is below = elim (cases_eq x d) [
-  | inl same ↦ eq-eqb between d (omega arith) ∙ sym (eq-eqb x d same)
-  | inr other ↦ ne_eqb between d (λ e. other (omega arith)) ∙ sym (ne_eqb x d other)
-]
-
-pub hit_step : (page : ℕ → ℕ) (n first most between d h h' : ℕ) → first ≡ begins page (suc n) → between ≡ min most (distance page (suc n)) → d < most
+pub hit_step : (page : ℕ → ℕ) (n first between d h h' : ℕ) → first ≡ begins page (suc n) → between ≡ distance page (suc n)
     → h ≡ count_places (is_at_distance page d) n → h' ≡ h + one_if (leb 1 first && eqb between d) → h' ≡ count_places (is_at_distance page d) (n + 1)
-hit_step page n first most between d h h' first_is is below was now =
+hit_step page n first between d h h' first_is is was now =
     let next : n + 1 ≡ suc n = omega arith in
-    let test : (leb 1 first && eqb between d) ≡ is_at_distance page d (suc n) = rw (first_is, same_test most between (distance page (suc n)) d is below) refl in
+    let test : (leb 1 first && eqb between d) ≡ is_at_distance page d (suc n) = rw (first_is, is) refl in
     let one : one_if (leb 1 first && eqb between d) ≡ one_if (is_at_distance page d (suc n)) = ap one_if test in
     rw next (omega arith)
 

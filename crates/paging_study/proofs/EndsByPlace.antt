@@ -1,15 +1,13 @@
 -- The ends of the intervals of the first places.
-use Rattle.std.proofs.Common.{◌≡◌, ◌≢◌, ℕ, suc, zero, ◌+◌, ◌-◌, ◌<◌, ◌≤◌, Bool, true, false, cond, Option, Some, None, List, [], ◌∷◌, ◌++◌, length, length-append, get_or, set, ap, sym, ◌∙◌, refl, subst, inl, inr, arith, eqb}
-use Rattle.std.specs.Ordering.{nat_cmp, is_eq}
-use Rattle.std.specs.BTreeMap.{BTreeMap, get}
-use Rattle.std.proofs.lemmas.Bool.{cases_lt, cases_eq}
+use Rattle.std.proofs.Common.{◌≡◌, ◌≢◌, ℕ, suc, zero, ◌+◌, ◌-◌, ◌*◌, ◌/◌, ◌<◌, ◌≤◌, true, false, Option, Some, None, List, [], ◌∷◌, ◌++◌, length, length-append, get_or, set, length-set, replicate, ap, sym, ◌∙◌, refl, subst, inl, inr, arith, eqb}
+use Rattle.std.proofs.lemmas.Bool.{cases_lt, cases_eq, eq-eqb, ne_eqb}
 use Rattle.std.specs.Option.{unwrap_or}
 use Rattle.std.proofs.lemmas.List.{get_or-set_same, get_or-set_other, get_or_append_left, get_or-append_right}
+use Rattle.std.proofs.lemmas.Nat.{div-add-mod', mod_below}
 use Rattle.paging_study.specs.Places.{page_at, last_place}
 use Rattle.paging_study.specs.Intervals.{begins}
 use Rattle.paging_study.specs.Least.{AreBegins, AreEnds}
 use Rattle.paging_study.proofs.Begins.{begins-lt, begins-one}
-use Rattle.paging_study.proofs.Holds.{eq_at}
 
 -- a place, or none if it is 0
 abbrev pub found : ℕ → Option ℕ
@@ -50,37 +48,47 @@ module _ (page : ℕ → ℕ) (places : ℕ) (ends : ℕ → ℕ) (n : ℕ) (bel
   }
 
 -- each page's last place so far, and where the intervals that ended so far begin
-pub record BeginsState (last : BTreeMap ℕ ℕ) (pages firsts : List ℕ) (n : ℕ) : Type 0 where
-  pub last_places : (y : ℕ) → get nat_cmp last y ≡ found (last_place (λ i. eqb (page_at pages i) y) n)
+pub record BeginsState (last : List (Option ℕ)) (pages firsts : List ℕ) (n : ℕ) : Type 0 where
+  pub last_places : (y : ℕ) → y < length last → get_or last y None ≡ found (last_place (λ i. eqb (page_at pages i) y) n)
   pub length_is : length firsts ≡ n
   pub firsts_are : (t : ℕ) → t < n → get_or firsts t 0 ≡ begins (page_at pages) (suc t)
-
-found_cond : (b : Bool) (n x : ℕ) → cond b (Some (suc n)) (found x) ≡ found (cond b (suc n) x)
-found_cond true n x = refl
-found_cond false n x = refl
 
 unwrap_found : (x : ℕ) → unwrap_or (found x) 0 ≡ x
 unwrap_found zero = refl
 unwrap_found (suc x) = refl
 
-module _ (pages : List ℕ) (n : ℕ) (below : n < length pages) (last last' : BTreeMap ℕ ℕ) (firsts : List ℕ) (state : BeginsState last pages firsts n) where
+-- no place of a page
+abbrev pub no_place : Option ℕ
+no_place = None
+
+module _ (pages : List ℕ) (n : ℕ) (last : List (Option ℕ)) (firsts : List ℕ) (state : BeginsState last pages firsts n) where
   -- the place before, at which the page was referenced last
-  first_place : (p : ℕ) (old : Option ℕ) → p ≡ page_at pages (suc n) → old ≡ get nat_cmp last p → unwrap_or old 0 ≡ begins (page_at pages) (suc n)
-  first_place p old is old_is =
-      let found_is : old ≡ found (begins (page_at pages) (suc n)) = old_is ∙ (state.last_places p ∙ ap (λ y. found (last_place (λ i. eqb (page_at pages i) y) n)) is) in
+  first_place : (p : ℕ) (old : Option ℕ) → p ≡ page_at pages (suc n) → p < length last → old ≡ get_or last p None → unwrap_or old 0 ≡ begins (page_at pages) (suc n)
+  first_place p old is within old_is =
+      let found_is : old ≡ found (begins (page_at pages) (suc n)) = old_is ∙ (state.last_places p within ∙ ap (λ y. found (last_place (λ i. eqb (page_at pages i) y) n)) is) in
       ap (λ o. unwrap_or o 0) found_is ∙ unwrap_found (begins (page_at pages) (suc n))
 
-  pub begins_state : (p place first : ℕ) (old : Option ℕ) → p ≡ page_at pages (suc n) → place ≡ n + 1 → old ≡ get nat_cmp last p → first ≡ unwrap_or old 0
-      → ((y : ℕ) → get nat_cmp last' y ≡ cond (is_eq (nat_cmp p y)) (Some place) (get nat_cmp last y))
-      → BeginsState last' pages (firsts ++ first ∷ []) (n + 1)
-  begins_state p place first old is place_is old_is first_is updates =
+  last_set : (p place : ℕ) → p ≡ page_at pages (suc n) → place ≡ suc n → (y : ℕ) → y < length last → get_or (set last p (Some place)) y None ≡ found (last_place (λ i. eqb (page_at pages i) y) (suc n))
+  last_set p place is place_is y within = elim (cases_eq y p) [
+    | inl at ↦
+        let test : eqb (page_at pages (suc n)) y ≡ true = eq-eqb _ _ (sym is ∙ sym at) in
+        let here : get_or (set last p (Some place)) y None ≡ Some place = rw at (get_or-set_same last p (Some place) None (omega (arith, at, within))) in
+        rw test (here ∙ ap (λ (k : ℕ). Some k) place_is)
+    | inr other ↦
+        let test : eqb (page_at pages (suc n)) y ≡ false = ne_eqb _ _ (λ e. other (sym e ∙ sym is)) in
+        rw test (get_or-set_other last p y (Some place) None other ∙ state.last_places y within)
+  ]
+
+  pub begins_state : (last' : List (Option ℕ)) (p place first : ℕ) (old : Option ℕ) → p ≡ page_at pages (suc n) → p < length last → place ≡ n + 1 → old ≡ get_or last p None → first ≡ unwrap_or old 0
+      → last' ≡ set last p (Some place) → BeginsState last' pages (firsts ++ first ∷ []) (n + 1)
+  begins_state last' p place first old is within place_is old_is first_is updated =
       let next : suc n ≡ n + 1 = omega arith in
       let place_suc : place ≡ suc n = omega arith in
-      let first_is' : first ≡ begins (page_at pages) (suc n) = first_is ∙ first_place p old is old_is in
+      let first_is' : first ≡ begins (page_at pages) (suc n) = first_is ∙ first_place p old is within old_is in
       subst (λ (m : ℕ). BeginsState last' pages (firsts ++ first ∷ []) m) next (record {
-        last_places = λ y. updates y ∙ (
-            let test : is_eq (nat_cmp p y) ≡ eqb (page_at pages (suc n)) y = eq_at p y ∙ ap (λ q. eqb q y) is in
-            rw (test, place_suc, state.last_places y) (found_cond (eqb (page_at pages (suc n)) y) n (last_place (λ i. eqb (page_at pages i) y) n)));
+        last_places = λ y y_within.
+            let same : length last' ≡ length last = ap length updated ∙ length-set last p (Some place) in
+            ap (λ (xs : List (Option ℕ)). get_or xs y None) updated ∙ last_set p place is place_suc y (omega (arith, same, y_within));
         length_is = length-append firsts (first ∷ []) ∙ omega (arith, state.length_is);
         firsts_are = λ t t_below. elim (cases_eq t n) [
           | inl at ↦
@@ -91,6 +99,23 @@ module _ (pages : List ℕ) (n : ℕ) (below : n < length pages) (last last' : B
               get_or_append_left firsts (first ∷ []) 0 t (omega (arith, state.length_is)) ∙ state.firsts_are t earlier
         ];
       })
+
+-- before the first place
+none_there : (m y : ℕ) → get_or (replicate m no_place) y None ≡ None
+none_there zero y = refl
+none_there (suc m) zero = refl
+none_there (suc m) (suc y) = none_there m y
+
+pub begins_none : (pages firsts : List ℕ) (last : List (Option ℕ)) (m : ℕ) → firsts ≡ [] → last ≡ replicate m no_place → BeginsState last pages firsts 0
+begins_none pages firsts last m empty is = record {
+  last_places = λ y y_within. ap (λ (xs : List (Option ℕ)). get_or xs y None) is ∙ none_there m y;
+  length_is = ap length empty;
+  firsts_are = λ t t_below. absurd (omega arith);
+}
+
+-- no page is greater than the greatest
+pub within_rows : (greatest x m : ℕ) → x ≤ greatest → m ≡ (greatest / 64 + 1) * 64 → x < m
+within_rows greatest x m le is = omega (arith, div-add-mod' greatest 64, mod_below greatest 64 (omega arith))
 
 -- one more end is set, where an interval begins
 module _ (page : ℕ → ℕ) (places n : ℕ) (below : n < places) where

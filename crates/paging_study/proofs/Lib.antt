@@ -15,3 +15,5 @@ pub mod Distance
 pub mod RingSteps
 pub mod OneChoice
 pub mod LetGo
+pub mod MarkCounts
+pub mod Hints

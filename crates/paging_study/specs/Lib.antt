@@ -9,3 +9,4 @@ pub mod PageString
 pub mod Laws
 pub mod Distinct
 pub mod Dropped
+pub mod Marks

@@ -26,6 +26,12 @@ replaced (Empty slot) ring page = placed ring slot page
 replaced (Victim slot) ring page = placed ring slot page
 replaced AllLocked ring page = ring
 
+-- the slot that the ring chose, 0 if it chose none
+abbrev pub slot_chosen : Choice → ℕ
+slot_chosen (Empty slot) = slot
+slot_chosen (Victim slot) = slot
+slot_chosen AllLocked = 0
+
 -- the ring after a reference: as it was if it holds the page
 abbrev pub referenced : ℕ → Ring → ℕ → Ring
 referenced limit ring page = if holds ring page then ring else replaced (choose ring limit) ring page

@@ -1,23 +1,25 @@
-ghost use Rattle.std.specs.Prelude.{◌≡◌, [], ◌∷◌, ◌++◌, ◌≤◌, ◌&&◌, nat_lt, not, length, IfOk, OnOk, if◌then◌else◌};
+ghost use Rattle.std.specs.Prelude.{◌≡◌, [], ◌∷◌, ◌++◌, ◌&&◌, nat_lt, not, length, IfOk, OnOk, if◌then◌else◌};
 ghost use Rattle.paging_study.specs.Dropped.{dropped_places};
 
-use crate::intervals::{begins_of, ends_of};
+use crate::intervals::ends_of;
+use crate::string::PageString;
 use std::alloc::Global;
 use vm_types::NoMemory;
 
 /// The places, from 1 and in order, at which an interval begins that is not kept: their pages are
-/// referenced again, and don't keep their frames until then. `kept` has a flag for each of the pages,
-/// of which there are at most 100,000.
+/// referenced again, and don't keep their frames until then. `kept` has a flag for each of the pages.
 ///
 /// # Errors
 /// `NoMemory` if memory runs out.
-pub fn dropped_places(alloc: Global, pages: &[u32], kept: &[bool]) -> Result<Vec<u32>, NoMemory>
-    requires few { length pages.now ≤ 100000 }
-    requires flags { length kept.now ≡ length pages.now }
-    ensures { IfOk result (λ places. places.items ≡ dropped_places pages.now kept.now) }
+pub fn dropped_places(
+    alloc: Global,
+    pages: &PageString,
+    kept: &[bool],
+) -> Result<Vec<u32>, NoMemory>
+    requires { length kept.now ≡ length pages.now.pages.items }
+    ensures { IfOk result (λ places. places.items ≡ dropped_places pages.now.pages.items kept.now) }
 {
-    let firsts = begins_of(alloc, pages)?;
-    let ends = ends_of(alloc, &firsts)?;
+    let ends = ends_of(alloc, &pages.firsts)?;
     let mut places = Vec::new(alloc);
     for (i, end) in ends.iter().enumerate() {
         push_if_dropped(&mut places, *end, kept[i], i as u32 + 1)?;

@@ -2,8 +2,8 @@ ghost use Rattle.std.specs.Prelude.{◌≡◌, ℕ, suc, ◌-◌, ◌<◌, ◌�
 ghost use Rattle.paging_study.specs.Places.{page_at};
 ghost use Rattle.paging_study.specs.Least.{AreBegins, AreEnds};
 
+use page_rows::PageRows;
 use std::alloc::Global;
-use std::collections::BTreeMap;
 use vm_types::NoMemory;
 
 /// For each reference the place of the last one before it to the same page, counted from 1; 0 if
@@ -14,12 +14,20 @@ pub(crate) fn begins_of(alloc: Global, pages: &[u32]) -> Result<Vec<u32>, NoMemo
     ensures len { IfOk result (λ firsts. length firsts.items ≡ length pages.now) }
 {
     let mut firsts = Vec::with_capacity(alloc, pages.len())?;
-    let mut last = BTreeMap::new(alloc);
+    let mut last = PageRows::new(alloc, greatest(pages) as usize / 64 + 1)?;
     for (i, page) in pages.iter().enumerate() {
-        let first = last.insert(*page, i as u32 + 1)?;
+        let first: Option<u32> = last.get(*page as usize);
+        last.set(*page as usize, Some(i as u32 + 1));
         firsts.push(first.unwrap_or(0))?;
     }
     Ok(firsts)
+}
+
+/// The greatest of these pages; 0 if there is none.
+fn greatest(pages: &[u32]) -> u32
+    ensures { (i : ℕ) → i < length pages.now → slice_index pages.now i ≤ result }
+{
+    pages.iter().copied().max().unwrap_or(0)
 }
 
 /// For each reference the place of the next one to the same page, counted from 1; 0 if there is none.

@@ -6,8 +6,9 @@ ghost use Rattle.paging_study.specs.Least.{IsChoiceOf};
 
 use crate::cuts::{cut_flags, places_of};
 use crate::drops::drops_of;
-use crate::intervals::{begins_of, ends_of};
+use crate::intervals::ends_of;
 use crate::kept::{gone_of, kept_of};
+use crate::string::PageString;
 use std::alloc::Global;
 use vm_types::NoMemory;
 
@@ -23,26 +24,23 @@ pub struct Least {
     pub cuts: Vec<u32>,
 }
 
-/// The least number of faults that references to these pages (at most 100,000) can have with so many
-/// frames, 1 to 1024. Takes time as the number of references times the logarithm of the number of
-/// distinct pages, or of frames if those are more.
+/// The least number of faults that references to these pages can have with so many frames, 1 to 1024.
+/// Takes time as the number of references times the logarithm of the number of frames.
 ///
 /// # Errors
 /// `NoMemory` if memory runs out.
-pub fn least_faults(alloc: Global, pages: &[u32], frames: u32) -> Result<Least, NoMemory>
-    requires frames { (1 ≤ frames) × (frames ≤ 1024) }
-    requires few { length pages.now ≤ 100000 }
-    ensures schedule { IfOk result (λ least. IsScheduleOf pages.now frames (kept_sets pages.now least.kept.items)) }
-    ensures faults { IfOk result (λ least. least.faults ≡ faults_with pages.now (kept_sets pages.now least.kept.items)) }
-    ensures least { IfOk result (λ least. (sets : ℕ → List ℕ) → IsScheduleOf pages.now frames sets → least.faults ≤ faults_with pages.now sets) }
-    ensures certificate { IfOk result (λ least. least.faults + (frames - 1) * length least.cuts.items + uncut pages.now least.cuts.items ≡ length pages.now) }
+pub fn least_faults(alloc: Global, pages: &PageString, frames: u32) -> Result<Least, NoMemory>
+    requires { (1 ≤ frames) × (frames ≤ 1024) }
+    ensures schedule { IfOk result (λ least. IsScheduleOf pages.now.pages.items frames (kept_sets pages.now.pages.items least.kept.items)) }
+    ensures faults { IfOk result (λ least. least.faults ≡ faults_with pages.now.pages.items (kept_sets pages.now.pages.items least.kept.items)) }
+    ensures least { IfOk result (λ least. (sets : ℕ → List ℕ) → IsScheduleOf pages.now.pages.items frames sets → least.faults ≤ faults_with pages.now.pages.items sets) }
+    ensures certificate { IfOk result (λ least. least.faults + (frames - 1) * length least.cuts.items + uncut pages.now.pages.items least.cuts.items ≡ length pages.now.pages.items) }
     ensures ascending { IfOk result (λ least. AllPairs (λ a b. a < b) least.cuts.items) }
-    ensures places { IfOk result (λ least. (place : ℕ) → has least.cuts.items place ≡ true → (1 ≤ place) × (place ≤ length pages.now)) }
-    ensures flags { IfOk result (λ least. length least.kept.items ≡ length pages.now) }
-    ensures chosen { IfOk result (λ least. IsChoiceOf pages.now (frames - 1) least.kept.items least.cuts.items) }
+    ensures places { IfOk result (λ least. (place : ℕ) → has least.cuts.items place ≡ true → (1 ≤ place) × (place ≤ length pages.now.pages.items)) }
+    ensures flags { IfOk result (λ least. length least.kept.items ≡ length pages.now.pages.items) }
+    ensures chosen { IfOk result (λ least. IsChoiceOf pages.now.pages.items (frames - 1) least.kept.items least.cuts.items) }
 {
-    let firsts = begins_of(alloc, pages)?;
-    let ends = ends_of(alloc, &firsts)?;
+    let ends = ends_of(alloc, &pages.firsts)?;
     let drops = drops_of(alloc, &ends, frames as usize - 1)?;
     let gone = gone_of(alloc, &drops.ends)?;
     let kept = kept_of(alloc, &ends, &gone)?;

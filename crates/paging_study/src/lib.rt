@@ -11,8 +11,10 @@ mod kept;
 mod laws;
 mod least;
 mod lru;
+mod marks;
 mod references;
 mod ring;
+mod string;
 
 pub use distinct::distinct_pages;
 pub use dropped::dropped_places;
@@ -21,3 +23,4 @@ pub use least::{Least, least_faults};
 pub use lru::lru_faults;
 pub use references::page_string;
 pub use ring::ring_faults;
+pub use string::PageString;

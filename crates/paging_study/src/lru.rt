@@ -1,27 +1,26 @@
-ghost use Rattle.std.specs.Prelude.{◌≡◌, ℕ, suc, false, ◌+◌, ◌<◌, ◌≤◌, ◌==◌, ◌&&◌, ◌||◌, min, nat_le, nat_lt, not, length, slice_index, slice_index_or, IfOk};
-ghost use Rattle.paging_study.specs.Places.{one_if, page_at, flag_at, count_places};
+ghost use Rattle.std.specs.Prelude.{◌≡◌, ℕ, suc, false, ◌+◌, ◌<◌, ◌≤◌, ◌==◌, ◌&&◌, ◌||◌, nat_le, not, length, slice_index, slice_index_or, IfOk};
+ghost use Rattle.paging_study.specs.Places.{one_if, page_at, count_places};
 ghost use Rattle.paging_study.specs.Recency.{is_hit, is_at_distance};
 
-use crate::intervals::begins_of;
+use crate::marks::Marks;
+use crate::string::PageString;
 use std::alloc::Global;
 use vm_types::NoMemory;
 
-/// The faults that references to these pages (at most 100,000) have if the least recently used page
-/// is replaced: with one frame, with two, and so on up to so many, 1 to 1024. Takes time as the
-/// number of references times the number of frames at worst, less if pages come back soon, or times
-/// the logarithm of the number of distinct pages if that is more.
+/// The faults that references to these pages have if the least recently used page is replaced: with
+/// one frame, with two, and so on up to so many, 1 to 1024. Takes time as the number of references,
+/// and a 128th part of the references since the last one to the same page for each.
 ///
 /// # Errors
 /// `NoMemory` if memory runs out.
-pub fn lru_faults(alloc: Global, pages: &[u32], frames: u32) -> Result<Vec<u32>, NoMemory>
-    requires frames { (1 ≤ frames) × (frames ≤ 1024) }
-    requires few { length pages.now ≤ 100000 }
+pub fn lru_faults(alloc: Global, pages: &PageString, frames: u32) -> Result<Vec<u32>, NoMemory>
+    requires { (1 ≤ frames) × (frames ≤ 1024) }
     ensures len { IfOk result (λ faults. length faults.items ≡ frames) }
-    ensures faults { IfOk result (λ faults. (j : ℕ) → j < frames → slice_index faults.items j ≡ count_places (λ n. not (is_hit (page_at pages.now) (suc j) n)) (length pages.now)) }
+    ensures faults { IfOk result (λ faults. (j : ℕ) → j < frames → slice_index faults.items j ≡ count_places (λ n. not (is_hit (page_at pages.now.pages.items) (suc j) n)) (length pages.now.pages.items)) }
 {
     let hits = hits_of(alloc, pages, frames)?;
     let mut faults = Vec::with_capacity(alloc, hits.len())?;
-    let mut left = pages.len() as u32;
+    let mut left = pages.pages.len() as u32;
     for more in &hits {
         left -= *more;
         faults.push(left)?;
@@ -31,36 +30,19 @@ pub fn lru_faults(alloc: Global, pages: &[u32], frames: u32) -> Result<Vec<u32>,
 
 /// For each number below `frames` the references with so many distinct other pages since the last one
 /// to their page.
-fn hits_of(alloc: Global, pages: &[u32], frames: u32) -> Result<Vec<u32>, NoMemory>
-    requires frames { frames ≤ 1024 }
-    requires few { length pages.now ≤ 100000 }
+fn hits_of(alloc: Global, pages: &PageString, frames: u32) -> Result<Vec<u32>, NoMemory>
+    requires { frames ≤ 1024 }
     ensures len { IfOk result (λ hits. length hits.items ≡ frames) }
-    ensures hits { IfOk result (λ hits. (d : ℕ) → d < frames → slice_index hits.items d ≡ count_places (is_at_distance (page_at pages.now) d) (length pages.now)) }
+    ensures hits { IfOk result (λ hits. (d : ℕ) → d < frames → slice_index hits.items d ≡ count_places (is_at_distance (page_at pages.now.pages.items) d) (length pages.now.pages.items)) }
 {
-    let firsts = begins_of(alloc, pages)?;
     let mut hits = vec![in alloc; 0; frames as usize]?;
-    let mut last = vec![in alloc; false; pages.len()]?;
-    for (i, first) in firsts.iter().enumerate() {
-        let between = count_last(&last, *first as usize, i, frames as usize);
+    let mut last = Marks::new(alloc, pages.firsts.len())?;
+    for (i, first) in pages.firsts.iter().enumerate() {
+        let between = last.count(*first as usize, i);
         count_hit(&mut hits, *first, between);
         move_last(&mut last, *first, i);
     }
     Ok(hits)
-}
-
-/// How many places after the first one and up to the other have their flag, but no more than `most`.
-fn count_last(last: &[bool], first: usize, end: usize, most: usize) -> usize
-    requires order { first ≤ end }
-    requires within { end ≤ length last.now }
-    ensures { result ≡ min most (count_places (λ n. nat_lt first n && flag_at last.now n) end) }
-{
-    let mut count = 0;
-    let mut place = end;
-    while place > first && count < most {
-        count += usize::from(last[place - 1]);
-        place -= 1;
-    }
-    count
 }
 
 /// Counts a reference, if its page was referenced before, among those with so many other pages since.
@@ -76,14 +58,14 @@ fn count_hit(hits: &mut Vec<u32>, first: u32, between: usize)
 
 /// The place after `i` is the last one with its page now, and the first one, if there is one, no
 /// longer is.
-fn move_last(last: &mut Vec<bool>, first: u32, i: usize)
-    requires first { first ≤ length last.old.items }
-    requires place { i < length last.old.items }
-    ensures last { (n : ℕ) → n < length last.old.items → slice_index_or last.new.items n false ≡ ((slice_index_or last.old.items n false && not (suc n == first)) || n == i) }
-    ensures len { length last.new.items ≡ length last.old.items }
+fn move_last(last: &mut Marks, first: u32, i: usize)
+    requires first { first ≤ length last.old.flags.items }
+    requires place { i < length last.old.flags.items }
+    ensures last { (n : ℕ) → n < length last.old.flags.items → slice_index_or last.new.flags.items n false ≡ ((slice_index_or last.old.flags.items n false && not (suc n == first)) || n == i) }
+    ensures len { length last.new.flags.items ≡ length last.old.flags.items }
 {
     if first > 0 {
-        last[first as usize - 1] = false;
+        last.set(first as usize - 1, false);
     }
-    last[i] = true;
+    last.set(i, true);
 }

@@ -1,40 +1,97 @@
-ghost use Rattle.std.specs.Prelude.{◌≡◌, ◌≤◌, length, not, IfOk};
+ghost use Rattle.std.specs.Prelude.{◌≡◌, ◌≢◌, ℕ, true, false, None, ◌-◌, ◌<◌, ◌≤◌, ◌⊎◌, length, not, slice_index, slice_index_or, IfOk};
+ghost use Rattle.vm_types.specs.Ring.{choose};
 ghost use Rattle.paging_study.specs.Places.{one_if};
-ghost use Rattle.paging_study.specs.RingFaults.{holds, referenced, ring_faults};
+ghost use Rattle.paging_study.specs.RingFaults.{holds, is_held, referenced, ring_faults, slot_chosen};
 
+use crate::string::PageString;
 use std::alloc::Global;
 use vm_types::NoMemory;
 use working_set::{Choice, Ring};
 
-/// The faults that references to these pages (at most 100,000) have in the ring of a working set with
-/// so many slots, 1 to 1024, and that limit, empty at first and with no page locked. Takes time as the
-/// number of pages times the number of slots at worst.
+/// The faults that references to these pages have in the ring of a working set with so many slots, 1
+/// to 1024, and that limit, empty at first and with no page locked. Takes time as the number of pages,
+/// since the ring's choice looks at one slot where no page is locked.
 ///
 /// # Errors
 /// `NoMemory` if memory runs out.
-pub fn ring_faults(alloc: Global, pages: &[u32], frames: u32) -> Result<u32, NoMemory>
-    requires frames { (1 ≤ frames) × (frames ≤ 1024) }
-    requires few { length pages.now ≤ 100000 }
-    ensures { IfOk result (λ faults. faults ≡ ring_faults frames pages.now) }
+pub fn ring_faults(alloc: Global, pages: &PageString, frames: u32) -> Result<u32, NoMemory>
+    requires { (1 ≤ frames) × (frames ≤ 1024) }
+    ensures { IfOk result (λ faults. faults ≡ ring_faults frames pages.now.pages.items) }
 {
     let mut ring = Ring::new(alloc, frames)?;
+    let mut slots = Vec::with_capacity(alloc, pages.pages.len())?;
     let mut faults = 0;
-    for page in pages {
-        faults += refer(&mut ring, frames, *page);
+    for (i, page) in pages.pages.iter().enumerate() {
+        let last = last_slot(&slots, pages.firsts[i]);
+        let (slot, fault) = refer(&mut ring, frames, last, *page);
+        slots.push(slot)?;
+        faults += fault;
     }
     Ok(faults)
 }
 
-/// Refers to a page: 1 if it is a fault, which puts it into the slot that the ring chooses, else 0.
-fn refer(ring: &mut Ring, frames: u32, page: u32) -> u32
-    requires { length ring.old.slots ≡ frames }
+/// Of a place, from 1, the slot in which its page was then; 0 if there is no place.
+fn last_slot(slots: &[u32], first: u32) -> u32
+    requires { first ≤ length slots.now }
+    ensures some { 1 ≤ first → result ≡ slice_index slots.now (first - 1) }
+    ensures none { first ≡ 0 → result ≡ 0 }
+{
+    if first > 0 {
+        return slots[first as usize - 1];
+    }
+    0
+}
+
+/// Refers to a page, which is in the slot `last` or in none. Gives the slot in which it is then, and 1
+/// if it is a fault, which puts it into the slot that the ring chooses, else 0.
+fn refer(ring: &mut Ring, frames: u32, last: u32, page: u32) -> (u32, u32)
+    requires len { length ring.old.slots ≡ frames }
+    requires slot { last < frames }
+    requires only { (s : ℕ) → is_held page (slice_index_or ring.old.slots s None) ≡ true → s ≡ last }
     ensures ring { ring.new ≡ referenced frames ring.old page }
-    ensures fault { result ≡ one_if (not (holds ring.old page)) }
+    ensures fault { result.1 ≡ one_if (not (holds ring.old page)) }
+    ensures len { length ring.new.slots ≡ length ring.old.slots }
+    ensures slot { result.0 < frames }
+    ensures held { (s v : ℕ) → is_held v (slice_index_or ring.new.slots s None) ≡ true
+        → ((v ≡ page) × (s ≡ result.0)) ⊎ ((v ≢ page) × (is_held v (slice_index_or ring.old.slots s None) ≡ true)) }
+{
+    if has_page(ring, last, page) {
+        return (last, 0);
+    }
+    let slot = next_slot(ring, frames);
+    load(ring, frames, page);
+    (slot, 1)
+}
+
+/// Whether the slot holds the page.
+fn has_page(ring: &Ring, slot: u32, page: u32) -> bool
+    requires { slot < length ring.now.slots }
+    ensures { result ≡ is_held page (slice_index_or ring.now.slots slot None) }
+{
+    ring.at(slot) == Some(page)
+}
+
+/// The slot that the ring chooses.
+fn next_slot(ring: &Ring, frames: u32) -> u32
+    requires len { length ring.now.slots ≡ frames }
+    requires some { 1 ≤ frames }
+    ensures chosen { result ≡ slot_chosen (choose ring.now frames) }
+    ensures exists { result < frames }
+{
+    match ring.choose(frames) {
+        Choice::Empty(slot) => slot,
+        Choice::Victim(slot) => slot,
+        Choice::AllLocked => 0,
+    }
+}
+
+/// Puts a page that no slot holds into the slot that the ring chooses.
+fn load(ring: &mut Ring, frames: u32, page: u32)
+    requires len { length ring.old.slots ≡ frames }
+    requires misses { holds ring.old page ≡ false }
+    ensures ring { ring.new ≡ referenced frames ring.old page }
     ensures len { length ring.new.slots ≡ length ring.old.slots }
 {
-    if has_page(ring, frames, page) {
-        return 0;
-    }
     match ring.choose(frames) {
         Choice::Empty(slot) => ring.place(slot, page, true),
         Choice::Victim(slot) => {
@@ -43,18 +100,4 @@ fn refer(ring: &mut Ring, frames: u32, page: u32) -> u32
         }
         Choice::AllLocked => {}
     }
-    1
-}
-
-/// Whether a slot holds the page.
-fn has_page(ring: &Ring, frames: u32, page: u32) -> bool
-    requires { length ring.now.slots ≡ frames }
-    ensures { result ≡ holds ring.now page }
-{
-    for slot in 0..frames {
-        if ring.at(slot) == Some(page) {
-            return true;
-        }
-    }
-    false
 }

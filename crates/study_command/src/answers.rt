@@ -4,7 +4,8 @@ ghost use Rattle.study_command.specs.Answered.{AreAnswers};
 
 use crate::words::Study;
 use paging_study::{
-    Least, distinct_pages, dropped_places, least_faults, lru_faults, page_string, ring_faults,
+    Least, PageString, distinct_pages, dropped_places, least_faults, lru_faults, page_string,
+    ring_faults,
 };
 use std::alloc::Global;
 use vm_types::{Config, NoMemory};
@@ -33,22 +34,22 @@ pub(crate) fn answers_of(alloc: Global, config: &Config, study: Study) -> Result
     ensures { IfOk result (AreAnswers (page_string (study.process).0 config.now.body) study.frames) }
 {
     let pages = page_string(alloc, config, study.process)?;
+    let pages = PageString::of(alloc, pages)?;
     answers_to(alloc, &pages, study.frames)
 }
 
 /// Studies references to these pages.
-fn answers_to(alloc: Global, pages: &[u32], frames: u32) -> Result<Answers, NoMemory>
-    requires frames { (1 ≤ frames) × (frames ≤ 1024) }
-    requires few { length pages.now ≤ 100000 }
-    ensures { IfOk result (AreAnswers pages.now frames) }
+fn answers_to(alloc: Global, pages: &PageString, frames: u32) -> Result<Answers, NoMemory>
+    requires { (1 ≤ frames) × (frames ≤ 1024) }
+    ensures { IfOk result (AreAnswers pages.now.pages.items frames) }
 {
-    let distinct = distinct_pages(alloc, pages)?;
+    let distinct = distinct_pages(pages);
     let ring = ring_faults(alloc, pages, frames)?;
     let lru = lru_faults(alloc, pages, frames)?;
     let least = least_faults(alloc, pages, frames)?;
     let drops = dropped_places(alloc, pages, &least.kept)?;
     Ok(Answers {
-        pages: pages.len() as u32,
+        pages: pages.pages.len() as u32,
         distinct,
         ring,
         lru,

@@ -63,7 +63,8 @@ fn conclude<S: Source, K: Sink>(alloc: Global, study: Study, source: &mut S, sin
 /// is one write of a whole text. The status is 0 for a trace, 2 if the input is none, 3 only if a read
 /// failed, 4 only if a write failed or took nothing, 7 if memory ran out.
 ///
-/// Takes time as the references times the frames at worst.
+/// Takes time as the references times the logarithm of the frames, and for LRU as a 128th part of the
+/// references between two to the same page.
 pub fn study_trace<S: Source, K: Sink>(
     alloc: Global,
     study: Study,

@@ -1,6 +1,6 @@
 use paging_study::{
-    cuts_bound_faults, distinct_pages, dropped_places, least_faults, least_faults_has_one_choice,
-    lru_faults, page_string, ring_faults,
+    PageString, cuts_bound_faults, distinct_pages, dropped_places, least_faults,
+    least_faults_has_one_choice, lru_faults, page_string, ring_faults,
 };
 use std::alloc::Global;
 use std::test::Fail;
@@ -71,7 +71,10 @@ fn lists_the_pages_of_one_process(rt: HostRuntime) -> Result<(), Fail> {
 
 #[test]
 fn counts_faults_with_two_and_three_frames(rt: HostRuntime) -> Result<(), Fail> {
-    let pages = [0, 1, 2, 0, 1, 2];
+    let pages = PageString::of(
+        rt.alloc(),
+        Vec::from_slice(rt.alloc(), &[0, 1, 2, 0, 1, 2])?,
+    )?;
     assert_eq!(rt; ring_faults(rt.alloc(), &pages, 2)?, 6);
     assert_eq!(rt; ring_faults(rt.alloc(), &pages, 3)?, 3);
     let lru = lru_faults(rt.alloc(), &pages, 3)?;
@@ -83,7 +86,7 @@ fn counts_faults_with_two_and_three_frames(rt: HostRuntime) -> Result<(), Fail> 
         [true, false, true, false, false, false].as_slice()
     );
     assert_eq!(rt; two.cuts.as_slice(), [3].as_slice());
-    assert_eq!(rt; distinct_pages(rt.alloc(), &pages)?, 3);
+    assert_eq!(rt; distinct_pages(&pages), 3);
     let kept = [true, false, true, false, false, false];
     let drops = dropped_places(rt.alloc(), &pages, &kept)?;
     assert_eq!(rt; drops.as_slice(), [2].as_slice());
@@ -133,7 +136,8 @@ fn finds_what_trying_every_schedule_finds(rt: HostRuntime) -> Result<(), Fail> {
     ];
     for (pages, frames, faults) in table {
         if 1 <= frames && frames <= 1024 && pages.len() <= 100_000 {
-            assert_eq!(rt; least_faults(rt.alloc(), pages, frames)?.faults, faults);
+            let pages = PageString::of(rt.alloc(), Vec::from_slice(rt.alloc(), pages)?)?;
+            assert_eq!(rt; least_faults(rt.alloc(), &pages, frames)?.faults, faults);
         }
     }
     cuts_bound_faults();
@@ -148,11 +152,12 @@ fn takes_the_most_pages_and_frames(rt: HostRuntime) -> Result<(), Fail> {
         pages.push(i % 3)?;
     }
     if pages.len() <= 100_000 {
+        let pages = PageString::of(rt.alloc(), pages)?;
         assert_eq!(rt; ring_faults(rt.alloc(), &pages, 1024)?, 3);
         assert_eq!(rt; lru_faults(rt.alloc(), &pages, 1024)?.last(), Some(&3));
         let least = least_faults(rt.alloc(), &pages, 1024)?;
         assert_eq!(rt; least.faults, 3);
-        assert_eq!(rt; distinct_pages(rt.alloc(), &pages)?, 3);
+        assert_eq!(rt; distinct_pages(&pages), 3);
         assert!(rt; dropped_places(rt.alloc(), &pages, &least.kept)?.is_empty());
     }
     let mut pages = Vec::new(rt.alloc());
@@ -160,6 +165,7 @@ fn takes_the_most_pages_and_frames(rt: HostRuntime) -> Result<(), Fail> {
         pages.push(i % 1025)?;
     }
     if pages.len() <= 100_000 {
+        let pages = PageString::of(rt.alloc(), pages)?;
         assert_eq!(rt; ring_faults(rt.alloc(), &pages, 1024)?, 2050);
         assert_eq!(rt; lru_faults(rt.alloc(), &pages, 1024)?.last(), Some(&2050));
         assert_eq!(rt; least_faults(rt.alloc(), &pages, 1024)?.faults, 1026);

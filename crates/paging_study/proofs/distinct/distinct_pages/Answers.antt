@@ -12,6 +12,6 @@ at_most_one false = omega arith
 -- no more than the places so far
 pub overflow_add-count : goal.overflow_add-count
 overflow_add-count c =
-    let few = count_places-le (λ n. eqb (begins (page_at c.args.pages.now) n) 0) c.loop-first.first-index in
+    let few = count_places-le (λ n. eqb (begins (page_at c.args.pages.now.pages.items) n) 0) c.loop-first.first-index in
     let one : c.from-count.result ≤ 1 = rw c.from-count.ensures (at_most_one _) in
-    omega (arith, few, one, c.loop-first.invariant, ap length c.deref-first-items.ensures.value, c.in_ok-firsts.ensures.len)
+    omega (arith, few, one, c.loop-first.invariant, ap length c.deref-first-items.ensures.value, c.args.pages.now.len)

@@ -5,4 +5,4 @@ use Rattle.paging_study.proofs.distinct.distinct_pages.Given as goal
 
 -- the first references so far
 abbrev pub invariant-loop-first : goal.invariant-loop-first
-invariant-loop-first l = l.count ≡ count_places (λ n. eqb (begins (page_at l.pages) n) 0) l.first-index
+invariant-loop-first l = l.count ≡ count_places (λ n. eqb (begins (page_at l.pages.pages.items) n) 0) l.first-index

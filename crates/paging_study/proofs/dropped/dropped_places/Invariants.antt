@@ -5,4 +5,4 @@ use Rattle.paging_study.proofs.dropped.dropped_places.Given as goal
 
 -- those of the first places
 abbrev pub invariant-loop-i : goal.invariant-loop-i
-invariant-loop-i l = l.places.items ≡ places_with (is_let_go (page_at l.pages) (flag_at l.kept) (length l.pages)) l.i
+invariant-loop-i l = l.places.items ≡ places_with (is_let_go (page_at l.pages.pages.items) (flag_at l.kept) (length l.pages.pages.items)) l.i

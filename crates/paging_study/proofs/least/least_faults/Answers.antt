@@ -10,7 +10,7 @@ use Rattle.paging_study.proofs.least.least_faults.Goals as goal
 
 -- an interval begins before it ends
 pub ends_of-requires-clause-before : goal.ends_of-requires-clause-before
-ends_of-requires-clause-before c = begins_before c.args.pages.now c.in_ok-firsts.firsts.items c.deref.result.now c.deref.ensures.value c.in_ok-firsts.ensures.begins
+ends_of-requires-clause-before c = begins_before c.args.pages.now.pages.items c.args.pages.now.firsts.items c.deref.result.now c.deref.ensures.value c.args.pages.now.begins
 
 -- each drop is the end of an interval
 pub gone_of-requires : goal.gone_of-requires
@@ -23,7 +23,7 @@ gone_of-requires c =
     subst (λ (xs : List ℕ). (page : ℕ → ℕ) → AreEnds page (length xs) (page_at xs) → AreDrops page (page_at drops) (length xs) (c.args.frames - 1)) is c.in_ok-drops.ensures.drops in
     let lengths : length drops ≡ length ends = c.in_ok-drops.ensures.len ∙ ap length is in
     subst (λ (xs : List ℕ). All (λ end. end ≤ length xs) xs) (sym is-2)
-    (drops_within c.args.pages.now ends drops (c.args.frames - 1) (ends_from c.args.pages.now c.in_ok-firsts.firsts.items c.deref.result.now ends c.deref.ensures.value c.in_ok-firsts.ensures.begins c.in_ok-firsts.ensures.len c.in_ok-ends.ensures.ends) (c.in_ok-ends.ensures.len ∙ (ap length c.deref.ensures.value ∙ c.in_ok-firsts.ensures.len)) lengths made)
+    (drops_within c.args.pages.now.pages.items ends drops (c.args.frames - 1) (ends_from c.args.pages.now.pages.items c.args.pages.now.firsts.items c.deref.result.now ends c.deref.ensures.value c.args.pages.now.begins c.args.pages.now.len c.in_ok-ends.ensures.ends) (c.in_ok-ends.ensures.len ∙ (ap length c.deref.ensures.value ∙ c.args.pages.now.len)) lengths made)
 
 pub kept_of-requires : goal.kept_of-requires
 kept_of-requires c =
@@ -33,9 +33,9 @@ kept_of-requires c =
     let is-4 : c.deref-5.result.now ≡ gone = c.deref-5.ensures.value in
     let lengths : length gone ≡ length ends = c.in_ok-gone.ensures.len ∙ (ap length c.deref-3.ensures.value ∙ (c.in_ok-drops.ensures.len ∙ ap length c.deref-2.ensures.value)) in
     subst (λ (xs : List ℕ). All (λ end. end ≤ length c.deref-5.result.now) xs) (sym is-3)
-    (ends_all_within c.args.pages.now ends (length c.deref-5.result.now) (ends_from c.args.pages.now c.in_ok-firsts.firsts.items c.deref.result.now ends c.deref.ensures.value c.in_ok-firsts.ensures.begins c.in_ok-firsts.ensures.len c.in_ok-ends.ensures.ends) (c.in_ok-ends.ensures.len ∙ (ap length c.deref.ensures.value ∙ c.in_ok-firsts.ensures.len)) (omega (arith, ap length is-4, lengths, (c.in_ok-ends.ensures.len ∙ (ap length c.deref.ensures.value ∙ c.in_ok-firsts.ensures.len)))))
+    (ends_all_within c.args.pages.now.pages.items ends (length c.deref-5.result.now) (ends_from c.args.pages.now.pages.items c.args.pages.now.firsts.items c.deref.result.now ends c.deref.ensures.value c.args.pages.now.begins c.args.pages.now.len c.in_ok-ends.ensures.ends) (c.in_ok-ends.ensures.len ∙ (ap length c.deref.ensures.value ∙ c.args.pages.now.len)) (omega (arith, ap length is-4, lengths, (c.in_ok-ends.ensures.len ∙ (ap length c.deref.ensures.value ∙ c.args.pages.now.len)))))
 
-passes : (c : goal.After-drop-firsts-2) → Passes c.args.pages.now c.in_ok-ends.ends.items c.in_ok-drops.drops.ends.items c.in_ok-gone.gone.items c.in_ok-kept.kept.items c.in_ok-flags.flags.items c.in_ok-cuts.cuts.items c.in_ok-drops.drops.faults (c.args.frames - 1)
+passes : (c : goal.After-drop-ends-2) → Passes c.args.pages.now.pages.items c.in_ok-ends.ends.items c.in_ok-drops.drops.ends.items c.in_ok-gone.gone.items c.in_ok-kept.kept.items c.in_ok-flags.flags.items c.in_ok-cuts.cuts.items c.in_ok-drops.drops.faults (c.args.frames - 1)
 passes c =
     let ends : List ℕ = c.in_ok-ends.ends.items in
     let drops : List ℕ = c.in_ok-drops.drops.ends.items in
@@ -52,8 +52,8 @@ passes c =
     let is-5 : c.deref-6.result.now ≡ drops = c.deref-6.ensures.value in
     let is-6 : c.deref-7.result.now ≡ flags = c.deref-7.ensures.value in
     record {
-      ends_are = (ends_from c.args.pages.now c.in_ok-firsts.firsts.items c.deref.result.now ends c.deref.ensures.value c.in_ok-firsts.ensures.begins c.in_ok-firsts.ensures.len c.in_ok-ends.ensures.ends);
-      ends_length = (c.in_ok-ends.ensures.len ∙ (ap length c.deref.ensures.value ∙ c.in_ok-firsts.ensures.len));
+      ends_are = (ends_from c.args.pages.now.pages.items c.args.pages.now.firsts.items c.deref.result.now ends c.deref.ensures.value c.args.pages.now.begins c.args.pages.now.len c.in_ok-ends.ensures.ends);
+      ends_length = (c.in_ok-ends.ensures.len ∙ (ap length c.deref.ensures.value ∙ c.args.pages.now.len));
       drops_are = subst (λ (xs : List ℕ). (page : ℕ → ℕ) → AreEnds page (length xs) (page_at xs) → AreDrops page (page_at drops) (length xs) room) is c.in_ok-drops.ensures.drops;
       counted = subst (λ (xs : List ℕ). (page : ℕ → ℕ) → AreEnds page (length xs) (page_at xs) → faults + count_places (λ n. leb 1 (begins page n) && not (is_dropped (page_at drops) (length xs) n)) (length xs) ≡ length xs) is c.in_ok-drops.ensures.faults;
       drops_length = c.in_ok-drops.ensures.len ∙ ap length is;
@@ -69,8 +69,8 @@ passes c =
 
 pub returns-clause-schedule : goal.returns-clause-schedule
 returns-clause-schedule c =
-    let frames : c.args.frames - 1 + 1 ≡ c.args.frames = omega (arith, c.requires.frames.0) in
-    subst (λ (k : ℕ). IsSchedule (page_at c.args.pages.now) (length c.args.pages.now) k (sets_of (page_at c.args.pages.now) (flag_at c.in_ok-kept.kept.items) (length c.args.pages.now))) frames
+    let frames : c.args.frames - 1 + 1 ≡ c.args.frames = omega (arith, c.requires.0) in
+    subst (λ (k : ℕ). IsSchedule (page_at c.args.pages.now.pages.items) (length c.args.pages.now.pages.items) k (sets_of (page_at c.args.pages.now.pages.items) (flag_at c.in_ok-kept.kept.items) (length c.args.pages.now.pages.items))) frames
     (all_schedule _ _ _ _ _ _ _ _ _ (passes c))
 
 pub returns-clause-faults : goal.returns-clause-faults
@@ -78,8 +78,8 @@ returns-clause-faults c = all_faults _ _ _ _ _ _ _ _ _ (passes c)
 
 pub returns-clause-least : goal.returns-clause-least
 returns-clause-least c =
-    let frames : c.args.frames ≡ c.args.frames - 1 + 1 = omega (arith, c.requires.frames.0) in
-    λ sets is. all_least _ _ _ _ _ _ _ _ _ (passes c) sets (subst (λ (k : ℕ). IsSchedule (page_at c.args.pages.now) (length c.args.pages.now) k sets) frames is)
+    let frames : c.args.frames ≡ c.args.frames - 1 + 1 = omega (arith, c.requires.0) in
+    λ sets is. all_least _ _ _ _ _ _ _ _ _ (passes c) sets (subst (λ (k : ℕ). IsSchedule (page_at c.args.pages.now.pages.items) (length c.args.pages.now.pages.items) k sets) frames is)
 
 pub returns-clause-certificate : goal.returns-clause-certificate
 returns-clause-certificate c = all_certificate _ _ _ _ _ _ _ _ _ (passes c)

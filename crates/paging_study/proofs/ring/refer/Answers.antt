@@ -1,13 +1,29 @@
-use Rattle.std.proofs.Common.{◌≡◌, false, sym, ◌∙◌, rules}
-use Rattle.vm_types.specs.Ring.{choose}
-use Rattle.vm_types.specs.declared.ring_choice.Choice.TheVariants.{Victim}
-use Rattle.paging_study.specs.RingFaults.{holds}
-use Rattle.paging_study.proofs.RingSteps.{victim_replaced}
+use Rattle.std.proofs.Common.{◌≡◌, true, false, None, get_or, sym, ◌∙◌, refl, arith}
+use Rattle.paging_study.specs.RingFaults.{holds, is_held}
+use Rattle.paging_study.proofs.Hints.{held_holds, misses_from, same_held, loaded_held}
 use Rattle.paging_study.proofs.ring.refer.Goals as goal
 
--- the victim's slot is cleared first
-pub returns-in-Victim-clause-ring : goal.returns-in-Victim-clause-ring
-returns-in-Victim-clause-ring c =
-    let misses : holds c.args.ring.now c.args.page ≡ false = sym c.has_page.ensures ∙ c.if-has_page.false in
-    let chosen : choose c.args.ring.now c.args.frames ≡ Victim c.in-Victim.slot = search rules in
-    victim_replaced c.args.ring.now c.clear.new.self c.place-in-Victim.new.self c.args.frames c.args.page c.in-Victim.slot misses chosen c.clear.ensures.cleared c.place-in-Victim.ensures.placed
+pub load-requires-clause-misses : goal.load-requires-clause-misses
+load-requires-clause-misses c = misses_from c.args.ring.now c.args.last c.args.page c.requires.only (sym c.has_page.ensures ∙ c.if-has_page.false)
+
+pub returns-then-has_page : goal.returns-then-has_page
+returns-then-has_page c =
+    let there : is_held c.args.page (get_or c.args.ring.now.slots c.args.last None) ≡ true = sym c.has_page.ensures ∙ c.if-has_page.true in
+    let is : holds c.args.ring.now c.args.page ≡ true = held_holds c.args.page c.args.ring.now.slots c.args.last there in
+    record {
+      ring = rw is refl;
+      fault = rw is refl;
+      len = refl;
+      slot = c.requires.slot;
+      held = same_held c.args.ring.now c.args.page c.args.last c.requires.only;
+    }
+
+pub returns-clause-fault : goal.returns-clause-fault
+returns-clause-fault c =
+    let none : holds c.args.ring.now c.args.page ≡ false = misses_from c.args.ring.now c.args.last c.args.page c.requires.only (sym c.has_page.ensures ∙ c.if-has_page.false) in
+    rw none refl
+
+pub returns-clause-held : goal.returns-clause-held
+returns-clause-held c =
+    let none : holds c.args.ring.now c.args.page ≡ false = misses_from c.args.ring.now c.args.last c.args.page c.requires.only (sym c.has_page.ensures ∙ c.if-has_page.false) in
+    loaded_held c.args.ring.now c.load.new.ring c.args.frames c.args.page c.next_slot-slot.result none c.load.ensures.ring c.next_slot-slot.ensures.chosen (omega (arith, c.next_slot-slot.ensures.exists, c.requires.len))

@@ -1,4 +1,4 @@
-use Rattle.std.proofs.Common.{◌≡◌, ◌+◌, ◌-◌, ◌*◌, ◌≤◌, ℕ, List, Bool, length, refl, subst}
+use Rattle.std.proofs.Common.{◌≡◌, ◌+◌, ◌-◌, ◌*◌, ◌≤◌, ℕ, List, Bool, length, arith, subst}
 use Rattle.paging_study.specs.Intervals.{uncut}
 use Rattle.paging_study.specs.Schedule.{faults_with}
 use Rattle.paging_study.specs.Dropped.{dropped_places}
@@ -7,11 +7,11 @@ use Rattle.study_command.proofs.answers.answers_to.Goals as goal
 
 pub returns : goal.returns
 returns c =
-    let pages : List ℕ = c.args.pages.now in
+    let pages : List ℕ = c.args.pages.now.pages.items in
     let cuts : List ℕ = c.in_ok-least.least.cuts.items in
     record {
-      count = refl;
-      distinct = c.in_ok-distinct.ensures;
+      count = omega (arith, c.len.ensures, c.args.pages.now.pages.ok.0);
+      distinct = c.distinct_pages-distinct.ensures;
       ring = c.in_ok-ring.ensures;
       lru = lru_is pages c.in_ok-lru.lru.items c.args.frames c.in_ok-lru.ensures.len c.in_ok-lru.ensures.faults;
       least = record {
