@@ -1,12 +1,13 @@
 -- What goes to standard error beside the program's output. Source: this project's own.
-use Rattle.std.specs.Prelude.{◌≡◌, ◌≢◌, ◌⊎◌, ℕ, ◌≤◌, Bool, ◌&&◌, nat_le, List, [], ◌++◌, length, take, filter, codes, decimal}
+use Rattle.std.specs.Prelude.{◌≡◌, ◌≢◌, ◌⊎◌, ℕ, ◌≤◌, Bool, ◌&&◌, nat_le, List, [], ◌++◌, length, take, filter, codes, decimal, Some}
+use Rattle.std.specs.declared.option.Option.{Option}
 use Rattle.std.specs.Io.KnownBytes.{Appends}
 use Rattle.outside_io.specs.Causes.{Rose}
 use Rattle.outside_io.specs.Views.{SinkView}
 use Rattle.trace_words.specs.declared.cause.Cause.{Cause}
 use Rattle.trace_words.specs.declared.cause.Cause.TheVariants.{LineTooLong, NotAscii, TooMany, UnknownWord, Misplaced, NoSuch, BadNumber, OutOfRange, Unaligned, Repeated}
-use Rattle.program_ends.specs.FaultText.{fault_text}
-use Rattle.check_command.specs.CheckText.{too_long_line}
+use Rattle.program_ends.specs.declared.wrong.Wrong.{Wrong}
+use Rattle.program_ends.specs.declared.wrong.Wrong.TheVariants.{Line, Unfinished, LogTooLong, LogLine}
 
 -- beside status 1
 abbrev pub usage_text : List ℕ
@@ -49,15 +50,15 @@ too_long_message = codes "neqysbar: the log has more lines than a log may have\n
 abbrev pub unfinished_message : List ℕ
 unfinished_message = codes "neqysbar: the trace ends before its line END, or before the line LOG that check reads\n"
 
--- the message beside a status, by the last line that was read and the first bytes that were written
-pub data IsMessage (number : ℕ) (text first : List ℕ) : ℕ → List ℕ → Type 0 where
-  usage : IsMessage number text first 1 usage_text
-  faulty : (cause : Cause) (rest : List ℕ) → first ≡ fault_text number cause ++ rest → IsMessage number text first 2 (fault_message number cause text)
-  too_long : (rest : List ℕ) → first ≡ too_long_line ++ rest → IsMessage number text first 2 too_long_message
-  unfinished : ((cause : Cause) → (rest : List ℕ) → first ≢ fault_text number cause ++ rest) → ((rest : List ℕ) → first ≢ too_long_line ++ rest)
-      → IsMessage number text first 2 unfinished_message
-  in_log : IsMessage number text first 8 (log_message number text)
-  no_message : (status : ℕ) → status ≢ 1 → status ≢ 2 → status ≢ 8 → IsMessage number text first status []
+-- the message beside a status, by what is wrong with the input, and by the number and the first bytes of the last
+-- line that was read
+pub data IsMessage (number : ℕ) (text : List ℕ) (wrong : Option Wrong) : ℕ → List ℕ → Type 0 where
+  usage : IsMessage number text wrong 1 usage_text
+  faulty : (line : ℕ) (cause : Cause) → wrong ≡ Some (Line line cause) → IsMessage number text wrong 2 (fault_message line cause text)
+  too_long : wrong ≡ Some LogTooLong → IsMessage number text wrong 2 too_long_message
+  unfinished : wrong ≡ Some Unfinished → IsMessage number text wrong 2 unfinished_message
+  in_log : (line : ℕ) → wrong ≡ Some (LogLine line) → IsMessage number text wrong 8 (log_message number text)
+  no_message : (status : ℕ) → status ≢ 1 → status ≢ 2 → status ≢ 8 → IsMessage number text wrong status []
 
 -- a prefix of the message was taken, and the whole unless a call failed or took nothing
 abbrev pub IsSaid : SinkView → SinkView → List ℕ → Type 0

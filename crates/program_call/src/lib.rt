@@ -4,7 +4,6 @@
 
 mod arguments;
 mod bytes;
-mod first_bytes;
 mod last_line;
 mod line_by_line;
 mod messages;
@@ -15,7 +14,6 @@ mod words;
 
 pub use arguments::{Arguments, EnvArguments, ListedArguments};
 pub use bytes::{BytesSink, BytesSource, run_bytes};
-pub use first_bytes::FirstBytes;
 pub use last_line::LastLine;
 pub use line_by_line::LineSource;
 pub use program::{run_and_explain, run_program};

@@ -1,14 +1,14 @@
-ghost use Rattle.std.specs.Prelude.{◌≡◌, ◌≢◌, ◌+◌, ◌≤◌, ◌++◌, List, ℕ, IsTrue, IfSome, IfNone, length, filter};
+ghost use Rattle.std.specs.Prelude.{◌≡◌, ◌⊎◌, ◌+◌, ◌≤◌, ◌++◌, List, ℕ, length, filter};
 ghost use Rattle.arrayvec.specs.ArrayVec.{array_vec_len};
-ghost use Rattle.program_ends.specs.FaultText.{fault_text};
+ghost use Rattle.program_ends.specs.Wrongs.{IsWrong};
 ghost use Rattle.program_call.specs.Messages.{IsMessage, IsSaid, is_printable, line_message, rule_text};
 
 use crate::last_line::LastLine;
 use arrayvec::ArrayVec;
 use outside_io::{Sink, write_whole};
-use program_ends::name_of;
+use program_ends::Wrong;
 use trace_reader::Cause;
-use vm_text::{after, push_count, push_word};
+use vm_text::{push_count, push_word};
 
 const USAGE: &[u8] =
     b"usage: neqysbar serial < TRACE\n       neqysbar study --process X --frames K < TRACE\n       neqysbar make --seed N --procs N --refs N\n       neqysbar check < TRACE-AND-LOG\n";
@@ -43,61 +43,6 @@ fn rule_of(cause: Cause) -> &'static [u8]
     }
 }
 
-// Whether the bytes begin with the line that says that the line of this number has this fault.
-fn tells(first: &[u8], number: u32, cause: Cause) -> bool
-    ensures yes { IsTrue result → (rest : List ℕ) × (first.now ≡ fault_text number cause ++ rest) }
-    ensures no { (IsTrue result → ⊥) → (rest : List ℕ) → first.now ≢ fault_text number cause ++ rest }
-{
-    let mut line: ArrayVec<u8, 160> = ArrayVec::new();
-    push_word(&mut line, b"TRACE ");
-    push_count(&mut line, number);
-    push_word(&mut line, b" ");
-    push_word(&mut line, name_of(cause));
-    push_word(&mut line, b"\n");
-    match after(first, line.as_slice()) {
-        Some(_) => true,
-        None => false,
-    }
-}
-
-// The fault of the line of this number, if the bytes begin with the line that says it.
-fn cause_told(first: &[u8], number: u32) -> Option<Cause>
-    ensures some { IfSome result (λ cause. (rest : List ℕ) × (first.now ≡ fault_text number cause ++ rest)) }
-    ensures none { IfNone result ((cause : Cause) → (rest : List ℕ) → first.now ≢ fault_text number cause ++ rest) }
-{
-    if tells(first, number, Cause::LineTooLong) {
-        return Some(Cause::LineTooLong);
-    }
-    if tells(first, number, Cause::NotAscii) {
-        return Some(Cause::NotAscii);
-    }
-    if tells(first, number, Cause::TooMany) {
-        return Some(Cause::TooMany);
-    }
-    if tells(first, number, Cause::UnknownWord) {
-        return Some(Cause::UnknownWord);
-    }
-    if tells(first, number, Cause::Misplaced) {
-        return Some(Cause::Misplaced);
-    }
-    if tells(first, number, Cause::NoSuch) {
-        return Some(Cause::NoSuch);
-    }
-    if tells(first, number, Cause::BadNumber) {
-        return Some(Cause::BadNumber);
-    }
-    if tells(first, number, Cause::OutOfRange) {
-        return Some(Cause::OutOfRange);
-    }
-    if tells(first, number, Cause::Unaligned) {
-        return Some(Cause::Unaligned);
-    }
-    if tells(first, number, Cause::Repeated) {
-        return Some(Cause::Repeated);
-    }
-    None
-}
-
 // Adds the printable ones of at most 80 bytes.
 fn add_printable(out: &mut ArrayVec<u8, 320>, bytes: &[u8])
     requires { array_vec_len out.old + length bytes.now ≤ 300 }
@@ -111,18 +56,18 @@ fn add_printable(out: &mut ArrayVec<u8, 320>, bytes: &[u8])
     }
 }
 
-// The message about the last line.
-fn message_of(last: &LastLine, wrong: &[u8]) -> ArrayVec<u8, 320>
+// The message about a line with these first bytes.
+fn message_of(number: u32, wrong: &[u8], text: &ArrayVec<u8, 80>) -> ArrayVec<u8, 320>
     requires { length wrong.now ≤ 100 }
-    ensures { result.items ≡ line_message last.now.number wrong.now last.now.text.items }
+    ensures { result.items ≡ line_message number wrong.now text.now.items }
 {
     let mut out = ArrayVec::new();
     push_word(&mut out, b"neqysbar: line ");
-    push_count(&mut out, last.number);
+    push_count(&mut out, number);
     push_word(&mut out, b": ");
     push_word(&mut out, wrong);
     push_word(&mut out, b": ");
-    add_printable(&mut out, last.text.as_slice());
+    add_printable(&mut out, text.as_slice());
     push_word(&mut out, b"\n");
     out
 }
@@ -140,23 +85,32 @@ fn say<M: Sink>(message: &[u8], messages: &mut M)
 }
 
 /// Writes the message that goes with a status: usage beside 1; beside 2 the number of the faulty line,
-/// the rule that it breaks and its text, or that a log is too long, or that the trace is unfinished; beside
-/// 8 the number and the text of the line at which or behind which a log isn't legal; nothing beside others.
-/// The last line that was read and the first bytes that were written tell which. Doesn't allocate.
-pub(crate) fn explain<M: Sink>(status: u8, last: &LastLine, first: &[u8], messages: &mut M)
-    ensures { (message : List ℕ) × IsMessage last.now.number last.now.text.items first.now status message
+/// the rule that it breaks and the first bytes of the last line that was read, or that a log is too long, or
+/// that the trace is unfinished; beside 8 the number and the first bytes of that line, at which or behind
+/// which a log isn't legal; nothing beside others. Doesn't allocate.
+pub(crate) fn explain<M: Sink>(status: u8, wrong: Option<Wrong>, last: &LastLine, messages: &mut M)
+    requires { (status ≡ 2) ⊎ (status ≡ 8) → (text : List ℕ) × IsWrong wrong status text }
+    ensures { (message : List ℕ) × IsMessage last.now.number last.now.text.items wrong status message
         × IsSaid (M.seen messages.old) (M.seen messages.new) message }
 {
     match status {
         1 => say(USAGE, messages),
-        2 => match cause_told(first, last.number) {
-            Some(cause) => say(message_of(last, rule_of(cause)).as_slice(), messages),
-            None => match after(first, b"LOG TOOMANY\n") {
-                Some(_) => say(TOO_LONG, messages),
-                None => say(UNFINISHED, messages),
-            },
+        2 => match wrong {
+            Some(Wrong::Line(number, cause)) => {
+                say(
+                    message_of(number, rule_of(cause), &last.text).as_slice(),
+                    messages,
+                )
+            }
+            Some(Wrong::Unfinished) => say(UNFINISHED, messages),
+            Some(Wrong::LogTooLong) => say(TOO_LONG, messages),
+            Some(Wrong::LogLine(_)) => {}
+            None => {}
         },
-        8 => say(message_of(last, IN_LOG).as_slice(), messages),
+        8 => say(
+            message_of(last.number, IN_LOG, &last.text).as_slice(),
+            messages,
+        ),
         _ => {}
     }
 }

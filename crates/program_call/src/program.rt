@@ -3,20 +3,22 @@ ghost use Rattle.std.specs.Io.KnownBytes.{Keeps};
 ghost use Rattle.outside_io.specs.Causes.{Rose};
 ghost use Rattle.vm_types.specs.Moved.{moved};
 ghost use Rattle.program_ends.specs.Concludes.{HasTold, WasCut};
+ghost use Rattle.program_ends.specs.Wrongs.{IsWrong};
+ghost use Rattle.program_ends.specs.declared.wrong.Wrong.{Wrong};
+ghost use Rattle.std.specs.declared.option.Option.{Option};
 ghost use Rattle.program_call.specs.LastLine.{line_begin};
 ghost use Rattle.program_call.specs.Messages.{IsMessage, IsSaid};
 ghost use Rattle.program_call.specs.ProgramRun.{IsProgramRun};
 ghost use Rattle.program_call.specs.ProgramTells.{ProgramTells};
 
 use crate::arguments::Arguments;
-use crate::first_bytes::FirstBytes;
 use crate::line_by_line::LineSource;
 use crate::messages::explain;
 use crate::words::{copied_words, texts_of};
 use disk_trait::Depot;
 use outside_io::{Sink, Source};
-use program_ends::{Status, end_with};
-use replay_cli::run_one;
+use program_ends::{Status, Wrong, end_with};
+use replay_cli::run_and_tell;
 use std::alloc::Global;
 
 /// Copies the words, and runs the command that they name. With words that aren't UTF-8 the command
@@ -27,23 +29,24 @@ fn run_words<A: Arguments, S: Source, K: Sink, D: Depot>(
     source: &mut S,
     output: &mut K,
     depot: &mut D,
-) -> Status
-    ensures told { result.0 ≢ 4 → HasTold (ProgramTells (A.left arguments.old) (moved (S.seen source.old) (S.seen source.new))
+) -> (Status, Option<Wrong>)
+    ensures told { result.0.0 ≢ 4 → HasTold (ProgramTells (A.left arguments.old) (moved (S.seen source.old) (S.seen source.new))
         (moved (D.seen depot.old) (D.seen depot.new)))
-        (K.seen output.old) (K.seen output.new) result.0 }
-    ensures cut { result.0 ≡ 4 → WasCut (ProgramTells (A.left arguments.old) (moved (S.seen source.old) (S.seen source.new))
+        (K.seen output.old) (K.seen output.new) result.0.0 }
+    ensures cut { result.0.0 ≡ 4 → WasCut (ProgramTells (A.left arguments.old) (moved (S.seen source.old) (S.seen source.new))
         (moved (D.seen depot.old) (D.seen depot.new)))
         (K.seen output.old) (K.seen output.new) }
-    ensures write_fault { result.0 ≡ 4 → Rose (K.seen output.old).failures (K.seen output.new).failures ⊎ Rose (K.seen output.old).stalls (K.seen output.new).stalls }
-    ensures unfailed { result.0 ≢ 4 → ((K.seen output.new).failures ≡ (K.seen output.old).failures) × ((K.seen output.new).stalls ≡ (K.seen output.old).stalls) }
+    ensures write_fault { result.0.0 ≡ 4 → Rose (K.seen output.old).failures (K.seen output.new).failures ⊎ Rose (K.seen output.old).stalls (K.seen output.new).stalls }
+    ensures unfailed { result.0.0 ≢ 4 → ((K.seen output.new).failures ≡ (K.seen output.old).failures) × ((K.seen output.new).stalls ≡ (K.seen output.old).stalls) }
+    ensures wrong { result.0.0 ≢ 4 → HasTold (IsWrong result.1) (K.seen output.old) (K.seen output.new) result.0.0 }
 {
     let Ok(words) = copied_words(alloc, arguments) else {
-        return end_with(7, output);
+        return (end_with(7, output), None);
     };
     match texts_of(alloc, words.as_slice()) {
-        Ok(Some(texts)) => run_one(alloc, texts.as_slice(), source, output, depot),
-        Ok(None) => run_one(alloc, &[], source, output, depot),
-        Err(_) => end_with(7, output),
+        Ok(Some(texts)) => run_and_tell(alloc, texts.as_slice(), source, output, depot),
+        Ok(None) => run_and_tell(alloc, &[], source, output, depot),
+        Err(_) => (end_with(7, output), None),
     }
 }
 
@@ -66,6 +69,23 @@ fn finish<K: Sink>(status: Status, output: &mut K) -> Status
     }
 }
 
+/// As `run_program`, and answers besides what is wrong with the input.
+fn run_and_finish<A: Arguments, S: Source, K: Sink, D: Depot>(
+    alloc: Global,
+    arguments: &mut A,
+    source: &mut S,
+    output: &mut K,
+    depot: &mut D,
+) -> (Status, Option<Wrong>)
+    ensures run { IsProgramRun (A.left arguments.old) (moved (S.seen source.old) (S.seen source.new))
+        (moved (D.seen depot.old) (D.seen depot.new))
+        (moved (K.seen output.old) (K.seen output.new)) result.0.0 }
+    ensures wrong { result.0.0 ≢ 4 → HasTold (IsWrong result.1) (K.seen output.old) (K.seen output.new) result.0.0 }
+{
+    let (status, wrong) = run_words(alloc, arguments, source, output, depot);
+    (finish(status, output), wrong)
+}
+
 /// The whole program over its ends: copies the words after the program's own name, runs the command
 /// that they name over blocks of the depot, and hands on what the output keeps. The status is that of
 /// the command; 1 also if a word isn't UTF-8, 7 if memory ran out before the command, and 4 if a write
@@ -81,8 +101,7 @@ pub fn run_program<A: Arguments, S: Source, K: Sink, D: Depot>(
         (moved (D.seen depot.old) (D.seen depot.new))
         (moved (K.seen output.old) (K.seen output.new)) result.0 }
 {
-    let status = run_words(alloc, arguments, source, output, depot);
-    finish(status, output)
+    run_and_finish(alloc, arguments, source, output, depot).0
 }
 
 /// As `run_program`, with messages beside the output: usage beside status 1; beside status 2 a line
@@ -94,20 +113,20 @@ pub fn run_and_explain<A: Arguments, S: Source, K: Sink, M: Sink, D: Depot>(
     alloc: Global,
     arguments: &mut A,
     source: &mut LineSource<S>,
-    output: &mut FirstBytes<K>,
+    output: &mut K,
     messages: &mut M,
     depot: &mut D,
 ) -> Status
     ensures run { IsProgramRun (A.left arguments.old) (moved (⟦<LineSource<S> as Source>⟧.seen source.old) (⟦<LineSource<S> as Source>⟧.seen source.new))
         (moved (D.seen depot.old) (D.seen depot.new))
-        (moved (⟦<FirstBytes<K> as Sink>⟧.seen output.old) (⟦<FirstBytes<K> as Sink>⟧.seen output.new)) result.0 }
-    // The message goes with the status, the last line read and the first bytes written.
-    ensures message { (message : List ℕ) × IsMessage source.new.number (line_begin source.new.front.items source.new.buffer source.new.from source.new.at)
-        output.new.first.items result.0 message
-        × IsSaid (M.seen messages.old) (M.seen messages.new) message }
+        (moved (K.seen output.old) (K.seen output.new)) result.0 }
+    // The message is that for what is wrong, and the text that was written says the same of the input.
+    ensures message { (wrong : Option Wrong) × (result.0 ≢ 4 → HasTold (IsWrong wrong) (K.seen output.old) (K.seen output.new) result.0)
+        × ((message : List ℕ) × IsMessage source.new.number (line_begin source.new.front.items source.new.buffer source.new.from source.new.at)
+        wrong result.0 message × IsSaid (M.seen messages.old) (M.seen messages.new) message) }
 {
-    let status = run_program(alloc, arguments, source, output, depot);
+    let (status, wrong) = run_and_finish(alloc, arguments, source, output, depot);
     let last = source.last();
-    explain(status.0, &last, output.first(), messages);
+    explain(status.0, wrong, &last, messages);
     status
 }

@@ -1,7 +1,7 @@
 use disk_trait::MemoryDepot;
 use outside_io::{MemorySink, MemorySource};
 use program_call::{
-    EnvArguments, FirstBytes, LineSource, ListedArguments, run_and_explain, run_bytes, run_program,
+    EnvArguments, LineSource, ListedArguments, run_and_explain, run_bytes, run_program,
 };
 use replay_cli::Status;
 use std::alloc::Global;
@@ -119,8 +119,7 @@ fn explains(rt: HostRuntime) -> Result<(), Fail> {
             Vec::from_slice(alloc, trace)?,
             Vec::new(alloc),
         ));
-        let output = MemorySink::new(alloc, 1000, Vec::new(alloc), Vec::new(alloc))?;
-        let mut output = FirstBytes::new(output);
+        let mut output = MemorySink::new(alloc, 1000, Vec::new(alloc), Vec::new(alloc))?;
         let mut messages = MemorySink::new(alloc, 1000, Vec::new(alloc), Vec::new(alloc))?;
         let mut depot = MemoryDepot::new(alloc, Vec::new(alloc));
         let ended = run_and_explain(
