@@ -1,5 +1,5 @@
 -- What goes to standard error beside the program's output. Source: this project's own.
-use Rattle.std.specs.Prelude.{◌≡◌, ◌≢◌, ◌⊎◌, ℕ, ◌≤◌, Bool, ◌&&◌, nat_le, List, [], ◌++◌, length, take, filter, codes, decimal, Some}
+use Rattle.std.specs.Prelude.{◌≡◌, ◌⊎◌, ℕ, ◌≤◌, ◌==◌, Bool, ◌&&◌, nat_le, if◌then◌else◌, List, [], ◌++◌, length, take, filter, codes, decimal, None, Some}
 use Rattle.std.specs.declared.option.Option.{Option}
 use Rattle.std.specs.Io.KnownBytes.{Appends}
 use Rattle.outside_io.specs.Causes.{Rose}
@@ -50,15 +50,17 @@ too_long_message = codes "neqysbar: the log has more lines than a log may have\n
 abbrev pub unfinished_message : List ℕ
 unfinished_message = codes "neqysbar: the trace ends before its line END, or before the line LOG that check reads\n"
 
--- the message beside a status, by what is wrong with the input, and by the number and the first bytes of the last
--- line that was read
-pub data IsMessage (number : ℕ) (text : List ℕ) (wrong : Option Wrong) : ℕ → List ℕ → Type 0 where
-  usage : IsMessage number text wrong 1 usage_text
-  faulty : (line : ℕ) (cause : Cause) → wrong ≡ Some (Line line cause) → IsMessage number text wrong 2 (fault_message line cause text)
-  too_long : wrong ≡ Some LogTooLong → IsMessage number text wrong 2 too_long_message
-  unfinished : wrong ≡ Some Unfinished → IsMessage number text wrong 2 unfinished_message
-  in_log : (line : ℕ) → wrong ≡ Some (LogLine line) → IsMessage number text wrong 8 (log_message number text)
-  no_message : (status : ℕ) → status ≢ 1 → status ≢ 2 → status ≢ 8 → IsMessage number text wrong status []
+-- by what is wrong with the input, and by the number and the first bytes of the last line that was read
+abbrev pub wrong_message : ℕ → List ℕ → Wrong → List ℕ
+wrong_message number text (Line line cause) = fault_message line cause text
+wrong_message number text Unfinished = unfinished_message
+wrong_message number text LogTooLong = too_long_message
+wrong_message number text (LogLine line) = log_message number text
+
+-- the message beside a status, which is empty where nothing is wrong with the command line and the input
+abbrev pub message_of : ℕ → List ℕ → Option Wrong → ℕ → List ℕ
+message_of number text (Some wrong) status = wrong_message number text wrong
+message_of number text None status = if status == 1 then usage_text else []
 
 -- a prefix of the message was taken, and the whole unless a call failed or took nothing
 abbrev pub IsSaid : SinkView → SinkView → List ℕ → Type 0

@@ -1,7 +1,6 @@
-ghost use Rattle.std.specs.Prelude.{◌≡◌, ◌⊎◌, ◌+◌, ◌≤◌, ◌++◌, List, ℕ, length, filter};
+ghost use Rattle.std.specs.Prelude.{◌≡◌, ◌+◌, ◌≤◌, ◌++◌, length, filter};
 ghost use Rattle.arrayvec.specs.ArrayVec.{array_vec_len};
-ghost use Rattle.program_ends.specs.Wrongs.{IsWrong};
-ghost use Rattle.program_call.specs.Messages.{IsMessage, IsSaid, is_printable, line_message, rule_text};
+ghost use Rattle.program_call.specs.Messages.{IsSaid, is_printable, line_message, message_of, rule_text, wrong_message};
 
 use crate::last_line::LastLine;
 use arrayvec::ArrayVec;
@@ -57,7 +56,7 @@ fn add_printable(out: &mut ArrayVec<u8, 320>, bytes: &[u8])
 }
 
 // The message about a line with these first bytes.
-fn message_of(number: u32, wrong: &[u8], text: &ArrayVec<u8, 80>) -> ArrayVec<u8, 320>
+fn line_message(number: u32, wrong: &[u8], text: &ArrayVec<u8, 80>) -> ArrayVec<u8, 320>
     requires { length wrong.now ≤ 100 }
     ensures { result.items ≡ line_message number wrong.now text.now.items }
 {
@@ -84,33 +83,39 @@ fn say<M: Sink>(message: &[u8], messages: &mut M)
     }
 }
 
-/// Writes the message that goes with a status: usage beside 1; beside 2 the number of the faulty line,
-/// the rule that it breaks and the first bytes of the last line that was read, or that a log is too long, or
-/// that the trace is unfinished; beside 8 the number and the first bytes of that line, at which or behind
-/// which a log isn't legal; nothing beside others. Doesn't allocate.
-pub(crate) fn explain<M: Sink>(status: u8, wrong: Option<Wrong>, last: &LastLine, messages: &mut M)
-    requires { (status ≡ 2) ⊎ (status ≡ 8) → (text : List ℕ) × IsWrong wrong status text }
-    ensures { (message : List ℕ) × IsMessage last.now.number last.now.text.items wrong status message
-        × IsSaid (M.seen messages.old) (M.seen messages.new) message }
+// Writes what is wrong with the input.
+fn explain_wrong<M: Sink>(wrong: Wrong, last: &LastLine, messages: &mut M)
+    ensures { IsSaid (M.seen messages.old) (M.seen messages.new) (wrong_message last.now.number last.now.text.items wrong) }
 {
-    match status {
-        1 => say(USAGE, messages),
-        2 => match wrong {
-            Some(Wrong::Line(number, cause)) => {
-                say(
-                    message_of(number, rule_of(cause), &last.text).as_slice(),
-                    messages,
-                )
-            }
-            Some(Wrong::Unfinished) => say(UNFINISHED, messages),
-            Some(Wrong::LogTooLong) => say(TOO_LONG, messages),
-            Some(Wrong::LogLine(_)) => {}
-            None => {}
-        },
-        8 => say(
-            message_of(last.number, IN_LOG, &last.text).as_slice(),
+    match wrong {
+        Wrong::Line(number, cause) => say(
+            line_message(number, rule_of(cause), &last.text).as_slice(),
             messages,
         ),
-        _ => {}
+        Wrong::Unfinished => say(UNFINISHED, messages),
+        Wrong::LogTooLong => say(TOO_LONG, messages),
+        Wrong::LogLine(_) => say(
+            line_message(last.number, IN_LOG, &last.text).as_slice(),
+            messages,
+        ),
+    }
+}
+
+/// Writes the message that goes with a status: for an input that is wrong the number of the faulty line,
+/// the rule that it breaks and the first bytes of the last line that was read, or that the trace is unfinished,
+/// or that a log is too long, or the number and the first bytes of that line, at which or behind which a log
+/// isn't legal; else usage beside 1, and nothing beside others. Doesn't allocate.
+pub(crate) fn explain<M: Sink>(status: u8, wrong: Option<Wrong>, last: &LastLine, messages: &mut M)
+    ensures { IsSaid (M.seen messages.old) (M.seen messages.new) (message_of last.now.number last.now.text.items wrong status) }
+{
+    match wrong {
+        Some(wrong) => explain_wrong(wrong, last, messages),
+        None => {
+            if status == 1 {
+                say(USAGE, messages)
+            } else {
+                say(b"", messages)
+            }
+        }
     }
 }

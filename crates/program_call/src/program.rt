@@ -7,7 +7,7 @@ ghost use Rattle.program_ends.specs.Wrongs.{IsWrong};
 ghost use Rattle.program_ends.specs.declared.wrong.Wrong.{Wrong};
 ghost use Rattle.std.specs.declared.option.Option.{Option};
 ghost use Rattle.program_call.specs.LastLine.{line_begin};
-ghost use Rattle.program_call.specs.Messages.{IsMessage, IsSaid};
+ghost use Rattle.program_call.specs.Messages.{IsSaid, message_of};
 ghost use Rattle.program_call.specs.ProgramRun.{IsProgramRun};
 ghost use Rattle.program_call.specs.ProgramTells.{ProgramTells};
 
@@ -122,8 +122,8 @@ pub fn run_and_explain<A: Arguments, S: Source, K: Sink, M: Sink, D: Depot>(
         (moved (K.seen output.old) (K.seen output.new)) result.0 }
     // The message is that for what is wrong, and the text that was written says the same of the input.
     ensures message { (wrong : Option Wrong) × (result.0 ≢ 4 → HasTold (IsWrong wrong) (K.seen output.old) (K.seen output.new) result.0)
-        × ((message : List ℕ) × IsMessage source.new.number (line_begin source.new.front.items source.new.buffer source.new.from source.new.at)
-        wrong result.0 message × IsSaid (M.seen messages.old) (M.seen messages.new) message) }
+        × IsSaid (M.seen messages.old) (M.seen messages.new)
+        (message_of source.new.number (line_begin source.new.front.items source.new.buffer source.new.from source.new.at) wrong result.0) }
 {
     let (status, wrong) = run_and_finish(alloc, arguments, source, output, depot);
     let last = source.last();
