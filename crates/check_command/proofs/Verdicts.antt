@@ -17,7 +17,7 @@ use Rattle.log_check.specs.declared.check_fault.CheckFault.TheVariants.{NoMemory
 use Rattle.program_ends.specs.Concludes.{Concludes}
 use Rattle.program_ends.specs.Ends.{Ends}
 use Rattle.program_ends.specs.FaultText.{fault_status, fault_told}
-use Rattle.program_ends.specs.Wrongs.{IsWrong, TellsWrong, wrong_of}
+use Rattle.program_ends.specs.Wrongs.{IsWrong, IsWrongText, TellsWrong, wrong_of}
 use Rattle.program_ends.specs.declared.wrong.Wrong.{Wrong}
 use Rattle.program_ends.proofs.Wronging.{fault_wrong}
 use Rattle.check_command.specs.Answers.{Answer, CountsBy, IsRead, Says}
@@ -65,6 +65,17 @@ verdict_wrong (Ok (Fault n)) = (refl, refl)
 verdict_wrong (Err TooMany) = (refl, refl)
 verdict_wrong (Err ReadFault) = (λ e. omega (arith, e), λ e. omega (arith, e))
 verdict_wrong (Err NoMemory) = (λ e. omega (arith, e), λ e. omega (arith, e))
+
+-- of a log no bytes are kept
+own_text : (verdict : Result Verdict CheckFault) (input : Option (List ℕ)) (kept : List ℕ) → IsWrongText (wrong_in_log verdict) input kept
+own_text (Ok (Legal n)) input kept = tt
+own_text (Ok (Fault n)) input kept = tt
+own_text (Err TooMany) input kept = tt
+own_text (Err ReadFault) input kept = tt
+own_text (Err NoMemory) input kept = tt
+
+pub verdict_text_kept : (verdict : Result Verdict CheckFault) (wrong : Option Wrong) (input : Option (List ℕ)) (kept : List ℕ) → wrong ≡ wrong_in_log verdict → IsWrongText wrong input kept
+verdict_text_kept verdict wrong input kept is = subst (λ w. IsWrongText w input kept) (sym is) (own_text verdict input kept)
 
 module _ {before after : SourceView} where
   head_tells : (f : TraceFault) → IfSome before.left (λ text. IsRead (Says (Err f) text) after.left) → CountsBy (Err f) before.failures after.failures

@@ -2,12 +2,13 @@ ghost use Rattle.std.specs.Prelude.{◌≡◌, ◌≢◌, ◌⊎◌, ◌≤◌};
 ghost use Rattle.outside_io.specs.Causes.{Rose};
 ghost use Rattle.program_ends.specs.Concludes.{Concludes, HasTold, WasCut};
 ghost use Rattle.program_ends.specs.Ends.{Ends};
-ghost use Rattle.program_ends.specs.Wrongs.{TellsWrong};
+ghost use Rattle.program_ends.specs.Wrongs.{IsWrongText, TellsWrong};
 ghost use Rattle.check_command.specs.CheckTells.{CheckTells, HasCheckInput};
 ghost use Rattle.check_command.specs.Verdicts.{verdict_status, verdict_text, wrong_in_log};
 
 use crate::ending::{end_at_fault, end_legal, end_too_long};
 use crate::judging::judge_source;
+use arrayvec::ArrayVec;
 use log_check::{CheckFault, Verdict};
 use outside_io::{Sink, Source};
 use program_ends::{Status, Wrong, end_fault, end_with, wrong_of};
@@ -44,12 +45,14 @@ fn conclude<S: Source, K: Sink>(
     alloc: Global,
     source: &mut S,
     sink: &mut K,
+    kept: &mut ArrayVec<u8, 80>,
 ) -> (Status, Option<Wrong>)
     ensures outcome { Concludes (TellsWrong (CheckTells (S.seen source.old) (S.seen source.new)) result.1)
         (K.seen sink.old) (K.seen sink.new) result.0.0 }
+    ensures kept { IsWrongText result.1 (S.seen source.old).left kept.new.items }
     ensures faults_later { (S.seen source.old).failures ≤ (S.seen source.new).failures }
 {
-    match judge_source(alloc, source) {
+    match judge_source(alloc, source, kept) {
         Ok(verdict) => {
             let wrong = wrong_in_log(&verdict);
             (end_verdict(verdict, sink), wrong)
@@ -64,11 +67,13 @@ fn conclude<S: Source, K: Sink>(
 /// `LOG TOOMANY` if it goes on after 16777216 legal lines, and status 2. The status line follows. Each line is
 /// one write of a whole text. The status is 2 too if the trace is faulty or unfinished, with the line that
 /// says so; 3 only if a read failed, 4 only if a write failed or took nothing, 7 if memory ran out. It answers
-/// besides what is wrong with the input, if anything is.
+/// besides what is wrong with the input, if anything is, and keeps the first 80 bytes of a faulty line of the
+/// trace in `kept`.
 pub fn check<S: Source, K: Sink>(
     alloc: Global,
     source: &mut S,
     sink: &mut K,
+    kept: &mut ArrayVec<u8, 80>,
 ) -> (Status, Option<Wrong>)
     // A status with the text that goes with it, what is wrong with the input by that text, and how the
     // text was written.
@@ -89,7 +94,9 @@ pub fn check<S: Source, K: Sink>(
     ensures complete { HasCheckInput (S.seen source.old)
         → (Rose (S.seen source.old).failures (S.seen source.new).failures → ⊥) → (Rose (K.seen sink.old).failures (K.seen sink.new).failures → ⊥)
         → (Rose (K.seen sink.old).stalls (K.seen sink.new).stalls → ⊥) → (result.0.0 ≡ 0) ⊎ ((result.0.0 ≡ 8) ⊎ (result.0.0 ≡ 7)) }
+    // Of a faulty line of the trace the first bytes were kept.
+    ensures kept { IsWrongText result.1 (S.seen source.old).left kept.new.items }
     ensures faults_later { (S.seen source.old).failures ≤ (S.seen source.new).failures }
 {
-    conclude(alloc, source, sink)
+    conclude(alloc, source, sink, kept)
 }

@@ -1,9 +1,11 @@
 //! Reading a trace and a log.
 
-ghost use Rattle.std.specs.Prelude.{◌≡◌, ◌≤◌, length, IfSome};
+ghost use Rattle.std.specs.Prelude.{◌≡◌, ◌≤◌, length, IfErr, IfSome};
 ghost use Rattle.line_source.specs.BytesLeft.{bytes_left, pending};
+ghost use Rattle.trace_reader.specs.LineText.{IsTextOf};
 ghost use Rattle.check_command.specs.Answers.{CountsBy, IsRead, Says};
 
+use arrayvec::ArrayVec;
 use line_source::Lines;
 use log_check::{CheckFault, Verdict, check_log};
 use outside_io::Source;
@@ -14,13 +16,15 @@ use trace_reader::{TraceFault, read_head};
 fn judge_lines<S: Source>(
     alloc: Global,
     lines: &mut Lines<'_, S>,
+    kept: &mut ArrayVec<u8, 80>,
 ) -> Result<Result<Verdict, CheckFault>, TraceFault>
     ensures text { IfSome (bytes_left S.seen lines.old) (λ text. Says result text (bytes_left S.seen lines.new)) }
+    ensures kept { IfErr result (λ fault. IsTextOf fault (bytes_left S.seen lines.old) kept.new.items) }
     ensures faults { CountsBy result (S.seen lines.old.source.now).failures (S.seen lines.new.source.now).failures }
     ensures faults_later { (S.seen lines.old.source.now).failures ≤ (S.seen lines.new.source.now).failures }
     ensures same_reference { lines.new.source.ghost_name ≡ lines.old.source.ghost_name }
 {
-    match read_head(lines, alloc) {
+    match read_head(lines, alloc, kept) {
         Ok(config) => Ok(check_log(alloc, &config, lines)),
         Err(fault) => Err(fault),
     }
@@ -33,17 +37,19 @@ fn let_go<S: Source>(lines: Lines<'_, S>)
 {}
 
 /// The verdict on the log that the source has behind a trace, or why there is none; or what is wrong with
-/// the trace.
+/// the trace, whose faulty line's first 80 bytes are kept.
 pub(crate) fn judge_source<S: Source>(
     alloc: Global,
     source: &mut S,
+    kept: &mut ArrayVec<u8, 80>,
 ) -> Result<Result<Verdict, CheckFault>, TraceFault>
     ensures text { IfSome (S.seen source.old).left (λ text. IsRead (Says result text) (S.seen source.new).left) }
+    ensures kept { IfErr result (λ fault. IsTextOf fault (S.seen source.old).left kept.new.items) }
     ensures faults { CountsBy result (S.seen source.old).failures (S.seen source.new).failures }
     ensures faults_later { (S.seen source.old).failures ≤ (S.seen source.new).failures }
 {
     let mut lines = Lines::new(source);
-    let answer = judge_lines(alloc, &mut lines);
+    let answer = judge_lines(alloc, &mut lines, kept);
     let_go(lines);
     answer
 }

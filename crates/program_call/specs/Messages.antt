@@ -29,18 +29,14 @@ rule_text Repeated = codes "what the line declares was declared before"
 abbrev pub is_printable : ℕ → Bool
 is_printable byte = nat_le 32 byte && nat_le byte 126
 
--- of a line: its number, what is wrong and the printable bytes of its text
-abbrev pub line_message : ℕ → List ℕ → List ℕ → List ℕ
-line_message number wrong text =
-    codes "neqysbar: line " ++ decimal number ++ codes ": " ++ wrong ++ codes ": " ++ filter is_printable text ++ codes "\n"
-
--- beside a faulty line
+-- beside a faulty line: its number, the rule that it breaks and the printable bytes of its text
 abbrev pub fault_message : ℕ → Cause → List ℕ → List ℕ
-fault_message number cause text = line_message number (rule_text cause) text
+fault_message number cause text =
+    codes "neqysbar: line " ++ decimal number ++ codes ": " ++ rule_text cause ++ codes ": " ++ filter is_printable text ++ codes "\n"
 
 -- beside a log that isn't legal
-abbrev pub log_message : ℕ → List ℕ → List ℕ
-log_message number text = line_message number (codes "the log isn't legal here, or ends too early behind this line") text
+abbrev pub log_message : ℕ → List ℕ
+log_message number = codes "neqysbar: line " ++ decimal number ++ codes " of the log isn't a legal next line, or is missing\n"
 
 -- beside a log that goes on after as many lines as a log may have
 abbrev pub too_long_message : List ℕ
@@ -50,17 +46,26 @@ too_long_message = codes "neqysbar: the log has more lines than a log may have\n
 abbrev pub unfinished_message : List ℕ
 unfinished_message = codes "neqysbar: the trace ends before its line END, or before the line LOG that check reads\n"
 
--- by what is wrong with the input, and by the number and the first bytes of the last line that was read
-abbrev pub wrong_message : ℕ → List ℕ → Wrong → List ℕ
-wrong_message number text (Line line cause) = fault_message line cause text
-wrong_message number text Unfinished = unfinished_message
-wrong_message number text LogTooLong = too_long_message
-wrong_message number text (LogLine line) = log_message number text
+-- by what is wrong with the input, and by the first bytes of its faulty line
+abbrev pub wrong_message : Wrong → List ℕ → List ℕ
+wrong_message (Line number cause) text = fault_message number cause text
+wrong_message Unfinished text = unfinished_message
+wrong_message LogTooLong text = too_long_message
+wrong_message (LogLine number) text = log_message number
 
--- the message beside a status, which is empty where nothing is wrong with the command line and the input
-abbrev pub message_of : ℕ → List ℕ → Option Wrong → ℕ → List ℕ
-message_of number text (Some wrong) status = wrong_message number text wrong
-message_of number text None status = if status == 1 then usage_text else []
+-- by the status: what failed, or usage; nothing beside the others
+abbrev pub status_message : ℕ → List ℕ
+status_message status =
+    if status == 1 then usage_text else
+    if status == 3 then codes "neqysbar: standard input can't be read\n" else
+    if status == 4 then codes "neqysbar: standard output can't be written\n" else
+    if status == 6 then codes "neqysbar: a block of the disk can't be made\n" else
+    if status == 7 then codes "neqysbar: out of memory\n" else []
+
+-- the message beside a status
+abbrev pub message_of : Option Wrong → List ℕ → ℕ → List ℕ
+message_of (Some wrong) text status = if status == 4 then status_message status else wrong_message wrong text
+message_of None text status = status_message status
 
 -- a prefix of the message was taken, and the whole unless a call failed or took nothing
 abbrev pub IsSaid : SinkView → SinkView → List ℕ → Type 0

@@ -1,8 +1,7 @@
 ghost use Rattle.std.specs.Prelude.{◌≡◌, ◌+◌, ◌≤◌, ◌++◌, length, filter};
 ghost use Rattle.arrayvec.specs.ArrayVec.{array_vec_len};
-ghost use Rattle.program_call.specs.Messages.{IsSaid, is_printable, line_message, message_of, rule_text, wrong_message};
+ghost use Rattle.program_call.specs.Messages.{IsSaid, fault_message, is_printable, log_message, message_of, rule_text, status_message, wrong_message};
 
-use crate::last_line::LastLine;
 use arrayvec::ArrayVec;
 use outside_io::{Sink, write_whole};
 use program_ends::Wrong;
@@ -16,9 +15,6 @@ const UNFINISHED: &[u8] =
     b"neqysbar: the trace ends before its line END, or before the line LOG that check reads\n";
 
 const TOO_LONG: &[u8] = b"neqysbar: the log has more lines than a log may have\n";
-
-// What is wrong with a log at the last line that was read.
-const IN_LOG: &[u8] = b"the log isn't legal here, or ends too early behind this line";
 
 // The rule that a line breaks, in words.
 fn rule_of(cause: Cause) -> &'static [u8]
@@ -55,19 +51,29 @@ fn add_printable(out: &mut ArrayVec<u8, 320>, bytes: &[u8])
     }
 }
 
-// The message about a line with these first bytes.
-fn line_message(number: u32, wrong: &[u8], text: &ArrayVec<u8, 80>) -> ArrayVec<u8, 320>
-    requires { length wrong.now ≤ 100 }
-    ensures { result.items ≡ line_message number wrong.now text.now.items }
+// The message about a faulty line with these first bytes.
+fn fault_message(number: u32, cause: Cause, text: &ArrayVec<u8, 80>) -> ArrayVec<u8, 320>
+    ensures { result.items ≡ fault_message number cause text.now.items }
 {
     let mut out = ArrayVec::new();
     push_word(&mut out, b"neqysbar: line ");
     push_count(&mut out, number);
     push_word(&mut out, b": ");
-    push_word(&mut out, wrong);
+    push_word(&mut out, rule_of(cause));
     push_word(&mut out, b": ");
     add_printable(&mut out, text.as_slice());
     push_word(&mut out, b"\n");
+    out
+}
+
+// The message about a line of a log.
+fn log_message(number: u32) -> ArrayVec<u8, 320>
+    ensures { result.items ≡ log_message number }
+{
+    let mut out = ArrayVec::new();
+    push_word(&mut out, b"neqysbar: line ");
+    push_count(&mut out, number);
+    push_word(&mut out, b" of the log isn't a legal next line, or is missing\n");
     out
 }
 
@@ -84,38 +90,58 @@ fn say<M: Sink>(message: &[u8], messages: &mut M)
 }
 
 // Writes what is wrong with the input.
-fn explain_wrong<M: Sink>(wrong: Wrong, last: &LastLine, messages: &mut M)
-    ensures { IsSaid (M.seen messages.old) (M.seen messages.new) (wrong_message last.now.number last.now.text.items wrong) }
+fn explain_wrong<M: Sink>(wrong: Wrong, text: &ArrayVec<u8, 80>, messages: &mut M)
+    ensures { IsSaid (M.seen messages.old) (M.seen messages.new) (wrong_message wrong text.now.items) }
 {
     match wrong {
-        Wrong::Line(number, cause) => say(
-            line_message(number, rule_of(cause), &last.text).as_slice(),
-            messages,
-        ),
+        Wrong::Line(number, cause) => {
+            say(fault_message(number, cause, text).as_slice(), messages)
+        }
         Wrong::Unfinished => say(UNFINISHED, messages),
         Wrong::LogTooLong => say(TOO_LONG, messages),
-        Wrong::LogLine(_) => say(
-            line_message(last.number, IN_LOG, &last.text).as_slice(),
-            messages,
-        ),
+        Wrong::LogLine(number) => say(log_message(number).as_slice(), messages),
     }
 }
 
-/// Writes the message that goes with a status: for an input that is wrong the number of the faulty line,
-/// the rule that it breaks and the first bytes of the last line that was read, or that the trace is unfinished,
-/// or that a log is too long, or the number and the first bytes of that line, at which or behind which a log
-/// isn't legal; else usage beside 1, and nothing beside others. Doesn't allocate.
-pub(crate) fn explain<M: Sink>(status: u8, wrong: Option<Wrong>, last: &LastLine, messages: &mut M)
-    ensures { IsSaid (M.seen messages.old) (M.seen messages.new) (message_of last.now.number last.now.text.items wrong status) }
+// What is said beside a status by itself.
+fn status_message(status: u8) -> &'static [u8]
+    ensures { result.now ≡ status_message status }
+{
+    if status == 1 {
+        USAGE
+    } else if status == 3 {
+        b"neqysbar: standard input can't be read\n"
+    } else if status == 4 {
+        b"neqysbar: standard output can't be written\n"
+    } else if status == 6 {
+        b"neqysbar: a block of the disk can't be made\n"
+    } else if status == 7 {
+        b"neqysbar: out of memory\n"
+    } else {
+        b""
+    }
+}
+
+/// Writes the message that goes with a status: for an input that is wrong the number of the faulty line, the
+/// rule that it breaks and its first bytes, or that the trace is unfinished, or that a log is too long, or the
+/// number of the line at which a log isn't legal; else usage beside 1, what failed beside 3, 4, 6 and 7, and
+/// nothing beside others. Doesn't allocate.
+pub(crate) fn explain<M: Sink>(
+    status: u8,
+    wrong: Option<Wrong>,
+    text: &ArrayVec<u8, 80>,
+    messages: &mut M,
+)
+    ensures { IsSaid (M.seen messages.old) (M.seen messages.new) (message_of wrong text.now.items status) }
 {
     match wrong {
-        Some(wrong) => explain_wrong(wrong, last, messages),
-        None => {
-            if status == 1 {
-                say(USAGE, messages)
+        Some(wrong) => {
+            if status == 4 {
+                say(status_message(status), messages)
             } else {
-                say(b"", messages)
+                explain_wrong(wrong, text, messages)
             }
         }
+        None => say(status_message(status), messages),
     }
 }

@@ -3,18 +3,17 @@ ghost use Rattle.std.specs.Io.KnownBytes.{Keeps};
 ghost use Rattle.outside_io.specs.Causes.{Rose};
 ghost use Rattle.vm_types.specs.Moved.{moved};
 ghost use Rattle.program_ends.specs.Concludes.{HasTold, WasCut};
-ghost use Rattle.program_ends.specs.Wrongs.{IsWrong};
+ghost use Rattle.program_ends.specs.Wrongs.{IsWrong, IsWrongText};
 ghost use Rattle.program_ends.specs.declared.wrong.Wrong.{Wrong};
 ghost use Rattle.std.specs.declared.option.Option.{Option};
-ghost use Rattle.program_call.specs.LastLine.{line_begin};
 ghost use Rattle.program_call.specs.Messages.{IsSaid, message_of};
 ghost use Rattle.program_call.specs.ProgramRun.{IsProgramRun};
 ghost use Rattle.program_call.specs.ProgramTells.{ProgramTells};
 
 use crate::arguments::Arguments;
-use crate::line_by_line::LineSource;
 use crate::messages::explain;
 use crate::words::{copied_words, texts_of};
+use arrayvec::ArrayVec;
 use disk_trait::Depot;
 use outside_io::{Sink, Source};
 use program_ends::{Status, Wrong, end_with};
@@ -29,6 +28,7 @@ fn run_words<A: Arguments, S: Source, K: Sink, D: Depot>(
     source: &mut S,
     output: &mut K,
     depot: &mut D,
+    kept: &mut ArrayVec<u8, 80>,
 ) -> (Status, Option<Wrong>)
     ensures told { result.0.0 ≢ 4 → HasTold (ProgramTells (A.left arguments.old) (moved (S.seen source.old) (S.seen source.new))
         (moved (D.seen depot.old) (D.seen depot.new)))
@@ -39,13 +39,14 @@ fn run_words<A: Arguments, S: Source, K: Sink, D: Depot>(
     ensures write_fault { result.0.0 ≡ 4 → Rose (K.seen output.old).failures (K.seen output.new).failures ⊎ Rose (K.seen output.old).stalls (K.seen output.new).stalls }
     ensures unfailed { result.0.0 ≢ 4 → ((K.seen output.new).failures ≡ (K.seen output.old).failures) × ((K.seen output.new).stalls ≡ (K.seen output.old).stalls) }
     ensures wrong { result.0.0 ≢ 4 → HasTold (IsWrong result.1) (K.seen output.old) (K.seen output.new) result.0.0 }
+    ensures kept { IsWrongText result.1 (S.seen source.old).left kept.new.items }
 {
     let Ok(words) = copied_words(alloc, arguments) else {
         return (end_with(7, output), None);
     };
     match texts_of(alloc, words.as_slice()) {
-        Ok(Some(texts)) => run_and_tell(alloc, texts.as_slice(), source, output, depot),
-        Ok(None) => run_and_tell(alloc, &[], source, output, depot),
+        Ok(Some(texts)) => run_and_tell(alloc, texts.as_slice(), source, output, depot, kept),
+        Ok(None) => run_and_tell(alloc, &[], source, output, depot, kept),
         Err(_) => (end_with(7, output), None),
     }
 }
@@ -69,20 +70,23 @@ fn finish<K: Sink>(status: Status, output: &mut K) -> Status
     }
 }
 
-/// As `run_program`, and answers besides what is wrong with the input.
+/// As `run_program`, and answers besides what is wrong with the input. The first 80 bytes of a faulty line of
+/// a trace are kept in `kept`.
 fn run_and_finish<A: Arguments, S: Source, K: Sink, D: Depot>(
     alloc: Global,
     arguments: &mut A,
     source: &mut S,
     output: &mut K,
     depot: &mut D,
+    kept: &mut ArrayVec<u8, 80>,
 ) -> (Status, Option<Wrong>)
     ensures run { IsProgramRun (A.left arguments.old) (moved (S.seen source.old) (S.seen source.new))
         (moved (D.seen depot.old) (D.seen depot.new))
         (moved (K.seen output.old) (K.seen output.new)) result.0.0 }
     ensures wrong { result.0.0 ≢ 4 → HasTold (IsWrong result.1) (K.seen output.old) (K.seen output.new) result.0.0 }
+    ensures kept { IsWrongText result.1 (S.seen source.old).left kept.new.items }
 {
-    let (status, wrong) = run_words(alloc, arguments, source, output, depot);
+    let (status, wrong) = run_words(alloc, arguments, source, output, depot, kept);
     (finish(status, output), wrong)
 }
 
@@ -101,32 +105,34 @@ pub fn run_program<A: Arguments, S: Source, K: Sink, D: Depot>(
         (moved (D.seen depot.old) (D.seen depot.new))
         (moved (K.seen output.old) (K.seen output.new)) result.0 }
 {
-    run_and_finish(alloc, arguments, source, output, depot).0
+    let mut kept = ArrayVec::new();
+    run_and_finish(alloc, arguments, source, output, depot, &mut kept).0
 }
 
-/// As `run_program`, with messages beside the output: usage beside status 1; beside status 2 a line
-/// with the number of the faulty line, the rule that it breaks in words, and the printable ones of its
-/// first 80 bytes, or that the trace is unfinished, or that a log is too long; beside status 8 a line with
-/// the number and the text of the input line that was read last, at which a log isn't legal or behind which it
-/// ends too early. Messages that can't be written change nothing.
+/// As `run_program`, with messages beside the output: usage beside status 1; for a trace that is wrong a line
+/// with the number of the faulty line, the rule that it breaks in words, and the printable ones of its first 80
+/// bytes, or that it is unfinished; that a log is too long, or the number of its first line that isn't legal;
+/// what failed beside status 3, 4, 6 and 7. Messages that can't be written change nothing.
 pub fn run_and_explain<A: Arguments, S: Source, K: Sink, M: Sink, D: Depot>(
     alloc: Global,
     arguments: &mut A,
-    source: &mut LineSource<S>,
+    source: &mut S,
     output: &mut K,
     messages: &mut M,
     depot: &mut D,
 ) -> Status
-    ensures run { IsProgramRun (A.left arguments.old) (moved (⟦<LineSource<S> as Source>⟧.seen source.old) (⟦<LineSource<S> as Source>⟧.seen source.new))
+    ensures run { IsProgramRun (A.left arguments.old) (moved (S.seen source.old) (S.seen source.new))
         (moved (D.seen depot.old) (D.seen depot.new))
         (moved (K.seen output.old) (K.seen output.new)) result.0 }
-    // The message is that for what is wrong, and the text that was written says the same of the input.
-    ensures message { (wrong : Option Wrong) × (result.0 ≢ 4 → HasTold (IsWrong wrong) (K.seen output.old) (K.seen output.new) result.0)
-        × IsSaid (M.seen messages.old) (M.seen messages.new)
-        (message_of source.new.number (line_begin source.new.front.items source.new.buffer source.new.from source.new.at) wrong result.0) }
+    // The message is that for what is wrong: the text that was written says the same of the input, and of its
+    // faulty line these are the first bytes.
+    ensures message { (wrong : Option Wrong) × (text : List ℕ)
+        × (result.0 ≢ 4 → HasTold (IsWrong wrong) (K.seen output.old) (K.seen output.new) result.0)
+        × IsWrongText wrong (S.seen source.old).left text
+        × IsSaid (M.seen messages.old) (M.seen messages.new) (message_of wrong text result.0) }
 {
-    let (status, wrong) = run_and_finish(alloc, arguments, source, output, depot);
-    let last = source.last();
-    explain(status.0, wrong, &last, messages);
+    let mut kept = ArrayVec::new();
+    let (status, wrong) = run_and_finish(alloc, arguments, source, output, depot, &mut kept);
+    explain(status.0, wrong, &kept, messages);
     status
 }

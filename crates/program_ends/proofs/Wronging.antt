@@ -3,11 +3,12 @@ use Rattle.std.proofs.Common.{◌≡◌, ℕ, List, sym, subst, refl, arith, inl
 use Rattle.std.specs.Prelude.{None}
 use Rattle.std.specs.declared.option.Option.{Option}
 use Rattle.outside_io.specs.Views.{SinkView}
+use Rattle.trace_reader.specs.LineText.{IsTextOf}
 use Rattle.trace_reader.specs.declared.fault.TraceFault.{TraceFault}
 use Rattle.trace_reader.specs.declared.fault.TraceFault.TheVariants as fault
 use Rattle.program_ends.specs.Concludes.{Concludes, IsOutcome}
 use Rattle.program_ends.specs.FaultText.{fault_status, fault_told}
-use Rattle.program_ends.specs.Wrongs.{IsWrong, TellsWrong, wrong_of}
+use Rattle.program_ends.specs.Wrongs.{IsWrong, IsWrongText, TellsWrong, wrong_of}
 use Rattle.program_ends.specs.declared.wrong.Wrong.{Wrong}
 
 -- a trace that gives no configuration
@@ -19,6 +20,16 @@ own_wrong fault.NoMemory = (λ e. omega (arith, e), λ e. omega (arith, e))
 
 pub fault_wrong : (f : TraceFault) (wrong : Option Wrong) → wrong ≡ wrong_of f → IsWrong wrong (fault_status f) (fault_told f)
 fault_wrong f wrong is = subst (λ w. IsWrong w (fault_status f) (fault_told f)) (sym is) (own_wrong f)
+
+-- the first bytes of its faulty line
+own_text : (f : TraceFault) (input : Option (List ℕ)) (kept : List ℕ) → IsTextOf f input kept → IsWrongText (wrong_of f) input kept
+own_text (fault.Line number cause) input kept is = is
+own_text fault.Unfinished input kept is = tt
+own_text fault.ReadFault input kept is = tt
+own_text fault.NoMemory input kept is = tt
+
+pub fault_text_kept : (f : TraceFault) (wrong : Option Wrong) (input : Option (List ℕ)) (kept : List ℕ) → wrong ≡ wrong_of f → IsTextOf f input kept → IsWrongText wrong input kept
+fault_text_kept f wrong input kept is text = subst (λ w. IsWrongText w input kept) (sym is) (own_text f input kept text)
 
 -- a command that was carried out, or had no blocks, or for which memory ran out
 pub outcome_right : (status : ℕ) (text : List ℕ) → IsOutcome status → IsWrong None status text

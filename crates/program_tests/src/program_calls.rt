@@ -1,8 +1,6 @@
 use disk_trait::MemoryDepot;
 use outside_io::{MemorySink, MemorySource};
-use program_call::{
-    EnvArguments, LineSource, ListedArguments, run_and_explain, run_bytes, run_program,
-};
+use program_call::{EnvArguments, ListedArguments, run_and_explain, run_bytes, run_program};
 use replay_cli::Status;
 use std::alloc::Global;
 use std::test::Fail;
@@ -110,15 +108,12 @@ fn explains(rt: HostRuntime) -> Result<(), Fail> {
             &[name, b"check"],
             b"VMTRACE 1\nFRAMES 8\nPAGEFILE 4\nPROCESS A 4 4 4 0\nBODY\nEND\nLOG\nPFN AT 0\nFREE 7\n",
             8,
-            b"neqysbar: line 9: the log isn't legal here, or ends too early behind this line: FREE 7\n",
+            b"neqysbar: line 2 of the log isn't a legal next line, or is missing\n",
         ),
     ];
     for (words, trace, status, message) in table {
         let mut arguments = ListedArguments::new(words);
-        let mut source = LineSource::new(MemorySource::new(
-            Vec::from_slice(alloc, trace)?,
-            Vec::new(alloc),
-        ));
+        let mut source = MemorySource::new(Vec::from_slice(alloc, trace)?, Vec::new(alloc));
         let mut output = MemorySink::new(alloc, 1000, Vec::new(alloc), Vec::new(alloc))?;
         let mut messages = MemorySink::new(alloc, 1000, Vec::new(alloc), Vec::new(alloc))?;
         let mut depot = MemoryDepot::new(alloc, Vec::new(alloc));

@@ -4,13 +4,14 @@ ghost use Rattle.vm_types.specs.Configuration.{IsWellFormed};
 ghost use Rattle.program_ends.specs.Concludes.{Concludes, EndsAnswered, HasTold, WasCut};
 ghost use Rattle.program_ends.specs.Ends.{Ends};
 ghost use Rattle.program_ends.specs.Tells.{IsTrace, Tells};
-ghost use Rattle.program_ends.specs.Wrongs.{TellsWrong};
+ghost use Rattle.program_ends.specs.Wrongs.{IsWrongText, TellsWrong};
 ghost use Rattle.pager_model.specs.Text.{status_line};
 ghost use Rattle.study_command.specs.StudyText.{IsStudyAnswer, answer_lines};
 
 use crate::answers::{Answers, answers_of};
 use crate::printing::print_answers;
 use crate::words::Study;
+use arrayvec::ArrayVec;
 use outside_io::{Sink, Source};
 use program_ends::{Status, Wrong, end_fault, end_with, wrong_of};
 use std::alloc::Global;
@@ -48,13 +49,15 @@ fn conclude<S: Source, K: Sink>(
     study: Study,
     source: &mut S,
     sink: &mut K,
+    kept: &mut ArrayVec<u8, 80>,
 ) -> (Status, Option<Wrong>)
     requires { (1 ≤ study.frames) × (study.frames ≤ 1024) }
     ensures outcome { Concludes (TellsWrong (Tells (IsStudyAnswer study) (S.seen source.old) (S.seen source.new)) result.1)
         (K.seen sink.old) (K.seen sink.new) result.0.0 }
+    ensures kept { IsWrongText result.1 (S.seen source.old).left kept.new.items }
     ensures faults_later { (S.seen source.old).failures ≤ (S.seen source.new).failures }
 {
-    match read_trace(source, alloc) {
+    match read_trace(source, alloc, kept) {
         Ok(config) => (study_config(alloc, &config, study, sink), None),
         Err(fault) => (end_fault(fault, sink), wrong_of(fault)),
     }
@@ -68,7 +71,7 @@ fn conclude<S: Source, K: Sink>(
 /// again; a `CUT` for each place that shows that no schedule has fewer; and the status line. Each line
 /// is one write of a whole text. The status is 0 for a trace, 2 if the input is none, 3 only if a read
 /// failed, 4 only if a write failed or took nothing, 7 if memory ran out. It answers besides what is
-/// wrong with the input, if anything is.
+/// wrong with the input, if anything is, and keeps the first 80 bytes of a faulty line in `kept`.
 ///
 /// Takes time as the references times the frames at worst.
 pub fn study_trace<S: Source, K: Sink>(
@@ -76,6 +79,7 @@ pub fn study_trace<S: Source, K: Sink>(
     study: Study,
     source: &mut S,
     sink: &mut K,
+    kept: &mut ArrayVec<u8, 80>,
 ) -> (Status, Option<Wrong>)
     requires { (1 ≤ study.frames) × (study.frames ≤ 1024) }
     // A status with the text that goes with it, what is wrong with the input by that text, and how the
@@ -96,7 +100,9 @@ pub fn study_trace<S: Source, K: Sink>(
     ensures complete { IsTrace (S.seen source.old)
         → (Rose (S.seen source.old).failures (S.seen source.new).failures → ⊥) → (Rose (K.seen sink.old).failures (K.seen sink.new).failures → ⊥)
         → (Rose (K.seen sink.old).stalls (K.seen sink.new).stalls → ⊥) → (result.0.0 ≡ 0) ⊎ (result.0.0 ≡ 7) }
+    // Of a faulty line the first bytes were kept.
+    ensures kept { IsWrongText result.1 (S.seen source.old).left kept.new.items }
     ensures faults_later { (S.seen source.old).failures ≤ (S.seen source.new).failures }
 {
-    conclude(alloc, study, source, sink)
+    conclude(alloc, study, source, sink, kept)
 }
