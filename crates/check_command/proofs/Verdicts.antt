@@ -20,7 +20,9 @@ use Rattle.program_ends.specs.FaultText.{fault_status, fault_told}
 use Rattle.program_ends.specs.Wrongs.{IsWrong, IsWrongText, TellsWrong, wrong_of}
 use Rattle.program_ends.specs.declared.wrong.Wrong.{Wrong}
 use Rattle.program_ends.proofs.Wronging.{fault_wrong}
-use Rattle.check_command.specs.Answers.{Answer, CountsBy, IsRead, Says}
+use Rattle.line_source.specs.LineText.{line_text}
+use Rattle.log_check.specs.Judged.{KeepsFault}
+use Rattle.check_command.specs.Answers.{Answer, CountsBy, IsRead, KeepsText, Says}
 use Rattle.check_command.specs.CheckText.{legal, at_fault, too_long}
 use Rattle.check_command.specs.CheckTells.{CheckTells, answered, faulty, unfinished, unread, no_memory}
 use Rattle.check_command.specs.Verdicts.{verdict_status, verdict_text, wrong_in_log}
@@ -66,16 +68,28 @@ verdict_wrong (Err TooMany) = (refl, refl)
 verdict_wrong (Err ReadFault) = (λ e. omega (arith, e), λ e. omega (arith, e))
 verdict_wrong (Err NoMemory) = (λ e. omega (arith, e), λ e. omega (arith, e))
 
--- of a log no bytes are kept
-own_text : (verdict : Result Verdict CheckFault) (input : Option (List ℕ)) (kept : List ℕ) → IsWrongText (wrong_in_log verdict) input kept
-own_text (Ok (Legal n)) input kept = tt
-own_text (Ok (Fault n)) input kept = tt
-own_text (Err TooMany) input kept = tt
-own_text (Err ReadFault) input kept = tt
-own_text (Err NoMemory) input kept = tt
+-- the first bytes of the line at which a log is at fault
+some_is : {A : Type 0} (o : Option A) (x : A) (P : A → Type 0) → o ≡ Some x → IfSome o P → P x
+some_is o x P is holds = subst (λ (p : Option _). IfSome p P) is holds
 
-pub verdict_text_kept : (verdict : Result Verdict CheckFault) (wrong : Option Wrong) (input : Option (List ℕ)) (kept : List ℕ) → wrong ≡ wrong_in_log verdict → IsWrongText wrong input kept
-verdict_text_kept verdict wrong input kept is = subst (λ w. IsWrongText w input kept) (sym is) (own_text verdict input kept)
+pub log_text : (config : Config) (verdict : Result Verdict CheckFault) (input left : Option (List ℕ)) (kept : List ℕ) → IfSome input (λ text. HeadAnswers (Ok config) text left)
+    → KeepsFault verdict left kept → KeepsText (Ok verdict) input kept
+log_text config (Ok (Legal n)) input left kept head keeps = tt
+log_text config (Ok (Fault n)) None left kept head keeps = tt
+log_text config (Ok (Fault n)) (Some text) left kept head keeps =
+    record { config = config; log = head.0; head = head.1; is = some_is left head.0 (λ log. kept ≡ line_text n log) head.2 keeps }
+log_text config (Err fault) input left kept head keeps = tt
+
+own_text : (verdict : Result Verdict CheckFault) (input : Option (List ℕ)) (kept : List ℕ) → KeepsText (Ok verdict) input kept → IsWrongText (wrong_in_log verdict) input kept
+own_text (Ok (Legal n)) input kept keeps = tt
+own_text (Ok (Fault n)) input kept keeps = keeps
+own_text (Err TooMany) input kept keeps = tt
+own_text (Err ReadFault) input kept keeps = tt
+own_text (Err NoMemory) input kept keeps = tt
+
+pub verdict_text_kept : (verdict : Result Verdict CheckFault) (wrong : Option Wrong) (input : Option (List ℕ)) (kept : List ℕ) → wrong ≡ wrong_in_log verdict → KeepsText (Ok verdict) input kept
+    → IsWrongText wrong input kept
+verdict_text_kept verdict wrong input kept is keeps = subst (λ w. IsWrongText w input kept) (sym is) (own_text verdict input kept keeps)
 
 module _ {before after : SourceView} where
   head_tells : (f : TraceFault) → IfSome before.left (λ text. IsRead (Says (Err f) text) after.left) → CountsBy (Err f) before.failures after.failures

@@ -67,8 +67,8 @@ fn conclude<S: Source, K: Sink>(
 /// `LOG TOOMANY` if it goes on after 16777216 legal lines, and status 2. The status line follows. Each line is
 /// one write of a whole text. The status is 2 too if the trace is faulty or unfinished, with the line that
 /// says so; 3 only if a read failed, 4 only if a write failed or took nothing, 7 if memory ran out. It answers
-/// besides what is wrong with the input, if anything is, and keeps the first 80 bytes of a faulty line of the
-/// trace in `kept`.
+/// besides what is wrong with the input, if anything is, and keeps the first 80 bytes of the faulty line in
+/// `kept`.
 pub fn check<S: Source, K: Sink>(
     alloc: Global,
     source: &mut S,
@@ -94,7 +94,7 @@ pub fn check<S: Source, K: Sink>(
     ensures complete { HasCheckInput (S.seen source.old)
         → (Rose (S.seen source.old).failures (S.seen source.new).failures → ⊥) → (Rose (K.seen sink.old).failures (K.seen sink.new).failures → ⊥)
         → (Rose (K.seen sink.old).stalls (K.seen sink.new).stalls → ⊥) → (result.0.0 ≡ 0) ⊎ ((result.0.0 ≡ 8) ⊎ (result.0.0 ≡ 7)) }
-    // Of a faulty line of the trace the first bytes were kept.
+    // Of the faulty line the first bytes were kept.
     ensures kept { IsWrongText result.1 (S.seen source.old).left kept.new.items }
     ensures faults_later { (S.seen source.old).failures ≤ (S.seen source.new).failures }
 {

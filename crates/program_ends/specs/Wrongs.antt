@@ -1,9 +1,11 @@
 -- What is wrong with an input, with its status and its text. Source: this project's own.
 use Rattle.std.specs.Prelude.{◌≡◌, ℕ, List, ◌++◌, codes, decimal, None, Some, IfSome}
 use Rattle.std.specs.declared.option.Option.{Option}
+use Rattle.vm_types.specs.declared.config.Config.{Config}
+use Rattle.trace_reader.specs.Head.{Configured, head_of}
 use Rattle.trace_reader.specs.declared.fault.TraceFault.{TraceFault}
 use Rattle.trace_reader.specs.declared.fault.TraceFault.TheVariants as fault
-use Rattle.trace_reader.specs.LineText.{line_text}
+use Rattle.line_source.specs.LineText.{line_text}
 use Rattle.pager_model.specs.Text.{ended, status_line}
 use Rattle.program_ends.specs.FaultText.{fault_text, unfinished_text}
 use Rattle.program_ends.specs.declared.wrong.Wrong.{Wrong}
@@ -46,10 +48,17 @@ wrong_of fault.Unfinished = Some Unfinished
 wrong_of fault.ReadFault = None
 wrong_of fault.NoMemory = None
 
--- of a faulty line of the trace that the input had, if that is known, the first bytes were kept
+-- the first bytes of a line of the log that stands behind a trace
+pub record IsLogText (number : ℕ) (text kept : List ℕ) : Type 0 where
+  pub config : Config
+  pub log : List ℕ
+  pub head : head_of text ≡ Configured config log
+  pub is : kept ≡ line_text number log
+
+-- of the faulty line of the trace or the log that the input had, if that is known, the first bytes were kept
 abbrev pub IsWrongText : Option Wrong → Option (List ℕ) → List ℕ → Type 0
 IsWrongText None input kept = Unit {0}
 IsWrongText (Some (Line number cause)) input kept = IfSome input (λ text. kept ≡ line_text number text)
 IsWrongText (Some Unfinished) input kept = Unit {0}
 IsWrongText (Some LogTooLong) input kept = Unit {0}
-IsWrongText (Some (LogLine number)) input kept = Unit {0}
+IsWrongText (Some (LogLine number)) input kept = IfSome input (λ text. IsLogText number text kept)

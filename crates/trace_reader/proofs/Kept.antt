@@ -7,6 +7,7 @@ use Rattle.std.proofs.lemmas.List.{append-nil, get_or-drop, take-append-le}
 use Rattle.vm_types.specs.declared.config.Config.{Config}
 use Rattle.line_source.specs.declared.lines.Line.TheVariants.{Text, Long}
 use Rattle.line_source.specs.HandedOut.{HandsOut}
+use Rattle.line_source.specs.LineText.{line_text}
 use Rattle.trace_words.specs.declared.cause.Cause.TheVariants.{LineTooLong}
 use Rattle.trace_lines.specs.declared.part.Part.{Part}
 use Rattle.trace_reader.specs.declared.draft.Draft.{Draft}
@@ -14,7 +15,7 @@ use Rattle.trace_reader.specs.declared.fault.TraceFault.{TraceFault}
 use Rattle.trace_reader.specs.declared.fault.TraceFault.TheVariants as fault
 use Rattle.trace_reader.specs.Changes.{start}
 use Rattle.trace_reader.specs.HeadAnswer.{IsTold}
-use Rattle.trace_reader.specs.LineText.{IsTextOf, line_text}
+use Rattle.trace_reader.specs.LineText.{IsTextOf}
 use Rattle.trace_reader.specs.Meaning.{lines}
 use Rattle.trace_reader.specs.Stream.{Follows, IsFrontTaken, IsHeld, KeepsFaulty, KeepsLine}
 use Rattle.trace_reader.proofs.HeadLines.{first_of}

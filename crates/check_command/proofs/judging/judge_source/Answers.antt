@@ -1,7 +1,6 @@
 use Rattle.std.proofs.Common.{rules, List, ℕ, subst}
-use Rattle.std.specs.Prelude.{IfErr}
 use Rattle.std.specs.declared.option.Option.{Option}
-use Rattle.trace_reader.specs.LineText.{IsTextOf}
+use Rattle.check_command.specs.Answers.{KeepsText}
 use Rattle.line_source.specs.BytesLeft.{bytes_left, pending}
 use Rattle.check_command.proofs.Verdicts.{read_told}
 use Rattle.check_command.proofs.judging.judge_source.Goals as goal
@@ -14,4 +13,4 @@ returns-clause-text g c =
 
 pub returns-clause-kept : goal.returns-clause-kept
 returns-clause-kept g c =
-    subst (λ (input : Option (List ℕ)). IfErr c.judge_lines-answer.result (λ fault. IsTextOf fault input c.judge_lines-answer.new.kept.items)) c.new-lines.ensures.left c.judge_lines-answer.ensures.kept
+    subst (λ (input : Option (List ℕ)). KeepsText c.judge_lines-answer.result input c.judge_lines-answer.new.kept.items) c.new-lines.ensures.left c.judge_lines-answer.ensures.kept
