@@ -34,9 +34,10 @@ abbrev pub fault_message : ℕ → Cause → List ℕ → List ℕ
 fault_message number cause text =
     codes "neqysbar: line " ++ decimal number ++ codes ": " ++ rule_text cause ++ codes ": " ++ filter is_printable text ++ codes "\n"
 
--- beside a log that isn't legal
-abbrev pub log_message : ℕ → List ℕ
-log_message number = codes "neqysbar: line " ++ decimal number ++ codes " of the log isn't a legal next line, or is missing\n"
+-- beside a log that isn't legal: the number of its faulty line and the printable bytes of its text
+abbrev pub log_message : ℕ → List ℕ → List ℕ
+log_message number text =
+    codes "neqysbar: line " ++ decimal number ++ codes " of the log isn't a legal next line, or is missing: " ++ filter is_printable text ++ codes "\n"
 
 -- beside a log that goes on after as many lines as a log may have
 abbrev pub too_long_message : List ℕ
@@ -51,7 +52,7 @@ abbrev pub wrong_message : Wrong → List ℕ → List ℕ
 wrong_message (Line number cause) text = fault_message number cause text
 wrong_message Unfinished text = unfinished_message
 wrong_message LogTooLong text = too_long_message
-wrong_message (LogLine number) text = log_message number
+wrong_message (LogLine number) text = log_message number text
 
 -- by the status: what failed, or usage; nothing beside the others
 abbrev pub status_message : ℕ → List ℕ

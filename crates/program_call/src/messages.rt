@@ -66,14 +66,16 @@ fn fault_message(number: u32, cause: Cause, text: &ArrayVec<u8, 80>) -> ArrayVec
     out
 }
 
-// The message about a line of a log.
-fn log_message(number: u32) -> ArrayVec<u8, 320>
-    ensures { result.items ≡ log_message number }
+// The message about a line of a log with these first bytes.
+fn log_message(number: u32, text: &ArrayVec<u8, 80>) -> ArrayVec<u8, 320>
+    ensures { result.items ≡ log_message number text.now.items }
 {
     let mut out = ArrayVec::new();
     push_word(&mut out, b"neqysbar: line ");
     push_count(&mut out, number);
-    push_word(&mut out, b" of the log isn't a legal next line, or is missing\n");
+    push_word(&mut out, b" of the log isn't a legal next line, or is missing: ");
+    add_printable(&mut out, text.as_slice());
+    push_word(&mut out, b"\n");
     out
 }
 
@@ -99,7 +101,7 @@ fn explain_wrong<M: Sink>(wrong: Wrong, text: &ArrayVec<u8, 80>, messages: &mut 
         }
         Wrong::Unfinished => say(UNFINISHED, messages),
         Wrong::LogTooLong => say(TOO_LONG, messages),
-        Wrong::LogLine(number) => say(log_message(number).as_slice(), messages),
+        Wrong::LogLine(number) => say(log_message(number, text).as_slice(), messages),
     }
 }
 
@@ -124,7 +126,7 @@ fn status_message(status: u8) -> &'static [u8]
 
 /// Writes the message that goes with a status: for an input that is wrong the number of the faulty line, the
 /// rule that it breaks and its first bytes, or that the trace is unfinished, or that a log is too long, or the
-/// number of the line at which a log isn't legal; else usage beside 1, what failed beside 3, 4, 6 and 7, and
+/// number of the line at which a log isn't legal and its first bytes; else usage beside 1, what failed beside 3, 4, 6 and 7, and
 /// nothing beside others. Doesn't allocate.
 pub(crate) fn explain<M: Sink>(
     status: u8,

@@ -111,7 +111,8 @@ pub fn run_program<A: Arguments, S: Source, K: Sink, D: Depot>(
 
 /// As `run_program`, with messages beside the output: usage beside status 1; for a trace that is wrong a line
 /// with the number of the faulty line, the rule that it breaks in words, and the printable ones of its first 80
-/// bytes, or that it is unfinished; that a log is too long, or the number of its first line that isn't legal;
+/// bytes, or that it is unfinished; that a log is too long, or the number and the text of its first line that
+/// isn't legal;
 /// what failed beside status 3, 4, 6 and 7. Messages that can't be written change nothing.
 pub fn run_and_explain<A: Arguments, S: Source, K: Sink, M: Sink, D: Depot>(
     alloc: Global,
