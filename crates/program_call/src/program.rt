@@ -86,8 +86,8 @@ fn run_and_finish<A: Arguments, S: Source, K: Sink, D: Depot>(
     ensures wrong { result.0.0 ≢ 4 → HasTold (IsWrong result.1) (K.seen output.old) (K.seen output.new) result.0.0 }
     ensures kept { IsWrongText result.1 (S.seen source.old).left kept.new.items }
 {
-    let (status, wrong) = run_words(alloc, arguments, source, output, depot, kept);
-    (finish(status, output), wrong)
+    let told = run_words(alloc, arguments, source, output, depot, kept);
+    (finish(told.0, output), told.1)
 }
 
 /// The whole program over its ends: copies the words after the program's own name, runs the command
@@ -133,7 +133,7 @@ pub fn run_and_explain<A: Arguments, S: Source, K: Sink, M: Sink, D: Depot>(
         × IsSaid (M.seen messages.old) (M.seen messages.new) (message_of wrong text result.0) }
 {
     let mut kept = ArrayVec::new();
-    let (status, wrong) = run_and_finish(alloc, arguments, source, output, depot, &mut kept);
-    explain(status.0, wrong, &kept, messages);
-    status
+    let told = run_and_finish(alloc, arguments, source, output, depot, &mut kept);
+    explain(told.0.0, told.1, &kept, messages);
+    told.0
 }

@@ -10,7 +10,7 @@ use Rattle.program_call.proofs.program.run_and_finish.Goals as goal
 
 pub returns-clause-run : goal.returns-clause-run
 returns-clause-run g c =
-    let words = c.run_words.ensures in
+    let words = c.run_words-told.ensures in
     let end = c.finish.ensures in
     record {
       told = λ no_four.
@@ -44,5 +44,5 @@ returns-clause-run g c =
 pub returns-clause-wrong : goal.returns-clause-wrong
 returns-clause-wrong g c = λ no_four.
     let run = c.finish.ensures.run no_four in
-    let told = c.run_words.ensures.wrong (λ four. no_four (run.0 ∙ four)) in
+    let told = c.run_words-told.ensures.wrong (λ four. no_four (run.0 ∙ four)) in
     (told.0, subst (λ status. IsWrong _ status told.0) (sym run.0) told.1, Appends-kept _ _ _ told.0 told.2 c.finish.ensures.bytes)
