@@ -36,8 +36,8 @@ module _ (text : List ℕ) (count : ℕ) (left later : Option (List ℕ)) (out :
 
   -- a whole line was
   pub behind_next : (line : Line) (ended : Bool) → line ≡ Text ended → ended ≡ true → HandsOut line out → IfSome left (λ bytes. Takes (Ok line) bytes out later) → IsBehind text (count + 1) later
-  behind_next line ended is true_ gives takes =
-      let same : line ≡ Text true = is ∙ ap (λ (b : Bool). Text b) true_ in
+  behind_next line ended is so gives takes =
+      let same : line ≡ Text true = is ∙ ap (λ (b : Bool). Text b) so in
       let given : HandsOut (Text true) out = subst (λ (l : Line). HandsOut l out) same gives in
       let t = taken (Text true) (subst (λ (l : Line). IfSome left (λ bytes. Takes (Ok l) bytes out later)) same takes) in
       record { rest = t.rest; left_over = t.left_over; stands = one_more text behind.rest out t.rest count behind.stands t.parts given.0 }
@@ -70,12 +70,9 @@ pub last_kept : (told left : Option (List ℕ)) (count : ℕ) (out kept : List �
 last_kept None left count out kept (Ok v) behind all fronts same = none_kept v kept
 last_kept (Some text) left count out kept (Ok v) behind all fronts same =
     kept_of text out kept v same (fronts text (subst (λ (n : ℕ). IsBehind text n left) all behind))
-last_kept told left count out kept (Err f) behind all fronts same = unsaid f told kept
-  where
-    unsaid : (f : CheckFault) (told : Option (List ℕ)) (kept : List ℕ) → KeepsFault (Err f) told kept
-    unsaid NoMemory told kept = tt
-    unsaid ReadFault told kept = tt
-    unsaid TooMany told kept = tt
+last_kept told left count out kept (Err NoMemory) behind all fronts same = tt
+last_kept told left count out kept (Err ReadFault) behind all fronts same = tt
+last_kept told left count out kept (Err TooMany) behind all fronts same = tt
 
 pub next_behind : (told left later : Option (List ℕ)) (count : ℕ) (out : List ℕ) (step : Step) (next : Place) → IfSome told (λ text. IsBehind text count left)
     → ((text : List ℕ) → IsBehind text count left → IsFrontNext text count later out (Ok step)) → step ≡ On next → IfSome told (λ text. IsBehind text (count + 1) later)
