@@ -73,7 +73,10 @@ fn log_message(number: u32, text: &ArrayVec<u8, 80>) -> ArrayVec<u8, 320>
     let mut out = ArrayVec::new();
     push_word(&mut out, b"neqysbar: line ");
     push_count(&mut out, number);
-    push_word(&mut out, b" of the log isn't a legal next line, or is missing: ");
+    push_word(
+        &mut out,
+        b" of the log isn't a legal next line, or is missing: ",
+    );
     add_printable(&mut out, text.as_slice());
     push_word(&mut out, b"\n");
     out

@@ -49,16 +49,16 @@ pub line_goes : (text : List ℕ) (part next : Part) (number : ℕ) (rest line b
 line_goes text part next number rest line back h cut other e =
     let one : number + 1 - 1 ≡ (number - 1) + 1 = omega (arith, h.onward) in
     record {
-  front = h.front ++ (line ++ 10 ∷ []);
-  whole = moved text h.front rest line back h.whole cut;
-  goes = λ more.
-      let some = first_line line [] more other in
-      ap head_of (append_assoc h.front (line ++ 10 ∷ []) more) ∙ h.goes ((line ++ 10 ∷ []) ++ more) ∙ ap (judge_head number part) some.2
-      ∙ along part number line some.0 some.1 (goes_on next) e ∙ sym (ap (judge_head (number + 1) next) some.3);
-  onward = omega arith;
-  counted = ap (λ (n : ℕ). drop n (lines text)) one ∙ sym (drop-drop 1 (number - 1) (lines text)) ∙ ap (λ (ls : List (List ℕ)). drop 1 ls) h.counted
-      ∙ ap (λ (r : List ℕ). drop 1 (lines r)) cut ∙ ap (λ (ls : List (List ℕ)). drop 1 ls) (lines_at line back other);
-}
+      front = h.front ++ (line ++ 10 ∷ []);
+      whole = moved text h.front rest line back h.whole cut;
+      goes = λ more.
+          let some = first_line line [] more other in
+          ap head_of (append_assoc h.front (line ++ 10 ∷ []) more) ∙ h.goes ((line ++ 10 ∷ []) ++ more) ∙ ap (judge_head number part) some.2
+          ∙ along part number line some.0 some.1 (goes_on next) e ∙ sym (ap (judge_head (number + 1) next) some.3);
+      onward = omega arith;
+      counted = ap (λ (n : ℕ). drop n (lines text)) one ∙ sym (drop-drop 1 (number - 1) (lines text)) ∙ ap (λ (ls : List (List ℕ)). drop 1 ls) h.counted
+          ∙ ap (λ (r : List ℕ). drop 1 (lines r)) cut ∙ ap (λ (ls : List (List ℕ)). drop 1 ls) (lines_at line back other);
+    }
 
 -- the whole text, by the line behind what was taken
 at_rest : (text : List ℕ) (part : Part) (number : ℕ) (rest : List ℕ) → HasGone text part number rest → head_of text ≡ judge_head number part (lines rest)

@@ -46,8 +46,8 @@ kept_here before first piece now number rest line after kept (fault.Line n cause
   λ more.
       let some = first_line line after more other in
       let stands : drop (n - first) (lines (piece ++ more)) ≡ line ∷ some.0 ∷ some.1 =
-          ap (λ (k : ℕ). drop (k - first) (lines (piece ++ more))) h.0 ∙ (whole_follows before first piece now number rest t).counted more
-          ∙ ap (λ (r : List ℕ). lines (r ++ more)) cut ∙ some.2 in
+      ap (λ (k : ℕ). drop (k - first) (lines (piece ++ more))) h.0 ∙ (whole_follows before first piece now number rest t).counted more
+      ∙ ap (λ (r : List ℕ). lines (r ++ more)) cut ∙ some.2 in
       front_at (lines (piece ++ more)) (n - first) line kept (some.0 ∷ some.1) stands h.1,
 )
 kept_here before first piece now number rest line after kept fault.Unfinished t cut other h = tt
@@ -60,7 +60,7 @@ kept_long before first piece now number rest kept t other long same = (
   λ more.
       let tail = begun rest more other in
       let stands : drop (number - first) (lines (piece ++ more)) ≡ (rest ++ tail.0) ∷ tail.1 =
-          (whole_follows before first piece now number rest t).counted more ∙ tail.2 in
+      (whole_follows before first piece now number rest t).counted more ∙ tail.2 in
       front_at (lines (piece ++ more)) (number - first) (rest ++ tail.0) kept tail.1 stands (front_long rest tail.0 kept (omega (arith, long)) same),
 )
 
@@ -69,11 +69,11 @@ line_of : (text done piece rest kept : List ℕ) (part : Part) (number n : ℕ) 
     → kept ≡ take 80 (get_or (lines (piece ++ rest)) (n - number) []) → kept ≡ line_text n text
 line_of text done piece rest kept part number n whole follows later same =
     let stands : drop (number - 1) (lines text) ≡ lines (piece ++ rest) =
-        ap (λ (t : List ℕ). drop (number - 1) (lines t)) (whole ∙ append_assoc done piece rest) ∙ follows.counted (piece ++ rest) in
+    ap (λ (t : List ℕ). drop (number - 1) (lines t)) (whole ∙ append_assoc done piece rest) ∙ follows.counted (piece ++ rest) in
     let place : n - 1 ≡ (number - 1) + (n - number) = omega (arith, follows.onward, later) in
     let there : get_or (lines text) (n - 1) [] ≡ get_or (lines (piece ++ rest)) (n - number) [] =
-        ap (λ (k : ℕ). get_or (lines text) k []) place ∙ sym (get_or-drop (number - 1) (lines text) (n - number) [])
-        ∙ ap (λ (ls : List (List ℕ)). get_or ls (n - number) []) stands in
+    ap (λ (k : ℕ). get_or (lines text) k []) place ∙ sym (get_or-drop (number - 1) (lines text) (n - number) [])
+    ∙ ap (λ (ls : List (List ℕ)). get_or ls (n - number) []) stands in
     same ∙ ap (λ (xs : List ℕ). take 80 xs) (sym there)
 
 pub piece_kept : (told new : Option (List ℕ)) (piece kept : List ℕ) (part : Part) (number : ℕ) (f : TraceFault)
@@ -95,10 +95,10 @@ last_kept : (text : List ℕ) (new : Option (List ℕ)) (part : Part) (number n 
 last_kept text new part number n pending kept h at other is same =
     let none : h.split.rest ≡ [] = none_left new h.split.rest h.split.left_over at in
     let only : lines (pending ++ h.split.rest) ≡ pending ∷ [] =
-        ap (λ (r : List ℕ). lines (pending ++ r)) none ∙ ap lines (append-nil pending) ∙ lines_none pending other in
+    ap (λ (r : List ℕ). lines (pending ++ r)) none ∙ ap lines (append-nil pending) ∙ lines_none pending other in
     let first : n - number ≡ 0 = omega (arith, is) in
     let stands : drop (n - number) (lines (pending ++ h.split.rest)) ≡ pending ∷ [] =
-        ap (λ (k : ℕ). drop k (lines (pending ++ h.split.rest))) first ∙ only in
+    ap (λ (k : ℕ). drop k (lines (pending ++ h.split.rest))) first ∙ only in
     line_of text h.done pending h.split.rest kept part number n h.split.whole h.follows (omega (arith, is))
     (front_at (lines (pending ++ h.split.rest)) (n - number) pending kept [] stands same)
 

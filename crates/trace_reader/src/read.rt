@@ -158,11 +158,7 @@ impl Reader {
 
     // Takes the whole lines of the piece, and says how many bytes are left behind them; or keeps the first
     // bytes of the line that is at fault.
-    fn take_piece(
-        &mut self,
-        piece: &[u8],
-        kept: &mut ArrayVec<u8, 80>,
-    ) -> Result<usize, TraceFault>
+    fn take_piece(&mut self, piece: &[u8], kept: &mut ArrayVec<u8, 80>) -> Result<usize, TraceFault>
         requires { IsReading self.old.draft self.old.number }
         ensures ok { IfOk result (IsPieceTaken self.old.draft.part self.old.number piece.now self.new.draft self.new.number) }
         ensures err { IfErr result (IsAtFault self.old.draft.part self.old.number piece.now) }
