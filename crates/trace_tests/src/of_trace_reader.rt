@@ -428,7 +428,7 @@ fn counts_lines_and_requests(rt: HostRuntime) -> Result<(), Fail> {
     let mut source = MemorySource::new(full, Vec::new(alloc));
     let mut kept = ArrayVec::new();
     let answer = read_trace(&mut source, alloc, &mut kept).err();
-    assert_eq!(rt; kept.as_slice(), b"A R1 0");
+    assert_eq!(rt; kept.as_slice(), b"A R1 0".as_slice());
     assert_eq!(rt; answer, line(100_006, Cause::TooMany));
     for _ in 0..99_995 {
         text.extend_from_slice(b"\n")?;
@@ -436,7 +436,7 @@ fn counts_lines_and_requests(rt: HostRuntime) -> Result<(), Fail> {
     text.extend_from_slice(b"!")?;
     let mut source = MemorySource::new(text, Vec::new(alloc));
     let answer = read_trace(&mut source, alloc, &mut kept).err();
-    assert_eq!(rt; kept.as_slice(), b"!");
+    assert_eq!(rt; kept.as_slice(), b"!".as_slice());
     assert_eq!(rt; answer, line(200_001, Cause::TooMany));
     Ok(())
 }
