@@ -1,14 +1,14 @@
 -- The first bytes of the line at which a log is at fault.
-use Rattle.std.proofs.Common.{◌≡◌, ℕ, ◌+◌, Bool, true, false, List, [], ◌∷◌, Option, Some, None, Result, Ok, Err, refl, sym, ap, ◌∙◌, subst, take, drop, arith}
+use Rattle.std.proofs.Common.{◌≡◌, ℕ, ◌+◌, Bool, true, List, [], ◌∷◌, Option, Some, None, Result, Ok, Err, sym, ap, ◌∙◌, subst, take}
 use Rattle.std.specs.Prelude.{IfSome}
 use Rattle.line_source.specs.declared.lines.Line.{Line}
-use Rattle.line_source.specs.declared.lines.Line.TheVariants.{End, Long, Text}
+use Rattle.line_source.specs.declared.lines.Line.TheVariants.{Text}
 use Rattle.line_source.specs.HandedOut.{HandsOut, Takes}
-use Rattle.line_source.specs.LineText.{line_text, lines_of}
+use Rattle.line_source.specs.LineText.{line_text}
 use Rattle.line_source.proofs.Fronts.{first_front, line_behind, one_more}
 use Rattle.log_model.specs.Log.{most_lines}
 use Rattle.log_check.specs.declared.check.Step.{Step}
-use Rattle.log_check.specs.declared.check.Step.TheVariants.{Judged, On}
+use Rattle.log_check.specs.declared.check.Step.TheVariants.{Judged}
 use Rattle.log_check.specs.declared.check_fault.CheckFault.{CheckFault}
 use Rattle.log_check.specs.declared.check_fault.CheckFault.TheVariants.{NoMemory, ReadFault, TooMany}
 use Rattle.log_check.specs.declared.place.Place.{Place}
@@ -18,11 +18,6 @@ use Rattle.log_check.specs.declared.verdict.Verdict.TheVariants.{Fault, Legal}
 use Rattle.log_check.specs.Judged.{KeepsFault}
 use Rattle.log_check.specs.Reading.{IsBehind, IsEndOf, IsFrontLast, IsFrontNext, IsFrontOf}
 use Rattle.log_check.proofs.Read.{takes_of}
-
--- before the first line
-pub behind_first : (told : Option (List ℕ)) → IfSome told (λ text. IsBehind text 0 told)
-behind_first None = tt
-behind_first (Some text) = record { rest = text; left_over = refl; stands = refl }
 
 module _ (text : List ℕ) (count : ℕ) (left later : Option (List ℕ)) (out : List ℕ) (behind : IsBehind text count left) where
   taken : (line : Line) → IfSome left (λ bytes. Takes (Ok line) bytes out later) → Takes (Ok line) behind.rest out later
@@ -73,9 +68,3 @@ last_kept (Some text) left count out kept (Ok v) behind all fronts same =
 last_kept told left count out kept (Err NoMemory) behind all fronts same = tt
 last_kept told left count out kept (Err ReadFault) behind all fronts same = tt
 last_kept told left count out kept (Err TooMany) behind all fronts same = tt
-
-pub next_behind : (told left later : Option (List ℕ)) (count : ℕ) (out : List ℕ) (step : Step) (next : Place) → IfSome told (λ text. IsBehind text count left)
-    → ((text : List ℕ) → IsBehind text count left → IsFrontNext text count later out (Ok step)) → step ≡ On next → IfSome told (λ text. IsBehind text (count + 1) later)
-next_behind None left later count out step next behind fronts is = tt
-next_behind (Some text) left later count out step next behind fronts is =
-    subst (λ (s : Step). IsFrontNext text count later out (Ok s)) is (fronts text behind)
