@@ -17,10 +17,15 @@ use Rattle.log_check.specs.declared.check_fault.CheckFault.TheVariants.{NoMemory
 use Rattle.program_ends.specs.Concludes.{Concludes}
 use Rattle.program_ends.specs.Ends.{Ends}
 use Rattle.program_ends.specs.FaultText.{fault_status, fault_told}
-use Rattle.check_command.specs.Answers.{Answer, CountsBy, IsRead, Says}
+use Rattle.program_ends.specs.Wrongs.{IsWrong, IsWrongText, TellsWrong, wrong_of}
+use Rattle.program_ends.specs.declared.wrong.Wrong.{Wrong}
+use Rattle.program_ends.proofs.Wronging.{fault_wrong}
+use Rattle.line_source.specs.LineText.{line_text}
+use Rattle.log_check.specs.Judged.{KeepsFault}
+use Rattle.check_command.specs.Answers.{Answer, CountsBy, IsRead, KeepsText, Says}
 use Rattle.check_command.specs.CheckText.{legal, at_fault, too_long}
 use Rattle.check_command.specs.CheckTells.{CheckTells, answered, faulty, unfinished, unread, no_memory}
-use Rattle.check_command.specs.Verdicts.{verdict_status, verdict_text}
+use Rattle.check_command.specs.Verdicts.{verdict_status, verdict_text, wrong_in_log}
 
 if_some : (P Q : List ℕ → Type 0) (told : Option (List ℕ)) → ((text : List ℕ) → P text → Q text) → IfSome told P → IfSome told Q
 if_some P Q None f h = tt
@@ -56,6 +61,36 @@ read_told answer told whole left final read same kept few says =
     (λ text said. record { read = read; few = few; says = subst (λ (o : Option (List ℕ)). Says answer text (prepend_known read o)) (sym kept) said })
     (subst (λ (o : Option (List ℕ)). IfSome o (λ text. Says answer text (prepend_known read left))) same says)
 
+verdict_wrong : (verdict : Result Verdict CheckFault) → IsWrong (wrong_in_log verdict) (verdict_status verdict) (verdict_text verdict)
+verdict_wrong (Ok (Legal n)) = (λ e. omega (arith, e), λ e. omega (arith, e))
+verdict_wrong (Ok (Fault n)) = (refl, refl)
+verdict_wrong (Err TooMany) = (refl, refl)
+verdict_wrong (Err ReadFault) = (λ e. omega (arith, e), λ e. omega (arith, e))
+verdict_wrong (Err NoMemory) = (λ e. omega (arith, e), λ e. omega (arith, e))
+
+-- the first bytes of the line at which a log is at fault
+some_is : {A : Type 0} (o : Option A) (x : A) (P : A → Type 0) → o ≡ Some x → IfSome o P → P x
+some_is o x P is holds = subst (λ (p : Option _). IfSome p P) is holds
+
+pub log_text : (config : Config) (verdict : Result Verdict CheckFault) (input left : Option (List ℕ)) (kept : List ℕ) → IfSome input (λ text. HeadAnswers (Ok config) text left)
+    → KeepsFault verdict left kept → KeepsText (Ok verdict) input kept
+log_text config (Ok (Legal n)) input left kept head keeps = tt
+log_text config (Ok (Fault n)) None left kept head keeps = tt
+log_text config (Ok (Fault n)) (Some text) left kept head keeps =
+    record { config = config; log = head.0; head = head.1; is = some_is left head.0 (λ log. kept ≡ line_text n log) head.2 keeps }
+log_text config (Err fault) input left kept head keeps = tt
+
+own_text : (verdict : Result Verdict CheckFault) (input : Option (List ℕ)) (kept : List ℕ) → KeepsText (Ok verdict) input kept → IsWrongText (wrong_in_log verdict) input kept
+own_text (Ok (Legal n)) input kept keeps = tt
+own_text (Ok (Fault n)) input kept keeps = keeps
+own_text (Err TooMany) input kept keeps = tt
+own_text (Err ReadFault) input kept keeps = tt
+own_text (Err NoMemory) input kept keeps = tt
+
+pub verdict_text_kept : (verdict : Result Verdict CheckFault) (wrong : Option Wrong) (input : Option (List ℕ)) (kept : List ℕ) → wrong ≡ wrong_in_log verdict → KeepsText (Ok verdict) input kept
+    → IsWrongText wrong input kept
+verdict_text_kept verdict wrong input kept is keeps = subst (λ w. IsWrongText w input kept) (sym is) (own_text verdict input kept keeps)
+
 module _ {before after : SourceView} where
   head_tells : (f : TraceFault) → IfSome before.left (λ text. IsRead (Says (Err f) text) after.left) → CountsBy (Err f) before.failures after.failures
       → CheckTells before after (fault_status f) (fault_told f)
@@ -74,10 +109,11 @@ module _ {before after : SourceView} where
   verdict_tells (Err NoMemory) says counts = no_memory counts
 
   -- the outcome of a trace that gives no configuration, and that of a log
-  pub concludes_fault : {sink sink' : SinkView} {result : ℕ} (f : TraceFault) → IfSome before.left (λ text. IsRead (Says (Err f) text) after.left)
-      → CountsBy (Err f) before.failures after.failures → Ends sink sink' (fault_status f) (fault_told f) result → Concludes (CheckTells before after) sink sink' result
-  concludes_fault f means counts ends = record { status = fault_status f; text = fault_told f; tells_it = head_tells f means counts; ends = ends }
+  pub concludes_fault : {sink sink' : SinkView} {result : ℕ} (f : TraceFault) (wrong : Option Wrong) → wrong ≡ wrong_of f → IfSome before.left (λ text. IsRead (Says (Err f) text) after.left)
+      → CountsBy (Err f) before.failures after.failures → Ends sink sink' (fault_status f) (fault_told f) result → Concludes (TellsWrong (CheckTells before after) wrong) sink sink' result
+  concludes_fault f wrong is means counts ends = record { status = fault_status f; text = fault_told f; tells_it = record { told = head_tells f means counts; says = fault_wrong f wrong is }; ends = ends }
 
-  pub concludes_verdict : {sink sink' : SinkView} {result : ℕ} (verdict : Result Verdict CheckFault) → IfSome before.left (λ text. IsRead (Says (Ok verdict) text) after.left)
-      → CountsBy (Ok verdict) before.failures after.failures → Ends sink sink' (verdict_status verdict) (verdict_text verdict) result → Concludes (CheckTells before after) sink sink' result
-  concludes_verdict verdict says counts ends = record { status = verdict_status verdict; text = verdict_text verdict; tells_it = verdict_tells verdict says counts; ends = ends }
+  pub concludes_verdict : {sink sink' : SinkView} {result : ℕ} (verdict : Result Verdict CheckFault) (wrong : Option Wrong) → wrong ≡ wrong_in_log verdict → IfSome before.left (λ text. IsRead (Says (Ok verdict) text) after.left)
+      → CountsBy (Ok verdict) before.failures after.failures → Ends sink sink' (verdict_status verdict) (verdict_text verdict) result → Concludes (TellsWrong (CheckTells before after) wrong) sink sink' result
+  concludes_verdict verdict wrong is says counts ends =
+      record { status = verdict_status verdict; text = verdict_text verdict; tells_it = record { told = verdict_tells verdict says counts; says = subst (λ w. IsWrong w (verdict_status verdict) (verdict_text verdict)) (sym is) (verdict_wrong verdict) }; ends = ends }

@@ -1,5 +1,5 @@
 -- What is said of the text of a trace and a log, and of what is left of it. Source: this project's own.
-use Rattle.std.specs.Prelude.{ℕ, ◌≤◌, List, length, Option, Result, Ok, Err}
+use Rattle.std.specs.Prelude.{ℕ, ◌≤◌, List, length, Option, IfSome, Result, Ok, Err}
 use Rattle.std.specs.Io.KnownBytes.{prepend_known}
 use Rattle.trace_reader.specs.Answer.{FaultsBy}
 use Rattle.trace_reader.specs.HeadAnswer.{HeadAnswers}
@@ -7,6 +7,9 @@ use Rattle.trace_reader.specs.declared.fault.TraceFault.{TraceFault}
 use Rattle.log_check.specs.Judged.{CountsBy as CountsByVerdict, Judges}
 use Rattle.log_check.specs.declared.check_fault.CheckFault.{CheckFault}
 use Rattle.log_check.specs.declared.verdict.Verdict.{Verdict}
+use Rattle.log_check.specs.declared.verdict.Verdict.TheVariants.{Fault, Legal}
+use Rattle.trace_reader.specs.LineText.{IsTextOf}
+use Rattle.program_ends.specs.Wrongs.{IsLogText}
 use Rattle.check_command.specs.CheckText.{HasLog}
 
 -- a verdict on the log or none, or what is wrong with the trace before it
@@ -16,6 +19,13 @@ Answer = Result (Result Verdict CheckFault) TraceFault
 abbrev pub Says : Answer → List ℕ → Option (List ℕ) → Type 0
 Says (Ok verdict) text left = HasLog (λ config log. Judges config verdict log left) text
 Says (Err fault) text left = HeadAnswers (Err fault) text left
+
+-- of the faulty line of the trace or the log, if the text is known, the first bytes were kept
+abbrev pub KeepsText : Answer → Option (List ℕ) → List ℕ → Type 0
+KeepsText (Ok (Ok (Legal n))) input kept = Unit {0}
+KeepsText (Ok (Ok (Fault n))) input kept = IfSome input (λ text. IsLogText n text kept)
+KeepsText (Ok (Err fault)) input kept = Unit {0}
+KeepsText (Err fault) input kept = IsTextOf fault input kept
 
 -- the count of failures rose where a read failed, and is else unchanged
 abbrev pub CountsBy : Answer → ℕ → ℕ → Type 0

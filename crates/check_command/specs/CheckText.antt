@@ -5,17 +5,12 @@ use Rattle.vm_types.specs.declared.config.Config.{Config}
 use Rattle.outside_io.specs.Views.{SourceView}
 use Rattle.pager_model.specs.Text.{ended, status_line}
 use Rattle.trace_reader.specs.Head.{Configured, head_of}
+use Rattle.program_ends.specs.Wrongs.{log_fault_text, log_too_long_text}
 use Rattle.log_model.specs.Log.{IsAtFault, IsLegalLog, IsTooLong}
 
--- the lines before the status
+-- the line before the status of a legal log
 abbrev pub legal_line : ℕ → List ℕ
 legal_line entries = ended (codes "LOG OK " ++ decimal entries)
-
-abbrev pub fault_line : ℕ → List ℕ
-fault_line number = ended (codes "LOG FAULT " ++ decimal number)
-
-abbrev pub too_long_line : List ℕ
-too_long_line = ended (codes "LOG TOOMANY")
 
 -- what is said of a configuration and a log, of the trace up to END and the bytes behind the line LOG
 pub record HasLog (says : Config → List ℕ → Type 0) (text : List ℕ) : Type 0 where
@@ -31,6 +26,6 @@ pub data IsCheckAnswer (before after : SourceView) : ℕ → List ℕ → Type 0
   legal : (entries : ℕ) → IfSome before.left (λ text. HasLog (λ config log. IsLegalLog config log entries) text × (after.left ≡ Some []))
       → IsCheckAnswer before after 0 (legal_line entries ++ status_line 0)
   at_fault : (number : ℕ) → IfSome before.left (HasLog (λ config log. IsAtFault config log number))
-      → IsCheckAnswer before after 8 (fault_line number ++ status_line 8)
+      → IsCheckAnswer before after 8 (log_fault_text number ++ status_line 8)
   too_long : IfSome before.left (HasLog IsTooLong)
-      → IsCheckAnswer before after 2 (too_long_line ++ status_line 2)
+      → IsCheckAnswer before after 2 (log_too_long_text ++ status_line 2)

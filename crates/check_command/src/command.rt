@@ -2,14 +2,16 @@ ghost use Rattle.std.specs.Prelude.{◌≡◌, ◌≢◌, ◌⊎◌, ◌≤◌};
 ghost use Rattle.outside_io.specs.Causes.{Rose};
 ghost use Rattle.program_ends.specs.Concludes.{Concludes, HasTold, WasCut};
 ghost use Rattle.program_ends.specs.Ends.{Ends};
+ghost use Rattle.program_ends.specs.Wrongs.{IsWrongText, TellsWrong};
 ghost use Rattle.check_command.specs.CheckTells.{CheckTells, HasCheckInput};
-ghost use Rattle.check_command.specs.Verdicts.{verdict_status, verdict_text};
+ghost use Rattle.check_command.specs.Verdicts.{verdict_status, verdict_text, wrong_in_log};
 
 use crate::ending::{end_at_fault, end_legal, end_too_long};
 use crate::judging::judge_source;
+use arrayvec::ArrayVec;
 use log_check::{CheckFault, Verdict};
 use outside_io::{Sink, Source};
-use program_ends::{Status, end_fault, end_with};
+use program_ends::{Status, Wrong, end_fault, end_with, wrong_of};
 use std::alloc::Global;
 
 // Writes the verdict, or why there is none, and the status.
@@ -25,15 +27,37 @@ fn end_verdict<K: Sink>(verdict: Result<Verdict, CheckFault>, sink: &mut K) -> S
     }
 }
 
+// What is wrong with the log by its verdict.
+fn wrong_in_log(verdict: &Result<Verdict, CheckFault>) -> Option<Wrong>
+    ensures { result ≡ wrong_in_log verdict.now }
+{
+    match verdict {
+        Ok(Verdict::Legal(_)) => None,
+        Ok(Verdict::Fault(number)) => Some(Wrong::LogLine(*number)),
+        Err(CheckFault::TooMany) => Some(Wrong::LogTooLong),
+        Err(CheckFault::ReadFault) => None,
+        Err(CheckFault::NoMemory) => None,
+    }
+}
+
 // The outcome of the command.
-fn conclude<S: Source, K: Sink>(alloc: Global, source: &mut S, sink: &mut K) -> Status
-    ensures outcome { Concludes (CheckTells (S.seen source.old) (S.seen source.new))
-        (K.seen sink.old) (K.seen sink.new) result.0 }
+fn conclude<S: Source, K: Sink>(
+    alloc: Global,
+    source: &mut S,
+    sink: &mut K,
+    kept: &mut ArrayVec<u8, 80>,
+) -> (Status, Option<Wrong>)
+    ensures outcome { Concludes (TellsWrong (CheckTells (S.seen source.old) (S.seen source.new)) result.1)
+        (K.seen sink.old) (K.seen sink.new) result.0.0 }
+    ensures kept { IsWrongText result.1 (S.seen source.old).left kept.new.items }
     ensures faults_later { (S.seen source.old).failures ≤ (S.seen source.new).failures }
 {
-    match judge_source(alloc, source) {
-        Ok(verdict) => end_verdict(verdict, sink),
-        Err(fault) => end_fault(fault, sink),
+    match judge_source(alloc, source, kept) {
+        Ok(verdict) => {
+            let wrong = wrong_in_log(&verdict);
+            (end_verdict(verdict, sink), wrong)
+        }
+        Err(fault) => (end_fault(fault, sink), wrong_of(fault)),
     }
 }
 
@@ -42,27 +66,37 @@ fn conclude<S: Source, K: Sink>(alloc: Global, source: &mut S, sink: &mut K) -> 
 /// with the number of the first line of the log, from 1, that isn't a legal next line, and status 8; or
 /// `LOG TOOMANY` if it goes on after 16777216 legal lines, and status 2. The status line follows. Each line is
 /// one write of a whole text. The status is 2 too if the trace is faulty or unfinished, with the line that
-/// says so; 3 only if a read failed, 4 only if a write failed or took nothing, 7 if memory ran out.
-pub fn check<S: Source, K: Sink>(alloc: Global, source: &mut S, sink: &mut K) -> Status
-    // A status with the text that goes with it, and how the text was written.
-    ensures outcome { Concludes (CheckTells (S.seen source.old) (S.seen source.new))
-        (K.seen sink.old) (K.seen sink.new) result.0 }
+/// says so; 3 only if a read failed, 4 only if a write failed or took nothing, 7 if memory ran out. It answers
+/// besides what is wrong with the input, if anything is, and keeps the first 80 bytes of the faulty line in
+/// `kept`.
+pub fn check<S: Source, K: Sink>(
+    alloc: Global,
+    source: &mut S,
+    sink: &mut K,
+    kept: &mut ArrayVec<u8, 80>,
+) -> (Status, Option<Wrong>)
+    // A status with the text that goes with it, what is wrong with the input by that text, and how the
+    // text was written.
+    ensures outcome { Concludes (TellsWrong (CheckTells (S.seen source.old) (S.seen source.new)) result.1)
+        (K.seen sink.old) (K.seen sink.new) result.0.0 }
     // So with every status but 4 what was written is the text that goes with it, and no count of the
     // sink changed.
-    ensures told { result.0 ≢ 4 → HasTold (CheckTells (S.seen source.old) (S.seen source.new))
-        (K.seen sink.old) (K.seen sink.new) result.0 }
-    ensures unfailed { result.0 ≢ 4 → ((K.seen sink.new).failures ≡ (K.seen sink.old).failures) × ((K.seen sink.new).stalls ≡ (K.seen sink.old).stalls) }
+    ensures told { result.0.0 ≢ 4 → HasTold (CheckTells (S.seen source.old) (S.seen source.new))
+        (K.seen sink.old) (K.seen sink.new) result.0.0 }
+    ensures unfailed { result.0.0 ≢ 4 → ((K.seen sink.new).failures ≡ (K.seen sink.old).failures) × ((K.seen sink.new).stalls ≡ (K.seen sink.old).stalls) }
     // With status 4 it is a proper prefix of a text that goes with another status.
-    ensures cut { result.0 ≡ 4 → WasCut (CheckTells (S.seen source.old) (S.seen source.new))
+    ensures cut { result.0.0 ≡ 4 → WasCut (CheckTells (S.seen source.old) (S.seen source.new))
         (K.seen sink.old) (K.seen sink.new) }
-    ensures read_fault { result.0 ≡ 3 → Rose (S.seen source.old).failures (S.seen source.new).failures }
-    ensures write_fault { result.0 ≡ 4 → Rose (K.seen sink.old).failures (K.seen sink.new).failures ⊎ Rose (K.seen sink.old).stalls (K.seen sink.new).stalls }
+    ensures read_fault { result.0.0 ≡ 3 → Rose (S.seen source.old).failures (S.seen source.new).failures }
+    ensures write_fault { result.0.0 ≡ 4 → Rose (K.seen sink.old).failures (K.seen sink.new).failures ⊎ Rose (K.seen sink.old).stalls (K.seen sink.new).stalls }
     // If the input is a trace and a log that isn't too long, and no count rises, there is a verdict on the log,
     // or memory ran out.
     ensures complete { HasCheckInput (S.seen source.old)
         → (Rose (S.seen source.old).failures (S.seen source.new).failures → ⊥) → (Rose (K.seen sink.old).failures (K.seen sink.new).failures → ⊥)
-        → (Rose (K.seen sink.old).stalls (K.seen sink.new).stalls → ⊥) → (result.0 ≡ 0) ⊎ ((result.0 ≡ 8) ⊎ (result.0 ≡ 7)) }
+        → (Rose (K.seen sink.old).stalls (K.seen sink.new).stalls → ⊥) → (result.0.0 ≡ 0) ⊎ ((result.0.0 ≡ 8) ⊎ (result.0.0 ≡ 7)) }
+    // Of the faulty line the first bytes were kept.
+    ensures kept { IsWrongText result.1 (S.seen source.old).left kept.new.items }
     ensures faults_later { (S.seen source.old).failures ≤ (S.seen source.new).failures }
 {
-    conclude(alloc, source, sink)
+    conclude(alloc, source, sink, kept)
 }

@@ -4,7 +4,8 @@ ghost use Rattle.std.specs.Prelude.{◌≡◌, ◌≢◌, ◌≤◌, ◌++◌};
 ghost use Rattle.arrayvec.specs.ArrayVec.{array_vec_len};
 ghost use Rattle.pager_model.specs.Text.{ended, status_line};
 ghost use Rattle.program_ends.specs.Ends.{Ends};
-ghost use Rattle.check_command.specs.CheckText.{fault_line, legal_line, too_long_line};
+ghost use Rattle.check_command.specs.CheckText.{legal_line};
+ghost use Rattle.program_ends.specs.Wrongs.{log_fault_text, log_too_long_text};
 
 use arrayvec::ArrayVec;
 use outside_io::Sink;
@@ -34,7 +35,7 @@ pub(crate) fn end_legal<K: Sink>(entries: u32, sink: &mut K) -> Status
 
 /// Ends with status 8 after the number of the log's line that is at fault. Doesn't allocate.
 pub(crate) fn end_at_fault<K: Sink>(number: u32, sink: &mut K) -> Status
-    ensures { Ends (K.seen sink.old) (K.seen sink.new) 8 (fault_line number ++ status_line 8) result.0 }
+    ensures { Ends (K.seen sink.old) (K.seen sink.new) 8 (log_fault_text number ++ status_line 8) result.0 }
 {
     let mut line = ArrayVec::new();
     push_counted(&mut line, b"LOG FAULT ", number);
@@ -43,7 +44,7 @@ pub(crate) fn end_at_fault<K: Sink>(number: u32, sink: &mut K) -> Status
 
 /// Ends with status 2 after a log that goes on too long. Doesn't allocate.
 pub(crate) fn end_too_long<K: Sink>(sink: &mut K) -> Status
-    ensures { Ends (K.seen sink.old) (K.seen sink.new) 2 (too_long_line ++ status_line 2) result.0 }
+    ensures { Ends (K.seen sink.old) (K.seen sink.new) 2 (log_too_long_text ++ status_line 2) result.0 }
 {
     let mut line = ArrayVec::new();
     push_word(&mut line, b"LOG TOOMANY");

@@ -2,8 +2,9 @@
 
 ghost use Rattle.std.specs.Prelude.{◌≡◌, ◌≤◌, length, IfSome};
 ghost use Rattle.line_source.specs.BytesLeft.{bytes_left, pending};
-ghost use Rattle.check_command.specs.Answers.{CountsBy, IsRead, Says};
+ghost use Rattle.check_command.specs.Answers.{CountsBy, IsRead, KeepsText, Says};
 
+use arrayvec::ArrayVec;
 use line_source::Lines;
 use log_check::{CheckFault, Verdict, check_log};
 use outside_io::Source;
@@ -14,14 +15,16 @@ use trace_reader::{TraceFault, read_head};
 fn judge_lines<S: Source>(
     alloc: Global,
     lines: &mut Lines<'_, S>,
+    kept: &mut ArrayVec<u8, 80>,
 ) -> Result<Result<Verdict, CheckFault>, TraceFault>
     ensures text { IfSome (bytes_left S.seen lines.old) (λ text. Says result text (bytes_left S.seen lines.new)) }
+    ensures kept { KeepsText result (bytes_left S.seen lines.old) kept.new.items }
     ensures faults { CountsBy result (S.seen lines.old.source.now).failures (S.seen lines.new.source.now).failures }
     ensures faults_later { (S.seen lines.old.source.now).failures ≤ (S.seen lines.new.source.now).failures }
     ensures same_reference { lines.new.source.ghost_name ≡ lines.old.source.ghost_name }
 {
-    match read_head(lines, alloc) {
-        Ok(config) => Ok(check_log(alloc, &config, lines)),
+    match read_head(lines, alloc, kept) {
+        Ok(config) => Ok(check_log(alloc, &config, lines, kept)),
         Err(fault) => Err(fault),
     }
 }
@@ -33,17 +36,19 @@ fn let_go<S: Source>(lines: Lines<'_, S>)
 {}
 
 /// The verdict on the log that the source has behind a trace, or why there is none; or what is wrong with
-/// the trace.
+/// the trace. Of a faulty line the first 80 bytes are kept.
 pub(crate) fn judge_source<S: Source>(
     alloc: Global,
     source: &mut S,
+    kept: &mut ArrayVec<u8, 80>,
 ) -> Result<Result<Verdict, CheckFault>, TraceFault>
     ensures text { IfSome (S.seen source.old).left (λ text. IsRead (Says result text) (S.seen source.new).left) }
+    ensures kept { KeepsText result (S.seen source.old).left kept.new.items }
     ensures faults { CountsBy result (S.seen source.old).failures (S.seen source.new).failures }
     ensures faults_later { (S.seen source.old).failures ≤ (S.seen source.new).failures }
 {
     let mut lines = Lines::new(source);
-    let answer = judge_lines(alloc, &mut lines);
+    let answer = judge_lines(alloc, &mut lines, kept);
     let_go(lines);
     answer
 }

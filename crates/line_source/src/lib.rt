@@ -2,6 +2,8 @@
 //! handed out as its first 256.
 #![tactic(auto)]
 
+mod front;
 mod lines;
 
+pub use front::keep_front;
 pub use lines::{Line, Lines};

@@ -2,6 +2,7 @@ mod Answered
 mod Changeable
 mod Entered
 mod FirstLines
+mod Fronts
 mod Led
 mod Logs
 mod Numbered

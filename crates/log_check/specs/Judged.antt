@@ -1,7 +1,8 @@
 -- What a verdict on a log says of its text. This project's own.
-use Rattle.std.specs.Prelude.{◌≡◌, ◌≢◌, ◌⊎◌, ℕ, ◌≤◌, List, [], ◌++◌, All, Option, Some, Result, Ok, Err, length}
+use Rattle.std.specs.Prelude.{◌≡◌, ◌≢◌, ◌⊎◌, ℕ, ◌≤◌, List, [], ◌++◌, All, Option, Some, IfSome, Result, Ok, Err, length}
 use Rattle.vm_types.specs.declared.config.Config.{Config}
 use Rattle.outside_io.specs.Causes.{Rose}
+use Rattle.line_source.specs.LineText.{line_text}
 use Rattle.pager_model.specs.Text.{ended}
 use Rattle.log_model.specs.Log.{BeginsLegal, IsAtFault, IsLegalLog, IsTooLong, most_lines}
 use Rattle.log_model.specs.Stand.{Stand}
@@ -35,6 +36,14 @@ Judges config (Ok (Fault n)) text left = IsAtFault config text n
 Judges config (Err TooMany) text left = IsTooLong config text
 Judges config (Err ReadFault) text left = IsCutShort config text left
 Judges config (Err NoMemory) text left = IsCutShort config text left
+
+-- of the line at which a log is at fault, if the log is known, the first bytes were kept; none, if it ends there
+abbrev pub KeepsFault : Result Verdict CheckFault → Option (List ℕ) → List ℕ → Type 0
+KeepsFault (Ok (Legal n)) log kept = Unit {0}
+KeepsFault (Ok (Fault n)) log kept = IfSome log (λ text. kept ≡ line_text n text)
+KeepsFault (Err TooMany) log kept = Unit {0}
+KeepsFault (Err ReadFault) log kept = Unit {0}
+KeepsFault (Err NoMemory) log kept = Unit {0}
 
 -- the count of failures rose at `ReadFault`, and is else unchanged
 abbrev pub CountsBy : {T : Type 0} → Result T CheckFault → ℕ → ℕ → Type 0

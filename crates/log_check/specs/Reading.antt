@@ -1,5 +1,6 @@
 -- A log that is read line by line. This project's own.
-use Rattle.std.specs.Prelude.{◌≡◌, ℕ, ◌+◌, ◌≤◌, List, [], Option, Some, Result, Ok, Err, length}
+use Rattle.std.specs.Prelude.{◌≡◌, ℕ, ◌+◌, ◌≤◌, List, [], Option, Some, Result, Ok, Err, length, take, drop}
+use Rattle.line_source.specs.LineText.{line_text, lines_of}
 use Rattle.log_past.specs.Standing.{Passed}
 use Rattle.log_model.specs.Log.{BeginsLegal, most_lines}
 use Rattle.log_model.specs.Stand.{Stand}
@@ -36,6 +37,26 @@ AnswersNext old place count left new later answer = (text : List ℕ) → HasRea
 -- behind as many lines as a log may have
 abbrev pub AnswersLast : Passed → Place → Option (List ℕ) → Option (List ℕ) → Result Verdict CheckFault → Type 0
 AnswersLast s place left later answer = (text : List ℕ) → HasRead text s place most_lines left → Judges s.config answer text later
+
+-- so many lines of the text were taken, and this is left
+pub record IsBehind (text : List ℕ) (count : ℕ) (left : Option (List ℕ)) : Type 0 where
+  pub rest : List ℕ
+  pub left_over : left ≡ Some rest
+  pub stands : drop count (lines_of text) ≡ lines_of rest
+
+-- a verdict that the log is at fault is of the line that was handed out last
+abbrev pub IsFrontOf : List ℕ → List ℕ → Verdict → Type 0
+IsFrontOf text out (Legal n) = Unit {0}
+IsFrontOf text out (Fault n) = take 80 out ≡ line_text n text
+
+abbrev pub IsFrontNext : List ℕ → ℕ → Option (List ℕ) → List ℕ → Result Step CheckFault → Type 0
+IsFrontNext text count left out (Ok (step.On next)) = IsBehind text (count + 1) left
+IsFrontNext text count left out (Ok (step.Judged v)) = IsFrontOf text out v
+IsFrontNext text count left out (Err f) = Unit {0}
+
+abbrev pub IsFrontLast : List ℕ → List ℕ → Result Verdict CheckFault → Type 0
+IsFrontLast text out (Ok v) = IsFrontOf text out v
+IsFrontLast text out (Err f) = Unit {0}
 
 -- what is known as long as the lines are legal
 pub record IsOn (old new : Followed) (count : ℕ) : Type 0 where

@@ -1,9 +1,10 @@
-ghost use Rattle.std.specs.Prelude.{◌≡◌, ◌+◌, ◌≤◌, ◌<◌, IfOk, IfSome, IsSome, length};
+ghost use Rattle.std.specs.Prelude.{◌≡◌, ◌+◌, ◌≤◌, ◌<◌, List, ℕ, IfOk, IfSome, IsSome, length};
 ghost use Rattle.vm_types.specs.Configuration.{IsWellFormed};
 ghost use Rattle.line_source.specs.BytesLeft.{bytes_left};
 ghost use Rattle.log_check.specs.Followed.{IsFollowed};
-ghost use Rattle.log_check.specs.Judged.{CountsBy, Judges};
-ghost use Rattle.log_check.specs.Reading.{AnswersLast, AnswersNext, GoesOn, IsEndOf};
+ghost use Rattle.log_check.specs.Judged.{CountsBy, Judges, KeepsFault};
+ghost use Rattle.log_model.specs.Log.{most_lines};
+ghost use Rattle.log_check.specs.Reading.{AnswersLast, AnswersNext, GoesOn, IsBehind, IsEndOf, IsFrontLast, IsFrontNext};
 
 use crate::check_fault::CheckFault;
 use crate::followed::Followed;
@@ -11,7 +12,7 @@ use crate::place::Place;
 use crate::turning::take;
 use crate::verdict::Verdict;
 use arrayvec::ArrayVec;
-use line_source::{Line, Lines};
+use line_source::{Line, Lines, keep_front};
 use log_laws::legal_lines_are_short;
 use outside_io::Source;
 use std::alloc::Global;
@@ -61,6 +62,7 @@ fn take_next<S: Source>(
     requires few { count < 16777216 }
     requires fewer { length followed.old.past.past ≤ count }
     ensures text { AnswersNext followed.old place count (bytes_left S.seen lines.old) followed.new (bytes_left S.seen lines.new) result }
+    ensures front { (text : List ℕ) → IsBehind text count (bytes_left S.seen lines.old) → IsFrontNext text count (bytes_left S.seen lines.new) out.new.items result }
     ensures on { IfOk result (GoesOn followed.old followed.new count) }
     ensures known { IsSome (S.seen lines.old.source.now).left → IsSome (S.seen lines.new.source.now).left }
     ensures faults { CountsBy result (S.seen lines.old.source.now).failures (S.seen lines.new.source.now).failures }
@@ -91,6 +93,7 @@ fn judge_last<S: Source>(
     out: &mut ArrayVec<u8, 256>,
 ) -> Result<Verdict, CheckFault>
     ensures text { AnswersLast followed.now.past place.now (bytes_left S.seen lines.old) (bytes_left S.seen lines.new) result }
+    ensures front { (text : List ℕ) → IsBehind text most_lines (bytes_left S.seen lines.old) → IsFrontLast text out.new.items result }
     ensures known { IsSome (S.seen lines.old.source.now).left → IsSome (S.seen lines.new.source.now).left }
     ensures faults { CountsBy result (S.seen lines.old.source.now).failures (S.seen lines.new.source.now).failures }
     ensures faults_later { (S.seen lines.old.source.now).failures ≤ (S.seen lines.new.source.now).failures }
@@ -105,7 +108,8 @@ fn judge_last<S: Source>(
 }
 
 /// Whether the lines are a legal log of a configuration, up to the first that isn't a legal next one or
-/// to their end. The time for a line doesn't grow with the log, and of its lines none is kept.
+/// to their end. The time for a line doesn't grow with the log, and of its lines none is kept but the first 80
+/// bytes of the one at which it is at fault, in `kept`.
 ///
 /// # Errors
 /// `ReadFault` only if the source's count of failures rose; the lines taken before are legal. `NoMemory`
@@ -115,9 +119,11 @@ pub fn check_log<S: Source>(
     alloc: Global,
     config: &Config,
     lines: &mut Lines<'_, S>,
+    kept: &mut ArrayVec<u8, 80>,
 ) -> Result<Verdict, CheckFault>
     requires formed { IsWellFormed config.now }
     ensures text { IfSome (bytes_left S.seen lines.old) (λ text. Judges config.now result text (bytes_left S.seen lines.new)) }
+    ensures kept { KeepsFault result (bytes_left S.seen lines.old) kept.new.items }
     ensures known { IsSome (S.seen lines.old.source.now).left → IsSome (S.seen lines.new.source.now).left }
     ensures faults { CountsBy result (S.seen lines.old.source.now).failures (S.seen lines.new.source.now).failures }
     ensures faults_later { (S.seen lines.old.source.now).failures ≤ (S.seen lines.new.source.now).failures }
@@ -129,9 +135,14 @@ pub fn check_log<S: Source>(
     'lines: for count in 0..MOST_LINES {
         match take_next(alloc, &mut followed, place, lines, &mut out, count) {
             Ok(Step::On(next)) => place = next,
-            Ok(Step::Judged(verdict)) => return Ok(verdict),
+            Ok(Step::Judged(verdict)) => {
+                keep_front(kept, out.as_slice());
+                return Ok(verdict);
+            }
             Err(fault) => return Err(fault),
         }
     }
-    judge_last(&followed, &place, lines, &mut out)
+    let answer = judge_last(&followed, &place, lines, &mut out);
+    keep_front(kept, out.as_slice());
+    answer
 }

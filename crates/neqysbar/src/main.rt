@@ -4,14 +4,14 @@
 
 use disk_trait::MemoryDepot;
 use outside_io::{StdSink, StdSource};
-use program_call::{EnvArguments, FirstBytes, LineSource, run_and_explain};
+use program_call::{EnvArguments, run_and_explain};
 use std::io::Input;
 use std::process::ExitCode;
 
 fn main(rt: HostRuntime) -> ExitCode {
     let mut arguments = EnvArguments::new(&rt);
-    let mut source = LineSource::new(StdSource::new(rt.reader()));
-    let mut output = FirstBytes::new(StdSink::new(rt.stdout()));
+    let mut source = StdSource::new(rt.reader());
+    let mut output = StdSink::new(rt.stdout());
     let mut messages = StdSink::new(rt.stderr());
     let mut depot = MemoryDepot::new(rt.alloc(), Vec::new(rt.alloc()));
     let status = run_and_explain(

@@ -1,5 +1,4 @@
 mod Copying
-mod Lines
 mod Saying
 mod Telling
 mod Texts

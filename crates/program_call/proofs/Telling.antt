@@ -10,6 +10,8 @@ use Rattle.vm_types.specs.Moved.{Moved, moved}
 use Rattle.outside_io.specs.Views.{SourceView, SinkView}
 use Rattle.pager_model.specs.Text.{status_line}
 use Rattle.program_ends.specs.Ends.{Ends}
+use Rattle.program_ends.specs.Wrongs.{IsWrong}
+use Rattle.program_ends.proofs.Wronging.{seven_right}
 use Rattle.replay_cli.specs.Commands.{Told}
 use Rattle.disk_trait.specs.DepotView.{DepotView}
 use Rattle.program_call.specs.ProgramTells.{ProgramTells, ran, no_words}
@@ -49,6 +51,15 @@ no_words_cut ends four =
     elim ends.how [
       | inl whole ↦ absurd (omega (arith, whole.0, four))
       | inr cut ↦ (7, (status_line 7, (cut.1.0, no_words refl refl, cut.1.1, cut.1.2)))
+    ]
+
+-- and nothing is wrong
+pub no_words_right : {before after : SinkView} {result : ℕ} → Ends before after 7 (status_line 7) result
+    → result ≢ 4 → (text : List ℕ) × IsWrong None result text × Appends before.taken after.taken text
+no_words_right ends no_four =
+    elim ends.how [
+      | inl whole ↦ (status_line 7, subst (λ status. IsWrong None status (status_line 7)) (sym whole.0) (seven_right (status_line 7)), whole.1)
+      | inr cut ↦ absurd (no_four cut.0)
     ]
 
 -- the flush failed after the whole text

@@ -1,5 +1,4 @@
 pub mod Words
 pub mod ProgramTells
 pub mod ProgramRun
-pub mod LastLine
 pub mod Messages

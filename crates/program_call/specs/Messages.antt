@@ -1,16 +1,17 @@
 -- What goes to standard error beside the program's output. Source: this project's own.
-use Rattle.std.specs.Prelude.{◌≡◌, ◌≢◌, ◌⊎◌, ℕ, ◌≤◌, Bool, ◌&&◌, nat_le, List, [], ◌++◌, length, take, filter, codes, decimal}
+use Rattle.std.specs.Prelude.{◌≡◌, ◌⊎◌, ℕ, ◌≤◌, ◌==◌, Bool, ◌&&◌, nat_le, if◌then◌else◌, List, [], ◌++◌, length, take, filter, codes, decimal, None, Some}
+use Rattle.std.specs.declared.option.Option.{Option}
 use Rattle.std.specs.Io.KnownBytes.{Appends}
 use Rattle.outside_io.specs.Causes.{Rose}
 use Rattle.outside_io.specs.Views.{SinkView}
 use Rattle.trace_words.specs.declared.cause.Cause.{Cause}
 use Rattle.trace_words.specs.declared.cause.Cause.TheVariants.{LineTooLong, NotAscii, TooMany, UnknownWord, Misplaced, NoSuch, BadNumber, OutOfRange, Unaligned, Repeated}
-use Rattle.program_ends.specs.FaultText.{fault_text}
-use Rattle.check_command.specs.CheckText.{too_long_line}
+use Rattle.program_ends.specs.declared.wrong.Wrong.{Wrong}
+use Rattle.program_ends.specs.declared.wrong.Wrong.TheVariants.{Line, Unfinished, LogTooLong, LogLine}
 
 -- beside status 1
 abbrev pub usage_text : List ℕ
-usage_text = codes "usage: neqysbar serial < TRACE\n       neqysbar study --process X --frames K < TRACE\n       neqysbar make --seed N --procs N --refs N\n       neqysbar check < TRACE-AND-LOG\n"
+usage_text = codes "neqysbar 1.0.0\nusage: neqysbar serial < TRACE\n           reads a trace and runs it; writes each entry, a report, the pages left dirty and the status\n       neqysbar study --process X --frames K < TRACE\n           reads a trace; writes what the references of process X, A to P, cost with K page frames, 1 to 1024\n       neqysbar make --seed N --procs P --refs R\n           reads nothing; makes a trace from the seed N, 0 to 4294967295, with P processes, 1 to 16, and R\n           references, 1 to 100000, and runs it; writes how many entries of each kind the run has\n       neqysbar check < TRACE-AND-LOG\n           reads a trace, a line LOG and a log; writes whether the log is legal, or its first line that isn't\nexample: neqysbar study --process A --frames 8 < examples/swapping.trace\n"
 
 -- the rule that a line breaks, in words
 abbrev pub rule_text : Cause → List ℕ
@@ -28,18 +29,15 @@ rule_text Repeated = codes "what the line declares was declared before"
 abbrev pub is_printable : ℕ → Bool
 is_printable byte = nat_le 32 byte && nat_le byte 126
 
--- of a line: its number, what is wrong and the printable bytes of its text
-abbrev pub line_message : ℕ → List ℕ → List ℕ → List ℕ
-line_message number wrong text =
-    codes "neqysbar: line " ++ decimal number ++ codes ": " ++ wrong ++ codes ": " ++ filter is_printable text ++ codes "\n"
-
--- beside a faulty line
+-- beside a faulty line: its number, the rule that it breaks and the printable bytes of its text
 abbrev pub fault_message : ℕ → Cause → List ℕ → List ℕ
-fault_message number cause text = line_message number (rule_text cause) text
+fault_message number cause text =
+    codes "neqysbar: line " ++ decimal number ++ codes ": " ++ rule_text cause ++ codes ": " ++ filter is_printable text ++ codes "\n"
 
--- beside a log that isn't legal
+-- beside a log that isn't legal: the number of its faulty line and the printable bytes of its text
 abbrev pub log_message : ℕ → List ℕ → List ℕ
-log_message number text = line_message number (codes "the log isn't legal here, or ends too early behind this line") text
+log_message number text =
+    codes "neqysbar: line " ++ decimal number ++ codes " of the log isn't a legal next line, or is missing: " ++ filter is_printable text ++ codes "\n"
 
 -- beside a log that goes on after as many lines as a log may have
 abbrev pub too_long_message : List ℕ
@@ -49,15 +47,26 @@ too_long_message = codes "neqysbar: the log has more lines than a log may have\n
 abbrev pub unfinished_message : List ℕ
 unfinished_message = codes "neqysbar: the trace ends before its line END, or before the line LOG that check reads\n"
 
--- the message beside a status, by the last line that was read and the first bytes that were written
-pub data IsMessage (number : ℕ) (text first : List ℕ) : ℕ → List ℕ → Type 0 where
-  usage : IsMessage number text first 1 usage_text
-  faulty : (cause : Cause) (rest : List ℕ) → first ≡ fault_text number cause ++ rest → IsMessage number text first 2 (fault_message number cause text)
-  too_long : (rest : List ℕ) → first ≡ too_long_line ++ rest → IsMessage number text first 2 too_long_message
-  unfinished : ((cause : Cause) → (rest : List ℕ) → first ≢ fault_text number cause ++ rest) → ((rest : List ℕ) → first ≢ too_long_line ++ rest)
-      → IsMessage number text first 2 unfinished_message
-  in_log : IsMessage number text first 8 (log_message number text)
-  no_message : (status : ℕ) → status ≢ 1 → status ≢ 2 → status ≢ 8 → IsMessage number text first status []
+-- by what is wrong with the input, and by the first bytes of its faulty line
+abbrev pub wrong_message : Wrong → List ℕ → List ℕ
+wrong_message (Line number cause) text = fault_message number cause text
+wrong_message Unfinished text = unfinished_message
+wrong_message LogTooLong text = too_long_message
+wrong_message (LogLine number) text = log_message number text
+
+-- by the status: what failed, or usage; nothing beside the others
+abbrev pub status_message : ℕ → List ℕ
+status_message status =
+    if status == 1 then usage_text else
+    if status == 3 then codes "neqysbar: standard input can't be read\n" else
+    if status == 4 then codes "neqysbar: standard output can't be written\n" else
+    if status == 6 then codes "neqysbar: a block of the disk can't be made\n" else
+    if status == 7 then codes "neqysbar: out of memory\n" else []
+
+-- the message beside a status
+abbrev pub message_of : Option Wrong → List ℕ → ℕ → List ℕ
+message_of (Some wrong) text status = if status == 4 then status_message status else wrong_message wrong text
+message_of None text status = status_message status
 
 -- a prefix of the message was taken, and the whole unless a call failed or took nothing
 abbrev pub IsSaid : SinkView → SinkView → List ℕ → Type 0

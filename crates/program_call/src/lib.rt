@@ -4,18 +4,11 @@
 
 mod arguments;
 mod bytes;
-mod first_bytes;
-mod last_line;
-mod line_by_line;
 mod messages;
 mod program;
-mod room;
 mod sure_depot;
 mod words;
 
 pub use arguments::{Arguments, EnvArguments, ListedArguments};
 pub use bytes::{BytesSink, BytesSource, run_bytes};
-pub use first_bytes::FirstBytes;
-pub use last_line::LastLine;
-pub use line_by_line::LineSource;
 pub use program::{run_and_explain, run_program};

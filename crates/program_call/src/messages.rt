@@ -1,25 +1,20 @@
-ghost use Rattle.std.specs.Prelude.{◌≡◌, ◌≢◌, ◌+◌, ◌≤◌, ◌++◌, List, ℕ, IsTrue, IfSome, IfNone, length, filter};
+ghost use Rattle.std.specs.Prelude.{◌≡◌, ◌+◌, ◌≤◌, ◌++◌, length, filter};
 ghost use Rattle.arrayvec.specs.ArrayVec.{array_vec_len};
-ghost use Rattle.program_ends.specs.FaultText.{fault_text};
-ghost use Rattle.program_call.specs.Messages.{IsMessage, IsSaid, is_printable, line_message, rule_text};
+ghost use Rattle.program_call.specs.Messages.{IsSaid, fault_message, is_printable, log_message, message_of, rule_text, status_message, wrong_message};
 
-use crate::last_line::LastLine;
 use arrayvec::ArrayVec;
 use outside_io::{Sink, write_whole};
-use program_ends::name_of;
+use program_ends::Wrong;
 use trace_reader::Cause;
-use vm_text::{after, push_count, push_word};
+use vm_text::{push_count, push_word};
 
 const USAGE: &[u8] =
-    b"usage: neqysbar serial < TRACE\n       neqysbar study --process X --frames K < TRACE\n       neqysbar make --seed N --procs N --refs N\n       neqysbar check < TRACE-AND-LOG\n";
+    b"neqysbar 1.0.0\nusage: neqysbar serial < TRACE\n           reads a trace and runs it; writes each entry, a report, the pages left dirty and the status\n       neqysbar study --process X --frames K < TRACE\n           reads a trace; writes what the references of process X, A to P, cost with K page frames, 1 to 1024\n       neqysbar make --seed N --procs P --refs R\n           reads nothing; makes a trace from the seed N, 0 to 4294967295, with P processes, 1 to 16, and R\n           references, 1 to 100000, and runs it; writes how many entries of each kind the run has\n       neqysbar check < TRACE-AND-LOG\n           reads a trace, a line LOG and a log; writes whether the log is legal, or its first line that isn't\nexample: neqysbar study --process A --frames 8 < examples/swapping.trace\n";
 
 const UNFINISHED: &[u8] =
     b"neqysbar: the trace ends before its line END, or before the line LOG that check reads\n";
 
 const TOO_LONG: &[u8] = b"neqysbar: the log has more lines than a log may have\n";
-
-// What is wrong with a log at the last line that was read.
-const IN_LOG: &[u8] = b"the log isn't legal here, or ends too early behind this line";
 
 // The rule that a line breaks, in words.
 fn rule_of(cause: Cause) -> &'static [u8]
@@ -43,61 +38,6 @@ fn rule_of(cause: Cause) -> &'static [u8]
     }
 }
 
-// Whether the bytes begin with the line that says that the line of this number has this fault.
-fn tells(first: &[u8], number: u32, cause: Cause) -> bool
-    ensures yes { IsTrue result → (rest : List ℕ) × (first.now ≡ fault_text number cause ++ rest) }
-    ensures no { (IsTrue result → ⊥) → (rest : List ℕ) → first.now ≢ fault_text number cause ++ rest }
-{
-    let mut line: ArrayVec<u8, 160> = ArrayVec::new();
-    push_word(&mut line, b"TRACE ");
-    push_count(&mut line, number);
-    push_word(&mut line, b" ");
-    push_word(&mut line, name_of(cause));
-    push_word(&mut line, b"\n");
-    match after(first, line.as_slice()) {
-        Some(_) => true,
-        None => false,
-    }
-}
-
-// The fault of the line of this number, if the bytes begin with the line that says it.
-fn cause_told(first: &[u8], number: u32) -> Option<Cause>
-    ensures some { IfSome result (λ cause. (rest : List ℕ) × (first.now ≡ fault_text number cause ++ rest)) }
-    ensures none { IfNone result ((cause : Cause) → (rest : List ℕ) → first.now ≢ fault_text number cause ++ rest) }
-{
-    if tells(first, number, Cause::LineTooLong) {
-        return Some(Cause::LineTooLong);
-    }
-    if tells(first, number, Cause::NotAscii) {
-        return Some(Cause::NotAscii);
-    }
-    if tells(first, number, Cause::TooMany) {
-        return Some(Cause::TooMany);
-    }
-    if tells(first, number, Cause::UnknownWord) {
-        return Some(Cause::UnknownWord);
-    }
-    if tells(first, number, Cause::Misplaced) {
-        return Some(Cause::Misplaced);
-    }
-    if tells(first, number, Cause::NoSuch) {
-        return Some(Cause::NoSuch);
-    }
-    if tells(first, number, Cause::BadNumber) {
-        return Some(Cause::BadNumber);
-    }
-    if tells(first, number, Cause::OutOfRange) {
-        return Some(Cause::OutOfRange);
-    }
-    if tells(first, number, Cause::Unaligned) {
-        return Some(Cause::Unaligned);
-    }
-    if tells(first, number, Cause::Repeated) {
-        return Some(Cause::Repeated);
-    }
-    None
-}
-
 // Adds the printable ones of at most 80 bytes.
 fn add_printable(out: &mut ArrayVec<u8, 320>, bytes: &[u8])
     requires { array_vec_len out.old + length bytes.now ≤ 300 }
@@ -111,18 +51,33 @@ fn add_printable(out: &mut ArrayVec<u8, 320>, bytes: &[u8])
     }
 }
 
-// The message about the last line.
-fn message_of(last: &LastLine, wrong: &[u8]) -> ArrayVec<u8, 320>
-    requires { length wrong.now ≤ 100 }
-    ensures { result.items ≡ line_message last.now.number wrong.now last.now.text.items }
+// The message about a faulty line with these first bytes.
+fn fault_message(number: u32, cause: Cause, text: &ArrayVec<u8, 80>) -> ArrayVec<u8, 320>
+    ensures { result.items ≡ fault_message number cause text.now.items }
 {
     let mut out = ArrayVec::new();
     push_word(&mut out, b"neqysbar: line ");
-    push_count(&mut out, last.number);
+    push_count(&mut out, number);
     push_word(&mut out, b": ");
-    push_word(&mut out, wrong);
+    push_word(&mut out, rule_of(cause));
     push_word(&mut out, b": ");
-    add_printable(&mut out, last.text.as_slice());
+    add_printable(&mut out, text.as_slice());
+    push_word(&mut out, b"\n");
+    out
+}
+
+// The message about a line of a log with these first bytes.
+fn log_message(number: u32, text: &ArrayVec<u8, 80>) -> ArrayVec<u8, 320>
+    ensures { result.items ≡ log_message number text.now.items }
+{
+    let mut out = ArrayVec::new();
+    push_word(&mut out, b"neqysbar: line ");
+    push_count(&mut out, number);
+    push_word(
+        &mut out,
+        b" of the log isn't a legal next line, or is missing: ",
+    );
+    add_printable(&mut out, text.as_slice());
     push_word(&mut out, b"\n");
     out
 }
@@ -139,24 +94,59 @@ fn say<M: Sink>(message: &[u8], messages: &mut M)
     }
 }
 
-/// Writes the message that goes with a status: usage beside 1; beside 2 the number of the faulty line,
-/// the rule that it breaks and its text, or that a log is too long, or that the trace is unfinished; beside
-/// 8 the number and the text of the line at which or behind which a log isn't legal; nothing beside others.
-/// The last line that was read and the first bytes that were written tell which. Doesn't allocate.
-pub(crate) fn explain<M: Sink>(status: u8, last: &LastLine, first: &[u8], messages: &mut M)
-    ensures { (message : List ℕ) × IsMessage last.now.number last.now.text.items first.now status message
-        × IsSaid (M.seen messages.old) (M.seen messages.new) message }
+// Writes what is wrong with the input.
+fn explain_wrong<M: Sink>(wrong: Wrong, text: &ArrayVec<u8, 80>, messages: &mut M)
+    ensures { IsSaid (M.seen messages.old) (M.seen messages.new) (wrong_message wrong text.now.items) }
 {
-    match status {
-        1 => say(USAGE, messages),
-        2 => match cause_told(first, last.number) {
-            Some(cause) => say(message_of(last, rule_of(cause)).as_slice(), messages),
-            None => match after(first, b"LOG TOOMANY\n") {
-                Some(_) => say(TOO_LONG, messages),
-                None => say(UNFINISHED, messages),
-            },
-        },
-        8 => say(message_of(last, IN_LOG).as_slice(), messages),
-        _ => {}
+    match wrong {
+        Wrong::Line(number, cause) => {
+            say(fault_message(number, cause, text).as_slice(), messages)
+        }
+        Wrong::Unfinished => say(UNFINISHED, messages),
+        Wrong::LogTooLong => say(TOO_LONG, messages),
+        Wrong::LogLine(number) => say(log_message(number, text).as_slice(), messages),
+    }
+}
+
+// What is said beside a status by itself.
+fn status_message(status: u8) -> &'static [u8]
+    ensures { result.now ≡ status_message status }
+{
+    if status == 1 {
+        USAGE
+    } else if status == 3 {
+        b"neqysbar: standard input can't be read\n"
+    } else if status == 4 {
+        b"neqysbar: standard output can't be written\n"
+    } else if status == 6 {
+        b"neqysbar: a block of the disk can't be made\n"
+    } else if status == 7 {
+        b"neqysbar: out of memory\n"
+    } else {
+        b""
+    }
+}
+
+/// Writes the message that goes with a status: for an input that is wrong the number of the faulty line, the
+/// rule that it breaks and its first bytes, or that the trace is unfinished, or that a log is too long, or the
+/// number of the line at which a log isn't legal and its first bytes; else usage beside 1, what failed beside 3, 4, 6 and 7, and
+/// nothing beside others. Doesn't allocate.
+pub(crate) fn explain<M: Sink>(
+    status: u8,
+    wrong: Option<Wrong>,
+    text: &ArrayVec<u8, 80>,
+    messages: &mut M,
+)
+    ensures { IsSaid (M.seen messages.old) (M.seen messages.new) (message_of wrong text.now.items status) }
+{
+    match wrong {
+        Some(wrong) => {
+            if status == 4 {
+                say(status_message(status), messages)
+            } else {
+                explain_wrong(wrong, text, messages)
+            }
+        }
+        None => say(status_message(status), messages),
     }
 }

@@ -3,20 +3,21 @@ ghost use Rattle.std.specs.Io.KnownBytes.{Keeps};
 ghost use Rattle.outside_io.specs.Causes.{Rose};
 ghost use Rattle.vm_types.specs.Moved.{moved};
 ghost use Rattle.program_ends.specs.Concludes.{HasTold, WasCut};
-ghost use Rattle.program_call.specs.LastLine.{line_begin};
-ghost use Rattle.program_call.specs.Messages.{IsMessage, IsSaid};
+ghost use Rattle.program_ends.specs.Wrongs.{IsWrong, IsWrongText};
+ghost use Rattle.program_ends.specs.declared.wrong.Wrong.{Wrong};
+ghost use Rattle.std.specs.declared.option.Option.{Option};
+ghost use Rattle.program_call.specs.Messages.{IsSaid, message_of};
 ghost use Rattle.program_call.specs.ProgramRun.{IsProgramRun};
 ghost use Rattle.program_call.specs.ProgramTells.{ProgramTells};
 
 use crate::arguments::Arguments;
-use crate::first_bytes::FirstBytes;
-use crate::line_by_line::LineSource;
 use crate::messages::explain;
 use crate::words::{copied_words, texts_of};
+use arrayvec::ArrayVec;
 use disk_trait::Depot;
 use outside_io::{Sink, Source};
-use program_ends::{Status, end_with};
-use replay_cli::run_one;
+use program_ends::{Status, Wrong, end_with};
+use replay_cli::run_and_tell;
 use std::alloc::Global;
 
 /// Copies the words, and runs the command that they name. With words that aren't UTF-8 the command
@@ -27,23 +28,26 @@ fn run_words<A: Arguments, S: Source, K: Sink, D: Depot>(
     source: &mut S,
     output: &mut K,
     depot: &mut D,
-) -> Status
-    ensures told { result.0 ≢ 4 → HasTold (ProgramTells (A.left arguments.old) (moved (S.seen source.old) (S.seen source.new))
+    kept: &mut ArrayVec<u8, 80>,
+) -> (Status, Option<Wrong>)
+    ensures told { result.0.0 ≢ 4 → HasTold (ProgramTells (A.left arguments.old) (moved (S.seen source.old) (S.seen source.new))
         (moved (D.seen depot.old) (D.seen depot.new)))
-        (K.seen output.old) (K.seen output.new) result.0 }
-    ensures cut { result.0 ≡ 4 → WasCut (ProgramTells (A.left arguments.old) (moved (S.seen source.old) (S.seen source.new))
+        (K.seen output.old) (K.seen output.new) result.0.0 }
+    ensures cut { result.0.0 ≡ 4 → WasCut (ProgramTells (A.left arguments.old) (moved (S.seen source.old) (S.seen source.new))
         (moved (D.seen depot.old) (D.seen depot.new)))
         (K.seen output.old) (K.seen output.new) }
-    ensures write_fault { result.0 ≡ 4 → Rose (K.seen output.old).failures (K.seen output.new).failures ⊎ Rose (K.seen output.old).stalls (K.seen output.new).stalls }
-    ensures unfailed { result.0 ≢ 4 → ((K.seen output.new).failures ≡ (K.seen output.old).failures) × ((K.seen output.new).stalls ≡ (K.seen output.old).stalls) }
+    ensures write_fault { result.0.0 ≡ 4 → Rose (K.seen output.old).failures (K.seen output.new).failures ⊎ Rose (K.seen output.old).stalls (K.seen output.new).stalls }
+    ensures unfailed { result.0.0 ≢ 4 → ((K.seen output.new).failures ≡ (K.seen output.old).failures) × ((K.seen output.new).stalls ≡ (K.seen output.old).stalls) }
+    ensures wrong { result.0.0 ≢ 4 → HasTold (IsWrong result.1) (K.seen output.old) (K.seen output.new) result.0.0 }
+    ensures kept { IsWrongText result.1 (S.seen source.old).left kept.new.items }
 {
     let Ok(words) = copied_words(alloc, arguments) else {
-        return end_with(7, output);
+        return (end_with(7, output), None);
     };
     match texts_of(alloc, words.as_slice()) {
-        Ok(Some(texts)) => run_one(alloc, texts.as_slice(), source, output, depot),
-        Ok(None) => run_one(alloc, &[], source, output, depot),
-        Err(_) => end_with(7, output),
+        Ok(Some(texts)) => run_and_tell(alloc, texts.as_slice(), source, output, depot, kept),
+        Ok(None) => run_and_tell(alloc, &[], source, output, depot, kept),
+        Err(_) => (end_with(7, output), None),
     }
 }
 
@@ -66,6 +70,26 @@ fn finish<K: Sink>(status: Status, output: &mut K) -> Status
     }
 }
 
+/// As `run_program`, and answers besides what is wrong with the input. The first 80 bytes of a faulty line of
+/// a trace are kept in `kept`.
+fn run_and_finish<A: Arguments, S: Source, K: Sink, D: Depot>(
+    alloc: Global,
+    arguments: &mut A,
+    source: &mut S,
+    output: &mut K,
+    depot: &mut D,
+    kept: &mut ArrayVec<u8, 80>,
+) -> (Status, Option<Wrong>)
+    ensures run { IsProgramRun (A.left arguments.old) (moved (S.seen source.old) (S.seen source.new))
+        (moved (D.seen depot.old) (D.seen depot.new))
+        (moved (K.seen output.old) (K.seen output.new)) result.0.0 }
+    ensures wrong { result.0.0 ≢ 4 → HasTold (IsWrong result.1) (K.seen output.old) (K.seen output.new) result.0.0 }
+    ensures kept { IsWrongText result.1 (S.seen source.old).left kept.new.items }
+{
+    let told = run_words(alloc, arguments, source, output, depot, kept);
+    (finish(told.0, output), told.1)
+}
+
 /// The whole program over its ends: copies the words after the program's own name, runs the command
 /// that they name over blocks of the depot, and hands on what the output keeps. The status is that of
 /// the command; 1 also if a word isn't UTF-8, 7 if memory ran out before the command, and 4 if a write
@@ -81,33 +105,35 @@ pub fn run_program<A: Arguments, S: Source, K: Sink, D: Depot>(
         (moved (D.seen depot.old) (D.seen depot.new))
         (moved (K.seen output.old) (K.seen output.new)) result.0 }
 {
-    let status = run_words(alloc, arguments, source, output, depot);
-    finish(status, output)
+    let mut kept = ArrayVec::new();
+    run_and_finish(alloc, arguments, source, output, depot, &mut kept).0
 }
 
-/// As `run_program`, with messages beside the output: usage beside status 1; beside status 2 a line
-/// with the number of the faulty line, the rule that it breaks in words, and the printable ones of its
-/// first 80 bytes, or that the trace is unfinished, or that a log is too long; beside status 8 a line with
-/// the number and the text of the input line that was read last, at which a log isn't legal or behind which it
-/// ends too early. Messages that can't be written change nothing.
+/// As `run_program`, with messages beside the output: usage beside status 1; for a trace that is wrong a line
+/// with the number of the faulty line, the rule that it breaks in words, and the printable ones of its first 80
+/// bytes, or that it is unfinished; that a log is too long, or the number and the text of its first line that
+/// isn't legal;
+/// what failed beside status 3, 4, 6 and 7. Messages that can't be written change nothing.
 pub fn run_and_explain<A: Arguments, S: Source, K: Sink, M: Sink, D: Depot>(
     alloc: Global,
     arguments: &mut A,
-    source: &mut LineSource<S>,
-    output: &mut FirstBytes<K>,
+    source: &mut S,
+    output: &mut K,
     messages: &mut M,
     depot: &mut D,
 ) -> Status
-    ensures run { IsProgramRun (A.left arguments.old) (moved (⟦<LineSource<S> as Source>⟧.seen source.old) (⟦<LineSource<S> as Source>⟧.seen source.new))
+    ensures run { IsProgramRun (A.left arguments.old) (moved (S.seen source.old) (S.seen source.new))
         (moved (D.seen depot.old) (D.seen depot.new))
-        (moved (⟦<FirstBytes<K> as Sink>⟧.seen output.old) (⟦<FirstBytes<K> as Sink>⟧.seen output.new)) result.0 }
-    // The message goes with the status, the last line read and the first bytes written.
-    ensures message { (message : List ℕ) × IsMessage source.new.number (line_begin source.new.front.items source.new.buffer source.new.from source.new.at)
-        output.new.first.items result.0 message
-        × IsSaid (M.seen messages.old) (M.seen messages.new) message }
+        (moved (K.seen output.old) (K.seen output.new)) result.0 }
+    // The message is that for what is wrong: the text that was written says the same of the input, and of its
+    // faulty line these are the first bytes.
+    ensures message { (wrong : Option Wrong) × (text : List ℕ)
+        × (result.0 ≢ 4 → HasTold (IsWrong wrong) (K.seen output.old) (K.seen output.new) result.0)
+        × IsWrongText wrong (S.seen source.old).left text
+        × IsSaid (M.seen messages.old) (M.seen messages.new) (message_of wrong text result.0) }
 {
-    let status = run_program(alloc, arguments, source, output, depot);
-    let last = source.last();
-    explain(status.0, &last, output.first(), messages);
-    status
+    let mut kept = ArrayVec::new();
+    let told = run_and_finish(alloc, arguments, source, output, depot, &mut kept);
+    explain(told.0.0, told.1, &kept, messages);
+    told.0
 }

@@ -1,3 +1,4 @@
 pub mod Ending
 pub mod Concluding
 pub mod Telling
+pub mod Wronging

@@ -1,6 +1,7 @@
 -- What follows from what a command tells.
 use Rattle.std.proofs.Common.{◌≡◌, ◌≢◌, ℕ, List, [], refl, sym, ◌∙◌, subst, arith, inl, inr}
-use Rattle.std.specs.Prelude.{◌⊎◌, IfSome, Some, Ok, Err}
+use Rattle.std.specs.Prelude.{◌⊎◌, IfSome, None, Some, Ok, Err}
+use Rattle.std.specs.declared.option.Option.{Option}
 use Rattle.vm_types.specs.declared.config.Config.{Config}
 use Rattle.outside_io.specs.Causes.{Rose}
 use Rattle.outside_io.specs.Views.{SinkView, SourceView}
@@ -15,6 +16,9 @@ use Rattle.program_ends.specs.Concludes.{Concludes, EndsAnswered, IsOutcome}
 use Rattle.program_ends.specs.Ends.{Ends}
 use Rattle.program_ends.specs.FaultText.{fault_status, fault_told}
 use Rattle.program_ends.specs.Tells.{IsTrace, Tells, answered, faulty, unfinished, unread, no_memory}
+use Rattle.program_ends.specs.Wrongs.{TellsWrong, wrong_of}
+use Rattle.program_ends.specs.declared.wrong.Wrong.{Wrong}
+use Rattle.program_ends.proofs.Wronging.{fault_wrong, outcome_right, seven_right}
 use Rattle.program_ends.proofs.Concluding.{its_status, unfailed_status}
 
 one_meaning : (n : ℕ) (cause : Cause) (config : Config) (trace : Trace) → trace ≡ Configuration config → trace ≡ Faulty n cause → ⊥
@@ -98,14 +102,15 @@ fault_tells answer fault.Unfinished means counts = unfinished counts means
 fault_tells answer fault.ReadFault means counts = unread counts means
 fault_tells answer fault.NoMemory means counts = no_memory counts
 
--- the outcome of a configuration that was read, and that of a trace that gives none
+-- the outcome of a configuration that was read, and that of a trace that gives none, with what is wrong
 pub concludes_answered : {answer : Config → ℕ → List ℕ → Type 0} {before after : SourceView} {sink sink' : SinkView} {result : ℕ} (config : Config)
     → IfSome before.left (λ text. Answers (Ok config) text after.left) → FaultsBy (Ok config) before.failures after.failures
-    → EndsAnswered (answer config) sink sink' result → Concludes (Tells answer before after) sink sink' result
-concludes_answered config means counts (inl told) = record { status = told.status; text = told.text; tells_it = answered config told.status told.text told.outcome counts means told.answers; ends = told.ends }
-concludes_answered config means counts (inr none) = record { status = 7; text = status_line 7; tells_it = no_memory counts; ends = none }
+    → EndsAnswered (answer config) sink sink' result → Concludes (TellsWrong (Tells answer before after) None) sink sink' result
+concludes_answered config means counts (inl told) =
+    record { status = told.status; text = told.text; tells_it = record { told = answered config told.status told.text told.outcome counts means told.answers; says = outcome_right told.status told.text told.outcome }; ends = told.ends }
+concludes_answered config means counts (inr none) = record { status = 7; text = status_line 7; tells_it = record { told = no_memory counts; says = seven_right (status_line 7) }; ends = none }
 
-pub concludes_fault : {answer : Config → ℕ → List ℕ → Type 0} {before after : SourceView} {sink sink' : SinkView} {result : ℕ} (f : TraceFault)
-    → IfSome before.left (λ text. Answers (Err f) text after.left) → FaultsBy (Err f) before.failures after.failures
-    → Ends sink sink' (fault_status f) (fault_told f) result → Concludes (Tells answer before after) sink sink' result
-concludes_fault {answer = answer} f means counts ends = record { status = fault_status f; text = fault_told f; tells_it = fault_tells answer f means counts; ends = ends }
+pub concludes_fault : {answer : Config → ℕ → List ℕ → Type 0} {before after : SourceView} {sink sink' : SinkView} {result : ℕ} (f : TraceFault) (wrong : Option Wrong)
+    → wrong ≡ wrong_of f → IfSome before.left (λ text. Answers (Err f) text after.left) → FaultsBy (Err f) before.failures after.failures
+    → Ends sink sink' (fault_status f) (fault_told f) result → Concludes (TellsWrong (Tells answer before after) wrong) sink sink' result
+concludes_fault {answer = answer} f wrong is means counts ends = record { status = fault_status f; text = fault_told f; tells_it = record { told = fault_tells answer f means counts; says = fault_wrong f wrong is }; ends = ends }

@@ -11,8 +11,8 @@ use outside_io::{Sink, WriteFault};
 use trace_reader::{Cause, TraceFault};
 use vm_text::{push_decimal, push_word};
 
-/// The cause's name in capitals, which has at most eleven bytes. Doesn't allocate.
-pub fn name_of(cause: Cause) -> &'static [u8]
+// The cause's name in capitals, which has at most eleven bytes.
+fn name_of(cause: Cause) -> &'static [u8]
     ensures value { result.now ≡ cause_text cause }
     ensures short { length result.now ≤ 11 }
 {

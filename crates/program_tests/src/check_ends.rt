@@ -1,3 +1,4 @@
+use arrayvec::ArrayVec;
 use check_command::check;
 use outside_io::{MemorySink, MemorySource};
 use replay_cli::Status;
@@ -30,7 +31,10 @@ STATUS 0\n";
         let mut source = MemorySource::new(text, Vec::new(alloc));
         let fails = vec![in alloc; failing]?;
         let mut sink = MemorySink::new(alloc, 100, fails, Vec::new(alloc))?;
-        assert_eq!(rt; check(alloc, &mut source, &mut sink), Status(status));
+        assert_eq!(rt;
+            check(alloc, &mut source, &mut sink, &mut ArrayVec::new()).0,
+            Status(status)
+        );
         assert_eq!(rt; sink.taken(), written);
     }
     Ok(())

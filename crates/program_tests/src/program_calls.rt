@@ -1,8 +1,6 @@
 use disk_trait::MemoryDepot;
 use outside_io::{MemorySink, MemorySource};
-use program_call::{
-    EnvArguments, FirstBytes, LineSource, ListedArguments, run_and_explain, run_bytes, run_program,
-};
+use program_call::{EnvArguments, ListedArguments, run_and_explain, run_bytes, run_program};
 use replay_cli::Status;
 use std::alloc::Global;
 use std::test::Fail;
@@ -78,7 +76,7 @@ fn explains(rt: HostRuntime) -> Result<(), Fail> {
     let name = b"neqysbar".as_slice();
     let command = b"serial".as_slice();
     let usage =
-        b"usage: neqysbar serial < TRACE\n       neqysbar study --process X --frames K < TRACE\n       neqysbar make --seed N --procs N --refs N\n       neqysbar check < TRACE-AND-LOG\n".as_slice();
+        b"neqysbar 1.0.0\nusage: neqysbar serial < TRACE\n           reads a trace and runs it; writes each entry, a report, the pages left dirty and the status\n       neqysbar study --process X --frames K < TRACE\n           reads a trace; writes what the references of process X, A to P, cost with K page frames, 1 to 1024\n       neqysbar make --seed N --procs P --refs R\n           reads nothing; makes a trace from the seed N, 0 to 4294967295, with P processes, 1 to 16, and R\n           references, 1 to 100000, and runs it; writes how many entries of each kind the run has\n       neqysbar check < TRACE-AND-LOG\n           reads a trace, a line LOG and a log; writes whether the log is legal, or its first line that isn't\nexample: neqysbar study --process A --frames 8 < examples/swapping.trace\n".as_slice();
     let table: [(&[&[u8]], &[u8], u8, &[u8]); 7] = [
         (&[name, command], TRACE, 0, b""),
         (&[name], TRACE, 1, usage),
@@ -110,17 +108,13 @@ fn explains(rt: HostRuntime) -> Result<(), Fail> {
             &[name, b"check"],
             b"VMTRACE 1\nFRAMES 8\nPAGEFILE 4\nPROCESS A 4 4 4 0\nBODY\nEND\nLOG\nPFN AT 0\nFREE 7\n",
             8,
-            b"neqysbar: line 9: the log isn't legal here, or ends too early behind this line: FREE 7\n",
+            b"neqysbar: line 2 of the log isn't a legal next line, or is missing: FREE 7\n",
         ),
     ];
     for (words, trace, status, message) in table {
         let mut arguments = ListedArguments::new(words);
-        let mut source = LineSource::new(MemorySource::new(
-            Vec::from_slice(alloc, trace)?,
-            Vec::new(alloc),
-        ));
-        let output = MemorySink::new(alloc, 1000, Vec::new(alloc), Vec::new(alloc))?;
-        let mut output = FirstBytes::new(output);
+        let mut source = MemorySource::new(Vec::from_slice(alloc, trace)?, Vec::new(alloc));
+        let mut output = MemorySink::new(alloc, 1000, Vec::new(alloc), Vec::new(alloc))?;
         let mut messages = MemorySink::new(alloc, 1000, Vec::new(alloc), Vec::new(alloc))?;
         let mut depot = MemoryDepot::new(alloc, Vec::new(alloc));
         let ended = run_and_explain(

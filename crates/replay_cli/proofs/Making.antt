@@ -1,4 +1,5 @@
 -- A made trace's run is an answer.
+use Rattle.std.specs.Prelude.{None}
 use Rattle.std.proofs.Common.{◌≡◌, ℕ, List, ◌++◌, ◌∙◌, ap, refl, reverse, subst, inl, inr}
 use Rattle.vm_types.specs.BlockView.{Retired, Tells}
 use Rattle.vm_types.specs.Configuration.{IsWellFormed}
@@ -10,6 +11,8 @@ use Rattle.pager_model.specs.Serial.{IsSerial}
 use Rattle.pager_model.specs.Text.{status_line}
 use Rattle.pager_laws.specs.Laws.{RunsAreSound}
 use Rattle.program_ends.specs.Concludes.{Concludes, EndsAnswered}
+use Rattle.program_ends.specs.Wrongs.{TellsWrong}
+use Rattle.program_ends.proofs.Wronging.{outcome_right, seven_right}
 use Rattle.run_text.specs.Parts.{run_status}
 use Rattle.serial_run.specs.Ended.{IsCounted}
 use Rattle.serial_run.specs.declared.finished.Counted.{Counted}
@@ -22,9 +25,14 @@ use Rattle.replay_cli.proofs.Overs.{run_over}
 
 -- what `make` tells, by how it ends
 pub concludes_made : {make : Make} {depot : Moved DepotView} {sink sink' : SinkView} {result : ℕ} → EndsAnswered (IsMakeAnswer make depot) sink sink' result
-    → Concludes (MakeTells make depot) sink sink' result
-concludes_made (inl told) = record { status = told.status; text = told.text; tells_it = made told.status told.text told.outcome told.answers; ends = told.ends }
-concludes_made (inr none) = record { status = 7; text = status_line 7; tells_it = no_memory; ends = none }
+    → Concludes (TellsWrong (MakeTells make depot) None) sink sink' result
+concludes_made (inl told) = record {
+  status = told.status;
+  text = told.text;
+  tells_it = record { told = made told.status told.text told.outcome told.answers; says = outcome_right told.status told.text told.outcome };
+  ends = told.ends;
+}
+concludes_made (inr none) = record { status = 7; text = status_line 7; tells_it = record { told = no_memory; says = seven_right (status_line 7) }; ends = none }
 
 module _ (tells : Tells) (make : Make) (config : Config) (is : config ≡ made_config make.seed make.procs make.refs) (taken : List Retired) (f : Counted) (formed : IsWellFormed config)
     (ended : IsCounted tells config taken f) (depot depot' : DepotView) (known : depot.tells ≡ tells) (longer : depot'.retired ≡ depot.retired ++ taken) (sound : RunsAreSound) where

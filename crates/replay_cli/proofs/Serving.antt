@@ -1,6 +1,7 @@
 -- What `serial` tells, by what reading and running answer.
 use Rattle.std.proofs.Common.{◌≡◌, ℕ, refl, arith, inl, inr}
-use Rattle.std.specs.Prelude.{◌⊎◌, IfSome, Ok, Err}
+use Rattle.std.specs.Prelude.{◌⊎◌, IfSome, None, Ok, Err}
+use Rattle.std.specs.declared.option.Option.{Option}
 use Rattle.vm_types.specs.declared.config.Config.{Config}
 use Rattle.vm_types.specs.Moved.{moved}
 use Rattle.disk_trait.specs.DepotView.{DepotView}
@@ -12,7 +13,10 @@ use Rattle.program_ends.specs.Concludes.{Concludes, EndsAnswered, IsOutcome}
 use Rattle.program_ends.specs.Ends.{Ends}
 use Rattle.program_ends.specs.FaultText.{fault_status, fault_told}
 use Rattle.program_ends.specs.Tells.{answered, no_memory}
+use Rattle.program_ends.specs.Wrongs.{TellsWrong, wrong_of}
+use Rattle.program_ends.specs.declared.wrong.Wrong.{Wrong}
 use Rattle.program_ends.proofs.Telling.{fault_tells}
+use Rattle.program_ends.proofs.Wronging.{fault_wrong, outcome_right, seven_right}
 use Rattle.replay_cli.specs.Headline.{IsSerialAnswer, SerialTells}
 
 -- an outcome isn't that of input that is no trace or can't be read
@@ -29,13 +33,16 @@ not_early status outcome early =
 module _ {before after : SourceView} {depot depot' : DepotView} {sink sink' : SinkView} {result : ℕ} where
   -- the trace was read, and its configuration was answered
   pub concludes_run : (config : Config) → IfSome before.left (λ text. Answers (Ok config) text after.left) → FaultsBy (Ok config) before.failures after.failures
-      → EndsAnswered (IsSerialAnswer (moved depot depot') config) sink sink' result → Concludes (SerialTells (moved before after) (moved depot depot')) sink sink' result
+      → EndsAnswered (IsSerialAnswer (moved depot depot') config) sink sink' result → Concludes (TellsWrong (SerialTells (moved before after) (moved depot depot')) None) sink sink' result
   concludes_run config means counts (inl told) = record {
     status = told.status;
     text = told.text;
     tells_it = record {
-      tells = answered config told.status told.text told.outcome counts means told.answers;
-      keeps = λ early. absurd (not_early told.status told.outcome early);
+      told = record {
+        tells = answered config told.status told.text told.outcome counts means told.answers;
+        keeps = λ early. absurd (not_early told.status told.outcome early);
+      };
+      says = outcome_right told.status told.text told.outcome;
     };
     ends = told.ends;
   }
@@ -43,19 +50,22 @@ module _ {before after : SourceView} {depot depot' : DepotView} {sink sink' : Si
     status = 7;
     text = status_line 7;
     tells_it = record {
-      tells = no_memory counts;
-      keeps = λ early. absurd (elim early [ inl two ↦ omega (arith, two) | inr three ↦ omega (arith, three) ]);
+      told = record {
+        tells = no_memory counts;
+        keeps = λ early. absurd (elim early [ inl two ↦ omega (arith, two) | inr three ↦ omega (arith, three) ]);
+      };
+      says = seven_right (status_line 7);
     };
     ends = none;
   }
 
 -- there is no configuration, and no block was made
-pub concludes_unread : {before after : SourceView} {depot : DepotView} {sink sink' : SinkView} {result : ℕ} (f : TraceFault)
-    → IfSome before.left (λ text. Answers (Err f) text after.left) → FaultsBy (Err f) before.failures after.failures
-    → Ends sink sink' (fault_status f) (fault_told f) result → Concludes (SerialTells (moved before after) (moved depot depot)) sink sink' result
-concludes_unread {depot = depot} f means counts ends = record {
+pub concludes_unread : {before after : SourceView} {depot : DepotView} {sink sink' : SinkView} {result : ℕ} (f : TraceFault) (wrong : Option Wrong)
+    → wrong ≡ wrong_of f → IfSome before.left (λ text. Answers (Err f) text after.left) → FaultsBy (Err f) before.failures after.failures
+    → Ends sink sink' (fault_status f) (fault_told f) result → Concludes (TellsWrong (SerialTells (moved before after) (moved depot depot)) wrong) sink sink' result
+concludes_unread {depot = depot} f wrong is means counts ends = record {
   status = fault_status f;
   text = fault_told f;
-  tells_it = record { tells = fault_tells (IsSerialAnswer (moved depot depot)) f means counts; keeps = λ early. refl };
+  tells_it = record { told = record { tells = fault_tells (IsSerialAnswer (moved depot depot)) f means counts; keeps = λ early. refl }; says = fault_wrong f wrong is };
   ends = ends;
 }

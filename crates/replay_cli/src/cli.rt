@@ -1,20 +1,22 @@
 //! The program's one call.
 
-ghost use Rattle.std.specs.Prelude.{◌≤◌};
+ghost use Rattle.std.specs.Prelude.{◌≤◌, ◌≢◌};
 ghost use Rattle.vm_types.specs.Moved.{moved};
 ghost use Rattle.vm_types.specs.Configuration.{IsWellFormed};
-ghost use Rattle.program_ends.specs.Concludes.{Concludes, EndsAnswered};
+ghost use Rattle.program_ends.specs.Concludes.{Concludes, EndsAnswered, HasTold};
+ghost use Rattle.program_ends.specs.Wrongs.{IsWrong, IsWrongText, TellsWrong};
 ghost use Rattle.replay_cli.specs.CommandRun.{IsCommandRun};
 ghost use Rattle.replay_cli.specs.Commands.{Told, texts};
 ghost use Rattle.replay_cli.specs.Headline.{IsSerialAnswer, SerialTells};
 
 use crate::make_run::run_made;
 use crate::words::{Command, command_of};
+use arrayvec::ArrayVec;
 use check_command::check;
 use disk_trait::Depot;
 use outside_io::{Sink, Source};
 use pager_laws::runs_are_sound;
-use program_ends::{Status, end_fault, end_with};
+use program_ends::{Status, Wrong, end_fault, end_with, wrong_of};
 use run_text::print_run;
 use serial_run::{RunFault, run_serial};
 use std::alloc::Global;
@@ -57,16 +59,18 @@ fn serial<S: Source, K: Sink, D: Depot>(
     source: &mut S,
     sink: &mut K,
     depot: &mut D,
-) -> Status
-    ensures outcome { Concludes (SerialTells (moved (S.seen source.old) (S.seen source.new))
-        (moved (D.seen depot.old) (D.seen depot.new)))
-        (K.seen sink.old) (K.seen sink.new) result.0 }
+    kept: &mut ArrayVec<u8, 80>,
+) -> (Status, Option<Wrong>)
+    ensures outcome { Concludes (TellsWrong (SerialTells (moved (S.seen source.old) (S.seen source.new))
+        (moved (D.seen depot.old) (D.seen depot.new))) result.1)
+        (K.seen sink.old) (K.seen sink.new) result.0.0 }
+    ensures kept { IsWrongText result.1 (S.seen source.old).left kept.new.items }
     ensures faults_later { (S.seen source.old).failures ≤ (S.seen source.new).failures }
     ensures depot_later { (D.seen depot.old).failures ≤ (D.seen depot.new).failures }
 {
-    match read_trace(source, alloc) {
-        Ok(config) => run_config(alloc, config, sink, depot),
-        Err(fault) => end_fault(fault, sink),
+    match read_trace(source, alloc, kept) {
+        Ok(config) => (run_config(alloc, config, sink, depot), None),
+        Err(fault) => (end_fault(fault, sink), wrong_of(fault)),
     }
 }
 
@@ -77,20 +81,45 @@ fn conclude<S: Source, K: Sink, D: Depot>(
     source: &mut S,
     sink: &mut K,
     depot: &mut D,
-) -> Status
-    ensures outcome { Concludes (Told (texts words.now) (moved (S.seen source.old) (S.seen source.new))
-        (moved (D.seen depot.old) (D.seen depot.new)))
-        (K.seen sink.old) (K.seen sink.new) result.0 }
+    kept: &mut ArrayVec<u8, 80>,
+) -> (Status, Option<Wrong>)
+    ensures outcome { Concludes (TellsWrong (Told (texts words.now) (moved (S.seen source.old) (S.seen source.new))
+        (moved (D.seen depot.old) (D.seen depot.new))) result.1)
+        (K.seen sink.old) (K.seen sink.new) result.0.0 }
+    ensures kept { IsWrongText result.1 (S.seen source.old).left kept.new.items }
     ensures faults_later { (S.seen source.old).failures ≤ (S.seen source.new).failures }
     ensures depot_later { (D.seen depot.old).failures ≤ (D.seen depot.new).failures }
 {
     match command_of(words) {
-        None => end_with(1, sink),
-        Some(Command::Serial) => serial(alloc, source, sink, depot),
-        Some(Command::Study(study)) => study_trace(alloc, study, source, sink),
-        Some(Command::Make(make)) => run_made(alloc, make, sink, depot),
-        Some(Command::Check) => check(alloc, source, sink),
+        None => (end_with(1, sink), None),
+        Some(Command::Serial) => serial(alloc, source, sink, depot, kept),
+        Some(Command::Study(study)) => study_trace(alloc, study, source, sink, kept),
+        Some(Command::Make(make)) => (run_made(alloc, make, sink, depot), None),
+        Some(Command::Check) => check(alloc, source, sink, kept),
     }
+}
+
+/// As `run_one`, and answers besides what is wrong with the input, if anything is: the first faulty line of
+/// a trace with the first rule that it breaks, that a trace is unfinished, the first line of a log that isn't
+/// legal, or that a log is too long. The first 80 bytes of a faulty line of a trace are kept in `kept`.
+pub fn run_and_tell<S: Source, K: Sink, D: Depot>(
+    alloc: Global,
+    words: &[&str],
+    source: &mut S,
+    sink: &mut K,
+    depot: &mut D,
+    kept: &mut ArrayVec<u8, 80>,
+) -> (Status, Option<Wrong>)
+    // With status 0 or 5 of `serial` the trace was served; what every other status means is said too.
+    ensures run { IsCommandRun (texts words.now) (moved (S.seen source.old) (S.seen source.new))
+        (moved (D.seen depot.old) (D.seen depot.new))
+        (moved (K.seen sink.old) (K.seen sink.new)) result.0.0 }
+    // With every status but 4 the text that was written says the same of the input.
+    ensures wrong { result.0.0 ≢ 4 → HasTold (IsWrong result.1) (K.seen sink.old) (K.seen sink.new) result.0.0 }
+    // Of a faulty line of a trace the first bytes were kept.
+    ensures kept { IsWrongText result.1 (S.seen source.old).left kept.new.items }
+{
+    conclude(alloc, words, source, sink, depot, kept)
 }
 
 /// Runs the command for which the words ask. `serial` reads a trace from the source, makes the blocks
@@ -117,5 +146,6 @@ pub fn run_one<S: Source, K: Sink, D: Depot>(
         (moved (D.seen depot.old) (D.seen depot.new))
         (moved (K.seen sink.old) (K.seen sink.new)) result.0 }
 {
-    conclude(alloc, words, source, sink, depot)
+    let mut kept = ArrayVec::new();
+    run_and_tell(alloc, words, source, sink, depot, &mut kept).0
 }

@@ -9,7 +9,7 @@ mod make_run;
 mod make_words;
 mod words;
 
-pub use cli::run_one;
+pub use cli::{run_and_tell, run_one};
 pub use make_summary::Make;
-pub use program_ends::Status;
+pub use program_ends::{Status, Wrong};
 pub use words::{Command, command_of};

@@ -1,6 +1,7 @@
 ghost use Rattle.std.specs.Prelude.{◌+◌, ◌<◌, ◌^◌, IfOk};
 ghost use Rattle.vm_types.specs.Configuration.{IsWellFormed};
 
+use arrayvec::ArrayVec;
 use disk_trait::{Block, MakeFault, MemoryDepot};
 use outside_io::MemorySource;
 use run_blocks::{make_blocks, retire_blocks};
@@ -19,7 +20,7 @@ fn small(alloc: Global) -> Result<Config, Fail>
     ensures { IfOk result IsWellFormed }
 {
     let mut source = MemorySource::new(SMALL.to_vec(alloc)?, Vec::new(alloc));
-    match read_trace(&mut source, alloc) {
+    match read_trace(&mut source, alloc, &mut ArrayVec::new()) {
         Ok(config) => Ok(config),
         Err(_) => Err(Fail::from("a trace")),
     }

@@ -3,6 +3,7 @@
 ghost use Rattle.std.specs.Prelude.{IfOk};
 ghost use Rattle.vm_types.specs.Configuration.{IsWellFormed};
 
+use arrayvec::ArrayVec;
 use disk_trait::MemoryDepot;
 use outside_io::MemorySource;
 use seat_schedules::{Act, Played, play_schedule};
@@ -24,7 +25,7 @@ fn config_of(alloc: Global, trace: &[u8]) -> Result<Config, Fail>
     ensures { IfOk result IsWellFormed }
 {
     let mut source = MemorySource::new(Vec::from_slice(alloc, trace)?, Vec::new(alloc));
-    match read_trace(&mut source, alloc) {
+    match read_trace(&mut source, alloc, &mut ArrayVec::new()) {
         Ok(config) => Ok(config),
         Err(_) => Err(Fail::from("a trace")),
     }

@@ -4,14 +4,16 @@ ghost use Rattle.vm_types.specs.Configuration.{IsWellFormed};
 ghost use Rattle.program_ends.specs.Concludes.{Concludes, EndsAnswered, HasTold, WasCut};
 ghost use Rattle.program_ends.specs.Ends.{Ends};
 ghost use Rattle.program_ends.specs.Tells.{IsTrace, Tells};
+ghost use Rattle.program_ends.specs.Wrongs.{IsWrongText, TellsWrong};
 ghost use Rattle.pager_model.specs.Text.{status_line};
 ghost use Rattle.study_command.specs.StudyText.{IsStudyAnswer, answer_lines};
 
 use crate::answers::{Answers, answers_of};
 use crate::printing::print_answers;
 use crate::words::Study;
+use arrayvec::ArrayVec;
 use outside_io::{Sink, Source};
-use program_ends::{Status, end_fault, end_with};
+use program_ends::{Status, Wrong, end_fault, end_with, wrong_of};
 use std::alloc::Global;
 use trace_reader::read_trace;
 use vm_types::Config;
@@ -42,15 +44,22 @@ fn study_config<K: Sink>(alloc: Global, config: &Config, study: Study, sink: &mu
 }
 
 // The outcome of the command.
-fn conclude<S: Source, K: Sink>(alloc: Global, study: Study, source: &mut S, sink: &mut K) -> Status
+fn conclude<S: Source, K: Sink>(
+    alloc: Global,
+    study: Study,
+    source: &mut S,
+    sink: &mut K,
+    kept: &mut ArrayVec<u8, 80>,
+) -> (Status, Option<Wrong>)
     requires { (1 ≤ study.frames) × (study.frames ≤ 1024) }
-    ensures outcome { Concludes (Tells (IsStudyAnswer study) (S.seen source.old) (S.seen source.new))
-        (K.seen sink.old) (K.seen sink.new) result.0 }
+    ensures outcome { Concludes (TellsWrong (Tells (IsStudyAnswer study) (S.seen source.old) (S.seen source.new)) result.1)
+        (K.seen sink.old) (K.seen sink.new) result.0.0 }
+    ensures kept { IsWrongText result.1 (S.seen source.old).left kept.new.items }
     ensures faults_later { (S.seen source.old).failures ≤ (S.seen source.new).failures }
 {
-    match read_trace(source, alloc) {
-        Ok(config) => study_config(alloc, &config, study, sink),
-        Err(fault) => end_fault(fault, sink),
+    match read_trace(source, alloc, kept) {
+        Ok(config) => (study_config(alloc, &config, study, sink), None),
+        Err(fault) => (end_fault(fault, sink), wrong_of(fault)),
     }
 }
 
@@ -61,7 +70,8 @@ fn conclude<S: Source, K: Sink>(alloc: Global, study: Study, source: &mut S, sin
 /// faults; a `DROP` for each place, from 1, whose page doesn't keep its frame until it is referenced
 /// again; a `CUT` for each place that shows that no schedule has fewer; and the status line. Each line
 /// is one write of a whole text. The status is 0 for a trace, 2 if the input is none, 3 only if a read
-/// failed, 4 only if a write failed or took nothing, 7 if memory ran out.
+/// failed, 4 only if a write failed or took nothing, 7 if memory ran out. It answers besides what is
+/// wrong with the input, if anything is, and keeps the first 80 bytes of a faulty line in `kept`.
 ///
 /// Takes time as the references times the logarithm of the frames, and for LRU as a 128th part of the
 /// references between two to the same page.
@@ -70,26 +80,30 @@ pub fn study_trace<S: Source, K: Sink>(
     study: Study,
     source: &mut S,
     sink: &mut K,
-) -> Status
+    kept: &mut ArrayVec<u8, 80>,
+) -> (Status, Option<Wrong>)
     requires { (1 ≤ study.frames) × (study.frames ≤ 1024) }
-    // A status with the text that goes with it, and how the text was written.
-    ensures outcome { Concludes (Tells (IsStudyAnswer study) (S.seen source.old) (S.seen source.new))
-        (K.seen sink.old) (K.seen sink.new) result.0 }
+    // A status with the text that goes with it, what is wrong with the input by that text, and how the
+    // text was written.
+    ensures outcome { Concludes (TellsWrong (Tells (IsStudyAnswer study) (S.seen source.old) (S.seen source.new)) result.1)
+        (K.seen sink.old) (K.seen sink.new) result.0.0 }
     // So with every status but 4 what was written is the text that goes with it, and no count of the
     // sink changed.
-    ensures told { result.0 ≢ 4 → HasTold (Tells (IsStudyAnswer study) (S.seen source.old) (S.seen source.new))
-        (K.seen sink.old) (K.seen sink.new) result.0 }
-    ensures unfailed { result.0 ≢ 4 → ((K.seen sink.new).failures ≡ (K.seen sink.old).failures) × ((K.seen sink.new).stalls ≡ (K.seen sink.old).stalls) }
+    ensures told { result.0.0 ≢ 4 → HasTold (Tells (IsStudyAnswer study) (S.seen source.old) (S.seen source.new))
+        (K.seen sink.old) (K.seen sink.new) result.0.0 }
+    ensures unfailed { result.0.0 ≢ 4 → ((K.seen sink.new).failures ≡ (K.seen sink.old).failures) × ((K.seen sink.new).stalls ≡ (K.seen sink.old).stalls) }
     // With status 4 it is a proper prefix of a text that goes with another status.
-    ensures cut { result.0 ≡ 4 → WasCut (Tells (IsStudyAnswer study) (S.seen source.old) (S.seen source.new))
+    ensures cut { result.0.0 ≡ 4 → WasCut (Tells (IsStudyAnswer study) (S.seen source.old) (S.seen source.new))
         (K.seen sink.old) (K.seen sink.new) }
-    ensures read_fault { result.0 ≡ 3 → Rose (S.seen source.old).failures (S.seen source.new).failures }
-    ensures write_fault { result.0 ≡ 4 → Rose (K.seen sink.old).failures (K.seen sink.new).failures ⊎ Rose (K.seen sink.old).stalls (K.seen sink.new).stalls }
+    ensures read_fault { result.0.0 ≡ 3 → Rose (S.seen source.old).failures (S.seen source.new).failures }
+    ensures write_fault { result.0.0 ≡ 4 → Rose (K.seen sink.old).failures (K.seen sink.new).failures ⊎ Rose (K.seen sink.old).stalls (K.seen sink.new).stalls }
     // If the input is a trace and no count rises, the status is 0, or memory ran out.
     ensures complete { IsTrace (S.seen source.old)
         → (Rose (S.seen source.old).failures (S.seen source.new).failures → ⊥) → (Rose (K.seen sink.old).failures (K.seen sink.new).failures → ⊥)
-        → (Rose (K.seen sink.old).stalls (K.seen sink.new).stalls → ⊥) → (result.0 ≡ 0) ⊎ (result.0 ≡ 7) }
+        → (Rose (K.seen sink.old).stalls (K.seen sink.new).stalls → ⊥) → (result.0.0 ≡ 0) ⊎ (result.0.0 ≡ 7) }
+    // Of a faulty line the first bytes were kept.
+    ensures kept { IsWrongText result.1 (S.seen source.old).left kept.new.items }
     ensures faults_later { (S.seen source.old).failures ≤ (S.seen source.new).failures }
 {
-    conclude(alloc, study, source, sink)
+    conclude(alloc, study, source, sink, kept)
 }

@@ -1,3 +1,4 @@
+use arrayvec::ArrayVec;
 use outside_io::{MemorySink, MemorySource};
 use program_ends::Status;
 use std::test::Fail;
@@ -29,7 +30,7 @@ fn studies_a_trace(rt: HostRuntime) -> Result<(), Fail> {
         frames: 1024,
     };
     assert_eq!(rt;
-        study_trace(alloc, study, &mut source, &mut sink),
+        study_trace(alloc, study, &mut source, &mut sink, &mut ArrayVec::new()).0,
         Status(0)
     );
     let front = b"PAGES 1 DISTINCT 1\nRING 1024 1\nLRU 1 1\nLRU 2 1\n";

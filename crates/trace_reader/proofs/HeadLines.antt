@@ -1,7 +1,7 @@
 -- The lines before a log, one after another.
-use Rattle.std.proofs.Common.{◌≡◌, ◌≢◌, ℕ, ◌+◌, ◌<◌, Bool, true, false, List, [], ◌∷◌, ◌++◌, length, Result, Ok, Err, refl, sym, ap, ◌∙◌, append_assoc, arith}
+use Rattle.std.proofs.Common.{◌≡◌, ◌≢◌, ℕ, ◌+◌, ◌-◌, ◌<◌, Bool, true, false, List, [], ◌∷◌, ◌++◌, length, drop, Result, Ok, Err, refl, sym, ap, ◌∙◌, append_assoc, arith, lit≤}
 use Rattle.std.specs.List.{join_with_byte}
-use Rattle.std.proofs.lemmas.List.{length-append}
+use Rattle.std.proofs.lemmas.List.{drop-drop, length-append}
 use Rattle.std.proofs.lemmas.List.Splits.{join_with_byte-slice_split}
 use Rattle.trace_words.specs.declared.cause.Cause.{Cause}
 use Rattle.trace_words.specs.declared.cause.Cause.TheVariants.{LineTooLong, UnknownWord}
@@ -33,7 +33,7 @@ before_end (Err UnknownWord) Ended ws h = absurd (h refl)
 before_end (Err cause) place ws h = refl
 
 pub gone_first : (text : List ℕ) → HasGone text start 1 text
-gone_first text = record { front = []; whole = refl; goes = λ more. refl }
+gone_first text = record { front = []; whole = refl; goes = λ more. refl; onward = lit≤ tt; counted = refl }
 
 moved : (text front rest line back : List ℕ) → text ≡ front ++ rest → rest ≡ line ++ 10 ∷ back → text ≡ (front ++ (line ++ 10 ∷ [])) ++ back
 moved text front rest line back whole cut =
@@ -46,14 +46,19 @@ along part number line first others x e = ap (λ (y : HeadLine). after_line y nu
 
 pub line_goes : (text : List ℕ) (part next : Part) (number : ℕ) (rest line back : List ℕ) → HasGone text part number rest → rest ≡ line ++ 10 ∷ back → IsInLine line
     → head_line number part line ≡ goes_on next → HasGone text next (number + 1) back
-line_goes text part next number rest line back h cut other e = record {
-  front = h.front ++ (line ++ 10 ∷ []);
-  whole = moved text h.front rest line back h.whole cut;
-  goes = λ more.
-      let some = first_line line [] more other in
-      ap head_of (append_assoc h.front (line ++ 10 ∷ []) more) ∙ h.goes ((line ++ 10 ∷ []) ++ more) ∙ ap (judge_head number part) some.2
-      ∙ along part number line some.0 some.1 (goes_on next) e ∙ sym (ap (judge_head (number + 1) next) some.3);
-}
+line_goes text part next number rest line back h cut other e =
+    let one : number + 1 - 1 ≡ (number - 1) + 1 = omega (arith, h.onward) in
+    record {
+      front = h.front ++ (line ++ 10 ∷ []);
+      whole = moved text h.front rest line back h.whole cut;
+      goes = λ more.
+          let some = first_line line [] more other in
+          ap head_of (append_assoc h.front (line ++ 10 ∷ []) more) ∙ h.goes ((line ++ 10 ∷ []) ++ more) ∙ ap (judge_head number part) some.2
+          ∙ along part number line some.0 some.1 (goes_on next) e ∙ sym (ap (judge_head (number + 1) next) some.3);
+      onward = omega arith;
+      counted = ap (λ (n : ℕ). drop n (lines text)) one ∙ sym (drop-drop 1 (number - 1) (lines text)) ∙ ap (λ (ls : List (List ℕ)). drop 1 ls) h.counted
+          ∙ ap (λ (r : List ℕ). drop 1 (lines r)) cut ∙ ap (λ (ls : List (List ℕ)). drop 1 ls) (lines_at line back other);
+    }
 
 -- the whole text, by the line behind what was taken
 at_rest : (text : List ℕ) (part : Part) (number : ℕ) (rest : List ℕ) → HasGone text part number rest → head_of text ≡ judge_head number part (lines rest)

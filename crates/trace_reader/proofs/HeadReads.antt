@@ -29,10 +29,10 @@ told_first None part number p n = tt
 told_first (Some text) part number p n = record { rest = text; gone = rw (p, n) (gone_first text); left_over = refl }
 
 -- what was left before, where it is known
-abbrev TookOf : Option (List ℕ) → Result Line Failed → List ℕ → Option (List ℕ) → Type 0
+abbrev pub TookOf : Option (List ℕ) → Result Line Failed → List ℕ → Option (List ℕ) → Type 0
 TookOf left answer out new = IfSome left (λ text. Takes answer text out new)
 
-took : (left new : Option (List ℕ)) (answer : Result Line Failed) (rest out : List ℕ) → left ≡ Some rest → TookOf left answer out new → Takes answer rest out new
+pub took : (left new : Option (List ℕ)) (answer : Result Line Failed) (rest out : List ℕ) → left ≡ Some rest → TookOf left answer out new → Takes answer rest out new
 took None new answer rest out e t = absurd cc
 took (Some text) new answer rest out e t = let same : text ≡ rest = cc in subst (λ (x : List ℕ). Takes answer x out new) same t
 

@@ -1,7 +1,7 @@
 -- How a text in pieces is judged.
-use Rattle.std.proofs.Common.{◌≡◌, ◌≢◌, ℕ, ◌+◌, ◌<◌, ◌≤◌, true, false, eqb, List, [], ◌∷◌, ◌++◌, length, All, Ok, Err, refl, sym, ap, ◌∙◌, append_assoc, arith, ne_eqb}
+use Rattle.std.proofs.Common.{◌≡◌, ◌≢◌, ℕ, ◌+◌, ◌-◌, ◌<◌, ◌≤◌, true, false, eqb, List, [], ◌∷◌, ◌++◌, length, drop, All, Ok, Err, refl, sym, ap, ◌∙◌, append_assoc, arith, ne_eqb}
 use Rattle.std.proofs.lemmas.Bool.{lt-leb, le-leb}
-use Rattle.std.proofs.lemmas.List.{length-append}
+use Rattle.std.proofs.lemmas.List.{drop-drop, length-append}
 use Rattle.std.proofs.lemmas.List.Elements.{recursion_from_All}
 use Rattle.std.specs.List.{AllByRecursion}
 use Rattle.trace_words.specs.declared.cause.Cause.{Cause}
@@ -42,6 +42,11 @@ follows_line part next number line back other e = record {
   opened = λ more.
       let some = first_line line back more other in
       ap (is_open number part) some.2 ∙ open_one part next number line some.0 some.1 e ∙ sym (ap (is_open (number + 1) next) some.3);
+  onward = omega arith;
+  counted = λ more.
+      let some = first_line line back more other in
+      let one : number + 1 - number ≡ 1 = omega arith in
+      ap (λ (n : ℕ). drop n (lines ((line ++ 10 ∷ back) ++ more))) one ∙ ap (λ (ls : List (List ℕ)). drop 1 ls) some.2 ∙ sym some.3;
 }
 
 pub fault_line : (part : Part) (number : ℕ) (cause : Cause) (line back more : List ℕ) → All (λ b. b ≢ 10) line → next_line number part line ≡ Err cause → judge number part (lines ((line ++ 10 ∷ back) ++ more)) ≡ Faulty number cause
@@ -55,16 +60,29 @@ shut_line part number cause line back more other e =
     ap (is_open number part) some.2 ∙ shut_one part number cause line some.0 some.1 e
 
 pub follows_same : (part : Part) (number : ℕ) (text : List ℕ) → Follows part number text part number text
-follows_same part number text = record { judged = λ more. refl; opened = λ more. refl }
+follows_same part number text =
+    let none : number - number ≡ 0 = omega arith in
+    record { judged = λ more. refl; opened = λ more. refl; onward = omega arith; counted = λ more. ap (λ (n : ℕ). drop n (lines (text ++ more))) none }
 
 pub follows_then : (a b c : Part) (i j k : ℕ) (x y z : List ℕ) → Follows a i x b j y → Follows b j y c k z → Follows a i x c k z
-follows_then a b c i j k x y z p q = record { judged = λ more. p.judged more ∙ q.judged more; opened = λ more. p.opened more ∙ q.opened more }
+follows_then a b c i j k x y z p q =
+    let sum : k - i ≡ (j - i) + (k - j) = omega (arith, p.onward, q.onward) in
+    record {
+      judged = λ more. p.judged more ∙ q.judged more;
+      opened = λ more. p.opened more ∙ q.opened more;
+      onward = omega (arith, p.onward, q.onward);
+      counted = λ more.
+          ap (λ (n : ℕ). drop n (lines (x ++ more))) sum ∙ sym (drop-drop (k - j) (j - i) (lines (x ++ more)))
+          ∙ ap (λ (ls : List (List ℕ)). drop (k - j) ls) (p.counted more) ∙ q.counted more;
+    }
 
 -- more bytes come
 pub follows_more : (a b : Part) (i j : ℕ) (x y bytes : List ℕ) → Follows a i x b j y → Follows a i (x ++ bytes) b j (y ++ bytes)
 follows_more a b i j x y bytes p = record {
   judged = λ more. ap (λ (t : List ℕ). judge i a (lines t)) (append_assoc x bytes more) ∙ p.judged (bytes ++ more) ∙ ap (λ (t : List ℕ). judge j b (lines t)) (sym (append_assoc y bytes more));
   opened = λ more. ap (λ (t : List ℕ). is_open i a (lines t)) (append_assoc x bytes more) ∙ p.opened (bytes ++ more) ∙ ap (λ (t : List ℕ). is_open j b (lines t)) (sym (append_assoc y bytes more));
+  onward = p.onward;
+  counted = λ more. ap (λ (t : List ℕ). drop (j - i) (lines t)) (append_assoc x bytes more) ∙ p.counted (bytes ++ more) ∙ ap lines (sym (append_assoc y bytes more));
 }
 
 -- a line that has begun

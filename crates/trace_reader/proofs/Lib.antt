@@ -14,3 +14,4 @@ pub mod Reading
 pub mod LawsHold
 pub mod HeadLines
 pub mod HeadReads
+pub mod Kept

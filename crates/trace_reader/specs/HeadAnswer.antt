@@ -1,5 +1,5 @@
 -- What an answer of the reader of a log's front says. Source: this project's own.
-use Rattle.std.specs.Prelude.{◌≡◌, ℕ, ◌+◌, ◌≤◌, Bool, true, false, List, [], ◌∷◌, ◌++◌, length, Option, Some, Result, Ok, Err, IsOk, IfSome}
+use Rattle.std.specs.Prelude.{◌≡◌, ℕ, ◌+◌, ◌-◌, ◌≤◌, Bool, true, false, List, [], ◌∷◌, ◌++◌, length, drop, Option, Some, Result, Ok, Err, IsOk, IfSome}
 use Rattle.vm_types.specs.Configuration.{IsWellFormed}
 use Rattle.vm_types.specs.declared.config.Config.{Config}
 use Rattle.outside_io.specs.Causes.{Rose}
@@ -20,6 +20,8 @@ pub record HasGone (text : List ℕ) (part : Part) (number : ℕ) (rest : List �
   pub front : List ℕ
   pub whole : text ≡ front ++ rest
   pub goes : (more : List ℕ) → head_of (front ++ more) ≡ judge_head number part (lines more)
+  pub onward : 1 ≤ number
+  pub counted : drop (number - 1) (lines text) ≡ lines rest
 
 -- the line behind those isn't at fault as a line of the trace
 pub record HasRightLine (text : List ℕ) : Type 0 where

@@ -2,6 +2,7 @@ pub mod Right
 pub mod Changes
 pub mod Drafts
 pub mod Meaning
+pub mod LineText
 pub mod Answer
 pub mod Stream
 pub mod Laws

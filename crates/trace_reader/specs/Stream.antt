@@ -1,6 +1,6 @@
 -- A text in pieces: what the lines taken so far declare, and what they say of the whole text.
 -- Source: this project's own.
-use Rattle.std.specs.Prelude.{◌≡◌, ◌≢◌, ℕ, ◌+◌, ◌-◌, ◌≤◌, true, false, List, [], ◌++◌, length, drop, All, Option, Result, Ok, Err, IsOk}
+use Rattle.std.specs.Prelude.{◌≡◌, ◌≢◌, ℕ, ◌+◌, ◌-◌, ◌≤◌, true, false, List, [], ◌++◌, length, take, drop, slice_index_or, All, Option, Result, Ok, Err, IsOk}
 use Rattle.vm_types.specs.declared.config.Config.{Config}
 use Rattle.trace_lines.specs.declared.part.Part.{Part}
 use Rattle.trace_lines.specs.Seen.{IsSeen}
@@ -32,10 +32,13 @@ IsLineAtFault part number line fault.ReadFault = ⊥
 IsLineAtFault part number line (fault.Line n cause) = (n ≡ number) × (next_line number part line ≡ Err cause)
 IsLineAtFault part number line fault.Unfinished = ⊥
 
--- whatever comes next, the text from before is judged as the rest is from after
+-- whatever comes next, the text from before is judged as the rest is from after, which stands so many lines
+-- behind the text's first
 pub record Follows (before : Part) (first : ℕ) (text : List ℕ) (after : Part) (next : ℕ) (rest : List ℕ) : Type 0 where
   pub judged : (more : List ℕ) → judge first before (lines (text ++ more)) ≡ judge next after (lines (rest ++ more))
   pub opened : (more : List ℕ) → is_open first before (lines (text ++ more)) ≡ is_open next after (lines (rest ++ more))
+  pub onward : first ≤ next
+  pub counted : (more : List ℕ) → drop (next - first) (lines (text ++ more)) ≡ lines (rest ++ more)
 
 -- a front of the text has no line at fault
 pub record IsOpenFront (part : Part) (number : ℕ) (text : List ℕ) : Type 0 where
@@ -51,6 +54,22 @@ IsAtFault part number text fault.ReadFault = ⊥
 IsAtFault part number text (fault.Line n cause) =
     ((more : List ℕ) → judge number part (lines (text ++ more)) ≡ Faulty n cause) × (is_open number part (lines text) ≡ false)
 IsAtFault part number text fault.Unfinished = ⊥
+
+-- the first 80 bytes of the line of this number were kept, if it is at fault
+abbrev pub KeepsLine : ℕ → List ℕ → List ℕ → TraceFault → Type 0
+KeepsLine number line kept fault.NoMemory = Unit {0}
+KeepsLine number line kept fault.ReadFault = Unit {0}
+KeepsLine number line kept (fault.Line n cause) = (n ≡ number) × (kept ≡ take 80 line)
+KeepsLine number line kept fault.Unfinished = Unit {0}
+
+-- whatever comes next, these are the first 80 bytes of the faulty line of a text that begins with the line of
+-- this number
+abbrev pub KeepsFaulty : ℕ → List ℕ → List ℕ → TraceFault → Type 0
+KeepsFaulty first text kept fault.NoMemory = Unit {0}
+KeepsFaulty first text kept fault.ReadFault = Unit {0}
+KeepsFaulty first text kept (fault.Line n cause) =
+    (first ≤ n) × ((more : List ℕ) → kept ≡ take 80 (slice_index_or (lines (text ++ more)) (n - first) []))
+KeepsFaulty first text kept fault.Unfinished = Unit {0}
 
 -- the answer is what the text means; or memory ran out at its last line, which is right
 abbrev pub Means : ℕ → Part → List ℕ → Result Config TraceFault → Trace → Type 0

@@ -1,22 +1,23 @@
 //! The front of a text that has a trace and then a log.
 
-ghost use Rattle.std.specs.Prelude.{◌≡◌, ◌≤◌, ℕ, IfOk, IfErr, IfSome, IsSome, OnOk, if◌then◌else◌};
+ghost use Rattle.std.specs.Prelude.{◌≡◌, ◌≤◌, ℕ, List, Option, IfOk, IfErr, IfSome, IsSome, OnOk, if◌then◌else◌};
 ghost use Rattle.vm_types.specs.Configuration.{IsWellFormed};
 ghost use Rattle.line_source.specs.BytesLeft.{bytes_left};
 ghost use Rattle.trace_words.specs.Words.{words};
 ghost use Rattle.trace_lines.specs.Grammar.{content};
 ghost use Rattle.trace_reader.specs.Answer.{FaultsBy};
 ghost use Rattle.trace_reader.specs.Head.{by_log_word, head_line};
-ghost use Rattle.trace_reader.specs.HeadAnswer.{HeadAnswers, HasTakenHead, IsHeadLineAtFault, AnswersNext, AnswersLine, IsKeptNext, CountsBy};
+ghost use Rattle.trace_reader.specs.HeadAnswer.{HeadAnswers, HasTakenHead, IsHeadLineAtFault, AnswersNext, AnswersLine, IsKeptNext, IsTold, CountsBy};
+ghost use Rattle.trace_reader.specs.LineText.{IsTextOf};
 ghost use Rattle.trace_reader.specs.LogWord.{said_by_words, plain};
 ghost use Rattle.trace_reader.specs.Meaning.{next_line};
-ghost use Rattle.trace_reader.specs.Stream.{IsReading};
+ghost use Rattle.trace_reader.specs.Stream.{IsReading, KeepsLine};
 
 use crate::draft::Draft;
 use crate::fault::TraceFault;
 use crate::read::Reader;
 use arrayvec::ArrayVec;
-use line_source::{Line, Lines};
+use line_source::{Line, Lines, keep_front};
 use outside_io::Source;
 use std::alloc::Global;
 use trace_lines::{Place, judge};
@@ -75,33 +76,50 @@ fn is_unknown(reader: &Reader, line: &[u8]) -> bool
     }
 }
 
-// Takes the next line, and says whether it begins the log.
-fn take_head_line(reader: &mut Reader, line: &[u8]) -> Result<bool, TraceFault>
+// Takes the next line, and says whether it begins the log; or keeps its first bytes if it is at fault.
+fn take_head_line(
+    reader: &mut Reader,
+    line: &[u8],
+    kept: &mut ArrayVec<u8, 80>,
+) -> Result<bool, TraceFault>
     requires { IsReading reader.old.draft reader.old.number }
     ensures ok { IfOk result (HasTakenHead reader.old.draft reader.old.number line.now reader.new.draft reader.new.number) }
     ensures err { IfErr result (IsHeadLineAtFault reader.old.draft.part reader.old.number line.now) }
+    ensures kept { IfErr result (KeepsLine reader.old.number line.now kept.new.items) }
 {
     if is_unknown(reader, line) {
         return match by_words(line) {
             AfterEnd::Log => Ok(true),
-            AfterEnd::Misplaced => Err(TraceFault::Line(reader.number, Cause::Misplaced)),
-            AfterEnd::Unknown => Err(TraceFault::Line(reader.number, Cause::UnknownWord)),
+            AfterEnd::Misplaced => {
+                keep_front(kept, line);
+                Err(TraceFault::Line(reader.number, Cause::Misplaced))
+            }
+            AfterEnd::Unknown => {
+                keep_front(kept, line);
+                Err(TraceFault::Line(reader.number, Cause::UnknownWord))
+            }
         };
     }
-    match reader.take_line(line) {
+    match reader.take_line(line, kept) {
         Ok(()) => Ok(false),
         Err(fault) => Err(fault),
     }
 }
 
 // Takes a line, which byte 10 ended or the text's end.
-fn take_ended(reader: &mut Reader, line: &[u8], ended: bool) -> Result<bool, TraceFault>
+fn take_ended(
+    reader: &mut Reader,
+    line: &[u8],
+    ended: bool,
+    kept: &mut ArrayVec<u8, 80>,
+) -> Result<bool, TraceFault>
     requires { IsReading reader.old.draft reader.old.number }
+    ensures first_bytes { IfErr result (KeepsLine reader.old.number line.now kept.new.items) }
     ensures kept { IfOk result (IsKeptNext reader.new.draft reader.old.number reader.new.number) }
     ensures line { AnswersLine reader.old.draft.part reader.old.number ended line.now reader.new.draft.part reader.new.number result }
     ensures no_read { (count : ℕ) → CountsBy result count count }
 {
-    match take_head_line(reader, line) {
+    match take_head_line(reader, line, kept) {
         Ok(true) => Ok(true),
         Ok(false) => {
             if ended {
@@ -114,13 +132,16 @@ fn take_ended(reader: &mut Reader, line: &[u8], ended: bool) -> Result<bool, Tra
     }
 }
 
-// Reads the next line, and says whether it begins the log.
+// Reads the next line, and says whether it begins the log; or keeps its first bytes if it is at fault.
 fn next_front<S: Source>(
     lines: &mut Lines<'_, S>,
     reader: &mut Reader,
     out: &mut ArrayVec<u8, 256>,
+    kept: &mut ArrayVec<u8, 80>,
 ) -> Result<bool, TraceFault>
     requires { IsReading reader.old.draft reader.old.number }
+    ensures first_bytes { (told : Option (List ℕ)) → IsTold told reader.old.draft.part reader.old.number (bytes_left S.seen lines.old)
+        → IfErr result (λ fault. IsTextOf fault told kept.new.items) }
     ensures kept { IfOk result (IsKeptNext reader.new.draft reader.old.number reader.new.number) }
     ensures text { AnswersNext reader.old.draft.part reader.old.number (bytes_left S.seen lines.old) reader.new.draft.part reader.new.number (bytes_left S.seen lines.new) result }
     ensures known { IsSome (S.seen lines.old.source.now).left → IsSome (S.seen lines.new.source.now).left }
@@ -129,24 +150,33 @@ fn next_front<S: Source>(
     ensures same_reference { lines.new.source.ghost_name ≡ lines.old.source.ghost_name }
 {
     match lines.next(out) {
-        Ok(Line::Text { ended }) => take_ended(reader, out.as_slice(), ended),
-        Ok(Line::Long) => Err(TraceFault::Line(reader.number, Cause::LineTooLong)),
+        Ok(Line::Text { ended }) => take_ended(reader, out.as_slice(), ended, kept),
+        Ok(Line::Long) => {
+            keep_front(kept, out.as_slice());
+            Err(TraceFault::Line(reader.number, Cause::LineTooLong))
+        }
         Ok(Line::End) => Err(TraceFault::Unfinished),
         Err(_) => Err(TraceFault::ReadFault),
     }
 }
 
 /// The configuration of a trace behind which a log stands: the part up to and with its line LOG, which is
-/// judged as a line of the trace. The bytes of the log are left.
+/// judged as a line of the trace. The bytes of the log are left. Of the first faulty line the first 80 bytes
+/// are kept in `kept`.
 ///
 /// # Errors
 /// `Line` is the first faulty line with the first rule that it breaks; after END each line that isn't
 /// skipped and isn't the one word LOG is faulty. `Unfinished` if the text ends before LOG. `ReadFault`
 /// only if the source's count of failures rose, and no line taken before is at fault. `NoMemory` if memory
 /// ran out at a line that isn't at fault.
-pub fn read_head<S: Source>(lines: &mut Lines<'_, S>, alloc: Global) -> Result<Config, TraceFault>
+pub fn read_head<S: Source>(
+    lines: &mut Lines<'_, S>,
+    alloc: Global,
+    kept: &mut ArrayVec<u8, 80>,
+) -> Result<Config, TraceFault>
     ensures well_formed { IfOk result IsWellFormed }
     ensures text { IfSome (bytes_left S.seen lines.old) (λ text. HeadAnswers result text (bytes_left S.seen lines.new)) }
+    ensures kept { IfErr result (λ fault. IsTextOf fault (bytes_left S.seen lines.old) kept.new.items) }
     ensures known { IsSome (S.seen lines.old.source.now).left → IsSome (S.seen lines.new.source.now).left }
     ensures faults { FaultsBy result (S.seen lines.old.source.now).failures (S.seen lines.new.source.now).failures }
     ensures faults_later { (S.seen lines.old.source.now).failures ≤ (S.seen lines.new.source.now).failures }
@@ -159,7 +189,7 @@ pub fn read_head<S: Source>(lines: &mut Lines<'_, S>, alloc: Global) -> Result<C
     };
     let mut out = ArrayVec::new();
     'front: loop {
-        match next_front(lines, &mut reader, &mut out) {
+        match next_front(lines, &mut reader, &mut out, kept) {
             Ok(true) => return Ok(reader.draft.part.config),
             Ok(false) => {}
             Err(fault) => return Err(fault),

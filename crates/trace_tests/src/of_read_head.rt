@@ -1,3 +1,4 @@
+use arrayvec::ArrayVec;
 use line_source::Lines;
 use outside_io::MemorySource;
 use std::alloc::Global;
@@ -20,8 +21,8 @@ fn head(
     text.extend_from_slice(behind)?;
     let mut source = MemorySource::new(text, fails);
     let mut lines = Lines::new(&mut source);
-    let answer = read_head(&mut lines, alloc);
-    let mut out = arrayvec::ArrayVec::new();
+    let answer = read_head(&mut lines, alloc, &mut ArrayVec::new());
+    let mut out = ArrayVec::new();
     let mut left = 0;
     for n in 1..10 {
         match lines.next(&mut out) {

@@ -1,5 +1,6 @@
 ghost use Rattle.std.specs.Prelude.{None};
 
+use arrayvec::ArrayVec;
 use outside_io::{MemorySource, Source};
 use std::alloc::{AllocError, Global};
 use std::process::Abort;
@@ -201,10 +202,13 @@ P END;A R1 0\n\
 // The answer to a text, read at once; it is the same byte by byte.
 fn fault(rt: &impl Abort, alloc: Global, text: &[u8]) -> Result<Option<TraceFault>, AllocError> {
     let mut pieces = dripping(text.to_vec(alloc)?, 0);
-    let slow = read_trace(&mut pieces, alloc).err();
+    let mut kept = ArrayVec::new();
+    let slow = read_trace(&mut pieces, alloc, &mut kept).err();
     let mut source = MemorySource::new(text.to_vec(alloc)?, Vec::new(alloc));
-    let fast = read_trace(&mut source, alloc).err();
+    let mut front = ArrayVec::new();
+    let fast = read_trace(&mut source, alloc, &mut front).err();
     assert_eq!(rt; fast, slow);
+    assert_eq!(rt; front.as_slice(), kept.as_slice());
     Ok(fast)
 }
 
@@ -293,7 +297,10 @@ fn referred(mode: Mode, at: u32, op: Op) -> Task {
 fn reads_a_whole_trace(rt: HostRuntime) -> Result<(), Fail> {
     let alloc = rt.alloc();
     let mut source = MemorySource::new(WHOLE.to_vec(alloc)?, Vec::new(alloc));
-    let config = read_trace(&mut source, alloc).ok().ok_or("a trace")?;
+    let mut kept = ArrayVec::new();
+    let config = read_trace(&mut source, alloc, &mut kept)
+        .ok()
+        .ok_or("a trace")?;
     assert!(rt; config.frames == 40 && config.pagefile == 16);
     assert_eq!(rt; config.bad.items(), [39].as_slice());
     let params = Params {
@@ -401,7 +408,8 @@ fn answers_in_the_order_of_the_bytes(rt: HostRuntime) -> Result<(), Fail> {
     ];
     for (text, fails, answer) in table {
         let mut source = dripping(text.to_vec(alloc)?, fails);
-        assert_eq!(rt; read_trace(&mut source, alloc).err(), answer);
+        let mut kept = ArrayVec::new();
+        assert_eq!(rt; read_trace(&mut source, alloc, &mut kept).err(), answer);
     }
     what_is_read_is_well_formed();
     a_shown_fault_stays();
@@ -418,14 +426,17 @@ fn counts_lines_and_requests(rt: HostRuntime) -> Result<(), Fail> {
     }
     let full = joined(alloc, text.as_slice(), b"A R1 0")?;
     let mut source = MemorySource::new(full, Vec::new(alloc));
-    let answer = read_trace(&mut source, alloc).err();
+    let mut kept = ArrayVec::new();
+    let answer = read_trace(&mut source, alloc, &mut kept).err();
+    assert_eq!(rt; kept.as_slice(), b"A R1 0".as_slice());
     assert_eq!(rt; answer, line(100_006, Cause::TooMany));
     for _ in 0..99_995 {
         text.extend_from_slice(b"\n")?;
     }
     text.extend_from_slice(b"!")?;
     let mut source = MemorySource::new(text, Vec::new(alloc));
-    let answer = read_trace(&mut source, alloc).err();
+    let answer = read_trace(&mut source, alloc, &mut kept).err();
+    assert_eq!(rt; kept.as_slice(), b"!".as_slice());
     assert_eq!(rt; answer, line(200_001, Cause::TooMany));
     Ok(())
 }

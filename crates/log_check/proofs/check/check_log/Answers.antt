@@ -1,6 +1,7 @@
-use Rattle.std.proofs.Common.{arith}
+use Rattle.std.proofs.Common.{◌∙◌, List, ℕ, ap, take, arith}
 use Rattle.std.proofs.lemmas.Result.{err_from_is_err_and}
 use Rattle.line_source.specs.BytesLeft.{bytes_left}
+use Rattle.log_check.proofs.Fronts.{last_kept, next_kept}
 use Rattle.log_check.proofs.Logs.{log_ended, log_judged, log_unbegun}
 use Rattle.log_check.proofs.check.check_log.Goals as goal
 
@@ -19,6 +20,20 @@ pub returns-clause-text : goal.returns-clause-text
 returns-clause-text g c =
     let most = c.lines.invariant.most in
     let over = c.lines-test.false in
-    log_ended c.args.config.now (bytes_left g.S.Source.seen c.args.lines.now) (bytes_left g.S.Source.seen c.lines.lines) (bytes_left g.S.Source.seen c.judge_last.new.lines)
-    c.lines.followed c.lines.place c.lines.count c.judge_last.result
-    c.lines.invariant.read c.judge_last.ensures.text (omega (arith, most, over)) c.lines.invariant.config
+    log_ended c.args.config.now (bytes_left g.S.Source.seen c.args.lines.now) (bytes_left g.S.Source.seen c.lines.lines) (bytes_left g.S.Source.seen c.judge_last-answer.new.lines)
+    c.lines.followed c.lines.place c.lines.count c.judge_last-answer.result
+    c.lines.invariant.read c.judge_last-answer.ensures.text (omega (arith, most, over)) c.lines.invariant.config
+
+pub returns-in-Ok-Judged-clause-kept : goal.returns-in-Ok-Judged-clause-kept
+returns-in-Ok-Judged-clause-kept g c =
+    next_kept (bytes_left g.S.Source.seen c.args.lines.now) (bytes_left g.S.Source.seen c.lines.lines) (bytes_left g.S.Source.seen c.take_next.new.lines) c.lines.count c.take_next.new.out.items c.keep_front.new.kept.items
+    c.in-Ok-Judged.field-0 c.in-Ok-Judged.verdict c.lines.invariant.behind c.in-Ok-Judged.ensures.front c.in-Ok-Judged.field-0-is
+    (c.keep_front.ensures ∙ ap (λ (xs : List ℕ). take 80 xs) c.as_slice.ensures.value)
+
+pub returns-clause-kept : goal.returns-clause-kept
+returns-clause-kept g c =
+    let most = c.lines.invariant.most in
+    let over = c.lines-test.false in
+    last_kept (bytes_left g.S.Source.seen c.args.lines.now) (bytes_left g.S.Source.seen c.lines.lines) c.lines.count c.judge_last-answer.new.out.items c.keep_front-2.new.kept.items c.judge_last-answer.result
+    c.lines.invariant.behind (omega (arith, most, over)) c.judge_last-answer.ensures.front
+    (c.keep_front-2.ensures ∙ ap (λ (xs : List ℕ). take 80 xs) c.as_slice-2.ensures.value)

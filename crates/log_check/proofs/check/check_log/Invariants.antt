@@ -2,7 +2,7 @@ use Rattle.std.proofs.Common.{◌≡◌, ◌≤◌, length}
 use Rattle.std.specs.Prelude.{IfSome, IsSome}
 use Rattle.line_source.specs.BytesLeft.{bytes_left}
 use Rattle.log_check.specs.Followed.{IsFollowed}
-use Rattle.log_check.specs.Reading.{HasRead}
+use Rattle.log_check.specs.Reading.{HasRead, IsBehind}
 use Rattle.log_check.proofs.check.check_log.Given as goal
 
 -- so many lines are legal, and what stands for them is kept
@@ -14,6 +14,7 @@ invariant-lines g l = record {
   fewer : length l.followed.past.past ≤ l.count;
   most : l.count ≤ 16777216;
   read : IfSome (bytes_left g.S.Source.seen l.fn.lines) (λ text. HasRead text l.followed.past l.place l.count (bytes_left g.S.Source.seen l.lines));
+  behind : IfSome (bytes_left g.S.Source.seen l.fn.lines) (λ text. IsBehind text l.count (bytes_left g.S.Source.seen l.lines));
   still_told : IsSome (g.S.Source.seen l.fn.lines.source.now).left → IsSome (g.S.Source.seen l.lines.source.now).left;
   faults : (g.S.Source.seen l.lines.source.now).failures ≡ (g.S.Source.seen l.fn.lines.source.now).failures;
 }

@@ -1,6 +1,7 @@
 use Rattle.std.proofs.Common.{arith}
 use Rattle.line_source.specs.BytesLeft.{bytes_left}
 use Rattle.log_check.proofs.Answered.{told_end, told_fault, told_long, told_on, told_short, told_unended, told_unread}
+use Rattle.log_check.proofs.Fronts.{behind_next, end_front, front_is}
 use Rattle.log_check.proofs.check.take_next.Goals as goal
 
 pub returns-in-Ok-Some-clause-text : goal.returns-in-Ok-Some-clause-text
@@ -46,3 +47,25 @@ returns-in-Err-clause-text g c =
     λ text read. told_unread text c.args.followed.now c.args.place c.args.count (bytes_left g.S.Source.seen c.args.lines.now) (bytes_left g.S.Source.seen c.next.new.self) c.next.new.out.items read
     c.in-Err.field-0
     (omega (arith, few)) c.in-Err.ensures.gives c.in-Err.ensures.takes
+
+pub returns-in-Ok-Some-clause-front : goal.returns-in-Ok-Some-clause-front
+returns-in-Ok-Some-clause-front g c =
+    λ text behind. behind_next text c.args.count (bytes_left g.S.Source.seen c.args.lines.now) (bytes_left g.S.Source.seen c.next.new.self) c.next.new.out.items behind c.in-Ok-Text-true.field-0 c.in-Ok-Text-true.field-0-0
+    c.in-Ok-Text-true.field-0-is c.in-Ok-Text-true.field-0-0-test c.in-Ok-Text-true.ensures.gives c.in-Ok-Text-true.ensures.takes
+
+pub returns-in-Ok-None-clause-front : goal.returns-in-Ok-None-clause-front
+returns-in-Ok-None-clause-front g c =
+    λ text behind. front_is text c.args.count (bytes_left g.S.Source.seen c.args.lines.now) (bytes_left g.S.Source.seen c.next.new.self) c.next.new.out.items behind c.in-Ok-Text-true.field-0 c.in-Ok-Text-true.ensures.gives c.in-Ok-Text-true.ensures.takes
+
+pub returns-in-Ok-Text-false-clause-front : goal.returns-in-Ok-Text-false-clause-front
+returns-in-Ok-Text-false-clause-front g c =
+    λ text behind. front_is text c.args.count (bytes_left g.S.Source.seen c.args.lines.now) (bytes_left g.S.Source.seen c.next.new.self) c.next.new.out.items behind c.in-Ok-Text-false.field-0 c.in-Ok-Text-false.ensures.gives c.in-Ok-Text-false.ensures.takes
+
+pub returns-in-Ok-Long-clause-front : goal.returns-in-Ok-Long-clause-front
+returns-in-Ok-Long-clause-front g c =
+    λ text behind. front_is text c.args.count (bytes_left g.S.Source.seen c.args.lines.now) (bytes_left g.S.Source.seen c.next.new.self) c.next.new.out.items behind c.in-Ok-Long.field-0 c.in-Ok-Long.ensures.gives c.in-Ok-Long.ensures.takes
+
+pub returns-in-Ok-End-clause-front : goal.returns-in-Ok-End-clause-front
+returns-in-Ok-End-clause-front g c =
+    λ text behind. end_front text c.next.new.out.items c.args.place c.args.count c.end_of.result c.end_of.ensures
+    (front_is text c.args.count (bytes_left g.S.Source.seen c.args.lines.now) (bytes_left g.S.Source.seen c.next.new.self) c.next.new.out.items behind c.in-Ok-End.field-0 c.in-Ok-End.ensures.gives c.in-Ok-End.ensures.takes)

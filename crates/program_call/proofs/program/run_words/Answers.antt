@@ -1,7 +1,7 @@
 use Rattle.std.proofs.Common.{◌∙◌, ap, map, List, ℕ, Bor, [], refl, sym, subst, All}
 use Rattle.std.specs.Str.{IsUtf8}
 use Rattle.program_call.proofs.Texts.{if_some, if_none}
-use Rattle.program_call.proofs.Telling.{run_tells, none_tells, no_words_told, no_words_cut}
+use Rattle.program_call.proofs.Telling.{run_tells, none_tells, no_words_told, no_words_cut, no_words_right}
 use Rattle.program_call.proofs.program.run_words.Goals as goal
 
 pub returns-in_default-clause-told : goal.returns-in_default-clause-told
@@ -9,6 +9,12 @@ returns-in_default-clause-told g c = no_words_told c.end_with.ensures
 
 pub returns-in_default-clause-cut : goal.returns-in_default-clause-cut
 returns-in_default-clause-cut g c = no_words_cut c.end_with.ensures
+
+pub returns-in_default-clause-wrong : goal.returns-in_default-clause-wrong
+returns-in_default-clause-wrong g c = no_words_right c.end_with.ensures
+
+pub returns-clause-wrong : goal.returns-clause-wrong
+returns-clause-wrong g c = no_words_right c.end_with-in-Err.ensures
 
 pub returns-clause-told : goal.returns-clause-told
 returns-clause-told g c = no_words_told c.end_with-in-Err.ensures
@@ -18,24 +24,24 @@ returns-clause-cut g c = no_words_cut c.end_with-in-Err.ensures
 
 pub returns-in-Ok-Some-clause-told : goal.returns-in-Ok-Some-clause-told
 returns-in-Ok-Some-clause-told g c = λ no_four.
-    let told = c.run_one.ensures.told no_four in
+    let told = c.run_and_tell.ensures.run.told no_four in
     let copied = ap (map (λ word. word.items)) c.as_slice.ensures.value in
     let same = ap (map (λ (text : Bor (List ℕ)). text.now)) c.as_slice-in-Ok-Some.ensures.value ∙ (if_some _ _ _ _ c.in-Ok-Some.field-0-is c.in-Ok-Some.ensures).0 ∙ copied in
     (told.0, run_tells _ _ _ _ _ _ _ c.in-Ok.ensures same (subst (All IsUtf8) copied (if_some _ _ _ _ c.in-Ok-Some.field-0-is c.in-Ok-Some.ensures).1) told.1, told.2)
 
 pub returns-in-Ok-Some-clause-cut : goal.returns-in-Ok-Some-clause-cut
 returns-in-Ok-Some-clause-cut g c = λ four.
-    let cut = c.run_one.ensures.cut four in
+    let cut = c.run_and_tell.ensures.run.cut four in
     let copied = ap (map (λ word. word.items)) c.as_slice.ensures.value in
     let same = ap (map (λ (text : Bor (List ℕ)). text.now)) c.as_slice-in-Ok-Some.ensures.value ∙ (if_some _ _ _ _ c.in-Ok-Some.field-0-is c.in-Ok-Some.ensures).0 ∙ copied in
     (cut.0, (cut.1.0, (cut.1.1.0, run_tells _ _ _ _ _ _ _ c.in-Ok.ensures same (subst (All IsUtf8) copied (if_some _ _ _ _ c.in-Ok-Some.field-0-is c.in-Ok-Some.ensures).1) cut.1.1.1, cut.1.1.2, cut.1.1.3)))
 
 pub returns-in-Ok-None-clause-told : goal.returns-in-Ok-None-clause-told
 returns-in-Ok-None-clause-told g c = λ no_four.
-    let told = c.run_one-in-Ok-None.ensures.told no_four in
+    let told = c.run_and_tell-in-Ok-None.ensures.run.told no_four in
     (told.0, none_tells _ _ [] _ _ _ _ c.in-Ok.ensures refl (λ utf8. if_none _ _ _ c.in-Ok-None.field-0-is c.in-Ok-None.ensures (subst (λ words. All IsUtf8 (map (λ word. word.items) words)) (sym c.as_slice.ensures.value) utf8)) told.1, told.2)
 
 pub returns-in-Ok-None-clause-cut : goal.returns-in-Ok-None-clause-cut
 returns-in-Ok-None-clause-cut g c = λ four.
-    let cut = c.run_one-in-Ok-None.ensures.cut four in
+    let cut = c.run_and_tell-in-Ok-None.ensures.run.cut four in
     (cut.0, (cut.1.0, (cut.1.1.0, none_tells _ _ [] _ _ _ _ c.in-Ok.ensures refl (λ utf8. if_none _ _ _ c.in-Ok-None.field-0-is c.in-Ok-None.ensures (subst (λ words. All IsUtf8 (map (λ word. word.items) words)) (sym c.as_slice.ensures.value) utf8)) cut.1.1.1, cut.1.1.2, cut.1.1.3)))

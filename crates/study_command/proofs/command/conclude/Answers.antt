@@ -1,8 +1,12 @@
 use Rattle.program_ends.proofs.Telling.{concludes_answered, concludes_fault}
+use Rattle.program_ends.proofs.Wronging.{fault_text_kept}
 use Rattle.study_command.proofs.command.conclude.Goals as goal
 
 pub returns-in-Ok-clause-outcome : goal.returns-in-Ok-clause-outcome
 returns-in-Ok-clause-outcome g c = concludes_answered c.in-Ok.config c.in-Ok.ensures.text c.in-Ok.ensures.faults c.study_config.ensures
 
 pub returns-in-Err-clause-outcome : goal.returns-in-Err-clause-outcome
-returns-in-Err-clause-outcome g c = concludes_fault c.in-Err.fault c.in-Err.ensures.text c.in-Err.ensures.faults c.end_fault.ensures
+returns-in-Err-clause-outcome g c = concludes_fault c.in-Err.fault c.wrong_of.result c.wrong_of.ensures c.in-Err.ensures.text c.in-Err.ensures.faults c.end_fault.ensures
+
+pub returns-in-Err-clause-kept : goal.returns-in-Err-clause-kept
+returns-in-Err-clause-kept g c = fault_text_kept c.in-Err.fault c.wrong_of.result _ _ c.wrong_of.ensures c.in-Err.ensures.kept

@@ -1,11 +1,12 @@
 use Rattle.program_ends.proofs.Concluding.{has_told, was_cut, faulty_write, no_failed_write}
+use Rattle.program_ends.proofs.Wronging.{told_alone}
 use Rattle.replay_cli.proofs.Obeying.{not_four, usage_status, no_usage_status, read_status, depot_status, complete_status}
 use Rattle.replay_cli.proofs.Served.{served}
-use Rattle.replay_cli.proofs.cli.run_one.Goals as goal
+use Rattle.replay_cli.proofs.cli.run_and_tell.Goals as goal
 
-pub returns : goal.returns
-returns g c =
-    let outcome = c.conclude.ensures.outcome in
+pub returns-clause-run : goal.returns-clause-run
+returns-clause-run g c =
+    let outcome = told_alone c.conclude.ensures.outcome in
     record {
       told = has_told outcome;
       cut = was_cut outcome not_four;
@@ -22,3 +23,6 @@ returns g c =
       write_later = (outcome.ends.failures_later, outcome.ends.stalls_later);
       depot_later = c.conclude.ensures.depot_later;
     }
+
+pub returns-clause-wrong : goal.returns-clause-wrong
+returns-clause-wrong g c = λ no_four. let told = has_told c.conclude.ensures.outcome no_four in (told.0, told.1.says, told.2)

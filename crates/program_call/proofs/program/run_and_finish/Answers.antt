@@ -4,13 +4,14 @@ use Rattle.std.specs.Prelude.{◌⊎◌}
 use Rattle.std.specs.Io.KnownBytes.{Appends}
 use Rattle.vm_types.specs.Moved.{moved}
 use Rattle.outside_io.specs.Causes.{Rose}
+use Rattle.program_ends.specs.Wrongs.{IsWrong}
 use Rattle.program_call.specs.ProgramTells.{ProgramTells}
 use Rattle.program_call.proofs.Telling.{whole_but_kept}
-use Rattle.program_call.proofs.program.run_program.Goals as goal
+use Rattle.program_call.proofs.program.run_and_finish.Goals as goal
 
-pub returns : goal.returns
-returns g c =
-    let words = c.run_words-status.ensures in
+pub returns-clause-run : goal.returns-clause-run
+returns-clause-run g c =
+    let words = c.run_words-told.ensures in
     let end = c.finish.ensures in
     let tells = ProgramTells (g.A.Arguments.left c.args.arguments.now) (moved (g.S.Source.seen c.args.source.now) (g.S.Source.seen c.run_words-status.new.source))
     (moved (g.D.Depot.seen c.args.depot.now) (g.D.Depot.seen c.run_words-status.new.depot)) in
@@ -42,3 +43,9 @@ returns g c =
                 )
           ];
     }
+
+pub returns-clause-wrong : goal.returns-clause-wrong
+returns-clause-wrong g c = λ no_four.
+    let run = c.finish.ensures.run no_four in
+    let told = c.run_words-told.ensures.wrong (λ four. no_four (run.0 ∙ four)) in
+    (told.0, subst (λ status. IsWrong _ status told.0) (sym run.0) told.1, Appends-kept _ _ _ told.0 told.2 c.finish.ensures.bytes)

@@ -1,0 +1,64 @@
+-- What is wrong with an input, with its status and its text. Source: this project's own.
+use Rattle.std.specs.Prelude.{◌≡◌, ℕ, List, ◌++◌, codes, decimal, None, Some, IfSome}
+use Rattle.std.specs.declared.option.Option.{Option}
+use Rattle.vm_types.specs.declared.config.Config.{Config}
+use Rattle.trace_reader.specs.Head.{Configured, head_of}
+use Rattle.trace_reader.specs.declared.fault.TraceFault.{TraceFault}
+use Rattle.trace_reader.specs.declared.fault.TraceFault.TheVariants as fault
+use Rattle.line_source.specs.LineText.{line_text}
+use Rattle.pager_model.specs.Text.{ended, status_line}
+use Rattle.program_ends.specs.FaultText.{fault_text, unfinished_text}
+use Rattle.program_ends.specs.declared.wrong.Wrong.{Wrong}
+use Rattle.program_ends.specs.declared.wrong.Wrong.TheVariants.{Line, Unfinished, LogTooLong, LogLine}
+
+-- the lines that say what is wrong with a log
+abbrev pub log_fault_text : ℕ → List ℕ
+log_fault_text number = ended (codes "LOG FAULT " ++ decimal number)
+
+abbrev pub log_too_long_text : List ℕ
+log_too_long_text = ended (codes "LOG TOOMANY")
+
+-- the status of such an input, and its text
+abbrev pub wrong_status : Wrong → ℕ
+wrong_status (Line number cause) = 2
+wrong_status Unfinished = 2
+wrong_status LogTooLong = 2
+wrong_status (LogLine number) = 8
+
+abbrev pub wrong_text : Wrong → List ℕ
+wrong_text (Line number cause) = fault_text number cause ++ status_line 2
+wrong_text Unfinished = unfinished_text ++ status_line 2
+wrong_text LogTooLong = log_too_long_text ++ status_line 2
+wrong_text (LogLine number) = log_fault_text number ++ status_line 8
+
+-- the status and the text say that this is wrong; if nothing is wrong, the status is that of no such input
+abbrev pub IsWrong : Option Wrong → ℕ → List ℕ → Type 0
+IsWrong None status text = (status ≡ 2 → ⊥) × (status ≡ 8 → ⊥)
+IsWrong (Some wrong) status text = (status ≡ wrong_status wrong) × (text ≡ wrong_text wrong)
+
+-- what is told with a status, and what is wrong by it
+pub record TellsWrong (tells : ℕ → List ℕ → Type 0) (wrong : Option Wrong) (status : ℕ) (text : List ℕ) : Type 0 where
+  pub told : tells status text
+  pub says : IsWrong wrong status text
+
+-- what is wrong with a trace that gives no configuration
+abbrev pub wrong_of : TraceFault → Option Wrong
+wrong_of (fault.Line number cause) = Some (Line number cause)
+wrong_of fault.Unfinished = Some Unfinished
+wrong_of fault.ReadFault = None
+wrong_of fault.NoMemory = None
+
+-- the first bytes of a line of the log that stands behind a trace
+pub record IsLogText (number : ℕ) (text kept : List ℕ) : Type 0 where
+  pub config : Config
+  pub log : List ℕ
+  pub head : head_of text ≡ Configured config log
+  pub is : kept ≡ line_text number log
+
+-- of the faulty line of the trace or the log that the input had, if that is known, the first bytes were kept
+abbrev pub IsWrongText : Option Wrong → Option (List ℕ) → List ℕ → Type 0
+IsWrongText None input kept = Unit {0}
+IsWrongText (Some (Line number cause)) input kept = IfSome input (λ text. kept ≡ line_text number text)
+IsWrongText (Some Unfinished) input kept = Unit {0}
+IsWrongText (Some LogTooLong) input kept = Unit {0}
+IsWrongText (Some (LogLine number)) input kept = IfSome input (λ text. IsLogText number text kept)
