@@ -17,5 +17,3 @@ mod of_program_ends;
 mod of_run_text;
 #[cfg(test)]
 mod of_study_command;
-#[cfg(test)]
-mod of_vm_dump;

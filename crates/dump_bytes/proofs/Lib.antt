@@ -1,0 +1,16 @@
+pub mod Readers
+pub mod ListReaders
+pub mod Numbers
+pub mod Fronts
+pub mod Slots
+pub mod Frames
+pub mod Words
+pub mod Rising
+pub mod Processes
+pub mod Dumps
+pub mod Outcomes
+pub mod Repeating
+pub mod Lengths
+pub mod Answering
+pub mod Writing
+pub mod OneAnswer
