@@ -2,6 +2,7 @@
 use Rattle.std.proofs.Common.{◌≡◌, List, ◌++◌, subst, sym}
 use Rattle.vm_types.specs.BlockView.{Retired, Tells}
 use Rattle.vm_types.specs.Configuration.{IsWellFormed}
+use Rattle.vm_types.specs.Moved.{moved}
 use Rattle.vm_types.specs.declared.config.Config.{Config}
 use Rattle.vm_types.specs.declared.names.Page.{Page}
 use Rattle.vm_journal.specs.declared.entry.Entry.{Entry}

@@ -2,8 +2,8 @@ use Rattle.std.proofs.Common.{length, take, subst, sym, ◌∙◌, inl, inr, ari
 use Rattle.std.proofs.KnownBytes.{Appends-kept}
 use Rattle.std.specs.Prelude.{◌⊎◌}
 use Rattle.std.specs.Io.KnownBytes.{Appends}
-use Rattle.vm_types.specs.Moved.{moved}
 use Rattle.outside_io.specs.Causes.{Rose}
+use Rattle.vm_types.specs.Moved.{moved}
 use Rattle.program_ends.specs.Wrongs.{IsWrong}
 use Rattle.program_call.specs.ProgramTells.{ProgramTells}
 use Rattle.program_call.proofs.Telling.{whole_but_kept}
@@ -13,13 +13,11 @@ pub returns-clause-run : goal.returns-clause-run
 returns-clause-run g c =
     let words = c.run_words-told.ensures in
     let end = c.finish.ensures in
-    let tells = ProgramTells (g.A.Arguments.left c.args.arguments.now) (moved (g.S.Source.seen c.args.source.now) (g.S.Source.seen c.run_words-status.new.source))
-    (moved (g.D.Depot.seen c.args.depot.now) (g.D.Depot.seen c.run_words-status.new.depot)) in
     record {
       told = λ no_four.
           let run = end.run no_four in
           let told = words.told (λ four. no_four (run.0 ∙ four)) in
-          (told.0, subst (λ status. tells status told.0) (sym run.0) told.1, Appends-kept _ _ _ told.0 told.2 end.bytes);
+          (told.0, subst (λ status. ProgramTells (g.A.Arguments.left c.args.arguments.now) (moved (g.S.Source.seen c.args.source.now) (g.S.Source.seen c.run_words-told.new.source)) (moved (g.D.Depot.seen c.args.depot.now) (g.D.Depot.seen c.run_words-told.new.depot)) status told.0) (sym run.0) told.1, Appends-kept _ _ _ told.0 told.2 end.bytes);
       handed_on = λ no_four. (end.run no_four).1;
       unfailed = λ no_four.
           let run = end.run no_four in
@@ -48,4 +46,4 @@ pub returns-clause-wrong : goal.returns-clause-wrong
 returns-clause-wrong g c = λ no_four.
     let run = c.finish.ensures.run no_four in
     let told = c.run_words-told.ensures.wrong (λ four. no_four (run.0 ∙ four)) in
-    (told.0, subst (λ status. IsWrong _ status told.0) (sym run.0) told.1, Appends-kept _ _ _ told.0 told.2 c.finish.ensures.bytes)
+    (told.0, subst (λ status. IsWrong c.run_words-told.result.1 status told.0) (sym run.0) told.1, Appends-kept _ _ _ told.0 told.2 c.finish.ensures.bytes)
