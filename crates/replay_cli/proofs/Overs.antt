@@ -6,7 +6,6 @@ use Rattle.vm_types.specs.Moved.{moved}
 use Rattle.vm_types.specs.declared.config.Config.{Config}
 use Rattle.vm_types.specs.declared.names.Page.{Page}
 use Rattle.vm_journal.specs.declared.entry.Entry.{Entry}
-use Rattle.vm_types.specs.Moved.{moved}
 use Rattle.disk_trait.specs.DepotView.{DepotView}
 use Rattle.pager_laws.specs.Laws.{RunsAreSound}
 use Rattle.pager_model.specs.Serial.{IsSerial}
