@@ -3,9 +3,8 @@
 #![tactic(auto)]
 
 #[cfg(test)]
-mod one_page;
-
-#[cfg(test)]
 mod of_dump_bytes;
 #[cfg(test)]
 mod of_great_dumps;
+#[cfg(test)]
+mod one_page;
