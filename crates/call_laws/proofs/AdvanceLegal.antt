@@ -11,14 +11,13 @@ use Rattle.vm_types.specs.declared.config.Config.{Config}
 use Rattle.vm_types.specs.declared.config.ProcSpec.{ProcSpec}
 use Rattle.vm_types.specs.declared.names.BlockId.{BlockId}
 use Rattle.vm_types.specs.declared.names.Page.{Page}
-use Rattle.vm_types.specs.declared.names.Page.TheVariants.{Private}
 use Rattle.vm_types.specs.declared.names.ProcStatus.{ProcStatus}
 use Rattle.vm_types.specs.declared.names.ProcStatus.TheVariants as status
 use Rattle.vm_types.specs.declared.reference.Ref.{Ref}
 use Rattle.vm_types.specs.declared.reply.Why.{Why}
 use Rattle.vm_journal.specs.declared.entry.Entry.{Entry}
 use Rattle.vm_journal.specs.declared.entry.What.TheVariants as what
-use Rattle.pager_model.specs.Advance.{GivenNext, advance_gives, again_block_busy, again_charging, again_collided, again_modified_full, again_not_resident, block_after, collide_given, entry_given, fault_given, following, frame_given, gives_again, held_given, is_busy_block, is_named, is_out, is_uncharged, limit_given, mapped_given, near_targets, read_given, refused_given, replace_given, replace_seen, room_given, source_of, window}
+use Rattle.pager_model.specs.Advance.{GivenNext, advance_gives, again_block_busy, again_charging, again_collided, again_modified_full, again_not_resident, block_after, collide_given, entry_given, fault_given, first_source, following, frame_given, gives_again, held_given, is_busy_block, is_named, is_out, is_uncharged, limit_given, mapped_given, near_targets, read_given, refused_given, replace_given, replace_seen, room_given, source_of, window}
 use Rattle.pager_model.specs.Around.{past_view}
 use Rattle.pager_model.specs.Back.{after_any_back}
 use Rattle.pager_model.specs.Changes.{valid_at}
@@ -29,9 +28,9 @@ use Rattle.pager_model.specs.Flights.{Flight, failed_flight, is_busy, open_fligh
 use Rattle.pager_model.specs.Forget.{holder}
 use Rattle.pager_model.specs.Given.{Seen, by_seat, is_stopped, page_address, pfn, reads_made, reuse_first, seen_at, unsaid}
 use Rattle.pager_model.specs.In.{IsFirstIn}
-use Rattle.pager_model.specs.Lookups.{count_page, entry_of, is_pending, is_resident, page_by, section_at}
+use Rattle.pager_model.specs.Lookups.{count_page, entry_of, is_pending, is_resident, page_by}
 use Rattle.pager_model.specs.OfConfig.{IsPageOf}
-use Rattle.pager_model.specs.Maps.{page_number, proc}
+use Rattle.pager_model.specs.Maps.{page_behind, page_number, proc}
 use Rattle.pager_model.specs.Own.{IsEmptyHead}
 use Rattle.pager_model.specs.Pager.{Pager, Valid}
 use Rattle.pager_model.specs.Reuse.{charged_reused}
@@ -199,7 +198,7 @@ module _ (config : Config) (past : List Entry) (p : ℕ) (r : Ref) (formed_r : I
     reused : (f : ℕ) (fs : List ℕ) (x : Page) → a.free ≡ f ∷ fs → a.page f ≡ Some x → IsLegal config past a (by_seat p (what.Reuse (pfn f) x))
     reused f fs x free holds = reuse_legal config past p ready f x (record { rest = fs; heads = free }) holds
 
-    module _ (out : (k : ℕ) → a.page k ≡ Some g → ⊥) (room : (is_uncharged a g && nat_eq (length a.charged) config.pagefile) ≡ false) (below : filled (a.ring p).slots < a.limit p) (f : ℕ) (fs : List ℕ) (free : a.free ≡ f ∷ fs) where
+    module _ (out : (k : ℕ) → a.page k ≡ Some g → ⊥) (room : (is_uncharged config a g && nat_eq (length a.charged) config.pagefile) ≡ false) (below : filled (a.ring p).slots < a.limit p) (f : ℕ) (fs : List ℕ) (free : a.free ≡ f ∷ fs) where
       emptied : (x : Page) (k : ℕ) → at_number a.page f None k ≡ Some g → ⊥
       emptied x k is = go (cases_eq f k)
         where
@@ -208,7 +207,7 @@ module _ (config : Config) (past : List Entry) (p : ℕ) (r : Ref) (formed_r : I
           go (inr apart) = out k (sym (at_number_other a.page f None k apart) ∙ is)
 
       -- ---- ZERO
-      zero_by : source_of a g (a.map p w) ≡ None → (o : Option Page) → a.page f ≡ o → AreLegal config past p (reuse_first o f (what.Zero (page_address w) (pfn f) ∷ what.Done r unsaid ∷ []))
+      zero_by : source_of config a g (a.map p w) ≡ None → (o : Option Page) → a.page f ≡ o → AreLegal config past p (reuse_first o f (what.Zero (page_address w) (pfn f) ∷ what.Done r unsaid ∷ []))
       zero_by source None holds = zeroed config p r formed_r past ready (omega (arith, few)) not_pending none below (new_zero config past p ready w g mapped out source room) f (record { head = record { rest = fs; heads = free }; empty = holds })
       zero_by source (Some x) holds =
           let legal = reused f fs x free holds in
@@ -220,13 +219,13 @@ module _ (config : Config) (past : List Entry) (p : ℕ) (r : Ref) (formed_r : I
                   mapping = z.mapping;
                   mapped = z.mapped;
                   zero = z.zero;
-                  uncharged = ap (λ (pages : List Page). count_page pages (Private (proc p) w)) (charges_stay x) ∙ z.uncharged;
+                  uncharged = ap (λ (pages : List Page). count_page pages (page_behind config p w z.mapping.origin)) (charges_stay x) ∙ z.uncharged;
                   room = subst (λ (pages : List Page). length pages < config.pagefile) (sym (charges_stay x)) z.room;
                 }) f (record { head = record { rest = without a.free f; heads = refl }; empty = at_number_same a.page f None }),
           )
 
       -- ---- the reads of a cluster
-      module _ (b : BlockId) (source : source_of a g (a.map p w) ≡ Some b) (still : is_busy_block past (Some b) ≡ false) where
+      module _ (b : BlockId) (source : source_of config a g (a.map p w) ≡ Some b) (still : is_busy_block past (Some b) ≡ false) where
         abbrev many : ℕ
         many = cluster_length (window config a g b) config.params.pfc (length a.free)
 
@@ -238,7 +237,7 @@ module _ (config : Config) (past : List Entry) (p : ℕ) (r : Ref) (formed_r : I
 
         -- the neighbours are out, each in its block
         neighbour : (k : ℕ) → 0 < k → k ≤ many - 1 → (next : IsNextOut config a past g b k) × (g ≡ next.page → ⊥)
-        neighbour k above most = by_charge (is_uncharged a g) refl source
+        neighbour k above most = by_charge (is_uncharged config a g) refl source
           where
             fewer : (ws : List Bool) → window config a g b ≡ ws → k + 1 ≤ leading_out ws
             fewer ws is =
@@ -270,7 +269,7 @@ module _ (config : Config) (past : List Entry) (p : ℕ) (r : Ref) (formed_r : I
                 not_held None is = refl
                 not_held (Some n) is = absurd (false≢true is)
 
-            by_charge : (c : Bool) → is_uncharged a g ≡ c → cond c (section_at (a.map p w)) (a.lies g) ≡ Some b → (next : IsNextOut config a past g b k) × (g ≡ next.page → ⊥)
+            by_charge : (c : Bool) → is_uncharged config a g ≡ c → cond c (first_source g (a.map p w)) (a.lies g) ≡ Some b → (next : IsNextOut config a past g b k) × (g ≡ next.page → ⊥)
             by_charge true is there = absurd (let one = fewer (true ∷ []) (ap (λ (c : Bool). cond c (true ∷ []) (true ∷ map (λ (places : ℕ). is_out config a (following config a g b places)) (range_with_len 1 (config.params.pfc - 1)))) is) in omega (arith, above, one))
             by_charge false is there =
                 let test : ℕ → Bool = λ places. is_out config a (following config a g b places) in
@@ -326,13 +325,13 @@ module _ (config : Config) (past : List Entry) (p : ℕ) (r : Ref) (formed_r : I
             moved {k} x next = (record { page = next.0.page; found = next.0.found; follows = next.0.follows; there = out_after_reuse config past p f (block_after b k) next.0.page next.0.there x }, next.1)
 
     -- ---- the page comes from where it is
-    framed : ((k : ℕ) → a.page k ≡ Some g → ⊥) → (is_uncharged a g && nat_eq (length a.charged) config.pagefile) ≡ false → filled (a.ring p).slots < a.limit p
-        → (o : Option BlockId) → source_of a g (a.map p w) ≡ o → is_busy_block past o ≡ false → (frames : List ℕ) → a.free ≡ frames → Legal (frame_given config a p r g o frames)
+    framed : ((k : ℕ) → a.page k ≡ Some g → ⊥) → (is_uncharged config a g && nat_eq (length a.charged) config.pagefile) ≡ false → filled (a.ring p).slots < a.limit p
+        → (o : Option BlockId) → source_of config a g (a.map p w) ≡ o → is_busy_block past o ≡ false → (frames : List ℕ) → a.free ≡ frames → Legal (frame_given config a p r g o frames)
     framed out room below o source still [] free = tt
     framed out room below None source still (f ∷ fs) free = zero_by out room below f fs free source (a.page f) refl
     framed out room below (Some b) source still (f ∷ fs) free = reads_by out room below f fs free b source still (a.page f) refl
 
-    held_legal : ((f : ℕ) → holder config a.page g ≡ Some f → find (is_read_on f) (open_flights past) ≡ None) → entry_of a.valid p w ≡ None → (is_uncharged a g && nat_eq (length a.charged) config.pagefile) ≡ false → filled (a.ring p).slots < a.limit p
+    held_legal : ((f : ℕ) → holder config a.page g ≡ Some f → find (is_read_on f) (open_flights past) ≡ None) → entry_of a.valid p w ≡ None → (is_uncharged config a g && nat_eq (length a.charged) config.pagefile) ≡ false → filled (a.ring p).slots < a.limit p
         → (o : Option ℕ) → holder config a.page g ≡ o → Legal (held_given config past a p r g o)
     held_legal unread invalid room below (Some f) holds =
         let legal = back_legal config past p ready w f g mapped invalid holds (unread f holds) below in
@@ -344,8 +343,8 @@ module _ (config : Config) (past : List Entry) (p : ℕ) (r : Ref) (formed_r : I
         still_pending f status.Leaving = not_pending
         still_pending f status.Gone = not_pending
     held_legal unread invalid room below None holds =
-        either (is_busy_block past (source_of a g (a.map p w))) (gives_again again_block_busy) (frame_given config a p r g (source_of a g (a.map p w)) a.free) (λ busy. tt)
-        (λ still. framed (held_by_none config past a g (kept config past p ready) holds) room below (source_of a g (a.map p w)) refl still a.free refl)
+        either (is_busy_block past (source_of config a g (a.map p w))) (gives_again again_block_busy) (frame_given config a p r g (source_of config a g (a.map p w)) a.free) (λ busy. tt)
+        (λ still. framed (held_by_none config past a g (kept config past p ready) holds) room below (source_of config a g (a.map p w)) refl still a.free refl)
 
     replaced : (o : Option Seen) → seen_at a p (victim_of (choose (a.ring p) (a.limit p))) ≡ o → a.limit p ≤ filled (a.ring p).slots → Legal (replace_seen config past a p o)
     replaced None seen full = tt
@@ -353,7 +352,7 @@ module _ (config : Config) (past : List Entry) (p : ℕ) (r : Ref) (formed_r : I
 
     room_legal : ((f : ℕ) → holder config a.page g ≡ Some f → find (is_read_on f) (open_flights past) ≡ None) → entry_of a.valid p w ≡ None → Legal (room_given config past a p r g)
     room_legal unread invalid =
-        either (is_uncharged a g && nat_eq (length a.charged) config.pagefile) (gives_again again_charging) _ (λ charging. tt) (λ room.
+        either (is_uncharged config a g && nat_eq (length a.charged) config.pagefile) (gives_again again_charging) _ (λ charging. tt) (λ room.
         either (nat_le (a.limit p) (filled (a.ring p).slots)) (replace_given config past a p) (held_given config past a p r g (holder config a.page g))
         (λ full. replaced (seen_at a p (victim_of (choose (a.ring p) (a.limit p)))) refl (leb-true _ _ full))
         (λ less. held_legal unread invalid room (let under = leb-false (a.limit p) (filled (a.ring p).slots) less in omega (arith, under)) (holder config a.page g) refl))

@@ -29,7 +29,7 @@ module _ (config : Config) (o : PastView) (a : Pager) (kept : IsKept config o a)
       by : (c : BlockId) → c ≡ b → own_section a.map y ≡ Some c → ⊥
       by (block.Section s i) same behind =
           let charged = first.charged in
-          let mapped = (kept.pages y).mapped (omega (arith, charged)) in
+          let mapped = (kept.pages y).mapped (omega (arith, charged)) first.private in
           false≢true (sym (unshared_own config a.map y s i mapped behind) ∙ in_section config o a g s i kept (page_real config g real) (lies ∙ ap Some (sym same)))
       by (block.PageFile n) same behind = false≢true (behind_section a.map y (block.PageFile n) behind)
       by (block.Swap p n) same behind = false≢true (behind_section a.map y (block.Swap p n) behind)

@@ -24,7 +24,7 @@ use Rattle.pager_model.specs.Forget.{holder}
 use Rattle.pager_model.specs.Given.{address_of, by_seat, given, leading, page_address, passes, pfn, reads_made, reuse_first, slots_of}
 use Rattle.pager_model.specs.In.{is_fault_or_near}
 use Rattle.pager_model.specs.Lookups.{count_page, entries_at, is, is_of, entry_of, is_entry, page_by}
-use Rattle.pager_model.specs.Maps.{is_private, page_number, proc}
+use Rattle.pager_model.specs.Maps.{is_paged, page_number, proc}
 use Rattle.pager_model.specs.OfConfig.{IsMappable, IsOfConfig, IsPageOf}
 use Rattle.pager_model.specs.Pager.{Pager, Valid}
 use Rattle.pager_model.specs.Run.{pager_after}
@@ -35,7 +35,9 @@ use Rattle.pager_model.specs.Transfers.{has_come, is_come, is_read_on}
 use Rattle.pager_rules.proofs.Basics.{at_number_other, at_number_same, count_from_no_find, each_fails, nat_eq_refl, no_failed_read, pages_equal, states_equal}
 use Rattle.vm_types.specs.Same.{same_page}
 use Rattle.vm_types.specs.declared.names.Addr.{Addr}
-use Rattle.state_fits.proofs.EntryPages.{mapped_right}
+use Rattle.page_holders.proofs.EntryPages.{mapped_right}
+use Rattle.page_holders.proofs.Holders.{free_is, holder_holds, holds_within}
+use Rattle.page_holders.proofs.ValidEntries.{valid_at_page}
 use Rattle.pager_rules.proofs.Frames.{at_state}
 use Rattle.pager_rules.proofs.Lists.{all_found, found_one, found_passes, count_found}
 use Rattle.pager_rules.proofs.Pages.{own_process}
@@ -44,8 +46,6 @@ use Rattle.pager_rules.specs.Kept.{FitsDirection, FitsFlight, FitsRead, IsKept, 
 use Rattle.pager_laws.proofs.OpeningKept.{in_range}
 use Rattle.pager_laws.proofs.OfConfigKept.{page_right, run_right}
 use Rattle.pager_laws.proofs.RunsAreSound.{run_kept}
-use Rattle.state_fits.proofs.Holders.{free_is, holder_holds, holds_within}
-use Rattle.state_fits.proofs.ValidEntries.{valid_at_page}
 use Rattle.call_laws.specs.AreLegal.{AreLegal}
 use Rattle.call_laws.proofs.FollowingPages.{lies_there}
 use Rattle.call_laws.specs.Ready.{MayWork}
@@ -96,7 +96,7 @@ module _ (config : Config) (past : List Entry) (seat p : ℕ) (may : MayWork con
       by (Private q v) there swapped =
           let owner : q.0 ≡ p = eqb-true q.0 p swapped.own in
           let charged = (kept.pages (Private q v)).lying (block.Swap (proc p) n) refl there in
-          let mapped = (kept.pages (Private q v)).mapped (omega (arith, charged)) in
+          let mapped = (kept.pages (Private q v)).mapped (omega (arith, charged)) refl in
           record {
             lies = there;
             v = v;
@@ -169,7 +169,7 @@ module _ (config : Config) (past : List Entry) (seat p : ℕ) (may : MayWork con
     found_lying n g lying = by (lying_in a p n) refl
       where
         charged : 0 < count_page a.charged g
-        charged = let one = (kept.pages g).lying (block.Swap (proc p) n) (ap is_private lying.own) lying.lies in omega (arith, one)
+        charged = let one = (kept.pages g).lying (block.Swap (proc p) n) (ap (is_paged config) lying.own) lying.lies in omega (arith, one)
 
         by : (o : Option Page) → lying_in a p n ≡ o → o ≡ Some g
         by None found = absurd (let listed = found_one (same_page g) a.charged charged in

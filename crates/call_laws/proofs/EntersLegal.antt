@@ -1,5 +1,5 @@
 -- What makes a page valid, or gives it a frame, is legal; and the seat is ready for what follows.
-use Rattle.std.proofs.Common.{◌≡◌, inl, ℕ, ◌+◌, ◌*◌, ◌<◌, ◌^◌, true, false, List, ◌∷◌, Some, None, length, find, refl, sym, ap, ◌∙◌, subst, arith}
+use Rattle.std.proofs.Common.{◌≡◌, inl, ℕ, ◌+◌, ◌*◌, ◌<◌, ◌^◌, true, false, List, ◌∷◌, Some, None, length, find, refl, sym, ap, ◌∙◌, Option, subst, arith}
 use Rattle.std.proofs.lemmas.Bool.{and_from, false≢true}
 use Rattle.std.proofs.lemmas.Option.{none-some}
 use Rattle.vm_types.specs.Ring.{filled}
@@ -28,12 +28,12 @@ use Rattle.pager_model.specs.Pager.{Pager}
 use Rattle.pager_model.specs.Run.{pager_after}
 use Rattle.pager_model.specs.Step.{IsLegal, after}
 use Rattle.pager_model.specs.Transfers.{is_read_on}
-use Rattle.pager_model.specs.Zero.{IsDemandZero}
+use Rattle.pager_model.specs.Zero.{IsDemandZero, is_zero_origin, zeroed_page}
 use Rattle.pager_rules.proofs.Basics.{count_from_no_find, find_cons_yes, nat_eq_refl, no_failed_read}
 use Rattle.pager_rules.proofs.Frames.{at_state}
 use Rattle.pager_rules.proofs.Put.{head_counts}
 use Rattle.pager_rules.specs.Kept.{FitsFrame}
-use Rattle.state_fits.proofs.Holders.{free_is, holder_holds}
+use Rattle.page_holders.proofs.Holders.{free_is, holder_holds}
 use Rattle.call_laws.proofs.HaveNames.{page_named}
 use Rattle.call_laws.specs.Ready.{IsReady}
 use Rattle.call_laws.proofs.FreeTurn.{free_turn, page_starts, same_number}
@@ -131,15 +131,15 @@ module _ (config : Config) (past : List Entry) (p : ℕ) (ready : IsReady config
   reuse_ready f g legal few = ready_after config past p _ ready legal few refl refl ready.own.resident
 
   -- ---- ZERO
-  pub zero_legal : (v f : ℕ) (m : Mapped) → a.map p v ≡ Some m → m.origin ≡ origin.Zero → count_page a.charged (Private (proc p) v) ≡ 0 → length a.charged < config.pagefile → filled (a.ring p).slots < a.limit p → IsEmptyHead a f
+  pub zero_legal : (v f : ℕ) (m : Mapped) → a.map p v ≡ Some m → is_zero_origin config m.origin ≡ true → count_page a.charged (page_behind config p v m.origin) ≡ 0 → length a.charged < config.pagefile → filled (a.ring p).slots < a.limit p → IsEmptyHead a f
       → IsLegal config past a (by_seat p (what.Zero (page_address v) (pfn f)))
   zero_legal v f m mapped zero uncharged room below empty = record {
     in_turn = free_turn config past p _ ready.free;
     line = record { seat = seat_small config past p ready; what = (page_starts v small, free_small f empty.head) };
     row = record {
       own = ready.own;
-      demand_zero = subst (λ (w : ℕ). IsDemandZero (a.map p w)) (sym (same_number v)) (subst IsDemandZero (sym mapped) zero);
-      not_charged = ap (λ (w : ℕ). count_page a.charged (Private (proc p) w)) (same_number v) ∙ uncharged;
+      demand_zero = subst (λ (w : ℕ). IsDemandZero config (a.map p w)) (sym (same_number v)) (subst (IsDemandZero config) (sym mapped) zero);
+      not_charged = ap (λ (w : ℕ). count_page a.charged (zeroed_page config p w (a.map p w))) (same_number v) ∙ (ap (λ (o : Option Mapped). count_page a.charged (zeroed_page config p v o)) mapped ∙ uncharged);
       room = room;
       below_limit = below;
       frame = empty;

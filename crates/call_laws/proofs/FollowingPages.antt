@@ -13,14 +13,15 @@ use Rattle.vm_types.specs.declared.names.Page.TheVariants.{Private, Shared}
 use Rattle.pager_model.specs.Advance.{block_after, following, following_owner, following_shared, lies_in, owner_of}
 use Rattle.pager_model.specs.Around.{PastView}
 use Rattle.pager_model.specs.In.{is_kin}
-use Rattle.pager_model.specs.Maps.{is_private}
+use Rattle.pager_model.specs.Maps.{is_paged, is_private}
 use Rattle.pager_model.specs.InTurn.{is_next_block}
 use Rattle.pager_model.specs.OfConfig.{IsOfConfig, IsPageOf}
 use Rattle.pager_model.specs.Pager.{Pager}
 use Rattle.pager_rules.proofs.Basics.{nat_eq_refl}
 use Rattle.pager_rules.proofs.Put.{blocks_equal}
 use Rattle.pager_rules.specs.Kept.{IsKept}
-use Rattle.pager_laws.proofs.OfConfigKept.{page_right}
+use Rattle.pager_laws.proofs.OfConfigKept.{charged_right, page_right}
+use Rattle.pager_laws.proofs.OutKept.{not_in_file}
 
 -- ---- blocks one after another
 pub blocks_apart : (b : BlockId) (i j : ℕ) → i < j → same_block (block_after b j) (block_after b i) ≡ false
@@ -70,51 +71,47 @@ lies_there None c is = absurd (false≢true is)
 lies_there (Some d) c is = ap Some (sym (blocks_equal c d is))
 
 module _ (config : Config) (o : PastView) (a : Pager) (kept : IsKept config o a) (right : IsOfConfig config a) where
-  -- a private page that lies somewhere is its process's
-  own_lying : (h : Page) (c : BlockId) → a.lies h ≡ Some c → (t : Bool) → is_private h ≡ t → IsPageOf config h ⊎ (is_private h ≡ false)
-  own_lying h c lies false shared = inr shared
-  own_lying (Shared s i) c lies true private = absurd (false≢true private)
-  own_lying (Private q w) c lies true private =
-      let charged = (kept.pages (Private q w)).lying c refl lies in
-      let mapped = (kept.pages (Private q w)).mapped (omega (arith, charged)) in
-      inl (page_right config a.map q.0 w (Private q w) right.mapped mapped)
+  -- a page that lies in a block of the page file is charged, and one of the configuration
+  lying_of : (h : Page) (n : ℕ) → a.lies h ≡ Some (block.PageFile n) → IsPageOf config h
+  lying_of h n lies = by (is_paged config h) refl
+    where
+      by : (c : Bool) → is_paged config h ≡ c → IsPageOf config h
+      by true paged = charged_right config a.charged h (let charged = (kept.pages h).lying (block.PageFile n) paged lies in omega (arith, charged)) right.charged
+      by false file = absurd (not_in_file config a h n (kept.pages h) file lies)
 
   pub page_follows : (g : Page) (b : BlockId) (places : ℕ) (h : Page) → IsPageOf config g → a.lies g ≡ Some b → following config a g b places ≡ Some h → Follows config a g b places h
-  page_follows (Shared s i) b places h of lies is = by (slice_get config.sections s.0) refl is
+  page_follows g (block.PageFile n) places h of lies is = by (owner_of a.assigned (n + places)) is
     where
-      in_section : (section : Section) (c : Bool) → slice_get config.sections s.0 ≡ Some section → nat_lt (i + places) (section_pages section) ≡ c → cond c (Some (Shared s (i + places))) None ≡ Some h → Follows config a (Shared s i) b places h
-      in_section section false there within is = absurd (none-some h is)
-      in_section section true there within is =
-          let same : Shared s (i + places) ≡ h = same_Some _ h is in
-          let block_is : block.Section s i ≡ b = same_Some _ b (sym ((kept.pages (Shared s i)).shared s i refl) ∙ lies) in
-          subst (λ (x : Page). Follows config a (Shared s i) b places x) same (subst (λ (c : BlockId). Follows config a (Shared s i) c places (Shared s (i + places))) block_is (record {
-            lies = (kept.pages (Shared s (i + places))).shared s (i + places) refl;
-            kin = nat_eq_refl s.0;
-            of = ((section, there, ltb-true _ _ within), of.1);
-          }))
-
-      by : (o : Option Section) → slice_get config.sections s.0 ≡ o → following_shared o s (i + places) ≡ Some h → Follows config a (Shared s i) b places h
-      by None there is = absurd (none-some h is)
-      by (Some section) there is = in_section section (nat_lt (i + places) (section_pages section)) there refl is
-  page_follows (Private p v) (block.Section s i) places h of lies is = absurd (none-some h is)
-  page_follows (Private p v) (block.Swap q n) places h of lies is = absurd (none-some h is)
-  page_follows (Private p v) (block.PageFile n) places h of lies is = by (owner_of a.assigned (n + places)) is
-    where
-      is_owner_page : (x : Page) (c : Bool) → (is_kin (Private p v) x && lies_in (a.lies x) (block.PageFile (n + places))) ≡ c → cond c (Some x) None ≡ Some h → Follows config a (Private p v) (block.PageFile n) places h
+      is_owner_page : (x : Page) (c : Bool) → (is_kin g x && lies_in (a.lies x) (block.PageFile (n + places))) ≡ c → cond c (Some x) None ≡ Some h → Follows config a g (block.PageFile n) places h
       is_owner_page x false both is = absurd (none-some h is)
       is_owner_page x true both is =
           let parts = and_parts _ _ both in
           let there = lies_there (a.lies x) (block.PageFile (n + places)) parts.1 in
-          subst (λ (y : Page). Follows config a (Private p v) (block.PageFile n) places y) (same_Some x h is) (record { lies = there; kin = parts.0; of = its x parts.0 there })
-        where
-          its : (x : Page) → is_kin (Private p v) x ≡ true → a.lies x ≡ Some (block.PageFile (n + places)) → IsPageOf config x
-          its (Shared t j) kin there = absurd (false≢true kin)
-          its (Private q w) kin there = go (own_lying (Private q w) (block.PageFile (n + places)) there true refl)
-            where
-              go : IsPageOf config (Private q w) ⊎ (is_private (Private q w) ≡ false) → IsPageOf config (Private q w)
-              go (inl of) = of
-              go (inr shared) = absurd (false≢true (sym shared))
+          subst (λ (y : Page). Follows config a g (block.PageFile n) places y) (same_Some x h is) (record { lies = there; kin = parts.0; of = lying_of x (n + places) there })
 
-      by : (o : Option Page) → following_owner a (Private p v) (n + places) o ≡ Some h → Follows config a (Private p v) (block.PageFile n) places h
+      by : (o : Option Page) → following_owner a g (n + places) o ≡ Some h → Follows config a g (block.PageFile n) places h
       by None is = absurd (none-some h is)
-      by (Some x) is = is_owner_page x (is_kin (Private p v) x && lies_in (a.lies x) (block.PageFile (n + places))) refl is
+      by (Some x) is = is_owner_page x (is_kin g x && lies_in (a.lies x) (block.PageFile (n + places))) refl is
+  page_follows (Shared s i) (block.Section t j) places h of lies is = by_kind (is_paged config (Shared s i)) refl
+    where
+      in_section : is_paged config (Shared s i) ≡ false → (section : Section) (c : Bool) → slice_get config.sections s.0 ≡ Some section → nat_lt (i + places) (section_pages section) ≡ c → cond c (Some (Shared s (i + places))) None ≡ Some h → Follows config a (Shared s i) (block.Section t j) places h
+      in_section file section false there within is = absurd (none-some h is)
+      in_section file section true there within is =
+          let same : Shared s (i + places) ≡ h = same_Some _ h is in
+          let block_is : block.Section s i ≡ block.Section t j = same_Some _ (block.Section t j) (sym ((kept.pages (Shared s i)).shared s i refl file) ∙ lies) in
+          subst (λ (x : Page). Follows config a (Shared s i) (block.Section t j) places x) same (subst (λ (c : BlockId). Follows config a (Shared s i) c places (Shared s (i + places))) block_is (record {
+            lies = (kept.pages (Shared s (i + places))).shared s (i + places) refl file;
+            kin = nat_eq_refl s.0;
+            of = ((section, there, ltb-true _ _ within), of.1);
+          }))
+
+      by : is_paged config (Shared s i) ≡ false → (o : Option Section) → slice_get config.sections s.0 ≡ o → following_shared o s (i + places) ≡ Some h → Follows config a (Shared s i) (block.Section t j) places h
+      by file None there is = absurd (none-some h is)
+      by file (Some section) there is = in_section file section (nat_lt (i + places) (section_pages section)) there refl is
+
+      by_kind : (c : Bool) → is_paged config (Shared s i) ≡ c → Follows config a (Shared s i) (block.Section t j) places h
+      by_kind true paged = absurd ((kept.pages (Shared s i)).not_in_section t j paged lies)
+      by_kind false file = by file (slice_get config.sections s.0) refl is
+  page_follows (Shared s i) (block.Swap q n) places h of lies is = absurd (none-some h is)
+  page_follows (Private p v) (block.Section s i) places h of lies is = absurd (none-some h is)
+  page_follows (Private p v) (block.Swap q n) places h of lies is = absurd (none-some h is)

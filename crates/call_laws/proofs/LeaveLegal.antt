@@ -4,7 +4,7 @@ use Rattle.std.specs.List.{range_with_len}
 use Rattle.std.proofs.lemmas.Bool.{not-true, and_from, and_parts, eq-eqb, false≢true, ltb-false, ne_eqb, true≢false}
 use Rattle.std.proofs.lemmas.Option.{same_Some, slice_get_within}
 use Rattle.vm_types.specs.Configuration.{IsBlock}
-use Rattle.vm_types.specs.Ring.{Held, filled}
+use Rattle.vm_types.specs.Ring.{Held, filled, unpinned}
 use Rattle.vm_types.specs.declared.config.Config.{Config}
 use Rattle.vm_types.specs.declared.config.ProcSpec.{ProcSpec}
 use Rattle.vm_types.specs.declared.names.BlockId.{BlockId}
@@ -26,14 +26,16 @@ use Rattle.pager_model.specs.Pager.{Pager}
 use Rattle.pager_model.specs.Run.{pager_after}
 use Rattle.pager_model.specs.Sound.{FitsSlot}
 use Rattle.pager_model.specs.Step.{IsLegal}
-use Rattle.pager_model.specs.Swap.{GivenSwap, is_saved, is_shared_seen, is_still, is_to_save, leave_gives, leave_page, leave_saved, leave_shared, leave_unsaved, slot_where, turned_gone, write_slot, write_slots}
+use Rattle.pager_model.specs.Swap.{GivenSwap, is_saved, is_shared_unpinned, is_still, is_to_save, leave_gives, leave_page, leave_saved, leave_shared, leave_unsaved, slot_where, turned_gone, write_slot, write_slots}
 use Rattle.pager_model.specs.Transfers.{is_on_block, is_read_on, is_write_on, reads_on, writes_on}
 use Rattle.pager_model.specs.Sets.{at_number}
 use Rattle.pager_rules.proofs.Basics.{at_number_other, count_cons_no, nat_eq_refl}
 use Rattle.pager_rules.proofs.Lists.{all_found, count_found, found_passes}
 use Rattle.pager_rules.proofs.Put.{blocks_equal}
 use Rattle.pager_rules.specs.Kept.{IsKept}
-use Rattle.state_fits.proofs.EntryPages.{mapped_right}
+use Rattle.page_holders.proofs.EntryPages.{mapped_right}
+use Rattle.page_holders.proofs.Holders.{holds_within}
+use Rattle.page_holders.proofs.ValidEntries.{IsValidAt, valid_at_page}
 use Rattle.call_laws.proofs.SlotsOnce.{only_place}
 use Rattle.call_laws.proofs.WritesHome.{IsStill, moved_by_none}
 use Rattle.call_laws.proofs.WritesLegal.{HasWritten, IsAtWork, Joins, out_turn, written_more}
@@ -49,8 +51,6 @@ use Rattle.pager_laws.proofs.OpeningKept.{in_range}
 use Rattle.call_laws.proofs.ServeLegal.{unfound}
 use Rattle.pager_laws.proofs.OfConfigKept.{run_right}
 use Rattle.pager_laws.proofs.RunsAreSound.{run_kept}
-use Rattle.state_fits.proofs.Holders.{holds_within}
-use Rattle.state_fits.proofs.ValidEntries.{IsValidAt, valid_at_page}
 use Rattle.call_laws.specs.AreLegal.{AreLegal}
 use Rattle.call_laws.proofs.FollowingPages.{lies_there}
 use Rattle.call_laws.specs.Ready.{MayWork}
@@ -92,6 +92,13 @@ module _ (config : Config) (past : List Entry) (seat p : ℕ) (may : MayWork con
   slot_is : (n : ℕ) (s : Seen) → IsSeen a p n s → slot_with (a.ring p) s.vpn ≡ n
   slot_is n s there = only_place (has_vpn s.vpn) (a.ring p).slots n (Some there.held) there.slot (eq-eqb there.held.vpn s.vpn there.vpn) (let fits = kept.entries p s.vpn in omega (arith, fits.slots, fits.once))
 
+  -- and isn't pinned there, if that was seen
+  unpinned_seen : (n : ℕ) (s : Seen) → IsSeen a p n s → s.pinned ≡ false → (held : Held) → slice_get (a.ring p).slots (slot_with (a.ring p) s.vpn) ≡ Some (Some held) → held.pinned ≡ false
+  unpinned_seen n s there off held at =
+      let here : slice_get (a.ring p).slots n ≡ Some (Some held) = sym (ap (slice_get (a.ring p).slots) (slot_is n s there)) ∙ at in
+      let both : ◌≡◌ {A = Option (Option Held)} (Some (Some held)) (Some (Some there.held)) = sym here ∙ there.slot in
+      ap (λ (h : Held). h.pinned) (same_Some held there.held (same_Some (Some held) (Some there.held) both)) ∙ (there.pin ∙ off)
+
   still_zero : (f : ℕ) → is_still past f ≡ true → reads_on f (open_flights past) + writes_on f (open_flights past) ≡ 0
   still_zero f is = let most = ltb-false 0 (reads_on f (open_flights past) + writes_on f (open_flights past)) (not-true _ is) in omega (arith, most)
 
@@ -99,12 +106,13 @@ module _ (config : Config) (past : List Entry) (seat p : ℕ) (may : MayWork con
   abbrev IsSavedPage : ℕ → Seen → Type 0
   IsSavedPage n s = (a.lies s.page ≡ Some (block.Swap (proc p) n)) × (a.modify s.frame ≡ false) × (reads_on s.frame (open_flights past) + writes_on s.frame (open_flights past) ≡ 0)
 
-  evict_legal : (n : ℕ) (s : Seen) → seen_at a p n ≡ Some s → (is_private s.page ≡ true → IsSavedPage n s) → is_stopped config past a s.frame ≡ false → IsLegal config past a (by_seat seat (eviction past a p s.vpn s.frame evict.Leave))
-  evict_legal n s seen saved goes = record {
+  evict_legal : (n : ℕ) (s : Seen) → seen_at a p n ≡ Some s → s.pinned ≡ false → (is_private s.page ≡ true → IsSavedPage n s) → is_stopped config past a s.frame ≡ false → IsLegal config past a (by_seat seat (eviction past a p s.vpn s.frame evict.Leave))
+  evict_legal n s seen off saved goes = record {
     in_turn = free_turn config past seat _ may.free;
     line = record { seat = may.seat_there; what = ((process, page_starts s.vpn (small_page s.vpn known.page known.mapped)), small_frame s.frame s.page there.page) };
     row = record {
       leaving = leaving;
+      unpinned = λ held at. unpinned_seen n s there off held (sym (ap (λ (w : ℕ). slice_get (a.ring p).slots (slot_with (a.ring p) w)) (same_number s.vpn)) ∙ at);
       taken = record { entry = there.entry; valid = ap (entry_of a.valid p) (same_number s.vpn) ∙ there.valid; frame = there.frame; goes = refl };
       private = λ g holds private. by_page g (same_Some s.page g (sym there.page ∙ holds)) private;
       waits = waits_not config past a s.frame goes;
@@ -124,19 +132,22 @@ module _ (config : Config) (past : List Entry) (seat p : ℕ) (may : MayWork con
           let slot = ap (slot_with (a.ring p)) (same_number s.vpn) ∙ slot_is n s there in
           (ap a.lies (sym same) ∙ (facts.0 ∙ ap (λ (m : ℕ). Some (block.Swap (proc p) m)) (sym slot)), facts.1, facts.2)
 
-  leave_page_legal : (n : ℕ) → ((s : Seen) → seen_at a p n ≡ Some s → is_private s.page ≡ true → IsSavedPage n s) → (o : Option Seen) → seen_at a p n ≡ o → Legal (leave_page config past a p o)
-  leave_page_legal n saved None seen = tt
-  leave_page_legal n saved (Some s) seen = either (is_stopped config past a s.frame) _ _ (λ stopped. tt) (λ goes. (evict_legal n s seen (saved s seen) goes, tt))
+  leave_page_legal : (n : ℕ) → ((s : Seen) → seen_at a p n ≡ Some s → s.pinned ≡ false) → ((s : Seen) → seen_at a p n ≡ Some s → is_private s.page ≡ true → IsSavedPage n s) → (o : Option Seen) → seen_at a p n ≡ o → Legal (leave_page config past a p o)
+  leave_page_legal n off saved None seen = tt
+  leave_page_legal n off saved (Some s) seen = either (is_stopped config past a s.frame) _ _ (λ stopped. tt) (λ goes. (evict_legal n s seen (off s seen) (saved s seen) goes, tt))
 
-  shared_legal : (n : ℕ) → slot_where a p (λ (m : ℕ) (s : Seen). is_shared_seen s) ≡ Some n → Legal (leave_page config past a p (seen_at a p n))
-  shared_legal n found = leave_page_legal n (λ s seen private. absurd (true≢false (sym private ∙ not-true _ (found_slot a p (λ (m : ℕ) (x : Seen). is_shared_seen x) n s found seen)))) (seen_at a p n) refl
+  shared_legal : (n : ℕ) → slot_where a p (λ (m : ℕ) (s : Seen). is_shared_unpinned s) ≡ Some n → Legal (leave_page config past a p (seen_at a p n))
+  shared_legal n found = leave_page_legal n (λ s seen. not-true _ (parts s seen).1) (λ s seen private. absurd (true≢false (sym private ∙ not-true _ (parts s seen).0))) (seen_at a p n) refl
+    where
+      parts : (s : Seen) → seen_at a p n ≡ Some s → (not (is_private s.page) ≡ true) × (not s.pinned ≡ true)
+      parts s seen = and_parts (not (is_private s.page)) (not s.pinned) (found_slot a p (λ (m : ℕ) (x : Seen). is_shared_unpinned x) n s found seen)
 
   saved_legal : (n : ℕ) → slot_where a p (is_saved past a p) ≡ Some n → Legal (leave_page config past a p (seen_at a p n))
-  saved_legal n found = leave_page_legal n saved (seen_at a p n) refl
+  saved_legal n found = leave_page_legal n (λ s seen. not-true _ (and_parts (is_private s.page) (not s.pinned) (and_parts (is_private s.page && not s.pinned) _ (found_slot a p (is_saved past a p) n s found seen)).0).1) saved (seen_at a p n) refl
     where
       saved : (s : Seen) → seen_at a p n ≡ Some s → is_private s.page ≡ true → IsSavedPage n s
       saved s seen private =
-          let first = and_parts (is_private s.page) _ (found_slot a p (is_saved past a p) n s found seen) in
+          let first = and_parts (is_private s.page && not s.pinned) _ (found_slot a p (is_saved past a p) n s found seen) in
           let second = and_parts (lies_in (a.lies s.page) (block.Swap (proc p) n)) _ first.1 in
           let third = and_parts (not (a.modify s.frame)) (is_still past s.frame) second.1 in
           (lies_there (a.lies s.page) (block.Swap (proc p) n) second.0, not-true (a.modify s.frame) third.0, still_zero s.frame third.1)
@@ -144,11 +155,11 @@ module _ (config : Config) (past : List Entry) (seat p : ℕ) (may : MayWork con
   -- ---- TURN to gone
   gone_legal : Legal (turned_gone a p)
   gone_legal =
-      either (nat_lt 0 (filled (a.ring p).slots)) _ _ (λ some. tt) (λ none. (
+      either (nat_lt 0 (unpinned (a.ring p).slots)) _ _ (λ some. tt) (λ none. (
         record {
           in_turn = free_turn config past seat _ may.free;
           line = record { seat = may.seat_there; what = process };
-          row = record { process = process; turned = (leaving, (let most = ltb-false 0 (filled (a.ring p).slots) none in omega (arith, most))) };
+          row = record { process = process; turned = (leaving, (let most = ltb-false 0 (unpinned (a.ring p).slots) none in omega (arith, most))) };
         },
         tt,
       ))
@@ -221,6 +232,7 @@ module _ (config : Config) (a₀ : Pager) (past₀ : List Entry) (seat p : ℕ) 
       held = there.held;
       filled = there.slot;
       same = there.vpn;
+      unpinned = there.pin ∙ not-true _ loose.1;
       still = before.still m s (omega arith) seen saves;
       changed = λ lies clear. not_saved (sym (ap (λ (b : Pager). b.lies s.page) before.same) ∙ lies) (sym (before.unmarked m s (omega arith) seen) ∙ (sym (ap (λ (b : Pager). b.modify s.frame) before.same) ∙ clear));
     });
@@ -235,8 +247,11 @@ module _ (config : Config) (a₀ : Pager) (past₀ : List Entry) (seat p : ℕ) 
       right_then : IsOfConfig config (pager_after config past)
       right_then = run_right config past work.formed work.run
 
+      loose : (is_private s.page ≡ true) × (not s.pinned ≡ true)
+      loose = and_parts (is_private s.page) (not s.pinned) (and_parts (is_private s.page && not s.pinned) (is_still past₀ s.frame) saves).0
+
       parts : (is_private s.page ≡ true) × (is_still past₀ s.frame ≡ true)
-      parts = and_parts (is_private s.page) (is_still past₀ s.frame) saves
+      parts = (loose.0, (and_parts (is_private s.page && not s.pinned) (is_still past₀ s.frame) saves).1)
 
       there : IsSeen (pager_after config past) p m s
       there = is_seen (pager_after config past) p m s (ap (λ (b : Pager). seen_at b p m) before.same ∙ seen)
@@ -265,7 +280,7 @@ module _ (config : Config) (a₀ : Pager) (past₀ : List Entry) (seat p : ℕ) 
 
       not_saved : a₀.lies s.page ≡ Some (block.Swap (proc p) m) → a₀.modify s.frame ≡ false → ⊥
       not_saved lies clear =
-          false≢true (sym unsaved ∙ and_from _ _ parts.0 (and_from _ _ (ap (λ (b : Option BlockId). lies_in b (block.Swap (proc p) m)) lies ∙ and_from _ _ (nat_eq_refl p) (nat_eq_refl m)) (and_from _ _ (ap not clear) parts.1)))
+          false≢true (sym unsaved ∙ and_from _ _ (and_from _ _ loose.0 loose.1) (and_from _ _ (ap (λ (b : Option BlockId). lies_in b (block.Swap (proc p) m)) lies ∙ and_from _ _ (nat_eq_refl p) (nat_eq_refl m)) (and_from _ _ (ap not clear) parts.1)))
 
   -- two slots show two frames, if a private page is in one of them
   frames_apart : (past : List Entry) (work : IsAtWork config past seat) (modify : ℕ → Bool) → pager_after config past ≡ record a₀ { modify = modify } → (m k : ℕ) (s t : Seen) → seen_at a₀ p m ≡ Some s → seen_at a₀ p k ≡ Some t → is_private s.page ≡ true → (m ≡ k → ⊥) → s.frame ≡ t.frame → ⊥
@@ -334,7 +349,7 @@ module _ (config : Config) (a₀ : Pager) (past₀ : List Entry) (seat p : ℕ) 
       goes s seen true saves later =
           let legal = write_step past m begun last s work written joins (omega (arith, room)) before seen saves (unsaved m s seen) in
           subst (λ (o : Option Seen). AreLegal config past seat (write_slot p m o ++ write_slots a₀ p (leading test (range_with_len (m + 1) k)))) (sym seen)
-          (legal, later s (record { formed = work.formed; run = (work.run, legal); calm = refl; seat_there = work.seat_there }) (written_more config past seat work last begun s.frame (block.Swap (proc p) m) written) (step_before past work m s before seen (and_parts (is_private s.page) (is_still past₀ s.frame) saves).0))
+          (legal, later s (record { formed = work.formed; run = (work.run, legal); calm = refl; seat_there = work.seat_there }) (written_more config past seat work last begun s.frame (block.Swap (proc p) m) written) (step_before past work m s before seen (and_parts (is_private s.page) (not s.pinned) (and_parts (is_private s.page && not s.pinned) (is_still past₀ s.frame) saves).0).0))
 
       by : (o : Option Seen) → seen_at a₀ p m ≡ o
           → ((s : Seen) → IsAtWork config (by_seat seat (what.Out (pfn s.frame) (block.Swap (proc p) m)) ∷ past) seat → HasWritten (by_seat seat (what.Out (pfn s.frame) (block.Swap (proc p) m)) ∷ past) seat (Some (block.Swap (proc p) m)) (begun + 1)
@@ -368,16 +383,16 @@ module _ (config : Config) (past : List Entry) (seat p : ℕ) (may : MayWork con
         modify = (pager_after config past).modify;
         same = refl;
         unmarked = λ k s least seen. refl;
-        still = λ k s least seen saves. still_zero config past seat p may process leaving s.frame (and_parts (is_private s.page) (is_still past s.frame) saves).1;
+        still = λ k s least seen saves. still_zero config past seat p may process leaving s.frame (and_parts (is_private s.page && not s.pinned) (is_still past s.frame) saves).1;
       }) (omega arith)
 
   saved_or_not : (o : Option ℕ) → slot_where (pager_after config past) p (is_saved past (pager_after config past) p) ≡ o → AreLegal config past seat (leave_saved config past (pager_after config past) p o).made
   saved_or_not (Some n) found = saved_legal config past seat p may process leaving n found
   saved_or_not None found = unsaved_legal found (slot_where (pager_after config past) p (λ (n : ℕ) (s : Seen). is_to_save past s))
 
-  shared_or_not : (o : Option ℕ) → slot_where (pager_after config past) p (λ (n : ℕ) (s : Seen). is_shared_seen s) ≡ o → AreLegal config past seat (leave_shared config past (pager_after config past) p o).made
+  shared_or_not : (o : Option ℕ) → slot_where (pager_after config past) p (λ (n : ℕ) (s : Seen). is_shared_unpinned s) ≡ o → AreLegal config past seat (leave_shared config past (pager_after config past) p o).made
   shared_or_not (Some n) found = shared_legal config past seat p may process leaving n found
   shared_or_not None found = saved_or_not (slot_where (pager_after config past) p (is_saved past (pager_after config past) p)) refl
 
   pub leave_legal : AreLegal config past seat (leave_gives config past (pager_after config past) p).made
-  leave_legal = shared_or_not (slot_where (pager_after config past) p (λ (n : ℕ) (s : Seen). is_shared_seen s)) refl
+  leave_legal = shared_or_not (slot_where (pager_after config past) p (λ (n : ℕ) (s : Seen). is_shared_unpinned s)) refl

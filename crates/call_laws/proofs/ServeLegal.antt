@@ -5,9 +5,9 @@ use Rattle.std.specs.Option.{is_some}
 use Rattle.std.proofs.lemmas.Bool.{not-true, and_from, and_parts, cases_lt, eqb-true, false≢true, leb-false, leb-true, lt-ltb, ltb-false}
 use Rattle.std.proofs.lemmas.List.Folds.{find_at}
 use Rattle.std.proofs.lemmas.Option.{none-some, same_Some, slice_get_cases}
-use Rattle.vm_types.specs.Ring.{Held, is_locked_slot, locked}
+use Rattle.vm_types.specs.Ring.{Held, Ring, fixed, is_fixed, is_fixed_slot}
 use Rattle.vm_types.specs.Same.{same_page}
-use Rattle.vm_types.specs.WellFormed.{IsRange, IsWellFormedService}
+use Rattle.vm_types.specs.WellFormed.{IsRange, IsServiceOf, IsWellFormedService}
 use Rattle.vm_types.specs.declared.config.Config.{Config}
 use Rattle.vm_types.specs.declared.config.ProcSpec.{ProcSpec}
 use Rattle.vm_types.specs.declared.names.Addr.{Addr}
@@ -32,17 +32,17 @@ use Rattle.pager_model.specs.Given.{eviction, goes_to, is_stopped, passes}
 use Rattle.pager_model.specs.Lookups.{count_page, entries_at, entry_of, has_vpn, is_resident, page_at, page_by, slot_of, slot_with}
 use Rattle.pager_model.specs.Maps.{Mapped, page_behind, proc}
 use Rattle.pager_model.specs.Pager.{Pager, Valid}
-use Rattle.pager_model.specs.Ring.{range_locked}
+use Rattle.pager_model.specs.Ring.{range_locked, range_pinned}
 use Rattle.pager_model.specs.Run.{pager_after}
-use Rattle.pager_model.specs.Serve.{GivenServe, delete_given, evict_given, is_in_use, is_locked_at, is_mapped_at, is_page_in_flight, is_range_in_flight, is_unmapped, is_unmapped_at, is_valid_at, limits_given, lock_given, purge_given, served_with, service_gives, serve_gives, unlocked_in, valid_in}
-use Rattle.pager_model.specs.Served.{AreMapped, IsInUse, IsServed, IsUnmapped, is_locked_in, is_slot_in}
+use Rattle.pager_model.specs.Serve.{GivenServe, delete_given, evict_given, is_fixed_at, is_in_use, is_mapped_at, is_page_in_flight, is_range_in_flight, is_unmapped, is_unmapped_at, is_valid_at, limits_given, lock_given, loose_in, purge_given, served_with, service_gives, serve_gives, valid_in}
+use Rattle.pager_model.specs.Served.{AreMapped, IsInUse, IsLocking, IsOverLocking, IsServed, IsUnmapped, is_fixed_in, is_locked_in, is_pinned_in, is_slot_in}
 use Rattle.pager_model.specs.Transfers.{is_in_flight, reads_on, writes_on}
 use Rattle.pager_rules.proofs.Basics.{count_cons, count_cons_yes, count_from_no_find, each_fails, nat_eq_refl, pages_equal}
 use Rattle.pager_rules.proofs.Lists.{all_found, all_step, count_found, found_one, found_passes}
 use Rattle.pager_laws.proofs.DeleteKept.{inside_from, inside_to, own_has}
-use Rattle.state_fits.proofs.Holders.{holder_there}
-use Rattle.state_fits.proofs.RingBounds.{slots_few}
-use Rattle.state_fits.proofs.ValidEntries.{IsValidAt, valid_at_page}
+use Rattle.page_holders.proofs.Holders.{holder_there}
+use Rattle.page_holders.proofs.RingBounds.{slots_few}
+use Rattle.page_holders.proofs.ValidEntries.{IsValidAt, valid_at_page}
 use Rattle.call_laws.specs.AreLegal.{AreLegal}
 use Rattle.call_laws.specs.Ready.{IsReady}
 use Rattle.call_laws.proofs.FreeTurn.{free_turn, page_starts, same_number}
@@ -72,25 +72,25 @@ unfound t xs v none inside passes = go (found_one (λ (y : ℕ). nat_eq y v) xs 
     go : (x : ℕ) × (find (λ (y : ℕ). nat_eq y v) xs ≡ Some x) → ⊥
     go found = omega (arith, count_from_no_find t xs none, count_found t (λ (y : ℕ). nat_eq y v) xs found.0 found.1 (subst (λ (y : ℕ). t y ≡ true) (sym (eqb-true found.0 v (found_passes (λ (y : ℕ). nat_eq y v) xs found.0 found.1))) passes))
 
--- the slots of a range that are all locked
-all_locked : (address pages : ℕ) (slots : List (Option Held)) → AllByRecursion (λ (x : Option Held). is_slot_in address pages x ≡ true → is_locked_slot x ≡ true) slots → count_by (is_slot_in address pages) slots ≡ count_by (is_locked_in address pages) slots
-all_locked address pages [] each = refl
-all_locked address pages (x ∷ slots) each =
-    let rest = all_locked address pages slots each.1 in
+-- the slots of a range that are all locked or pinned
+all_fixed : (address pages : ℕ) (slots : List (Option Held)) → AllByRecursion (λ (x : Option Held). is_slot_in address pages x ≡ true → is_fixed_slot x ≡ true) slots → count_by (is_slot_in address pages) slots ≡ count_by (is_fixed_in address pages) slots
+all_fixed address pages [] each = refl
+all_fixed address pages (x ∷ slots) each =
+    let rest = all_fixed address pages slots each.1 in
     let counts = count_cons (is_slot_in address pages) x slots in
-    let locks = count_cons (is_locked_in address pages) x slots in
+    let locks = count_cons (is_fixed_in address pages) x slots in
     by (is_slot_in address pages x) refl each.0 rest counts locks
   where
-    by : (b : Bool) → is_slot_in address pages x ≡ b → (is_slot_in address pages x ≡ true → is_locked_slot x ≡ true) → count_by (is_slot_in address pages) slots ≡ count_by (is_locked_in address pages) slots
+    by : (b : Bool) → is_slot_in address pages x ≡ b → (is_slot_in address pages x ≡ true → is_fixed_slot x ≡ true) → count_by (is_slot_in address pages) slots ≡ count_by (is_fixed_in address pages) slots
         → count_by (is_slot_in address pages) (x ∷ slots) ≡ cond (is_slot_in address pages x) 1 0 + count_by (is_slot_in address pages) slots
-        → count_by (is_locked_in address pages) (x ∷ slots) ≡ cond (is_locked_in address pages x) 1 0 + count_by (is_locked_in address pages) slots
-        → count_by (is_slot_in address pages) (x ∷ slots) ≡ count_by (is_locked_in address pages) (x ∷ slots)
+        → count_by (is_fixed_in address pages) (x ∷ slots) ≡ cond (is_fixed_in address pages x) 1 0 + count_by (is_fixed_in address pages) slots
+        → count_by (is_slot_in address pages) (x ∷ slots) ≡ count_by (is_fixed_in address pages) (x ∷ slots)
     by b is locked rest counts locks =
         counts ∙ (same b is ∙ sym locks)
       where
-        same : (c : Bool) → is_slot_in address pages x ≡ c → cond (is_slot_in address pages x) 1 0 + count_by (is_slot_in address pages) slots ≡ cond (is_locked_in address pages x) 1 0 + count_by (is_locked_in address pages) slots
+        same : (c : Bool) → is_slot_in address pages x ≡ c → cond (is_slot_in address pages x) 1 0 + count_by (is_slot_in address pages) slots ≡ cond (is_fixed_in address pages x) 1 0 + count_by (is_fixed_in address pages) slots
         same true inside = ap₂ (λ (b : Bool) (n : ℕ). cond b 1 0 + n) (inside ∙ sym (and_from _ _ inside (locked inside))) rest
-        same false outside = ap₂ (λ (b : Bool) (n : ℕ). cond b 1 0 + n) (outside ∙ sym (ap (λ (b : Bool). b && is_locked_slot x) outside)) rest
+        same false outside = ap₂ (λ (b : Bool) (n : ℕ). cond b 1 0 + n) (outside ∙ sym (ap (λ (b : Bool). b && is_fixed_slot x) outside)) rest
 
 module _ (config : Config) (past : List Entry) (p : ℕ) (ready : IsReady config past p) where
   abbrev a : Pager
@@ -165,15 +165,15 @@ module _ (config : Config) (past : List Entry) (p : ℕ) (ready : IsReady config
   abbrev IsDropReason : EvictWhy → Type 0
   IsDropReason why = (why ≡ evict.Purge) ⊎ (why ≡ evict.Delete)
 
-  unlocked_there : (v : ℕ) → is_locked_at a p v ≡ false → (held : Held) → slice_get (a.ring p).slots (slot_with (a.ring p) v) ≡ Some (Some held) → held.locked ≡ false
-  unlocked_there v free held is = sym (ap (λ (o : Option (Option Held)). passes (λ (h : Held). h.locked) (slot_of o)) is) ∙ free
+  loose_there : (v : ℕ) → is_fixed_at a p v ≡ false → (held : Held) → slice_get (a.ring p).slots (slot_with (a.ring p) v) ≡ Some (Some held) → is_fixed held ≡ false
+  loose_there v free held is = sym (ap (λ (o : Option (Option Held)). passes is_fixed (slot_of o)) is) ∙ free
 
-  dropped : (v : ℕ) (e : Valid) → entry_of a.valid p v ≡ Some e → is_stopped config past a e.frame ≡ false → IsValidAt config a p v e → (purged : Bool) → (purged ≡ true → is_locked_at a p v ≡ false)
+  dropped : (v : ℕ) (e : Valid) → entry_of a.valid p v ≡ Some e → is_stopped config past a e.frame ≡ false → IsValidAt config a p v e → (purged : Bool) → (purged ≡ true → is_fixed_at a p v ≡ false)
       → IsDropped config past a p (512 * v) e.frame purged (goes_to past a e.frame)
   dropped v e valid goes known purged free = record {
     own = ready.own;
     taken = record { entry = e; valid = ap (entry_of a.valid p) (same_number v) ∙ valid; frame = refl; goes = refl };
-    unlocked = λ held is purging. unlocked_there v (free purging) held (ap (λ (w : ℕ). slice_get (a.ring p).slots (slot_with (a.ring p) w)) (sym (same_number v)) ∙ is);
+    loose = λ held is purging. loose_there v (free purging) held (ap (λ (w : ℕ). slice_get (a.ring p).slots (slot_with (a.ring p) w)) (sym (same_number v)) ∙ is);
     waits = waits_not config past a e.frame goes;
   }
 
@@ -204,7 +204,7 @@ module _ (config : Config) (past : List Entry) (p : ℕ) (ready : IsReady config
       own_of : (g : Page) → page_by config a.map p v ≡ Some g → g ≡ Private (proc p) v
       own_of g is =
           let charged = (kept config past p ready).held_charged f (Private (proc p) v) refl holds in
-          let there = ((kept config past p ready).pages (Private (proc p) v)).mapped charged in
+          let there = ((kept config past p ready).pages (Private (proc p) v)).mapped charged refl in
           same_Some g (Private (proc p) v) (sym is ∙ there)
 
       no_page : (t : Page → Bool) (xs : List Page) (g : Page) → list_any t xs ≡ false → 0 < count_page xs g → t g ≡ false
@@ -224,6 +224,7 @@ module _ (config : Config) (past : List Entry) (p : ℕ) (ready : IsReady config
           not_valid = λ v inside. none_valid v inside;
           not_in_flight = λ v f inside holds. still_pages at.0 pages still v f inside mapped holds;
         },
+        tt,
       ))
     where
       none_valid : (v : ℕ) → in_range at.0 pages v ≡ true → entries_at a.valid p v ≡ 0
@@ -233,49 +234,49 @@ module _ (config : Config) (past : List Entry) (p : ℕ) (ready : IsReady config
           go (inl some) = absurd (unfound (is_valid_at a p) (range_of at.0 pages) v found (inside_to at.0 pages v inside) (lt-ltb 0 (entries_at a.valid p v) some))
           go (inr no_more) = omega (arith, no_more)
 
-  -- ---- PURGWS: each valid page of the range is locked
-  purged : (at : Addr) (pages : ℕ) → IsRange at.0 pages → (o : Option ℕ) → unlocked_in a p at.0 pages ≡ o → Legal (purge_given config past a p at pages o)
+  -- ---- PURGWS: each valid page of the range is locked or pinned
+  purged : (at : Addr) (pages : ℕ) → IsRange at.0 pages → (o : Option ℕ) → loose_in a p at.0 pages ≡ o → Legal (purge_given config past a p at pages o)
   purged at pages formed (Some v) found =
-      let both = and_parts (is_valid_at a p v) (not (is_locked_at a p v)) (found_passes (λ (u : ℕ). is_valid_at a p u && not (is_locked_at a p u)) (range_of at.0 pages) v found) in
-      evicted v evict.Purge (λ e valid goes. (refl, dropped v e valid goes (valid_at_page config past a p v e (kept config past p ready) valid) true (λ purging. not-true (is_locked_at a p v) both.1))) (entry_of a.valid p v) refl
-  purged at pages formed None found = served (service.Purge at pages) answer.Good formed tt (ready.own, all_locked at.0 pages (a.ring p).slots each)
+      let both = and_parts (is_valid_at a p v) (not (is_fixed_at a p v)) (found_passes (λ (u : ℕ). is_valid_at a p u && not (is_fixed_at a p u)) (range_of at.0 pages) v found) in
+      evicted v evict.Purge (λ e valid goes. (refl, dropped v e valid goes (valid_at_page config past a p v e (kept config past p ready) valid) true (λ purging. not-true (is_fixed_at a p v) both.1))) (entry_of a.valid p v) refl
+  purged at pages formed None found = served (service.Purge at pages) answer.Good formed tt (ready.own, all_fixed at.0 pages (a.ring p).slots each, tt)
     where
-      each : AllByRecursion (λ (x : Option Held). is_slot_in at.0 pages x ≡ true → is_locked_slot x ≡ true) (a.ring p).slots
-      each = all_step (λ (x : Option Held). Unit {0}) (λ (x : Option Held). is_slot_in at.0 pages x ≡ true → is_locked_slot x ≡ true) (a.ring p).slots (λ x counts u inside. at_slot x counts inside) (all_units (a.ring p).slots)
+      each : AllByRecursion (λ (x : Option Held). is_slot_in at.0 pages x ≡ true → is_fixed_slot x ≡ true) (a.ring p).slots
+      each = all_step (λ (x : Option Held). Unit {0}) (λ (x : Option Held). is_slot_in at.0 pages x ≡ true → is_fixed_slot x ≡ true) (a.ring p).slots (λ x counts u inside. at_slot x counts inside) (all_units (a.ring p).slots)
         where
           all_units : (xs : List (Option Held)) → AllByRecursion (λ (x : Option Held). Unit {0}) xs
           all_units [] = tt
           all_units (x ∷ xs) = (tt, all_units xs)
 
-          at_slot : (x : Option Held) → ((t : Option Held → Bool) → t x ≡ true → 0 < count_by t (a.ring p).slots) → is_slot_in at.0 pages x ≡ true → is_locked_slot x ≡ true
+          at_slot : (x : Option Held) → ((t : Option Held → Bool) → t x ≡ true → 0 < count_by t (a.ring p).slots) → is_slot_in at.0 pages x ≡ true → is_fixed_slot x ≡ true
           at_slot None counts inside = absurd (false≢true inside)
-          at_slot (Some held) counts inside = by held.locked refl
+          at_slot (Some held) counts inside = by (is_fixed held) refl
             where
-              -- an unlocked one would have been found
+              -- one that isn't would have been found
               open_slot : Option Held → Bool
-              open_slot y = has_vpn held.vpn y && not (is_locked_slot y)
+              open_slot y = has_vpn held.vpn y && not (is_fixed_slot y)
 
               once : count_by (has_vpn held.vpn) (a.ring p).slots ≤ 1
               once = let fits = (kept config past p ready).entries p held.vpn in omega (arith, fits.slots, fits.once)
 
-              is_unlocked : (z : Option Held) → find open_slot (a.ring p).slots ≡ Some z → is_locked_at a p held.vpn ≡ false
+              is_unlocked : (z : Option Held) → find open_slot (a.ring p).slots ≡ Some z → is_fixed_at a p held.vpn ≡ false
               is_unlocked z is =
-                  let parts = and_parts (has_vpn held.vpn z) (not (is_locked_slot z)) (found_passes open_slot (a.ring p).slots z is) in
+                  let parts = and_parts (has_vpn held.vpn z) (not (is_fixed_slot z)) (found_passes open_slot (a.ring p).slots z is) in
                   let at_first = sym (find_at (has_vpn held.vpn) (a.ring p).slots) ∙ found_once open_slot (has_vpn held.vpn) (a.ring p).slots z is parts.0 once in
-                  ap (λ (o : Option (Option Held)). passes (λ (h : Held). h.locked) (slot_of o)) at_first ∙ off z parts.1
+                  ap (λ (o : Option (Option Held)). passes is_fixed (slot_of o)) at_first ∙ off z parts.1
                 where
-                  off : (z : Option Held) → not (is_locked_slot z) ≡ true → passes (λ (h : Held). h.locked) (slot_of (Some z)) ≡ false
+                  off : (z : Option Held) → not (is_fixed_slot z) ≡ true → passes is_fixed (slot_of (Some z)) ≡ false
                   off None is = refl
-                  off (Some h) is = not-true h.locked is
+                  off (Some h) is = not-true (is_fixed h) is
 
-              by : (b : Bool) → held.locked ≡ b → held.locked ≡ true
+              by : (b : Bool) → is_fixed held ≡ b → is_fixed held ≡ true
               by true is = is
               by false is =
                   let some = found_one open_slot (a.ring p).slots (counts open_slot (and_from _ _ (nat_eq_refl held.vpn) (ap not is))) in
                   let valid = (let fits = (kept config past p ready).entries p held.vpn in let slots = counts (has_vpn held.vpn) (nat_eq_refl held.vpn) in lt-ltb 0 (entries_at a.valid p held.vpn) (omega (arith, fits.slots, slots))) in
-                  absurd (unfound (λ (u : ℕ). is_valid_at a p u && not (is_locked_at a p u)) (range_of at.0 pages) held.vpn found (inside_to at.0 pages held.vpn inside) (and_from _ _ valid (ap not (is_unlocked some.0 some.1))))
+                  absurd (unfound (λ (u : ℕ). is_valid_at a p u && not (is_fixed_at a p u)) (range_of at.0 pages) held.vpn found (inside_to at.0 pages held.vpn inside) (and_from _ _ valid (ap not (is_unlocked some.0 some.1))))
 
-  -- ---- LKWSET and ADJWSL: the process's bounds
+  -- ---- LKWSET, LCKPAG and ADJWSL: the process's bounds
   spec_there : (P : Type 0) → slice_get config.procs p ≡ None → P
   spec_there P none = go (slice_get_cases config.procs p).1
     where
@@ -283,52 +284,66 @@ module _ (config : Config) (past : List Entry) (p : ℕ) (ready : IsReady config
       go (inl found) = absurd (none-some found.0 (sym none ∙ found.2))
       go (inr past_end) = let below = ready.own.process in absurd (omega (arith, past_end.0, below))
 
-  locking : (at : Addr) (pages : ℕ) → IsRange at.0 pages → AreMapped config a p at.0 pages → (o : Option ProcSpec) → slice_get config.procs p ≡ o → Legal (lock_given a p (service.Lock at pages) at.0 pages o)
-  locking at pages formed mapped None is = spec_there (Legal (lock_given a p (service.Lock at pages) at.0 pages None)) is
-  locking at pages formed mapped (Some spec) is =
-      either (nat_le (locked (range_locked true at.0 pages (a.ring p)).slots) spec.locks) _ _
-      (λ fits. served (service.Lock at pages) (answer.Count (count_by (is_slot_in at.0 pages) (a.ring p).slots)) formed (few_slots (is_slot_in at.0 pages))
-      (ready.own, record { mapped = mapped; fits = λ other same. subst (λ (s : ProcSpec). locked (range_locked true at.0 pages (a.ring p)).slots ≤ s.locks) (same_Some spec other (sym is ∙ same)) (leb-true _ _ fits); counted = refl }))
-      (λ over. served (service.Lock at pages) answer.LockLimit formed tt (ready.own, record { mapped = mapped; spec = spec; process = is; over = (let more = leb-false (locked (range_locked true at.0 pages (a.ring p)).slots) spec.locks over in omega (arith, more)) }))
+  -- of a service that marks the valid pages of the range, which makes the ring this one
+  abbrev IsMarking : Service → Addr → ℕ → Ring → Type 0
+  IsMarking s at pages ring =
+      ((n : ℕ) → n < 2 ^ 32 → IsLocking config a p at.0 pages ring n → Legal (served_with s (answer.Count n)))
+      × (IsOverLocking config a p at.0 pages ring → Legal (served_with s answer.LockLimit))
+
+  marking : (s : Service) (at : Addr) (pages : ℕ) (ring : Ring) → IsMarking s at pages ring → AreMapped config a p at.0 pages → (o : Option ProcSpec) → slice_get config.procs p ≡ o → Legal (lock_given a p s at.0 pages ring o)
+  marking s at pages ring legal mapped None is = spec_there (Legal (lock_given a p s at.0 pages ring None)) is
+  marking s at pages ring legal mapped (Some spec) is =
+      either (nat_le (fixed ring.slots) spec.locks) _ _
+      (λ fits. legal.0 (count_by (is_slot_in at.0 pages) (a.ring p).slots) (few_slots (is_slot_in at.0 pages))
+      (record { mapped = mapped; fits = λ other same. subst (λ (s : ProcSpec). fixed ring.slots ≤ s.locks) (same_Some spec other (sym is ∙ same)) (leb-true _ _ fits); counted = refl }))
+      (λ over. legal.1 (record { mapped = mapped; spec = spec; process = is; over = (let more = leb-false (fixed ring.slots) spec.locks over in omega (arith, more)) }))
 
   limiting : (n : ℕ) → n < 2 ^ 32 → (o : Option ProcSpec) → slice_get config.procs p ≡ o → Legal (limits_given n o)
   limiting n small None is = spec_there (Legal (limits_given n None)) is
   limiting n small (Some spec) is =
       either (nat_le (spec.locks + 2) n && nat_le n spec.extent) _ _
       (λ within. let both = and_parts (nat_le (spec.locks + 2) n) (nat_le n spec.extent) within in
-      served (service.Adjust n) answer.Good small tt (ready.own, λ other same. subst (λ (s : ProcSpec). (s.locks + 2 ≤ n) × (n ≤ s.extent)) (same_Some spec other (sym is ∙ same)) (leb-true _ _ both.0, leb-true _ _ both.1)))
-      (λ out. served (service.Adjust n) answer.BadLimit small tt (ready.own, (spec, is, outside (nat_le (spec.locks + 2) n) refl out)))
+      served (service.Adjust n) answer.Good small tt (ready.own, (λ other same. subst (λ (s : ProcSpec). (s.locks + 2 ≤ n) × (n ≤ s.extent)) (same_Some spec other (sym is ∙ same)) (leb-true _ _ both.0, leb-true _ _ both.1)), tt))
+      (λ out. served (service.Adjust n) answer.BadLimit small tt (ready.own, (spec, is, outside (nat_le (spec.locks + 2) n) refl out), tt))
     where
       outside : (b : Bool) → nat_le (spec.locks + 2) n ≡ b → (b && nat_le n spec.extent) ≡ false → (n < spec.locks + 2) ⊎ (spec.extent < n)
       outside false low out = inl (let less = leb-false (spec.locks + 2) n low in omega (arith, less))
       outside true high out = inr (let less = leb-false n spec.extent out in omega (arith, less))
 
   -- ---- the services
-  service_legal : (s : Service) → IsWellFormedService s → Legal (service_gives config past a p s)
-  service_legal (service.Create at pages prot) formed = by (is_in_use a p at.0 pages) refl
+  service_legal : (s : Service) → IsServiceOf config.version s → IsWellFormedService s → Legal (service_gives config past a p s)
+  service_legal (service.Create at pages prot) known formed = by (is_in_use a p at.0 pages) refl
     where
       by : (b : Bool) → is_in_use a p at.0 pages ≡ b → Legal (served_with (service.Create at pages prot) (cond b answer.InUse answer.Good))
-      by true used = served (service.Create at pages prot) answer.InUse formed tt (ready.own, some_mapped at.0 pages used)
-      by false unused = served (service.Create at pages prot) answer.Good formed tt (ready.own, λ v inside. not_there v (no_number (is_mapped_at a p) (range_of at.0 pages) v unused (inside_to at.0 pages v inside)))
-  service_legal (service.Delete at pages) formed =
-      either (is_unmapped a p at.0 pages) _ _ (λ some. served (service.Delete at pages) answer.Unmapped formed tt (ready.own, some_unmapped at.0 pages some))
+      by true used = served (service.Create at pages prot) answer.InUse formed tt (ready.own, some_mapped at.0 pages used, tt)
+      by false unused = served (service.Create at pages prot) answer.Good formed tt (ready.own, (λ v inside. not_there v (no_number (is_mapped_at a p) (range_of at.0 pages) v unused (inside_to at.0 pages v inside))), tt)
+  service_legal (service.Delete at pages) known formed =
+      either (is_unmapped a p at.0 pages) _ _ (λ some. served (service.Delete at pages) answer.Unmapped formed tt (ready.own, some_unmapped at.0 pages some, tt))
       (λ none. deleted at pages formed (all_mapped at.0 pages none) (valid_in a p at.0 pages) refl)
-  service_legal (service.Protect at pages prot) formed = by (is_unmapped a p at.0 pages) refl
+  service_legal (service.Protect at pages prot) known formed = by (is_unmapped a p at.0 pages) refl
     where
       by : (b : Bool) → is_unmapped a p at.0 pages ≡ b → Legal (served_with (service.Protect at pages prot) (cond b answer.Unmapped answer.Good))
-      by true some = served (service.Protect at pages prot) answer.Unmapped formed tt (ready.own, some_unmapped at.0 pages some)
-      by false none = served (service.Protect at pages prot) answer.Good formed tt (ready.own, all_mapped at.0 pages none)
-  service_legal (service.Lock at pages) formed =
-      either (is_unmapped a p at.0 pages) _ _ (λ some. served (service.Lock at pages) answer.Unmapped formed tt (ready.own, some_unmapped at.0 pages some))
-      (λ none. locking at pages formed (all_mapped at.0 pages none) (slice_get config.procs p) refl)
-  service_legal (service.Unlock at pages) formed = by (is_unmapped a p at.0 pages) refl
+      by true some = served (service.Protect at pages prot) answer.Unmapped formed tt (ready.own, some_unmapped at.0 pages some, tt)
+      by false none = served (service.Protect at pages prot) answer.Good formed tt (ready.own, all_mapped at.0 pages none, tt)
+  service_legal (service.Lock at pages) known formed =
+      either (is_unmapped a p at.0 pages) _ _ (λ some. served (service.Lock at pages) answer.Unmapped formed tt (ready.own, some_unmapped at.0 pages some, tt))
+      (λ none. marking (service.Lock at pages) at pages (range_locked true at.0 pages (a.ring p)) ((λ n small fits. served (service.Lock at pages) (answer.Count n) formed small (ready.own, fits, tt)), (λ over. served (service.Lock at pages) answer.LockLimit formed tt (ready.own, over, tt))) (all_mapped at.0 pages none) (slice_get config.procs p) refl)
+  service_legal (service.Unlock at pages) known formed = by (is_unmapped a p at.0 pages) refl
     where
       by : (b : Bool) → is_unmapped a p at.0 pages ≡ b → Legal (served_with (service.Unlock at pages) (cond b answer.Unmapped (answer.Count (count_by (is_locked_in at.0 pages) (a.ring p).slots))))
-      by true some = served (service.Unlock at pages) answer.Unmapped formed tt (ready.own, some_unmapped at.0 pages some)
-      by false none = served (service.Unlock at pages) (answer.Count (count_by (is_locked_in at.0 pages) (a.ring p).slots)) formed (few_slots (is_locked_in at.0 pages)) (ready.own, (all_mapped at.0 pages none, refl))
-  service_legal (service.Purge at pages) formed = purged at pages formed (unlocked_in a p at.0 pages) refl
-  service_legal (service.Adjust n) formed = limiting n formed (slice_get config.procs p) refl
+      by true some = served (service.Unlock at pages) answer.Unmapped formed tt (ready.own, some_unmapped at.0 pages some, tt)
+      by false none = served (service.Unlock at pages) (answer.Count (count_by (is_locked_in at.0 pages) (a.ring p).slots)) formed (few_slots (is_locked_in at.0 pages)) (ready.own, (all_mapped at.0 pages none, refl), tt)
+  service_legal (service.Pin at pages) known formed =
+      either (is_unmapped a p at.0 pages) _ _ (λ some. served (service.Pin at pages) answer.Unmapped formed tt (ready.own, some_unmapped at.0 pages some, known))
+      (λ none. marking (service.Pin at pages) at pages (range_pinned true at.0 pages (a.ring p)) ((λ n small fits. served (service.Pin at pages) (answer.Count n) formed small (ready.own, fits, known)), (λ over. served (service.Pin at pages) answer.LockLimit formed tt (ready.own, over, known))) (all_mapped at.0 pages none) (slice_get config.procs p) refl)
+  service_legal (service.Unpin at pages) known formed = by (is_unmapped a p at.0 pages) refl
+    where
+      by : (b : Bool) → is_unmapped a p at.0 pages ≡ b → Legal (served_with (service.Unpin at pages) (cond b answer.Unmapped (answer.Count (count_by (is_pinned_in at.0 pages) (a.ring p).slots))))
+      by true some = served (service.Unpin at pages) answer.Unmapped formed tt (ready.own, some_unmapped at.0 pages some, known)
+      by false none = served (service.Unpin at pages) (answer.Count (count_by (is_pinned_in at.0 pages) (a.ring p).slots)) formed (few_slots (is_pinned_in at.0 pages)) (ready.own, (all_mapped at.0 pages none, refl), known)
+  service_legal (service.Purge at pages) known formed = purged at pages formed (loose_in a p at.0 pages) refl
+  service_legal (service.Adjust n) known formed = limiting n formed (slice_get config.procs p) refl
 
   -- what is made for the service is legal
-  pub serve_legal : (s : Service) → IsWellFormedService s → AreLegal config past p (serve_gives config past a p s).made
-  serve_legal s formed = either (is_resident (a.status p)) _ _ (λ resident. service_legal s formed) (λ away. tt)
+  pub serve_legal : (s : Service) → IsServiceOf config.version s → IsWellFormedService s → AreLegal config past p (serve_gives config past a p s).made
+  serve_legal s known formed = either (is_resident (a.status p)) _ _ (λ resident. service_legal s known formed) (λ away. tt)

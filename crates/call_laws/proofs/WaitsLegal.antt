@@ -3,7 +3,7 @@ use Rattle.std.proofs.Common.{◌≡◌, inl, inr, ℕ, ◌+◌, ◌<◌, ◌≤
 use Rattle.std.proofs.lemmas.Bool.{and_parts, eqb-true, false≢true, leb-false}
 use Rattle.std.proofs.lemmas.Option.{get_or_from_slice_get, none-some, same_Some, slice_get_within}
 use Rattle.vm_types.specs.Adjust.{adjust}
-use Rattle.vm_types.specs.Configuration.{IsProcess}
+use Rattle.vm_types.specs.Configuration.{IsProcess, all_pins}
 use Rattle.vm_types.specs.Ring.{Held, choose, filled}
 use Rattle.vm_types.specs.declared.config.Config.{Config}
 use Rattle.vm_types.specs.declared.config.ProcSpec.{ProcSpec}
@@ -35,10 +35,10 @@ use Rattle.pager_laws.proofs.FewCounts.{counts_few}
 use Rattle.pager_laws.proofs.LimitKept.{adjust_within}
 use Rattle.pager_laws.proofs.OfConfigKept.{run_right}
 use Rattle.pager_laws.proofs.RunsAreSound.{run_kept}
-use Rattle.state_fits.proofs.Holders.{holder_holds, holds_within}
-use Rattle.state_fits.proofs.RingBounds.{bounded}
-use Rattle.state_fits.proofs.ValidEntries.{IsValidAt, valid_at_page}
-use Rattle.state_fits.proofs.EntryPages.{mapped_right}
+use Rattle.page_holders.proofs.Holders.{holder_holds, holds_within}
+use Rattle.page_holders.proofs.RingBounds.{bounded}
+use Rattle.page_holders.proofs.ValidEntries.{IsValidAt, valid_at_page}
+use Rattle.page_holders.proofs.EntryPages.{mapped_right}
 use Rattle.content_laws.proofs.FlightLeft.{started}
 use Rattle.call_laws.proofs.Chosen.{has_victim}
 use Rattle.call_laws.specs.Ready.{IsReady}
@@ -64,7 +64,7 @@ pub record IsSeen (a : Pager) (p n : ℕ) (s : Seen) : Type 0 where
   pub valid : entry_of a.valid p s.vpn ≡ Some entry
   pub frame : entry.frame ≡ s.frame
   pub page : a.page s.frame ≡ Some s.page
-  pub locked : held.locked ≡ s.locked
+  pub pin : held.pinned ≡ s.pinned
 
 pub is_seen : (a : Pager) (p n : ℕ) (s : Seen) → seen_at a p n ≡ Some s → IsSeen a p n s
 is_seen a p n s is = by_slot (slice_get (a.ring p).slots n) refl is
@@ -84,7 +84,7 @@ is_seen a p n s is = by_slot (slice_get (a.ring p).slots n) refl is
           valid = subst (λ (v : ℕ). entry_of a.valid p v ≡ Some e) vpn valid;
           frame = frame;
           page = subst (λ (f : ℕ). a.page f ≡ Some s.page) frame (page ∙ ap Some holds);
-          locked = ap (λ (x : Seen). x.locked) same;
+          pin = ap (λ (x : Seen). x.pinned) same;
         }
 
     by_entry : (held : Held) (o : Option Valid) → slice_get (a.ring p).slots n ≡ Some (Some held) → entry_of a.valid p held.vpn ≡ o → seen_by a held o ≡ Some s → IsSeen a p n s
@@ -146,8 +146,8 @@ module _ (config : Config) (past : List Entry) (p : ℕ) (ready : IsReady config
       few : a.faults p < 2 ^ 64
       few = let most = (counts_few config past).faults p in let short = ready.few in omega (arith, most, short)
 
-      process : IsProcess config.frames (length config.bad) spec
-      process = subst (λ (x : ProcSpec). IsProcess config.frames (length config.bad) x) (get_or_from_slice_get config.procs p spec spec found) (ready.formed.procs p spec (slice_get_within config.procs p spec found))
+      process : IsProcess config.frames (length config.bad + all_pins config) spec
+      process = subst (λ (x : ProcSpec). IsProcess config.frames (length config.bad + all_pins config) x) (get_or_from_slice_get config.procs p spec spec found) (ready.formed.procs p spec (slice_get_within config.procs p spec found))
 
       small : adjust config.params spec (a.faults p) (a.limit p) (length a.free) < 2 ^ 32
       small =
@@ -209,7 +209,7 @@ module _ (config : Config) (past : List Entry) (p : ℕ) (ready : IsReady config
     );
   }
     where
-      bounds : IsBounded (bounded config (past_view past) a ready.formed kept p ready.own.process).0 (a.ring p) (a.limit p)
+      bounds : IsBounded config.version (bounded config (past_view past) a ready.formed kept p ready.own.process).0 (a.ring p) (a.limit p)
       bounds = (bounded config (past_view past) a ready.formed kept p ready.own.process).1
 
       victim : (slot : ℕ) × (choose (a.ring p) (a.limit p) ≡ Victim slot)

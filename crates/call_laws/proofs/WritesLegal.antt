@@ -20,21 +20,21 @@ use Rattle.pager_model.specs.Flights.{Flight, awaits_reuse, is_busy, is_reading,
 use Rattle.pager_model.specs.Given.{by_seat, given, pfn}
 use Rattle.pager_model.specs.InTurn.{InTurn, MayJoin, is_next_block}
 use Rattle.pager_model.specs.Lookups.{IsHead, block_of, is_assigned_to, is_owner}
-use Rattle.pager_model.specs.Maps.{is_private}
+use Rattle.pager_model.specs.Maps.{is_paged}
 use Rattle.pager_model.specs.OfConfig.{IsOfConfig, IsPageOf}
 use Rattle.pager_model.specs.Out.{IsOutBlock, after_any_out, assigned_with}
 use Rattle.pager_model.specs.Pager.{Assigned, Pager}
 use Rattle.pager_model.specs.Run.{IsRun, pager_after}
 use Rattle.pager_model.specs.Step.{IsLegal}
 use Rattle.pager_model.specs.Transfers.{is_on_block}
-use Rattle.pager_model.specs.WriteCluster.{Reason, begin_carry, begin_gives, begin_nothing, block_out, is_enough, if_next, is_free_block, new_block, paged_block, shared_block, writes_from, writes_taken}
+use Rattle.pager_model.specs.WriteCluster.{Reason, begin_carry, begin_gives, begin_nothing, block_out, filed_block, is_enough, if_next, is_free_block, new_block, paged_block, writes_from, writes_taken}
 use Rattle.pager_rules.proofs.Basics.{count_cons, count_cons_no, count_cons_yes, find_cons_no, nat_eq_refl, pages_equal}
 use Rattle.pager_rules.proofs.Lists.{all_found, found_passes, filter_all}
 use Rattle.pager_rules.proofs.Put.{head_counts}
 use Rattle.pager_rules.specs.Kept.{IsKept, one_if}
 use Rattle.pager_laws.proofs.OfConfigKept.{run_right}
 use Rattle.pager_laws.proofs.RunsAreSound.{run_kept}
-use Rattle.state_fits.proofs.Holders.{holds_within}
+use Rattle.page_holders.proofs.Holders.{holds_within}
 use Rattle.call_laws.specs.AreLegal.{AreLegal}
 use Rattle.call_laws.specs.Ready.{MayWork}
 use Rattle.call_laws.proofs.BlocksHome.{lying_home}
@@ -69,7 +69,7 @@ joined (Some l) b c is = go (is_next_block l b) refl is
 free_there : (config : Config) (a : Pager) (n : ℕ) → is_free_block config a n ≡ true → (n < config.pagefile) × (count_by (is_owner (block.PageFile n)) a.assigned ≡ 0)
 free_there config a n is = let parts = and_parts (nat_lt n config.pagefile) (nat_eq (count_by (is_owner (block.PageFile n)) a.assigned) 0) is in (ltb-true _ _ parts.0, eqb-true _ _ parts.1)
 
-new_taken : (config : Config) (a : Pager) (last : Option BlockId) (g : Page) (c : BlockId) → is_private g ≡ true → block_of a.assigned g ≡ None → new_block config a last ≡ Some c → IsTaken config a last g c
+new_taken : (config : Config) (a : Pager) (last : Option BlockId) (g : Page) (c : BlockId) → is_paged config g ≡ true → block_of a.assigned g ≡ None → new_block config a last ≡ Some c → IsTaken config a last g c
 new_taken config a None g c private none is = by (find (is_free_block config a) (range_with_len 0 config.pagefile)) refl is
   where
     by : (o : Option ℕ) → find (is_free_block config a) (range_with_len 0 config.pagefile) ≡ o → option_map block.PageFile o ≡ Some c → IsTaken config a None g c
@@ -88,22 +88,22 @@ new_taken config a (Some (block.Section s i)) g c private none is = absurd (none
 new_taken config a (Some (block.Swap p n)) g c private none is = absurd (none-some c is)
 
 -- the page of the block is written to its section block, its own block, or a free one
-taken : (config : Config) (a : Pager) (last : Option BlockId) (g : Page) (c : BlockId) → ((b : BlockId) → is_private g ≡ false → a.lies g ≡ Some b → IsPaging b) → block_out config a last (Some g) ≡ Some c → IsTaken config a last g c
-taken config a last g c paging is = by (is_private g) refl is
+taken : (config : Config) (a : Pager) (last : Option BlockId) (g : Page) (c : BlockId) → ((b : BlockId) → is_paged config g ≡ false → a.lies g ≡ Some b → IsPaging b) → block_out config a last (Some g) ≡ Some c → IsTaken config a last g c
+taken config a last g c paging is = by (is_paged config g) refl is
   where
-    paged : is_private g ≡ true → (o : Option ℕ) → block_of a.assigned g ≡ o → paged_block config a last o ≡ Some c → IsTaken config a last g c
+    paged : is_paged config g ≡ true → (o : Option ℕ) → block_of a.assigned g ≡ o → paged_block config a last o ≡ Some c → IsTaken config a last g c
     paged private None own is = new_taken config a last g c private own is
     paged private (Some n) own is =
         let at = joined last (block.PageFile n) c is in
         subst (IsTaken config a last g) at.0 (record { joins = subst (Joins last) (sym at.0) at.1; paging = tt; block = inr (inl (n, private, own, refl)) })
 
-    lying : is_private g ≡ false → (o : Option BlockId) → a.lies g ≡ o → shared_block last o ≡ Some c → IsTaken config a last g c
+    lying : is_paged config g ≡ false → (o : Option BlockId) → a.lies g ≡ o → filed_block last o ≡ Some c → IsTaken config a last g c
     lying shared None lies is = absurd (none-some c is)
     lying shared (Some b) lies is =
         let at = joined last b c is in
         record { joins = at.1; paging = subst IsPaging at.0 (paging b shared lies); block = inl (shared, lies ∙ ap Some at.0) }
 
-    by : (b : Bool) → is_private g ≡ b → cond b (paged_block config a last (block_of a.assigned g)) (shared_block last (a.lies g)) ≡ Some c → IsTaken config a last g c
+    by : (b : Bool) → is_paged config g ≡ b → cond b (paged_block config a last (block_of a.assigned g)) (filed_block last (a.lies g)) ≡ Some c → IsTaken config a last g c
     by true private is = paged private (block_of a.assigned g) refl is
     by false shared is = lying shared (a.lies g) refl is
 
@@ -149,9 +149,9 @@ module _ (config : Config) (past : List Entry) (seat : ℕ) (work : IsAtWork con
       by None found is = absurd (none-some n is)
       by (Some x) found is = subst (λ (m : ℕ). m < config.pagefile) (same_Some x.block n is) (all_found (λ (y : Assigned). y.block < config.pagefile) (is_assigned_to g) now.assigned x right_now.assigned found)
 
-  section_real : (g : Page) (c : BlockId) → is_private g ≡ false → IsPageOf config g → now.lies g ≡ Some c → IsBlock config c
-  section_real (Private p v) c shared of lies = absurd (false≢true (sym shared))
-  section_real (Shared s i) c shared of lies = subst (IsBlock config) (same_Some (block.Section s i) c (sym ((kept_now.pages (Shared s i)).shared s i refl) ∙ lies)) of.0
+  section_real : (g : Page) (c : BlockId) → is_paged config g ≡ false → IsPageOf config g → now.lies g ≡ Some c → IsBlock config c
+  section_real (Private p v) c file of lies = absurd (false≢true (sym file))
+  section_real (Shared s i) c file of lies = subst (IsBlock config) (same_Some (block.Section s i) c (sym ((kept_now.pages (Shared s i)).shared s i refl file) ∙ lies)) (of.0, file)
 
   home_of : (f : ℕ) (g : Page) (c : BlockId) → 0 < count_of now.modified f → now.page f ≡ Some g → IsOutBlock config now c g → IsBlock config c × (count_by (is_on_block c) (open_flights past) ≡ 0)
   home_of f g c listed holds (inl shared) = (section_real g c shared.0 (right_now.held f g holds) shared.1, lying_home config (past_view past) now kept_now g c (right_now.held f g holds) shared.1 (listed_still config (past_view past) now kept_now f g listed holds))
@@ -325,7 +325,7 @@ stays_more a₀ a last f fs g (block.PageFile m) same once holds tail none pagin
     before (Some (block.Swap p k)) joins n beyond = tt
 
 -- ---- the writes of a cluster
-module _ (config : Config) (a₀ : Pager) (once : (k h : ℕ) (x : Page) → a₀.page k ≡ Some x → a₀.page h ≡ Some x → k ≡ h) (paging : (g : Page) (b : BlockId) → is_private g ≡ false → a₀.lies g ≡ Some b → IsPaging b) (seat : ℕ) where
+module _ (config : Config) (a₀ : Pager) (once : (k h : ℕ) (x : Page) → a₀.page k ≡ Some x → a₀.page h ≡ Some x → k ≡ h) (paging : (g : Page) (b : BlockId) → is_paged config g ≡ false → a₀.lies g ≡ Some b → IsPaging b) (seat : ℕ) where
   abbrev Later : ℕ → List ℕ → List Entry → ℕ → Type 0
   Later f fs past begun =
       (c : BlockId) (m : ℕ) → IsAtWork config (by_seat seat (what.Out (pfn f) c) ∷ past) seat → IsWritingOn (by_seat seat (what.Out (pfn f) c) ∷ past) seat c (begun + 1) → StaysIn a₀ (pager_after config (by_seat seat (what.Out (pfn f) c) ∷ past)) (Some c) fs
@@ -365,9 +365,9 @@ begin_legal config past seat reason may = by (is_enough config a reason || nat_e
     kept : IsKept config (past_view past) (pager_after config past)
     kept = run_kept config past may.formed may.run
 
-    paging : (g : Page) (b : BlockId) → is_private g ≡ false → (pager_after config past).lies g ≡ Some b → IsPaging b
+    paging : (g : Page) (b : BlockId) → is_paged config g ≡ false → (pager_after config past).lies g ≡ Some b → IsPaging b
     paging (Private p v) b shared lies = absurd (false≢true (sym shared))
-    paging (Shared s i) b shared lies = subst IsPaging (same_Some (block.Section s i) b (sym ((kept.pages (Shared s i)).shared s i refl) ∙ lies)) tt
+    paging (Shared s i) b file lies = subst IsPaging (same_Some (block.Section s i) b (sym ((kept.pages (Shared s i)).shared s i refl file) ∙ lies)) tt
 
     by : (enough : Bool) → AreLegal config past seat (cond enough (given [] begin_nothing) (given (writes_from config (pager_after config past) config.params.wrtcluster None (pager_after config past).modified) begin_carry)).made
     by true = tt

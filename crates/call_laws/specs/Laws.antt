@@ -1,6 +1,6 @@
 -- The laws of the calls of the pager's logic, as statements.
 use Rattle.std.specs.Prelude.{◌≡◌, ℕ, ◌+◌, ◌^◌, ◌<◌, List, [], Option, Some, None, length}
-use Rattle.vm_types.specs.WellFormed.{IsWellFormedReference, IsWellFormedService}
+use Rattle.vm_types.specs.WellFormed.{IsServiceOf, IsWellFormedReference, IsWellFormedService}
 use Rattle.vm_types.specs.declared.config.Config.{Config}
 use Rattle.vm_types.specs.declared.reference.Ref.{Ref}
 use Rattle.vm_types.specs.declared.service.Service.{Service}
@@ -29,7 +29,7 @@ AdvanceIsLegal =
 -- and so is all that a service's next step makes
 abbrev pub ServeIsLegal : Type 0
 ServeIsLegal =
-    (config : Config) (past : List Entry) (p : ℕ) (s : Service) → IsReady config past p → IsWellFormedService s
+    (config : Config) (past : List Entry) (p : ℕ) (s : Service) → IsReady config past p → IsServiceOf config.version s → IsWellFormedService s
     → AreLegal config past p (serve_gives config past (pager_after config past) p s).made
 
 -- and all that a write cluster makes, by any seat

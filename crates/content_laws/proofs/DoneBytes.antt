@@ -8,6 +8,7 @@ use Rattle.vm_types.specs.declared.names.Page.TheVariants.{Private, Shared}
 use Rattle.vm_types.specs.declared.names.Seat.{Seat}
 use Rattle.vm_types.specs.declared.names.FrameState.TheVariants as state
 use Rattle.vm_types.specs.declared.config.Config.{Config}
+use Rattle.vm_types.specs.declared.config.Origin.TheVariants as origin
 use Rattle.vm_types.specs.declared.reference.Ref.{Ref}
 use Rattle.vm_types.specs.declared.reply.Reply.{Reply}
 use Rattle.vm_types.specs.declared.reply.Why.{Why}
@@ -21,7 +22,7 @@ use Rattle.pager_model.specs.Done.{IsDone, after_done}
 use Rattle.pager_model.specs.Flat.{FlatState, answered_at, flat_next, flat_refusal, flat_with, mapping_of, next_unless, touched_with}
 use Rattle.pager_model.specs.Flights.{Flight, is_reading, open_flights}
 use Rattle.pager_model.specs.Lookups.{is_entry, page_at, page_by}
-use Rattle.pager_model.specs.Maps.{Mapped, first_bytes, is_private, page_behind, page_number}
+use Rattle.pager_model.specs.Maps.{Mapped, first_bytes, is_paged, page_behind, page_number}
 use Rattle.pager_model.specs.Pager.{Pager, Valid}
 use Rattle.pager_model.specs.Sets.{at_page, has_page}
 use Rattle.pager_model.specs.Spoken.{flat_after}
@@ -33,28 +34,31 @@ use Rattle.pager_rules.proofs.Put.{page_apart}
 use Rattle.pager_rules.specs.Kept.{IsForItsPage, IsKept}
 
 -- ---- the flat state with one page's bytes stored
-touched_has : (touched : List Page) (x g : Page) → same_page g x ≡ false → has_page (touched_with touched x) g ≡ has_page touched g
-touched_has touched x g apart = go (is_private x) (has_page touched x)
+touched_has : (config : Config) (touched : List Page) (x g : Page) → same_page g x ≡ false → has_page (touched_with config touched x) g ≡ has_page touched g
+touched_has config touched x g apart = go (is_paged config x) (has_page touched x)
   where
     go : (b c : Bool) → has_page (cond b (cond c touched (x ∷ touched)) touched) g ≡ has_page touched g
     go false c = refl
     go true true = refl
     go true false = cc apart
 
-pub with_bytes : (config : Config) (flat : FlatState) (x g : Page) (bytes : List ℕ) → (x ≡ g → ⊥) → bytes_in config (flat_with flat x bytes) g ≡ bytes_in config flat g
-with_bytes config flat x (Shared s i) bytes apart = ap (λ (b : Bool). cond b bytes (flat.stored (Shared s i))) (page_apart x (Shared s i) apart)
+pub with_bytes : (config : Config) (flat : FlatState) (x g : Page) (bytes : List ℕ) → (x ≡ g → ⊥) → bytes_in config (flat_with config flat x bytes) g ≡ bytes_in config flat g
+with_bytes config flat x (Shared s i) bytes apart =
+    ap₂ (λ (t : Bool) (ys : List ℕ). cond (is_paged config (Shared s i) && not t) (first_bytes config (origin.Section s i)) ys)
+    (touched_has config flat.touched x (Shared s i) (page_apart (Shared s i) x (λ same. apart (sym same))))
+    (ap (λ (b : Bool). cond b bytes (flat.stored (Shared s i))) (page_apart x (Shared s i) apart))
 with_bytes config flat x (Private p v) bytes apart = go (flat.map p.0 v)
   where
     g : Page
     g = Private p v
 
-    touched_is : has_page (touched_with flat.touched x) g ≡ has_page flat.touched g
-    touched_is = touched_has flat.touched x g (page_apart g x (λ same. apart (sym same)))
+    touched_is : has_page (touched_with config flat.touched x) g ≡ has_page flat.touched g
+    touched_is = touched_has config flat.touched x g (page_apart g x (λ same. apart (sym same)))
 
     stored_is : at_page flat.stored x bytes g ≡ flat.stored g
     stored_is = ap (λ (b : Bool). cond b bytes (flat.stored g)) (page_apart x g apart)
 
-    go : (o : Option Mapped) → bytes_at config (flat_with flat x bytes) g o ≡ bytes_at config flat g o
+    go : (o : Option Mapped) → bytes_at config (flat_with config flat x bytes) g o ≡ bytes_at config flat g o
     go None = refl
     go (Some m) = ap₂ (λ (t : Bool) (ys : List ℕ). cond (true && not t) (first_bytes config m.origin) ys) touched_is stored_is
 

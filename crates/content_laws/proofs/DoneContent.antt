@@ -12,6 +12,7 @@ use Rattle.vm_types.specs.declared.names.Seat.{Seat}
 use Rattle.vm_types.specs.declared.names.FrameState.{FrameState}
 use Rattle.vm_types.specs.declared.names.FrameState.TheVariants as state
 use Rattle.vm_types.specs.declared.config.Config.{Config}
+use Rattle.vm_types.specs.declared.config.Origin.TheVariants as origin
 use Rattle.vm_types.specs.declared.reference.Op.{Op}
 use Rattle.vm_types.specs.declared.reference.Op.TheVariants.{Read, Write, Add}
 use Rattle.vm_types.specs.declared.reference.Ref.{Ref}
@@ -33,12 +34,12 @@ use Rattle.pager_model.specs.Done.{IsDone, after_done, modify_done}
 use Rattle.pager_model.specs.Flat.{FlatState, answered_at, bytes_after, flat_next, flat_refusal, flat_reply, flat_with, found_at, is_change, mapping_of, next_unless, offset_in_page, page_bytes, reply_from, reply_unless, touched_with}
 use Rattle.pager_model.specs.Flights.{Flight, open_flights}
 use Rattle.pager_model.specs.Lookups.{entry_of, is, page_at, page_by}
-use Rattle.pager_model.specs.Maps.{Map, Mapped, first_bytes, is_private, page_behind, page_number}
+use Rattle.pager_model.specs.Maps.{Map, Mapped, first_bytes, is_paged, is_private, page_behind, page_number}
 use Rattle.pager_model.specs.Pager.{Pager, Valid}
 use Rattle.pager_model.specs.Sets.{at_number, has_page}
 use Rattle.pager_model.specs.Spoken.{flat_after}
 use Rattle.pager_rules.proofs.Basics.{at_number_other, at_number_same, pages_equal, same_page_refl}
-use Rattle.pager_rules.proofs.Pages.{own_is}
+use Rattle.pager_rules.proofs.Pages.{origin_behind, own_is}
 use Rattle.pager_rules.specs.Kept.{IsKept}
 
 -- ---- the bytes of the page of a reference
@@ -49,23 +50,37 @@ own_map map (Shared s i) = None
 own_mapped : (config : Config) (map : Map) (p v : ℕ) (m : Mapped) (x : Page) → map p v ≡ Some m → page_behind config p v m.origin ≡ x → is_private x ≡ true → own_map map x ≡ Some m
 own_mapped config map p v m x mapped is private = ap (own_map map) (own_is config map p v x (ap (page_at config p v) mapped ∙ ap Some is) private) ∙ mapped
 
-bytes_now : (config : Config) (flat : FlatState) (p v : ℕ) (m : Mapped) (x : Page) → flat.map p v ≡ Some m → page_behind config p v m.origin ≡ x → bytes_in config flat x ≡ page_bytes config flat x m.origin
-bytes_now config flat p v m (Shared s i) mapped is = refl
+pub bytes_now : (config : Config) (flat : FlatState) (p v : ℕ) (m : Mapped) (x : Page) → flat.map p v ≡ Some m → page_behind config p v m.origin ≡ x → bytes_in config flat x ≡ page_bytes config flat x m.origin
+bytes_now config flat p v m (Shared s i) mapped is = ap (page_bytes config flat (Shared s i)) (sym (origin_behind config p v m.origin s i is))
 bytes_now config flat p v m (Private q w) mapped is = ap (bytes_at config flat (Private q w)) (own_mapped config flat.map p v m (Private q w) mapped is refl)
 
-touched_here : (touched : List Page) (x : Page) → is_private x ≡ true → has_page (touched_with touched x) x ≡ true
-touched_here touched x private = go (is_private x) private (has_page touched x) refl
+touched_here : (config : Config) (touched : List Page) (x : Page) → is_paged config x ≡ true → has_page (touched_with config touched x) x ≡ true
+touched_here config touched x paged = go (is_paged config x) paged (has_page touched x) refl
   where
     go : (b : Bool) → b ≡ true → (c : Bool) → has_page touched x ≡ c → has_page (cond b (cond c touched (x ∷ touched)) touched) x ≡ true
     go false is c has = absurd (false≢true is)
     go true is true has = has
     go true is false has = let itself = same_page_refl x in cc
 
-with_here : (config : Config) (flat : FlatState) (p v : ℕ) (m : Mapped) (x : Page) (bytes : List ℕ) → flat.map p v ≡ Some m → page_behind config p v m.origin ≡ x → bytes_in config (flat_with flat x bytes) x ≡ bytes
-with_here config flat p v m (Shared s i) bytes mapped is = ap (λ (b : Bool). cond b bytes (flat.stored (Shared s i))) (same_page_refl (Shared s i))
+with_here : (config : Config) (flat : FlatState) (p v : ℕ) (m : Mapped) (x : Page) (bytes : List ℕ) → flat.map p v ≡ Some m → page_behind config p v m.origin ≡ x → bytes_in config (flat_with config flat x bytes) x ≡ bytes
+with_here config flat p v m (Shared s i) bytes mapped is = go (is_paged config (Shared s i)) refl
+  where
+    x : Page
+    x = Shared s i
+
+    touched : List Page
+    touched = touched_with config flat.touched x
+
+    go : (c : Bool) → is_paged config x ≡ c → bytes_in config (flat_with config flat x bytes) x ≡ bytes
+    go true paged =
+        ap (λ (b : Bool). cond (b && not (has_page touched x)) (first_bytes config (origin.Section s i)) (cond (same_page x x) bytes (flat.stored x))) paged
+        ∙ ap₂ (λ (t u : Bool). cond (not t) (first_bytes config (origin.Section s i)) (cond u bytes (flat.stored x))) (touched_here config flat.touched x paged) (same_page_refl x)
+    go false file =
+        ap (λ (b : Bool). cond (b && not (has_page touched x)) (first_bytes config (origin.Section s i)) (cond (same_page x x) bytes (flat.stored x))) file
+        ∙ ap (λ (u : Bool). cond u bytes (flat.stored x)) (same_page_refl x)
 with_here config flat p v m (Private q w) bytes mapped is =
-    ap (bytes_at config (flat_with flat (Private q w) bytes) (Private q w)) (own_mapped config flat.map p v m (Private q w) mapped is refl)
-    ∙ ap₂ (λ (t s : Bool). cond (true && not t) (first_bytes config m.origin) (cond s bytes (flat.stored (Private q w)))) (touched_here flat.touched (Private q w) refl) (same_page_refl (Private q w))
+    ap (bytes_at config (flat_with config flat (Private q w) bytes) (Private q w)) (own_mapped config flat.map p v m (Private q w) mapped is refl)
+    ∙ ap₂ (λ (t s : Bool). cond (true && not t) (first_bytes config m.origin) (cond s bytes (flat.stored (Private q w)))) (touched_here config flat.touched (Private q w) refl) (same_page_refl (Private q w))
 
 pub done_bytes_here : (config : Config) (flat : FlatState) (p : ℕ) (r : Ref) (x : Page) → flat_refusal config flat p r ≡ None → page_by config flat.map p (page_number (r.addr).0) ≡ Some x
     → bytes_in config (flat_next config flat p r) x ≡ bytes_after r.op (bytes_in config flat x) (offset_in_page r)
@@ -79,7 +94,7 @@ done_bytes_here config flat p r x none is =
     go None mapped at = absurd (none-some x at)
     go (Some m) mapped at =
         let same : page_behind config p v m.origin ≡ x = same_Some _ _ at in
-        subst (λ (y : Page). bytes_in config (flat_with flat y (bytes_after r.op (page_bytes config flat y m.origin) (offset_in_page r))) x ≡ bytes_after r.op (bytes_in config flat x) (offset_in_page r)) (sym same)
+        subst (λ (y : Page). bytes_in config (flat_with config flat y (bytes_after r.op (page_bytes config flat y m.origin) (offset_in_page r))) x ≡ bytes_after r.op (bytes_in config flat x) (offset_in_page r)) (sym same)
         (with_here config flat p v m x (bytes_after r.op (page_bytes config flat x m.origin) (offset_in_page r)) mapped same
         ∙ ap (λ (ys : List ℕ). bytes_after r.op ys (offset_in_page r)) (sym (bytes_now config flat p v m x mapped same)))
 

@@ -17,6 +17,7 @@ use Rattle.pager_model.specs.Sound.{FitsSlot}
 use Rattle.pager_model.specs.Lookups.{block_of, is_assigned_to, is_owner, slot_of}
 use Rattle.pager_rules.proofs.Basics.{find_cons_yes, find_cons_no, pages_equal, same_from_equal, nat_eq_refl}
 use Rattle.pager_model.specs.Around.{PastView, page_view, process_view}
+use Rattle.pager_model.specs.Maps.{is_paged}
 use Rattle.pager_rules.specs.Kept.{IsKept, FitsWrite}
 use Rattle.pager_rules.proofs.Lists.{count_found, count_removed_yes}
 use Rattle.pager_laws.proofs.OutOkKept.{one_in_slot}
@@ -65,7 +66,11 @@ module _ (config : Config) (o : PastView) (a : Pager) (kept : IsKept config o a)
     where
       at : (y : Page) → a.lies y ≡ Some (block.Section s i) → y ≡ Shared s i
       at (Private p v) lies = absurd ((kept.pages (Private p v)).not_in_section s i refl lies)
-      at (Shared t j) lies = ap (λ (b : BlockId). page_of_block b (Shared t j)) (same_Some _ _ (sym ((kept.pages (Shared t j)).shared t j refl) ∙ lies))
+      at (Shared t j) lies = by (is_paged config (Shared t j)) refl
+        where
+          by : (c : Bool) → is_paged config (Shared t j) ≡ c → Shared t j ≡ Shared s i
+          by true paged = absurd ((kept.pages (Shared t j)).not_in_section s i paged lies)
+          by false file = ap (λ (b : BlockId). page_of_block b (Shared t j)) (same_Some _ _ (sym ((kept.pages (Shared t j)).shared t j refl file) ∙ lies))
 
   once_of : (g : Page) → count_by (is_assigned_to g) a.assigned ≤ 1
   once_of g = let fits = kept.pages g in omega (arith, fits.blocks, fits.charged)

@@ -80,7 +80,7 @@ module _ (tells tells_plan : Bool) (config : Config) (past : List Entry) (a : Pa
   content_is told = fits_lift.content told (sym ((fits_lift.flight).direction) ∙ is_read_of) ∙ ap Some (ap (λ (d : Direction). meant config past x.start lift.page d) reads)
 
   mapped : IsFirstRead x r lift.page (page_view config a lift.page) → own_page config a.map lift.page ≡ Some lift.page
-  mapped first = (kept.pages lift.page).mapped (omega (arith, first.charged))
+  mapped first = (kept.pages lift.page).mapped (omega (arith, first.charged)) first.private
 
   -- a page that lies in the block is the one that was read
   lies_own : (g : Page) → is_real config g ≡ true → a.lies g ≡ Some x.block → g ≡ lift.page

@@ -9,6 +9,7 @@ use Rattle.vm_types.specs.declared.names.Page.{Page}
 use Rattle.vm_types.specs.declared.names.Page.TheVariants.{Private, Shared}
 use Rattle.vm_types.specs.declared.names.Proc.{Proc}
 use Rattle.vm_types.specs.declared.config.Config.{Config}
+use Rattle.vm_types.specs.declared.config.Origin.TheVariants as origin
 use Rattle.vm_types.specs.declared.reply.Answer.{Answer}
 use Rattle.vm_types.specs.declared.reply.Answer.TheVariants as answer
 use Rattle.vm_types.specs.declared.service.Service.{Service}
@@ -20,12 +21,13 @@ use Rattle.pager_model.specs.Flat.{FlatState}
 use Rattle.pager_model.specs.FlatService.{demand_zero, flat_service, in_range, is_private_in, map_range, with_prot}
 use Rattle.pager_model.specs.Flights.{open_flights}
 use Rattle.pager_model.specs.Lookups.{own_page, page_at}
-use Rattle.pager_model.specs.Maps.{Map, Mapped, first_bytes, is_private, proc}
+use Rattle.pager_model.specs.Maps.{Map, Mapped, first_bytes, is_paged, is_private, proc}
 use Rattle.pager_model.specs.Pager.{Pager}
 use Rattle.pager_model.specs.Served.{IsServed}
 use Rattle.pager_model.specs.Sets.{has_page}
 use Rattle.pager_model.specs.Transfers.{reads_on, writes_on}
 use Rattle.pager_rules.specs.Kept.{IsKept}
+use Rattle.pager_rules.proofs.Pages.{private_is_paged}
 
 -- a page that is kept is had as often
 kept_page : (p address pages : ℕ) (g : Page) (touched : List Page) → is_private_in p address pages g ≡ false → has_page (filter (λ (page : Page). not (is_private_in p address pages page)) touched) g ≡ has_page touched g
@@ -81,7 +83,8 @@ module _ (config : Config) (past : List Entry) (a : Pager) (flat : FlatState) wh
   served_keeps p (service.Create at pages prot) answer.Good (Private q v) legal mapped stays =
       bytes_by config flat q v flat.touched (map_range (λ (o : Option Mapped). Some (demand_zero prot)) p at.0 pages flat.map) refl
       (range_by config flat q v (λ (o : Option Mapped). Some (demand_zero prot)) p at.0 pages (λ inside same. absurd (unmapped_none q v (mapped refl) (subst (λ (r : ℕ). a.map r v ≡ None) same (legal.1 v inside)))))
-  served_keeps p (service.Delete at pages) answer.Good (Shared s i) legal mapped stays = refl
+  served_keeps p (service.Delete at pages) answer.Good (Shared s i) legal mapped stays =
+      ap (λ (t : Bool). cond (is_paged config (Shared s i) && not t) (first_bytes config (origin.Section s i)) (flat.stored (Shared s i))) (kept_page p at.0 pages (Shared s i) flat.touched refl)
   served_keeps p (service.Delete at pages) answer.Good (Private q v) legal mapped stays =
       bytes_by config flat q v (filter (λ (page : Page). not (is_private_in p at.0 pages page)) flat.touched) (map_range (λ (o : Option Mapped). None) p at.0 pages flat.map)
       (kept_page p at.0 pages (Private q v) flat.touched stays)
@@ -104,4 +107,4 @@ module _ (config : Config) (past : List Entry) (a : Pager) (flat : FlatState) wh
   -- so it leaves the bytes of such a page
   pub served_bytes : IsKept config (quiet (open_flights past)) a → (f p : ℕ) (s : Service) (w : Answer) (g : Page) → IsServed config past a p s w → 0 < reads_on f (open_flights past) + writes_on f (open_flights past) → a.page f ≡ Some g
       → bytes_in config (flat_service flat p s w) g ≡ bytes_in config flat g
-  served_bytes kept f p s w g legal busy held = served_keeps p s w g legal (λ private. (kept.pages g).mapped (kept.held_charged f g private held)) (flying_stays p s w g f legal busy held)
+  served_bytes kept f p s w g legal busy held = served_keeps p s w g legal (λ private. (kept.pages g).mapped (kept.held_charged f g (private_is_paged config g private) held) private) (flying_stays p s w g f legal busy held)

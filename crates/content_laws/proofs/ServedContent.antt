@@ -37,7 +37,7 @@ use Rattle.pager_model.specs.Served.{IsDelete, IsServed, after_served}
 use Rattle.pager_model.specs.Sets.{has_page}
 use Rattle.pager_model.specs.Spoken.{flat_after}
 use Rattle.pager_rules.proofs.Basics.{pages_equal}
-use Rattle.pager_rules.proofs.Pages.{own_is}
+use Rattle.pager_rules.proofs.Pages.{own_is, private_is_paged}
 use Rattle.pager_rules.specs.Kept.{IsKept, one_if}
 use Rattle.vm_types.specs.Ring.{Ring}
 
@@ -51,10 +51,10 @@ module _ (tells tells_plan : Bool) (config : Config) (past : List Entry) (a : Pa
 
   -- a page that is held or lies in a block has its bytes, unless it is forgotten
   held_bytes : (f : ℕ) (g : Page) → a.page f ≡ Some g → is_dropped seat.0 s w g ≡ false → now config (e ∷ past) g ≡ now config past g
-  held_bytes f g holds stays = served_keeps config past a (flat_after config past) seat.0 s w g legal (λ private. (kept.pages g).mapped (kept.held_charged f g private holds)) stays
+  held_bytes f g holds stays = served_keeps config past a (flat_after config past) seat.0 s w g legal (λ private. (kept.pages g).mapped (kept.held_charged f g (private_is_paged config g private) holds) private) stays
 
   lying_bytes : (g : Page) (d : BlockId) → a.lies g ≡ Some d → is_dropped seat.0 s w g ≡ false → now config (e ∷ past) g ≡ now config past g
-  lying_bytes g d lies stays = served_keeps config past a (flat_after config past) seat.0 s w g legal (λ private. (kept.pages g).mapped (omega (arith, (kept.pages g).lying d private lies))) stays
+  lying_bytes g d lies stays = served_keeps config past a (flat_after config past) seat.0 s w g legal (λ private. (kept.pages g).mapped (omega (arith, (kept.pages g).lying d (private_is_paged config g private) lies)) private) stays
 
   -- a service that forgets no page
   still : ((g : Page) → is_dropped seat.0 s w g ≡ false) → (map : Map) (ring : ℕ → Ring) (limit : ℕ → ℕ) → ContentFits tells tells_plan config (e ∷ past) (record a { map = map; ring = ring; limit = limit }) buffer home
@@ -134,7 +134,7 @@ module _ (config : Config) (past : List Entry) (a : Pager) (p address pages : �
       omega (
         arith,
         charged_none config gone a g (count_from_has gone g has),
-        (deleted config past a p address pages kept own idle legal).held_charged f g (all_has (λ (h : Page). is_private h ≡ true) gone g gone_private has) holds,
+        (deleted config past a p address pages kept own idle legal).held_charged f g (private_is_paged config g (all_has (λ (h : Page). is_private h ≡ true) gone g gone_private has)) holds,
       ))
 
 -- ---- SERVED, by service and answer
@@ -147,12 +147,14 @@ module _ (tells tells_plan : Bool) (config : Config) (past : List Entry) (a : Pa
   served_content (service.Delete at pages) answer.Good legal fits =
       forgets tells tells_plan config past a buffer home fits kept seat (service.Delete at pages) answer.Good legal (gone config past a seat.0 at.0 pages kept legal.0 idle legal.1) _
       (all_forgotten config (gone config past a seat.0 at.0 pages kept legal.0 idle legal.1) a (gone_unread config past a seat.0 at.0 pages kept legal.0 idle legal.1))
-      (λ f g holds other. kept_outside config past a seat.0 at.0 pages kept legal.0 idle legal.1 g (λ private. (kept.pages g).mapped (kept.held_charged f g private holds)) other)
-      (λ g d lies other. kept_outside config past a seat.0 at.0 pages kept legal.0 idle legal.1 g (λ private. (kept.pages g).mapped (omega (arith, (kept.pages g).lying d private lies))) other)
+      (λ f g holds other. kept_outside config past a seat.0 at.0 pages kept legal.0 idle legal.1 g (λ private. (kept.pages g).mapped (kept.held_charged f g (private_is_paged config g private) holds) private) other)
+      (λ g d lies other. kept_outside config past a seat.0 at.0 pages kept legal.0 idle legal.1 g (λ private. (kept.pages g).mapped (omega (arith, (kept.pages g).lying d (private_is_paged config g private) lies)) private) other)
       (not_held config past a seat.0 at.0 pages kept legal.0 idle legal.1)
   served_content (service.Protect at pages prot) answer.Good legal fits =
       still tells tells_plan config past a buffer home fits kept seat (service.Protect at pages prot) answer.Good legal (λ g. refl) (map_range (option_map (with_prot prot)) seat.0 at.0 pages a.map) a.ring a.limit
   served_content (service.Lock at pages) (answer.Count n) legal fits = still tells tells_plan config past a buffer home fits kept seat (service.Lock at pages) (answer.Count n) legal (λ g. refl) a.map _ a.limit
   served_content (service.Unlock at pages) (answer.Count n) legal fits = still tells tells_plan config past a buffer home fits kept seat (service.Unlock at pages) (answer.Count n) legal (λ g. refl) a.map _ a.limit
+  served_content (service.Pin at pages) (answer.Count n) legal fits = still tells tells_plan config past a buffer home fits kept seat (service.Pin at pages) (answer.Count n) legal (λ g. refl) a.map _ a.limit
+  served_content (service.Unpin at pages) (answer.Count n) legal fits = still tells tells_plan config past a buffer home fits kept seat (service.Unpin at pages) (answer.Count n) legal (λ g. refl) a.map _ a.limit
   served_content (service.Adjust n) answer.Good legal fits = still tells tells_plan config past a buffer home fits kept seat (service.Adjust n) answer.Good legal (λ g. refl) a.map a.ring _
   served_content s other legal fits = still tells tells_plan config past a buffer home fits kept seat s other legal (λ g. refl) a.map a.ring a.limit

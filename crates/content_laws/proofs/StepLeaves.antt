@@ -243,6 +243,8 @@ module _ (config : Config) (past : List Entry) (a : Pager) (x : Flight) (is_open
   served_page p (service.Protect at pages prot) answer.Good legal kept = refl
   served_page p (service.Lock at pages) (answer.Count n) legal kept = refl
   served_page p (service.Unlock at pages) (answer.Count n) legal kept = refl
+  served_page p (service.Pin at pages) (answer.Count n) legal kept = refl
+  served_page p (service.Unpin at pages) (answer.Count n) legal kept = refl
   served_page p (service.Adjust n) answer.Good legal kept = refl
   served_page p s other legal kept = refl
 

@@ -5,16 +5,15 @@ use Rattle.std.proofs.lemmas.List.{length-replicate}
 use Rattle.std.proofs.lemmas.Option.{none-some, same_Some}
 use Rattle.vm_types.specs.BlockView.{BlockView}
 use Rattle.vm_types.specs.declared.names.Page.{Page}
-use Rattle.vm_types.specs.declared.names.Page.TheVariants.{Private}
 use Rattle.vm_types.specs.declared.names.Pfn.{Pfn}
 use Rattle.vm_types.specs.declared.names.Addr.{Addr}
-use Rattle.vm_types.specs.declared.names.Proc.{Proc}
 use Rattle.vm_types.specs.declared.names.BlockId.{BlockId}
 use Rattle.vm_types.specs.declared.names.Seat.{Seat}
 use Rattle.vm_types.specs.declared.names.FrameState.{FrameState}
 use Rattle.vm_types.specs.declared.names.FrameState.TheVariants as state
 use Rattle.vm_types.specs.declared.config.Config.{Config}
 use Rattle.vm_types.specs.declared.config.Origin.{Origin}
+use Rattle.vm_types.specs.declared.config.Origin.TheVariants as origin
 use Rattle.vm_journal.specs.declared.entry.Entry.{Entry}
 use Rattle.vm_journal.specs.declared.entry.What.TheVariants as what
 use Rattle.content_laws.proofs.BlockMoved.{counted_same}
@@ -22,24 +21,33 @@ use Rattle.content_laws.proofs.FrameChanged.{buffers_put, held_move, settled_mov
 use Rattle.content_laws.specs.Put.{PutsBuffer}
 use Rattle.pager_laws.proofs.KeptIsSound.{count_from_has}
 use Rattle.pager_model.specs.Around.{frame_view, quiet}
-use Rattle.pager_model.specs.Bytes.{bytes_at, now}
+use Rattle.pager_model.specs.Bytes.{bytes_in, now}
 use Rattle.pager_model.specs.Content.{ContentFits}
 use Rattle.pager_model.specs.Flat.{FlatState}
 use Rattle.pager_model.specs.Flights.{Flight, open_flights}
 use Rattle.pager_model.specs.Lookups.{is}
-use Rattle.pager_model.specs.Maps.{Map, Mapped, first_bytes, page_number, proc}
+use Rattle.pager_model.specs.Maps.{Map, Mapped, first_bytes, page_behind, page_number, section_bytes}
 use Rattle.pager_model.specs.Pager.{Pager}
 use Rattle.pager_model.specs.Sets.{has_page}
 use Rattle.pager_model.specs.Spoken.{flat_after}
-use Rattle.pager_model.specs.Zero.{IsDemandZero, IsZero, after_zero}
+use Rattle.pager_model.specs.Zero.{IsDemandZero, IsZero, after_zero, is_zero_origin, zeroed_page}
 use Rattle.pager_rules.proofs.Basics.{at_number_other, at_number_same}
 use Rattle.pager_rules.proofs.Put.{free_row, head_counts}
 use Rattle.pager_rules.proofs.Transfers.{on_frame}
 use Rattle.pager_rules.specs.Kept.{FitsFrame, IsKept}
+use Rattle.pager_rules.proofs.Pages.{zeroed_paged}
+use Rattle.content_laws.proofs.DoneContent.{bytes_now}
 
-untouched_bytes : (config : Config) (flat : FlatState) (q : Proc) (v : ℕ) (o : Option Mapped) → IsDemandZero o → has_page flat.touched (Private q v) ≡ false → bytes_at config flat (Private q v) o ≡ replicate 512 0
-untouched_bytes config flat q v None demand out = absurd demand
-untouched_bytes config flat q v (Some m) demand out = ap₂ (λ (t : Bool) (o : Origin). cond (true && not t) (first_bytes config o) (flat.stored (Private q v))) out demand
+first_zeros : (config : Config) (o : Origin) → is_zero_origin config o ≡ true → first_bytes config o ≡ replicate 512 0
+first_zeros config origin.Zero zeros = refl
+first_zeros config (origin.Section s i) zeros = ap (λ (b : Bool). cond b (replicate 512 0) (section_bytes config s.0 i)) zeros
+
+untouched_bytes : (config : Config) (flat : FlatState) (p v : ℕ) (o : Option Mapped) → flat.map p v ≡ o → IsDemandZero config o → has_page flat.touched (zeroed_page config p v o) ≡ false → bytes_in config flat (zeroed_page config p v o) ≡ replicate 512 0
+untouched_bytes config flat p v None mapped demand out = absurd demand
+untouched_bytes config flat p v (Some m) mapped demand out =
+    bytes_now config flat p v m (page_behind config p v m.origin) mapped refl
+    ∙ (ap₂ (λ (b t : Bool). cond (b && not t) (first_bytes config m.origin) (flat.stored (page_behind config p v m.origin))) (zeroed_paged config p v (Some m) demand) out
+    ∙ first_zeros config m.origin demand)
 
 module _ (tells tells_plan : Bool) (config : Config) (past : List Entry) (a : Pager) (buffer buffer' : ℕ → Option (List ℕ)) (home : BlockId → Option BlockView) where
   pub zero_content : (seat : Seat) (address : Addr) (f : Pfn) → IsKept config (quiet (open_flights past)) a → a.map ≡ (flat_after config past).map → a.touched ≡ (flat_after config past).touched → IsZero config a seat.0 address.0 f.0
@@ -73,7 +81,7 @@ module _ (tells tells_plan : Bool) (config : Config) (past : List Entry) (a : Pa
       v = page_number address.0
 
       x : Page
-      x = Private (proc seat.0) v
+      x = zeroed_page config seat.0 v (a.map seat.0 v)
 
       e : Entry
       e = record { seat = seat; what = what.Zero address f }
@@ -91,4 +99,4 @@ module _ (tells tells_plan : Bool) (config : Config) (past : List Entry) (a : Pa
       untouched = subst (λ (ys : List Page). has_page ys x ≡ false) touches (false_from_ne_true (has_page a.touched x) (λ has. omega (arith, count_from_has a.touched x has, (kept.pages x).touched, legal.not_charged)))
 
       now_zero : now config past x ≡ replicate 512 0
-      now_zero = untouched_bytes config (flat_after config past) (proc seat.0) v ((flat_after config past).map seat.0 v) (subst (λ (map : Map). IsDemandZero (map seat.0 v)) maps legal.demand_zero) untouched
+      now_zero = untouched_bytes config (flat_after config past) seat.0 v (a.map seat.0 v) (ap (λ (map : Map). map seat.0 v) (sym maps)) legal.demand_zero untouched

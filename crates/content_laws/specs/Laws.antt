@@ -1,6 +1,6 @@
 -- The laws of content along runs, as statements: they tie the bytes in buffers and blocks to the flat machine's.
 -- This project's own.
-use Rattle.std.specs.Prelude.{◌≡◌, ℕ, Bool, true, List, [], ◌∷◌, Option, Some}
+use Rattle.std.specs.Prelude.{◌≡◌, ℕ, Bool, true, false, List, [], ◌∷◌, Option, Some}
 use Rattle.vm_types.specs.BlockView.{BlockView}
 use Rattle.vm_types.specs.Configuration.{IsBlock, IsWellFormed}
 use Rattle.vm_types.specs.declared.names.Page.{Page}
@@ -21,12 +21,12 @@ use Rattle.pager_model.specs.Content.{ContentFits}
 use Rattle.pager_model.specs.Counted.{IsCounted}
 use Rattle.pager_model.specs.Fits.{FitsLift, Lift, bad, good, waiting}
 use Rattle.pager_model.specs.Flat.{flat_reply, offset_in_page, reply_from}
-use Rattle.pager_model.specs.Flights.{open_flights}
+use Rattle.pager_model.specs.Flights.{awaits_reuse, open_flights}
 use Rattle.pager_model.specs.Opening.{opening}
 use Rattle.pager_model.specs.Run.{IsRun, pager_after}
 use Rattle.pager_model.specs.Spoken.{flat_after}
 use Rattle.pager_model.specs.CountedBlock.{IsCountedBlock}
-use Rattle.pager_model.specs.WrittenBack.{IsUnwritten, IsWrittenBack}
+use Rattle.pager_model.specs.WrittenBack.{IsUnwritten, IsWrittenBack, NowhereMeansUncharged}
 
 -- content fits at the opening, whatever bytes the buffers and the blocks of the page file and of swapping have
 abbrev pub ContentOpens : Type 0
@@ -91,6 +91,12 @@ BlocksAreHome =
     (tells tells_plan : Bool) (config : Config) (past : List Entry) (buffer : ℕ → Option (List ℕ)) (home : BlockId → Option BlockView)
     → open_flights past ≡ [] → ContentFits tells tells_plan config past (pager_after config past) buffer home
     → (b : BlockId) → IsBlock config b → (seen : BlockView) × (home b ≡ Some seen) × IsCountedBlock tells_plan config past b seen
+
+-- when no flight is open and no frame awaits its reuse, a page of a section in the page file that lies nowhere and
+-- isn't dirty was never charged
+abbrev pub NowhereIsUncharged : Type 0
+NowhereIsUncharged =
+    (config : Config) (past : List Entry) → IsWellFormed config → IsRun config past → open_flights past ≡ [] → awaits_reuse past ≡ false → NowhereMeansUncharged config (pager_after config past)
 
 -- if the bytes of blocks are known, and no flight is open, shared pages that aren't dirty are written back, and the
 -- blocks of copy on reference sections have their first bytes

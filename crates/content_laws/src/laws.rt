@@ -10,6 +10,7 @@ ghost use Rattle.content_laws.specs.Laws.{
   BadIsCounted,
   BlocksAreHome,
   BlocksAreWrittenBack,
+  NowhereIsUncharged,
 };
 
 /// A transfer that was begun, carried or not, still fits the journal after any legal step of any seat
@@ -46,8 +47,10 @@ pub fn carried_fits()
 {}
 
 /// When no flight is open, each block is home and counted. If the bytes of blocks are known, shared pages
-/// that aren't dirty are written back, and blocks of copy on reference sections have their first bytes.
+/// that aren't dirty and lie in a block are written back, and blocks of copy on reference sections have
+/// their first bytes. A shared page that lies nowhere and isn't dirty was never charged.
 pub fn blocks_are_home()
     ensures home { BlocksAreHome }
     ensures bytes { BlocksAreWrittenBack }
+    ensures nowhere { NowhereIsUncharged }
 {}

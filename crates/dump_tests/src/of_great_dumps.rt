@@ -2,7 +2,9 @@ ghost use Rattle.std.specs.Prelude.{◌<◌, ◌^◌};
 
 use crate::one_page::read;
 use dump_bytes::write_dump;
+use dump_lines::{recount, show};
 use outside_io::MemorySink;
+use program_ends::Status;
 use std::alloc::{AllocError, Global};
 use std::test::Fail;
 
@@ -68,5 +70,20 @@ fn the_greatest_dump_is_read_and_written_back(rt: HostRuntime) -> Result<(), Fai
     let mut sink = MemorySink::new(alloc, 786_792, Vec::new(alloc), Vec::new(alloc))?;
     assert_eq!(rt; write_dump(&dump, &mut sink), Ok(()));
     assert!(rt; sink.taken() == bytes.as_slice());
+    Ok(())
+}
+
+#[test]
+fn the_greatest_dump_is_shown(rt: HostRuntime) -> Result<(), Fail> {
+    let alloc = rt.alloc();
+    let dump = read(alloc, great(alloc)?, &[])??;
+    let counts = recount(alloc, &dump)?;
+    let mut sink = MemorySink::new(alloc, 4_000_000, Vec::new(alloc), Vec::new(alloc))?;
+    assert_eq!(rt; show(&dump, counts.as_slice(), &mut sink), Status(0));
+    let text = sink.taken();
+    let first = b"DUMP 16384 16\nFRAME 0 ACTIVE A/00000000 MODIFY 1 REFS 3 SHARES 1\n";
+    assert_eq!(rt; text.get(..first.len()), Some(first.as_slice()));
+    let last = b"WRONG F16383 MODIFIED 0 RECOUNT 1\nWRONG 32768\nSTATUS 0\n";
+    assert!(rt; text.ends_with(last));
     Ok(())
 }

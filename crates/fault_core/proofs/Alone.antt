@@ -39,7 +39,7 @@ module _ (out : List Bool) (pfc free : ℕ) (some : 1 ≤ leading_out out) (reac
 
 -- too few frames are free, or a cluster reaches no further
 pub read_alone : (config : Config) (a : Pager) (g : Page) (b : BlockId) (free : ℕ) → IsWellFormed config → true ≡ (nat_lt free 3 || nat_lt (reach_of config a g) 2) → 1 ≡ cluster_length (window config a g b) config.params.pfc free
-read_alone config a g b free formed = by (is_uncharged a g)
+read_alone config a g b free formed = by (is_uncharged config a g)
   where
     pfc : ℕ
     pfc = config.params.pfc

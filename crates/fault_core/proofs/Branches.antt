@@ -16,7 +16,7 @@ use Rattle.pager_model.specs.Flat.{flat_refusal}
 use Rattle.pager_model.specs.Flights.{Flight}
 use Rattle.pager_model.specs.Given.{given, page_address, pfn, unsaid}
 use Rattle.pager_model.specs.Lookups.{count_page, is_pending, is_resident, page_at, section_at, section_of}
-use Rattle.pager_model.specs.Maps.{Mapped, is_private, page_number}
+use Rattle.pager_model.specs.Maps.{Mapped, is_paged, page_number}
 use Rattle.pager_model.specs.Pager.{Pager, Valid}
 use Rattle.pager_model.specs.Spoken.{flat_after}
 use Rattle.vm_state.specs.FlightReadings.{read_by}
@@ -82,11 +82,11 @@ module _ (config : Config) (past : List Entry) (a : Pager) (p : ℕ) (r : Ref) w
       ∙ ap (λ (k : ℕ). cond (is_named (a.collided p) k) (gives_again again_collided) (given (what.Collide (page_address (page_number (r.addr).0)) (pfn f) k ∷ []) next_more)) (ap (λ (z : OpenRead). z.start) same)
 
   -- ---- the charge and the limit
-  pub room_charging : (g : Page) → (is_uncharged a g && nat_eq (length a.charged) config.pagefile) ≡ true → room_given config past a p r g ≡ gives_again again_charging
-  room_charging g is = if_true (is_uncharged a g && nat_eq (length a.charged) config.pagefile) _ _ is
+  pub room_charging : (g : Page) → (is_uncharged config a g && nat_eq (length a.charged) config.pagefile) ≡ true → room_given config past a p r g ≡ gives_again again_charging
+  room_charging g is = if_true (is_uncharged config a g && nat_eq (length a.charged) config.pagefile) _ _ is
 
-  pub room_full : (g : Page) → (is_uncharged a g && nat_eq (length a.charged) config.pagefile) ≡ false → nat_le (a.limit p) (filled (a.ring p).slots) ≡ true → room_given config past a p r g ≡ replace_given config past a p
-  room_full g is full = if_false (is_uncharged a g && nat_eq (length a.charged) config.pagefile) _ _ is ∙ if_true (nat_le (a.limit p) (filled (a.ring p).slots)) _ _ full
+  pub room_full : (g : Page) → (is_uncharged config a g && nat_eq (length a.charged) config.pagefile) ≡ false → nat_le (a.limit p) (filled (a.ring p).slots) ≡ true → room_given config past a p r g ≡ replace_given config past a p
+  room_full g is full = if_false (is_uncharged config a g && nat_eq (length a.charged) config.pagefile) _ _ is ∙ if_true (nat_le (a.limit p) (filled (a.ring p).slots)) _ _ full
 
   -- ---- the block
   pub out_busy : (g : Page) (o : Option BlockId) → is_busy_block past o ≡ true → out_given config past a p r g o ≡ gives_again again_block_busy
@@ -115,8 +115,8 @@ frame_none None is = refl
 frame_none (Some n) is = absurd (none-some _ is)
 
 -- ---- the charge of a page
-pub uncharged_is : (a : Pager) (g : Page) (charged : Bool) → charged ≡ nat_lt 0 (count_page a.charged g) → (is_private g && not charged) ≡ is_uncharged a g
-uncharged_is a g charged is = ap (λ (b : Bool). is_private g && b) (ap not is ∙ by (count_page a.charged g))
+pub uncharged_is : (config : Config) (a : Pager) (g : Page) (charged : Bool) → charged ≡ nat_lt 0 (count_page a.charged g) → (is_paged config g && not charged) ≡ is_uncharged config a g
+uncharged_is config a g charged is = ap (λ (b : Bool). is_paged config g && b) (ap not is ∙ by (count_page a.charged g))
   where
     by : (n : ℕ) → not (nat_lt 0 n) ≡ nat_eq n 0
     by zero = refl

@@ -20,18 +20,18 @@ use Rattle.vm_types.specs.declared.reference.Ref.{Ref}
 use Rattle.vm_types.specs.declared.reply.Reply.{Reply}
 use Rattle.vm_journal.specs.declared.entry.What.{What}
 use Rattle.vm_journal.specs.declared.entry.What.TheVariants as what
-use Rattle.pager_model.specs.Advance.{again_no_frame, frame_given, gives_again, held_given, is_uncharged, next_answered, source_of}
+use Rattle.pager_model.specs.Advance.{again_no_frame, first_source, frame_given, gives_again, held_given, is_uncharged, next_answered, source_of}
 use Rattle.pager_model.specs.Around.{past_view}
 use Rattle.pager_model.specs.Forget.{holder}
 use Rattle.pager_model.specs.Given.{given, page_address, reuse_first, unsaid}
-use Rattle.pager_model.specs.Lookups.{IsHead, page_by, section_at, section_of}
-use Rattle.pager_model.specs.Maps.{is_private, proc}
-use Rattle.pager_model.specs.OfConfig.{IsOrigin, IsPageOf}
+use Rattle.pager_model.specs.Lookups.{IsHead, page_by, section_at}
+use Rattle.pager_model.specs.Maps.{Mapped, is_paged, proc}
+use Rattle.pager_model.specs.OfConfig.{IsPageOf}
 use Rattle.pager_model.specs.Flat.{flat_reply}
 use Rattle.pager_model.specs.Spoken.{flat_after}
 use Rattle.pager_laws.proofs.OfConfigKept.{page_right}
-use Rattle.state_fits.proofs.EntryPages.{mapped_right}
-use Rattle.state_fits.proofs.Holders.{holder_holds, holds_within}
+use Rattle.page_holders.proofs.EntryPages.{mapped_right}
+use Rattle.page_holders.proofs.Holders.{holder_holds, holds_within}
 use Rattle.vm_state.specs.History.{History, MayAdd, MayAnswer, added, entry_by, owed, pager}
 use Rattle.vm_state.specs.PageReadings.{IsKnown}
 use Rattle.vm_state.specs.CarrierView.{CarrierView}
@@ -39,7 +39,7 @@ use Rattle.vm_state.specs.Readings.{row_at}
 use Rattle.page_states.specs.Shown.{frame_number}
 use Rattle.page_states.specs.declared.found.Backing.{Backing}
 use Rattle.call_laws.specs.AreLegal.{AreLegal}
-use Rattle.call_laws.proofs.ReadsLegal.{lying_block}
+use Rattle.call_laws.proofs.ReadsLegal.{first_private, lying_block, section_block}
 use Rattle.call_laws.proofs.WaitsLegal.{kept, right}
 use Rattle.vm_state.specs.LiftsLand.{added_each}
 use Rattle.call_steps.proofs.Rows.{row_state}
@@ -48,20 +48,18 @@ use Rattle.fault_core.specs.Cases.{at_frame, at_held, vpn_of}
 use Rattle.fault_core.specs.Gives.{Gives, MayGive}
 use Rattle.call_steps.specs.ReadySeat.{IsReadySeat}
 use Rattle.call_steps.proofs.Heads.{behind_reuse, none_there, reuse_alone}
-use Rattle.fault_core.specs.SoughtPage.{IsSought}
+use Rattle.fault_core.specs.SoughtPage.{IsSought, first_block}
 use Rattle.fault_core.specs.declared.next.Next.TheVariants.{Answered}
 use Rattle.fault_core.specs.declared.sought.Sought.{Sought}
 use Rattle.fault_core.proofs.Branches.{frame_none, uncharged_is}
 use Rattle.call_steps.proofs.ReadySeats.{frame_some, ready_of}
+use Rattle.fault_core.proofs.KnownPages.{known_page}
 use Rattle.fault_core.proofs.Steps.{answered_then, may_answer_then, may_as}
 
-known_page : (config : Config) (g : Page) → IsPageOf config g → IsKnown config g
-known_page config (Private p v) of = tt
-known_page config (Shared s i) of = of.0
-
-section_real : (config : Config) (b : BlockId) (o : Origin) → IsOrigin config o → section_of o ≡ Some b → IsBlock config b
-section_real config b origin.Zero there is = absurd (none-some b is)
-section_real config b (origin.Section s i) there is = subst (IsBlock config) (same_Some (block.Section s i) b is) there
+-- where a page is read from first, by what its process has there
+first_is : (g : Page) (m : Option Mapped) → first_block g (section_at m) ≡ first_source g m
+first_is (Private p v) m = refl
+first_is (Shared s i) m = refl
 
 module _ (s : History) (seat : Seat) (r : Ref) (ready : IsReadySeat s seat) where
   pub page_known : (g : Page) → page_by s.config (pager s).map seat.0 (vpn_of r) ≡ Some g → IsKnown s.config g
@@ -74,20 +72,20 @@ module _ (s : History) (seat : Seat) (r : Ref) (ready : IsReadySeat s seat) wher
     pub frame_out : (x.backing).frame ≡ None → holder s.config (pager s).page x.page ≡ None
     frame_out is = frame_none (holder s.config (pager s).page x.page) (sym is ∙ ap (λ (z : Backing). z.frame) sought.backing)
 
-    pub uncharged : (is_private x.page && not (x.backing).charged) ≡ is_uncharged (pager s) x.page
-    uncharged = uncharged_is (pager s) x.page (x.backing).charged (ap (λ (z : Backing). z.charged) sought.backing)
+    pub uncharged : (is_paged s.config x.page && not (x.backing).charged) ≡ is_uncharged s.config (pager s) x.page
+    uncharged = uncharged_is s.config (pager s) x.page (x.backing).charged (ap (λ (z : Backing). z.charged) sought.backing)
 
-    pub source_is : (o : Option BlockId) → o ≡ cond (is_private x.page && not (x.backing).charged) x.behind (x.backing).lies → o ≡ source_of (pager s) x.page ((pager s).map seat.0 (vpn_of r))
-    source_is o is = is ∙ (λ i. cond (uncharged i) (sought.behind i) ((sought.backing i).lies))
+    pub source_is : (o : Option BlockId) → o ≡ cond (is_paged s.config x.page && not (x.backing).charged) (first_block x.page x.behind) (x.backing).lies → o ≡ source_of s.config (pager s) x.page ((pager s).map seat.0 (vpn_of r))
+    source_is o is = is ∙ ((λ i. cond (uncharged i) (first_block x.page (sought.behind i)) ((sought.backing i).lies)) ∙ ap (λ (d : Option BlockId). cond (is_uncharged s.config (pager s) x.page) d ((pager s).lies x.page)) (first_is x.page ((pager s).map seat.0 (vpn_of r))))
 
-    pub source_real : (b : BlockId) → source_of (pager s) x.page ((pager s).map seat.0 (vpn_of r)) ≡ Some b → IsBlock s.config b
-    source_real b is = by (is_uncharged (pager s) x.page) is
+    pub source_real : (b : BlockId) → source_of s.config (pager s) x.page ((pager s).map seat.0 (vpn_of r)) ≡ Some b → IsBlock s.config b
+    source_real b is = by (is_uncharged s.config (pager s) x.page) is
       where
-        by : (c : Bool) → cond c (section_at ((pager s).map seat.0 (vpn_of r))) ((pager s).lies x.page) ≡ Some b → IsBlock s.config b
+        by : (c : Bool) → cond c (first_source x.page ((pager s).map seat.0 (vpn_of r))) ((pager s).lies x.page) ≡ Some b → IsBlock s.config b
         by false lies = lying_block s.config s.past seat.0 (ready_of s seat ready) x.page b (page_right s.config (pager s).map seat.0 (vpn_of r) x.page (right s.config s.past seat.0 (ready_of s seat ready)).mapped sought.mapped) lies
         by true behind =
-            let found = mapped_right s.config (pager s) seat.0 (vpn_of r) x.page (right s.config s.past seat.0 (ready_of s seat ready)) sought.mapped in
-            section_real s.config b found.0.origin found.3.origin (sym (ap section_at found.1) ∙ behind)
+            let own = first_private s.config s.past seat.0 (ready_of s seat ready) x.page ((pager s).map seat.0 (vpn_of r)) b behind in
+            section_block s.config s.past seat.0 (ready_of s seat ready) (vpn_of r) x.page b sought.mapped own.0 own.1
 
   -- ---- a page that comes back
   module _ (g : Page) (f : Pfn) (holds : holder s.config (pager s).page g ≡ Some f.0) where

@@ -90,10 +90,10 @@ module _ (s : History) (seat : Seat) (r : Ref) where
   is_out g out = ap (held_given s.config s.past (pager s) seat.0 r g) out
 
   -- ---- the charge and the limit
-  pub charging : (g : Page) → (is_uncharged (pager s) g && nat_eq (length (pager s).charged) s.config.pagefile) ≡ true → at_room s seat r g ≡ gives_again again_charging
+  pub charging : (g : Page) → (is_uncharged s.config (pager s) g && nat_eq (length (pager s).charged) s.config.pagefile) ≡ true → at_room s seat r g ≡ gives_again again_charging
   charging g is = room_charging s.config s.past (pager s) seat.0 r g is
 
-  pub at_limit : (g : Page) → (is_uncharged (pager s) g && nat_eq (length (pager s).charged) s.config.pagefile) ≡ false → nat_le ((pager s).limit seat.0) (filled ((pager s).ring seat.0).slots) ≡ true → at_room s seat r g ≡ at_replace s seat
+  pub at_limit : (g : Page) → (is_uncharged s.config (pager s) g && nat_eq (length (pager s).charged) s.config.pagefile) ≡ false → nat_le ((pager s).limit seat.0) (filled ((pager s).ring seat.0).slots) ≡ true → at_room s seat r g ≡ at_replace s seat
   at_limit g is full = room_full s.config s.past (pager s) seat.0 r g is full
 
   -- nothing is in flight
@@ -115,7 +115,7 @@ module _ (s : History) (seat : Seat) (r : Ref) where
   pub replaced_first : (g : Page) → IsReplacedFirst s seat.0 → at_fault s seat r g ≡ at_replace s seat
   replaced_first g first =
       roomed g (holder s.config (pager s).page g) (none_open first.landed)
-      ∙ at_limit g (not_charging (is_uncharged (pager s) g) (length (pager s).charged) s.config.pagefile first.chargeable) first.full
+      ∙ at_limit g (not_charging (is_uncharged s.config (pager s) g) (length (pager s).charged) s.config.pagefile first.chargeable) first.full
 
   -- ---- what the entry alone says
   pub granted_answers : (valid : Bool) → IsGranted s seat.0 r valid → valid ≡ true → at_refusal s seat r ≡ given (what.Done r unsaid ∷ []) next_answered
@@ -127,14 +127,14 @@ module _ (s : History) (seat : Seat) (r : Ref) where
   pub granted_replaces : (valid : Bool) → IsGranted s seat.0 r valid → valid ≡ false → IsReplacedFirst s seat.0 → at_refusal s seat r ≡ at_replace s seat
   granted_replaces valid x is first = goes_by x.granted ∙ (passes_on x.found x.there (x.entry ∙ is) ∙ (faults_on x.found x.there ∙ replaced_first (x.found).page first))
 
-  pub below_limit : (g : Page) → (is_uncharged (pager s) g && nat_eq (length (pager s).charged) s.config.pagefile) ≡ false → nat_le ((pager s).limit seat.0) (filled ((pager s).ring seat.0).slots) ≡ false → at_room s seat r g ≡ at_held s seat r g
-  below_limit g is below = if_false (is_uncharged (pager s) g && nat_eq (length (pager s).charged) s.config.pagefile) _ _ is ∙ if_false (nat_le ((pager s).limit seat.0) (filled ((pager s).ring seat.0).slots)) _ _ below
+  pub below_limit : (g : Page) → (is_uncharged s.config (pager s) g && nat_eq (length (pager s).charged) s.config.pagefile) ≡ false → nat_le ((pager s).limit seat.0) (filled ((pager s).ring seat.0).slots) ≡ false → at_room s seat r g ≡ at_held s seat r g
+  below_limit g is below = if_false (is_uncharged s.config (pager s) g && nat_eq (length (pager s).charged) s.config.pagefile) _ _ is ∙ if_false (nat_le ((pager s).limit seat.0) (filled ((pager s).ring seat.0).slots)) _ _ below
 
   -- ---- the block
-  pub busy : (g : Page) (o : Option BlockId) → o ≡ source_of (pager s) g ((pager s).map seat.0 (vpn_of r)) → is_busy_block s.past o ≡ true → at_out s seat r g ≡ gives_again again_block_busy
+  pub busy : (g : Page) (o : Option BlockId) → o ≡ source_of s.config (pager s) g ((pager s).map seat.0 (vpn_of r)) → is_busy_block s.past o ≡ true → at_out s seat r g ≡ gives_again again_block_busy
   busy g o is there = ap (out_given s.config s.past (pager s) seat.0 r g) (sym is) ∙ out_busy s.config s.past (pager s) seat.0 r g o there
 
-  pub still : (g : Page) (o : Option BlockId) → o ≡ source_of (pager s) g ((pager s).map seat.0 (vpn_of r)) → is_busy_block s.past o ≡ false → at_out s seat r g ≡ at_frame s seat r g o
+  pub still : (g : Page) (o : Option BlockId) → o ≡ source_of s.config (pager s) g ((pager s).map seat.0 (vpn_of r)) → is_busy_block s.past o ≡ false → at_out s seat r g ≡ at_frame s seat r g o
   still g o is there = ap (out_given s.config s.past (pager s) seat.0 r g) (sym is) ∙ out_still s.config s.past (pager s) seat.0 r g o there
 
   -- ---- the collision

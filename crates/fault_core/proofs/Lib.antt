@@ -8,3 +8,4 @@ pub mod ClusterLengths
 pub mod Windows
 pub mod Advances
 pub mod Alone
+pub mod KnownPages

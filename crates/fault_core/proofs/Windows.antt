@@ -6,7 +6,7 @@ use Rattle.std.proofs.lemmas.List.FromFn.{get_or-map-range_with_len, length-map-
 use Rattle.std.proofs.lemmas.List.Sums.{get_or-le-sum_by}
 use Rattle.std.proofs.lemmas.Option.{get_or_from_slice_get, slice_get_within}
 use Rattle.vm_types.specs.Cluster.{ClusterLength}
-use Rattle.vm_types.specs.Configuration.{IsBlock, IsProcess, IsSectionPage, IsWellFormed, section_pages}
+use Rattle.vm_types.specs.Configuration.{IsBlock, IsProcess, IsSectionPage, IsWellFormed, all_pins, section_pages}
 use Rattle.vm_types.specs.declared.config.Config.{Config}
 use Rattle.vm_types.specs.declared.config.ProcSpec.{ProcSpec}
 use Rattle.vm_types.specs.declared.names.BlockId.{BlockId}
@@ -23,14 +23,14 @@ use Rattle.fault_core.proofs.ClusterLengths.{cluster_is}
 
 -- a reach is 1 to 8 places
 pub reach_some : (config : Config) (a : Pager) (g : Page) → IsWellFormed config → 1 ≤ reach_of config a g
-reach_some config a g formed = by (is_uncharged a g)
+reach_some config a g formed = by (is_uncharged config a g)
   where
     by : (c : Bool) → 1 ≤ cond c 1 config.params.pfc
     by true = omega arith
     by false = formed.params.pfc.0
 
 pub reach_few : (config : Config) (a : Pager) (g : Page) → IsWellFormed config → reach_of config a g ≤ 8
-reach_few config a g formed = by (is_uncharged a g)
+reach_few config a g formed = by (is_uncharged config a g)
   where
     by : (c : Bool) → cond c 1 config.params.pfc ≤ 8
     by true = omega arith
@@ -50,10 +50,10 @@ page_small config (Private p v) formed known = omega arith
 page_small config (Shared s i) formed known = in_section config s.0 i formed known
 
 pub block_small : (config : Config) (b : BlockId) → IsWellFormed config → IsBlock config b → block_place b < 2 ^ 15
-block_small config (block.Section s i) formed exists = in_section config s.0 i formed exists
+block_small config (block.Section s i) formed exists = in_section config s.0 i formed exists.0
 block_small config (block.PageFile n) formed exists = let few = formed.pagefile.1 in omega (arith, few, exists)
 block_small config (block.Swap p n) formed exists =
-    let process = subst (λ (x : ProcSpec). IsProcess config.frames (length config.bad) x) (get_or_from_slice_get config.procs p.0 exists.0 exists.0 exists.1) (formed.procs p.0 exists.0 (slice_get_within config.procs p.0 exists.0 exists.1)) in
+    let process = subst (IsProcess config.frames (length config.bad + all_pins config)) (get_or_from_slice_get config.procs p.0 exists.0 exists.0 exists.1) (formed.procs p.0 exists.0 (slice_get_within config.procs p.0 exists.0 exists.1)) in
     let most = process.most in let less = exists.2 in omega (arith, most, less)
 
 pub length_as : (out out' : List Bool) (pfc pfc' free free' n : ℕ) → out' ≡ out → pfc' ≡ pfc → free' ≡ free → ClusterLength out' pfc' free' n → ClusterLength out pfc free n
@@ -152,7 +152,7 @@ module _ (config : Config) (a : Pager) (g : Page) (b : BlockId) where
       }
 
   window_is : true ∷ map out_at (range_with_len 1 (reach_of config a g - 1)) ≡ window config a g b
-  window_is = by (is_uncharged a g)
+  window_is = by (is_uncharged config a g)
     where
       by : (c : Bool) → true ∷ map out_at (range_with_len 1 (cond c 1 config.params.pfc - 1)) ≡ cond c (true ∷ []) (true ∷ map out_at (range_with_len 1 (config.params.pfc - 1)))
       by true = refl

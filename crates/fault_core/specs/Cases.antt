@@ -47,7 +47,7 @@ abbrev pub at_held : History → Seat → Ref → Page → GivenNext
 at_held s seat r g = held_given s.config s.past (pager s) seat.0 r g (holder s.config (pager s).page g)
 
 abbrev pub at_out : History → Seat → Ref → Page → GivenNext
-at_out s seat r g = out_given s.config s.past (pager s) seat.0 r g (source_of (pager s) g ((pager s).map seat.0 (vpn_of r)))
+at_out s seat r g = out_given s.config s.past (pager s) seat.0 r g (source_of s.config (pager s) g ((pager s).map seat.0 (vpn_of r)))
 
 abbrev pub at_frame : History → Seat → Ref → Page → Option BlockId → GivenNext
 at_frame s seat r g o = frame_given s.config (pager s) seat.0 r g o (pager s).free

@@ -22,7 +22,7 @@ page_place (Shared s i) = i
 
 -- how many places the rule looks at: the first read of a copy on reference page is made by itself
 abbrev pub reach_of : Config → Pager → Page → ℕ
-reach_of config a g = if is_uncharged a g then 1 else config.params.pfc
+reach_of config a g = if is_uncharged config a g then 1 else config.params.pfc
 
 -- the faulting page, and the pages that may follow it: some of the places that the rule looks at, from the first one
 -- on; the rule looks at 8 places at most

@@ -5,7 +5,7 @@ ghost use Rattle.vm_types.specs.declared.names.Page.{Page};
 ghost use Rattle.pager_model.specs.Advance.{block_after, following, following_owner, following_shared, is_out, is_uncharged, lies_in, owner_of, window};
 ghost use Rattle.pager_model.specs.ClusterLength.{cluster_length};
 ghost use Rattle.pager_model.specs.In.{is_kin};
-ghost use Rattle.pager_model.specs.Maps.{is_private};
+ghost use Rattle.pager_model.specs.Maps.{is_paged};
 ghost use Rattle.vm_state.specs.History.{pager};
 ghost use Rattle.vm_state.specs.PageReadings.{IsKnown};
 ghost use Rattle.fault_core.specs.Reads.{IsWindow, block_place, page_place, reach_of};
@@ -72,13 +72,13 @@ fn following_shared<B: Block>(state: &State<B>, s: SecId, i: u32) -> Option<Page
     }
 }
 
-/// The owner of a block of the page file, if it lies there and is of the same process; and whether it is
-/// in no frame.
+/// The owner of a block of the page file, if it lies there and is of the same process, or of the same
+/// section; and whether it is in no frame.
 fn following_owner<B: Block>(state: &State<B>, g: Page, n: u32) -> (Option<Page>, bool)
-    requires { is_private g ≡ true }
     ensures page { result.0 ≡ following_owner (pager state.now) g n (owner_of (pager state.now).assigned n) }
     ensures out { result.1 ≡ is_out state.now.config (pager state.now) result.0 }
 {
+    state.run_law();
     match state.owner(n) {
         Some(h) => {
             if is_kin(g, h) {
@@ -114,25 +114,25 @@ fn following<B: Block>(state: &State<B>, g: Page, b: BlockId, places: u32) -> (O
     ensures page { result.0 ≡ following state.now.config (pager state.now) g b places }
     ensures out { result.1 ≡ is_out state.now.config (pager state.now) result.0 }
 {
-    match g {
-        Page::Shared(s, i) => {
-            let page = following_shared(state, s, i + places);
-            (page, is_out(state, page))
-        }
-        Page::Private(..) => match b {
-            BlockId::PageFile(n) => following_owner(state, g, n + places),
-            BlockId::Section(..) => (None, false),
-            BlockId::Swap(..) => (None, false),
+    match b {
+        BlockId::PageFile(n) => following_owner(state, g, n + places),
+        BlockId::Section(..) => match g {
+            Page::Shared(s, i) => {
+                let page = following_shared(state, s, i + places);
+                (page, is_out(state, page))
+            }
+            Page::Private(..) => (None, false),
         },
+        BlockId::Swap(..) => (None, false),
     }
 }
 
 /// How many places a cluster may reach: the first read of a copy on reference page is made by itself.
 fn reach<B: Block>(state: &State<B>, x: Sought) -> u32
-    requires { (is_private x.page && not (x.backing).charged) ≡ is_uncharged (pager state.now) x.page }
+    requires { (is_paged state.now.config x.page && not (x.backing).charged) ≡ is_uncharged state.now.config (pager state.now) x.page }
     ensures { result ≡ reach_of state.now.config (pager state.now) x.page }
 {
-    if is_uncharged(x) {
+    if is_uncharged(state.config(), x) {
         1
     } else {
         state.config().params.pfc
@@ -142,7 +142,7 @@ fn reach<B: Block>(state: &State<B>, x: Sought) -> u32
 /// Whether the faulting page is read alone, whatever may follow it: too few frames are free for another
 /// page, or a cluster reaches no further.
 pub fn is_alone<B: Block>(state: &State<B>, x: Sought) -> bool
-    requires { (is_private x.page && not (x.backing).charged) ≡ is_uncharged (pager state.now) x.page }
+    requires { (is_paged state.now.config x.page && not (x.backing).charged) ≡ is_uncharged state.now.config (pager state.now) x.page }
     ensures { result ≡ (nat_lt (length (pager state.now).free) 3 || nat_lt (reach_of state.now.config (pager state.now) x.page) 2) }
 {
     state.free_len() < 3 || reach(state, x) < 2
@@ -167,7 +167,7 @@ pub fn cluster<B: Block>(
     requires formed { IsWellFormed state.now.config }
     requires known { IsKnown state.now.config x.page }
     requires exists { IsBlock state.now.config b }
-    requires charge { (is_private x.page && not (x.backing).charged) ≡ is_uncharged (pager state.now) x.page }
+    requires charge { (is_paged state.now.config x.page && not (x.backing).charged) ≡ is_uncharged state.now.config (pager state.now) x.page }
     requires free { 1 ≤ length (pager state.now).free }
     requires none { pages.old.items ≡ [] }
     ensures pages { IsWindow state.now.config (pager state.now) x.page b pages.new.items }

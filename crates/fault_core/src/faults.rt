@@ -3,7 +3,7 @@ ghost use Rattle.vm_types.specs.WellFormed.{IsWellFormedReference};
 ghost use Rattle.vm_types.specs.Ring.{filled};
 ghost use Rattle.pager_model.specs.Advance.{is_uncharged};
 ghost use Rattle.pager_model.specs.Lookups.{section_of};
-ghost use Rattle.pager_model.specs.Maps.{is_private};
+ghost use Rattle.pager_model.specs.Maps.{is_paged};
 ghost use Rattle.vm_state.specs.History.{pager};
 ghost use Rattle.vm_state.specs.PageReadings.{found_in};
 ghost use Rattle.call_steps.specs.MayBegin.{empty};
@@ -17,9 +17,10 @@ use crate::next::{AgainWhy, Next};
 use crate::sought::Sought;
 use crate::waits::{read, replace};
 use disk_trait::Block;
+use page_moves::is_paged;
 use page_states::Found;
 use vm_state::{Carrier, State};
-use vm_types::{BlockId, Origin, Page, Proc, Ref, Seat};
+use vm_types::{BlockId, Config, Origin, Page, Proc, Ref, Seat};
 
 /// The section block of an origin.
 fn section_of(from: Origin) -> Option<BlockId>
@@ -77,26 +78,19 @@ fn fault<B: Block>(
     }
 }
 
-/// Whether it is a private page.
-fn is_private(page: Page) -> bool
-    ensures { result ≡ is_private page }
+/// Whether it is a page that is to have a block of the page file, and isn't charged yet.
+pub fn is_uncharged(config: &Config, x: Sought) -> bool
+    ensures { result ≡ (is_paged config.now x.page && not (x.backing).charged) }
 {
-    matches!(page, Page::Private(..))
-}
-
-/// Whether it is a private page that isn't charged to the page file.
-pub fn is_uncharged(x: Sought) -> bool
-    ensures { result ≡ (is_private x.page && not (x.backing).charged) }
-{
-    is_private(x.page) && !x.backing.charged
+    is_paged(config, x.page) && !x.backing.charged
 }
 
 /// Whether each block of the page file is charged, and the page needs one.
 fn is_charging<B: Block>(state: &State<B>, x: Sought) -> bool
-    requires { (is_private x.page && not (x.backing).charged) ≡ is_uncharged (pager state.now) x.page }
-    ensures { result ≡ (is_uncharged (pager state.now) x.page && nat_eq (length (pager state.now).charged) state.now.config.pagefile) }
+    requires { (is_paged state.now.config x.page && not (x.backing).charged) ≡ is_uncharged state.now.config (pager state.now) x.page }
+    ensures { result ≡ (is_uncharged state.now.config (pager state.now) x.page && nat_eq (length (pager state.now).charged) state.now.config.pagefile) }
 {
-    is_uncharged(x) && state.charged() == state.config().pagefile
+    is_uncharged(state.config(), x) && state.charged() == state.config().pagefile
 }
 
 /// Whether as many pages are in the working set as its limit allows.

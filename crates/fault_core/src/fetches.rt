@@ -6,13 +6,13 @@ ghost use Rattle.pager_model.specs.Advance.{is_busy_block, source_of};
 ghost use Rattle.pager_model.specs.Forget.{holder};
 ghost use Rattle.pager_model.specs.Given.{reuse_first};
 ghost use Rattle.pager_model.specs.Lookups.{IsHead};
-ghost use Rattle.pager_model.specs.Maps.{is_private};
+ghost use Rattle.pager_model.specs.Maps.{is_paged};
 ghost use Rattle.call_laws.specs.AreLegal.{AreLegal};
 ghost use Rattle.vm_state.specs.History.{owed, pager};
 ghost use Rattle.vm_state.specs.LiftsLand.{added_each};
 ghost use Rattle.call_steps.specs.MayBegin.{empty};
 ghost use Rattle.fault_core.specs.Cases.{at_frame, at_held, at_out, vpn_of};
-ghost use Rattle.fault_core.specs.SoughtPage.{IsSought};
+ghost use Rattle.fault_core.specs.SoughtPage.{IsSought, first_block};
 ghost use Rattle.fault_core.specs.Gives.{Gives, MayGive};
 ghost use Rattle.call_steps.specs.ReadySeat.{IsReadySeat};
 
@@ -25,7 +25,7 @@ use call_steps::reuse_first;
 use disk_trait::Block;
 use page_lists::ListName;
 use vm_state::{Carrier, State};
-use vm_types::{BlockId, Pfn, Proc, Ref, Seat};
+use vm_types::{BlockId, Page, Pfn, Proc, Ref, Seat};
 
 /// There is a slot for the page.
 #[inline(always)]
@@ -73,13 +73,24 @@ fn back<B: Block>(
     Next::Answered(state.done(seat, r))
 }
 
-/// The block from which a page is read that is out: that of its section before a private page is
-/// charged, else the one in which it lies.
-fn source(x: Sought) -> Option<BlockId>
-    ensures { result ≡ (if is_private x.page && not (x.backing).charged then x.behind else (x.backing).lies) }
+/// The block from which a page is read that isn't charged yet: that behind a private page; a shared
+/// page is made of zeros.
+fn first_source(x: Sought) -> Option<BlockId>
+    ensures { result ≡ first_block x.page x.behind }
 {
-    if is_uncharged(x) {
-        x.behind
+    match x.page {
+        Page::Private(..) => x.behind,
+        Page::Shared(..) => None,
+    }
+}
+
+/// The block from which a page is read that is out: the first one before it is charged, else the one in
+/// which it lies.
+fn source<B: Block>(state: &State<B>, x: Sought) -> Option<BlockId>
+    ensures { result ≡ (if is_paged state.now.config x.page && not (x.backing).charged then first_block x.page x.behind else (x.backing).lies) }
+{
+    if is_uncharged(state.config(), x) {
+        first_source(x)
     } else {
         x.backing.lies
     }
@@ -115,7 +126,7 @@ fn fetch<B: Block>(
     requires carrier { carrier.old ≡ empty seat }
     ensures { Gives B.seen B.tells state.old state.new seat r (at_out state.old seat r x.page) result carrier.old carrier.new }
 {
-    let block = source(x);
+    let block = source(state, x);
     if is_busy_block(state, block) {
         Next::Again(AgainWhy::BlockBusy)
     } else {
@@ -132,7 +143,7 @@ fn frame<B: Block>(
     block: Option<BlockId>,
     carrier: &mut Carrier<B>,
 ) -> Next
-    requires source { block ≡ source_of (pager state.old) x.page ((pager state.old).map seat.0 (vpn_of r)) }
+    requires source { block ≡ source_of state.old.config (pager state.old) x.page ((pager state.old).map seat.0 (vpn_of r)) }
     requires ready { IsReadySeat state.old seat }
     requires formed { IsWellFormedReference r }
     requires sought { IsSought state.old seat r x }

@@ -11,7 +11,7 @@ use Rattle.vm_types.specs.declared.names.Page.TheVariants.{Private, Shared}
 use Rattle.vm_types.specs.declared.config.Config.{Config}
 use Rattle.pager_model.specs.Flat.{FlatState, is_untouched, shared_bytes}
 use Rattle.pager_model.specs.FlatService.{in_range, is_private_in, map_range, with_prot}
-use Rattle.pager_model.specs.Maps.{Map, Mapped, is_private}
+use Rattle.pager_model.specs.Maps.{Map, Mapped, is_paged}
 use Rattle.pager_model.specs.Sets.{has_page}
 use Rattle.pager_rules.proofs.Basics.{pages_equal, count_cons}
 use Rattle.flat_model.specs.Behind.{IsChangedIn, as_mapped, mapped_in, protected_by}
@@ -47,8 +47,8 @@ flat_remapped config state old new map h tables same items =
     record {
       tables = tables;
       map = same;
-      touched = λ page. h.touched page ∙ ap (λ (es : List Stored). is_private page && is_some (stored_of es page)) (sym items);
-      counts = λ test. h.counts test ∙ ap (λ (es : List Stored). count_by (is_touch_of test) es) (sym items);
+      touched = λ page. h.touched page ∙ ap (λ (es : List Stored). is_paged config page && is_some (stored_of es page)) (sym items);
+      counts = λ test. h.counts test ∙ ap (λ (es : List Stored). count_by (is_touch_of config test) es) (sym items);
       stored = λ page u. h.stored page u ∙ ap (λ (es : List Stored). bytes_or (shared_bytes config page) (stored_of es page)) (sym items);
     }
 
@@ -114,32 +114,32 @@ module _ (config : Config) (state : FlatState) (old : Flat) (p address pages : �
   and_no true = refl
   and_no false = refl
 
-  touched_is : (q : Page) → has_page (filter stays state.touched) q ≡ (is_private q && is_some (stored_of kept q))
+  touched_is : (q : Page) → has_page (filter stays state.touched) q ≡ (is_paged config q && is_some (stored_of kept q))
   touched_is q = touched_after q ∙ go (is_private_in p address pages q) refl
     where
-      go : (b : Bool) → is_private_in p address pages q ≡ b → (not b && has_page state.touched q) ≡ (is_private q && is_some (stored_of kept q))
-      go true is = and_no (is_private q) ∙ ap (λ (o : Option Stored). is_private q && is_some o) (sym (forgets q is))
-      go false is = h.touched q ∙ ap (λ (o : Option Stored). is_private q && is_some o) (sym (keeps q is))
+      go : (b : Bool) → is_private_in p address pages q ≡ b → (not b && has_page state.touched q) ≡ (is_paged config q && is_some (stored_of kept q))
+      go true is = and_no (is_paged config q) ∙ ap (λ (o : Option Stored). is_paged config q && is_some o) (sym (forgets q is))
+      go false is = h.touched q ∙ ap (λ (o : Option Stored). is_paged config q && is_some o) (sym (keeps q is))
 
-  counts_are : (test : Page → Bool) → count_by test (filter stays state.touched) ≡ count_by (is_touch_of test) kept
+  counts_are : (test : Page → Bool) → count_by test (filter stays state.touched) ≡ count_by (is_touch_of config test) kept
   counts_are test =
       count_filter test stays state.touched
       ∙ (h.counts (λ page. stays page && test page)
-      ∙ (count_same (is_touch_of (λ page. stays page && test page)) (λ e. is_kept p address pages e && is_touch_of test e) (λ e. swapped (is_private e.page) (stays e.page) (test e.page)) old.stored.items
-      ∙ sym (count_filter (is_touch_of test) (is_kept p address pages) old.stored.items)))
+      ∙ (count_same (is_touch_of config (λ page. stays page && test page)) (λ e. is_kept p address pages e && is_touch_of config test e) (λ e. swapped (is_paged config e.page) (stays e.page) (test e.page)) old.stored.items
+      ∙ sym (count_filter (is_touch_of config test) (is_kept p address pages) old.stored.items)))
 
-  own_page : (q : Page) → is_private_in p address pages q ≡ true → is_private q ≡ true
+  own_page : (q : Page) → is_private_in p address pages q ≡ true → is_paged config q ≡ true
   own_page (Private r v) is = refl
   own_page (Shared s i) is = absurd (true≢false (sym is))
 
   abbrev forgotten : Map → FlatState
   forgotten map = record { map = map; touched = filter stays state.touched; stored = state.stored }
 
-  stored_is : (map : Map) (q : Page) → is_untouched (forgotten map) q ≡ false → state.stored q ≡ bytes_or (shared_bytes config q) (stored_of kept q)
+  stored_is : (map : Map) (q : Page) → is_untouched config (forgotten map) q ≡ false → state.stored q ≡ bytes_or (shared_bytes config q) (stored_of kept q)
   stored_is map q u = go (is_private_in p address pages q) refl
     where
-      now : (b : Bool) → is_private_in p address pages q ≡ b → (is_private q && not (not b && has_page state.touched q)) ≡ false
-      now b is = ap (λ (c : Bool). is_private q && not (not c && has_page state.touched q)) (sym is) ∙ (ap (λ (c : Bool). is_private q && not c) (sym (touched_after q)) ∙ u)
+      now : (b : Bool) → is_private_in p address pages q ≡ b → (is_paged config q && not (not b && has_page state.touched q)) ≡ false
+      now b is = ap (λ (c : Bool). is_paged config q && not (not c && has_page state.touched q)) (sym is) ∙ (ap (λ (c : Bool). is_paged config q && not c) (sym (touched_after q)) ∙ u)
 
       go : (b : Bool) → is_private_in p address pages q ≡ b → state.stored q ≡ bytes_or (shared_bytes config q) (stored_of kept q)
       go true is = absurd (true≢false (sym (ap (λ (c : Bool). c && true) (own_page q is)) ∙ now true is))
@@ -150,7 +150,7 @@ module _ (config : Config) (state : FlatState) (old : Flat) (p address pages : �
       record {
         tables = tables;
         map = same;
-        touched = λ page. touched_is page ∙ ap (λ (es : List Stored). is_private page && is_some (stored_of es page)) (sym items);
-        counts = λ test. counts_are test ∙ ap (count_by (is_touch_of test)) (sym items);
+        touched = λ page. touched_is page ∙ ap (λ (es : List Stored). is_paged config page && is_some (stored_of es page)) (sym items);
+        counts = λ test. counts_are test ∙ ap (count_by (is_touch_of config test)) (sym items);
         stored = λ page u. stored_is map page u ∙ ap (λ (es : List Stored). bytes_or (shared_bytes config page) (stored_of es page)) (sym items);
       }

@@ -10,9 +10,11 @@ use Rattle.std.proofs.lemmas.Option.{slice_get-get_or}
 use Rattle.vm_types.specs.Same.{same_page}
 use Rattle.vm_types.specs.declared.names.Page.{Page}
 use Rattle.vm_types.specs.declared.config.Config.{Config}
+use Rattle.vm_types.specs.declared.config.Section.{Section}
+use Rattle.vm_types.specs.declared.names.Page.TheVariants.{Private, Shared}
 use Rattle.pager_model.specs.Flat.{FlatState, flat_with, touched_with, is_untouched, shared_bytes}
-use Rattle.flat_model.specs.FlatMachine.{IsFlat, AreTablesOf, stored_of, is_of, is_touch, is_touch_of, bytes_or}
-use Rattle.pager_model.specs.Maps.{is_private}
+use Rattle.flat_model.specs.FlatMachine.{IsFlat, AreTablesOf, stored_of, is_of, is_touch, is_touch_of, bytes_or, is_paged_in}
+use Rattle.pager_model.specs.Maps.{is_paged}
 use Rattle.pager_model.specs.Sets.{has_page, with_page}
 use Rattle.flat_model.specs.Behind.{mapped_in}
 use Rattle.flat_model.specs.declared.tables.Tables.{Tables}
@@ -51,8 +53,8 @@ with_written es i e within place q = go (same_page e.page q) refl
     go false apart = find_past (is_of q) es i e e (ap (λ (x : Page). same_page x q) (page_at_place es i e.page e within place) ∙ apart) apart
 
 -- ---- the touched pages
-touched_same : (touched : List Page) (page : Page) → is_private page ≡ true → has_page (touched_with touched page) page ≡ true
-touched_same touched page private = ap (λ (b : Bool). has_page (cond b (with_page touched page) touched) page) private ∙ go (has_page touched page) refl
+touched_same : (config : Config) (touched : List Page) (page : Page) → is_paged config page ≡ true → has_page (touched_with config touched page) page ≡ true
+touched_same config touched page private = ap (λ (b : Bool). has_page (cond b (with_page touched page) touched) page) private ∙ go (has_page touched page) refl
   where
     go : (b : Bool) → has_page touched page ≡ b → has_page (cond b touched (page ∷ touched)) page ≡ true
     go true has = has
@@ -65,8 +67,8 @@ apart_back page q apart = go (same_page q page) refl
     go true same = absurd (true≢false (sym (same_from_equal page q (sym (pages_equal q page same))) ∙ apart))
     go false e = refl
 
-touched_other : (touched : List Page) (page q : Page) → same_page page q ≡ false → has_page (touched_with touched page) q ≡ has_page touched q
-touched_other touched page q apart = go (is_private page) (has_page touched page)
+touched_other : (config : Config) (touched : List Page) (page q : Page) → same_page page q ≡ false → has_page (touched_with config touched page) q ≡ has_page touched q
+touched_other config touched page q apart = go (is_paged config page) (has_page touched page)
   where
     go : (b c : Bool) → has_page (cond b (cond c touched (page ∷ touched)) touched) q ≡ has_page touched q
     go false c = refl
@@ -78,85 +80,85 @@ pub and_no : (b : Bool) → (b && false) ≡ false
 and_no true = refl
 and_no false = refl
 
--- a page that has an entry is touched if it is private
-pub untouched_some : (config : Config) (state : FlatState) (flat : Flat) (page : Page) (e : Stored) → IsFlat config state flat → stored_of flat.stored.items page ≡ Some e → is_untouched state page ≡ false
-untouched_some config state flat page e h entry = ap (λ (b : Bool). is_private page && not b) (h.touched page ∙ ap (λ (o : Option Stored). is_private page && is_some o) entry) ∙ go (is_private page)
+-- a page that has an entry is touched if it is charged
+pub untouched_some : (config : Config) (state : FlatState) (flat : Flat) (page : Page) (e : Stored) → IsFlat config state flat → stored_of flat.stored.items page ≡ Some e → is_untouched config state page ≡ false
+untouched_some config state flat page e h entry = ap (λ (b : Bool). is_paged config page && not b) (h.touched page ∙ ap (λ (o : Option Stored). is_paged config page && is_some o) entry) ∙ go (is_paged config page)
   where
     go : (b : Bool) → (b && not (b && true)) ≡ false
     go true = refl
     go false = refl
 
 none_touched : (config : Config) (state : FlatState) (flat : Flat) (page : Page) → IsFlat config state flat → stored_of flat.stored.items page ≡ None → has_page state.touched page ≡ false
-none_touched config state flat page h entry = h.touched page ∙ (ap (λ (o : Option Stored). is_private page && is_some o) entry ∙ and_no (is_private page))
+none_touched config state flat page h entry = h.touched page ∙ (ap (λ (o : Option Stored). is_paged config page && is_some o) entry ∙ and_no (is_paged config page))
 
-pub untouched_none : (config : Config) (state : FlatState) (flat : Flat) (page : Page) → IsFlat config state flat → stored_of flat.stored.items page ≡ None → is_untouched state page ≡ is_private page
-untouched_none config state flat page h entry = ap (λ (b : Bool). is_private page && not b) (none_touched config state flat page h entry) ∙ go (is_private page)
+pub untouched_none : (config : Config) (state : FlatState) (flat : Flat) (page : Page) → IsFlat config state flat → stored_of flat.stored.items page ≡ None → is_untouched config state page ≡ is_paged config page
+untouched_none config state flat page h entry = ap (λ (b : Bool). is_paged config page && not b) (none_touched config state flat page h entry) ∙ go (is_paged config page)
   where
     go : (b : Bool) → (b && true) ≡ b
     go true = refl
     go false = refl
 
-pub flat_kept : (config : Config) (state : FlatState) (old new : Flat) (e : Stored) → IsFlat config state old → new.tables ≡ old.tables → IsWith old.stored.items e new.stored.items → ((test : Page → Bool) → count_by test (touched_with state.touched e.page) ≡ count_by (is_touch_of test) new.stored.items) → IsFlat config (flat_with state e.page e.bytes) new
+pub flat_kept : (config : Config) (state : FlatState) (old new : Flat) (e : Stored) → IsFlat config state old → new.tables ≡ old.tables → IsWith old.stored.items e new.stored.items → ((test : Page → Bool) → count_by test (touched_with config state.touched e.page) ≡ count_by (is_touch_of config test) new.stored.items) → IsFlat config (flat_with config state e.page e.bytes) new
 flat_kept config state old new e h same entries counted =
     record {
       tables = subst (AreTablesOf config) (sym same) h.tables;
       map = λ p v. h.map p v ∙ ap (λ (t : Tables). mapped_in t.pages.items p v) (sym same);
-      touched = λ q. has q (same_page e.page q) refl ∙ ap (λ (o : Option Stored). is_private q && is_some o) (sym (entries q));
+      touched = λ q. has q (same_page e.page q) refl ∙ ap (λ (o : Option Stored). is_paged config q && is_some o) (sym (entries q));
       counts = counted;
       stored = λ q u. bytes q (same_page e.page q) refl u ∙ ap (bytes_or (shared_bytes config q)) (sym (entries q));
     }
   where
-    has : (q : Page) (b : Bool) → same_page e.page q ≡ b → has_page (touched_with state.touched e.page) q ≡ (is_private q && is_some (cond b (Some e) (stored_of old.stored.items q)))
-    has q false apart = touched_other state.touched e.page q apart ∙ h.touched q
-    has q true same_pages = subst (λ (x : Page). has_page (touched_with state.touched e.page) x ≡ (is_private x && true)) (pages_equal e.page q same_pages) (of_page (is_private e.page) refl)
+    has : (q : Page) (b : Bool) → same_page e.page q ≡ b → has_page (touched_with config state.touched e.page) q ≡ (is_paged config q && is_some (cond b (Some e) (stored_of old.stored.items q)))
+    has q false apart = touched_other config state.touched e.page q apart ∙ h.touched q
+    has q true same_pages = subst (λ (x : Page). has_page (touched_with config state.touched e.page) x ≡ (is_paged config x && true)) (pages_equal e.page q same_pages) (of_page (is_paged config e.page) refl)
       where
-        of_page : (b : Bool) → is_private e.page ≡ b → has_page (touched_with state.touched e.page) e.page ≡ (is_private e.page && true)
-        of_page true private = touched_same state.touched e.page private ∙ ap (λ (b : Bool). b && true) (sym private)
+        of_page : (b : Bool) → is_paged config e.page ≡ b → has_page (touched_with config state.touched e.page) e.page ≡ (is_paged config e.page && true)
+        of_page true private = touched_same config state.touched e.page private ∙ ap (λ (b : Bool). b && true) (sym private)
         of_page false shared = ap (λ (b : Bool). has_page (cond b (with_page state.touched e.page) state.touched) e.page) shared ∙ (h.touched e.page ∙ (ap (λ (b : Bool). b && is_some (stored_of old.stored.items e.page)) shared ∙ ap (λ (b : Bool). b && true) (sym shared)))
 
-    bytes : (q : Page) (b : Bool) → same_page e.page q ≡ b → is_untouched (flat_with state e.page e.bytes) q ≡ false → cond b e.bytes (state.stored q) ≡ bytes_or (shared_bytes config q) (cond b (Some e) (stored_of old.stored.items q))
+    bytes : (q : Page) (b : Bool) → same_page e.page q ≡ b → is_untouched config (flat_with config state e.page e.bytes) q ≡ false → cond b e.bytes (state.stored q) ≡ bytes_or (shared_bytes config q) (cond b (Some e) (stored_of old.stored.items q))
     bytes q true on u = refl
-    bytes q false apart u = h.stored q (ap (λ (b : Bool). is_private q && not b) (sym (touched_other state.touched e.page q apart)) ∙ u)
+    bytes q false apart u = h.stored q (ap (λ (b : Bool). is_paged config q && not b) (sym (touched_other config state.touched e.page q apart)) ∙ u)
 
 -- one more entry
-pub flat_pushed : (config : Config) (state : FlatState) (old new : Flat) (e : Stored) → IsFlat config state old → new.tables ≡ old.tables → stored_of old.stored.items e.page ≡ None → new.stored.items ≡ old.stored.items ++ e ∷ [] → IsFlat config (flat_with state e.page e.bytes) new
+pub flat_pushed : (config : Config) (state : FlatState) (old new : Flat) (e : Stored) → IsFlat config state old → new.tables ≡ old.tables → stored_of old.stored.items e.page ≡ None → new.stored.items ≡ old.stored.items ++ e ∷ [] → IsFlat config (flat_with config state e.page e.bytes) new
 flat_pushed config state old new e h same absent items =
     flat_kept config state old new e h same
     (subst (IsWith old.stored.items e) (sym items) (with_pushed old.stored.items e absent))
-    (λ test. counts test ∙ ap (count_by (is_touch_of test)) (sym items))
+    (λ test. counts test ∙ ap (count_by (is_touch_of config test)) (sym items))
   where
     go : (test : Page → Bool) (b : Bool) → count_by test (cond b (e.page ∷ state.touched) state.touched) ≡ count_by test state.touched + cond (b && test e.page) 1 0
     go test true = omega (arith, count_cons test e.page state.touched)
     go test false = omega arith
 
-    more : (test : Page → Bool) → count_by test (touched_with state.touched e.page) ≡ count_by test state.touched + cond (is_touch_of test e) 1 0
+    more : (test : Page → Bool) → count_by test (touched_with config state.touched e.page) ≡ count_by test state.touched + cond (is_touch_of config test e) 1 0
     more test =
-        ap (λ (b : Bool). count_by test (cond (is_private e.page) (cond b state.touched (e.page ∷ state.touched)) state.touched)) (none_touched config state old e.page h absent) ∙ go test (is_private e.page)
+        ap (λ (b : Bool). count_by test (cond (is_paged config e.page) (cond b state.touched (e.page ∷ state.touched)) state.touched)) (none_touched config state old e.page h absent) ∙ go test (is_paged config e.page)
 
-    counts : (test : Page → Bool) → count_by test (touched_with state.touched e.page) ≡ count_by (is_touch_of test) (old.stored.items ++ e ∷ [])
-    counts test = more test ∙ (ap (λ (n : ℕ). n + cond (is_touch_of test e) 1 0) (h.counts test) ∙ sym (sum_by_push (λ (x : Stored). cond (is_touch_of test x) 1 0) old.stored.items e))
+    counts : (test : Page → Bool) → count_by test (touched_with config state.touched e.page) ≡ count_by (is_touch_of config test) (old.stored.items ++ e ∷ [])
+    counts test = more test ∙ (ap (λ (n : ℕ). n + cond (is_touch_of config test e) 1 0) (h.counts test) ∙ sym (sum_by_push (λ (x : Stored). cond (is_touch_of config test x) 1 0) old.stored.items e))
 
 -- one entry written
-pub flat_written : (config : Config) (state : FlatState) (old new : Flat) (i : ℕ) (e : Stored) → IsFlat config state old → new.tables ≡ old.tables → i < length old.stored.items → i ≡ position_or_len (is_of e.page) old.stored.items → new.stored.items ≡ slice_set old.stored.items i e → IsFlat config (flat_with state e.page e.bytes) new
+pub flat_written : (config : Config) (state : FlatState) (old new : Flat) (i : ℕ) (e : Stored) → IsFlat config state old → new.tables ≡ old.tables → i < length old.stored.items → i ≡ position_or_len (is_of e.page) old.stored.items → new.stored.items ≡ slice_set old.stored.items i e → IsFlat config (flat_with config state e.page e.bytes) new
 flat_written config state old new i e h same within place items =
     flat_kept config state old new e h same
     (subst (IsWith old.stored.items e) (sym items) (with_written old.stored.items i e within place))
-    (λ test. ap (count_by test) (unchanged (is_private e.page) refl) ∙ (h.counts test ∙ (counts test ∙ ap (count_by (is_touch_of test)) (sym items))))
+    (λ test. ap (count_by test) (unchanged (is_paged config e.page) refl) ∙ (h.counts test ∙ (counts test ∙ ap (count_by (is_touch_of config test)) (sym items))))
   where
     entry : stored_of old.stored.items e.page ≡ Some (slice_index_or old.stored.items i e)
     entry = entry_at old.stored.items i e.page e within place
 
-    has_it : has_page state.touched e.page ≡ (is_private e.page && true)
-    has_it = h.touched e.page ∙ ap (λ (o : Option Stored). is_private e.page && is_some o) entry
+    has_it : has_page state.touched e.page ≡ (is_paged config e.page && true)
+    has_it = h.touched e.page ∙ ap (λ (o : Option Stored). is_paged config e.page && is_some o) entry
 
-    unchanged : (b : Bool) → is_private e.page ≡ b → touched_with state.touched e.page ≡ state.touched
+    unchanged : (b : Bool) → is_paged config e.page ≡ b → touched_with config state.touched e.page ≡ state.touched
     unchanged false shared = ap (λ (b : Bool). cond b (with_page state.touched e.page) state.touched) shared
     unchanged true private = ap (λ (b : Bool). cond b (with_page state.touched e.page) state.touched) private ∙ ap (λ (b : Bool). cond b state.touched (e.page ∷ state.touched)) (has_it ∙ ap (λ (b : Bool). b && true) private)
 
-    counts : (test : Page → Bool) → count_by (is_touch_of test) old.stored.items ≡ count_by (is_touch_of test) (slice_set old.stored.items i e)
+    counts : (test : Page → Bool) → count_by (is_touch_of config test) old.stored.items ≡ count_by (is_touch_of config test) (slice_set old.stored.items i e)
     counts test =
-        let whole = sum_by-set (λ (x : Stored). cond (is_touch_of test x) 1 0) old.stored.items i e e within in
-        let there : cond {A = ℕ} (is_touch_of test (slice_index_or old.stored.items i e)) 1 0 ≡ cond (is_touch_of test e) 1 0 = ap (λ (x : Page). cond {A = ℕ} (is_private x && test x) 1 0) (page_at_place old.stored.items i e.page e within place) in
+        let whole = sum_by-set (λ (x : Stored). cond (is_touch_of config test x) 1 0) old.stored.items i e e within in
+        let there : cond {A = ℕ} (is_touch_of config test (slice_index_or old.stored.items i e)) 1 0 ≡ cond (is_touch_of config test e) 1 0 = ap (λ (x : Page). cond {A = ℕ} (is_paged config x && test x) 1 0) (page_at_place old.stored.items i e.page e within place) in
         omega arith
 
 -- how many pages are touched
@@ -164,13 +166,17 @@ all_count : {X : Type 0} (xs : List X) → length xs ≡ count_by (λ x. true) x
 all_count [] = refl
 all_count {X} (x ∷ xs) = let test : X → Bool = λ y. true in omega (arith, all_count xs, count_cons test x xs)
 
-own_count : (es : List Stored) → count_by (is_touch_of (λ page. true)) es ≡ count_by is_touch es
-own_count [] = refl
-own_count (e ∷ es) = count_cons (is_touch_of (λ page. true)) e es ∙ (ap (λ (n : ℕ). n + count_by (is_touch_of (λ page. true)) es) (go (is_private e.page)) ∙ (ap (λ (n : ℕ). cond (is_touch e) 1 0 + n) (own_count es) ∙ sym (count_cons is_touch e es)))
+pub paged_same : (config : Config) (page : Page) → is_paged config page ≡ is_paged_in config.sections page
+paged_same config (Private p v) = refl
+paged_same config (Shared s i) = refl
+
+own_count : (config : Config) (es : List Stored) → count_by (is_touch_of config (λ page. true)) es ≡ count_by (is_touch config.sections) es
+own_count config [] = refl
+own_count config (e ∷ es) = count_cons (is_touch_of config (λ page. true)) e es ∙ (ap (λ (n : ℕ). n + count_by (is_touch_of config (λ page. true)) es) (go (is_paged config e.page) ∙ ap (λ (b : Bool). cond {A = ℕ} b 1 0) (paged_same config e.page)) ∙ (ap (λ (n : ℕ). cond (is_touch config.sections e) 1 0 + n) (own_count config es) ∙ sym (count_cons (is_touch config.sections) e es)))
   where
     go : (b : Bool) → cond {A = ℕ} (b && true) 1 0 ≡ cond b 1 0
     go true = refl
     go false = refl
 
-pub touched_count : (config : Config) (state : FlatState) (flat : Flat) → IsFlat config state flat → length state.touched ≡ count_by is_touch flat.stored.items
-touched_count config state flat h = all_count state.touched ∙ (h.counts (λ page. true) ∙ own_count flat.stored.items)
+pub touched_count : (config : Config) (state : FlatState) (flat : Flat) → IsFlat config state flat → length state.touched ≡ count_by (is_touch flat.tables.sections) flat.stored.items
+touched_count config state flat h = all_count state.touched ∙ (h.counts (λ page. true) ∙ (own_count config flat.stored.items ∙ ap (λ (sections : List Section). count_by (is_touch sections) flat.stored.items) (sym h.tables.sections)))

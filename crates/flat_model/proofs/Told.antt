@@ -16,12 +16,13 @@ use Rattle.vm_types.specs.declared.reply.Reply.TheVariants as reply
 use Rattle.vm_types.specs.declared.reply.Why.{Why}
 use Rattle.vm_types.specs.declared.reply.Why.TheVariants as why
 use Rattle.pager_model.specs.Flat.{FlatState, flat_with, flat_reply, flat_next, flat_refusal, refusal_at, found_at, answered_at, next_unless, reply_unless, reply_from, bytes_after, offset_in_page, page_bytes, is_untouched, is_page_file_full, is_change, mapping_of, shared_bytes}
-use Rattle.flat_model.specs.FlatMachine.{IsFlat, IsAllowedAt, stored_of, is_of, is_touch, bytes_or}
-use Rattle.pager_model.specs.Maps.{Mapped, is_private, page_behind, page_number, shared_of, first_bytes}
+use Rattle.flat_model.specs.FlatMachine.{IsFlat, IsAllowedAt, stored_of, is_of, is_touch, bytes_or, is_paged_in}
+use Rattle.pager_model.specs.Maps.{Mapped, page_behind, page_number, shared_of, first_bytes, is_paged, paged_of}
 use Rattle.flat_model.specs.declared.flat.Flat.{Flat}
 use Rattle.flat_model.specs.declared.flat.Stored.{Stored}
-use Rattle.flat_model.proofs.Entries.{flat_pushed, flat_written, entry_at, untouched_some, untouched_none, touched_count}
+use Rattle.flat_model.proofs.Entries.{flat_pushed, flat_written, entry_at, paged_same, untouched_some, untouched_none, touched_count}
 use Rattle.vm_types.specs.PagePlaces.{item_at}
+use Rattle.vm_types.specs.declared.config.Section.{Section}
 use Rattle.pager_model.specs.Sets.{has_page}
 use Rattle.flat_model.specs.Behind.{as_mapped}
 use Rattle.flat_model.specs.declared.behind.Behind.{Behind}
@@ -83,13 +84,13 @@ module _ (config : Config) (state : FlatState) (new : Flat) (p : ℕ) (r : Ref) 
       (ap (refusal_at config state p r) at.mapped ∙ (refusal ∙ ap (λ (b : Bool). cond b (Some why.PageFileFull) None) full)) h
 
   pub told_bytes : (bytes : List ℕ) (answer : Reply) → is_page_file_full config state page ≡ false → page_bytes config state page origin ≡ bytes
-      → answer ≡ reply_from r.op bytes (offset_in_page r) → IsFlat config (flat_with state page (bytes_after r.op bytes (offset_in_page r))) new → IsTold config state new p r answer
+      → answer ≡ reply_from r.op bytes (offset_in_page r) → IsFlat config (flat_with config state page (bytes_after r.op bytes (offset_in_page r))) new → IsTold config state new p r answer
   told_bytes bytes answer room found same h =
       told_answered config state new p r m answer at.mapped (refusal ∙ ap (λ (b : Bool). cond b (Some why.PageFileFull) None) room)
       (same ∙ ap (λ (bs : List ℕ). reply_from r.op bs (offset_in_page r)) (sym there))
       (subst (λ (s : FlatState). IsFlat config s new)
-      (ap (λ (bs : List ℕ). flat_with state page (bytes_after r.op bs (offset_in_page r))) (sym there)
-      ∙ ap (λ (x : Page). flat_with state x (bytes_after r.op (found_at config state p r (Some m)) (offset_in_page r))) (sym at.behind)) h)
+      (ap (λ (bs : List ℕ). flat_with config state page (bytes_after r.op bs (offset_in_page r))) (sym there)
+      ∙ ap (λ (x : Page). flat_with config state x (bytes_after r.op (found_at config state p r (Some m)) (offset_in_page r))) (sym at.behind)) h)
     where
       there : found_at config state p r (Some m) ≡ bytes
       there = ap (λ (x : Page). page_bytes config state x origin) at.behind ∙ found
@@ -104,7 +105,7 @@ told_written config state old new p r origin page e d i answer on at h within th
     (ap (λ (b : Bool). b && nat_eq (length state.touched) config.pagefile) touched)
     (ap (λ (b : Bool). cond b (first_bytes config origin) (state.stored e.page)) touched ∙ (h.stored e.page touched ∙ ap (bytes_or (shared_bytes config e.page)) entry))
     same
-    (subst (λ (bs : List ℕ). IsFlat config (flat_with state e.page bs) new) bytes (flat_written config state old new i e h tables within place items))
+    (subst (λ (bs : List ℕ). IsFlat config (flat_with config state e.page bs) new) bytes (flat_written config state old new i e h tables within place items))
   where
     place : i ≡ position_or_len (is_of e.page) old.stored.items
     place = subst (λ (x : Page). i ≡ position_or_len (is_of x) old.stored.items) (sym on) there
@@ -112,34 +113,34 @@ told_written config state old new p r origin page e d i answer on at h within th
     entry : stored_of old.stored.items e.page ≡ Some (slice_index_or old.stored.items i d)
     entry = entry_at old.stored.items i e.page d within place
 
-    touched : is_untouched state e.page ≡ false
+    touched : is_untouched config state e.page ≡ false
     touched = untouched_some config state old e.page _ h entry
 
 -- ---- a page that has none
 -- what a shared page is given by the configuration is what its origin gives
-behind_shared : (config : Config) (p v : ℕ) (origin : Origin) → is_private (page_behind config p v origin) ≡ false → shared_bytes config (page_behind config p v origin) ≡ first_bytes config origin
+behind_shared : (config : Config) (p v : ℕ) (origin : Origin) → is_paged config (page_behind config p v origin) ≡ false → shared_bytes config (page_behind config p v origin) ≡ first_bytes config origin
 behind_shared config p v origin.Zero shared = absurd (true≢false shared)
 behind_shared config p v (origin.Section s i) shared = go (shared_of (slice_get config.sections s.0)) shared
   where
-    go : (b : Bool) → is_private (cond b (Shared s i) (Private (record { 0 = p }) v)) ≡ false → shared_bytes config (cond b (Shared s i) (Private (record { 0 = p }) v)) ≡ first_bytes config (origin.Section s i)
-    go true e = refl
+    go : (b : Bool) → is_paged config (cond b (Shared s i) (Private (record { 0 = p }) v)) ≡ false → shared_bytes config (cond b (Shared s i) (Private (record { 0 = p }) v)) ≡ first_bytes config (origin.Section s i)
+    go true e = rw e refl
     go false e = absurd (true≢false e)
 
-pub full_from : (config : Config) (state : FlatState) (old : Flat) (page : Page) → IsFlat config state old → stored_of old.stored.items page ≡ None → is_page_file_full config state page ≡ (is_private page && nat_eq (count_by is_touch old.stored.items) old.tables.pagefile)
+pub full_from : (config : Config) (state : FlatState) (old : Flat) (page : Page) → IsFlat config state old → stored_of old.stored.items page ≡ None → is_page_file_full config state page ≡ (is_paged_in old.tables.sections page && nat_eq (count_by (is_touch old.tables.sections) old.stored.items) old.tables.pagefile)
 full_from config state old page h absent =
-    ap (λ (b : Bool). b && nat_eq (length state.touched) config.pagefile) (untouched_none config state old page h absent)
-    ∙ (ap (λ (n : ℕ). is_private page && nat_eq n config.pagefile) (touched_count config state old h)
-    ∙ ap (λ (n : ℕ). is_private page && nat_eq (count_by is_touch old.stored.items) n) (sym h.tables.pagefile))
+    ap (λ (b : Bool). b && nat_eq (length state.touched) config.pagefile) (untouched_none config state old page h absent ∙ (paged_same config page ∙ ap (λ (sections : List Section). is_paged_in sections page) (sym h.tables.sections)))
+    ∙ (ap (λ (n : ℕ). is_paged_in old.tables.sections page && nat_eq n config.pagefile) (touched_count config state old h)
+    ∙ ap (λ (n : ℕ). is_paged_in old.tables.sections page && nat_eq (count_by (is_touch old.tables.sections) old.stored.items) n) (sym h.tables.pagefile))
 
 first_found : (config : Config) (state : FlatState) (old : Flat) (p : ℕ) (r : Ref) (origin : Origin) (page : Page) → IsAllowedAt config state p r origin page → IsFlat config state old → stored_of old.stored.items page ≡ None → page_bytes config state page origin ≡ first_bytes config origin
 first_found config state old p r origin page at h absent =
-    ap (λ (b : Bool). cond b (first_bytes config origin) (state.stored page)) (untouched_none config state old page h absent) ∙ go (is_private page) refl
+    ap (λ (b : Bool). cond b (first_bytes config origin) (state.stored page)) (untouched_none config state old page h absent) ∙ go (is_paged config page) refl
   where
-    go : (b : Bool) → is_private page ≡ b → cond b (first_bytes config origin) (state.stored page) ≡ first_bytes config origin
+    go : (b : Bool) → is_paged config page ≡ b → cond b (first_bytes config origin) (state.stored page) ≡ first_bytes config origin
     go true private = refl
     go false shared =
         h.stored page (ap (λ (b : Bool). b && not (has_page state.touched page)) shared) ∙ (ap (bytes_or (shared_bytes config page)) absent
-        ∙ subst (λ (x : Page). is_private x ≡ false → shared_bytes config x ≡ first_bytes config origin) at.behind (behind_shared config p (page_number (r.addr).0) origin) shared)
+        ∙ subst (λ (x : Page). is_paged config x ≡ false → shared_bytes config x ≡ first_bytes config origin) at.behind (behind_shared config p (page_number (r.addr).0) origin) shared)
 
 pub told_pushed : (config : Config) (state : FlatState) (old new : Flat) (p : ℕ) (r : Ref) (origin : Origin) (e : Stored) (answer : Reply) → IsAllowedAt config state p r origin e.page
     → IsFlat config state old → stored_of old.stored.items e.page ≡ None → is_page_file_full config state e.page ≡ false
@@ -148,4 +149,4 @@ pub told_pushed : (config : Config) (state : FlatState) (old new : Flat) (p : �
 told_pushed config state old new p r origin e answer at h absent room same bytes tables items =
     told_bytes config state new p r origin e.page at (first_bytes config origin) answer room
     (first_found config state old p r origin e.page at h absent) same
-    (subst (λ (bs : List ℕ). IsFlat config (flat_with state e.page bs) new) bytes (flat_pushed config state old new e h tables absent items))
+    (subst (λ (bs : List ℕ). IsFlat config (flat_with config state e.page bs) new) bytes (flat_pushed config state old new e h tables absent items))

@@ -1,8 +1,9 @@
 -- What the flat machine keeps, and how it answers. This project's own.
-use Rattle.std.specs.Prelude.{◌≡◌, ℕ, ◌*◌, vec_len, Bool, true, false, ◌&&◌, List, Option, Some, None, Result, ◌<◌, find, length, is_some, count_by, not, MatchResult}
+use Rattle.std.specs.Prelude.{◌≡◌, ℕ, ◌*◌, vec_len, Bool, true, false, ◌&&◌, List, Option, Some, None, Result, ◌<◌, find, length, is_some, count_by, not, slice_get, MatchResult}
 use Rattle.std.specs.List.{position_or_len}
 use Rattle.vm_types.specs.Access.{is_allowed}
 use Rattle.vm_types.specs.Configuration.{IsWellFormed}
+use Rattle.vm_types.specs.Kinds.{paged_of}
 use Rattle.vm_types.specs.Same.{same_page}
 use Rattle.vm_types.specs.declared.names.Page.{Page}
 use Rattle.vm_types.specs.declared.config.Config.{Config}
@@ -11,8 +12,10 @@ use Rattle.vm_types.specs.declared.faults.NoMemory.{NoMemory}
 use Rattle.vm_types.specs.declared.reference.Ref.{Ref}
 use Rattle.vm_types.specs.declared.reply.Reply.{Reply}
 use Rattle.pager_model.specs.Flat.{FlatState, shared_bytes, flat_reply, flat_next, mapping_of, is_change, is_untouched}
-use Rattle.pager_model.specs.Maps.{is_private, page_behind, page_number}
+use Rattle.pager_model.specs.Maps.{is_paged, page_behind, page_number}
 use Rattle.pager_model.specs.Sets.{has_page}
+use Rattle.vm_types.specs.declared.config.Section.{Section}
+use Rattle.vm_types.specs.declared.names.Page.TheVariants.{Private, Shared}
 use Rattle.vm_types.specs.declared.service.Service.{Service}
 use Rattle.vm_types.specs.declared.reply.Answer.TheVariants.{Good}
 use Rattle.pager_model.specs.FlatService.{flat_service, is_private_in}
@@ -21,12 +24,17 @@ use Rattle.flat_model.specs.declared.tables.Tables.{Tables}
 use Rattle.flat_model.specs.declared.flat.Flat.{Flat}
 use Rattle.flat_model.specs.declared.flat.Stored.{Stored}
 
--- whether an entry is that of the page, or of a private page
+-- a page that is charged to the page file: a private one, or one of a page file section
+abbrev pub is_paged_in : List Section → Page → Bool
+is_paged_in sections (Private p v) = true
+is_paged_in sections (Shared s i) = paged_of (slice_get sections s.0)
+
+-- whether an entry is that of the page, or of a page that is charged
 abbrev pub is_of : Page → Stored → Bool
 is_of page entry = same_page entry.page page
 
-abbrev pub is_touch : Stored → Bool
-is_touch entry = is_private entry.page
+abbrev pub is_touch : List Section → Stored → Bool
+is_touch sections entry = is_paged_in sections entry.page
 
 -- whether an entry is of no private page of a process's range
 abbrev pub is_kept : ℕ → ℕ → ℕ → Stored → Bool
@@ -48,20 +56,20 @@ pub record AreTablesOf (config : Config) (tables : Tables) : Type 0 where
   pub sections : tables.sections ≡ config.sections
   pub places : vec_len tables.pages ≡ length config.procs * 5120
 
--- whether an entry is of a private page that passes a test
-abbrev pub is_touch_of : (Page → Bool) → Stored → Bool
-is_touch_of test entry = is_private entry.page && test entry.page
+-- whether an entry is of a charged page that passes a test
+abbrev pub is_touch_of : Config → (Page → Bool) → Stored → Bool
+is_touch_of config test entry = is_paged config entry.page && test entry.page
 
 -- the machine stands for a state of a well-formed configuration: its tables are of the configuration and
--- have the state's maps, the touched pages are the private pages that have an entry, each once, and the
--- bytes of a shared or touched page are those of its entry or, where it has none, those that the
+-- have the state's maps, the touched pages are the charged pages that have an entry, each once, and the
+-- bytes of an uncharged or touched page are those of its entry or, where it has none, those that the
 -- configuration gives
 pub record IsFlat (config : Config) (state : FlatState) (flat : Flat) : Type 0 where
   pub tables : AreTablesOf config flat.tables
   pub map : (p v : ℕ) → state.map p v ≡ mapped_in flat.tables.pages.items p v
-  pub touched : (page : Page) → has_page state.touched page ≡ (is_private page && is_some (stored_of flat.stored.items page))
-  pub counts : (test : Page → Bool) → count_by test state.touched ≡ count_by (is_touch_of test) flat.stored.items
-  pub stored : (page : Page) → is_untouched state page ≡ false → state.stored page ≡ bytes_or (shared_bytes config page) (stored_of flat.stored.items page)
+  pub touched : (page : Page) → has_page state.touched page ≡ (is_paged config page && is_some (stored_of flat.stored.items page))
+  pub counts : (test : Page → Bool) → count_by test state.touched ≡ count_by (is_touch_of config test) flat.stored.items
+  pub stored : (page : Page) → is_untouched config state page ≡ false → state.stored page ≡ bytes_or (shared_bytes config page) (stored_of flat.stored.items page)
 
 -- the reply is the flat reply, and the machine stands for the next state; without memory it stands
 -- for the same state

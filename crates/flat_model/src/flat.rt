@@ -7,16 +7,17 @@ ghost use Rattle.vm_types.specs.Same.{same_page};
 ghost use Rattle.vm_types.specs.WellFormed.{IsWellFormedReference, IsWellFormedService};
 ghost use Rattle.pager_model.specs.Flat.{flat_start, is_change};
 ghost use Rattle.pager_model.specs.FlatService.{is_private_in};
-ghost use Rattle.pager_model.specs.Maps.{is_private};
-ghost use Rattle.flat_model.specs.FlatMachine.{IsFlat, AnswersAsFlat, AnswersNew, ChangesAsFlat, IsPlace, is_kept, is_touch};
+ghost use Rattle.flat_model.specs.FlatMachine.{IsFlat, AnswersAsFlat, AnswersNew, ChangesAsFlat, IsPlace, is_kept, is_paged_in, is_touch};
 ghost use Rattle.flat_model.specs.Usable.{IsOrigin};
 
 use crate::behind::Behind;
-use crate::lookups::{bytes_at, page_at, tables_of};
+use crate::lookups::{bytes_at, is_paged, page_at, tables_of};
 use crate::page::apply;
 use crate::tables::Tables;
 use std::alloc::Global;
-use vm_types::{Addr, Config, NoMemory, Op, Origin, Page, Proc, Ref, Reply, Service, Why, allowed};
+use vm_types::{
+    Addr, Config, NoMemory, Op, Origin, Page, Proc, Ref, Reply, Section, Service, Why, allowed,
+};
 
 /// A page that was referred to, and its bytes.
 #[derive(Clone, Copy, Debug)]
@@ -53,12 +54,13 @@ fn is_same(one: Page, other: Page) -> bool
     }
 }
 
-fn is_own(page: Page) -> bool
-    ensures { result ≡ is_private page }
+/// Whether a page is charged to the page file.
+fn is_charged(sections: &[Section], page: Page) -> bool
+    ensures { result ≡ is_paged_in sections.now page }
 {
     match page {
         Page::Private(_, _) => true,
-        Page::Shared(_, _) => false,
+        Page::Shared(s, _) => is_paged(sections, s),
     }
 }
 
@@ -74,13 +76,13 @@ fn place_of(stored: &[Stored], page: Page) -> Option<usize>
     None
 }
 
-/// How many private pages are stored.
-fn touched(stored: &[Stored]) -> usize
-    ensures { result ≡ count_by is_touch stored.now }
+/// How many charged pages are stored.
+fn touched(sections: &[Section], stored: &[Stored]) -> usize
+    ensures { result ≡ count_by (is_touch sections.now) stored.now }
 {
     let mut count = 0;
     for entry in stored {
-        if is_own(entry.page) {
+        if is_charged(sections, entry.page) {
             count += 1;
         }
     }
@@ -133,9 +135,11 @@ impl Flat {
 
     /// Whether the page file has no block for this page, which is not stored yet.
     fn is_full(&self, page: Page) -> bool
-        ensures { result ≡ (is_private page && nat_eq (count_by is_touch self.now.stored.items) self.now.tables.pagefile) }
+        ensures { result ≡ (is_paged_in self.now.tables.sections page && nat_eq (count_by (is_touch self.now.tables.sections) self.now.stored.items) self.now.tables.pagefile) }
     {
-        is_own(page) && touched(&self.stored) == self.tables.pagefile as usize
+        let sections = self.tables.sections.items();
+        is_charged(sections, page)
+            && touched(sections, &self.stored) == self.tables.pagefile as usize
     }
 
     /// Answers a reference whose page is not stored yet.
@@ -204,6 +208,8 @@ impl Flat {
             Service::Protect { at, pages, prot } => self.tables.protect(p, at, pages, prot),
             Service::Lock { .. }
             | Service::Unlock { .. }
+            | Service::Pin { .. }
+            | Service::Unpin { .. }
             | Service::Purge { .. }
             | Service::Adjust { .. } => {}
         }

@@ -6,7 +6,7 @@ ghost use Rattle.vm_types.specs.Behind.{covers};
 ghost use Rattle.vm_types.specs.PagePlaces.{item_at};
 ghost use Rattle.vm_types.specs.Configuration.{IsWellFormed};
 ghost use Rattle.vm_types.specs.declared.config.Config.{Config};
-ghost use Rattle.pager_model.specs.Maps.{first_map, shared_of, page_behind, first_bytes};
+ghost use Rattle.pager_model.specs.Maps.{first_map, shared_of, page_behind, first_bytes, paged_of};
 ghost use Rattle.flat_model.specs.FlatMachine.{AreTablesOf};
 ghost use Rattle.flat_model.specs.Behind.{behind_by, mapped_in};
 ghost use Rattle.flat_model.specs.Usable.{IsOrigin};
@@ -15,7 +15,7 @@ use crate::behind::Behind;
 use crate::laying::lay_all;
 use crate::tables::Tables;
 use std::alloc::Global;
-use vm_types::{Config, Listed, NoMemory, Origin, Page, Proc, SecId, Section};
+use vm_types::{Config, Listed, NoMemory, Origin, Page, Proc, SecId, Section, SectionKind};
 
 /// A copy of the bytes.
 fn copied(alloc: Global, bytes: &[u8]) -> Result<Listed<u8>, NoMemory>
@@ -30,7 +30,7 @@ fn section_copy(alloc: Global, section: &Section) -> Result<Section, NoMemory>
 {
     Ok(Section {
         name: copied(alloc, section.name.items())?,
-        shared: section.shared,
+        kind: section.kind,
         bytes: copied(alloc, section.bytes.items())?,
     })
 }
@@ -70,13 +70,29 @@ pub fn tables_of(alloc: Global, config: &Config) -> Result<Tables, NoMemory>
     })
 }
 
-/// Whether a section is shared; one that is not there isn't.
+/// Whether the processes share a section's pages; of one that is not there they don't.
 fn is_shared(sections: &[Section], s: SecId) -> bool
     ensures { result ≡ shared_of (slice_get sections.now s.0) }
 {
     match sections.get(s.0 as usize) {
         None => false,
-        Some(section) => section.shared,
+        Some(section) => match section.kind {
+            SectionKind::Shared | SectionKind::Paged => true,
+            SectionKind::Crf => false,
+        },
+    }
+}
+
+/// Whether a section's pages are in the page file; those of one that is not there aren't.
+pub fn is_paged(sections: &[Section], s: SecId) -> bool
+    ensures { result ≡ paged_of (slice_get sections.now s.0) }
+{
+    match sections.get(s.0 as usize) {
+        None => false,
+        Some(section) => match section.kind {
+            SectionKind::Paged => true,
+            SectionKind::Shared | SectionKind::Crf => false,
+        },
     }
 }
 
@@ -104,6 +120,9 @@ pub fn bytes_at(sections: &[Section], origin: Origin) -> [u8; 512]
     match origin {
         Origin::Zero => [0; 512],
         Origin::Section(s, page) => {
+            if is_paged(sections, s) {
+                return [0; 512];
+            }
             let from = 512 * page as usize;
             let mut bytes = [0; 512];
             bytes.copy_from_slice(&sections[s.0 as usize].bytes.items()[from..from + 512]);

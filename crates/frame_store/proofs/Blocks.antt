@@ -1,17 +1,20 @@
 -- The blocks of a configuration: which they are, and their numbers.
-use Rattle.std.proofs.Common.{◌≡◌, ℕ, ◌+◌, ◌-◌, ◌<◌, ◌≤◌, List, ◌++◌, Option, Some, None, length, map, sum, slice_get, slice_set, refl, inl, inr, sym, ap, ◌∙◌, subst, arith}
+use Rattle.std.proofs.Common.{◌≡◌, ℕ, ◌+◌, ◌-◌, ◌<◌, ◌≤◌, Bool, true, false, cond, List, ◌++◌, Option, Some, None, length, map, sum, slice_get, slice_set, refl, inl, inr, sym, ap, ◌∙◌, subst, arith}
 use Rattle.std.specs.Prelude.{◌⊎◌, IsSome}
 use Rattle.std.specs.Option.{option_map}
 use Rattle.std.proofs.lemmas.Bool.{cases_lt}
 use Rattle.std.proofs.lemmas.List.{get_or-set_same, get_or-set_other}
 use Rattle.std.proofs.lemmas.List.FromFn.{length-map-range_with_len}
 use Rattle.std.proofs.lemmas.Option.{none-some, same_Some, slice_get-map, slice_get_within}
-use Rattle.vm_types.specs.Configuration.{IsBlock, section_pages}
+use Rattle.vm_types.specs.Configuration.{IsBlock, IsSectionPage, section_pages}
+use Rattle.vm_types.specs.Kinds.{is_paged_kind, paged_of}
+use Rattle.vm_types.specs.SectionBlocks.{section_block_count}
 use Rattle.vm_types.specs.declared.config.Config.{Config}
 use Rattle.vm_types.specs.declared.config.ProcSpec.{ProcSpec}
+use Rattle.vm_types.specs.declared.config.Section.{Section}
 use Rattle.vm_types.specs.declared.names.BlockId.{BlockId}
 use Rattle.vm_types.specs.declared.names.BlockId.TheVariants as block
-use Rattle.frame_store.specs.Blocks.{block_at, blocks_of, extents, number_of, file_blocks, page_counts, section_block, section_blocks, swap_block, swap_blocks}
+use Rattle.frame_store.specs.Blocks.{block_at, blocks_of, extents, number_of, file_blocks, block_counts, section_block, section_blocks, swap_block, swap_blocks}
 use Rattle.frame_store.specs.Numbers.{firsts, number_by}
 use Rattle.frame_store.proofs.Places.{held_below, number_below, number_finds}
 use Rattle.frame_store.proofs.Rows.{IsIn, first_is, get_before, get_left, get_past, get_right, get_row, in_rows, length_rows, rows_have}
@@ -23,8 +26,10 @@ Found config b = (k : ℕ) × (slice_get (blocks_of config) k ≡ Some b)
 pub listed : (config : Config) (b : BlockId) → IsBlock config b → Found config b
 unfolding blocks_of
 listed config (block.Section s page) is =
-    let counted = slice_get-map section_pages config.sections s.0 ∙ ap (option_map section_pages) is.1 in
-    let found = rows_have section_block 0 (page_counts config.sections) s.0 (section_pages is.0) page counted is.2 in
+    let there = is.0 in
+    let counted = slice_get-map section_block_count config.sections s.0 ∙ ap (option_map section_block_count) there.1 in
+    let all : section_block_count there.0 ≡ section_pages there.0 = ap (λ (b : Bool). cond b 0 (section_pages there.0)) (ap paged_of (sym there.1) ∙ is.1) in
+    let found = rows_have section_block 0 (block_counts config.sections) s.0 (section_block_count there.0) page counted (subst (λ n. page < n) (sym all) there.2) in
     (found.0, get_left (section_blocks config.sections) (file_blocks config.pagefile ++ swap_blocks config.procs) found.0 (block.Section s page) (found.1 ∙ ap (λ n. Some (section_block n page)) (omega arith)))
 listed config (block.PageFile b) is =
     let found = get_left (file_blocks config.pagefile) (swap_blocks config.procs) b (block.PageFile b) (get_row block.PageFile config.pagefile b is) in
@@ -45,10 +50,10 @@ mapped {X} {Y} f xs k y there = go (slice_get xs k) refl
 
 -- the numbers of the first blocks of a configuration's rows
 abbrev pub section_firsts : Config → List ℕ
-section_firsts config = firsts 0 (page_counts config.sections)
+section_firsts config = firsts 0 (block_counts config.sections)
 
 abbrev pub file_first : Config → ℕ
-file_first config = sum (page_counts config.sections)
+file_first config = sum (block_counts config.sections)
 
 abbrev pub swap_firsts : Config → List ℕ
 swap_firsts config = firsts (file_first config + config.pagefile) (extents config.procs)
@@ -56,13 +61,22 @@ swap_firsts config = firsts (file_first config + config.pagefile) (extents confi
 abbrev IsNumbered : Config → ℕ → BlockId → Type 0
 IsNumbered config k b = IsBlock config b × (number_by (section_firsts config) (file_first config) (swap_firsts config) b ≡ k)
 
-in_sections : (config : Config) (k : ℕ) (b : BlockId) → IsIn section_block 0 (page_counts config.sections) k b → IsNumbered config k b
+-- a section with section blocks has a file, and as many pages
+has_file : (config : Config) (s : ℕ) (section : Section) (page : ℕ) → slice_get config.sections s ≡ Some section → page < section_block_count section → IsSectionPage config.sections s page × (paged_of (slice_get config.sections s) ≡ false)
+has_file config s section page there less = go (is_paged_kind section.kind) refl less
+  where
+    go : (b : Bool) → is_paged_kind section.kind ≡ b → page < cond b 0 (section_pages section) → IsSectionPage config.sections s page × (paged_of (slice_get config.sections s) ≡ false)
+    go true paged less = absurd (omega (arith, less))
+    go false file less = ((section, there, less), ap paged_of there ∙ file)
+
+in_sections : (config : Config) (k : ℕ) (b : BlockId) → IsIn section_block 0 (block_counts config.sections) k b → IsNumbered config k b
 in_sections config k b in_row =
     let at = in_row.at in
     let same : b ≡ section_block in_row.row in_row.place = in_row.named ∙ ap (λ n. section_block n in_row.place) (omega arith) in
-    let section = mapped section_pages config.sections in_row.row in_row.count in_row.there in
-    let first = first_is 0 (page_counts config.sections) in_row.row (slice_get_within (page_counts config.sections) in_row.row in_row.count in_row.there) in
-    subst (IsNumbered config k) (sym same) ((section.0, section.1, subst (λ n. in_row.place < n) (sym section.2) in_row.within), omega (arith, at, first))
+    let section = mapped section_block_count config.sections in_row.row in_row.count in_row.there in
+    let page = has_file config in_row.row section.0 in_row.place section.1 (subst (λ n. in_row.place < n) (sym section.2) in_row.within) in
+    let first = first_is 0 (block_counts config.sections) in_row.row (slice_get_within (block_counts config.sections) in_row.row in_row.count in_row.there) in
+    subst (IsNumbered config k) (sym same) (page, omega (arith, at, first))
 
 in_file : (config : Config) (k : ℕ) (b : BlockId) → slice_get (file_blocks config.pagefile) k ≡ Some b → IsNumbered config (file_first config + k) b
 in_file config k b there =
@@ -92,7 +106,7 @@ numbered config k b there = by_section (cases_lt k (file_first config))
     swaps = swap_blocks config.procs
 
     long : length sections ≡ file_first config
-    long = length_rows section_block 0 (page_counts config.sections)
+    long = length_rows section_block 0 (block_counts config.sections)
 
     by_file : slice_get (file ++ swaps) (k - file_first config) ≡ Some b → file_first config ≤ k → (k - file_first config < config.pagefile) ⊎ (config.pagefile ≤ k - file_first config) → IsNumbered config k b
     by_file later past (inl below) =
@@ -104,7 +118,7 @@ numbered config k b there = by_section (cases_lt k (file_first config))
         (in_swaps config (k - file_first config - config.pagefile) b (in_rows swap_block 0 (extents config.procs) _ b (get_past file swaps config.pagefile (k - file_first config) b size more later)))
 
     by_section : (k < file_first config) ⊎ (file_first config ≤ k) → IsNumbered config k b
-    by_section (inl below) = in_sections config k b (in_rows section_block 0 (page_counts config.sections) k b (get_before sections (file ++ swaps) k b (omega (arith, long, below)) there))
+    by_section (inl below) = in_sections config k b (in_rows section_block 0 (block_counts config.sections) k b (get_before sections (file ++ swaps) k b (omega (arith, long, below)) there))
     by_section (inr past) = by_file (get_past sections (file ++ swaps) (file_first config) k b long past there) past (cases_lt (k - file_first config) config.pagefile)
 
 -- ---- for callers: a block and its number

@@ -4,7 +4,7 @@ use Rattle.std.proofs.lemmas.List.{ext_get_or}
 use Rattle.std.proofs.lemmas.List.FromFn.{length-map-range_with_len}
 use Rattle.std.proofs.lemmas.List.Sums.{sum_by-cons}
 use Rattle.vm_types.specs.declared.config.Config.{Config}
-use Rattle.frame_store.specs.Blocks.{blocks_of, extents, file_blocks, page_counts, row_by_row, section_block, swap_block}
+use Rattle.frame_store.specs.Blocks.{blocks_of, extents, file_blocks, block_counts, row_by_row, section_block, swap_block}
 use Rattle.frame_store.specs.Numbers.{firsts, lengths_between, listed_by}
 use Rattle.frame_store.proofs.Blocks.{file_first, section_firsts, swap_firsts}
 use Rattle.frame_store.proofs.Counts.{count_is}
@@ -51,7 +51,7 @@ listed_are config =
     let all = count_is config in
     let count = length (blocks_of config) in
     let end : count ≡ file_first config + config.pagefile + sum (extents config.procs) = all in
-    let sections = lengths_are 0 (file_first config) (page_counts config.sections) (omega arith) in
+    let sections = lengths_are 0 (file_first config) (block_counts config.sections) (omega arith) in
     let swaps = lengths_are (file_first config + config.pagefile) count (extents config.procs) end in
     let first : slice_index_or (swap_firsts config) 0 count ≡ file_first config + config.pagefile =
     ap (slice_index_or (swap_firsts config) 0) end ∙ first_head (file_first config + config.pagefile) (extents config.procs) in

@@ -3,6 +3,7 @@ use Rattle.std.specs.Prelude.{ℕ, ◌+◌, ◌++◌, List, [], ◌∷◌, Optio
 use Rattle.std.specs.List.{position_or_len, range_with_len}
 use Rattle.vm_types.specs.Configuration.{section_pages}
 use Rattle.vm_types.specs.Same.{same_block}
+use Rattle.vm_types.specs.SectionBlocks.{section_block_count}
 use Rattle.vm_types.specs.declared.config.Config.{Config}
 use Rattle.vm_types.specs.declared.config.ProcSpec.{ProcSpec}
 use Rattle.vm_types.specs.declared.config.Section.{Section}
@@ -23,11 +24,15 @@ swap_block p slot = block.Swap (record { 0 = p }) slot
 abbrev pub page_counts : List Section → List ℕ
 page_counts sections = map section_pages sections
 
+-- of section blocks, of which a section in the page file has none
+abbrev pub block_counts : List Section → List ℕ
+block_counts sections = map section_block_count sections
+
 abbrev pub extents : List ProcSpec → List ℕ
 extents procs = map (λ (spec : ProcSpec). spec.extent) procs
 
 abbrev pub section_blocks : List Section → List BlockId
-section_blocks sections = row_by_row section_block 0 (page_counts sections)
+section_blocks sections = row_by_row section_block 0 (block_counts sections)
 
 abbrev pub file_blocks : ℕ → List BlockId
 file_blocks size = map block.PageFile (range_with_len 0 size)

@@ -11,5 +11,5 @@ mod place;
 mod store;
 
 pub use lift::{Carried, Lift};
-pub use numbers::{block_count, firsts, page_counts};
+pub use numbers::{block_count, firsts, page_counts, section_block_count};
 pub use store::Store;

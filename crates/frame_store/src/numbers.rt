@@ -1,10 +1,11 @@
 ghost use Rattle.std.specs.Prelude.{◌≡◌, ◌+◌, ◌<◌, ◌^◌, IfOk, map, sum, length};
 ghost use Rattle.vm_types.specs.Configuration.{IsWellFormed, section_pages};
-ghost use Rattle.frame_store.specs.Blocks.{blocks_of, extents, page_counts};
+ghost use Rattle.vm_types.specs.SectionBlocks.{section_block_count};
+ghost use Rattle.frame_store.specs.Blocks.{block_counts, blocks_of, extents, page_counts};
 ghost use Rattle.frame_store.specs.Numbers.{AreNumbers, first_at, firsts, listed_by, number_by};
 
 use std::alloc::{AllocError, Global};
-use vm_types::{BlockId, Config, NoMemory, ProcSpec, Section};
+use vm_types::{BlockId, Config, NoMemory, ProcSpec, Section, SectionKind};
 
 /// The numbers of the first blocks of each section, of the page file, and of each process's swap space.
 #[derive(Drop)]
@@ -22,7 +23,7 @@ impl Numbers {
         ensures listed { IfOk result (λ n.
             listed_by n.sections.items n.file n.swaps.items (length (blocks_of config.now)) ≡ blocks_of config.now) }
     {
-        let pages = page_counts(alloc, config.sections.items())?;
+        let pages = block_counts(alloc, config.sections.items())?;
         let slots = extents(alloc, config.procs.items())?;
         let (sections, file) = firsts(alloc, 0, &pages)?;
         let (swaps, _) = firsts(alloc, file + config.pagefile, &slots)?;
@@ -65,6 +66,23 @@ pub fn page_counts(alloc: Global, sections: &[Section]) -> Result<Vec<usize>, Al
         .collect(alloc)
 }
 
+/// How many section blocks a section has: one for each page, and none in the page file.
+pub fn section_block_count(section: &Section) -> usize
+    ensures { result ≡ section_block_count section.now }
+{
+    match section.kind {
+        SectionKind::Shared | SectionKind::Crf => section.bytes.items().len() / 512,
+        SectionKind::Paged => 0,
+    }
+}
+
+/// How many section blocks each section has, in their order.
+fn block_counts(alloc: Global, sections: &[Section]) -> Result<Vec<usize>, AllocError>
+    ensures { IfOk result (λ counts. counts.items ≡ block_counts sections.now) }
+{
+    sections.iter().map(section_block_count).collect(alloc)
+}
+
 /// How many blocks a configuration has.
 ///
 /// # Errors
@@ -73,7 +91,7 @@ pub fn block_count(alloc: Global, config: &Config) -> Result<usize, NoMemory>
     requires { IsWellFormed config.now }
     ensures { IfOk result (λ n. n ≡ length (blocks_of config.now)) }
 {
-    let pages = page_counts(alloc, config.sections.items())?;
+    let pages = block_counts(alloc, config.sections.items())?;
     let slots = extents(alloc, config.procs.items())?;
     let (_, file) = firsts(alloc, 0, &pages)?;
     let (_, count) = firsts(alloc, file + config.pagefile, &slots)?;

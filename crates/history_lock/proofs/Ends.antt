@@ -22,7 +22,7 @@ use Rattle.history_lock.proofs.Facts.{Rule, not_inside}
 
 in_lives : (st : Stage) → IsIn st → IsLive st
 in_lives Idle i = absurd i
-in_lives (Joined ys) i = absurd i
+in_lives (Joined ys ks ms) i = absurd i
 in_lives (Waiting t) i = absurd i
 in_lives (Holding t) i = tt
 in_lives (Published t) i = tt
@@ -37,6 +37,7 @@ module _ {T B : Type 0} (journal : T → List Entry) (base : T → B) where
     seen = ([], refl);
     heard = ([], refl);
     own = λ k h. refl;
+    parts = tt;
   }
   one_fits b n some_pass (suc j) v e = absurd (some-ne-none v (sym e))
 

@@ -10,6 +10,7 @@ use lib.Seq.{set-get_or}
 use Rattle.atomic_table.specs.Table.{Me, step, Allows, Joins, keeps}
 use Rattle.atomic_table.proofs.Lists.{set_here, set_else}
 use Rattle.vm_journal.specs.declared.entry.Entry.{Entry}
+use Rattle.vm_journal.specs.Own.{own_entries}
 use Rattle.history_lock.specs.declared.view.View.{View}
 use Rattle.history_lock.specs.declared.stage.Stage.TheVariants.{Idle, Joined}
 use Rattle.history_lock.specs.Views.{tickets, longer, merged, gone}
@@ -48,6 +49,7 @@ module _ {T B : Type 0} (journal : T → List Entry) (base : T → B) (b : B) (s
         heard = gits.seen;
         own = λ k h. ⊎_elim (λ (a : Contains u.numbers k). own_between k u.seen (longer u.seen y.seen) r.present begin.0 long (fits.own k a))
             (λ (a : Contains y.numbers k). own_between k y.seen (longer u.seen y.seen) r.present begin.1 long (gits.own k a)) (Contains-append_cases u.numbers y.numbers k h);
+        parts = (λ k h a. fits.own k a, λ k h a. gits.own k a);
       } in
       let spent : K other gone = record {
         live = λ l. absurd l;
@@ -56,6 +58,7 @@ module _ {T B : Type 0} (journal : T → List Entry) (base : T → B) (b : B) (s
         seen = (r.present, refl);
         heard = (r.present, refl);
         own = λ k h. absurd (no_element k h);
+        parts = tt;
       } in
       let rest : (j : ℕ) (d : View B) → j ≢ id → get_elem? s.views j ≡ some d → j ≢ other → K j d = λ j d n₁ there n₂. let h = r.each j d there in record {
         live = h.live;
@@ -64,6 +67,7 @@ module _ {T B : Type 0} (journal : T → List Entry) (base : T → B) (b : B) (s
         seen = h.seen;
         heard = h.heard;
         own = h.own;
+        parts = h.parts;
       } in
       let first = set_each (λ j d. j ≢ other → K j d) s.views id m (λ _. mid) rest in
       let mine_now : get_elem? all id ≡ some m = set_else vs other id gone (λ e. apart (sym e)) ∙ set_here s.views id m (at_below s.views id v at) in
@@ -103,15 +107,17 @@ module _ {T B : Type 0} (journal : T → List Entry) (base : T → B) (b : B) (s
   pub joins : (id other : ℕ) (v w : View B) → v.stage ≡ Idle → w.stage ≡ Idle → Joins (Rule journal base b seats) id v other w (merged v w) gone
   joins id other v w e d = subst (λ (p : View B × View B). Joins (Rule journal base b seats) id p.0 other p.1 (merged p.0 p.1) gone) (λ i. (record v { stage = sym e i }, record w { stage = sym d i })) (joins_at id other v w)
 
-  settles_at : (n id : ℕ) (xs : List Entry) (u : View B) (c : List (ℕ × Option T)) → let v : View B = record u { stage = Joined xs } in
+  settles_at : (n id : ℕ) (xs : List Entry) (ks ms : List ℕ) (u : View B) (c : List (ℕ × Option T)) → let v : View B = record u { stage = Joined xs ks ms } in
       Allows (Rule journal base b seats) n id (v, c) 2 (λ y. y) (settled (step n 2 0 0 none) (v, c))
-  settles_at n id xs u c s r wide at _ = let v : View B = record u { stage = Joined xs } in let w : View B = record u { stage = Idle; seen = longer u.seen xs } in
+  settles_at n id xs ks ms u c s r wide at _ = let v : View B = record u { stage = Joined xs ks ms } in let w : View B = record u { stage = Idle; seen = longer u.seen xs } in
       let fits = r.each id v at in
       let f : View B → ℕ = λ x. tickets x.stage in let g : View B → ℕ = λ x. length x.numbers in
       let same : total f (set s.views id w) + 0 ≡ total f s.views + 0 = total-set f s.views id v w at in
       let as_many : total g (set s.views id w) + length u.numbers ≡ total g s.views + length u.numbers = total-set g s.views id v w at in
       let out : r.next ≡ r.serving + total f s.views = r.out in let many : total g s.views ≡ seats = r.many in
-      let begin = longer_begins u.seen xs r.present fits.seen fits.heard in (
+      let begin = longer_begins u.seen xs r.present fits.seen fits.heard in
+      let long : IsPrefix (longer u.seen xs) r.present = longer_has (λ l. IsPrefix l r.present) u.seen xs fits.seen fits.heard in
+      let between : (k : ℕ) (zs : List Entry) → IsPrefix zs (longer u.seen xs) → own_entries k r.present ≡ own_entries k zs → own_entries k r.present ≡ own_entries k (longer u.seen xs) = λ k zs p e. own_between k zs (longer u.seen xs) r.present p long e in (
         w,
         keeps,
         tt,
@@ -134,6 +140,7 @@ module _ {T B : Type 0} (journal : T → List Entry) (base : T → B) (b : B) (s
                 seen = longer_has (λ l. IsPrefix l r.present) u.seen xs fits.seen fits.heard;
                 heard = (r.present, refl);
                 own = fits.own;
+                parts = tt;
               }
               (λ j d other there. r.each j d there);
           owned = owned_stays seats r.owner s.views id v w at (λ k h. h) r.owned;
@@ -141,8 +148,16 @@ module _ {T B : Type 0} (journal : T → List Entry) (base : T → B) (b : B) (s
           slot = slot_stays journal base r.inside b r.present s.homes s.views (set s.views id w) (λ i e. set_else s.views id i w (not_inside journal base b seats s r id v at (λ z. z) i e)) r.slot;
           theirs = r.theirs;
         },
-        (refl, begin.0, begin.1),
+        (
+          refl,
+          begin.0,
+          begin.1,
+          (
+            λ k h a. sym (between k u.seen begin.0 (fits.parts.0 k h a)) ∙ fits.parts.0 k h a,
+            λ k h a. sym (between k xs begin.1 (fits.parts.1 k h a)) ∙ fits.parts.1 k h a,
+          ),
+        ),
       )
 
-  pub settles : (n id : ℕ) (xs : List Entry) (m : Me (Option T) (View B)) → m.0.stage ≡ Joined xs → Allows (Rule journal base b seats) n id m 2 (λ y. y) (settled (step n 2 0 0 none) m)
-  settles n id xs m e = subst (λ (v : View B). Allows (Rule journal base b seats) n id (v, m.1) 2 (λ y. y) (settled (step n 2 0 0 none) (v, m.1))) (λ i. record m.0 { stage = sym e i }) (settles_at n id xs m.0 m.1)
+  pub settles : (n id : ℕ) (xs : List Entry) (ks ms : List ℕ) (m : Me (Option T) (View B)) → m.0.stage ≡ Joined xs ks ms → Allows (Rule journal base b seats) n id m 2 (λ y. y) (settled (step n 2 0 0 none) m)
+  settles n id xs ks ms m e = subst (λ (v : View B). Allows (Rule journal base b seats) n id (v, m.1) 2 (λ y. y) (settled (step n 2 0 0 none) (v, m.1))) (λ i. record m.0 { stage = sym e i }) (settles_at n id xs ks ms m.0 m.1)

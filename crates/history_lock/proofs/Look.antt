@@ -59,6 +59,7 @@ module _ {T B : Type 0} (journal : T → List Entry) (base : T → B) (b : B) (s
                 seen = subst (λ (l : List Entry). IsPrefix (journal value) l) mine (prefix_self (journal value));
                 heard = (r.present, refl);
                 own = λ k h. ap (own_entries k) (sym mine);
+                parts = tt;
               }
               (λ j d other there. let h = r.each j d there in record {
                 live = h.live;
@@ -67,6 +68,7 @@ module _ {T B : Type 0} (journal : T → List Entry) (base : T → B) (b : B) (s
                 seen = h.seen;
                 heard = h.heard;
                 own = h.own;
+                parts = h.parts;
               });
           owned = owned_stays seats r.owner s.views id v w at (λ k h. h) r.owned;
           held = λ x l m. stays (λ (y : View B). IsTicketOf x y.stage) s.views (r.holder x) id v w at (λ z. z) (r.held x l m);

@@ -48,6 +48,7 @@ module _ {T B : Type 0} (journal : T → List Entry) (base : T → B) (b : B) (s
                 seen = fits.seen;
                 heard = fits.heard;
                 own = fits.own;
+                parts = tt;
               }
               (λ j d other there. let h = r.each j d there in record {
                 live = h.live;
@@ -56,6 +57,7 @@ module _ {T B : Type 0} (journal : T → List Entry) (base : T → B) (b : B) (s
                 seen = h.seen;
                 heard = h.heard;
                 own = h.own;
+                parts = h.parts;
               });
           owned = owned_stays seats r.owner s.views id v w at (λ k h. h) r.owned;
           held = λ x l m. let mine = fits.ticket.0 in stays (λ (y : View B). IsTicketOf x y.stage) s.views (r.holder x) id v w at (λ (z : t ≡ x). absurd (omega arith)) (r.held x (omega arith) m);

@@ -13,7 +13,7 @@ use Rattle.history_lock.specs.Plays.{published}
 use Rattle.history_lock.proofs.Prefixes.{prefix_self, prefix_trans}
 use Rattle.history_lock.proofs.Own.{own_same}
 use Rattle.history_lock.proofs.Sums.{total-set, set_each, at_below, at_one}
-use Rattle.history_lock.proofs.Facts.{Rule, wraps, stays, owned_stays}
+use Rattle.history_lock.proofs.Facts.{parts_later, Rule, wraps, stays, owned_stays}
 
 module _ {T B : Type 0} (journal : T → List Entry) (base : T → B) (b : B) (seats : ℕ) where
   publishes_at : (n id t added : ℕ) (u : View B) (value : T) → Adds u (journal value) → added + length u.seen ≡ length (journal value)
@@ -54,6 +54,7 @@ module _ {T B : Type 0} (journal : T → List Entry) (base : T → B) (b : B) (s
                 seen = prefix_self now;
                 heard = (now, refl);
                 own = λ k h. refl;
+                parts = tt;
               }
               (λ j d other there. let h = r.each j d there in record {
                 live = h.live;
@@ -62,6 +63,8 @@ module _ {T B : Type 0} (journal : T → List Entry) (base : T → B) (b : B) (s
                 seen = prefix_trans d.seen r.present now h.seen (later, whole);
                 heard = prefix_trans _ r.present now h.heard (later, whole);
                 own = λ k has. own_same k r.present later now whole (λ i e l is. other (sym (h.mine k has).0 ∙ (ap r.owner (sym is) ∙ (fits.mine _ (adds.2 i e l)).0))) ∙ h.own k has;
+                parts =
+                    parts_later d.numbers d.seen r.present now (λ k has. own_same k r.present later now whole (λ i e l is. other (sym (h.mine k has).0 ∙ (ap r.owner (sym is) ∙ (fits.mine _ (adds.2 i e l)).0)))) d.stage h.parts;
               });
           owned = owned_stays seats r.owner s.views id v w at (λ k h. h) r.owned;
           held = λ x l m. stays (λ (y : View B). IsTicketOf x y.stage) s.views (r.holder x) id v w at (λ z. z) (r.held x l m);

@@ -37,6 +37,7 @@ module _ {T B : Type 0} (journal : T → List Entry) (base : T → B) (b : B) (s
         seen = fits.seen;
         heard = fits.heard;
         own = λ i h. let same : k ≡ i = sole k i h in fits.own i (subst (λ (y : ℕ). Contains (k ∷ x ∷ ks) y) same (has_first k (x ∷ ks)));
+        parts = tt;
       } in
       let high : first z end = record {
         live = λ l. ((fits.live tt).0, omega arith);
@@ -45,6 +46,7 @@ module _ {T B : Type 0} (journal : T → List Entry) (base : T → B) (b : B) (s
         seen = fits.seen;
         heard = fits.heard;
         own = λ i h. fits.own i (has_later k i (x ∷ ks) h);
+        parts = tt;
       } in
       let rest : (j : ℕ) (d : View B) → j ≢ id → get_elem? s.views j ≡ some d → first d j = λ j d other there. let h = r.each j d there in record {
         live = h.live;
@@ -53,6 +55,7 @@ module _ {T B : Type 0} (journal : T → List Entry) (base : T → B) (b : B) (s
         seen = h.seen;
         heard = h.heard;
         own = h.own;
+        parts = h.parts;
       } in
       let there : (i : ℕ) (d : View B) → i ≢ id → get_elem? s.views i ≡ some d → get_elem? (vs ++ z ∷ []) i ≡ some d = λ i d other h. at_longer vs (z ∷ []) i d (set_else s.views id i w other ∙ h) in
       record {

@@ -49,6 +49,7 @@ module _ {T B : Type 0} (journal : T → List Entry) (base : T → B) (b : B) (s
                 seen = fits.seen;
                 heard = fits.heard;
                 own = fits.own;
+                parts = tt;
               }
               (λ j d other there. let h = r.each j d there in record {
                 live = h.live;
@@ -57,6 +58,7 @@ module _ {T B : Type 0} (journal : T → List Entry) (base : T → B) (b : B) (s
                 seen = h.seen;
                 heard = h.heard;
                 own = h.own;
+                parts = h.parts;
               });
           owned = owned_stays seats r.owner s.views id v w at (λ k h. h) r.owned;
           held = λ t l m. dite (ℕ_discrete t r.next) (λ e. (w, ap (λ (j : ℕ). get_elem? (set s.views id w) j) (ap (λ x. cond x id (r.holder t)) (eq-eqb t r.next e)) ∙ set_here s.views id w (at_below s.views id v at), sym e)) (λ n. let o = stays (λ (x : View B). IsTicketOf t x.stage) s.views (r.holder t) id v w at (λ z. absurd z) (r.held t l (omega arith)) in (o.0, ap (λ (j : ℕ). get_elem? (set s.views id w) j) (old t (omega arith)) ∙ o.1, o.2));

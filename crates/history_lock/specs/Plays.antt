@@ -6,6 +6,7 @@ use Rattle.vm_journal.specs.declared.entry.Entry.{Entry}
 use Rattle.history_lock.specs.declared.view.View.{View}
 use Rattle.history_lock.specs.declared.stage.Stage.TheVariants.{Idle, Waiting, Holding, Published}
 use Rattle.history_lock.specs.Views.{ticket, heard, told}
+use Rattle.history_lock.specs.Rule.{HasParts}
 use Rattle.history_lock.specs.Known.{Known}
 
 -- the journal of the value that the pass took last
@@ -22,9 +23,10 @@ module _ {T B : Type 0} where
   abbrev pub passed : Step (Option T) → Me (Option T) (View B) → ℕ → Me (Option T) (View B) → Type 0
   passed st m r n = n ≡ (record m.0 { stage = Idle }, rest m.1)
 
-  -- of the two journals that the pass has seen the longer begins with the other
+  -- of the two journals that the pass has seen the longer begins with the other, and has no more entries of the numbers
+  -- that came with each of them
   abbrev pub settled : Step (Option T) → Me (Option T) (View B) → ℕ → Me (Option T) (View B) → Type 0
-  settled st m r n = (n ≡ (record m.0 { stage = Idle; seen = told m.0.stage m.0.seen }, m.1)) × IsPrefix m.0.seen (told m.0.stage m.0.seen) × IsPrefix (heard m.0.stage) (told m.0.stage m.0.seen)
+  settled st m r n = (n ≡ (record m.0 { stage = Idle; seen = told m.0.stage m.0.seen }, m.1)) × IsPrefix m.0.seen (told m.0.stage m.0.seen) × IsPrefix (heard m.0.stage) (told m.0.stage m.0.seen) × HasParts m.0.numbers m.0.seen (told m.0.stage m.0.seen) m.0.stage
 
   -- the pass has seen the journal of the value that it holds
   abbrev pub published : (T → List Entry) → Step (Option T) → Me (Option T) (View B) → ℕ → Me (Option T) (View B) → Type 0

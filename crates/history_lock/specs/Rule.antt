@@ -18,7 +18,7 @@ total f (x ∷ xs) = f x + total f xs
 -- A view's ticket is one from `serving` on and below `next`, and `holder` names the view of each. The view that is inside has the ticket `serving`.
 abbrev pub HasTicket : (ℕ → ℕ) → StdOption ℕ → ℕ → ℕ → ℕ → Stage → Type 0
 HasTicket holder inside serving next j Idle = Unit {0}
-HasTicket holder inside serving next j (Joined ys) = Unit {0}
+HasTicket holder inside serving next j (Joined ys ks ms) = Unit {0}
 HasTicket holder inside serving next j (Waiting t) = (serving ≤ t) × (t < next) × (holder t ≡ j)
 HasTicket holder inside serving next j (Holding t) = (t ≡ serving) × (t < next) × (holder t ≡ j) × (inside ≡ Some j)
 HasTicket holder inside serving next j (Published t) = (t ≡ serving) × (t < next) × (holder t ≡ j) × (inside ≡ Some j)
@@ -27,11 +27,22 @@ HasTicket holder inside serving next j Spent = Unit {0}
 -- The pass has this ticket.
 abbrev pub IsTicketOf : ℕ → Stage → Type 0
 IsTicketOf t Idle = ⊥
-IsTicketOf t (Joined ys) = ⊥
+IsTicketOf t (Joined ys ks ms) = ⊥
 IsTicketOf t (Waiting own) = own ≡ t
 IsTicketOf t (Holding own) = own ≡ t
 IsTicketOf t (Published own) = own ≡ t
 IsTicketOf t Spent = ⊥
+
+-- Of a pass that has just taken in another one: what each of the two had seen has all entries of the numbers that it had.
+abbrev pub HasParts : List ℕ → List Entry → List Entry → Stage → Type 0
+HasParts numbers seen present Idle = Unit {0}
+HasParts numbers seen present (Joined ys ks ms) =
+    ((k : ℕ) → Contains numbers k → Contains ks k → own_entries k present ≡ own_entries k seen)
+    × ((k : ℕ) → Contains numbers k → Contains ms k → own_entries k present ≡ own_entries k ys)
+HasParts numbers seen present (Waiting t) = Unit {0}
+HasParts numbers seen present (Holding t) = Unit {0}
+HasParts numbers seen present (Published t) = Unit {0}
+HasParts numbers seen present Spent = Unit {0}
 
 -- What holds of the view at place j. All live views have the lock's base and own a number. `owner` names the view of
 -- each number. What a view has seen begins the present journal, and has all entries of its numbers there.
@@ -42,6 +53,7 @@ pub record Fits {B : Type 0} (b : B) (seats : ℕ) (owner holder : ℕ → ℕ) 
   pub seen : IsPrefix v.seen present
   pub heard : IsPrefix (heard v.stage) present
   pub own : (k : ℕ) → Contains v.numbers k → own_entries k present ≡ own_entries k (told v.stage v.seen)
+  pub parts : HasParts v.numbers v.seen present v.stage
 
 module _ {T B : Type 0} (journal : T → List Entry) (base : T → B) where
   -- The value is at home and has the present journal, or it is away with a view that knows this journal.

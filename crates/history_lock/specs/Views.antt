@@ -12,7 +12,7 @@ longer xs ys = if nat_lt (length xs) (length ys) then ys else xs
 
 abbrev pub ticket : Stage → ℕ
 ticket Idle = 0
-ticket (Joined ys) = 0
+ticket (Joined ys ks ms) = 0
 ticket (Waiting t) = t
 ticket (Holding t) = t
 ticket (Published t) = t
@@ -21,7 +21,7 @@ ticket Spent = 0
 -- how many tickets a pass has
 abbrev pub tickets : Stage → ℕ
 tickets Idle = 0
-tickets (Joined ys) = 0
+tickets (Joined ys ks ms) = 0
 tickets (Waiting t) = 1
 tickets (Holding t) = 1
 tickets (Published t) = 1
@@ -30,7 +30,7 @@ tickets Spent = 0
 -- the journal that the pass which was taken in has seen
 abbrev pub heard : Stage → List Entry
 heard Idle = []
-heard (Joined ys) = ys
+heard (Joined ys ks ms) = ys
 heard (Waiting t) = []
 heard (Holding t) = []
 heard (Published t) = []
@@ -39,7 +39,7 @@ heard Spent = []
 -- the longer of the journals that a pass has seen itself and by the pass which it took in
 abbrev pub told : Stage → List Entry → List Entry
 told Idle xs = xs
-told (Joined ys) xs = longer xs ys
+told (Joined ys ks ms) xs = longer xs ys
 told (Waiting t) xs = xs
 told (Holding t) xs = xs
 told (Published t) xs = xs
@@ -48,7 +48,7 @@ told Spent xs = xs
 -- the value is away with the pass
 abbrev pub IsIn : Stage → Type 0
 IsIn Idle = ⊥
-IsIn (Joined ys) = ⊥
+IsIn (Joined ys ks ms) = ⊥
 IsIn (Waiting t) = ⊥
 IsIn (Holding t) = Unit {0}
 IsIn (Published t) = Unit {0}
@@ -56,7 +56,7 @@ IsIn Spent = ⊥
 
 abbrev pub IsLive : Stage → Type 0
 IsLive Idle = Unit {0}
-IsLive (Joined ys) = Unit {0}
+IsLive (Joined ys ks ms) = Unit {0}
 IsLive (Waiting t) = Unit {0}
 IsLive (Holding t) = Unit {0}
 IsLive (Published t) = Unit {0}
@@ -89,7 +89,7 @@ module _ {B : Type 0} where
 
   -- a join gives the first pass both sets of numbers, and it keeps both journals
   abbrev pub merged : View B → View B → View B
-  merged v w = record v { stage = Joined w.seen; numbers = v.numbers ++ w.numbers }
+  merged v w = record v { stage = Joined w.seen v.numbers w.numbers; numbers = v.numbers ++ w.numbers }
 
   abbrev pub gone : View B
   gone = record { stage = Spent; seen = []; numbers = []; base = None }

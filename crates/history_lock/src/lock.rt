@@ -1,4 +1,5 @@
-ghost use Rattle.std.specs.Prelude.{◌≡◌, ℕ, ◌<◌, [], ◌∷◌, ◌++◌, length, slice_get, IfOk, Some};
+ghost use Rattle.std.specs.Prelude.{◌≡◌, ℕ, ◌<◌, [], ◌∷◌, ◌++◌, length, slice_get, Contains, IfOk, Some};
+ghost use Rattle.vm_journal.specs.Own.{own_entries};
 ghost use mathlib.Core.List.{IsPrefix};
 ghost use Rattle.history_lock.specs.Known.{Known, Adds, OwnsAll};
 ghost use Rattle.history_lock.specs.Views.{unseen, longer};
@@ -109,6 +110,8 @@ impl<T: Kept + Drop> HistoryLock<T> {
         ensures seen { seen pass.new ≡ longer (seen pass.old) (seen other) }
         ensures begins { IsPrefix (seen pass.old) (seen pass.new) }
         ensures other_begins { IsPrefix (seen other) (seen pass.new) }
+        ensures entries { (k : ℕ) → Contains (numbers pass.old) k → own_entries k (seen pass.new) ≡ own_entries k (seen pass.old) }
+        ensures other_entries { (k : ℕ) → Contains (numbers other) k → own_entries k (seen pass.new) ≡ own_entries k (seen other) }
         ensures base { base_of pass.new ≡ base_of pass.old }
         ensures same { IsSameLock pass.old pass.new }
     {

@@ -5,8 +5,9 @@ use vm_journal::Entry;
 pub enum Stage {
     /// It has no ticket.
     Idle,
-    /// It took in another pass, which had seen this journal.
-    Joined(LinkedList<Entry>),
+    /// It took in another pass, which had seen this journal. The first numbers are those that it had
+    /// itself, and the others those that the other pass brought.
+    Joined(LinkedList<Entry>, LinkedList<u32>, LinkedList<u32>),
     /// It has this ticket, and its turn hasn't come.
     Waiting(u64),
     /// Its turn has come, and it holds the value.

@@ -155,7 +155,9 @@ fn add_service<const CAP: usize>(out: &mut ArrayVec<u8, CAP>, s: Service)
         Service::Delete { at, pages }
         | Service::Lock { at, pages }
         | Service::Unlock { at, pages }
-        | Service::Purge { at, pages } => add_range(out, at, pages),
+        | Service::Purge { at, pages }
+        | Service::Pin { at, pages }
+        | Service::Unpin { at, pages } => add_range(out, at, pages),
         Service::Adjust { limit } => {
             out.push(b' ');
             push_count(out, limit);

@@ -112,6 +112,10 @@ pub(crate) fn take_service(words: &mut Words<'_>) -> Option<Service>
         Some(Service::Unlock { at, pages })
     } else if is(name, b"PURGWS") {
         Some(Service::Purge { at, pages })
+    } else if is(name, b"LCKPAG") {
+        Some(Service::Pin { at, pages })
+    } else if is(name, b"ULKPAG") {
+        Some(Service::Unpin { at, pages })
     } else {
         None
     }

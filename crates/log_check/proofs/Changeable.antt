@@ -36,9 +36,9 @@ use Rattle.pager_laws.proofs.RunsAreSound.{run_kept}
 use Rattle.pager_rules.proofs.Lists.{all_found}
 use Rattle.pager_rules.proofs.Put.{head_counts}
 use Rattle.pager_rules.specs.Kept.{FitsDirection, FitsFlight, IsKept, views}
+use Rattle.page_holders.proofs.Holders.{free_is, holds_within}
+use Rattle.page_holders.proofs.ValidEntries.{mapping_of, valid_at_page}
 use Rattle.state_fits.proofs.FlightsMoved.{flight_within}
-use Rattle.state_fits.proofs.Holders.{free_is, holds_within}
-use Rattle.state_fits.proofs.ValidEntries.{mapping_of, valid_at_page}
 use Rattle.log_pager.specs.Roles.{IsOfProcess}
 use Rattle.log_pager.specs.Shown.{Shown}
 use Rattle.log_rows.specs.Follows.{Follows}

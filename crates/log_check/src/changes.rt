@@ -85,7 +85,7 @@ fn change_own(
         What::Done { r, reply: _ } => pager.done(past.config(), own, r),
         What::Denied { r: _, why: _ } => pager.denied(own),
         What::Served { s, answer } => pager.served(past.config(), own, s, answer),
-        What::Zero { a, f } => pager.zero(own, a, f),
+        What::Zero { a, f } => pager.zero(past.config(), own, a, f),
         What::Collide { a: _, f: _, k } => {
             pager.collide(own, k);
             Ok(())

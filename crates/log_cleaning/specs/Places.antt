@@ -13,4 +13,4 @@ abbrev pub IsSmall : Place → Type 0
 IsSmall x = x.slot < 1024
 
 abbrev pub seen_as : Seen → SeenIs
-seen_as s = record { vpn = s.vpn; frame = (s.frame).0; page = s.page; locked = s.locked }
+seen_as s = record { vpn = s.vpn; frame = (s.frame).0; page = s.page; pinned = s.pinned }

@@ -1,10 +1,12 @@
 ghost use Rattle.std.specs.Prelude.{◌≡◌, ◌+◌, Some, nat_eq};
 ghost use Rattle.vm_types.specs.declared.names.BlockId.TheVariants.{PageFile};
 ghost use Rattle.pager_model.specs.InTurn.{is_next_block};
-ghost use Rattle.pager_model.specs.WriteCluster.{block_out, if_next, is_free_block, lowest_free, new_block};
+ghost use Rattle.pager_model.specs.Lookups.{block_of};
+ghost use Rattle.pager_model.specs.WriteCluster.{block_out, filed_block, if_next, is_free_block, lowest_free, new_block, paged_block};
 ghost use Rattle.log_pager.specs.Shown.{shown};
 
 use log_pager::LogPager;
+use log_tables::is_paged;
 use vm_types::{BlockId, Config, Page};
 
 /// Whether a number is the one after another.
@@ -97,6 +99,33 @@ fn new_block(config: &Config, pager: &LogPager, last: Option<BlockId>) -> Option
     }
 }
 
+/// The block to which a paged page is written behind the last block of a cluster: the one that is
+/// assigned to it, or a new one; none if it doesn't adjoin that one.
+fn paged_block(
+    config: &Config,
+    pager: &LogPager,
+    last: Option<BlockId>,
+    page: Page,
+) -> Option<BlockId>
+    ensures { result ≡ paged_block config.now (shown pager.now).pager last (block_of (shown pager.now).pager.assigned page) }
+{
+    match pager.block_of(page) {
+        Some(n) => if_next(last, BlockId::PageFile(n)),
+        None => new_block(config, pager, last),
+    }
+}
+
+/// The block to which a page with a file is written behind the last block of a cluster: the one in which
+/// it lies; none if it doesn't adjoin that one.
+fn filed_block(pager: &LogPager, last: Option<BlockId>, page: Page) -> Option<BlockId>
+    ensures { result ≡ filed_block last ((shown pager.now).pager.lies page) }
+{
+    match pager.lies(page) {
+        Some(b) => if_next(last, b),
+        None => None,
+    }
+}
+
 /// The block to which a page of the modified list is written behind the last block of a cluster; none if
 /// it doesn't adjoin that one.
 fn page_block(
@@ -107,16 +136,10 @@ fn page_block(
 ) -> Option<BlockId>
     ensures { result ≡ block_out config.now (shown pager.now).pager last (Some page) }
 {
-    match page {
-        Page::Private(..) => match pager.block_of(page) {
-            Some(n) => if_next(last, BlockId::PageFile(n)),
-            None => new_block(config, pager, last),
-        },
-        Page::Shared(..) => match pager.lies(page) {
-            Some(b) => if_next(last, b),
-            None => None,
-        },
+    if is_paged(config, page) {
+        return paged_block(config, pager, last, page);
     }
+    filed_block(pager, last, page)
 }
 
 /// The same of a page that a frame may hold; none if it holds none.

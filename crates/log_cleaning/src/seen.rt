@@ -9,13 +9,14 @@ ghost use Rattle.log_cleaning.specs.Places.{seen_as};
 use log_pager::LogPager;
 use vm_types::{Page, Pfn, Proc};
 
-/// What stands in a slot: the page number, and by its valid entry the frame and the page.
+/// What stands in a slot: the page number, by its valid entry the frame and the page, and whether that
+/// is pinned.
 #[derive(Clone, Copy, Debug)]
 pub(crate) struct Seen {
     pub(crate) vpn: u32,
     pub(crate) frame: Pfn,
     pub(crate) page: Page,
-    pub(crate) locked: bool,
+    pub(crate) pinned: bool,
 }
 
 /// What stands in a slot of a process.
@@ -30,7 +31,7 @@ pub(crate) fn see(pager: &LogPager, p: Proc, n: u32) -> Option<Seen>
         vpn,
         frame,
         page,
-        locked: held.is_locked(),
+        pinned: held.is_pinned(),
     })
 }
 

@@ -130,6 +130,8 @@ service_take (service.Delete at pages) formed = room 32 (omega arith) (word (sho
 service_take (service.Lock at pages) formed = room 32 (omega arith) (word (short {n = 6} (omega arith)) (range_take at.0 pages formed))
 service_take (service.Unlock at pages) formed = room 32 (omega arith) (word (short {n = 6} (omega arith)) (range_take at.0 pages formed))
 service_take (service.Purge at pages) formed = room 32 (omega arith) (word (short {n = 6} (omega arith)) (range_take at.0 pages formed))
+service_take (service.Pin at pages) formed = room 32 (omega arith) (word (short {n = 6} (omega arith)) (range_take at.0 pages formed))
+service_take (service.Unpin at pages) formed = room 32 (omega arith) (word (short {n = 6} (omega arith)) (range_take at.0 pages formed))
 service_take (service.Adjust limit) formed = room 32 (omega arith) (word (short {n = 6} (omega arith)) (word (small_most limit formed) none))
 
 answer_take : (a : Answer) → HasAnswerWords a → Take 21 (answer_words a)

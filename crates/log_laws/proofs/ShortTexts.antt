@@ -7,6 +7,7 @@ use Rattle.std.proofs.lemmas.List.FromFn.{get_or-range_with_len, length-map-rang
 use Rattle.std.proofs.lemmas.List.Sums.{count_by-le-length, get_or-le-sum_by, sum_by-cons}
 use Rattle.std.proofs.lemmas.Option.{get_or_from_slice_get, slice_get_within}
 use Rattle.vm_types.specs.Configuration.{IsWellFormed, section_pages}
+use Rattle.vm_types.specs.Kinds.{is_shared_kind}
 use Rattle.vm_types.specs.Ring.{is_filled_slot}
 use Rattle.vm_types.specs.Same.{same_state}
 use Rattle.vm_types.specs.declared.config.Config.{Config}
@@ -24,16 +25,17 @@ use Rattle.pager_model.specs.Flights.{open_flights}
 use Rattle.pager_model.specs.Lookups.{shares}
 use Rattle.pager_model.specs.OfConfig.{IsMappable, IsOfConfig, IsPageOf}
 use Rattle.pager_model.specs.Pager.{Pager}
-use Rattle.pager_model.specs.Report.{FrameRow, ProcessRow, Report, all_states, frame_row, frame_rows, in_state, process_row, refs_of, report_of}
+use Rattle.pager_model.specs.Report.{FrameRow, ProcessRow, Report, all_states, frame_row, frame_rows, in_state, pins_on, process_row, refs_of, report_of}
 use Rattle.pager_model.specs.Run.{IsRun, pager_after}
 use Rattle.pager_model.specs.Text.{dirty_lines, dirty_pages, empty_text, ended, frame_line, frame_lines, held_text, is_dirty, page_file_text, pages_from, process_lines, process_text, states_text, status_line}
 use Rattle.pager_model.specs.Transfers.{reads_on, writes_on}
 use Rattle.pager_rules.specs.Kept.{IsKept}
 use Rattle.pager_laws.proofs.OfConfigKept.{run_right}
 use Rattle.pager_laws.proofs.RunsAreSound.{run_kept}
+use Rattle.page_holders.proofs.Pins.{few_pins}
+use Rattle.page_holders.proofs.RingBounds.{bounded}
 use Rattle.state_fits.proofs.FewShares.{few_shares}
 use Rattle.state_fits.proofs.FlightsMoved.{on_frame_counts, one_on_frame}
-use Rattle.state_fits.proofs.RingBounds.{bounded}
 use Rattle.state_fits.proofs.UnchargedPage.{assigned_fit}
 use Rattle.log_model.specs.Stand.{ending_after, report_after, status_of}
 use Rattle.log_laws.proofs.Rooms.{IsShort, both_short, line_short, none_short}
@@ -150,8 +152,8 @@ module _ (procs : ℕ) (names : List Section) (few : length names ≤ 64) where
   from_named s [] sized most = All-nil (IsNamedPage procs names)
   from_named s (section ∷ sections) sized most =
       let all = sum_by-cons section_pages section sections in
-      All-append (IsNamedPage procs names) (if section.shared then map (Shared (record { 0 = s })) (range_with_len 0 (section_pages section)) else []) (pages_from (s + 1) sections)
-      (own_named s (section_pages section) section.shared (omega (arith, sized)) (omega (arith, most, all))) (from_named (s + 1) sections (omega (arith, sized)) (omega (arith, most, all)))
+      All-append (IsNamedPage procs names) (if is_shared_kind section.kind then map (Shared (record { 0 = s })) (range_with_len 0 (section_pages section)) else []) (pages_from (s + 1) sections)
+      (own_named s (section_pages section) (is_shared_kind section.kind) (omega (arith, sized)) (omega (arith, most, all))) (from_named (s + 1) sections (omega (arith, sized)) (omega (arith, most, all)))
 
 -- ---- the texts of a run
 module _ (config : Config) (past : List Entry) (formed : IsWellFormed config) (run : IsRun config past) where
@@ -165,11 +167,11 @@ module _ (config : Config) (past : List Entry) (formed : IsWellFormed config) (r
   right = run_right config past formed run
 
   refs_small : (f : ℕ) → IsSmall (refs_of past a f)
-  refs_small f = go (nat_lt 0 (shares a.valid f)) (omega (arith, on_frame_counts f (open_flights past), one_on_frame config (past_view past) a f kept))
+  refs_small f = go (nat_lt 0 (shares a.valid f)) (omega (arith, on_frame_counts f (open_flights past), one_on_frame config (past_view past) a f kept)) (omega (arith, few_pins a f, few_shares config (past_view past) a f formed kept right))
     where
-      go : (b : Bool) → reads_on f (open_flights past) + writes_on f (open_flights past) ≤ 1 → IsSmall ((if b then 1 else 0) + (reads_on f (open_flights past) + writes_on f (open_flights past)))
-      go true few = omega (arith, few)
-      go false few = omega (arith, few)
+      go : (b : Bool) → reads_on f (open_flights past) + writes_on f (open_flights past) ≤ 1 → pins_on a f ≤ 2 ^ 26 → IsSmall (((if b then 1 else 0) + (reads_on f (open_flights past) + writes_on f (open_flights past))) + pins_on a f)
+      go true few pins = omega (arith, few, pins)
+      go false few pins = omega (arith, few, pins)
 
   frames_short : (f n : ℕ) → f + n < 2 ^ 64 → IsShort (frame_lines config.sections f (map (frame_row past a) (range_with_len f n)))
   frames_short f zero few = none_short

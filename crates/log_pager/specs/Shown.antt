@@ -42,7 +42,7 @@ shown s =
         valid = s.valid.items;
         charged = s.charged.items;
         touched = s.touched.items;
-        lies = lies_in s.lies.items;
+        lies = lies_in s.kinds.items s.lies.items;
         assigned = s.assigned.items;
       };
     }

@@ -15,7 +15,7 @@ ghost use Rattle.pager_model.specs.Sets.{has_page};
 
 use crate::changes::more;
 use crate::log_pager::LogPager;
-use log_tables::{is_of_section, is_own, is_same, put_first, remove, remove_page};
+use log_tables::{is_of_section, is_own, is_paged, is_same, put_first, remove, remove_page};
 use vm_types::{BlockId, Config, FrameState, NoMemory, Op, Page, Pfn, Proc, Ref};
 
 /// A copy on reference page whose read from its section block failed is no longer charged.
@@ -46,14 +46,14 @@ fn has(pages: &[Page], page: Page) -> bool
     pages.iter().any(|other| is_same(page, *other))
 }
 
-/// A private page is touched.
-fn touch(touched: &mut Vec<Page>, page: Option<Page>) -> Result<(), NoMemory>
-    ensures { OnOk result (touched.new.items ≡ touched_at touched.old.items page) }
+/// A page that has a block of the page file is touched.
+fn touch(config: &Config, touched: &mut Vec<Page>, page: Option<Page>) -> Result<(), NoMemory>
+    ensures { OnOk result (touched.new.items ≡ touched_at config.now touched.old.items page) }
 {
     let Some(page) = page else {
         return Ok(());
     };
-    if is_own(page) && !has(touched, page) {
+    if is_paged(config, page) && !has(touched, page) {
         put_first(touched, page)?;
     }
     Ok(())
@@ -94,7 +94,7 @@ impl LogPager {
         let v = r.addr.0 / 512;
         let page = self.page_of(config, p, v);
         self.references[process] = more(self.references[process])?;
-        touch(&mut self.touched, page)?;
+        touch(config, &mut self.touched, page)?;
         if changes(r.op) {
             if let Some(entry) = self.entry(p, v) {
                 self.marks[entry.frame().0 as usize] = true;

@@ -2,16 +2,15 @@
 #![tactic(auto, unfolding(crate::specs::Shown::shown))]
 
 ghost use Rattle.std.specs.Prelude.{◌≡◌, ◌+◌, ◌<◌, IfOk, OnOk};
-ghost use Rattle.vm_types.specs.declared.config.Config.{Config};
 ghost use Rattle.pager_model.specs.Collide.{after_collide};
 ghost use Rattle.pager_model.specs.Denied.{after_denied};
 ghost use Rattle.pager_model.specs.Limit.{after_limit};
 ghost use Rattle.pager_model.specs.Turn.{after_turn};
-ghost use Rattle.pager_model.specs.Zero.{after_zero};
+ghost use Rattle.pager_model.specs.Zero.{after_zero, zeroed_page};
 
 use crate::log_pager::LogPager;
-use log_tables::{ValidEntry, put_first, remove};
-use vm_types::{Addr, FrameState, NoMemory, Page, Pfn, Proc, ProcStatus};
+use log_tables::{ValidEntry, page_behind, put_first, remove};
+use vm_types::{Addr, Config, FrameState, NoMemory, Page, Pfn, Proc, ProcStatus};
 
 /// One more.
 pub(crate) fn more(count: u64) -> Result<u64, NoMemory>
@@ -23,18 +22,28 @@ pub(crate) fn more(count: u64) -> Result<u64, NoMemory>
 impl LogPager {
     ghost use Rattle.log_pager.specs.Shown.{shown, with_pager};
 
-    /// A demand zero page gets its first frame.
+    /// The page of zeros that a process gets at a page number.
+    pub fn zeroed_page(&self, config: &Config, p: Proc, v: u32) -> Page
+        ensures { result ≡ zeroed_page config.now p.0 v ((shown self.now).pager.map p.0 v) }
+    {
+        match self.mapping(p, v) {
+            None => Page::Private(p, v),
+            Some(behind) => page_behind(config, p, v, behind.origin()),
+        }
+    }
+
+    /// A demand zero page, or one of a section in the page file, gets its first frame.
     ///
     /// # Errors
     /// `NoMemory` if out of memory or if a count is full; the state is then not to be used again.
-    pub fn zero(&mut self, p: Proc, a: Addr, f: Pfn) -> Result<(), NoMemory>
+    pub fn zero(&mut self, config: &Config, p: Proc, a: Addr, f: Pfn) -> Result<(), NoMemory>
         requires process { p.0 < (shown self.old).processes }
         requires frame { f.0 < (shown self.old).frames }
-        ensures { OnOk result ((config : Config) → shown self.new ≡ with_pager (shown self.old) (after_zero config (shown self.old).pager p.0 a.0 f.0)) }
+        ensures { OnOk result (shown self.new ≡ with_pager (shown self.old) (after_zero config.now (shown self.old).pager p.0 a.0 f.0)) }
     {
         let (process, frame) = (p.0 as usize, f.0 as usize);
         let v = a.0 / 512;
-        let page = Page::Private(p, v);
+        let page = self.zeroed_page(config, p, v);
         self.faults[process] = more(self.faults[process])?;
         put_first(&mut self.valid, ValidEntry::new(p, v, f))?;
         put_first(&mut self.charged, page)?;

@@ -36,7 +36,7 @@ fn place_of(held: &[Option<Page>], page: Page) -> usize
 
 /// The number, if it is below the count.
 fn below(number: usize, count: usize) -> Option<u32>
-    requires { count ≤ 4096 }
+    requires { count ≤ 16384 }
     ensures number { result ≡ (if nat_lt number count then Some number else None) }
     ensures within { IfSome result (λ n. n < count) }
 {
@@ -49,7 +49,7 @@ fn below(number: usize, count: usize) -> Option<u32>
 
 /// The first frame that holds a page.
 fn holder_in(held: &[Option<Page>], page: Page) -> Option<u32>
-    requires { length held.now ≤ 4096 }
+    requires { length held.now ≤ 16384 }
     ensures holds { result ≡ position (holds_page page) held.now }
     ensures within { IfSome result (λ f. f < length held.now) }
 {
@@ -105,7 +105,7 @@ impl LogPager {
     fn erase(&mut self, page: Page) -> Result<(), NoMemory>
         ensures { OnOk result (shown self.new ≡ with_pager (shown self.old) (erased (shown self.old).pager page)) }
     {
-        lay(&mut self.lies, page, None)?;
+        lay(&self.kinds, &mut self.lies, page, None)?;
         remove_page(&mut self.charged, page);
         remove_page(&mut self.touched, page);
         unassign(&mut self.assigned, page);

@@ -34,9 +34,9 @@ impl LogPager {
     {
         let (process, frame) = (q.0 as usize, f.0 as usize);
         let v = a.0 / 512;
-        let slot = slot_lying(&self.lies, self.held[frame]);
+        let slot = slot_lying(&self.kinds, &self.lies, self.held[frame]);
         put_first(&mut self.valid, ValidEntry::new(q, v, f))?;
-        lay_nowhere(&mut self.lies, self.held[frame])?;
+        lay_nowhere(&self.kinds, &mut self.lies, self.held[frame])?;
         self.states[frame] = FrameState::Active;
         self.marks[frame] = true;
         remove(&mut self.free, f.0);

@@ -4,6 +4,7 @@ ghost use Rattle.std.specs.Prelude.{◌≡◌, ◌*◌, ◌≤◌, All, IfOk, le
 ghost use Rattle.std.specs.List.{range_with_len};
 ghost use Rattle.vm_types.specs.Configuration.{IsWellFormed};
 ghost use Rattle.vm_types.specs.declared.config.ProcSpec.{ProcSpec as Spec};
+ghost use Rattle.vm_types.specs.declared.config.Section.{Section as SectionOf};
 ghost use Rattle.pager_model.specs.Opening.{first_state, is_bad, opening};
 ghost use Rattle.pager_model.specs.Sets.{has};
 ghost use Rattle.log_tables.specs.Rings.{empty_ring};
@@ -11,7 +12,9 @@ ghost use Rattle.log_tables.specs.Rings.{empty_ring};
 use crate::frames::push_if;
 use log_tables::{AssignedBlock, Behind, Lying, Ring, ValidEntry, pages_of};
 use std::alloc::Global;
-use vm_types::{Config, FrameState, NoMemory, Page, Pfn, ProcSpec, ProcStatus};
+use vm_types::{
+    Config, FrameState, NoMemory, Page, Pfn, ProcSpec, ProcStatus, Section, SectionKind,
+};
 
 /// The pager's state after a part of a log: tables by the number of a frame, of a process, and of a
 /// page's place, and lists. A method that makes a change is given what the change's entry says.
@@ -35,7 +38,9 @@ pub struct LogPager {
     /// Each page at most once, and no page that lies where it lies at first.
     pub(crate) lies: Vec<Lying>,
     pub(crate) assigned: Vec<AssignedBlock>,
-    ghost few: { vec_len states ≤ 4096 },
+    /// The kinds of the sections, which say where a page lies at first.
+    pub(crate) kinds: Vec<SectionKind>,
+    ghost few: { vec_len states ≤ 16384 },
     ghost each_held: { vec_len held ≡ vec_len states },
     ghost each_mark: { vec_len marks ≡ vec_len states },
     ghost each_ring: { vec_len rings ≡ vec_len statuses },
@@ -117,6 +122,17 @@ fn limits_of(alloc: Global, procs: &[ProcSpec]) -> Result<Vec<u32>, NoMemory>
     Ok(limits)
 }
 
+/// The kind of each section.
+fn kinds_of(alloc: Global, sections: &[Section]) -> Result<Vec<SectionKind>, NoMemory>
+    ensures { IfOk result (λ kinds. kinds.items ≡ map (λ (section : SectionOf). section.kind) sections.now) }
+{
+    let mut kinds = Vec::new(alloc);
+    for section in sections {
+        kinds.push(section.kind)?;
+    }
+    Ok(kinds)
+}
+
 impl LogPager {
     ghost use Rattle.log_pager.specs.Shown.{shown};
 
@@ -135,6 +151,7 @@ impl LogPager {
         let frames = config.frames as usize;
         let procs = config.procs.items();
         let count = procs.len();
+        let sections = config.sections.items();
         Ok(LogPager {
             states: states_of(alloc, config)?,
             held: vec![in alloc; None; frames]?,
@@ -153,6 +170,7 @@ impl LogPager {
             touched: Vec::new(alloc),
             lies: Vec::new(alloc),
             assigned: Vec::new(alloc),
+            kinds: kinds_of(alloc, sections)?,
         })
     }
 }

@@ -1,8 +1,10 @@
 //! What is read off the tables.
 #![tactic(auto, unfolding(crate::specs::Shown::shown))]
 
-ghost use Rattle.std.specs.Prelude.{◌≡◌, ◌<◌, ◌↔◌, IsTrue, count_by, find, length};
-ghost use Rattle.pager_model.specs.Lookups.{IsHead, block_of, count_page, entries_at, entry_of, is_assigned_to, is_owner, page_by, shares};
+ghost use Rattle.std.specs.Prelude.{◌≡◌, ◌<◌, ◌↔◌, IsTrue, count_by, find, length, slice_get};
+ghost use Rattle.vm_types.specs.Ring.{is_pinned_slot};
+ghost use Rattle.pager_model.specs.Lookups.{IsHead, block_of, count_page, entries_at, entry_of, is_assigned_to, is_owner, page_by, shares, slot_of, slot_with};
+ghost use Rattle.pager_model.specs.Report.{is_pin_on, pins_on};
 ghost use Rattle.pager_model.specs.Sets.{has_page};
 
 use crate::log_pager::LogPager;
@@ -162,6 +164,33 @@ impl LogPager {
             .count()
     }
 
+    /// Whether the slot of a process's page is pinned.
+    fn is_pinned(&self, p: Proc, v: u32) -> bool
+        ensures { result ≡ is_pinned_slot (slot_of (slice_get ((shown self.now).pager.ring p.0).slots (slot_with ((shown self.now).pager.ring p.0) v))) }
+    {
+        match self.rings.get(p.0 as usize) {
+            Some(ring) => ring.is_pinned(ring.slot_with(v)),
+            None => false,
+        }
+    }
+
+    /// Whether a valid entry is for a frame and its slot is pinned.
+    fn is_pin_on(&self, f: Pfn, entry: ValidEntry) -> bool
+        ensures { result ≡ is_pin_on (shown self.now).pager f.0 entry }
+    {
+        entry.frame().0 == f.0 && self.is_pinned(entry.proc(), entry.vpn())
+    }
+
+    /// How many pinned slots have a valid entry for a frame.
+    pub fn pins(&self, f: Pfn) -> usize
+        ensures { result ≡ pins_on (shown self.now).pager f.0 }
+    {
+        self.valid
+            .iter()
+            .filter(|entry| self.is_pin_on(f, **entry))
+            .count()
+    }
+
     /// How many pages are charged.
     pub fn charged_pages(&self) -> usize
         ensures { result ≡ length (shown self.now).pager.charged }
@@ -190,7 +219,7 @@ impl LogPager {
     pub fn lies(&self, page: Page) -> Option<BlockId>
         ensures { result ≡ (shown self.now).pager.lies page }
     {
-        lies_in(&self.lies, page)
+        lies_in(&self.kinds, &self.lies, page)
     }
 
     /// The page file block that is assigned to a page.

@@ -7,7 +7,7 @@ ghost use Rattle.vm_types.specs.WellFormed.{IsRange, IsWellFormedService};
 ghost use Rattle.vm_types.specs.declared.config.Config.{Config as ConfigValue};
 ghost use Rattle.pager_model.specs.FlatService.{demand_zero, with_prot};
 ghost use Rattle.pager_model.specs.Forget.{after_delete, remapped};
-ghost use Rattle.pager_model.specs.Ring.{range_locked};
+ghost use Rattle.pager_model.specs.Ring.{range_locked, range_pinned};
 ghost use Rattle.pager_model.specs.Served.{after_served, with_limit, with_ring};
 
 use crate::log_pager::LogPager;
@@ -65,6 +65,15 @@ impl LogPager {
         self.rings[p.0 as usize].lock_range(lock, at, pages);
     }
 
+    /// The pages of a range are pinned, or unpinned.
+    fn pin(&mut self, p: Proc, pin: bool, at: Addr, pages: u32)
+        requires { p.0 < (shown self.old).processes }
+        ensures { shown self.new ≡ with_pager (shown self.old)
+            (with_ring (shown self.old).pager p.0 (range_pinned pin at.0 pages ((shown self.old).pager.ring p.0))) }
+    {
+        self.rings[p.0 as usize].pin_range(pin, at, pages);
+    }
+
     /// The limit is set.
     fn adjust(&mut self, p: Proc, limit: u32)
         requires { p.0 < (shown self.old).processes }
@@ -94,7 +103,11 @@ impl LogPager {
                 self.adjust(p, limit);
                 Ok(())
             }
-            Service::Lock { .. } | Service::Unlock { .. } | Service::Purge { .. } => Ok(()),
+            Service::Lock { .. }
+            | Service::Unlock { .. }
+            | Service::Purge { .. }
+            | Service::Pin { .. }
+            | Service::Unpin { .. } => Ok(()),
         }
     }
 
@@ -106,6 +119,8 @@ impl LogPager {
         match s {
             Service::Lock { at, pages } => self.lock(p, true, at, pages),
             Service::Unlock { at, pages } => self.lock(p, false, at, pages),
+            Service::Pin { at, pages } => self.pin(p, true, at, pages),
+            Service::Unpin { at, pages } => self.pin(p, false, at, pages),
             Service::Create { .. }
             | Service::Delete { .. }
             | Service::Protect { .. }

@@ -153,7 +153,7 @@ impl LogPager {
         let (process, frame) = (q.0 as usize, f.0 as usize);
         let v = a.0 / 512;
         put_first(&mut self.valid, ValidEntry::new(q, v, f))?;
-        lay_nowhere(&mut self.lies, self.held[frame])?;
+        lay_nowhere(&self.kinds, &mut self.lies, self.held[frame])?;
         self.states[frame] = FrameState::Active;
         self.marks[frame] = true;
         self.rings[process].put(slot_of(Some(block)), v);
@@ -238,7 +238,13 @@ impl LogPager {
         let modified = self.marks[frame];
         push_if(both(unshared, !modified), &mut self.free, f)?;
         push_if(both(unshared, modified), &mut self.modified, f)?;
-        lay_at(&mut self.lies, modified, self.held[frame], block)?;
+        lay_at(
+            &self.kinds,
+            &mut self.lies,
+            modified,
+            self.held[frame],
+            block,
+        )?;
         self.states[frame] = landed(unshared, modified, self.states[frame]);
         Ok(())
     }

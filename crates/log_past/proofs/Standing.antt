@@ -213,8 +213,8 @@ answered_if_none config past left kept are says order = (
 pub tasks_below : (config : Config) → IsWellFormed config → AreOf config.body (length config.procs)
 tasks_below config formed t task is =
     let within = slice_get_within config.body t task is in
-    let each = All-get_or (IsTask (length config.procs)) config.body t task within formed.body in
-    (subst (IsTask (length config.procs)) (get_or_from_slice_get config.body t task task is) each).proc
+    let each = All-get_or (IsTask config.version (length config.procs)) config.body t task within formed.body in
+    (subst (IsTask config.version (length config.procs)) (get_or_from_slice_get config.body t task task is) each).proc
 
 pub stands_at_first : (config : Config) (carriers : List Carrying) (left : Left) → carriers ≡ replicate (length config.procs + 2) no_carrier → ((p : ℕ) → left_of left p ≡ requests_of p config.body)
     → StandsFor config [] 0 [] None carriers [] left

@@ -7,10 +7,12 @@ use Rattle.pager_model.specs.Flights.{open_flights}
 use Rattle.pager_model.specs.Lookups.{shares}
 use Rattle.pager_model.specs.OfConfig.{IsOfConfig}
 use Rattle.pager_model.specs.Pager.{Pager}
+use Rattle.pager_model.specs.Report.{pins_on}
 use Rattle.pager_model.specs.Transfers.{reads_on, writes_on}
 use Rattle.pager_rules.specs.Kept.{IsKept}
 use Rattle.pager_laws.proofs.OfConfigKept.{run_right}
 use Rattle.pager_laws.proofs.RunsAreSound.{run_kept}
+use Rattle.page_holders.proofs.Pins.{few_pins}
 use Rattle.state_fits.proofs.FewShares.{few_shares}
 use Rattle.state_fits.proofs.FlightsMoved.{on_frame_counts, one_on_frame}
 use Rattle.state_fits.proofs.UnchargedPage.{assigned_fit}
@@ -26,6 +28,9 @@ module _ (config : Config) (past : List Entry) (s : Shown) (shows : ShowsRun con
 
   pub small_shares : (f : ℕ) → shares (s.pager).valid f < 2 ^ 32
   small_shares f = omega (arith, few_shares config (past_view past) s.pager f shows.formed kept right)
+
+  pub small_pins : (f : ℕ) → pins_on s.pager f < 2 ^ 31
+  small_pins f = omega (arith, few_pins s.pager f, few_shares config (past_view past) s.pager f shows.formed kept right)
 
   pub one_flight : (f : ℕ) → reads_on f (open_flights past) + writes_on f (open_flights past) ≤ 1
   one_flight f = omega (arith, on_frame_counts f (open_flights past), one_on_frame config (past_view past) s.pager f kept)

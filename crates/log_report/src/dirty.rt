@@ -11,7 +11,7 @@ ghost use Rattle.log_report.specs.SharedPages.{shared_pages_of};
 
 use log_pager::LogPager;
 use std::alloc::Global;
-use vm_types::{Config, NoMemory, Page, Pfn, SecId, Section};
+use vm_types::{Config, NoMemory, Page, Pfn, SecId, Section, is_shared_kind};
 
 /// Whether both are the same page.
 fn is_same(one: Page, other: Page) -> bool
@@ -59,7 +59,7 @@ fn add_pages(s: SecId, section: &Section, pages: &mut Vec<Page>) -> Result<(), N
     requires { section_pages section.now ≤ 16384 }
     ensures { OnOk result (pages.new.items ≡ pages.old.items ++ shared_pages_of s.0 section.now) }
 {
-    if !section.shared {
+    if !is_shared_kind(section.kind) {
         return Ok(());
     }
     let bytes = section.bytes.items();

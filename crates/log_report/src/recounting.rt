@@ -21,13 +21,18 @@ fn narrowed(count: usize) -> u32
     count as u32
 }
 
-/// The references to a frame with these shares and open transfers: one for its valid entries together,
-/// and one for each transfer.
-fn refs(shares: u32, flights: u32) -> u32
-    requires { flights ≤ 1 }
-    ensures { result ≡ (if nat_lt 0 shares then 1 else 0) + flights }
+/// The references to a frame with these shares, open transfers and pins: one for its valid entries
+/// together, one for each transfer, and one for each pin.
+fn refs(shares: u32, flights: u32, pins: u32) -> u32
+    requires flights { flights ≤ 1 }
+    requires pins { pins < 2 ^ 31 }
+    ensures { result ≡ ((if nat_lt 0 shares then 1 else 0) + flights) + pins }
 {
-    if 0 < shares { 1 + flights } else { flights }
+    if 0 < shares {
+        1 + flights + pins
+    } else {
+        flights + pins
+    }
 }
 
 /// A frame as the report has it.
@@ -37,11 +42,12 @@ fn frame_row(past: &LogPast<'_>, pager: &LogPager, f: Pfn) -> FrameRow
 {
     let shares = narrowed(pager.shares(f));
     let flights = narrowed(past.flights_on(f));
+    let pins = narrowed(pager.pins(f));
     FrameRow {
         state: pager.state(f),
         page: pager.page(f),
         modify: pager.is_modified(f),
-        refs: refs(shares, flights),
+        refs: refs(shares, flights, pins),
         shares,
     }
 }

@@ -6,7 +6,8 @@ ghost use Rattle.pager_model.specs.Flights.{open_flights};
 ghost use Rattle.pager_model.specs.Transfers.{IsHome};
 
 use log_past::LogPast;
-use vm_types::{BlockId, Config, Proc, SecId, Section};
+use log_tables::is_paged;
+use vm_types::{BlockId, Config, Page, Proc, SecId, Section};
 
 /// Whether a section has a page of this number.
 fn has_page(sections: &[Section], s: SecId, page: u32) -> bool
@@ -33,7 +34,9 @@ fn is_block(config: &Config, block: BlockId) -> bool
     ensures { IsTrue result ↔ IsBlock config.now block }
 {
     match block {
-        BlockId::Section(s, page) => has_page(config.sections.items(), s, page),
+        BlockId::Section(s, page) => {
+            has_page(config.sections.items(), s, page) && !is_paged(config, Page::Shared(s, page))
+        }
         BlockId::PageFile(b) => b < config.pagefile,
         BlockId::Swap(p, n) => has_slot(config, p, n),
     }

@@ -1,7 +1,7 @@
 //! EVICT: a page leaves a working set.
 
 ghost use Rattle.std.specs.Prelude.{◌≡◌, ◌↔◌, ◌+◌, ◌<◌, ℕ, false, true, Some, IsTrue, length, slice_get};
-ghost use Rattle.vm_types.specs.Ring.{Held as HeldPage, choose};
+ghost use Rattle.vm_types.specs.Ring.{Held as HeldPage, choose, is_fixed};
 ghost use Rattle.vm_types.specs.declared.names.Page.{Page as AnyPage};
 ghost use Rattle.pager_model.specs.Evict.{IsDropped, IsEvict, IsLeavingEvict, IsReplace, IsRundownEvict, IsTaken, Waits, evicted_to};
 ghost use Rattle.pager_model.specs.Flights.{open_flights};
@@ -89,14 +89,14 @@ fn is_replace(
         && waits(past, pager, to)
 }
 
-/// Whether a page may leave its slot; one that is purged isn't locked.
+/// Whether a page may leave its slot; one that is purged is neither locked nor pinned.
 #[tactic(auto, using(crate::proofs::Slots::held_there, crate::proofs::Slots::none_there))]
 fn may_drop(ring: &Ring, v: u32, purged: bool) -> bool
-    ensures { IsTrue result ↔ ((held : HeldPage) → slice_get ring.now.slots (slot_with ring.now v) ≡ Some (Some held) → purged ≡ true → held.locked ≡ false) }
+    ensures { IsTrue result ↔ ((held : HeldPage) → slice_get ring.now.slots (slot_with ring.now v) ≡ Some (Some held) → purged ≡ true → is_fixed held ≡ false) }
 {
     match ring.at(ring.slot_with(v)) {
         None => true,
-        Some(held) => !purged || !held.is_locked(),
+        Some(held) => !purged || !held.is_fixed(),
     }
 }
 
@@ -138,6 +138,17 @@ fn is_written(past: &LogPast<'_>, pager: &LogPager, f: Pfn, block: BlockId) -> b
     }
 }
 
+/// Whether the slot of a page has it not pinned.
+#[tactic(auto, using(crate::proofs::Slots::held_there, crate::proofs::Slots::none_there))]
+fn is_unpinned(ring: &Ring, v: u32) -> bool
+    ensures { IsTrue result ↔ ((held : HeldPage) → slice_get ring.now.slots (slot_with ring.now v) ≡ Some (Some held) → held.pinned ≡ false) }
+{
+    match ring.at(ring.slot_with(v)) {
+        None => true,
+        Some(held) => !held.is_pinned(),
+    }
+}
+
 /// Whether a page of a leaving process may leave.
 fn is_leaving(
     past: &LogPast<'_>,
@@ -153,6 +164,7 @@ fn is_leaving(
     let v = a.0 / 512;
     let block = BlockId::Swap(p, pager.ring(p).slot_with(v));
     pager.status(p) == ProcStatus::Leaving
+        && is_unpinned(pager.ring(p), v)
         && is_taken(past, pager, p, v, f, to)
         && is_written(past, pager, f, block)
         && waits(past, pager, to)

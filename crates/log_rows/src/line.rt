@@ -143,6 +143,8 @@ fn is_service(s: Service) -> bool
         Service::Lock { at, pages } => is_range(at, pages),
         Service::Unlock { at, pages } => is_range(at, pages),
         Service::Purge { at, pages } => is_range(at, pages),
+        Service::Pin { at, pages } => is_range(at, pages),
+        Service::Unpin { at, pages } => is_range(at, pages),
         Service::Adjust { limit: _ } => true,
     }
 }

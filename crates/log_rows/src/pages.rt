@@ -1,17 +1,18 @@
-//! REUSE, ZERO and BACK: a frame gives up its page, gets a demand zero page, or keeps its page, which
-//! comes back.
+//! REUSE, ZERO and BACK: a frame gives up its page, gets a page of zeros, or keeps its page, which comes
+//! back.
 
 ghost use Rattle.std.specs.Prelude.{◌≡◌, ◌↔◌, ◌<◌, ℕ, Some, IsTrue, length};
 ghost use Rattle.pager_model.specs.Back.{IsAnyBack, IsBack, IsBackComing, may_come_back};
+ghost use Rattle.pager_model.specs.Lookups.{count_page};
 ghost use Rattle.pager_model.specs.Maps.{proc};
 ghost use Rattle.pager_model.specs.Reuse.{IsReuse, IsReuseFailed, IsReuseFree};
-ghost use Rattle.pager_model.specs.Zero.{IsDemandZero, IsZero};
+ghost use Rattle.pager_model.specs.Zero.{IsDemandZero, IsZero, is_zero_origin, zeroed_page};
 ghost use Rattle.vm_types.specs.declared.names.BlockId.{BlockId as Block};
 ghost use Rattle.log_pager.specs.Shown.{shown};
 
 use log_pager::LogPager;
 use log_past::LogPast;
-use log_tables::Behind;
+use log_tables::{Behind, is_paged};
 use service_rows::{is_below_limit, is_empty_head, is_own};
 use vm_types::{Addr, BlockId, Config, FrameState, Origin, Page, Pfn, Proc, ProcStatus, Seat};
 
@@ -39,17 +40,35 @@ pub(crate) fn is_reuse(past: &LogPast<'_>, pager: &LogPager, seat: Seat, f: Pfn,
     is_reuse_free(pager, f, page) || is_reuse_failed(past, pager, seat, f, page)
 }
 
-/// Whether zeros are behind a page.
-fn is_demand_zero(behind: Option<Behind>) -> bool
-    ensures { IsTrue result ↔ IsDemandZero behind }
+/// Whether a page over this is made of zeros at first: a demand zero page, or one of a section in the
+/// page file.
+fn is_zero_origin(config: &Config, origin: Origin) -> bool
+    ensures { result ≡ is_zero_origin config.now origin }
 {
-    match behind {
-        None => false,
-        Some(behind) => behind.origin() == Origin::Zero,
+    match origin {
+        Origin::Zero => true,
+        Origin::Section(s, i) => is_paged(config, Page::Shared(s, i)),
     }
 }
 
-/// Whether a demand zero page of a seat's process may get the frame.
+/// Whether zeros are behind a page.
+fn is_demand_zero(config: &Config, behind: Option<Behind>) -> bool
+    ensures { IsTrue result ↔ IsDemandZero config.now behind }
+{
+    match behind {
+        None => false,
+        Some(behind) => is_zero_origin(config, behind.origin()),
+    }
+}
+
+/// Whether the page that is made of zeros there isn't charged.
+fn is_uncharged(config: &Config, pager: &LogPager, p: Proc, v: u32) -> bool
+    ensures { IsTrue result ↔ (count_page (shown pager.now).pager.charged (zeroed_page config.now p.0 v ((shown pager.now).pager.map p.0 v)) ≡ 0) }
+{
+    pager.charges(pager.zeroed_page(config, p, v)) == 0
+}
+
+/// Whether a page of zeros of a seat's process may get the frame.
 pub(crate) fn is_zero(config: &Config, pager: &LogPager, seat: Seat, a: Addr, f: Pfn) -> bool
     requires { (shown pager.now).processes ≡ length config.now.procs }
     ensures { IsTrue result ↔ IsZero config.now (shown pager.now).pager seat.0 a.0 f.0 }
@@ -57,8 +76,8 @@ pub(crate) fn is_zero(config: &Config, pager: &LogPager, seat: Seat, a: Addr, f:
     let p = Proc(seat.0);
     let v = a.0 / 512;
     is_own(config, pager, p)
-        && is_demand_zero(pager.mapping(p, v))
-        && pager.charges(Page::Private(p, v)) == 0
+        && is_demand_zero(config, pager.mapping(p, v))
+        && is_uncharged(config, pager, p, v)
         && pager.charged_pages() < config.pagefile as usize
         && is_below_limit(pager, p)
         && is_empty_head(pager, f)

@@ -96,7 +96,7 @@ fn is_turned(past: &LogPast<'_>, pager: &LogPager, p: Proc, status: ProcStatus) 
     match status {
         ProcStatus::Leaving => may_leave(past, pager, p),
         ProcStatus::Gone => {
-            pager.status(p) == ProcStatus::Leaving && pager.ring(p).filled() == 0
+            pager.status(p) == ProcStatus::Leaving && pager.ring(p).unpinned() == 0
         }
         ProcStatus::Coming => pager.status(p) == ProcStatus::Gone && pager.none_is_coming(),
         ProcStatus::Resident => {

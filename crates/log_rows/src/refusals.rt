@@ -9,8 +9,7 @@ ghost use Rattle.pager_model.specs.OfConfig.{MapsRight};
 ghost use Rattle.log_pager.specs.Shown.{shown};
 
 use log_pager::LogPager;
-use log_tables::Behind;
-use service_rows::is_private;
+use log_tables::{Behind, is_paged};
 use vm_types::{Config, Op, Page, Proc, Ref, Why, allowed};
 
 /// Whether an operation changes a page.
@@ -35,7 +34,9 @@ pub(crate) fn is_allowed(behind: Behind, r: Ref) -> bool
 fn is_page_file_full(config: &Config, pager: &LogPager, page: Page) -> bool
     ensures { (stored : AnyPage → List ℕ) → result ≡ is_page_file_full config.now (record { map = (shown pager.now).pager.map; touched = (shown pager.now).pager.touched; stored = stored }) page }
 {
-    is_private(page) && !pager.is_touched(page) && pager.touched_pages() == config.pagefile as usize
+    is_paged(config, page)
+        && !pager.is_touched(page)
+        && pager.touched_pages() == config.pagefile as usize
 }
 
 /// Whether the page file has no block for the first touch of a mapped page.

@@ -29,7 +29,7 @@ fn is_legal_what(past: &LogPast<'_>, pager: &LogPager, seat: Seat, what: What) -
     requires line { WhatHasLine (length past.now.config.procs) past.now.config.sections what }
     requires seat { seat.0 < length past.now.config.procs + 2 }
     requires processes { (shown pager.now).processes ≡ length past.now.config.procs }
-    requires frames { (shown pager.now).frames ≤ 4096 }
+    requires frames { (shown pager.now).frames ≤ 16384 }
     requires flat { FollowsFlat past.now.config past.now.past (shown pager.now).pager }
     requires order { IsInOrder past.now.config past.now.past }
     ensures { IsTrue result ↔ IsLegalWhat past.now.config past.now.past (shown pager.now).pager seat.0 what }

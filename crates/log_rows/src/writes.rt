@@ -1,9 +1,9 @@
 //! OUT: a write begins.
 
-ghost use Rattle.std.specs.Prelude.{◌≡◌, ◌↔◌, ◌⊎◌, ◌<◌, true, None, Some, IsTrue, count_by, length, slice_get};
+ghost use Rattle.std.specs.Prelude.{◌≡◌, ◌↔◌, ◌⊎◌, ◌<◌, false, true, None, Some, IsTrue, count_by, length, slice_get};
 ghost use Rattle.vm_types.specs.Ring.{Held};
 ghost use Rattle.pager_model.specs.Lookups.{block_of, entry_of, is_owner};
-ghost use Rattle.pager_model.specs.Maps.{is_private};
+ghost use Rattle.pager_model.specs.Maps.{is_paged};
 ghost use Rattle.pager_model.specs.Out.{IsAnyOut, IsOut, IsOutBlock, IsOutSwap};
 ghost use Rattle.pager_model.specs.Pager.{Valid};
 ghost use Rattle.log_pager.specs.Shown.{shown};
@@ -11,10 +11,11 @@ ghost use Rattle.log_pager.specs.Shown.{shown};
 use crate::blocks::is_home;
 use log_pager::LogPager;
 use log_past::LogPast;
+use log_tables::is_paged;
 use service_rows::is_private;
 use vm_types::{BlockId, Config, Page, Pfn, Proc, ProcStatus};
 
-/// Whether a listed private page may be written to a page file block: the one that is assigned to it
+/// Whether a listed paged page may be written to a page file block: the one that is assigned to it
 /// or, if none is, a free one.
 fn is_own_block(config: &Config, pager: &LogPager, n: u32, page: Page) -> bool
     ensures { IsTrue result ↔ ((block_of (shown pager.now).pager.assigned page ≡ Some n)
@@ -26,9 +27,9 @@ fn is_own_block(config: &Config, pager: &LogPager, n: u32, page: Page) -> bool
     }
 }
 
-/// Whether a page file block is the one to which a listed private page is to be written.
+/// Whether a page file block is the one to which a listed paged page is to be written.
 fn is_paged_block(config: &Config, pager: &LogPager, n: u32, page: Page) -> bool
-    requires { is_private page ≡ true }
+    requires { is_paged config.now page ≡ true }
     ensures { IsTrue result ↔ IsOutBlock config.now (shown pager.now).pager (BlockId.PageFile n) page }
 {
     is_own_block(config, pager, n, page)
@@ -38,7 +39,7 @@ fn is_paged_block(config: &Config, pager: &LogPager, n: u32, page: Page) -> bool
 fn is_out_block(config: &Config, pager: &LogPager, block: BlockId, page: Page) -> bool
     ensures { IsTrue result ↔ IsOutBlock config.now (shown pager.now).pager block page }
 {
-    if !is_private(page) {
+    if !is_paged(config, page) {
         return pager.lies(page) == Some(block);
     }
     match block {
@@ -61,18 +62,18 @@ fn is_out_listed(past: &LogPast<'_>, pager: &LogPager, f: Pfn, block: BlockId) -
     }
 }
 
-/// Whether the slot of a process has a page that is valid in the frame.
+/// Whether the slot of a process has a page that is valid in the frame and not pinned.
 #[tactic(auto, using(crate::proofs::Slots::held_there, crate::proofs::Slots::none_there))]
 fn is_slot_of(pager: &LogPager, p: Proc, slot: u32, f: Pfn) -> bool
     requires { p.0 < (shown pager.now).processes }
     ensures { IsTrue result ↔ ((held : Held) × (entry : Valid) × (slice_get ((shown pager.now).pager.ring p.0).slots slot ≡ Some (Some held))
-        × (entry_of (shown pager.now).pager.valid p.0 held.vpn ≡ Some entry) × (entry.frame ≡ f.0)) }
+        × (entry_of (shown pager.now).pager.valid p.0 held.vpn ≡ Some entry) × (entry.frame ≡ f.0) × (held.pinned ≡ false)) }
 {
     match pager.ring(p).at(slot) {
         None => false,
         Some(held) => match pager.entry(p, held.vpn()) {
             None => false,
-            Some(entry) => entry.frame().0 == f.0,
+            Some(entry) => entry.frame().0 == f.0 && !held.is_pinned(),
         },
     }
 }

@@ -1,2 +1,2 @@
-mod Lies
+pub mod Lies
 mod Places

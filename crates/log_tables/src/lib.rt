@@ -15,8 +15,8 @@ pub use behind::Behind;
 pub use held::Held;
 pub use laying::{clear_range, pages_of, protect_range, zero_range};
 pub use lists::{
-    is_of_section, is_own, is_same, lay, lay_at, lay_nowhere, lies_in, page_behind, put_first,
-    remove, remove_page, slot_lying, slot_of,
+    is_of_section, is_own, is_paged, is_same, lay, lay_at, lay_nowhere, lies_in, page_behind,
+    put_first, remove, remove_page, slot_lying, slot_of,
 };
 pub use lying::Lying;
 pub use ring::Ring;

@@ -5,14 +5,13 @@ ghost use Rattle.vm_types.specs.Same.{same_page};
 ghost use Rattle.page_lists.specs.Lists.{without};
 ghost use Rattle.pager_model.specs.Back.{block_slot, lies_of};
 ghost use Rattle.pager_model.specs.Changes.{is_section_block, lies_nowhere, without_page};
-ghost use Rattle.pager_model.specs.Maps.{is_private, page_behind, shared_of};
-ghost use Rattle.pager_model.specs.Opening.{first_block};
+ghost use Rattle.pager_model.specs.Maps.{is_paged, is_private, page_behind, paged_of, shared_of};
 ghost use Rattle.pager_model.specs.OutLanding.{lies_at};
 ghost use Rattle.pager_model.specs.Sets.{at_page};
-ghost use Rattle.log_tables.specs.Lying.{is_lying, lies_in};
+ghost use Rattle.log_tables.specs.Lying.{first_by, is_lying, lies_in};
 
 use crate::lying::Lying;
-use vm_types::{BlockId, Config, NoMemory, Origin, Page, Proc, SecId};
+use vm_types::{BlockId, Config, NoMemory, Origin, Page, Proc, SecId, SectionKind};
 
 /// Whether both are the same page.
 pub fn is_same(one: Page, other: Page) -> bool
@@ -46,23 +45,53 @@ pub fn is_of_section(block: BlockId) -> bool
     }
 }
 
-/// Where a page lies at first: a section's page in its block, another one nowhere.
-fn first_block(page: Page) -> Option<BlockId>
-    ensures { result ≡ first_block page }
+/// Where a page lies at first, by the kinds of the sections: a page of a section with a file in its
+/// block, another one nowhere.
+fn first_block(kinds: &[SectionKind], page: Page) -> Option<BlockId>
+    ensures { result ≡ first_by kinds.now page }
 {
     match page {
         Page::Private(_, _) => None,
-        Page::Shared(s, i) => Some(BlockId::Section(s, i)),
+        Page::Shared(s, i) => match kinds.get(s.0 as usize) {
+            Some(SectionKind::Paged) => None,
+            Some(SectionKind::Shared | SectionKind::Crf) | None => Some(BlockId::Section(s, i)),
+        },
     }
 }
 
-/// Whether a section is shared; one that is not there isn't.
+/// Whether a section's pages are shared; those of one that is not there aren't.
 fn is_shared(config: &Config, s: SecId) -> bool
     ensures { result ≡ shared_of (slice_get config.now.sections s.0) }
 {
     match config.sections.items().get(s.0 as usize) {
         None => false,
-        Some(section) => section.shared,
+        Some(section) => match section.kind {
+            SectionKind::Shared | SectionKind::Paged => true,
+            SectionKind::Crf => false,
+        },
+    }
+}
+
+/// Whether a section is in the page file; one that is not there isn't.
+fn is_paged_section(config: &Config, s: SecId) -> bool
+    ensures { result ≡ paged_of (slice_get config.now.sections s.0) }
+{
+    match config.sections.items().get(s.0 as usize) {
+        None => false,
+        Some(section) => match section.kind {
+            SectionKind::Paged => true,
+            SectionKind::Shared | SectionKind::Crf => false,
+        },
+    }
+}
+
+/// Whether the page has a block of the page file.
+pub fn is_paged(config: &Config, page: Page) -> bool
+    ensures { result ≡ is_paged config.now page }
+{
+    match page {
+        Page::Private(_, _) => true,
+        Page::Shared(s, _) => is_paged_section(config, s),
     }
 }
 
@@ -115,12 +144,12 @@ fn lying_of(lies: &[Lying], page: Page) -> Option<Lying>
 }
 
 /// The block in which a page lies.
-pub fn lies_in(lies: &[Lying], page: Page) -> Option<BlockId>
-    ensures { result ≡ lies_in lies.now page }
+pub fn lies_in(kinds: &[SectionKind], lies: &[Lying], page: Page) -> Option<BlockId>
+    ensures { result ≡ lies_in kinds.now lies.now page }
 {
     match lying_of(lies, page) {
         Some(lying) => lying.block,
-        None => first_block(page),
+        None => first_block(kinds, page),
     }
 }
 
@@ -128,8 +157,13 @@ pub fn lies_in(lies: &[Lying], page: Page) -> Option<BlockId>
 ///
 /// # Errors
 /// `NoMemory` if out of memory; the list is then not to be used again.
-pub fn lay(lies: &mut Vec<Lying>, page: Page, block: Option<BlockId>) -> Result<(), NoMemory>
-    ensures { OnOk result (lies_in lies.new.items ≡ at_page (lies_in lies.old.items) page block) }
+pub fn lay(
+    kinds: &[SectionKind],
+    lies: &mut Vec<Lying>,
+    page: Page,
+    block: Option<BlockId>,
+) -> Result<(), NoMemory>
+    ensures { OnOk result (lies_in kinds.now lies.new.items ≡ at_page (lies_in kinds.now lies.old.items) page block) }
 {
     lies.retain(|lying| !is_same(lying.page, page));
     put_first(lies, Lying { page, block })
@@ -139,12 +173,16 @@ pub fn lay(lies: &mut Vec<Lying>, page: Page, block: Option<BlockId>) -> Result<
 ///
 /// # Errors
 /// `NoMemory` if out of memory; the list is then not to be used again.
-pub fn lay_nowhere(lies: &mut Vec<Lying>, page: Option<Page>) -> Result<(), NoMemory>
-    ensures { OnOk result (lies_in lies.new.items ≡ lies_nowhere (lies_in lies.old.items) page) }
+pub fn lay_nowhere(
+    kinds: &[SectionKind],
+    lies: &mut Vec<Lying>,
+    page: Option<Page>,
+) -> Result<(), NoMemory>
+    ensures { OnOk result (lies_in kinds.now lies.new.items ≡ lies_nowhere (lies_in kinds.now lies.old.items) page) }
 {
     match page {
         None => Ok(()),
-        Some(page) => lay(lies, page, None),
+        Some(page) => lay(kinds, lies, page, None),
     }
 }
 
@@ -153,12 +191,13 @@ pub fn lay_nowhere(lies: &mut Vec<Lying>, page: Option<Page>) -> Result<(), NoMe
 /// # Errors
 /// `NoMemory` if out of memory; the list is then not to be used again.
 pub fn lay_at(
+    kinds: &[SectionKind],
     lies: &mut Vec<Lying>,
     modified: bool,
     page: Option<Page>,
     block: BlockId,
 ) -> Result<(), NoMemory>
-    ensures { OnOk result (lies_in lies.new.items ≡ lies_at (lies_in lies.old.items) modified page block) }
+    ensures { OnOk result (lies_in kinds.now lies.new.items ≡ lies_at (lies_in kinds.now lies.old.items) modified page block) }
 {
     match page {
         None => Ok(()),
@@ -166,19 +205,19 @@ pub fn lay_at(
             if modified {
                 Ok(())
             } else {
-                lay(lies, page, Some(block))
+                lay(kinds, lies, page, Some(block))
             }
         }
     }
 }
 
 /// The slot in whose swap block the page, if there is one, lies.
-pub fn slot_lying(lies: &[Lying], page: Option<Page>) -> u32
-    ensures { result ≡ block_slot (lies_of (lies_in lies.now) page) }
+pub fn slot_lying(kinds: &[SectionKind], lies: &[Lying], page: Option<Page>) -> u32
+    ensures { result ≡ block_slot (lies_of (lies_in kinds.now lies.now) page) }
 {
     match page {
         None => 0,
-        Some(page) => slot_of(lies_in(lies, page)),
+        Some(page) => slot_of(lies_in(kinds, lies, page)),
     }
 }
 

@@ -1,11 +1,11 @@
 ghost use Rattle.std.specs.Prelude.{◌≡◌, ◌+◌, ◌%◌, ◌++◌, ◌<◌, ◌≤◌, true, IfOk, count_by, drop, length, map, position, replicate, slice_get, slice_set, take};
-ghost use Rattle.vm_types.specs.Ring.{choose, filled, is_empty_slot, is_filled_slot, is_locked_slot, is_unlocked_slot, locked};
+ghost use Rattle.vm_types.specs.Ring.{choose, filled, fixed, is_empty_slot, is_filled_slot, is_fixed_slot, is_locked_slot, is_loose_slot, is_pinned_slot, is_unpinned_slot, unpinned};
 ghost use Rattle.vm_journal.specs.declared.entry.EvictWhy.{EvictWhy};
 ghost use Rattle.pager_model.specs.Evict.{evicted_ring, victim_of};
 ghost use Rattle.pager_model.specs.FlatService.{in_range};
 ghost use Rattle.pager_model.specs.Lookups.{has_vpn, slot_of, slot_with};
-ghost use Rattle.pager_model.specs.Served.{is_locked_in, is_slot_in};
-ghost use Rattle.pager_model.specs.Ring.{cleared, placed, range_locked, relocked_slot, slotted, unlocked, unlocked_slot};
+ghost use Rattle.pager_model.specs.Served.{is_fixed_in, is_locked_in, is_pinned_in, is_slot_in};
+ghost use Rattle.pager_model.specs.Ring.{cleared, placed, range_locked, range_pinned, relocked_slot, repinned_slot, slotted, unlocked, unlocked_slot};
 
 use crate::held::Held;
 use std::alloc::Global;
@@ -52,11 +52,32 @@ fn is_locked(slot: Option<Held>) -> bool
     slot.is_some_and(Held::is_locked)
 }
 
-/// Whether the slot holds a page that is not locked.
-fn is_unlocked(slot: Option<Held>) -> bool
-    ensures { result ≡ is_unlocked_slot slot }
+/// Whether the slot holds a pinned page.
+fn is_pinned(slot: Option<Held>) -> bool
+    ensures { result ≡ is_pinned_slot slot }
 {
-    slot.is_some_and(|held| !held.is_locked())
+    slot.is_some_and(Held::is_pinned)
+}
+
+/// Whether the slot holds a page that is not pinned.
+fn is_unpinned(slot: Option<Held>) -> bool
+    ensures { result ≡ is_unpinned_slot slot }
+{
+    slot.is_some_and(|held| !held.is_pinned())
+}
+
+/// Whether the slot holds a page that is locked or pinned.
+fn is_fixed(slot: Option<Held>) -> bool
+    ensures { result ≡ is_fixed_slot slot }
+{
+    slot.is_some_and(Held::is_fixed)
+}
+
+/// Whether the slot holds a page that is neither locked nor pinned.
+fn is_loose(slot: Option<Held>) -> bool
+    ensures { result ≡ is_loose_slot slot }
+{
+    slot.is_some_and(|held| !held.is_fixed())
 }
 
 /// Whether the slot holds this page.
@@ -81,11 +102,11 @@ fn is_page_in(at: Addr, pages: u32, vpn: u32) -> bool
     first <= vpn && vpn - first < pages
 }
 
-/// The slot, not locked.
+/// The slot, not locked; a pin stays.
 fn unlocked(slot: Option<Held>) -> Option<Held>
     ensures { result ≡ unlocked_slot slot }
 {
-    Some(Held::new(slot?.vpn(), false))
+    Some(slot?.with_lock(false))
 }
 
 /// The slot, locked or unlocked where its page is one of the range.
@@ -98,7 +119,20 @@ fn relocked(lock: bool, at: Addr, pages: u32, slot: Option<Held>) -> Option<Held
     } else {
         held.is_locked()
     };
-    Some(Held::new(held.vpn(), locked))
+    Some(held.with_lock(locked))
+}
+
+/// The slot, pinned or unpinned where its page is one of the range.
+fn repinned(pin: bool, at: Addr, pages: u32, slot: Option<Held>) -> Option<Held>
+    ensures { result ≡ repinned_slot pin at.0 pages slot }
+{
+    let held = slot?;
+    let pinned = if is_page_in(at, pages, held.vpn()) {
+        pin
+    } else {
+        held.is_pinned()
+    };
+    Some(held.with_pin(pinned))
 }
 
 /// How many places from the hand on the first empty slot is.
@@ -110,13 +144,13 @@ fn places_to_empty(slots: &[Option<Held>], hand: usize) -> Option<usize>
     back.iter().chain(front).position(|slot| is_empty(*slot))
 }
 
-/// How many places from the hand on the first page that is not locked is.
-fn places_to_unlocked(slots: &[Option<Held>], hand: usize) -> Option<usize>
+/// How many places from the hand on the first page that is neither locked nor pinned is.
+fn places_to_loose(slots: &[Option<Held>], hand: usize) -> Option<usize>
     requires { hand ≤ length slots.now }
-    ensures { result ≡ position is_unlocked_slot (drop hand slots.now ++ take hand slots.now) }
+    ensures { result ≡ position is_loose_slot (drop hand slots.now ++ take hand slots.now) }
 {
     let (front, back) = slots.split_at(hand);
-    back.iter().chain(front).position(|slot| is_unlocked(*slot))
+    back.iter().chain(front).position(|slot| is_loose(*slot))
 }
 
 /// Unlocks each page.
@@ -134,6 +168,15 @@ fn relock_slots(slots: &mut [Option<Held>], lock: bool, at: Addr, pages: u32)
 {
     for slot in slots {
         *slot = relocked(lock, at, pages, *slot);
+    }
+}
+
+/// Pins the pages of a range, or unpins them.
+fn repin_slots(slots: &mut [Option<Held>], pin: bool, at: Addr, pages: u32)
+    ensures { slots.new ≡ map (repinned_slot pin at.0 pages) slots.old }
+{
+    for slot in slots {
+        *slot = repinned(pin, at, pages, *slot);
     }
 }
 
@@ -190,11 +233,18 @@ impl Ring {
         self.slots.iter().filter(|slot| is_filled(**slot)).count() as u32
     }
 
-    /// How many pages are locked.
+    /// How many pages are locked or pinned.
     pub fn locked(&self) -> u32
-        ensures { result ≡ locked self.now.slots }
+        ensures { result ≡ fixed self.now.slots }
     {
-        self.slots.iter().filter(|slot| is_locked(**slot)).count() as u32
+        self.slots.iter().filter(|slot| is_fixed(**slot)).count() as u32
+    }
+
+    /// How many pages aren't pinned.
+    pub fn unpinned(&self) -> u32
+        ensures { result ≡ unpinned self.now.slots }
+    {
+        self.slots.iter().filter(|slot| is_unpinned(**slot)).count() as u32
     }
 
     /// How many pages of a range the slots have.
@@ -217,15 +267,53 @@ impl Ring {
             .count() as u32
     }
 
-    /// How many pages are locked once those of a range are.
+    /// How many pinned pages of a range the slots have.
+    pub fn pinned_within(&self, at: Addr, pages: u32) -> u32
+        ensures { result ≡ count_by (is_pinned_in at.0 pages) self.now.slots }
+    {
+        self.slots
+            .iter()
+            .filter(|slot| is_in(**slot, at, pages) && is_pinned(**slot))
+            .count() as u32
+    }
+
+    /// How many locked or pinned pages of a range the slots have.
+    pub fn fixed_within(&self, at: Addr, pages: u32) -> u32
+        ensures { result ≡ count_by (is_fixed_in at.0 pages) self.now.slots }
+    {
+        self.slots
+            .iter()
+            .filter(|slot| is_in(**slot, at, pages) && is_fixed(**slot))
+            .count() as u32
+    }
+
+    /// How many pages are locked or pinned once those of a range are locked.
     pub fn locked_with(&self, at: Addr, pages: u32) -> u32
-        ensures { result ≡ locked (range_locked true at.0 pages self.now).slots }
+        ensures { result ≡ fixed (range_locked true at.0 pages self.now).slots }
     {
         self.slots
             .iter()
             .map(|slot| relocked(true, at, pages, *slot))
-            .filter(|slot| is_locked(*slot))
+            .filter(|slot| is_fixed(*slot))
             .count() as u32
+    }
+
+    /// How many pages are locked or pinned once those of a range are pinned.
+    pub fn pinned_with(&self, at: Addr, pages: u32) -> u32
+        ensures { result ≡ fixed (range_pinned true at.0 pages self.now).slots }
+    {
+        self.slots
+            .iter()
+            .map(|slot| repinned(true, at, pages, *slot))
+            .filter(|slot| is_fixed(*slot))
+            .count() as u32
+    }
+
+    /// Whether the slot holds a pinned page; a slot that isn't there doesn't.
+    pub fn is_pinned(&self, slot: u32) -> bool
+        ensures { result ≡ is_pinned_slot (slot_of (slice_get self.now.slots slot)) }
+    {
+        is_pinned(self.at(slot))
     }
 
     /// What the slot holds; a slot that isn't there holds nothing.
@@ -248,7 +336,7 @@ impl Ring {
     }
 
     /// The slot for one more page at this limit: below the limit the first empty one from the hand on,
-    /// else the first whose page is not locked.
+    /// else the first whose page is neither locked nor pinned.
     pub fn choose(&self, limit: u32) -> Choice
         ensures chosen { result ≡ choose self.now limit }
         ensures within { IsWithin (length self.now.slots) result }
@@ -260,7 +348,7 @@ impl Ring {
                 None => Choice::AllLocked,
             }
         } else {
-            match places_to_unlocked(&self.slots, hand) {
+            match places_to_loose(&self.slots, hand) {
                 Some(places) => Choice::Victim(slot_after(&self.slots, hand, places)),
                 None => Choice::AllLocked,
             }
@@ -272,7 +360,7 @@ impl Ring {
         ensures { self.new ≡ placed self.old limit vpn }
     {
         if let Choice::Empty(slot) = self.choose(limit) {
-            self.slots[slot as usize] = Some(Held::new(vpn, false));
+            self.slots[slot as usize] = Some(Held::new(vpn));
             self.hand = ((slot as usize + 1) % self.slots.len()) as u32;
         }
     }
@@ -282,7 +370,7 @@ impl Ring {
         ensures { self.new ≡ slotted self.old slot vpn }
     {
         if (slot as usize) < self.slots.len() {
-            self.slots[slot as usize] = Some(Held::new(vpn, false));
+            self.slots[slot as usize] = Some(Held::new(vpn));
         }
     }
 
@@ -331,5 +419,12 @@ impl Ring {
         ensures { self.new ≡ range_locked lock at.0 pages self.old }
     {
         relock_slots(&mut self.slots, lock, at, pages);
+    }
+
+    /// Pins the pages of a range, or unpins them.
+    pub fn pin_range(&mut self, pin: bool, at: Addr, pages: u32)
+        ensures { self.new ≡ range_pinned pin at.0 pages self.old }
+    {
+        repin_slots(&mut self.slots, pin, at, pages);
     }
 }

@@ -34,6 +34,20 @@ impl ValidEntry {
         }
     }
 
+    /// The process.
+    pub fn proc(self) -> Proc
+        ensures { result.0 ≡ self.proc }
+    {
+        Proc(self.proc)
+    }
+
+    /// The page number.
+    pub fn vpn(self) -> u32
+        ensures { result ≡ self.vpn }
+    {
+        self.vpn
+    }
+
     /// The frame.
     pub fn frame(self) -> Pfn
         ensures { result.0 ≡ self.frame }

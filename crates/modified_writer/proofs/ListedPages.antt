@@ -17,11 +17,11 @@ use Rattle.pfn_database.specs.declared.row.Row.{Row}
 use Rattle.pager_model.specs.Around.{frame_view, past_view}
 use Rattle.pager_model.specs.InTurn.{is_next_block}
 use Rattle.pager_model.specs.Lookups.{IsHead, block_of}
-use Rattle.pager_model.specs.Maps.{is_private}
+use Rattle.pager_model.specs.Maps.{is_paged}
 use Rattle.pager_model.specs.OfConfig.{IsPageOf}
 use Rattle.pager_model.specs.Pager.{Pager}
 use Rattle.pager_model.specs.Run.{IsRun, pager_after}
-use Rattle.pager_model.specs.WriteCluster.{block_out, if_next, is_free_block, new_block, paged_block, shared_block}
+use Rattle.pager_model.specs.WriteCluster.{block_out, filed_block, if_next, is_free_block, new_block, paged_block}
 use Rattle.pager_rules.proofs.Basics.{count_cons_yes, nat_eq_refl}
 use Rattle.pager_rules.proofs.Frames.{modified_frame}
 use Rattle.pager_rules.proofs.Lists.{filter_all}
@@ -29,8 +29,8 @@ use Rattle.pager_rules.proofs.Put.{head_counts, no_blocks}
 use Rattle.pager_rules.specs.Kept.{IsKept, one_if}
 use Rattle.pager_laws.proofs.OfConfigKept.{run_right}
 use Rattle.pager_laws.proofs.RunsAreSound.{run_kept}
-use Rattle.state_fits.proofs.FewAssigned.{one_unassigned}
-use Rattle.state_fits.proofs.Holders.{good_within}
+use Rattle.page_holders.proofs.FewAssigned.{one_unassigned}
+use Rattle.page_holders.proofs.Holders.{good_within}
 use Rattle.vm_state.specs.History.{History, pager}
 use Rattle.vm_state.specs.PageReadings.{IsKnown}
 use Rattle.vm_state.specs.Readings.{row_at}
@@ -87,8 +87,8 @@ module _ (config : Config) (past : List Entry) (formed : IsWellFormed config) (r
       known_page (Shared s i) of = of.0
 
   -- a page that a frame holds and that has no block: one is charged for it
-  pub block_left : (f : ℕ) (g : Page) → now.page f ≡ Some g → is_private g ≡ true → block_of now.assigned g ≡ None → length now.assigned < length now.charged
-  block_left f g holds private none = one_unassigned config (past_view past) now g kept (kept.held_charged f g private holds) (no_blocks now.assigned g none)
+  pub block_left : (f : ℕ) (g : Page) → now.page f ≡ Some g → is_paged config g ≡ true → block_of now.assigned g ≡ None → length now.assigned < length now.charged
+  block_left f g holds paged none = one_unassigned config (past_view past) now g kept (kept.held_charged f g paged holds) (no_blocks now.assigned g none)
 
   -- a listed page isn't written to a swap block
   module _ (p : Proc) (n : ℕ) where
@@ -112,5 +112,8 @@ module _ (config : Config) (past : List Entry) (formed : IsWellFormed config) (r
 
     pub no_swap : (last : Option BlockId) (g : Page) → block_out config now last (Some g) ≡ Some (block.Swap p n) → ⊥
     no_swap last (Private q v) is = paged_no_swap last (block_of now.assigned (Private q v)) is
-    no_swap last (Shared s i) is =
-        let same = fixed last (block.Section s i) (block.Swap p n) (ap (shared_block last) (sym ((kept.pages (Shared s i)).shared s i refl)) ∙ is) in cc
+    no_swap last (Shared s i) is = by (is_paged config (Shared s i)) refl is
+      where
+        by : (c : Bool) → is_paged config (Shared s i) ≡ c → cond c (paged_block config now last (block_of now.assigned (Shared s i))) (filed_block last (now.lies (Shared s i))) ≡ Some (block.Swap p n) → ⊥
+        by true paged is = paged_no_swap last (block_of now.assigned (Shared s i)) is
+        by false file is = let same = fixed last (block.Section s i) (block.Swap p n) (ap (filed_block last) (sym ((kept.pages (Shared s i)).shared s i refl file)) ∙ is) in cc

@@ -14,10 +14,10 @@ use Rattle.page_lists.specs.Lists.{count_of}
 use Rattle.pager_model.specs.Given.{pfn}
 use Rattle.pager_model.specs.InTurn.{is_next_block}
 use Rattle.pager_model.specs.Lookups.{block_of, is_assigned_to, is_owner}
-use Rattle.pager_model.specs.Maps.{is_private}
+use Rattle.pager_model.specs.Maps.{is_paged}
 use Rattle.pager_model.specs.Out.{after_any_out, assigned_with}
 use Rattle.pager_model.specs.Pager.{Assigned, Pager}
-use Rattle.pager_model.specs.WriteCluster.{block_out, if_next, is_free_block, new_block, paged_block, shared_block, writes_from, writes_taken}
+use Rattle.pager_model.specs.WriteCluster.{block_out, if_next, is_free_block, new_block, paged_block, filed_block, writes_from, writes_taken}
 use Rattle.pager_rules.proofs.Basics.{count_cons, count_cons_no, find_cons_no, nat_eq_refl, pages_equal}
 
 -- the blocks of the page file that a cluster with this last block may still take
@@ -60,17 +60,17 @@ module _ (config : Config) (a : Pager) where
 
   joins : (last d : BlockId) (o : Option Page) → block_out config a (Some last) o ≡ Some d → is_next_block last d ≡ true
   joins last d None is = absurd (none-some d is)
-  joins last d (Some g) is = by (is_private g) is
+  joins last d (Some g) is = by (is_paged config g) is
     where
       paged : (o : Option ℕ) → paged_block config a (Some last) o ≡ Some d → is_next_block last d ≡ true
       paged None is = new_joins last d is
       paged (Some n) is = if_next_joins last (block.PageFile n) d is
 
-      lying : (o : Option BlockId) → shared_block (Some last) o ≡ Some d → is_next_block last d ≡ true
+      lying : (o : Option BlockId) → filed_block (Some last) o ≡ Some d → is_next_block last d ≡ true
       lying None is = absurd (none-some d is)
       lying (Some b) is = if_next_joins last b d is
 
-      by : (b : Bool) → cond b (paged_block config a (Some last) (block_of a.assigned g)) (shared_block (Some last) (a.lies g)) ≡ Some d → is_next_block last d ≡ true
+      by : (b : Bool) → cond b (paged_block config a (Some last) (block_of a.assigned g)) (filed_block (Some last) (a.lies g)) ≡ Some d → is_next_block last d ≡ true
       by true is = paged (block_of a.assigned g) is
       by false is = lying (a.lies g) is
 
@@ -94,7 +94,7 @@ module _ (config : Config) (a b : Pager) where
       by (Some g) holds =
           let own : block_of b.assigned g ≡ block_of a.assigned g = stays.blocks f g (omega (arith, count_cons_first)) holds in
           let taken : paged_block config b (Some last) (block_of b.assigned g) ≡ paged_block config a (Some last) (block_of a.assigned g) = ap (paged_block config b (Some last)) own ∙ paged (block_of a.assigned g) in
-          λ i. cond (is_private g) (taken i) (shared_block (Some last) (stays.lies g i))
+          λ i. cond (is_paged config g) (taken i) (filed_block (Some last) (stays.lies g i))
         where
           count_cons_first : count_of (f ∷ fs) f ≡ 1 + count_of fs f
           count_cons_first = count_cons (λ (y : ℕ). nat_eq y f) f fs ∙ ap (λ (c : Bool). cond c 1 0 + count_of fs f) (nat_eq_refl f)

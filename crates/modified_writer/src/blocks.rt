@@ -3,12 +3,13 @@ ghost use Rattle.vm_types.specs.Configuration.{IsBlock, IsWellFormed};
 ghost use Rattle.vm_types.specs.declared.names.BlockId.{BlockId};
 ghost use Rattle.pager_model.specs.InTurn.{is_next_block};
 ghost use Rattle.pager_model.specs.Lookups.{block_of};
-ghost use Rattle.pager_model.specs.Maps.{is_private};
+ghost use Rattle.pager_model.specs.Maps.{is_paged};
 ghost use Rattle.pager_model.specs.WriteCluster.{block_out, if_next, is_free_block, new_block};
 ghost use Rattle.vm_state.specs.History.{pager};
 ghost use Rattle.vm_state.specs.PageReadings.{IsKnown};
 
 use disk_trait::Block;
+use page_moves::is_paged;
 use vm_state::State;
 use vm_types::{BlockId, Page};
 
@@ -90,19 +91,20 @@ pub fn block_out<B: Block>(state: &State<B>, last: Option<BlockId>, page: Page) 
     requires formed { IsWellFormed state.now.config }
     requires last { (b : BlockId) → last ≡ Some b → IsBlock state.now.config b }
     requires known { IsKnown state.now.config page }
-    requires room { is_private page ≡ true → block_of (pager state.now).assigned page ≡ None
+    requires room { is_paged state.now.config page ≡ true → block_of (pager state.now).assigned page ≡ None
         → length (pager state.now).assigned < length (pager state.now).charged }
     ensures { result ≡ block_out state.now.config (pager state.now) last (Some page) }
 {
     let backing = state.backing(page);
-    match page {
-        Page::Private(..) => match backing.assigned {
+    if is_paged(state.config(), page) {
+        match backing.assigned {
             Some(n) => if_next(last, BlockId::PageFile(n)),
             None => new_block(state, last),
-        },
-        Page::Shared(..) => match backing.lies {
+        }
+    } else {
+        match backing.lies {
             Some(b) => if_next(last, b),
             None => None,
-        },
+        }
     }
 }

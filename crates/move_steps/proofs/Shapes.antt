@@ -2,7 +2,7 @@
 -- and end none, or an answer.
 use Rattle.std.proofs.Common.{◌≡◌, ℕ, zero, suc, ◌+◌, Bool, true, false, cond, ◌&&◌, ◌||◌, List, [], ◌∷◌, ◌++◌, Option, Some, None, find, length, nat_eq, nat_le, nat_lt, not, slice_get, refl}
 use Rattle.std.specs.List.{AllByRecursion}
-use Rattle.vm_types.specs.Ring.{choose, filled, locked}
+use Rattle.vm_types.specs.Ring.{Ring, choose, filled, fixed, unpinned}
 use Rattle.vm_types.specs.declared.names.Addr.{Addr}
 use Rattle.vm_types.specs.declared.names.BlockId.{BlockId}
 use Rattle.vm_types.specs.declared.names.Page.{Page}
@@ -25,10 +25,10 @@ use Rattle.pager_model.specs.Given.{Seen, Target, given, is_stopped, page_addres
 use Rattle.pager_model.specs.Lookups.{entry_of, is_pending, is_resident, page_by}
 use Rattle.pager_model.specs.Maps.{page_number}
 use Rattle.pager_model.specs.Pager.{Pager, Valid}
-use Rattle.pager_model.specs.Ring.{range_locked}
-use Rattle.pager_model.specs.Serve.{GivenServe, ServeIs, delete_given, evict_given, is_range_in_flight, is_unmapped, limits_given, lock_given, purge_given, serve_again, serve_answered, serve_gives, serve_more, service_gives, unlocked_in, valid_in}
+use Rattle.pager_model.specs.Ring.{range_locked, range_pinned}
+use Rattle.pager_model.specs.Serve.{GivenServe, ServeIs, delete_given, evict_given, is_range_in_flight, is_unmapped, limits_given, lock_given, loose_in, purge_given, serve_again, serve_answered, serve_gives, serve_more, service_gives, valid_in}
 use Rattle.pager_model.specs.Spoken.{flat_after}
-use Rattle.pager_model.specs.Swap.{GivenSwap, SwapIs, back_of, back_page, come_free, come_gives, come_out, is_back_on_free, is_out_page, is_saved, is_shared_seen, is_to_save, leave_gives, leave_page, leave_saved, leave_shared, leave_unsaved, lying_in, slot_where, swap_again, swap_carry, swap_more, swap_settled, swap_where, write_slot, write_slots}
+use Rattle.pager_model.specs.Swap.{GivenSwap, SwapIs, back_of, back_page, come_free, come_gives, come_out, is_back_on_free, is_out_page, is_saved, is_shared_unpinned, is_to_save, leave_gives, leave_page, leave_saved, leave_shared, leave_unsaved, lying_in, slot_where, swap_again, swap_carry, swap_more, swap_settled, swap_where, write_slot, write_slots}
 use Rattle.pager_model.specs.Transfers.{has_come, is_read_on}
 use Rattle.pager_model.specs.WriteCluster.{BeginIs, Reason, begin_carry, begin_gives, begin_nothing, block_out, is_enough, writes_from, writes_taken}
 
@@ -148,12 +148,12 @@ module _ (config : Config) (past : List Entry) (a : Pager) (p : ℕ) (r : Ref) w
   held_shape : (g : Page) (o : Option ℕ) → NextShaped r (held_given config past a p r g o)
   held_shape g (Some f) = record { shape = (tt, refl) }
   held_shape g None =
-      let source = source_of a g (a.map p (page_number (r.addr).0)) in
+      let source = source_of config a g (a.map p (page_number (r.addr).0)) in
       next_either r (is_busy_block past source) _ _ (record { shape = refl }) (frame_shape g source a.free)
 
   room_shape : (g : Page) → NextShaped r (room_given config past a p r g)
   room_shape g =
-      next_either r (is_uncharged a g && nat_eq (length a.charged) config.pagefile) _ _ (record { shape = refl })
+      next_either r (is_uncharged config a g && nat_eq (length a.charged) config.pagefile) _ _ (record { shape = refl })
       (next_either r (nat_le (a.limit p) (filled (a.ring p).slots)) _ _ (seen_shape (seen_at a p (victim_of (choose (a.ring p) (a.limit p))))) (held_shape g (holder config a.page g)))
 
   read_shape : (g : Page) (f : ℕ) (o : Option Flight) → NextShaped r (read_given config past a p r g f o)
@@ -198,9 +198,9 @@ module _ (config : Config) (past : List Entry) (a : Pager) (p : ℕ) where
   purge_shape at pages (Some v) = evict_shape v _ (entry_of a.valid p v)
   purge_shape at pages None = record { shape = tt }
 
-  lock_shape : (s : Service) (at : Addr) (pages : ℕ) (o : Option ProcSpec) → ServeShaped (lock_given a p s at.0 pages o)
-  lock_shape s at pages None = record { shape = tt }
-  lock_shape s at pages (Some spec) = serve_either (nat_le (locked (range_locked true at.0 pages (a.ring p)).slots) spec.locks) _ _ (record { shape = tt }) (record { shape = tt })
+  lock_shape : (s : Service) (at : Addr) (pages : ℕ) (ring : Ring) (o : Option ProcSpec) → ServeShaped (lock_given a p s at.0 pages ring o)
+  lock_shape s at pages ring None = record { shape = tt }
+  lock_shape s at pages ring (Some spec) = serve_either (nat_le (fixed ring.slots) spec.locks) _ _ (record { shape = tt }) (record { shape = tt })
 
   limits_shape : (n : ℕ) (o : Option ProcSpec) → ServeShaped (limits_given n o)
   limits_shape n None = record { shape = tt }
@@ -210,9 +210,11 @@ module _ (config : Config) (past : List Entry) (a : Pager) (p : ℕ) where
   service_shape (service.Create at pages prot) = record { shape = tt }
   service_shape (service.Delete at pages) = serve_either (is_unmapped a p at.0 pages) _ _ (record { shape = tt }) (delete_shape at pages (valid_in a p at.0 pages))
   service_shape (service.Protect at pages prot) = record { shape = tt }
-  service_shape (service.Lock at pages) = serve_either (is_unmapped a p at.0 pages) _ _ (record { shape = tt }) (lock_shape (service.Lock at pages) at pages (slice_get config.procs p))
+  service_shape (service.Lock at pages) = serve_either (is_unmapped a p at.0 pages) _ _ (record { shape = tt }) (lock_shape (service.Lock at pages) at pages (range_locked true at.0 pages (a.ring p)) (slice_get config.procs p))
   service_shape (service.Unlock at pages) = record { shape = tt }
-  service_shape (service.Purge at pages) = purge_shape at pages (unlocked_in a p at.0 pages)
+  service_shape (service.Purge at pages) = purge_shape at pages (loose_in a p at.0 pages)
+  service_shape (service.Pin at pages) = serve_either (is_unmapped a p at.0 pages) _ _ (record { shape = tt }) (lock_shape (service.Pin at pages) at pages (range_pinned true at.0 pages (a.ring p)) (slice_get config.procs p))
+  service_shape (service.Unpin at pages) = record { shape = tt }
   service_shape (service.Adjust n) = limits_shape n (slice_get config.procs p)
 
   serve_shaped : (s : Service) → ServeShaped (serve_gives config past a p s)
@@ -236,7 +238,7 @@ module _ (config : Config) (past : List Entry) (a : Pager) (p : ℕ) where
 
   unsaved_shape : (o : Option ℕ) → SwapShaped (leave_unsaved config past a p o)
   unsaved_shape (Some n) = record { shape = slots_start _ }
-  unsaved_shape None = swap_either (nat_lt 0 (filled (a.ring p).slots)) _ _ (record { shape = refl }) (record { shape = (tt, tt) })
+  unsaved_shape None = swap_either (nat_lt 0 (unpinned (a.ring p).slots)) _ _ (record { shape = refl }) (record { shape = (tt, tt) })
 
   saved_shape : (o : Option ℕ) → SwapShaped (leave_saved config past a p o)
   saved_shape (Some n) = page_shape (seen_at a p n)
@@ -247,7 +249,7 @@ module _ (config : Config) (past : List Entry) (a : Pager) (p : ℕ) where
   shared_shape None = saved_shape (slot_where a p (is_saved past a p))
 
   leave_shaped : SwapShaped (leave_gives config past a p)
-  leave_shaped = shared_shape (slot_where a p (λ (n : ℕ) (s : Seen). is_shared_seen s))
+  leave_shaped = shared_shape (slot_where a p (λ (n : ℕ) (s : Seen). is_shared_unpinned s))
 
   pub leave_shape : SwapShape (leave_gives config past a p).answer (leave_gives config past a p).made
   leave_shape = leave_shaped.shape

@@ -5,5 +5,6 @@
 mod reading;
 
 pub use reading::{
-    charge_page, first_read, global_number, hold_page, mapped_page, page_over, slot_of_block,
+    charge_page, first_read, global_number, hold_page, is_paged, mapped_page, page_over,
+    slot_of_block,
 };

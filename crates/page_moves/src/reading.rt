@@ -3,7 +3,7 @@ ghost use Rattle.std.specs.Option.{option_map};
 ghost use Rattle.page_file.specs.Blocks.{Blocks};
 ghost use Rattle.page_tables.specs.PageTables.{entry_of};
 ghost use Rattle.pager_model.specs.Changes.{swap_slot};
-ghost use Rattle.pager_model.specs.Maps.{page_behind};
+ghost use Rattle.pager_model.specs.Maps.{is_paged, page_behind};
 ghost use Rattle.section_table.specs.SectionTable.{behind_of};
 ghost use Rattle.pager_model.specs.InOk.{is_first_read};
 ghost use Rattle.state_parts.specs.ChargedTable.{charged_at};
@@ -16,7 +16,7 @@ use page_tables::{Look, Tables};
 use pte_forms::{Place, Pte};
 use section_table::Sections;
 use state_parts::{ChargedPage, ChargedPages};
-use vm_types::{BlockId, Config, Origin, Page, Pfn, Proc};
+use vm_types::{BlockId, Config, Origin, Page, Pfn, Proc, SectionKind};
 
 /// The number of a shared page among the pages of all sections, by the numbers of the sections' first
 /// pages; 0 for a private page.
@@ -47,14 +47,27 @@ pub fn page_over(config: &Config, p: Proc, vpn: u32, origin: Origin) -> Page
     match origin {
         Origin::Zero => Page::Private(p, vpn),
         Origin::Section(s, i) => match config.sections.items().get(s.0 as usize) {
-            Some(section) => {
-                if section.shared {
-                    Page::Shared(s, i)
-                } else {
-                    Page::Private(p, vpn)
-                }
-            }
+            Some(section) => match section.kind {
+                SectionKind::Shared | SectionKind::Paged => Page::Shared(s, i),
+                SectionKind::Crf => Page::Private(p, vpn),
+            },
             None => Page::Private(p, vpn),
+        },
+    }
+}
+
+/// Whether the page has a block of the page file: a private one, or one of a section in the page file.
+pub fn is_paged(config: &Config, page: Page) -> bool
+    ensures { result ≡ is_paged config.now page }
+{
+    match page {
+        Page::Private(..) => true,
+        Page::Shared(s, _) => match config.sections.items().get(s.0 as usize) {
+            Some(section) => match section.kind {
+                SectionKind::Paged => true,
+                SectionKind::Shared | SectionKind::Crf => false,
+            },
+            None => false,
         },
     }
 }

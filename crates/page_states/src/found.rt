@@ -21,10 +21,11 @@ pub struct Backing {
 }
 
 /// A page in a slot of a working set: its number, the frame of its entry, and whether it is locked
-/// there.
+/// there, and pinned in memory.
 #[derive(Clone, Copy, Debug, PartialEq, Eq)]
 pub struct Slot {
     pub vpn: u32,
     pub frame: Pfn,
     pub locked: bool,
+    pub pinned: bool,
 }

@@ -13,7 +13,7 @@ use page_tables::{Look, Tables};
 use pte_forms::{Place, Pte};
 use state_parts::ProcessRow;
 use std::alloc::Global;
-use vm_types::{Config, Mapping, NoMemory, Origin, Proc, ProcSpec, ProcStatus};
+use vm_types::{Config, Mapping, NoMemory, Origin, Proc, ProcSpec, ProcStatus, SectionKind};
 use working_set::Ring;
 
 /// The processes, resident with empty rings.
@@ -55,10 +55,9 @@ fn place_of(config: &Config, firsts: &[u32], origin: Origin) -> Place
         Origin::Zero => Place::DemandZero,
         Origin::Section(s, page) => {
             let number = firsts[s.0 as usize] + page;
-            if config.sections.items()[s.0 as usize].shared {
-                Place::GlobalIndex(number)
-            } else {
-                Place::SectionIndex(number)
+            match config.sections.items()[s.0 as usize].kind {
+                SectionKind::Shared | SectionKind::Paged => Place::GlobalIndex(number),
+                SectionKind::Crf => Place::SectionIndex(number),
             }
         }
     }

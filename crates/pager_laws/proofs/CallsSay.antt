@@ -1,7 +1,7 @@
 -- What the calls of the pager's logic say: an answered call the request that it was made for, every other one nothing.
 use Rattle.pager_model.specs.Evict.{victim_of}
-use Rattle.pager_model.specs.Ring.{range_locked}
-use Rattle.vm_types.specs.Ring.{choose, filled, locked}
+use Rattle.pager_model.specs.Ring.{range_locked, range_pinned}
+use Rattle.vm_types.specs.Ring.{Ring, choose, filled, fixed, unpinned}
 use Rattle.vm_journal.specs.declared.entry.EvictWhy.TheVariants as evict
 use Rattle.vm_journal.specs.declared.entry.What.TheVariants.{Evict}
 use Rattle.pager_model.specs.Transfers.{is_read_on, has_come}
@@ -28,9 +28,9 @@ use Rattle.pager_model.specs.Given.{unsaid, given, Seen, is_stopped, page_addres
 use Rattle.pager_model.specs.Lookups.{entry_of, is_pending, is_resident, page_by}
 use Rattle.pager_model.specs.Maps.{page_number}
 use Rattle.pager_model.specs.Pager.{Pager, Valid}
-use Rattle.pager_model.specs.Serve.{GivenServe, ServeIs, serve_answered, serve_gives, service_gives, evict_given, delete_given, purge_given, lock_given, limits_given, is_range_in_flight, is_unmapped, valid_in, unlocked_in}
+use Rattle.pager_model.specs.Serve.{GivenServe, ServeIs, serve_answered, serve_gives, service_gives, evict_given, delete_given, purge_given, lock_given, limits_given, is_range_in_flight, is_unmapped, loose_in, valid_in}
 use Rattle.pager_model.specs.Spoken.{flat_after}
-use Rattle.pager_model.specs.Swap.{is_shared_seen, is_to_save, is_saved, is_out_page, is_back_on_free, lying_in, swap_where, slot_where, GivenSwap, leave_gives, leave_page, leave_saved, leave_shared, leave_unsaved, write_slot, write_slots, come_gives, come_free, come_out, back_page, back_of}
+use Rattle.pager_model.specs.Swap.{is_to_save, is_saved, is_out_page, is_back_on_free, lying_in, swap_where, slot_where, GivenSwap, leave_gives, leave_page, leave_saved, leave_shared, leave_unsaved, write_slot, write_slots, come_gives, come_free, come_out, back_page, back_of, is_shared_unpinned}
 use Rattle.pager_model.specs.WriteCluster.{begin_carry, begin_nothing, writes_taken, Reason, begin_gives, block_out, is_enough, writes_from}
 use Rattle.pager_laws.proofs.Said.{Silent, said, silent_join, reads_silent, reused_said}
 
@@ -67,11 +67,11 @@ out_says config past a p r g o = either r (is_busy_block past o) _ _ (record { s
 
 held_says : (config : Config) (past : List Entry) (a : Pager) (p : ℕ) (r : Ref) (g : Page) (o : Option ℕ) → Says (held_given config past a p r g o) r
 held_says config past a p r g (Some f) = record { says = refl }
-held_says config past a p r g None = out_says config past a p r g (source_of a g (a.map p (page_number (r.addr).0)))
+held_says config past a p r g None = out_says config past a p r g (source_of config a g (a.map p (page_number (r.addr).0)))
 
 room_says : (config : Config) (past : List Entry) (a : Pager) (p : ℕ) (r : Ref) (g : Page) → Says (room_given config past a p r g) r
 room_says config past a p r g =
-    either r (is_uncharged a g && nat_eq (length a.charged) config.pagefile) _ _ (record { says = refl })
+    either r (is_uncharged config a g && nat_eq (length a.charged) config.pagefile) _ _ (record { says = refl })
     (either r (nat_le (a.limit p) (filled (a.ring p).slots)) _ _ (seen_says config past a p r (seen_at a p (victim_of (choose (a.ring p) (a.limit p))))) (held_says config past a p r g (holder config a.page g)))
 
 read_says : (config : Config) (past : List Entry) (a : Pager) (p : ℕ) (r : Ref) (g : Page) (f : ℕ) (o : Option Flight) → Says (read_given config past a p r g f o) r
@@ -123,9 +123,9 @@ purge_says : (config : Config) (past : List Entry) (a : Pager) (p : ℕ) (at : A
 purge_says config past a p at pages (Some v) = evict_says config past a p v evict.Purge (service.Purge at pages) (entry_of a.valid p v)
 purge_says config past a p at pages None = record { says = refl }
 
-lock_says : (a : Pager) (p : ℕ) (s : Service) (address pages : ℕ) (o : Option ProcSpec) → SaysService (lock_given a p s address pages o) s
-lock_says a p s address pages None = record { says = refl }
-lock_says a p s address pages (Some spec) = choice s (nat_le (locked (range_locked true address pages (a.ring p)).slots) spec.locks) _ _ (record { says = refl }) (record { says = refl })
+lock_says : (a : Pager) (p : ℕ) (s : Service) (address pages : ℕ) (ring : Ring) (o : Option ProcSpec) → SaysService (lock_given a p s address pages ring o) s
+lock_says a p s address pages ring None = record { says = refl }
+lock_says a p s address pages ring (Some spec) = choice s (nat_le (fixed ring.slots) spec.locks) _ _ (record { says = refl }) (record { says = refl })
 
 limits_say : (n : ℕ) (o : Option ProcSpec) → SaysService (limits_given n o) (service.Adjust n)
 limits_say n None = record { says = refl }
@@ -135,9 +135,11 @@ service_says : (config : Config) (past : List Entry) (a : Pager) (p : ℕ) (s : 
 service_says config past a p (service.Create at pages prot) = record { says = refl }
 service_says config past a p (service.Delete at pages) = choice (service.Delete at pages) (is_unmapped a p at.0 pages) _ _ (record { says = refl }) (delete_says config past a p at pages (valid_in a p at.0 pages))
 service_says config past a p (service.Protect at pages prot) = record { says = refl }
-service_says config past a p (service.Lock at pages) = choice (service.Lock at pages) (is_unmapped a p at.0 pages) _ _ (record { says = refl }) (lock_says a p (service.Lock at pages) at.0 pages (slice_get config.procs p))
+service_says config past a p (service.Lock at pages) = choice (service.Lock at pages) (is_unmapped a p at.0 pages) _ _ (record { says = refl }) (lock_says a p (service.Lock at pages) at.0 pages (range_locked true at.0 pages (a.ring p)) (slice_get config.procs p))
 service_says config past a p (service.Unlock at pages) = record { says = refl }
-service_says config past a p (service.Purge at pages) = purge_says config past a p at pages (unlocked_in a p at.0 pages)
+service_says config past a p (service.Purge at pages) = purge_says config past a p at pages (loose_in a p at.0 pages)
+service_says config past a p (service.Pin at pages) = choice (service.Pin at pages) (is_unmapped a p at.0 pages) _ _ (record { says = refl }) (lock_says a p (service.Pin at pages) at.0 pages (range_pinned true at.0 pages (a.ring p)) (slice_get config.procs p))
+service_says config past a p (service.Unpin at pages) = record { says = refl }
 service_says config past a p (service.Adjust n) = limits_say n (slice_get config.procs p)
 
 pub serve_says : (config : Config) (past : List Entry) (a : Pager) (p : ℕ) (s : Service) → SaysService (serve_gives config past a p s) s
@@ -182,7 +184,7 @@ slots_silent a p (n ∷ slots) = silent_join (write_slot p n (seen_at a p n)) (w
 
 unsaved_silent : (config : Config) (past : List Entry) (a : Pager) (p : ℕ) (o : Option ℕ) → SwapSilent (leave_unsaved config past a p o)
 unsaved_silent config past a p (Some n) = record { silent = slots_silent a p _ }
-unsaved_silent config past a p None = each_way (nat_lt 0 (filled (a.ring p).slots)) _ _ (record { silent = refl }) (record { silent = refl })
+unsaved_silent config past a p None = each_way (nat_lt 0 (unpinned (a.ring p).slots)) _ _ (record { silent = refl }) (record { silent = refl })
 
 saved_silent : (config : Config) (past : List Entry) (a : Pager) (p : ℕ) (o : Option ℕ) → SwapSilent (leave_saved config past a p o)
 saved_silent config past a p (Some n) = page_silent config past a p (seen_at a p n)
@@ -193,7 +195,7 @@ shared_silent config past a p (Some n) = page_silent config past a p (seen_at a 
 shared_silent config past a p None = saved_silent config past a p (slot_where a p (is_saved past a p))
 
 pub leave_silent : (config : Config) (past : List Entry) (a : Pager) (p : ℕ) → SwapSilent (leave_gives config past a p)
-leave_silent config past a p = shared_silent config past a p (slot_where a p (λ (n : ℕ) (s : Seen). is_shared_seen s))
+leave_silent config past a p = shared_silent config past a p (slot_where a p (λ (n : ℕ) (s : Seen). is_shared_unpinned s))
 
 back_silent : (p : ℕ) (g : Page) (o : Option ℕ) → Silent (back_of p g o)
 back_silent p g None = refl

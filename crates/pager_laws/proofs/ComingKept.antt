@@ -1,11 +1,11 @@
 -- A coming process's page comes to its slot.
 use Rattle.pager_rules.proofs.Quiet.{none_failed}
-use Rattle.std.proofs.Common.{◌≡◌, ◌⊎◌, ℕ, zero, suc, ◌<◌, ◌≤◌, Bool, true, false, cond, List, ◌∷◌, Option, Some, None, length, nat_eq, count_by, slice_get, refl, sym, ap, ◌∙◌, subst, subst₂, inl, inr, arith, length-set}
+use Rattle.std.proofs.Common.{◌&&◌, ◌≡◌, ◌⊎◌, ℕ, zero, suc, ◌<◌, ◌≤◌, Bool, true, false, cond, List, ◌∷◌, Option, Some, None, length, nat_eq, count_by, slice_get, refl, sym, ap, ◌∙◌, subst, subst₂, inl, inr, arith, length-set}
 use Rattle.std.specs.List.{AllByRecursion}
 use Rattle.std.proofs.lemmas.Bool.{cases_eq, ne_eqb, eqb-true, eq-eqb, and_left, and_parts, or_left, true≢false, false≢true}
 use Rattle.std.proofs.lemmas.Option.{none-some, slice_get-get_or}
 use Rattle.vm_types.specs.Same.{same_page}
-use Rattle.vm_types.specs.Ring.{Ring, Held, is_locked_slot}
+use Rattle.vm_types.specs.Ring.{Ring, Held, fresh_slot, is_fixed_slot, is_pinned_slot}
 use Rattle.vm_types.specs.declared.names.Page.{Page}
 use Rattle.vm_types.specs.declared.names.Page.TheVariants.{Private, Shared}
 use Rattle.vm_types.specs.declared.names.BlockId.{BlockId}
@@ -20,13 +20,13 @@ use Rattle.page_lists.specs.Lists.{count_of}
 use Rattle.pager_model.specs.Around.{FrameView, block_view, entry_view, frame_view, page_view, process_view, quiet}
 use Rattle.pager_model.specs.Changes.{valid_at}
 use Rattle.pager_model.specs.Flights.{Direction, Flight, reading, writing}
-use Rattle.pager_model.specs.Lookups.{count_page, entries_at, has_vpn, is_entry, is_of, page_by, shares, slot_of}
+use Rattle.pager_model.specs.Lookups.{count_page, entries_at, has_pin, has_vpn, is_entry, is_of, page_by, shares, slot_of}
 use Rattle.pager_model.specs.Maps.{is_private, proc}
 use Rattle.pager_model.specs.Opening.{is_bad}
 use Rattle.pager_model.specs.Pager.{Pager, Valid}
 use Rattle.pager_model.specs.Ring.{slotted}
 use Rattle.pager_model.specs.Sets.{at_number, at_page}
-use Rattle.pager_model.specs.Sound.{FitsSlot, HasSwapped, IsSwapped, MayHoldSwapped}
+use Rattle.pager_model.specs.Sound.{FitsSlot, HasSwapped, IsSwapped, MayHoldSwapped, pins_of_page}
 use Rattle.pager_model.specs.Transfers.{faults_of, is_fault, is_fault_of, reads_on, writes_on}
 use Rattle.pager_rules.proofs.Basics.{at_number_other, at_number_same, count_cons_no, count_cons_yes, nat_eq_refl, pages_equal, same_page_refl}
 use Rattle.pager_rules.proofs.Frames.{from_state}
@@ -38,6 +38,7 @@ use Rattle.pager_rules.proofs.Rings.{entries_add, placed_process}
 use Rattle.pager_rules.proofs.Transfers.{IsApart, alike, flight_apart, on_frame}
 use Rattle.pager_rules.proofs.Views.{frames_move, pages_move}
 use Rattle.pager_rules.specs.Kept.{FitsBlock, FitsDirection, FitsFlight, FitsFrame, FitsPage, FitsProcess, HasUnsaved, IsForItsPage, IsInFrame, IsKept, saves, views}
+use Rattle.pager_rules.proofs.Pins.{pins_of_less}
 
 -- a page in a frame without shares has no entry
 pub idle_entry : (config : Config) (a : Pager) (kept_once : (f g : ℕ) (y : Page) → a.page f ≡ Some y → a.page g ≡ Some y → f ≡ g) (p v f : ℕ) (g : Page) → page_by config a.map p v ≡ Some g → a.page f ≡ Some g → shares a.valid f ≡ 0
@@ -54,6 +55,10 @@ idle_entry config a once p v f g own held none all = go (entries_at a.valid p v)
         let frame : (found.0).frame ≡ f = once (found.0).frame f g (fits.2 ∙ (sym there ∙ own)) held in
         let some = count_found (λ (y : Valid). nat_eq y.frame f) (is_entry p v) a.valid found.0 found.1 (eq-eqb _ _ frame) in
         absurd (omega arith)
+
+no_pin : (b : Bool) → cond {A = ℕ} (b && false) 1 0 ≡ 0
+no_pin true = refl
+no_pin false = refl
 
 -- the frame that it is in, on its way from the free list or from its read
 pub record IsArriving (config : Config) (flights rest : List Flight) (a : Pager) (free : List ℕ) (f : ℕ) : Type 0 where
@@ -114,9 +119,11 @@ module _ (config : Config) (a : Pager) (flights rest : List Flight) (free : List
 
   is_placed : IsPlaced (a.ring p) new v
   is_placed = record {
-    vpns = λ w. let whole = count_written (has_vpn w) (a.ring p).slots n None (Some (record { vpn = v; locked = false })) empty in omega arith;
-    locks = let whole = count_written is_locked_slot (a.ring p).slots n None (Some (record { vpn = v; locked = false })) empty in omega arith;
-    slots = length-set (a.ring p).slots n (Some (record { vpn = v; locked = false }));
+    vpns = λ w. let whole = count_written (has_vpn w) (a.ring p).slots n None (fresh_slot v) empty in omega arith;
+    pins = λ w. let whole = count_written (has_pin w) (a.ring p).slots n None (fresh_slot v) empty in let off = no_pin (nat_eq v w) in omega arith;
+    locks = let whole = count_written is_fixed_slot (a.ring p).slots n None (fresh_slot v) empty in omega arith;
+    pinned = let whole = count_written is_pinned_slot (a.ring p).slots n None (fresh_slot v) empty in omega arith;
+    slots = length-set (a.ring p).slots n (fresh_slot v);
     hand = hand (slice_get config.procs p) refl;
   }
     where
@@ -160,14 +167,15 @@ module _ (config : Config) (a : Pager) (flights rest : List Flight) (free : List
   page_here =
       let page = kept.pages y in
       subst (λ (o : Option BlockId). FitsPage y (record (page_view config a y) { lies = o })) (sym (lies_same a.lies y None)) (record {
+        paged = page.paged;
         charged = page.charged;
         touched = page.touched;
         blocks = page.blocks;
         mapped = page.mapped;
-        lying = λ d private lies. absurd (none-some d lies);
+        lying = λ d paged lies. absurd (none-some d lies);
         in_file = λ m lies. absurd (none-some _ lies);
         not_in_section = λ s i private lies. none-some _ lies;
-        shared = λ s i is. absurd (false≢true (ap is_private (sym is) ∙ private y swap.own));
+        shared = λ s i is file. absurd (false≢true (ap is_private (sym is) ∙ private y swap.own));
       })
 
   unsaved : HasUnsaved config (quiet rest) b
@@ -191,6 +199,7 @@ module _ (config : Config) (a : Pager) (flights rest : List Flight) (free : List
         alone = λ other same. alone other same (same_page other y) refl;
         within = (slots (cases_eq p r)).0;
         slot = (slots (cases_eq p r)).1;
+        unpinned = pins (cases_eq p r);
         frame = λ h held. frame h held (cases_eq f h);
       }
         where
@@ -217,8 +226,15 @@ module _ (config : Config) (a : Pager) (flights rest : List Flight) (free : List
               let here : m < length (a.ring p).slots = subst (λ (j : ℕ). m < length (a.ring j).slots) (sym same) was.within in
               let slot : FitsSlot r (slot_of (slice_get (a.ring p).slots m)) g = subst (λ (j : ℕ). FitsSlot r (slot_of (slice_get (a.ring j).slots m)) g) (sym same) was.slot in (
                 subst (λ (o : Ring). m < length o.slots) ring_is (omega (arith, is_placed.slots)),
-                subst (λ (o : Ring). FitsSlot r (slot_of (slice_get o.slots m)) g) ring_is (subst (λ (o : Option (Option Held)). FitsSlot r (slot_of o) g) (sym (slot_unchanged (a.ring p).slots n m (Some (record { vpn = v; locked = false })) (apart_slot same))) slot),
+                subst (λ (o : Ring). FitsSlot r (slot_of (slice_get o.slots m)) g) ring_is (subst (λ (o : Option (Option Held)). FitsSlot r (slot_of o) g) (sym (slot_unchanged (a.ring p).slots n m (fresh_slot v) (apart_slot same))) slot),
               )
+
+          pins : (p ≡ r) ⊎ (p ≡ r → ⊥) → pins_of_page (b.ring r) g ≡ 0
+          pins (inr far) = subst (λ (o : Ring). pins_of_page o g ≡ 0) (sym (at_number_other a.ring p new r far)) was.unpinned
+          pins (inl same) =
+              let ring_is : new ≡ b.ring r = sym (subst (λ (j : ℕ). at_number a.ring p new j ≡ new) same (at_number_same a.ring p new)) in
+              let before : pins_of_page (a.ring p) g ≡ 0 = subst (λ (j : ℕ). pins_of_page (a.ring j) g ≡ 0) (sym same) was.unpinned in
+              subst (λ (o : Ring). pins_of_page o g ≡ 0) ring_is (pins_of_less g (a.ring p) new (λ w. omega (arith, is_placed.pins w)) before)
 
           frame : (h : ℕ) → a.page h ≡ Some g → (f ≡ h) ⊎ (f ≡ h → ⊥) → MayHoldSwapped (b.state h) (a.status r)
           frame h held (inl same) = absurd (let own_page = ap a.page same ∙ held in not_y (cc (own_page, holds)))

@@ -83,7 +83,11 @@ touched_deleted config past a p address pages kept =
         (λ v g some mapped private. ap (is_private_in p address pages) (own_is config a.map p v g mapped private) ∙ and_from _ _ (nat_eq_refl p) (inside_from address pages v some))
 
     same : (x : Page) → 0 < count_page a.charged x → among gone x ≡ is_private_in p address pages x
-    same (Shared s i) some = absurd (none-some _ ((kept.pages (Shared s i)).mapped some))
+    same (Shared s i) some = go (among gone (Shared s i)) refl
+      where
+        go : (c : Bool) → among gone (Shared s i) ≡ c → among gone (Shared s i) ≡ false
+        go true is = absurd (false≢true (among_meets (λ (g : Page). is_private_in p address pages g ≡ true) gone (Shared s i) own is))
+        go false is = is
     same (Private q w) some = go (is_private_in p address pages (Private q w)) refl (among gone (Private q w)) refl
       where
         go : (c : Bool) → is_private_in p address pages (Private q w) ≡ c → (d : Bool) → among gone (Private q w) ≡ d → d ≡ c
@@ -92,7 +96,7 @@ touched_deleted config past a p address pages kept =
         go false outside true is = absurd (false≢true (sym outside ∙ among_meets (λ (g : Page). is_private_in p address pages g ≡ true) gone (Private q w) own is))
         go true inside false is =
             let parts = and_parts (nat_eq p q.0) (in_range address pages w) inside in
-            let mapped : page_by config a.map p w ≡ Some (Private q w) = subst (λ (r : ℕ). page_by config a.map r w ≡ Some (Private q w)) (sym (eqb-true p q.0 parts.0)) ((kept.pages (Private q w)).mapped some) in
+            let mapped : page_by config a.map p w ≡ Some (Private q w) = subst (λ (r : ℕ). page_by config a.map r w ≡ Some (Private q w)) (sym (eqb-true p q.0 parts.0)) ((kept.pages (Private q w)).mapped some refl) in
             absurd (false≢true (sym is ∙ among_counts gone (Private q w) (own_has config a.map p (range_of address pages) w (Private q w) (inside_to address pages w parts.1) mapped refl)))
 
 pub map_deleted : (config : Config) (a : Pager) (p address pages : ℕ) → (after_delete config a p address pages).map ≡ map_range (λ (old : Option Mapped). None) p address pages a.map

@@ -16,7 +16,7 @@ use Rattle.pager_model.specs.Done.{IsDone, after_done, modify_done, touched_at}
 use Rattle.pager_model.specs.Flat.{is_change, touched_with}
 use Rattle.pager_model.specs.Flights.{Flight, is_busy, is_reading, open_flights}
 use Rattle.pager_model.specs.Lookups.{count_page, is_entry, page_by}
-use Rattle.pager_model.specs.Maps.{is_private, page_number}
+use Rattle.pager_model.specs.Maps.{is_paged, page_number}
 use Rattle.pager_model.specs.Own.{IsOwn}
 use Rattle.pager_model.specs.Pager.{Pager, Valid}
 use Rattle.pager_model.specs.Sets.{at_number, has_page}
@@ -30,18 +30,18 @@ use Rattle.pager_rules.proofs.Views.{frames_move, pages_move}
 use Rattle.pager_rules.specs.Kept.{FitsFrame, FitsPage, HasUnsaved, IsForItsPage, IsKept, views}
 
 -- ---- one more touched page
-touched_other : (touched : List Page) (g h : Page) → same_page h g ≡ false → count_page (touched_with touched g) h ≡ count_page touched h
-touched_other touched g h apart = go (is_private g) (has_page touched g)
+touched_other : (config : Config) (touched : List Page) (g h : Page) → same_page h g ≡ false → count_page (touched_with config touched g) h ≡ count_page touched h
+touched_other config touched g h apart = go (is_paged config g) (has_page touched g)
   where
     go : (b c : Bool) → count_page (cond b (cond c touched (g ∷ touched)) touched) h ≡ count_page touched h
     go false c = refl
     go true true = refl
     go true false = charged_other g h touched apart
 
-touched_own : (touched : List Page) (g : Page) (n : ℕ) → count_page touched g ≤ n → (is_private g ≡ true → n ≡ 1) → count_page (touched_with touched g) g ≤ n
-touched_own touched g n most one = go (is_private g) refl (has_page touched g) refl
+touched_own : (config : Config) (touched : List Page) (g : Page) (n : ℕ) → count_page touched g ≤ n → (is_paged config g ≡ true → n ≡ 1) → count_page (touched_with config touched g) g ≤ n
+touched_own config touched g n most one = go (is_paged config g) refl (has_page touched g) refl
   where
-    go : (b : Bool) → is_private g ≡ b → (c : Bool) → has_page touched g ≡ c → count_page (cond b (cond c touched (g ∷ touched)) touched) g ≤ n
+    go : (b : Bool) → is_paged config g ≡ b → (c : Bool) → has_page touched g ≡ c → count_page (cond b (cond c touched (g ∷ touched)) touched) g ≤ n
     go false shared c is = most
     go true private true is = most
     go true private false is = omega (arith, charged_same g touched, count_none (same_page g) touched is, one private)
@@ -66,7 +66,7 @@ module _ (config : Config) (past : List Entry) (a : Pager) (p v : ℕ) (e : Vali
   modify d = cond d (at_number a.modify f true) a.modify
 
   abbrev b : Bool → Pager
-  b d = record a { modify = modify d; references = references; touched = touched_with a.touched fits.0 }
+  b d = record a { modify = modify d; references = references; touched = touched_with config a.touched fits.0 }
 
   there : (g : ℕ) → (f ≡ g → ⊥) → frame_view config (quiet (open_flights past)) (b true) g ≡ old g
   there g apart = let modify_is = at_number_other a.modify f true g apart in cc
@@ -94,14 +94,15 @@ module _ (config : Config) (past : List Entry) (a : Pager) (p v : ℕ) (e : Vali
       kept.unsaved
 
   page_there : (g : Page) → same_page g fits.0 ≡ false → page_view config (b c) g ≡ page_view config a g
-  page_there g apart = let touched_is = touched_other a.touched fits.0 g apart in cc
+  page_there g apart = let touched_is = touched_other config a.touched fits.0 g apart in cc
 
   page_here : FitsPage fits.0 (page_view config (b c) fits.0)
   page_here =
       let page = kept.pages fits.0 in
       record {
+        paged = page.paged;
         charged = page.charged;
-        touched = touched_own a.touched fits.0 (count_page a.charged fits.0) page.touched (λ private. omega (arith, kept.held_charged f fits.0 private fits.2, page.charged));
+        touched = touched_own config a.touched fits.0 (count_page a.charged fits.0) page.touched (λ private. omega (arith, kept.held_charged f fits.0 private fits.2, page.charged));
         blocks = page.blocks;
         mapped = page.mapped;
         lying = page.lying;
@@ -133,7 +134,7 @@ module _ (config : Config) (past : List Entry) (a : Pager) (p v : ℕ) (e : Vali
     swapped = kept.swapped;
     coming_once = kept.coming_once;
     transfers = transfers_idle (views config a) (views config (b c)) p (record { not_leaving = λ leaving. let resident = own.resident in cc; status = λ r. refl; process = λ r far. refl; entries = λ r w far. refl; mapped = λ r w far. refl })
-        (open_flights past) idle (λ x counts fits. (refl, λ g holds. record { read = not_read x counts g holds; lies = refl; block = refl })) kept.transfers;
+        (open_flights past) idle (λ x counts fits. (refl, λ g holds. record { read = not_read x counts g holds; paged = refl; lies = refl; block = refl })) kept.transfers;
     one_fault = kept.one_fault;
     failed = none_failed _ _;
   }
@@ -149,5 +150,5 @@ done_kept config past a seat r answer before idle legal =
     let parts = and_parts (nat_eq e.proc seat.0) (nat_eq e.vpn v) (found_passes (is_entry seat.0 v) a.valid e found) in
     let own : page_by config a.map seat.0 v ≡ Some for_page.0 = subst₂ (λ (q w : ℕ). page_by config a.map q w ≡ Some for_page.0) (eqb-true _ _ parts.0) (eqb-true _ _ parts.1) for_page.1 in
     let references = at_number a.references seat.0 (a.references seat.0 + 1) in
-    subst₂ (λ (o : Option Valid) (g : Option Page). IsKept config (quiet (open_flights past)) (record a { modify = modify_done r.op o a.modify; references = references; touched = touched_at a.touched g })) (sym found) (sym own)
+    subst₂ (λ (o : Option Valid) (g : Option Page). IsKept config (quiet (open_flights past)) (record a { modify = modify_done r.op o a.modify; references = references; touched = touched_at config a.touched g })) (sym found) (sym own)
     (done config past a seat.0 v e kept found (is_change r.op) references legal.own idle)

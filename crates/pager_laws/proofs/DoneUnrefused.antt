@@ -10,7 +10,7 @@ use Rattle.vm_journal.specs.declared.entry.Entry.{Entry}
 use Rattle.pager_model.specs.Done.{Allows, IsDone}
 use Rattle.pager_model.specs.Flat.{FlatState, flat_refusal, is_page_file_full, is_untouched, refusal_at}
 use Rattle.pager_model.specs.Lookups.{page_at}
-use Rattle.pager_model.specs.Maps.{Map, Mapped, is_private, page_behind, page_number}
+use Rattle.pager_model.specs.Maps.{Map, Mapped, is_paged, page_behind, page_number}
 use Rattle.pager_model.specs.Pager.{Pager, Valid}
 use Rattle.pager_model.specs.Sets.{has_page}
 use Rattle.pager_model.specs.Sound.{IsSound}
@@ -23,10 +23,10 @@ refusal_none config flat p r (Some m) allows room =
     allows (room (page_behind config p (page_number (r.addr).0) m.origin) refl)
 
 -- the page file has room for a charged page: an untouched one leaves fewer touched than charged
-room_for_charged : (config : Config) (past : List Entry) (a : Pager) (flat : FlatState) (page : Page) → IsSound config past a → a.touched ≡ flat.touched → (is_private page ≡ true → has_page a.charged page ≡ true) → is_page_file_full config flat page ≡ false
+room_for_charged : (config : Config) (past : List Entry) (a : Pager) (flat : FlatState) (page : Page) → IsSound config past a → a.touched ≡ flat.touched → (is_paged config page ≡ true → has_page a.charged page ≡ true) → is_page_file_full config flat page ≡ false
 room_for_charged config past a flat page sound same charged = false_from_ne_true (is_page_file_full config flat page) (λ full.
-    let parts = and_parts (is_untouched flat page) (nat_eq (length flat.touched) config.pagefile) full in
-    let untouched = and_parts (is_private page) (not (has_page flat.touched page)) parts.0 in
+    let parts = and_parts (is_untouched config flat page) (nat_eq (length flat.touched) config.pagefile) full in
+    let untouched = and_parts (is_paged config page) (not (has_page flat.touched page)) parts.0 in
     let out : has_page a.touched page ≡ false = ap (λ (x : List Page). has_page x page) same ∙ not-true (has_page flat.touched page) untouched.1 in
     let fewer = shorter_list a.touched a.charged page sound.charges.touched_once sound.charges.touched out (charged untouched.0) in
     let all : length flat.touched ≡ config.pagefile = eqb-true (length flat.touched) config.pagefile parts.1 in
@@ -43,4 +43,4 @@ done_unrefused config past a flat p r sound done same_map same_touched =
     ∙ refusal_none config flat p r (a.map p v) done.allowed (λ page is.
     let same : there.0 ≡ page = same_Some there.0 page (sym there.1 ∙ is) in
     room_for_charged config past a flat page sound same_touched
-    (λ private. sound.contents.held page e.frame private (there.2 ∙ ap Some same)))
+    (λ paged. sound.contents.held page e.frame paged (there.2 ∙ ap Some same)))

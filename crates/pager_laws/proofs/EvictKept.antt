@@ -1,10 +1,10 @@
 -- EVICT, for each of its five reasons.
 use Rattle.pager_rules.proofs.Quiet.{none_failed}
-use Rattle.std.proofs.Common.{◌≡◌, ◌⊎◌, ℕ, zero, suc, ◌+◌, ◌<◌, Bool, true, false, cond, not, List, [], ◌∷◌, Option, Some, None, length, nat_eq, nat_lt, count_by, slice_get, slice_set, refl, sym, ap, ap₂, ◌∙◌, subst, subst₂, inl, inr, arith, length-set}
+use Rattle.std.proofs.Common.{◌≡◌, ◌⊎◌, ℕ, zero, suc, ◌+◌, ◌<◌, Bool, true, false, cond, not, List, [], ◌&&◌, ◌∷◌, Option, Some, None, length, nat_eq, nat_lt, count_by, slice_get, slice_set, refl, sym, ap, ap₂, ◌∙◌, subst, subst₂, inl, inr, arith, length-set}
 use Rattle.std.proofs.lemmas.Bool.{cases_eq, ne_eqb, eqb-true, and_left, and_parts, ltb-true, ltb-false, false≢true}
 use Rattle.std.proofs.lemmas.Option.{slice_get_within}
 use Rattle.std.specs.List.{position_or_len}
-use Rattle.vm_types.specs.Ring.{Ring, Held, filled, is_filled_slot, is_locked_slot}
+use Rattle.vm_types.specs.Ring.{Ring, Held, filled, is_filled_slot, is_fixed_slot, is_pinned_slot, is_unpinned_slot}
 use Rattle.vm_types.specs.declared.names.Proc.{Proc}
 use Rattle.vm_types.specs.declared.names.Addr.{Addr}
 use Rattle.vm_types.specs.declared.names.Pfn.{Pfn}
@@ -27,22 +27,23 @@ use Rattle.pager_model.specs.Around.{FrameView, PastView, entry_view, frame_view
 use Rattle.pager_model.specs.Changes.{pushed_if, without_entry}
 use Rattle.pager_model.specs.Evict.{IsDropped, IsEvict, IsEvicted, IsLeavingEvict, IsReplace, IsRundownEvict, IsTaken, after_evict, evicted_to, victim_of}
 use Rattle.pager_model.specs.Flights.{Direction, Flight, open_flights, reading, writing}
-use Rattle.pager_model.specs.Lookups.{entries_at, has_vpn, is, is_entry, is_of, own_page, page_by, shares, slot_of, slot_with}
+use Rattle.pager_model.specs.Lookups.{entries_at, has_pin, has_vpn, is, is_entry, is_of, own_page, page_by, shares, slot_of, slot_with}
 use Rattle.pager_model.specs.Maps.{is_private, page_number, proc}
 use Rattle.pager_model.specs.Pager.{Pager, Valid}
 use Rattle.pager_model.specs.Ring.{cleared}
 use Rattle.pager_model.specs.Sets.{at_number}
-use Rattle.pager_model.specs.Sound.{FitsSlot, HasSwapped, IsSwapped, MayHoldSwapped}
+use Rattle.pager_model.specs.Sound.{FitsSlot, HasSwapped, IsSwapped, MayHoldSwapped, pins_of_page}
 use Rattle.pager_model.specs.Transfers.{reads_on, writes_on}
 use Rattle.pager_rules.proofs.Basics.{at_number_other, at_number_same, count_cons_no, nat_eq_refl}
 use Rattle.pager_rules.proofs.Frames.{active_frame, at_state, from_state}
 use Rattle.pager_rules.proofs.Lists.{all_filter, all_found, all_step, count_filter_le, count_found, count_removed_no, count_removed_yes, count_written, found_passes, slot_unchanged}
-use Rattle.pager_rules.proofs.Pages.{is_of_private, own_process}
+use Rattle.pager_rules.proofs.Pages.{is_of_private, own_process, private_is_paged}
 use Rattle.pager_rules.proofs.Put.{pushed_other, pushed_same}
 use Rattle.pager_rules.proofs.Rings.{IsCleared, cleared_process, entries_drop}
 use Rattle.pager_rules.proofs.Transfers.{on_frame}
 use Rattle.pager_rules.proofs.Views.{frames_move}
 use Rattle.pager_rules.specs.Kept.{FitsDirection, FitsFlight, FitsFrame, FitsProcess, IsForItsPage, IsKept, IsSwapWrite, views}
+use Rattle.pager_rules.proofs.Pins.{pins_of_less}
 
 next_slot : (x : Option Held) (xs : List (Option Held)) (n : ℕ) → slice_get (x ∷ xs) (1 + n) ≡ slice_get xs n
 next_slot x xs n = let e : 1 + n ≡ suc n = omega arith in ap (slice_get (x ∷ xs)) e
@@ -172,7 +173,14 @@ module _ (config : Config) (past : List Entry) (a : Pager) (p v f slot : ℕ) (t
         let whole = count_written (has_vpn w) (a.ring p).slots slot (Some legal.held) None legal.holds in
         let there = ap (λ (u : ℕ). cond {A = ℕ} (nat_eq u w) 1 0) legal.same in
         omega arith;
-    locks = let whole = count_written is_locked_slot (a.ring p).slots slot (Some legal.held) None legal.holds in omega arith;
+    pins = λ w apart.
+        let whole = count_written (has_pin w) (a.ring p).slots slot (Some legal.held) None legal.holds in
+        let off = ap (λ (c : Bool). cond {A = ℕ} (c && (legal.held).pinned) 1 0) (ap (λ (u : ℕ). nat_eq u w) legal.same ∙ ne_eqb v w apart) in
+        omega arith;
+    fewer_pins = λ w. let whole = count_written (has_pin w) (a.ring p).slots slot (Some legal.held) None legal.holds in omega arith;
+    locks = let whole = count_written is_fixed_slot (a.ring p).slots slot (Some legal.held) None legal.holds in omega arith;
+    pinned = let whole = count_written is_pinned_slot (a.ring p).slots slot (Some legal.held) None legal.holds in omega arith;
+    unpinned = let whole = count_written is_unpinned_slot (a.ring p).slots slot (Some legal.held) None legal.holds in omega arith;
     slots = length-set (a.ring p).slots slot None;
     hand = hand_is;
   }
@@ -184,7 +192,7 @@ module _ (config : Config) (past : List Entry) (a : Pager) (p v f slot : ℕ) (t
   process_there r apart = let ring_is = at_number_other a.ring p new r apart in cc
 
   process_here : FitsProcess (process_view config (left to) p)
-  process_here = subst (λ (r : Ring). FitsProcess (record (process_view config a p) { ring = r })) (sym (at_number_same a.ring p new)) (cleared_process (process_view config a p) new v is_cleared fewer (kept.processes p))
+  process_here = subst (λ (r : Ring). FitsProcess (record (process_view config a p) { ring = r })) (sym (at_number_same a.ring p new)) (cleared_process (process_view config a p) new v is_cleared (kept.processes p))
 
   entries_there : (r w : ℕ) → (p ≡ r → ⊥) → entries_at (without_entry a.valid p v) r w ≡ entries_at a.valid r w
   entries_there r w far = count_removed_no (is_entry r w) (is_entry p v) a.valid legal.taken.entry legal.taken.valid (kept.entries p v).once
@@ -202,6 +210,7 @@ module _ (config : Config) (past : List Entry) (a : Pager) (p v f slot : ℕ) (t
     alone = was.alone;
     within = (slots (cases_eq p q)).0;
     slot = (slots (cases_eq p q)).1;
+    unpinned = pins (cases_eq p q);
     frame = λ h held. frame h held (cases_eq f h);
   }
     where
@@ -222,6 +231,13 @@ module _ (config : Config) (past : List Entry) (a : Pager) (p v f slot : ℕ) (t
           let here : n < length (a.ring p).slots = subst (λ (j : ℕ). n < length (a.ring j).slots) (sym same) was.within in
           let old_slot : FitsSlot q (slot_of (slice_get (a.ring p).slots n)) g = subst (λ (j : ℕ). FitsSlot q (slot_of (slice_get (a.ring j).slots n)) g) (sym same) was.slot in
           (subst (λ (o : Ring). n < length o.slots) ring_is (omega (arith, is_cleared.slots)), subst (λ (o : Ring). FitsSlot q (slot_of (slice_get o.slots n)) g) ring_is (cleared_slot (a.ring p).slots slot n old_slot))
+
+      pins : (p ≡ q) ⊎ (p ≡ q → ⊥) → pins_of_page ((left to).ring q) g ≡ 0
+      pins (inr far) = subst (λ (o : Ring). pins_of_page o g ≡ 0) (sym (at_number_other a.ring p new q far)) was.unpinned
+      pins (inl same) =
+          let ring_is : new ≡ (left to).ring q = sym (subst (λ (j : ℕ). at_number a.ring p new j ≡ new) same (at_number_same a.ring p new)) in
+          let before : pins_of_page (a.ring p) g ≡ 0 = subst (λ (j : ℕ). pins_of_page (a.ring j) g ≡ 0) (sym same) was.unpinned in
+          subst (λ (o : Ring). pins_of_page o g ≡ 0) ring_is (pins_of_less g (a.ring p) new is_cleared.fewer_pins before)
 
       frame : (h : ℕ) → a.page h ≡ Some g → (f ≡ h) ⊎ (f ≡ h → ⊥) → MayHoldSwapped ((left to).state h) (a.status q)
       frame h holds (inl same) =
@@ -258,8 +274,8 @@ module _ (config : Config) (past : List Entry) (a : Pager) (p v f slot : ℕ) (t
 
       y_is : fits.0 ≡ y
       y_is =
-          let charged = kept.held_charged x.frame y private holds in
-          let mapped : own_page config a.map y ≡ Some y = (kept.pages y).mapped charged in
+          let charged = kept.held_charged x.frame y (private_is_paged config y private) holds in
+          let mapped : own_page config a.map y ≡ Some y = (kept.pages y).mapped charged private in
           let at_v : page_by config a.map p v ≡ Some y = subst (λ (z : Page). own_page config a.map z ≡ Some y) page mapped in
           cc (own, at_v)
 
@@ -293,7 +309,7 @@ module _ (config : Config) (past : List Entry) (a : Pager) (p v f slot : ℕ) (t
       by (reading (role.Come q address)) old = old
       by writing (inl section) = inl section
       by writing (inr (inl file)) = inr (inl file)
-      by writing (inr (inr swap)) = inr (inr (record { p = swap.p; n = swap.n; block = swap.block; own = swap.own; leaving = swap.leaving; held = swap.held; slot = slot_is (cases_eq p swap.p); fits = swap.fits }))
+      by writing (inr (inr swap)) = inr (inr (record { p = swap.p; n = swap.n; block = swap.block; own = swap.own; leaving = swap.leaving; held = swap.held; slot = slot_is (cases_eq p swap.p); fits = swap.fits; unpinned = swap.unpinned }))
         where
           slot_is : (p ≡ swap.p) ⊎ (p ≡ swap.p → ⊥) → slice_get ((left to).ring swap.p).slots swap.n ≡ Some (Some swap.held)
           slot_is (inr far) = subst (λ (r : Ring). slice_get r.slots swap.n ≡ Some (Some swap.held)) (sym (at_number_other a.ring p new swap.p far)) swap.slot

@@ -89,6 +89,8 @@ served_few config n a p (service.Delete at pages) answer.Good old =
 served_few config n a p (service.Protect at pages prot) answer.Good old = same n a (after_served config a p (service.Protect at pages prot) answer.Good) refl refl old
 served_few config n a p (service.Lock at pages) (answer.Count k) old = same n a (after_served config a p (service.Lock at pages) (answer.Count k)) refl refl old
 served_few config n a p (service.Unlock at pages) (answer.Count k) old = same n a (after_served config a p (service.Unlock at pages) (answer.Count k)) refl refl old
+served_few config n a p (service.Pin at pages) (answer.Count k) old = same n a (after_served config a p (service.Pin at pages) (answer.Count k)) refl refl old
+served_few config n a p (service.Unpin at pages) (answer.Count k) old = same n a (after_served config a p (service.Unpin at pages) (answer.Count k)) refl refl old
 served_few config n a p (service.Adjust k) answer.Good old = same n a (after_served config a p (service.Adjust k) answer.Good) refl refl old
 served_few config n a p s other old = same n a a refl refl old
 

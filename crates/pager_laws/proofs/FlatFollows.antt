@@ -90,6 +90,8 @@ served_follows config past a p (service.Delete at pages) answer.Good flat kept o
 served_follows config past a p (service.Protect at pages prot) answer.Good flat kept old = record { map = ap (map_range (option_map (with_prot prot)) p at.0 pages) old.map; touched = old.touched }
 served_follows config past a p (service.Lock at pages) (answer.Count n) flat kept old = record { map = old.map; touched = old.touched }
 served_follows config past a p (service.Unlock at pages) (answer.Count n) flat kept old = record { map = old.map; touched = old.touched }
+served_follows config past a p (service.Pin at pages) (answer.Count n) flat kept old = record { map = old.map; touched = old.touched }
+served_follows config past a p (service.Unpin at pages) (answer.Count n) flat kept old = record { map = old.map; touched = old.touched }
 served_follows config past a p (service.Adjust n) answer.Good flat kept old = record { map = old.map; touched = old.touched }
 served_follows config past a p s other flat kept old = old
 
@@ -98,7 +100,7 @@ answered_map : (config : Config) (flat : FlatState) (p : ℕ) (r : Ref) (o : Opt
 answered_map config flat p r None = refl
 answered_map config flat p r (Some m) = refl
 
-answered_touched : (config : Config) (flat : FlatState) (p : ℕ) (r : Ref) (o : Option Mapped) → (answered_at config flat p r o).touched ≡ touched_at flat.touched (page_at config p (page_number (r.addr).0) o)
+answered_touched : (config : Config) (flat : FlatState) (p : ℕ) (r : Ref) (o : Option Mapped) → (answered_at config flat p r o).touched ≡ touched_at config flat.touched (page_at config p (page_number (r.addr).0) o)
 answered_touched config flat p r None = refl
 answered_touched config flat p r (Some m) = refl
 
@@ -110,7 +112,7 @@ done_follows config past a p r w flat kept still due legal old =
     let answers : flat_next config flat p r ≡ next = ap (λ (o : Option Why). next_unless o flat next) (done_unrefused config past a flat p r (kept_is_sound config past a kept) legal old.map old.touched) in
     record {
       map = old.map ∙ (sym (answered_map config flat p r (flat.map p v)) ∙ ap (λ (x : FlatState). x.map) (sym answers));
-      touched = ap₂ (λ (touched : List Page) (map : Map). touched_at touched (page_at config p v (map p v))) old.touched old.map ∙ (sym (answered_touched config flat p r (flat.map p v)) ∙ ap (λ (x : FlatState). x.touched) (sym answers));
+      touched = ap₂ (λ (touched : List Page) (map : Map). touched_at config touched (page_at config p v (map p v))) old.touched old.map ∙ (sym (answered_touched config flat p r (flat.map p v)) ∙ ap (λ (x : FlatState). x.touched) (sym answers));
     }
 
 module _ (config : Config) (past : List Entry) (a : Pager) (seat : Seat) (flat : FlatState) (kept : IsKept config (past_view past) a) (old : IsFollowed a flat) where

@@ -24,7 +24,7 @@ use Rattle.pager_model.specs.Around.{FrameView, block_view, entry_view, frame_vi
 use Rattle.pager_model.specs.Flights.{Flight, is_busy, open_flights, reading}
 use Rattle.pager_model.specs.In.{IsFirstIn, IsIn, IsInFault, IsInLying, after_in, after_in_fault, after_in_lying, charged_with}
 use Rattle.pager_model.specs.Lookups.{IsHead, count_page, entries_at, own_page, own_section, page_by}
-use Rattle.pager_model.specs.Maps.{is_private, page_number}
+use Rattle.pager_model.specs.Maps.{is_paged, is_private, page_number}
 use Rattle.pager_model.specs.Pager.{Pager}
 use Rattle.pager_model.specs.Sets.{at_number}
 use Rattle.pager_model.specs.Sound.{HasSwapped, is_out_state}
@@ -32,7 +32,7 @@ use Rattle.pager_model.specs.Transfers.{faults_of, is_fault_of, is_fault_role, i
 use Rattle.pager_rules.proofs.Basics.{at_number_other, at_number_same, count_cons, count_cons_no, count_cons_yes, nat_eq_refl, pages_equal}
 use Rattle.pager_rules.proofs.Frames.{from_state}
 use Rattle.pager_rules.proofs.Lists.{all_step}
-use Rattle.pager_rules.proofs.Pages.{own_is, swapped_frame}
+use Rattle.pager_rules.proofs.Pages.{own_is, private_is_paged, swapped_frame}
 use Rattle.pager_rules.proofs.Put.{and_false, blocks_equal, charged_other, charged_same, entries_put, free_row, head_counts, held_charged_put, held_put, idle_no_fault, no_block, no_entry, page_apart, unsaved_move, without_other, without_same}
 use Rattle.pager_rules.proofs.Transfers.{alike, flight_same}
 use Rattle.pager_rules.proofs.Views.{frames_move, pages_move}
@@ -46,7 +46,7 @@ module _ (config : Config) (a : Pager) (flights : List Flight) (start p f : ℕ)
   -- the page is charged now, or lies in the block
   abbrev From : Bool → Type 0
   From true = (is_fault_role r ≡ true) × IsFirstIn config a p v d x × (page_by config a.map p v ≡ Some x)
-  From false = (a.lies x ≡ Some d) × (is_private x ≡ true → 0 < count_page a.charged x)
+  From false = (a.lies x ≡ Some d) × (is_paged config x ≡ true → 0 < count_page a.charged x)
 
   abbrev charged : Bool → List Page
   charged c = cond c (x ∷ a.charged) a.charged
@@ -80,11 +80,12 @@ module _ (config : Config) (a : Pager) (flights : List Flight) (start p f : ℕ)
           let fits = kept.pages x in
           let one = charged_same x a.charged in
           record {
+            paged = λ some. private_is_paged config x from.1.private;
             charged = omega (arith, from.1.uncharged);
             touched = omega (arith, fits.touched);
             blocks = omega (arith, fits.blocks);
-            mapped = λ some. subst (λ (g : Page). own_page config a.map g ≡ Some x) (sym x_is) from.2;
-            lying = λ e private lies. omega (arith, from.1.uncharged);
+            mapped = λ some private. subst (λ (g : Page). own_page config a.map g ≡ Some x) (sym x_is) from.2;
+            lying = λ e paged lies. omega (arith, from.1.uncharged);
             in_file = fits.in_file;
             not_in_section = fits.not_in_section;
             shared = fits.shared;
@@ -94,9 +95,9 @@ module _ (config : Config) (a : Pager) (flights : List Flight) (start p f : ℕ)
   fit true from = from.1.room
   fit false from = kept.fit
 
-  own_charged : (c : Bool) → From c → is_private x ≡ true → 0 < count_page (charged c) x
-  own_charged true from private = omega (arith, charged_same x a.charged)
-  own_charged false from private = from.1 private
+  own_charged : (c : Bool) → From c → is_paged config x ≡ true → 0 < count_page (charged c) x
+  own_charged true from paged = omega (arith, charged_same x a.charged)
+  own_charged false from paged = from.1 paged
 
   not_lying : (c : Bool) → From c → (g : Page) → 0 < count_page (charged c) g → a.lies g ≡ None → (g ≡ x) ⊎ (0 < count_page a.charged g)
   not_lying false from g some lies = inr some
@@ -123,7 +124,7 @@ module _ (config : Config) (a : Pager) (flights : List Flight) (start p f : ℕ)
     where
       nowhere : (o : Option BlockId) → a.lies x ≡ o → a.lies x ≡ None
       nowhere None is = is
-      nowhere (Some e) is = absurd (omega (arith, (kept.pages x).lying e from.1.private is, from.1.uncharged))
+      nowhere (Some e) is = absurd (omega (arith, (kept.pages x).lying e (private_is_paged config x from.1.private) is, from.1.uncharged))
 
   module _ (c : Bool) (from : From c) (out : (g : ℕ) → a.page g ≡ Some x → ⊥) (fits_role : FitsRole begun x (process_view config a) (entry_view config a) r)
       (not_other : is_fault_role r ≡ true → is_busy p flights ≡ false) (home : count_by (is_on_block d) flights ≡ 0) (head : IsHead a.free f) (empty : a.page f ≡ None) where
@@ -209,7 +210,7 @@ module _ (config : Config) (a : Pager) (flights : List Flight) (start p f : ℕ)
       blocks = block_fits;
       fit = fit c from;
       held_once = held_put a.page f x out kept.held_once;
-      held_charged = held_charged_put a.page a.charged (charged c) f x (own_charged c from) (more c) kept.held_charged;
+      held_charged = held_charged_put config a.page a.charged (charged c) f x (own_charged c from) (more c) kept.held_charged;
       unsaved = unsaved;
       swapped = swapped;
       coming_once = kept.coming_once;
@@ -231,9 +232,9 @@ from_legal : (config : Config) (a : Pager) (flights : List Flight) (p : ℕ) (d 
 from_legal config a flights p d r v faults x kept fault own from = go (is_private x) refl (nat_eq (count_page a.charged x) 0) refl from
   where
     go : (c : Bool) → is_private x ≡ c → (n : Bool) → nat_eq (count_page a.charged x) 0 ≡ n → (a.lies x ≡ Some d) ⊎ IsFirstIn config a p v d x → From config a flights 0 p 0 d r v faults x kept (c && n)
-    go true private true none (inl lies) = let one = (kept.pages x).lying d private lies in let zero = eqb-true _ _ none in absurd (omega arith)
-    go true private false some (inl lies) = (lies, λ private. omega (arith, (kept.pages x).lying d private lies))
-    go false shared n is (inl lies) = (lies, λ private. absurd (false≢true (sym shared ∙ private)))
+    go true private true none (inl lies) = let one = (kept.pages x).lying d (private_is_paged config x private) lies in let zero = eqb-true _ _ none in absurd (omega arith)
+    go true private false some (inl lies) = (lies, λ paged. omega (arith, (kept.pages x).lying d paged lies))
+    go false shared n is (inl lies) = (lies, λ paged. omega (arith, (kept.pages x).lying d paged lies))
     go true private true none (inr first) = (fault, first, own)
     go true private false some (inr first) = absurd (false≢true (sym some ∙ eq-eqb _ _ first.uncharged))
     go false shared n is (inr first) = absurd (false≢true (sym shared ∙ first.private))
@@ -261,7 +262,7 @@ lying_begun : (config : Config) (past : List Entry) (a : Pager) (seat f : ℕ) (
     → IsKept config (quiet (record { start = length past + 1; seat = seat; frame = f; block = d; direction = reading r } ∷ open_flights past)) (after_in_lying a f (Some x))
 lying_begun config past a seat f d r x before legal other fits =
     let kept = before in
-    read_begun config a (open_flights past) (length past + 1) seat f d r 0 a.faults x kept false (legal.lies, λ private. omega (arith, (kept.pages x).lying d private legal.lies)) legal.out fits
+    read_begun config a (open_flights past) (length past + 1) seat f d r 0 a.faults x kept false (legal.lies, λ paged. omega (arith, (kept.pages x).lying d paged legal.lies)) legal.out fits
     (λ fault. absurd (false≢true (sym other ∙ fault))) legal.home.still legal.frame.head legal.frame.empty
 
 pub in_kept : (config : Config) (past : List Entry) (a : Pager) (seat : Seat) (f : Pfn) (d : BlockId) (r : Role) → IsKept config (quiet (open_flights past)) a → (is_fault_role r ≡ true → is_busy seat.0 (open_flights past) ≡ false) → IsIn r config past a seat.0 f.0 d

@@ -17,10 +17,10 @@ use Rattle.vm_journal.specs.declared.entry.Role.TheVariants as role
 use Rattle.pager_model.specs.Around.{FrameView, entry_view, frame_view, page_view, past_view, process_view}
 use Rattle.pager_model.specs.Flights.{Direction, Flight, has_failed_read, has_flight, is_reading, open_flights, reading, writing}
 use Rattle.pager_model.specs.Lookups.{count_page, is, is_assigned_to, is_entry, own_page, page_by, shares}
-use Rattle.pager_model.specs.Maps.{page_number}
+use Rattle.pager_model.specs.Maps.{is_paged, is_private, page_number}
 use Rattle.pager_model.specs.Pager.{Assigned, Pager, Valid}
 use Rattle.pager_model.specs.Sets.{has, has_page}
-use Rattle.pager_model.specs.Sound.{ReadsFrom, IsFailureSound, HasCharges, HasPages, HasStatuses, GoesRight, IsFirstReading, HasEntries, IsFlightSound, HasStates, HasContents, HasBadFrames, HasFlights, IsPrivateMapped, HasLists, IsSound}
+use Rattle.pager_model.specs.Sound.{ReadsFrom, IsFailureSound, HasCharges, HasPages, HasStatuses, GoesRight, IsFirstReading, HasEntries, IsFlightSound, HasStates, HasContents, HasBadFrames, HasFlights, HasLists, IsPagedMapped, IsSound}
 use Rattle.pager_model.specs.Transfers.{is_on_block, is_read_on, is_write_on, reads_on, writes_on}
 use Rattle.pager_rules.proofs.Basics.{count_cons, count_cons_no, count_cons_yes, count_none, each_weaker, find_none_from_count, nat_eq_refl, same_page_refl, states_equal}
 use Rattle.pager_rules.proofs.Frames.{at_state}
@@ -222,13 +222,13 @@ module _ (config : Config) (past : List Entry) (a : Pager) (kept : IsKept config
     one_each = distinct_by same_page (λ (x : Assigned). x.page) is_assigned_to (λ k x. refl) same_page_refl a.assigned (λ g. omega (arith, (kept.pages g).blocks, (kept.pages g).charged));
     belong = all_step (λ (x : Assigned). Unit {0}) (λ (x : Assigned). has_page a.charged x.page ≡ true) a.assigned
         (λ x counts u. has_from_count a.charged x.page (omega (arith, counts (is_assigned_to x.page) (same_page_refl x.page), (kept.pages x.page).blocks))) (units a.assigned);
-    shared = λ s i. (kept.pages (Shared s i)).shared s i refl;
+    shared = λ s i file. (kept.pages (Shared s i)).shared s i refl file;
     lies = λ page b lies. (kept.pages page).in_file b lies;
   }
 
-  private_mapped : (page : Page) → own_page config a.map page ≡ Some page → IsPrivateMapped config a page
-  private_mapped (Private p v) is = is
-  private_mapped (Shared s i) is = absurd (none-some _ is)
+  paged_mapped : (page : Page) → is_paged config page ≡ true → (is_private page ≡ true → own_page config a.map page ≡ Some page) → IsPagedMapped config a page
+  paged_mapped (Private p v) paged is = is refl
+  paged_mapped (Shared s i) paged is = paged
 
   saved : (f : ℕ) → (a.modify f || (nat_lt 0 (reads_on f flights + writes_on f flights) || has_failed_read f past)) ≡ true → (a.modify f || (has_flight f flights || has_failed_read f past)) ≡ true
   saved f is = subst (λ (b : Bool). (a.modify f || (b || has_failed_read f past)) ≡ true) (ap (λ (n : ℕ). nat_lt 0 n) (sym (on_frame_is f flights)) ∙ sym (any_counts (λ (x : Flight). nat_eq x.frame f) flights)) is
@@ -236,9 +236,9 @@ module _ (config : Config) (past : List Entry) (a : Pager) (kept : IsKept config
   contents : HasContents config past a
   contents = record {
     nowhere = λ page is lies. let found = kept.unsaved page (count_from_has a.charged page is) lies in (found.0, found.1, saved found.0 found.2);
-    lying = λ page b private lies. has_from_count a.charged page (omega (arith, (kept.pages page).lying b private lies));
-    held = λ page f private holds. has_from_count a.charged page (kept.held_charged f page private holds);
-    mapped = λ page is. private_mapped page ((kept.pages page).mapped (count_from_has a.charged page is));
+    lying = λ page b paged lies. has_from_count a.charged page (omega (arith, (kept.pages page).lying b paged lies));
+    held = λ page f paged holds. has_from_count a.charged page (kept.held_charged f page paged holds);
+    mapped = λ page is. let some = count_from_has a.charged page is in paged_mapped page ((kept.pages page).paged some) ((kept.pages page).mapped some);
   }
 
   statuses : HasStatuses config a
@@ -273,7 +273,7 @@ module _ (config : Config) (past : List Entry) (a : Pager) (kept : IsKept config
   goes_right x page (reading (role.Come p address)) fits = (reads_from x (role.Come p address) page fits.0, fits.1)
   goes_right x page writing (inl section) = inl section
   goes_right x page writing (inr (inl file)) = inr (inl file)
-  goes_right x page writing (inr (inr swap)) = inr (inr (record { p = swap.p; n = swap.n; block = swap.block; own = swap.own; leaving = swap.leaving; held = swap.held; slot = swap.slot; fits = swap.fits }))
+  goes_right x page writing (inr (inr swap)) = inr (inr (record { p = swap.p; n = swap.n; block = swap.block; own = swap.own; leaving = swap.leaving; held = swap.held; slot = swap.slot; fits = swap.fits; unpinned = swap.unpinned }))
 
   failure_sound : (f : ℕ) → has_failed_read f past ≡ true → IsFailureSound config past a f
   failure_sound f is =

@@ -4,7 +4,7 @@ use Rattle.std.proofs.Common.{◌-◌, nat_le, nat_lt, cond, Bool, true, false, 
 use Rattle.std.proofs.lemmas.Bool.{leb-true, leb-false}
 use Rattle.std.proofs.lemmas.Option.{slice_get_cases, slice_get_within, get_or_from_slice_get}
 use Rattle.std.proofs.lemmas.Grind.{common_steps}
-use Rattle.vm_types.specs.Configuration.{IsWellFormed, IsProcess}
+use Rattle.vm_types.specs.Configuration.{IsWellFormed, IsProcess, all_pins}
 use Rattle.vm_types.specs.declared.config.Params.{Params}
 use Rattle.vm_types.specs.declared.config.ProcSpec.{ProcSpec}
 use Rattle.vm_types.specs.declared.names.Addr.{Addr}
@@ -108,7 +108,7 @@ limit_set config past a p n kept own idle limits =
 
     here : FitsProcess (process_view config b p)
     here = subst (λ (l : ℕ). FitsProcess (record (process_view config a p) { limit = l })) (sym (at_number_same a.limit p n)) (record {
-      bounds = λ spec found. let old = (kept.processes p).bounds spec found in let limit = limits spec found in record { locks = old.locks; least = limit.0; most = limit.1; slots = old.slots; hand = old.hand };
+      bounds = λ spec found. let old = (kept.processes p).bounds spec found in let limit = limits spec found in record { locks = old.locks; pins = old.pins; least = limit.0; most = limit.1; slots = old.slots; hand = old.hand };
       gone = (kept.processes p).gone;
       none = λ none. absurd (none_within config.procs p own.process none);
     })
@@ -122,8 +122,8 @@ limit_kept config past a seat n faults formed before idle legal =
     bounds : (spec : ProcSpec) → slice_get config.procs seat.0 ≡ Some spec → (spec.locks + 2 ≤ n) × (n ≤ spec.extent)
     bounds spec found =
         let old = (before.processes seat.0).bounds spec found in
-        let process : IsProcess config.frames (length config.bad) spec =
-        subst (λ (x : ProcSpec). IsProcess config.frames (length config.bad) x) (get_or_from_slice_get config.procs seat.0 spec spec found) (formed.procs seat.0 spec (slice_get_within config.procs seat.0 spec found)) in
+        let process : IsProcess config.frames (length config.bad + all_pins config) spec =
+        subst (λ (x : ProcSpec). IsProcess config.frames (length config.bad + all_pins config) x) (get_or_from_slice_get config.procs seat.0 spec spec found) (formed.procs seat.0 spec (slice_get_within config.procs seat.0 spec found)) in
         subst (λ (m : ℕ). (spec.locks + 2 ≤ m) × (m ≤ spec.extent)) (sym (legal.adjusted spec found))
         (adjust_within config.params spec (a.faults seat.0) (a.limit seat.0) (length a.free) process.quota process.extent old.least old.most)
 

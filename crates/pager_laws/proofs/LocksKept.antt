@@ -1,38 +1,48 @@
--- SERVED Lock and Unlock: the ring of a resident process, but for its locks.
+-- SERVED Lock, Unlock, Pin and Unpin: the ring of a resident process, but for its marks.
 use Rattle.pager_rules.proofs.Quiet.{none_failed}
-use Rattle.std.proofs.Common.{◌≡◌, ◌⊎◌, ℕ, zero, suc, ◌≤◌, Bool, true, false, cond, List, [], ◌∷◌, Option, Some, None, length, map, slice_get, refl, sym, ap, ◌∙◌, subst, inl, inr, arith}
+use Rattle.std.proofs.Common.{◌≡◌, ◌⊎◌, ℕ, zero, suc, ◌≤◌, Bool, true, false, cond, List, [], ◌||◌, ◌∷◌, Option, Some, None, length, map, slice_get, refl, sym, ap, ◌∙◌, subst, inl, inr, arith}
 use Rattle.std.proofs.lemmas.Bool.{cases_eq}
 use Rattle.std.proofs.lemmas.List.{length-map}
-use Rattle.vm_types.specs.Ring.{Ring, Held, filled, locked, is_filled_slot, is_locked_slot}
+use Rattle.vm_types.specs.Configuration.{pins_of}
+use Rattle.vm_types.specs.Ring.{Ring, Held, fixed, is_fixed_slot, is_pinned_slot, pinned}
 use Rattle.vm_types.specs.declared.names.Page.{Page}
 use Rattle.vm_types.specs.declared.names.Page.TheVariants.{Private, Shared}
 use Rattle.vm_types.specs.declared.config.Config.{Config}
 use Rattle.vm_types.specs.declared.config.ProcSpec.{ProcSpec}
+use Rattle.vm_types.specs.declared.config.Version.{Version}
+use Rattle.vm_types.specs.declared.config.Version.TheVariants as version
 use Rattle.vm_journal.specs.declared.entry.Entry.{Entry}
 use Rattle.pager_laws.proofs.TurnKept.{count_map}
 use Rattle.pager_model.specs.Around.{entry_view, process_view, quiet}
 use Rattle.pager_model.specs.FlatService.{in_range}
 use Rattle.pager_model.specs.Flights.{is_busy, open_flights}
-use Rattle.pager_model.specs.Lookups.{has_vpn, slot_of, slots_with}
+use Rattle.pager_model.specs.Lookups.{has_vpn, pins_with, slot_of, slots_with}
 use Rattle.pager_model.specs.Own.{IsOwn}
 use Rattle.pager_model.specs.Pager.{Pager}
-use Rattle.pager_model.specs.Ring.{range_locked, relocked_slot}
+use Rattle.pager_model.specs.Ring.{range_locked, range_pinned, relocked_slot, repinned_slot}
 use Rattle.pager_model.specs.Served.{with_ring}
 use Rattle.pager_model.specs.Sets.{at_number}
 use Rattle.pager_model.specs.Sound.{FitsSlot}
-use Rattle.pager_rules.proofs.Basics.{at_number_other, at_number_same, count_cons, count_cons_no}
+use Rattle.pager_rules.proofs.Basics.{at_number_other, at_number_same, count_cons}
 use Rattle.pager_rules.proofs.Pages.{swapped_move}
 use Rattle.pager_rules.proofs.Transfers.{alike, transfers_idle}
 use Rattle.pager_rules.proofs.Views.{frames_move}
 use Rattle.pager_rules.specs.Kept.{FitsEntry, FitsProcess, IsKept, views}
+use Rattle.pager_rules.proofs.Pins.{pinned_few}
 
 -- each slot has the page that it had
 pub record HasSameSlots (old new : Ring) : Type 0 where
   pub vpns : (w : ℕ) → slots_with new w ≡ slots_with old w
-  pub filled : filled new.slots ≡ filled old.slots
   pub slots : length new.slots ≡ length old.slots
   pub hand : new.hand ≡ old.hand
   pub slot : (p n : ℕ) (g : Page) → FitsSlot p (slot_of (slice_get old.slots n)) g → FitsSlot p (slot_of (slice_get new.slots n)) g
+
+fits_repinned : (pin : Bool) (address pages p n : ℕ) (g : Page) (xs : List (Option Held)) → FitsSlot p (slot_of (slice_get xs n)) g → FitsSlot p (slot_of (slice_get (map (repinned_slot pin address pages) xs) n)) g
+fits_repinned pin address pages p n g [] fits = fits
+fits_repinned pin address pages p zero g (None ∷ xs) fits = fits
+fits_repinned pin address pages p zero (Private q v) (Some held ∷ xs) fits = fits
+fits_repinned pin address pages p zero (Shared s i) (Some held ∷ xs) fits = fits
+fits_repinned pin address pages p (suc n) g (x ∷ xs) fits = fits_repinned pin address pages p n g xs fits
 
 fits_relocked : (lock : Bool) (address pages p n : ℕ) (g : Page) (xs : List (Option Held)) → FitsSlot p (slot_of (slice_get xs n)) g → FitsSlot p (slot_of (slice_get (map (relocked_slot lock address pages) xs) n)) g
 fits_relocked lock address pages p n g [] fits = fits
@@ -44,7 +54,6 @@ fits_relocked lock address pages p (suc n) g (x ∷ xs) fits = fits_relocked loc
 same_slots : (lock : Bool) (address pages : ℕ) (ring : Ring) → HasSameSlots ring (range_locked lock address pages ring)
 same_slots lock address pages ring = record {
   vpns = λ w. count_map (has_vpn w) (has_vpn w) f (vpn w) ring.slots;
-  filled = count_map is_filled_slot is_filled_slot f fills ring.slots;
   slots = length-map ring.slots f;
   hand = refl;
   slot = λ p n g fits. fits_relocked lock address pages p n g ring.slots fits;
@@ -57,26 +66,73 @@ same_slots lock address pages ring = record {
     vpn w None = refl
     vpn w (Some held) = refl
 
-    fills : (o : Option Held) → is_filled_slot (relocked_slot lock address pages o) ≡ is_filled_slot o
-    fills None = refl
-    fills (Some held) = refl
+same_pages : (pin : Bool) (address pages : ℕ) (ring : Ring) → HasSameSlots ring (range_pinned pin address pages ring)
+same_pages pin address pages ring = record {
+  vpns = λ w. count_map (has_vpn w) (has_vpn w) f (vpn w) ring.slots;
+  slots = length-map ring.slots f;
+  hand = refl;
+  slot = λ p n g fits. fits_repinned pin address pages p n g ring.slots fits;
+}
+  where
+    f : Option Held → Option Held
+    f = repinned_slot pin address pages
 
--- unlocking locks none
-unlocked_less : (address pages : ℕ) (xs : List (Option Held)) → locked (map (relocked_slot false address pages) xs) ≤ locked xs
+    vpn : (w : ℕ) (o : Option Held) → has_vpn w (repinned_slot pin address pages o) ≡ has_vpn w o
+    vpn w None = refl
+    vpn w (Some held) = refl
+
+-- unlocking fixes no more, and neither locking nor unlocking pins
+one_less : (b c d : Bool) → cond {A = ℕ} (cond b false c || d) 1 0 ≤ cond {A = ℕ} (c || d) 1 0
+one_less true true true = omega arith
+one_less true true false = omega arith
+one_less true false d = omega arith
+one_less false c d = omega arith
+
+one_loose : (b c d : Bool) → cond {A = ℕ} (c || cond b false d) 1 0 ≤ cond {A = ℕ} (c || d) 1 0
+one_loose true true d = omega arith
+one_loose true false true = omega arith
+one_loose true false false = omega arith
+one_loose false c d = omega arith
+
+unlocked_less : (address pages : ℕ) (xs : List (Option Held)) → fixed (map (relocked_slot false address pages) xs) ≤ fixed xs
 unlocked_less address pages [] = omega arith
 unlocked_less address pages (x ∷ xs) = go x (unlocked_less address pages xs)
   where
-    go : (o : Option Held) → locked (map (relocked_slot false address pages) xs) ≤ locked xs → locked (relocked_slot false address pages o ∷ map (relocked_slot false address pages) xs) ≤ locked (o ∷ xs)
-    go None rest = omega (arith, count_cons_no is_locked_slot None (map (relocked_slot false address pages) xs) refl, count_cons is_locked_slot None xs)
-    go (Some held) rest = by (in_range address pages held.vpn)
-      where
-        by : (c : Bool) → locked (Some (record { vpn = held.vpn; locked = cond c false held.locked }) ∷ map (relocked_slot false address pages) xs) ≤ locked (Some held ∷ xs)
-        by true = omega (arith, count_cons_no is_locked_slot (Some (record { vpn = held.vpn; locked = false })) (map (relocked_slot false address pages) xs) refl, count_cons is_locked_slot (Some held) xs)
-        by false = omega (arith, count_cons is_locked_slot (Some held) (map (relocked_slot false address pages) xs), count_cons is_locked_slot (Some held) xs)
+    go : (o : Option Held) → fixed (map (relocked_slot false address pages) xs) ≤ fixed xs → fixed (relocked_slot false address pages o ∷ map (relocked_slot false address pages) xs) ≤ fixed (o ∷ xs)
+    go None rest = omega (arith, count_cons is_fixed_slot None (map (relocked_slot false address pages) xs), count_cons is_fixed_slot None xs)
+    go (Some held) rest = omega (arith, one_less (in_range address pages held.vpn) held.locked held.pinned, count_cons is_fixed_slot (relocked_slot false address pages (Some held)) (map (relocked_slot false address pages) xs), count_cons is_fixed_slot (Some held) xs)
+
+unpinned_less : (address pages : ℕ) (xs : List (Option Held)) → fixed (map (repinned_slot false address pages) xs) ≤ fixed xs
+unpinned_less address pages [] = omega arith
+unpinned_less address pages (x ∷ xs) = go x (unpinned_less address pages xs)
+  where
+    go : (o : Option Held) → fixed (map (repinned_slot false address pages) xs) ≤ fixed xs → fixed (repinned_slot false address pages o ∷ map (repinned_slot false address pages) xs) ≤ fixed (o ∷ xs)
+    go None rest = omega (arith, count_cons is_fixed_slot None (map (repinned_slot false address pages) xs), count_cons is_fixed_slot None xs)
+    go (Some held) rest = omega (arith, one_loose (in_range address pages held.vpn) held.locked held.pinned, count_cons is_fixed_slot (repinned_slot false address pages (Some held)) (map (repinned_slot false address pages) xs), count_cons is_fixed_slot (Some held) xs)
+
+pins_left : (address pages : ℕ) (xs : List (Option Held)) → pinned (map (repinned_slot false address pages) xs) ≤ pinned xs
+pins_left address pages [] = omega arith
+pins_left address pages (x ∷ xs) = go x (pins_left address pages xs)
+  where
+    one : (b d : Bool) → cond {A = ℕ} (cond b false d) 1 0 ≤ cond {A = ℕ} d 1 0
+    one true d = omega arith
+    one false d = omega arith
+
+    go : (o : Option Held) → pinned (map (repinned_slot false address pages) xs) ≤ pinned xs → pinned (repinned_slot false address pages o ∷ map (repinned_slot false address pages) xs) ≤ pinned (o ∷ xs)
+    go None rest = omega (arith, count_cons is_pinned_slot None (map (repinned_slot false address pages) xs), count_cons is_pinned_slot None xs)
+    go (Some held) rest = omega (arith, one (in_range address pages held.vpn) held.pinned, count_cons is_pinned_slot (repinned_slot false address pages (Some held)) (map (repinned_slot false address pages) xs), count_cons is_pinned_slot (Some held) xs)
+
+pins_same : (lock : Bool) (address pages : ℕ) (xs : List (Option Held)) → pinned (map (relocked_slot lock address pages) xs) ≡ pinned xs
+pins_same lock address pages xs = count_map is_pinned_slot is_pinned_slot (relocked_slot lock address pages) same xs
+  where
+    same : (o : Option Held) → is_pinned_slot (relocked_slot lock address pages o) ≡ is_pinned_slot o
+    same None = refl
+    same (Some held) = refl
 
 pub ring_relocked : (config : Config) (past : List Entry) (a : Pager) (p : ℕ) (new : Ring) → IsKept config (quiet (open_flights past)) a → IsOwn config a p → is_busy p (open_flights past) ≡ false → HasSameSlots (a.ring p) new
-    → ((spec : ProcSpec) → slice_get config.procs p ≡ Some spec → locked new.slots ≤ spec.locks) → IsKept config (quiet (open_flights past)) (with_ring a p new)
-ring_relocked config past a p new kept own idle same locks =
+    → ((spec : ProcSpec) → slice_get config.procs p ≡ Some spec → fixed new.slots ≤ spec.locks)
+    → ((spec : ProcSpec) → slice_get config.procs p ≡ Some spec → pinned new.slots ≤ pins_of config.version spec) → IsKept config (quiet (open_flights past)) (with_ring a p new)
+ring_relocked config past a p new kept own idle same locks pins =
     record {
       frames = kept.frames;
       processes = frames_move FitsProcess (process_view config a) (process_view config b) p there here kept.processes;
@@ -105,25 +161,50 @@ ring_relocked config past a p new kept own idle same locks =
 
     here : FitsProcess (process_view config b p)
     here = subst (λ (r : Ring). FitsProcess (record (process_view config a p) { ring = r })) (sym (at_number_same a.ring p new)) (record {
-      bounds = λ spec found. let old = (kept.processes p).bounds spec found in record { locks = locks spec found; least = old.least; most = old.most; slots = same.slots ∙ old.slots; hand = omega (arith, same.hand, old.hand) };
-      gone = λ gone. same.filled ∙ (kept.processes p).gone gone;
+      bounds = λ spec found. let old = (kept.processes p).bounds spec found in record { locks = locks spec found; pins = pins spec found; least = old.least; most = old.most; slots = same.slots ∙ old.slots; hand = omega (arith, same.hand, old.hand) };
+      gone = λ gone. let resident = own.resident in absurd (cc);
       none = λ none. (((kept.processes p).none none).0, same.slots ∙ ((kept.processes p).none none).1);
     })
 
     entries : (q w : ℕ) → FitsEntry (entry_view config b q w)
-    entries q w = subst (λ (n : ℕ). FitsEntry (record (entry_view config a q w) { slots = n })) (sym (slots (cases_eq p q))) (kept.entries q w)
+    entries q w = at (cases_eq p q)
       where
-        slots : (p ≡ q) ⊎ (p ≡ q → ⊥) → slots_with (at_number a.ring p new q) w ≡ slots_with (a.ring q) w
-        slots (inl is) = subst (λ (r : ℕ). slots_with (at_number a.ring p new r) w ≡ slots_with (a.ring r) w) is (ap (λ (r : Ring). slots_with r w) (at_number_same a.ring p new) ∙ same.vpns w)
-        slots (inr apart) = ap (λ (r : Ring). slots_with r w) (at_number_other a.ring p new q apart)
+        own_entry : FitsEntry (entry_view config b p w)
+        own_entry = record {
+          once = (kept.entries p w).once;
+          slots = ap (λ (r : Ring). slots_with r w) (at_number_same a.ring p new) ∙ (same.vpns w ∙ (kept.entries p w).slots);
+          coming = λ g coming some mapped. let resident = own.resident in absurd (cc);
+        }
+
+        at : (p ≡ q) ⊎ (p ≡ q → ⊥) → FitsEntry (entry_view config b q w)
+        at (inl is) = subst (λ (r : ℕ). FitsEntry (entry_view config b r w)) is own_entry
+        at (inr apart) =
+            let ring_is = at_number_other a.ring p new q apart in
+            subst (λ (r : Ring). FitsEntry (record (entry_view config a q w) { slots = slots_with r w; pins = pins_with r w })) (sym ring_is) (kept.entries q w)
 
 pub locked_range : (config : Config) (past : List Entry) (a : Pager) (p address pages : ℕ) → IsKept config (quiet (open_flights past)) a → IsOwn config a p → is_busy p (open_flights past) ≡ false
-    → ((spec : ProcSpec) → slice_get config.procs p ≡ Some spec → locked (range_locked true address pages (a.ring p)).slots ≤ spec.locks)
+    → ((spec : ProcSpec) → slice_get config.procs p ≡ Some spec → fixed (range_locked true address pages (a.ring p)).slots ≤ spec.locks)
     → IsKept config (quiet (open_flights past)) (with_ring a p (range_locked true address pages (a.ring p)))
 locked_range config past a p address pages kept own idle locks = ring_relocked config past a p (range_locked true address pages (a.ring p)) kept own idle (same_slots true address pages (a.ring p)) locks
+    (λ spec found. subst (λ (n : ℕ). n ≤ pins_of config.version spec) (sym (pins_same true address pages (a.ring p).slots)) ((kept.processes p).bounds spec found).pins)
 
 pub unlocked_range : (config : Config) (past : List Entry) (a : Pager) (p address pages : ℕ) → IsKept config (quiet (open_flights past)) a → IsOwn config a p → is_busy p (open_flights past) ≡ false
     → IsKept config (quiet (open_flights past)) (with_ring a p (range_locked false address pages (a.ring p)))
 unlocked_range config past a p address pages kept own idle =
     ring_relocked config past a p (range_locked false address pages (a.ring p)) kept own idle (same_slots false address pages (a.ring p))
     (λ spec found. omega (arith, unlocked_less address pages (a.ring p).slots, ((kept.processes p).bounds spec found).locks))
+    (λ spec found. subst (λ (n : ℕ). n ≤ pins_of config.version spec) (sym (pins_same false address pages (a.ring p).slots)) ((kept.processes p).bounds spec found).pins)
+
+pub pinned_range : (config : Config) (past : List Entry) (a : Pager) (p address pages : ℕ) → config.version ≡ version.Two → IsKept config (quiet (open_flights past)) a → IsOwn config a p → is_busy p (open_flights past) ≡ false
+    → ((spec : ProcSpec) → slice_get config.procs p ≡ Some spec → fixed (range_pinned true address pages (a.ring p)).slots ≤ spec.locks)
+    → IsKept config (quiet (open_flights past)) (with_ring a p (range_pinned true address pages (a.ring p)))
+pinned_range config past a p address pages two kept own idle locks =
+    ring_relocked config past a p (range_pinned true address pages (a.ring p)) kept own idle (same_pages true address pages (a.ring p)) locks
+    (λ spec found. subst (λ (v : Version). pinned (range_pinned true address pages (a.ring p)).slots ≤ pins_of v spec) (sym two) (omega (arith, pinned_few (range_pinned true address pages (a.ring p)).slots, locks spec found)))
+
+pub unpinned_range : (config : Config) (past : List Entry) (a : Pager) (p address pages : ℕ) → IsKept config (quiet (open_flights past)) a → IsOwn config a p → is_busy p (open_flights past) ≡ false
+    → IsKept config (quiet (open_flights past)) (with_ring a p (range_pinned false address pages (a.ring p)))
+unpinned_range config past a p address pages kept own idle =
+    ring_relocked config past a p (range_pinned false address pages (a.ring p)) kept own idle (same_pages false address pages (a.ring p))
+    (λ spec found. omega (arith, unpinned_less address pages (a.ring p).slots, ((kept.processes p).bounds spec found).locks))
+    (λ spec found. omega (arith, pins_left address pages (a.ring p).slots, ((kept.processes p).bounds spec found).pins))

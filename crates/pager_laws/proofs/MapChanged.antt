@@ -13,13 +13,14 @@ use Rattle.pager_model.specs.Around.{entry_view, page_view, quiet}
 use Rattle.pager_model.specs.FlatService.{demand_zero, in_range, map_range, with_prot}
 use Rattle.pager_model.specs.Flights.{Flight, is_busy}
 use Rattle.pager_model.specs.Forget.{remapped}
-use Rattle.pager_model.specs.Lookups.{count_page, entries_at, is_entry, page_at, page_by, section_at}
+use Rattle.pager_model.specs.Lookups.{count_page, entries_at, is_entry, page_at, page_by, pins_with, section_at}
 use Rattle.pager_model.specs.Maps.{Map, Mapped, is_private}
 use Rattle.pager_model.specs.Pager.{Pager, Valid}
 use Rattle.pager_rules.proofs.Basics.{nat_eq_refl}
 use Rattle.pager_rules.proofs.Lists.{all_step}
 use Rattle.pager_rules.proofs.Transfers.{IsApart, alike, transfers_idle}
 use Rattle.pager_rules.specs.Kept.{FitsEntry, FitsPage, IsForItsPage, IsKept, views}
+use Rattle.pager_rules.proofs.Pages.{private_is_paged}
 
 -- the page stays mapped as it was, or nothing rests on it
 abbrev pub Stays : Config → Pager → ℕ → ℕ → Page → Option Mapped → Type 0
@@ -44,7 +45,7 @@ module _ (config : Config) (a : Pager) (flights : List Flight) (p : ℕ) (new : 
     coming = λ g coming some mapped. go g coming some mapped (cases_eq p q);
   }
     where
-      go : (g : Page) → a.status q ≡ status.Coming → 0 < entries_at a.valid q w → page_by config new q w ≡ Some g → (p ≡ q) ⊎ (p ≡ q → ⊥) → is_private g ≡ true
+      go : (g : Page) → a.status q ≡ status.Coming → 0 < entries_at a.valid q w → page_by config new q w ≡ Some g → (p ≡ q) ⊎ (p ≡ q → ⊥) → (is_private g ≡ true) ⊎ (0 < pins_with (a.ring q) w)
       go g coming some mapped (inl same) = absurd (let here = ap a.status same ∙ coming in cc)
       go g coming some mapped (inr apart) = (kept.entries q w).coming g coming some (sym (ap (page_at config q w) (is.other q w apart)) ∙ mapped)
 
@@ -61,7 +62,7 @@ module _ (config : Config) (a : Pager) (flights : List Flight) (p : ℕ) (new : 
   same_page_view (Private q w) charged = go (is.page q.0 w (Private q w) owned)
     where
       owned : page_by config a.map q.0 w ≡ Some (Private q w)
-      owned = (kept.pages (Private q w)).mapped (charged refl)
+      owned = (kept.pages (Private q w)).mapped (charged refl) refl
 
       go : Stays config a q.0 w (Private q w) (new q.0 w) ⊎ Drops a q.0 w (Private q w) → page_view config b (Private q w) ≡ page_view config a (Private q w)
       go (inl stays) = let mapped_is = stays.0 ∙ sym owned in let behind_is = stays.1 in cc
@@ -69,10 +70,11 @@ module _ (config : Config) (a : Pager) (flights : List Flight) (p : ℕ) (new : 
 
   pages : (g : Page) → FitsPage g (page_view config b g)
   pages g = let old = kept.pages g in record {
+    paged = old.paged;
     charged = old.charged;
     touched = old.touched;
     blocks = old.blocks;
-    mapped = λ some. subst (λ (o : Option Page). o ≡ Some g) (sym (λ i. (same_page_view g (λ private. some) i).mapped)) (old.mapped some);
+    mapped = λ some private. subst (λ (o : Option Page). o ≡ Some g) (sym (λ i. (same_page_view g (λ own. some) i).mapped)) (old.mapped some private);
     lying = old.lying;
     in_file = old.in_file;
     not_in_section = old.not_in_section;
@@ -103,7 +105,7 @@ module _ (config : Config) (a : Pager) (flights : List Flight) (p : ℕ) (new : 
     swapped = kept.swapped;
     coming_once = kept.coming_once;
     transfers = transfers_idle (views config a) (views config b) p apart flights idle
-        (λ x counts fits. (refl, λ g holds. alike _ _ _ (same_page_view g (λ private. kept.held_charged x.frame g private holds)))) kept.transfers;
+        (λ x counts fits. (refl, λ g holds. alike _ _ _ (same_page_view g (λ private. kept.held_charged x.frame g (private_is_paged config g private) holds)))) kept.transfers;
     one_fault = kept.one_fault;
     failed = none_failed _ _;
   }

@@ -9,9 +9,10 @@ use Rattle.std.proofs.lemmas.List.Folds.{find_at}
 use Rattle.std.specs.List.{position_or_len}
 use Rattle.vm_types.specs.Configuration.{IsBlock}
 use Rattle.vm_types.specs.declared.names.SecId.{SecId}
-use Rattle.pager_model.specs.Lookups.{is_assigned_to}
-use Rattle.pager_model.specs.Zero.{IsDemandZero}
+use Rattle.pager_model.specs.Lookups.{count_page, is_assigned_to}
+use Rattle.pager_model.specs.Zero.{zeroed_page}
 use Rattle.vm_types.specs.Configuration.{IsWellFormed, IsMapping, HasPages}
+use Rattle.vm_types.specs.Same.{same_page}
 use Rattle.vm_types.specs.WellFormed.{IsRange, IsWellFormedService}
 use Rattle.vm_types.specs.declared.names.Page.{Page}
 use Rattle.vm_types.specs.declared.names.Page.TheVariants.{Private, Shared}
@@ -34,27 +35,30 @@ use Rattle.vm_journal.specs.declared.entry.What.{What}
 use Rattle.vm_journal.specs.declared.entry.What.TheVariants as what
 use Rattle.vm_journal.specs.HasLine.{WhatHasLine}
 use Rattle.pager_model.specs.Around.{past_view}
-use Rattle.pager_model.specs.Flights.{Flight, Direction, reading, writing, open_flights}
+use Rattle.pager_model.specs.Flights.{Flight, Direction, failed_flight, reading, writing, open_flights}
 use Rattle.pager_model.specs.FlatService.{demand_zero, in_range, map_range, with_prot}
 use Rattle.pager_model.specs.Forget.{forget_all, forgotten_in, holder, own_pages, put_at, range_of}
-use Rattle.pager_model.specs.In.{IsIn, after_in, is_kin}
+use Rattle.pager_model.specs.In.{IsIn, after_in, charged_with, is_kin}
 use Rattle.pager_model.specs.InOk.{after_in_ok}
 use Rattle.pager_model.specs.Back.{after_any_back}
+use Rattle.pager_model.specs.Changes.{is_section_block, without_page}
 use Rattle.pager_model.specs.Lookups.{page_at, page_by}
-use Rattle.pager_model.specs.Maps.{Map, Mapped, covers, first_map, mapped_by, origin_after, page_behind, page_number, proc, shared_of}
+use Rattle.pager_model.specs.Maps.{Map, Mapped, covers, first_map, is_paged, is_private, mapped_by, origin_after, page_behind, page_number, proc, shared_of}
 use Rattle.pager_model.specs.OfConfig.{IsMappable, IsOrigin, IsMappedRight, IsPageOf, MapsRight, HoldsRight, IsOfConfig}
 use Rattle.pager_model.specs.Opening.{opening}
 use Rattle.pager_model.specs.Out.{IsAnyOut, after_any_out, assigned_with}
 use Rattle.pager_model.specs.OutLanding.{after_out_ok, marked}
 use Rattle.pager_model.specs.Pager.{Pager, Assigned}
+use Rattle.pager_model.specs.Reuse.{charged_reused}
 use Rattle.pager_model.specs.Run.{pager_after, IsRun}
 use Rattle.pager_model.specs.Served.{IsServed, after_served}
 use Rattle.pager_model.specs.Sets.{at_number}
 use Rattle.pager_model.specs.Step.{IsLegalWhat, after_what}
 use Rattle.pager_model.specs.Transfers.{starts}
 use Rattle.pager_rules.specs.Kept.{IsKept}
-use Rattle.pager_rules.proofs.Basics.{at_number_cases}
-use Rattle.pager_rules.proofs.Lists.{all_filter, found_passes}
+use Rattle.pager_rules.proofs.Basics.{at_number_cases, pages_equal}
+use Rattle.pager_rules.proofs.Lists.{all_filter, all_found, found_one, found_passes}
+use Rattle.pager_rules.proofs.Pages.{zeroed_mapped}
 use Rattle.pager_laws.proofs.DeleteKept.{untouched}
 use Rattle.pager_laws.proofs.RunsAreSound.{run_kept}
 
@@ -119,7 +123,7 @@ first_right config formed p v m = go (find (covers p v) config.maps) refl
             subst (IsMapping (length config.procs) config.sections) (get_or_from_slice_get maps _ x x there) (all _ x (slice_get_within maps _ x there))
 
 pub opening_right : (config : Config) → IsWellFormed config → IsOfConfig config (opening config)
-opening_right config formed = record { mapped = first_right config formed; held = λ f g held. absurd (none-some g held); assigned = tt; absent = λ p past. refl }
+opening_right config formed = record { mapped = first_right config formed; held = λ f g held. absurd (none-some g held); charged = tt; assigned = tt; absent = λ p past. refl }
 
 -- ---- what is held
 put_right : (config : Config) (page : ℕ → Option Page) (f : ℕ) (o : Option Page) → ((g : Page) → o ≡ Some g → IsPageOf config g) → HoldsRight config page → HoldsRight config (at_number page f o)
@@ -135,6 +139,32 @@ emptied_right config page (Some f) old = put_right config page f None (none_righ
 all_emptied : (config : Config) (pages : List Page) (a : Pager) → HoldsRight config a.page → HoldsRight config (forget_all config pages a).page
 all_emptied config [] a old = old
 all_emptied config (g ∷ pages) a old = all_emptied config pages (forgotten_in a g (holder config a.page g)) (emptied_right config a.page (holder config a.page g) old)
+
+all_charged : (config : Config) (pages : List Page) (a : Pager) → AllByRecursion (IsPageOf config) a.charged → AllByRecursion (IsPageOf config) (forget_all config pages a).charged
+all_charged config [] a old = old
+all_charged config (g ∷ pages) a old = all_charged config pages (forgotten_in a g (holder config a.page g)) (all_filter (IsPageOf config) _ a.charged old)
+
+-- a page that is charged
+pub charged_right : (config : Config) (pages : List Page) (g : Page) → 0 < count_page pages g → AllByRecursion (IsPageOf config) pages → IsPageOf config g
+charged_right config pages g some all =
+    let found = found_one (same_page g) pages some in
+    subst (IsPageOf config) (sym (pages_equal g found.0 (found_passes (same_page g) pages found.0 found.1))) (all_found (IsPageOf config) (same_page g) pages found.0 all found.1)
+
+charged_more : (config : Config) (charged : List Page) (o : Option Page) → ((g : Page) → o ≡ Some g → IsPageOf config g) → AllByRecursion (IsPageOf config) charged → AllByRecursion (IsPageOf config) (charged_with charged o)
+charged_more config charged None right old = old
+charged_more config charged (Some g) right old = by (is_private g && nat_eq (count_page charged g) 0)
+  where
+    by : (b : Bool) → AllByRecursion (IsPageOf config) (cond b (g ∷ charged) charged)
+    by true = (right g refl, old)
+    by false = old
+
+charged_less : (config : Config) (charged : List Page) (o : Option Flight) (g : Page) → AllByRecursion (IsPageOf config) charged → AllByRecursion (IsPageOf config) (charged_reused o g charged)
+charged_less config charged None g old = old
+charged_less config charged (Some x) g old = by (is_private g && is_section_block x.block)
+  where
+    by : (b : Bool) → AllByRecursion (IsPageOf config) (cond b (without_page charged g) charged)
+    by true = all_filter (IsPageOf config) _ charged old
+    by false = old
 
 abbrev InFile : Config → List Assigned → Type 0
 InFile config assigned = AllByRecursion (λ (x : Assigned). x.block < config.pagefile) assigned
@@ -164,6 +194,7 @@ served_right config past a p (service.Create at pages prot) answer.Good legal fo
       let same : demand_zero prot ≡ m = cc in
       subst (IsMappedRight config p v) same (record { process = legal.0.process; page = in_service at.0 pages v formed.0 inside; origin = tt; code = formed.1 }));
   held = old.held;
+  charged = old.charged;
   assigned = old.assigned;
   absent = old.absent;
 }
@@ -171,6 +202,7 @@ served_right config past a p (service.Delete at pages) answer.Good legal formed 
   mapped = remapped_right config (forget_all config gone a).map (λ (o : Option Mapped). None) p at.0 pages
       (subst (MapsRight config) (sym (untouched config (λ (x : Pager). x.map) (λ x g. refl) gone a)) old.mapped) (λ v m inside is. absurd (none-some m is));
   held = all_emptied config gone a old.held;
+  charged = all_charged config gone a old.charged;
   assigned = all_in_file config gone a old.assigned;
   absent = subst (λ (s : ℕ → ProcStatus). (q : ℕ) → length config.procs ≤ q → s q ≡ status.Resident) (sym (untouched config (λ (x : Pager). x.status) (λ x g. refl) gone a)) old.absent;
 }
@@ -180,6 +212,7 @@ served_right config past a p (service.Delete at pages) answer.Good legal formed 
 served_right config past a p (service.Protect at pages prot) answer.Good legal formed old = record {
   mapped = remapped_right config a.map (option_map (with_prot prot)) p at.0 pages old.mapped (λ v m inside is. protected v m (a.map p v) refl is);
   held = old.held;
+  charged = old.charged;
   assigned = old.assigned;
   absent = old.absent;
 }
@@ -190,9 +223,11 @@ served_right config past a p (service.Protect at pages prot) answer.Good legal f
         let same : with_prot prot x ≡ m = cc in
         let right = old.mapped p v x is in
         subst (IsMappedRight config p v) same (record { process = right.process; page = right.page; origin = right.origin; code = formed.1 })
-served_right config past a p (service.Lock at pages) (answer.Count n) legal formed old = record { mapped = old.mapped; held = old.held; assigned = old.assigned; absent = old.absent }
-served_right config past a p (service.Unlock at pages) (answer.Count n) legal formed old = record { mapped = old.mapped; held = old.held; assigned = old.assigned; absent = old.absent }
-served_right config past a p (service.Adjust n) answer.Good legal formed old = record { mapped = old.mapped; held = old.held; assigned = old.assigned; absent = old.absent }
+served_right config past a p (service.Lock at pages) (answer.Count n) legal formed old = record { mapped = old.mapped; held = old.held; charged = old.charged; assigned = old.assigned; absent = old.absent }
+served_right config past a p (service.Unlock at pages) (answer.Count n) legal formed old = record { mapped = old.mapped; held = old.held; charged = old.charged; assigned = old.assigned; absent = old.absent }
+served_right config past a p (service.Pin at pages) (answer.Count n) legal formed old = record { mapped = old.mapped; held = old.held; charged = old.charged; assigned = old.assigned; absent = old.absent }
+served_right config past a p (service.Unpin at pages) (answer.Count n) legal formed old = record { mapped = old.mapped; held = old.held; charged = old.charged; assigned = old.assigned; absent = old.absent }
+served_right config past a p (service.Adjust n) answer.Good legal formed old = record { mapped = old.mapped; held = old.held; charged = old.charged; assigned = old.assigned; absent = old.absent }
 served_right config past a p s other legal formed old = old
 
 -- ---- reads
@@ -200,18 +235,24 @@ served_right config past a p s other legal formed old = old
 near_right : (config : Config) (past : List Entry) (a : Pager) (b : BlockId) (h g : Page) → IsKept config (past_view past) a → IsOfConfig config a → a.lies g ≡ Some b → IsBlock config b → is_kin h g ≡ true → IsPageOf config h → IsPageOf config g
 near_right config past a b h (Private p v) kept old lies there kin right =
     let one = (kept.pages (Private p v)).lying b refl lies in
-    page_right config a.map p.0 v (Private p v) old.mapped ((kept.pages (Private p v)).mapped (omega (arith, one)))
+    page_right config a.map p.0 v (Private p v) old.mapped ((kept.pages (Private p v)).mapped (omega (arith, one)) refl)
 near_right config past a b (Private q w) (Shared s i) kept old lies there kin right = absurd (false≢true kin)
-near_right config past a b (Shared t j) (Shared s i) kept old lies there kin right =
-    let own = (kept.pages (Shared s i)).shared s i refl in
-    let same : b ≡ block.Section s i = cc (lies, own) in
-    let section : t.0 ≡ s.0 = eqb-true t.0 s.0 kin in
-    (subst (IsBlock config) same there, subst (λ (n : ℕ). shared_of (slice_get config.sections n) ≡ true) section right.1)
+near_right config past a b (Shared t j) (Shared s i) kept old lies there kin right = go (is_paged config (Shared s i)) refl
+  where
+    go : (c : Bool) → is_paged config (Shared s i) ≡ c → IsPageOf config (Shared s i)
+    go true paged = charged_right config a.charged (Shared s i) (omega (arith, (kept.pages (Shared s i)).lying b paged lies)) old.charged
+    go false file =
+        let own = (kept.pages (Shared s i)).shared s i refl file in
+        let same : b ≡ block.Section s i = cc (lies, own) in
+        let section : t.0 ≡ s.0 = eqb-true t.0 s.0 kin in
+        let exists : IsBlock config (block.Section s i) = subst (IsBlock config) same there in
+        (exists.0, subst (λ (n : ℕ). shared_of (slice_get config.sections n) ≡ true) section right.1)
 
 in_right : (config : Config) (past : List Entry) (a : Pager) (p f : ℕ) (b : BlockId) (r : Role) → IsKept config (past_view past) a → IsIn r config past a p f b → IsOfConfig config a → IsOfConfig config (after_in config a f r)
 in_right config past a p f b (role.Fault q address) kept legal old = record {
   mapped = old.mapped;
   held = put_right config a.page f (page_by config a.map q.0 (page_number address.0)) (λ g own. page_right config a.map q.0 (page_number address.0) g old.mapped own) old.held;
+  charged = charged_more config a.charged (page_by config a.map q.0 (page_number address.0)) (λ g own. page_right config a.map q.0 (page_number address.0) g old.mapped own) old.charged;
   assigned = old.assigned;
   absent = old.absent;
 }
@@ -219,12 +260,14 @@ in_right config past a p f b (role.Near g) kept legal old = record {
   mapped = old.mapped;
   held = put_right config a.page f (Some g) (λ h own. let same : g ≡ h = cc in
       subst (IsPageOf config) same (near_right config past a b legal.before g kept old legal.lying.lies legal.lying.home.exists legal.kin (old.held legal.last.frame legal.before legal.holds))) old.held;
+  charged = old.charged;
   assigned = old.assigned;
   absent = old.absent;
 }
 in_right config past a p f b (role.Come q address) kept legal old = record {
   mapped = old.mapped;
   held = put_right config a.page f (page_by config a.map q.0 (page_number address.0)) (λ g own. page_right config a.map q.0 (page_number address.0) g old.mapped own) old.held;
+  charged = old.charged;
   assigned = old.assigned;
   absent = old.absent;
 }
@@ -235,18 +278,18 @@ in_ok_right config a f None old = old
 in_ok_right config a f (Some x) old = by x.direction
   where
     by : (d : Direction) → IsOfConfig config (after_in_ok a f (Some (record x { direction = d })))
-    by (reading (role.Fault q address)) = record { mapped = old.mapped; held = old.held; assigned = old.assigned; absent = old.absent }
-    by (reading (role.Near near)) = record { mapped = old.mapped; held = old.held; assigned = old.assigned; absent = old.absent }
-    by (reading (role.Come q address)) = record { mapped = old.mapped; held = old.held; assigned = old.assigned; absent = old.absent }
+    by (reading (role.Fault q address)) = record { mapped = old.mapped; held = old.held; charged = old.charged; assigned = old.assigned; absent = old.absent }
+    by (reading (role.Near near)) = record { mapped = old.mapped; held = old.held; charged = old.charged; assigned = old.assigned; absent = old.absent }
+    by (reading (role.Come q address)) = record { mapped = old.mapped; held = old.held; charged = old.charged; assigned = old.assigned; absent = old.absent }
     by writing = old
 
 out_ok_right : (config : Config) (a : Pager) (f : ℕ) (o : Option Flight) → IsOfConfig config a → IsOfConfig config (after_out_ok a f o)
 out_ok_right config a f None old = old
-out_ok_right config a f (Some x) old = record { mapped = old.mapped; held = old.held; assigned = old.assigned; absent = old.absent }
+out_ok_right config a f (Some x) old = record { mapped = old.mapped; held = old.held; charged = old.charged; assigned = old.assigned; absent = old.absent }
 
 back_right : (config : Config) (a : Pager) (s : ProcStatus) (p address f : ℕ) → IsOfConfig config a → IsOfConfig config (after_any_back a s p address f)
-back_right config a status.Coming p address f old = record { mapped = old.mapped; held = old.held; assigned = old.assigned; absent = old.absent }
-back_right config a other p address f old = record { mapped = old.mapped; held = old.held; assigned = old.assigned; absent = old.absent }
+back_right config a status.Coming p address f old = record { mapped = old.mapped; held = old.held; charged = old.charged; assigned = old.assigned; absent = old.absent }
+back_right config a other p address f old = record { mapped = old.mapped; held = old.held; charged = old.charged; assigned = old.assigned; absent = old.absent }
 
 -- a block that is newly assigned is one of the page file
 assigned_right : (config : Config) (assigned : List Assigned) (o : Option Page) (n : ℕ) → n < config.pagefile → InFile config assigned → InFile config (assigned_with assigned o (block.PageFile n))
@@ -262,9 +305,9 @@ assigned_other config assigned None s i old = old
 assigned_other config assigned (Some g) s i old = old
 
 out_right : (config : Config) (a : Pager) (f : ℕ) (b : BlockId) → IsBlock config b → IsOfConfig config a → IsOfConfig config (after_any_out a f b)
-out_right config a f (block.Swap p n) there old = record { mapped = old.mapped; held = old.held; assigned = old.assigned; absent = old.absent }
-out_right config a f (block.PageFile n) there old = record { mapped = old.mapped; held = old.held; assigned = assigned_right config a.assigned (a.page f) n there old.assigned; absent = old.absent }
-out_right config a f (block.Section s i) there old = record { mapped = old.mapped; held = old.held; assigned = assigned_other config a.assigned (a.page f) s i old.assigned; absent = old.absent }
+out_right config a f (block.Swap p n) there old = record { mapped = old.mapped; held = old.held; charged = old.charged; assigned = old.assigned; absent = old.absent }
+out_right config a f (block.PageFile n) there old = record { mapped = old.mapped; held = old.held; charged = old.charged; assigned = assigned_right config a.assigned (a.page f) n there old.assigned; absent = old.absent }
+out_right config a f (block.Section s i) there old = record { mapped = old.mapped; held = old.held; charged = old.charged; assigned = assigned_other config a.assigned (a.page f) s i old.assigned; absent = old.absent }
 
 home_of_out : (config : Config) (past : List Entry) (a : Pager) (f : ℕ) (b : BlockId) → IsAnyOut config past a f b → IsBlock config b
 home_of_out config past a f b (inl legal) = legal.home.exists
@@ -278,27 +321,29 @@ turned_absent config status_of p s there old = at_number_cases (λ (n : ℕ) (t 
 row_right : (config : Config) (past : List Entry) (a : Pager) (p : ℕ) (w : What) → IsKept config (past_view past) a → IsLegalWhat config past a p w → WhatHasLine (length config.procs) config.sections w → IsOfConfig config a
     → IsOfConfig config (after_what config past a p w)
 row_right config past a p (what.Served s w) kept legal line old = served_right config past a p s w legal line.0 old
-row_right config past a p (what.Reuse f g) kept legal line old = record { mapped = old.mapped; held = put_right config a.page f.0 None (none_right config) old.held; assigned = old.assigned; absent = old.absent }
+row_right config past a p (what.Reuse f g) kept legal line old = record { mapped = old.mapped; held = put_right config a.page f.0 None (none_right config) old.held; charged = charged_less config a.charged (failed_flight past) g old.charged; assigned = old.assigned; absent = old.absent }
 row_right config past a p (what.Zero address f) kept legal line old = record {
   mapped = old.mapped;
-  held = put_right config a.page f.0 (Some (page_behind config p (page_number address.0) origin.Zero)) (λ g own. let same : Private (proc p) (page_number address.0) ≡ g = cc in
-      subst (IsPageOf config) same (zero_page (a.map p (page_number address.0)) refl legal.demand_zero)) old.held;
+  held = put_right config a.page f.0 (Some x) (λ g own. let same : x ≡ g = cc in subst (IsPageOf config) same right) old.held;
+  charged = (right, old.charged);
   assigned = old.assigned;
   absent = old.absent;
 }
   where
-    zero_page : (o : Option Mapped) → a.map p (page_number address.0) ≡ o → IsDemandZero o → IsPageOf config (Private (proc p) (page_number address.0))
-    zero_page None is zero = absurd zero
-    zero_page (Some m) is zero = let right = old.mapped p (page_number address.0) m is in (right.process, right.page)
+    x : Page
+    x = zeroed_page config p (page_number address.0) (a.map p (page_number address.0))
+
+    right : IsPageOf config x
+    right = page_right config a.map p (page_number address.0) x old.mapped (zeroed_mapped config p (page_number address.0) (a.map p (page_number address.0)) legal.demand_zero)
 row_right config past a p (what.In f b r) kept legal line old = in_right config past a p f.0 b r kept legal old
 row_right config past a p (what.InOk f k) kept legal line old = in_ok_right config a f.0 (find (starts k) (open_flights past)) old
 row_right config past a p (what.Out f b) kept legal line old = out_right config a f.0 b (home_of_out config past a f.0 b legal) old
 row_right config past a p (what.OutOk f k) kept legal line old = out_ok_right config a f.0 (find (starts k) (open_flights past)) old
 row_right config past a p (what.OutFail f k c d) kept legal line old =
-    out_ok_right config (marked a f.0) f.0 (find (starts k) (open_flights past)) (record { mapped = old.mapped; held = old.held; assigned = old.assigned; absent = old.absent })
+    out_ok_right config (marked a f.0) f.0 (find (starts k) (open_flights past)) (record { mapped = old.mapped; held = old.held; charged = old.charged; assigned = old.assigned; absent = old.absent })
 row_right config past a p (what.Back q address f from) kept legal line old = back_right config a (a.status q.0) q.0 address.0 f.0 old
-row_right config past a p (what.Turn q s) kept legal line old = record { mapped = old.mapped; held = old.held; assigned = old.assigned; absent = turned_absent config a.status q.0 s legal.process old.absent }
-row_right config past a p other kept legal line old = record { mapped = old.mapped; held = old.held; assigned = old.assigned; absent = old.absent }
+row_right config past a p (what.Turn q s) kept legal line old = record { mapped = old.mapped; held = old.held; charged = old.charged; assigned = old.assigned; absent = turned_absent config a.status q.0 s legal.process old.absent }
+row_right config past a p other kept legal line old = record { mapped = old.mapped; held = old.held; charged = old.charged; assigned = old.assigned; absent = old.absent }
 
 pub run_right : (config : Config) (past : List Entry) → IsWellFormed config → IsRun config past → IsOfConfig config (pager_after config past)
 run_right config [] formed run = opening_right config formed

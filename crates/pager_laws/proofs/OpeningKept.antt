@@ -1,19 +1,21 @@
 -- The opening state keeps all.
-use Rattle.std.proofs.Common.{◌≡◌, ◌⊎◌, ℕ, zero, suc, ◌+◌, ◌<◌, ◌≤◌, Bool, true, false, cond, not, List, [], ◌∷◌, Option, Some, None, length, filter, nat_eq, nat_le, slice_get, refl, sym, ap, ◌∙◌, subst, inl, inr, arith}
+use Rattle.std.proofs.Common.{◌≡◌, ◌⊎◌, ℕ, zero, suc, ◌+◌, ◌<◌, ◌≤◌, Bool, true, false, cond, not, List, [], ◌∷◌, Option, Some, None, length, filter, nat_eq, nat_le, slice_get, refl, sym, ap, ◌∙◌, subst, inl, inr, arith, true≢false}
 use Rattle.std.specs.List.{range_with_len}
 use Rattle.std.proofs.lemmas.Bool.{cases_eq, ne_eqb, leb-false, or_parts, false≢true}
 use Rattle.std.proofs.lemmas.Option.{get_or_from_slice_get, slice_get_within, none-some}
 use Rattle.std.proofs.lemmas.List.{length-replicate}
-use Rattle.vm_types.specs.Ring.{is_locked_slot}
-use Rattle.vm_types.specs.Configuration.{IsWellFormed, IsProcess}
+use Rattle.vm_types.specs.Ring.{is_fixed_slot, is_pinned_slot}
+use Rattle.vm_types.specs.Configuration.{IsWellFormed, IsProcess, all_pins}
 use Rattle.vm_types.specs.declared.names.Page.{Page}
 use Rattle.vm_types.specs.declared.names.Page.TheVariants.{Private, Shared}
 use Rattle.vm_types.specs.declared.names.BlockId.TheVariants as block
 use Rattle.vm_types.specs.declared.config.Config.{Config}
 use Rattle.vm_types.specs.declared.config.ProcSpec.{ProcSpec}
+use Rattle.vm_types.specs.declared.config.Version.{Version}
 use Rattle.page_lists.specs.Lists.{count_of}
 use Rattle.pager_model.specs.Around.{page_view, past_view}
 use Rattle.pager_model.specs.Lookups.{has_vpn, slots_with}
+use Rattle.pager_model.specs.Maps.{paged_of}
 use Rattle.pager_model.specs.Opening.{first_block, first_limit, first_ring, first_state, is_bad, opening}
 use Rattle.pager_model.specs.Sets.{has}
 use Rattle.pager_model.specs.Sound.{IsBounded}
@@ -85,33 +87,54 @@ first_slots (Some spec) v = count_replicate (has_vpn v) spec.extent None refl
 
 first_page : (g : Page) (config : Config) → FitsPage g (page_view config (opening config) g)
 first_page (Private p v) config = record {
+  paged = λ some. absurd (omega arith);
   charged = omega arith;
   touched = omega arith;
   blocks = omega arith;
-  mapped = λ some. absurd (omega arith);
-  lying = λ b private lies. absurd (none-some _ lies);
+  mapped = λ some private. absurd (omega arith);
+  lying = λ b paged lies. absurd (none-some _ lies);
   in_file = λ b lies. absurd (none-some _ lies);
-  not_in_section = λ s i private lies. none-some _ lies;
-  shared = λ s i is. absurd (cc);
+  not_in_section = λ s i paged lies. none-some _ lies;
+  shared = λ s i is file. absurd (cc);
 }
-first_page (Shared t j) config = record {
-  charged = omega arith;
-  touched = omega arith;
-  blocks = omega arith;
-  mapped = λ some. absurd (omega arith);
-  lying = λ b private lies. absurd (false≢true private);
-  in_file = λ b lies. absurd (cc);
-  not_in_section = λ s i private lies. false≢true private;
-  shared = λ s i is. cc;
-}
+first_page (Shared t j) config = of_kind (paged_of (slice_get config.sections t.0))
+  where
+    of_kind : (c : Bool) → FitsPage (Shared t j) (record { paged = c; charged = 0; touched = 0; blocks = 0; block = None; lies = cond c None (Some (block.Section t j)); mapped = None; behind = None })
+    of_kind true = record {
+      paged = λ some. refl;
+      charged = omega arith;
+      touched = omega arith;
+      blocks = omega arith;
+      mapped = λ some private. absurd (false≢true private);
+      lying = λ b paged lies. absurd (none-some _ lies);
+      in_file = λ b lies. absurd (none-some _ lies);
+      not_in_section = λ s i paged lies. none-some _ lies;
+      shared = λ s i is file. absurd (true≢false file);
+    }
+    of_kind false = record {
+      paged = λ some. absurd (omega arith);
+      charged = omega arith;
+      touched = omega arith;
+      blocks = omega arith;
+      mapped = λ some private. absurd (false≢true private);
+      lying = λ b paged lies. absurd (false≢true paged);
+      in_file = λ b lies. absurd (cc);
+      not_in_section = λ s i paged lies. false≢true paged;
+      shared = λ s i is file. cc;
+    }
 
-first_in_swap : (g : Page) (p n : ℕ) → first_block g ≡ Some (block.Swap (record { 0 = p }) n) → ⊥
-first_in_swap (Private q v) p n e = none-some _ e
-first_in_swap (Shared s i) p n e = cc
+first_in_swap : (config : Config) (g : Page) (p n : ℕ) → first_block config g ≡ Some (block.Swap (record { 0 = p }) n) → ⊥
+first_in_swap config (Private q v) p n e = none-some _ e
+first_in_swap config (Shared s i) p n e = of_kind (paged_of (slice_get config.sections s.0)) e
+  where
+    of_kind : (c : Bool) → cond c None (Some (block.Section s i)) ≡ Some (block.Swap (record { 0 = p }) n) → ⊥
+    of_kind true e = none-some _ e
+    of_kind false e = cc
 
-bounded : (frames bad : ℕ) (spec : ProcSpec) → IsProcess frames bad spec → IsBounded spec (first_ring (Some spec)) spec.limit
-bounded frames bad spec formed = record {
-  locks = omega (arith, count_replicate is_locked_slot spec.extent None refl);
+bounded : (v : Version) (frames kept : ℕ) (spec : ProcSpec) → IsProcess frames kept spec → IsBounded v spec (first_ring (Some spec)) spec.limit
+bounded v frames kept spec formed = record {
+  locks = omega (arith, count_replicate is_fixed_slot spec.extent None refl);
+  pins = omega (arith, count_replicate is_pinned_slot spec.extent None refl);
   least = formed.locks;
   most = omega (arith, formed.quota, formed.extent);
   slots = length-replicate spec.extent None;
@@ -121,7 +144,7 @@ bounded frames bad spec formed = record {
 pub opening_kept : (config : Config) → IsWellFormed config → IsKept config (past_view []) (opening config)
 opening_kept config formed = record {
   frames = λ f. first_frame (is_bad config f) _ (free_is config f);
-  processes = λ p. record { bounds = λ spec found. subst (λ (o : Option ProcSpec). IsBounded spec (first_ring o) (first_limit o)) (sym found) (bounded _ _ spec (well p spec found)); gone = λ gone. absurd (cc); none = λ none. (ap first_limit none, ap (λ (o : Option ProcSpec). length (first_ring o).slots) none) };
+  processes = λ p. record { bounds = λ spec found. subst (λ (o : Option ProcSpec). IsBounded config.version spec (first_ring o) (first_limit o)) (sym found) (bounded config.version _ _ spec (well p spec found)); gone = λ gone. absurd (cc); none = λ none. (ap first_limit none, ap (λ (o : Option ProcSpec). length (first_ring o).slots) none) };
   entries = λ p v. record { once = omega arith; slots = first_slots (slice_get config.procs p) v; coming = λ g coming. absurd (cc) };
   valid = tt;
   pages = λ g. first_page g config;
@@ -130,14 +153,14 @@ opening_kept config formed = record {
   held_once = λ f g x held also. absurd (none-some x held);
   held_charged = λ f g private held. absurd (none-some g held);
   unsaved = λ g some lies. absurd (omega arith);
-  swapped = λ g p n lies. absurd (first_in_swap g p n lies);
+  swapped = λ g p n lies. absurd (first_in_swap config g p n lies);
   coming_once = λ p q coming also. absurd (cc);
   transfers = tt;
   one_fault = λ s. omega arith;
   failed = record { found = λ f is. absurd (false≢true is); fits = λ x failed. absurd (none-some x failed) };
 }
   where
-    well : (p : ℕ) (spec : ProcSpec) → slice_get config.procs p ≡ Some spec → IsProcess config.frames (length config.bad) spec
+    well : (p : ℕ) (spec : ProcSpec) → slice_get config.procs p ≡ Some spec → IsProcess config.frames (length config.bad + all_pins config) spec
     well p spec found =
         let fits = formed.procs p spec (slice_get_within config.procs p spec found) in
-        subst (λ (x : ProcSpec). IsProcess config.frames (length config.bad) x) (get_or_from_slice_get config.procs p spec spec found) fits
+        subst (λ (x : ProcSpec). IsProcess config.frames (length config.bad + all_pins config) x) (get_or_from_slice_get config.procs p spec spec found) fits

@@ -18,10 +18,10 @@ use Rattle.vm_types.specs.declared.config.Config.{Config}
 use Rattle.vm_journal.specs.declared.entry.Entry.{Entry}
 use Rattle.vm_journal.specs.declared.entry.What.TheVariants as what
 use Rattle.page_lists.specs.Lists.{count_of, without}
-use Rattle.pager_model.specs.Around.{FrameView, PageView, block_view, frame_view, page_view, past_view, process_view, quiet}
+use Rattle.pager_model.specs.Around.{FrameView, block_view, frame_view, page_view, past_view, process_view, quiet}
 use Rattle.pager_model.specs.Flights.{Flight, open_flights, writing}
 use Rattle.pager_model.specs.Lookups.{block_of, is_assigned_to, is_owner}
-use Rattle.pager_model.specs.Maps.{is_private}
+use Rattle.pager_model.specs.Maps.{is_paged}
 use Rattle.pager_model.specs.Out.{IsOut, IsOutBlock, after_out, assigned_with}
 use Rattle.pager_model.specs.Pager.{Assigned, Pager}
 use Rattle.pager_model.specs.Sets.{at_number}
@@ -36,10 +36,10 @@ use Rattle.pager_rules.proofs.Transfers.{alike, flight_same, on_frame}
 use Rattle.pager_rules.proofs.Views.{frames_move, pages_move}
 use Rattle.pager_rules.specs.Kept.{FitsBlock, FitsFlight, FitsFrame, FitsPage, FitsWrite, HasUnsaved, IsKept, views}
 
--- a shared page lies in its section's block
-not_in_file : (x : Page) (view : PageView) (n : ℕ) → FitsPage x view → is_private x ≡ false → view.lies ≡ Some (block.PageFile n) → ⊥
-not_in_file (Private p v) view n fits shared lies = true≢false shared
-not_in_file (Shared s i) view n fits shared lies = let there = fits.shared s i refl in cc
+-- a page of a section with a file lies in its block
+pub not_in_file : (config : Config) (a : Pager) (x : Page) (n : ℕ) → FitsPage x (page_view config a x) → is_paged config x ≡ false → a.lies x ≡ Some (block.PageFile n) → ⊥
+not_in_file config a (Private p v) n fits unpaged lies = true≢false unpaged
+not_in_file config a (Shared s i) n fits unpaged lies = let there = fits.shared s i refl unpaged in cc
 
 module _ (config : Config) (a : Pager) (flights : List Flight) (start seat f : ℕ) (d : BlockId) (x : Page) (kept : IsKept config (quiet flights) a) (holds : a.page f ≡ Some x) where
   abbrev begun : Flight
@@ -52,20 +52,21 @@ module _ (config : Config) (a : Pager) (flights : List Flight) (start seat f : �
     pub owners : (e : BlockId) → count_by (is_owner e) more ≤ 1
     pub fits : FitsWrite begun x (page_view config (record a { assigned = more }) x) (process_view config a)
 
-  assigned_same : ((is_private x ≡ false) × (a.lies x ≡ Some d)) ⊎ ((n : ℕ) × (block_of a.assigned x ≡ Some n) × (d ≡ block.PageFile n)) → IsAssigned a.assigned
+  assigned_same : ((is_paged config x ≡ false) × (a.lies x ≡ Some d)) ⊎ ((n : ℕ) × (block_of a.assigned x ≡ Some n) × (d ≡ block.PageFile n)) → IsAssigned a.assigned
   assigned_same why = record { here = kept.pages x; other = λ g apart. refl; owners = λ e. (kept.blocks e).owners; fits = by why }
     where
-      by : ((is_private x ≡ false) × (a.lies x ≡ Some d)) ⊎ ((n : ℕ) × (block_of a.assigned x ≡ Some n) × (d ≡ block.PageFile n)) → FitsWrite begun x (page_view config a x) (process_view config a)
+      by : ((is_paged config x ≡ false) × (a.lies x ≡ Some d)) ⊎ ((n : ℕ) × (block_of a.assigned x ≡ Some n) × (d ≡ block.PageFile n)) → FitsWrite begun x (page_view config a x) (process_view config a)
       by (inl section) = inl section
       by (inr file) = inr (inl file)
 
-  assigned_new : (n : ℕ) → is_private x ≡ true → block_of a.assigned x ≡ None → count_by (is_assigned_to x) a.assigned ≡ 0 → d ≡ block.PageFile n → count_by (is_owner (block.PageFile n)) a.assigned ≡ 0
+  assigned_new : (n : ℕ) → is_paged config x ≡ true → block_of a.assigned x ≡ None → count_by (is_assigned_to x) a.assigned ≡ 0 → d ≡ block.PageFile n → count_by (is_owner (block.PageFile n)) a.assigned ≡ 0
       → IsAssigned (record { page = x; block = n } ∷ a.assigned)
-  assigned_new n private unassigned none d_is free = record {
+  assigned_new n paged unassigned none d_is free = record {
     here = record {
+      paged = page.paged;
       charged = page.charged;
       touched = page.touched;
-      blocks = omega (arith, count_cons_yes (is_assigned_to x) now a.assigned (same_page_refl x), kept.held_charged f x private holds);
+      blocks = omega (arith, count_cons_yes (is_assigned_to x) now a.assigned (same_page_refl x), kept.held_charged f x paged holds);
       mapped = page.mapped;
       lying = page.lying;
       in_file = λ m lies. absurd (none-some m (sym unassigned ∙ page.in_file m lies));
@@ -217,7 +218,7 @@ out_kept config past a seat f d before legal =
             let same : new.0 ≡ n = let e = new.3 in cc in
             assigned_new config a (open_flights past) (length past + 1) seat.0 f.0 (block.PageFile n) x kept legal.holds n new.1 new.2 (eqb-true _ _ none) refl (subst (λ (m : ℕ). count_by (is_owner (block.PageFile m)) a.assigned ≡ 0) same new.5)
         go true none (inr (inl file)) = absurd (none-some _ (sym (no_block a.assigned x (eqb-true _ _ none)) ∙ file.2))
-        go true none (inl section) = absurd (not_in_file x (page_view config a x) n (kept.pages x) section.0 section.1)
+        go true none (inl section) = absurd (not_in_file config a x n (kept.pages x) section.0 section.1)
         go false some (inr (inr new)) = absurd (false≢true (sym some ∙ eq-eqb _ _ (no_blocks a.assigned x new.2)))
         go false some (inr (inl file)) = assigned_same config a (open_flights past) (length past + 1) seat.0 f.0 (block.PageFile n) x kept legal.holds (inr (file.0, file.2, file.3))
         go false some (inl section) = assigned_same config a (open_flights past) (length past + 1) seat.0 f.0 (block.PageFile n) x kept legal.holds (inl section)

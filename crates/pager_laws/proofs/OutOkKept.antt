@@ -4,7 +4,7 @@ use Rattle.std.specs.List.{AllByRecursion}
 use Rattle.std.proofs.lemmas.Bool.{cases_eq, ne_eqb, eqb-true, eqb-false, and_from, and_left, or_left, true≢false, false≢true}
 use Rattle.std.proofs.lemmas.Option.{none-some, slice_get_within}
 use Rattle.vm_types.specs.Same.{same_page}
-use Rattle.vm_types.specs.Ring.{Held}
+use Rattle.vm_types.specs.Ring.{Held, Ring}
 use Rattle.vm_types.specs.declared.names.Page.{Page}
 use Rattle.vm_types.specs.declared.names.Proc.{Proc}
 use Rattle.vm_types.specs.declared.names.SecId.{SecId}
@@ -20,15 +20,15 @@ use Rattle.vm_types.specs.declared.names.ProcStatus.TheVariants as status
 use Rattle.vm_types.specs.declared.config.Config.{Config}
 use Rattle.vm_journal.specs.declared.entry.Entry.{Entry}
 use Rattle.vm_journal.specs.declared.entry.What.TheVariants as what
-use Rattle.pager_model.specs.Around.{FrameView, PageView, entry_view, frame_view, page_view, past_view, process_view, quiet}
+use Rattle.pager_model.specs.Around.{FrameView, entry_view, frame_view, page_view, past_view, process_view, quiet}
 use Rattle.pager_model.specs.Changes.{is_section_block, pushed_if, settled_to}
 use Rattle.pager_model.specs.Flights.{Direction, Flight, is_reading, open_flights, without_flight, writing}
-use Rattle.pager_model.specs.Lookups.{count_page, is, is_of, own_page, shares, slot_of}
-use Rattle.pager_model.specs.Maps.{is_private, proc}
+use Rattle.pager_model.specs.Lookups.{count_page, is, is_of, shares, slot_of, slots_with}
+use Rattle.pager_model.specs.Maps.{is_paged, is_private, proc}
 use Rattle.pager_model.specs.OutLanding.{IsOutOk, after_out_ok, lies_at}
 use Rattle.pager_model.specs.Pager.{Pager}
 use Rattle.pager_model.specs.Sets.{at_number, at_page}
-use Rattle.pager_model.specs.Sound.{FitsSlot, HasSwapped, IsSwapped, MayHoldSwapped, is_out_state}
+use Rattle.pager_model.specs.Sound.{FitsSlot, HasSwapped, IsSwapped, MayHoldSwapped, is_out_state, pins_of_page}
 use Rattle.pager_model.specs.Transfers.{is_fault_of, is_on_block, is_read_on, is_write_on, reads_on, starts, writes_on}
 use Rattle.pager_rules.proofs.Basics.{at_number_other, at_number_same, nat_eq_refl, pages_equal, same_page_refl}
 use Rattle.pager_rules.proofs.Frames.{active_frame, at_state, from_state}
@@ -39,6 +39,7 @@ use Rattle.pager_rules.proofs.Quiet.{none_failed, starts_once}
 use Rattle.pager_rules.proofs.Transfers.{alike, flight_same, on_frame}
 use Rattle.pager_rules.proofs.Views.{frames_move, pages_move}
 use Rattle.pager_rules.specs.Kept.{FitsDirection, FitsFlight, FitsFrame, FitsPage, FitsWrite, HasUnsaved, IsInFrame, IsKept, saves, views}
+use Rattle.pager_rules.proofs.Pins.{unpinned_there}
 
 -- ---- a frame that is written
 record IsWritten (x : FrameView) : Type 0 where
@@ -82,10 +83,10 @@ private_of : (q : ℕ) (g : Page) → is_of q g ≡ true → is_private g ≡ tr
 private_of q (Private p v) own = refl
 private_of q (Shared s i) own = absurd (false≢true own)
 
--- a shared page lies in a section's block
-pub shared_block : (x : Page) (view : PageView) (d : BlockId) → FitsPage x view → is_private x ≡ false → view.lies ≡ Some d → is_section_block d ≡ true
-shared_block (Private p v) view d fits shared lies = absurd (true≢false shared)
-shared_block (Shared s i) view d fits shared lies = let there = fits.shared s i refl in let same : block.Section s i ≡ d = cc in ap is_section_block (sym same)
+-- a page of a section with a file lies in its block
+pub shared_block : (config : Config) (a : Pager) (x : Page) (d : BlockId) → FitsPage x (page_view config a x) → is_paged config x ≡ false → a.lies x ≡ Some d → is_section_block d ≡ true
+shared_block config a (Private p v) d fits unpaged lies = absurd (true≢false unpaged)
+shared_block config a (Shared s i) d fits unpaged lies = let there = fits.shared s i refl unpaged in let same : block.Section s i ≡ d = cc in ap is_section_block (sym same)
 
 -- the page is in a leaving process's slot
 record IsInSwap (a : Pager) (g : Page) (q n : ℕ) : Type 0 where
@@ -94,6 +95,12 @@ record IsInSwap (a : Pager) (g : Page) (q n : ℕ) : Type 0 where
   held : Held
   slot : slice_get (a.ring q).slots n ≡ Some (Some held)
   fits : FitsSlot q (Some held) g
+  unpinned : held.pinned ≡ false
+
+-- such a page isn't pinned
+not_pinned_in : (ring : Ring) (q n : ℕ) (g : Page) (held : Held) → ((v : ℕ) → slots_with ring v ≤ 1) → slice_get ring.slots n ≡ Some (Some held) → FitsSlot q (Some held) g → held.pinned ≡ false → pins_of_page ring g ≡ 0
+not_pinned_in ring q n (Private p v) held once slot fits off = unpinned_there ring v n held (once v) slot fits.1 off
+not_pinned_in ring q n (Shared s i) held once slot fits off = absurd fits
 
 module _ (config : Config) (a : Pager) (flights : List Flight) (k : ℕ) (x : Flight)
     (kept : IsKept config (quiet flights) a) (found : find (starts k) flights ≡ Some x) (once : count_by (starts k) flights ≤ 1)
@@ -199,31 +206,31 @@ module _ (config : Config) (a : Pager) (flights : List Flight) (k : ℕ) (x : Fl
   in_file n is (inr (inl file)) = let same : file.0 ≡ n = let e = file.2 in cc in file.1 ∙ ap Some same
   in_file n is (inr (inr swap)) = absurd (let e = swap.block in cc)
 
-  in_section : (s : SecId) (i : ℕ) → x.block ≡ block.Section s i → is_private g ≡ true → FitsWrite x g (page_view config a g) (process_view config a) → ⊥
-  in_section s i is private (inl section) = true≢false (sym private ∙ section.0)
+  in_section : (s : SecId) (i : ℕ) → x.block ≡ block.Section s i → is_paged config g ≡ true → FitsWrite x g (page_view config a g) (process_view config a) → ⊥
+  in_section s i is paged (inl section) = true≢false (sym paged ∙ section.0)
   in_section s i is private (inr (inl file)) = let e = file.2 in cc
   in_section s i is private (inr (inr swap)) = let e = swap.block in cc
 
-  shared : (s : SecId) (i : ℕ) → g ≡ Shared s i → FitsWrite x g (page_view config a g) (process_view config a) → Some x.block ≡ Some (block.Section s i)
-  shared s i is (inl section) = sym section.1 ∙ (kept.pages g).shared s i is
-  shared s i is (inr (inl file)) =
+  shared : (s : SecId) (i : ℕ) → g ≡ Shared s i → is_paged config g ≡ false → FitsWrite x g (page_view config a g) (process_view config a) → Some x.block ≡ Some (block.Section s i)
+  shared s i is unpaged (inl section) = sym section.1 ∙ (kept.pages g).shared s i is unpaged
+  shared s i is unpaged (inr (inl file)) =
       let page = kept.pages g in
-      let mapped = page.mapped (omega (arith, page.blocks, has_block a.assigned g file.0 file.1)) in
-      absurd (none-some g (subst (λ (y : Page). own_page config a.map y ≡ Some g) is mapped))
-  shared s i is (inr (inr swap)) = absurd (true≢false (sym (private_of swap.p g swap.own) ∙ ap is_private is))
+      absurd (true≢false (sym (page.paged (omega (arith, page.blocks, has_block a.assigned g file.0 file.1))) ∙ unpaged))
+  shared s i is unpaged (inr (inr swap)) = absurd (true≢false (sym (private_of swap.p g swap.own) ∙ ap is_private is))
 
   page_here : (u : Bool) → FitsPage g (page_view config (b u false) g)
   page_here u =
       let page = kept.pages g in
       subst (λ (o : Option BlockId). FitsPage g (record (page_view config a g) { lies = o })) (sym (lies_same a.lies g (Some x.block))) (record {
+        paged = page.paged;
         charged = page.charged;
         touched = page.touched;
         blocks = page.blocks;
         mapped = page.mapped;
-        lying = λ d private lies. omega (arith, kept.held_charged f g private fit.held, page.charged);
+        lying = λ d paged lies. omega (arith, kept.held_charged f g paged fit.held, page.charged);
         in_file = λ n lies. in_file n (cc) fits;
-        not_in_section = λ s i private lies. in_section s i (cc) private fits;
-        shared = λ s i is. shared s i is fits;
+        not_in_section = λ s i paged lies. in_section s i (cc) paged fits;
+        shared = λ s i is unpaged. shared s i is unpaged fits;
       })
 
   pages : (u m : Bool) → (y : Page) → FitsPage y (page_view config (b u m) y)
@@ -258,14 +265,14 @@ module _ (config : Config) (a : Pager) (flights : List Flight) (k : ℕ) (x : Fl
       lies' = at_page a.lies g (Some x.block)
 
       in_swap : x.block ≡ block.Swap (proc q) n → FitsWrite x g (page_view config a g) (process_view config a) → IsInSwap a g q n
-      in_swap d_is (inl section) = absurd (false≢true (sym (ap is_section_block d_is) ∙ shared_block g (page_view config a g) x.block (kept.pages g) section.0 section.1))
+      in_swap d_is (inl section) = absurd (false≢true (sym (ap is_section_block d_is) ∙ shared_block config a g x.block (kept.pages g) section.0 section.1))
       in_swap d_is (inr (inl file)) = absurd (let e = file.2 in cc)
       in_swap d_is (inr (inr swap)) =
           let e = swap.block in
           let proc_is : proc swap.p ≡ proc q = cc in
           let p_is : swap.p ≡ q = ap (λ (z : Proc). z.0) proc_is in
           let n_is : swap.n ≡ n = cc in
-          let there : IsInSwap a g swap.p swap.n = record { own = swap.own; leaving = swap.leaving; held = swap.held; slot = swap.slot; fits = swap.fits } in
+          let there : IsInSwap a g swap.p swap.n = record { own = swap.own; leaving = swap.leaving; held = swap.held; slot = swap.slot; fits = swap.fits; unpinned = swap.unpinned } in
           subst₂ (λ (r m : ℕ). IsInSwap a g r m) p_is n_is there
 
       slot_is : (z : Page) → (w : IsInSwap a g q n) → FitsSlot q (slot_of (slice_get (a.ring q).slots n)) z → z ≡ g
@@ -285,6 +292,7 @@ module _ (config : Config) (a : Pager) (flights : List Flight) (k : ℕ) (x : Fl
         alone = λ other same. alone other same (same_page other g) refl;
         within = slice_get_within (a.ring q).slots n (Some w.held) w.slot;
         slot = subst (λ (o : Option (Option Held)). FitsSlot q (slot_of o) g) (sym w.slot) w.fits;
+        unpinned = not_pinned_in (a.ring q) q n g w.held (λ v. omega (arith, (kept.entries q v).once, (kept.entries q v).slots)) w.slot w.fits w.unpinned;
         frame = λ h held. subst (λ (j : ℕ). MayHoldSwapped ((b u false).state j) (a.status q)) (kept.held_once f h g fit.held held) (may u u_is);
       }
         where
@@ -304,6 +312,7 @@ module _ (config : Config) (a : Pager) (flights : List Flight) (k : ℕ) (x : Fl
         alone = λ other same. alone other same (same_page other g) refl;
         within = before.within;
         slot = before.slot;
+        unpinned = before.unpinned;
         frame = λ h held. frame h held (cases_eq f h);
       }
         where

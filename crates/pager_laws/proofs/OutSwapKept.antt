@@ -99,6 +99,7 @@ module _ (config : Config) (past : List Entry) (a : Pager) (start seat f : ℕ) 
     held = legal.held;
     slot = legal.filled;
     fits = subst (λ (g : Page). FitsSlot legal.p (Some legal.held) g) (sym page_is) (refl, legal.same);
+    unpinned = legal.unpinned;
   }))
 
   block_fits : (e : BlockId) → FitsBlock (block_view (quiet (begun ∷ flights)) b e)
@@ -138,7 +139,7 @@ any_out_kept config past a seat f (block.PageFile n) before (inl legal) = out_ke
 any_out_kept config past a seat f (block.Swap p n) before (inl legal) = absurd (no_swap legal.block)
   where
     no_swap : IsOutBlock config a (block.Swap p n) legal.page → ⊥
-    no_swap (inl section) = false≢true (shared_block legal.page (page_view config a legal.page) (block.Swap p n) (before.pages legal.page) section.0 section.1)
+    no_swap (inl section) = false≢true (shared_block config a legal.page (block.Swap p n) (before.pages legal.page) section.0 section.1)
     no_swap (inr (inl file)) = let e = file.3 in cc
     no_swap (inr (inr new)) = let e = new.3 in cc
 any_out_kept config past a seat f (block.Section s i) before (inr legal) = absurd (let e = legal.block in cc)

@@ -201,14 +201,15 @@ module _ (config : Config) (flights : List Flight) (a : Pager) (g : Page) (o : O
 
   page_here : FitsPage g (page_view config b g)
   page_here = record {
+    paged = λ some. absurd (omega (arith, uncharged));
     charged = omega (arith, uncharged);
     touched = omega (arith, dropped_own (same_page g) a.touched);
     blocks = omega (arith, dropped_own (is_assigned_to g) a.assigned);
-    mapped = λ some. absurd (omega (arith, uncharged));
-    lying = λ d private lies. absurd (none-some d (sym lies_nowhere ∙ lies));
+    mapped = λ some private. absurd (omega (arith, uncharged));
+    lying = λ d paged lies. absurd (none-some d (sym lies_nowhere ∙ lies));
     in_file = λ n lies. absurd (none-some _ (sym lies_nowhere ∙ lies));
     not_in_section = λ s i private lies. none-some _ (sym lies_nowhere ∙ lies);
-    shared = λ s i is. absurd (false≢true (ap is_private (sym is) ∙ idle.private));
+    shared = λ s i is file. absurd (false≢true (ap is_private (sym is) ∙ idle.private));
   }
 
   -- another page, where a fact rules this one out
@@ -233,7 +234,7 @@ module _ (config : Config) (flights : List Flight) (a : Pager) (g : Page) (o : O
   held_once : HeldOnce b.page
   held_once f h y is also = kept.held_once f h y (empty.held f y is) (empty.held h y also)
 
-  held_charged : HeldCharged b.page b.charged
+  held_charged : HeldCharged config b.page b.charged
   held_charged f y private is = omega (arith, kept.held_charged f y private (empty.held f y is), dropped_other (same_page y) (same_page g) (far y (not_g f y is)) a.charged)
 
   unsaved : HasUnsaved config (quiet flights) b
@@ -254,6 +255,7 @@ module _ (config : Config) (flights : List Flight) (a : Pager) (g : Page) (o : O
         alone = λ z same. let z_apart = lies_apart z (block.Swap (proc q) n) (same ∙ lies) in was.alone z (sym (lies_other a.lies g z None z_apart) ∙ (same ∙ sym lay));
         within = was.within;
         slot = was.slot;
+        unpinned = was.unpinned;
         frame = λ f is. subst (λ (s : FrameState). MayHoldSwapped s (a.status q)) (sym (ap (λ (v : FrameView). v.state) (empty.there f y (empty.held f y is) apart))) (was.frame f (empty.held f y is));
       }
 

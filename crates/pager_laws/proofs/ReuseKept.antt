@@ -31,7 +31,7 @@ use Rattle.pager_model.specs.Transfers.{reads_on, writes_on}
 use Rattle.pager_rules.proofs.Basics.{at_number_other, at_number_same, count_cons_no, count_cons_yes, nat_eq_refl, pages_equal, same_page_refl}
 use Rattle.pager_rules.proofs.Frames.{at_state, failed_frame, from_state}
 use Rattle.pager_rules.proofs.Lists.{all_step}
-use Rattle.pager_rules.proofs.Pages.{behind_section, swapped_frame}
+use Rattle.pager_rules.proofs.Pages.{behind_section, private_is_paged, swapped_frame}
 use Rattle.pager_rules.proofs.Put.{free_row, head_counts, no_blocks, page_apart, unsaved_move, without_other, without_same}
 use Rattle.pager_rules.proofs.Quiet.{none_failed, kept_quiet, no_failure, only_failed}
 use Rattle.pager_rules.proofs.Transfers.{alike, flight_same, on_frame}
@@ -122,11 +122,12 @@ module _ (config : Config) (o : PastView) (a : Pager) (f : ℕ) (x : Page) (kept
   pages : (c : Bool) → Why c → (g : Page) → FitsPage g (page_view config (b c) g)
   pages false why = kept.pages
   pages true why = pages_move FitsPage (page_view config a) (page_view config (b true)) x (page_there true) (record {
+    paged = λ some. private_is_paged config x why.1.1.private;
     charged = omega (arith, none);
     touched = omega (arith, why.1.1.untouched);
     blocks = omega (arith, no_blocks a.assigned x why.1.1.unassigned);
-    mapped = λ some. absurd (omega (arith, none));
-    lying = λ d private lies. absurd (none-some d (sym why.1.1.nowhere ∙ lies));
+    mapped = λ some private. absurd (omega (arith, none));
+    lying = λ d paged lies. absurd (none-some d (sym why.1.1.nowhere ∙ lies));
     in_file = (kept.pages x).in_file;
     not_in_section = (kept.pages x).not_in_section;
     shared = (kept.pages x).shared;
@@ -150,7 +151,7 @@ module _ (config : Config) (o : PastView) (a : Pager) (f : ℕ) (x : Page) (kept
       go (inr s) (inl t) = absurd (none h t also)
       go (inr s) (inr t) = kept.held_once g h y (sym (at_number_other a.page f None g s) ∙ held) (sym (at_number_other a.page f None h t) ∙ also)
 
-  held_charged : (c : Bool) → HeldCharged (at_number a.page f None) (charged c)
+  held_charged : (c : Bool) → HeldCharged config (at_number a.page f None) (charged c)
   held_charged c g y private held = go (cases_eq f g)
     where
       counts : (d : Bool) → same_page y x ≡ false → 0 < count_page a.charged y → 0 < count_page (charged d) y
@@ -263,7 +264,7 @@ reuse_failed config past a seat f x kept legal = subst (λ (o : Option Flight). 
     why = go (is_private x && is_section_block legal.flight.block) refl fits
       where
         of_block : (d : BlockId) → is_section_block d ≡ true → a.lies x ≡ Some d → is_private x ≡ true → ⊥
-        of_block (block.Section s i) is lies private = (kept.pages x).not_in_section s i private lies
+        of_block (block.Section s i) is lies private = (kept.pages x).not_in_section s i (private_is_paged config x private) lies
         of_block (block.PageFile n) is lies private = false≢true is
         of_block (block.Swap q n) is lies private = false≢true is
 

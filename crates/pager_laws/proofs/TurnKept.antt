@@ -1,8 +1,9 @@
 -- TURN.
 use Rattle.pager_rules.proofs.Quiet.{none_failed}
-use Rattle.std.proofs.Common.{◌≡◌, ◌⊎◌, ℕ, zero, suc, ◌+◌, ◌<◌, ◌≤◌, Bool, true, false, cond, List, [], ◌∷◌, Option, Some, None, length, map, nat_eq, count_by, slice_get, refl, sym, ap, ap₂, ◌∙◌, subst, subst₂, inl, inr, arith}
+use Rattle.std.proofs.Common.{◌≡◌, ◌⊎◌, ℕ, zero, suc, ◌+◌, ◌<◌, ◌≤◌, Bool, true, false, cond, List, [], ◌||◌, ◌∷◌, Option, Some, None, length, map, nat_eq, count_by, slice_get, refl, sym, ap, ap₂, ◌∙◌, subst, subst₂, inl, inr, arith}
 use Rattle.std.proofs.lemmas.Bool.{cases_eq, eqb-true, eq-eqb, and_from}
-use Rattle.vm_types.specs.Ring.{Ring, Held, filled, locked, is_filled_slot, is_locked_slot}
+use Rattle.vm_types.specs.Configuration.{pins_of}
+use Rattle.vm_types.specs.Ring.{Ring, Held, fixed, is_fixed_slot, is_pinned_slot, is_unpinned_slot, pinned, unpinned}
 use Rattle.vm_types.specs.declared.names.Page.{Page}
 use Rattle.vm_types.specs.declared.names.Page.TheVariants.{Private, Shared}
 use Rattle.vm_types.specs.declared.names.Proc.{Proc}
@@ -16,27 +17,30 @@ use Rattle.vm_journal.specs.declared.entry.Entry.{Entry}
 use Rattle.vm_journal.specs.declared.entry.What.TheVariants as what
 use Rattle.pager_model.specs.Around.{PastView, entry_view, frame_view, past_view, process_view, quiet}
 use Rattle.pager_model.specs.Flights.{Flight, open_flights}
-use Rattle.pager_model.specs.Lookups.{entries_at, has_vpn, is, is_entry, is_of, page_by, slot_of, slots_with}
+use Rattle.pager_model.specs.Lookups.{entries_at, has_pin, has_vpn, is, is_entry, is_of, page_by, pins_with, slot_of, slots_with}
 use Rattle.pager_model.specs.Maps.{proc}
 use Rattle.pager_model.specs.Pager.{Pager, Valid}
 use Rattle.pager_model.specs.Ring.{unlocked_slot}
 use Rattle.pager_model.specs.Sets.{at_number}
-use Rattle.pager_model.specs.Sound.{FitsSlot, HasSwapped, IsSwapped, MayHoldSwapped}
+use Rattle.pager_model.specs.Sound.{FitsSlot, HasSwapped, IsSwapped, MayHoldSwapped, pins_of_page}
 use Rattle.pager_model.specs.Transfers.{is_come}
 use Rattle.pager_model.specs.Turn.{IsTurn, IsTurned, after_turn, turned_ring}
-use Rattle.pager_rules.proofs.Basics.{at_number_other, at_number_same, count_cons, count_cons_no, count_none, nat_eq_refl, states_equal}
+use Rattle.pager_rules.proofs.Basics.{at_number_other, at_number_same, count_cons, count_none, nat_eq_refl, states_equal}
 use Rattle.pager_rules.proofs.Frames.{at_state}
 use Rattle.pager_rules.proofs.Lists.{all_found, all_step, count_found, count_written, found_one, found_passes}
-use Rattle.pager_rules.proofs.Pages.{own_process}
+use Rattle.pager_rules.proofs.Pages.{is_of_private, own_is, own_process}
 use Rattle.pager_rules.proofs.Transfers.{IsFar, flight_far}
 use Rattle.pager_rules.proofs.Views.{frames_move}
 use Rattle.pager_rules.specs.Kept.{ComingOnce, FitsEntry, FitsFlight, FitsProcess, IsForItsPage, IsKept, views}
+use Rattle.pager_rules.proofs.Pins.{all_pinned, pins_of_less, unpinned_at}
 
 -- ---- the ring, but for its locks
 record IsRelocked (old new : Ring) : Type 0 where
   vpns : (w : ℕ) → slots_with new w ≡ slots_with old w
-  filled : filled new.slots ≡ filled old.slots
-  locks : locked new.slots ≤ locked old.slots
+  pins : (w : ℕ) → pins_with new w ≡ pins_with old w
+  pinned : pinned new.slots ≡ pinned old.slots
+  unpinned : unpinned new.slots ≡ unpinned old.slots
+  locks : fixed new.slots ≤ fixed old.slots
   slots : length new.slots ≡ length old.slots
   hand : new.hand ≡ old.hand
   slot : (p n : ℕ) (g : Page) → FitsSlot p (slot_of (slice_get old.slots n)) g → FitsSlot p (slot_of (slice_get new.slots n)) g
@@ -45,13 +49,18 @@ pub count_map : (t u : Option Held → Bool) (f : Option Held → Option Held) �
 count_map t u f same [] = refl
 count_map t u f same (x ∷ xs) = count_cons u (f x) (map f xs) ∙ (ap₂ (λ (b : Bool) (n : ℕ). cond b 1 0 + n) (same x) (count_map t u f same xs) ∙ sym (count_cons t x xs))
 
-none_locked : (xs : List (Option Held)) → locked (map unlocked_slot xs) ≡ 0
-none_locked [] = refl
-none_locked (x ∷ xs) = count_cons_no is_locked_slot (unlocked_slot x) (map unlocked_slot xs) (go x) ∙ none_locked xs
+fewer_fixed : (xs : List (Option Held)) → fixed (map unlocked_slot xs) ≤ fixed xs
+fewer_fixed [] = omega arith
+fewer_fixed (x ∷ xs) = go x (fewer_fixed xs)
   where
-    go : (o : Option Held) → is_locked_slot (unlocked_slot o) ≡ false
-    go None = refl
-    go (Some held) = refl
+    one : (b c : Bool) → cond {A = ℕ} c 1 0 ≤ cond {A = ℕ} (b || c) 1 0
+    one true true = omega arith
+    one true false = omega arith
+    one false c = omega arith
+
+    go : (o : Option Held) → fixed (map unlocked_slot xs) ≤ fixed xs → fixed (unlocked_slot o ∷ map unlocked_slot xs) ≤ fixed (o ∷ xs)
+    go None rest = omega (arith, count_cons is_fixed_slot None (map unlocked_slot xs), count_cons is_fixed_slot None xs)
+    go (Some held) rest = omega (arith, one held.locked held.pinned, count_cons is_fixed_slot (unlocked_slot (Some held)) (map unlocked_slot xs), count_cons is_fixed_slot (Some held) xs)
 
 fits_unlocked : (p n : ℕ) (g : Page) (xs : List (Option Held)) → FitsSlot p (slot_of (slice_get xs n)) g → FitsSlot p (slot_of (slice_get (map unlocked_slot xs) n)) g
 fits_unlocked p n g [] fits = fits
@@ -67,8 +76,10 @@ length_map (x ∷ xs) = ap suc (length_map xs)
 relocked : (s : ProcStatus) (ring : Ring) → IsRelocked ring (turned_ring s ring)
 relocked status.Leaving ring = record {
   vpns = λ w. count_map (has_vpn w) (has_vpn w) unlocked_slot (vpn w) ring.slots;
-  filled = count_map is_filled_slot is_filled_slot unlocked_slot fills ring.slots;
-  locks = omega (arith, none_locked ring.slots);
+  pins = λ w. count_map (has_pin w) (has_pin w) unlocked_slot (pin w) ring.slots;
+  pinned = count_map is_pinned_slot is_pinned_slot unlocked_slot pins ring.slots;
+  unpinned = count_map is_unpinned_slot is_unpinned_slot unlocked_slot stays ring.slots;
+  locks = fewer_fixed ring.slots;
   slots = length_map ring.slots;
   hand = refl;
   slot = λ p n g fits. fits_unlocked p n g ring.slots fits;
@@ -78,26 +89,18 @@ relocked status.Leaving ring = record {
     vpn w None = refl
     vpn w (Some held) = refl
 
-    fills : (o : Option Held) → is_filled_slot (unlocked_slot o) ≡ is_filled_slot o
-    fills None = refl
-    fills (Some held) = refl
-relocked other ring = record { vpns = λ w. refl; filled = refl; locks = omega arith; slots = refl; hand = refl; slot = λ p n g fits. fits }
+    pin : (w : ℕ) (o : Option Held) → has_pin w (unlocked_slot o) ≡ has_pin w o
+    pin w None = refl
+    pin w (Some held) = refl
 
-filled_at : (xs : List (Option Held)) (n : ℕ) (held : Held) → slice_get xs n ≡ Some (Some held) → 0 < filled xs
-filled_at xs n held is = omega (arith, count_written is_filled_slot xs n (Some held) None is)
+    pins : (o : Option Held) → is_pinned_slot (unlocked_slot o) ≡ is_pinned_slot o
+    pins None = refl
+    pins (Some held) = refl
 
--- a slot with a page is filled
-vpn_filled : (v : ℕ) (xs : List (Option Held)) → count_by (has_vpn v) xs ≤ filled xs
-vpn_filled v [] = omega arith
-vpn_filled v (x ∷ xs) = go x (vpn_filled v xs)
-  where
-    go : (o : Option Held) → count_by (has_vpn v) xs ≤ filled xs → count_by (has_vpn v) (o ∷ xs) ≤ filled (o ∷ xs)
-    go None rest = omega (arith, count_cons (has_vpn v) None xs, count_cons is_filled_slot None xs)
-    go (Some held) rest = let most = at_most (nat_eq held.vpn v) in omega (arith, count_cons (has_vpn v) (Some held) xs, count_cons is_filled_slot (Some held) xs)
-      where
-        at_most : (b : Bool) → cond {A = ℕ} b 1 0 ≤ 1
-        at_most true = omega arith
-        at_most false = omega arith
+    stays : (o : Option Held) → is_unpinned_slot (unlocked_slot o) ≡ is_unpinned_slot o
+    stays None = refl
+    stays (Some held) = refl
+relocked other ring = record { vpns = λ w. refl; pins = λ w. refl; pinned = refl; unpinned = refl; locks = omega arith; slots = refl; hand = refl; slot = λ p n g fits. fits }
 
 module _ (config : Config) (a : Pager) (flights : List Flight) (p : ℕ) (s : ProcStatus) (kept : IsKept config (quiet flights) a) where
   abbrev new : Ring
@@ -116,29 +119,30 @@ module _ (config : Config) (a : Pager) (flights : List Flight) (p : ℕ) (s : Pr
   entry_there q u apart =
       let status_is = at_number_other a.status p s q apart in
       let slots_is = ap (λ (r : Ring). slots_with r u) (at_number_other a.ring p new q apart) in
+      let pins_is = ap (λ (r : Ring). pins_with r u) (at_number_other a.ring p new q apart) in
       cc
 
-  process_here : (s ≡ status.Gone → filled (a.ring p).slots ≡ 0) → FitsProcess (process_view config b p)
+  process_here : (s ≡ status.Gone → unpinned (a.ring p).slots ≡ 0) → FitsProcess (process_view config b p)
   process_here gone =
       let old = kept.processes p in
       let ring = relocked s (a.ring p) in
       subst₂ (λ (t : ProcStatus) (r : Ring). FitsProcess (record (process_view config a p) { status = t; ring = r })) (sym (at_number_same a.status p s)) (sym (at_number_same a.ring p new)) (record {
-        bounds = λ spec found. let o = old.bounds spec found in record { locks = omega (arith, ring.locks, o.locks); least = o.least; most = o.most; slots = ring.slots ∙ o.slots; hand = omega (arith, ring.hand, o.hand) };
-        gone = λ is. ring.filled ∙ gone is;
+        bounds = λ spec found. let o = old.bounds spec found in record { locks = omega (arith, ring.locks, o.locks); pins = subst (λ (n : ℕ). n ≤ pins_of config.version spec) (sym ring.pinned) o.pins; least = o.least; most = o.most; slots = ring.slots ∙ o.slots; hand = omega (arith, ring.hand, o.hand) };
+        gone = λ is. ring.unpinned ∙ gone is;
         none = λ none. ((old.none none).0, ring.slots ∙ (old.none none).1);
       })
 
-  entry_here : (s ≡ status.Coming → filled (a.ring p).slots ≡ 0) → (u : ℕ) → FitsEntry (entry_view config b p u)
+  entry_here : (s ≡ status.Coming → unpinned (a.ring p).slots ≡ 0) → (u : ℕ) → FitsEntry (entry_view config b p u)
   entry_here coming u =
       let old = kept.entries p u in
       let ring = relocked s (a.ring p) in
-      subst₂ (λ (t : ProcStatus) (r : Ring). FitsEntry (record { mapped = page_by config a.map p u; entries = entries_at a.valid p u; slots = slots_with r u; status = t })) (sym (at_number_same a.status p s)) (sym (at_number_same a.ring p new)) (record {
+      subst₂ (λ (t : ProcStatus) (r : Ring). FitsEntry (record { mapped = page_by config a.map p u; entries = entries_at a.valid p u; slots = slots_with r u; pins = pins_with r u; status = t })) (sym (at_number_same a.status p s)) (sym (at_number_same a.ring p new)) (record {
         once = old.once;
         slots = ring.vpns u ∙ old.slots;
-        coming = λ g is some. absurd (omega (arith, coming is, vpn_filled u (a.ring p).slots, old.slots));
+        coming = λ g is some mapped. inr (omega (arith, ring.pins u, all_pinned (a.ring p).slots u (coming is), old.slots));
       })
 
-  entries : (s ≡ status.Coming → filled (a.ring p).slots ≡ 0) → (q u : ℕ) → FitsEntry (entry_view config b q u)
+  entries : (s ≡ status.Coming → unpinned (a.ring p).slots ≡ 0) → (q u : ℕ) → FitsEntry (entry_view config b q u)
   entries coming q u = go (cases_eq p q)
     where
       go : (p ≡ q) ⊎ (p ≡ q → ⊥) → FitsEntry (entry_view config b q u)
@@ -147,8 +151,8 @@ module _ (config : Config) (a : Pager) (flights : List Flight) (p : ℕ) (s : Pr
 
   -- the pages that lie in p's swap blocks
   pub record IsMoved : Type 0 where
-    pub gone : s ≡ status.Gone → filled (a.ring p).slots ≡ 0
-    pub coming : s ≡ status.Coming → filled (a.ring p).slots ≡ 0
+    pub gone : s ≡ status.Gone → unpinned (a.ring p).slots ≡ 0
+    pub coming : s ≡ status.Coming → unpinned (a.ring p).slots ≡ 0
     pub alone : s ≡ status.Coming → (q : ℕ) → a.status q ≡ status.Coming → ⊥
     pub away : (g : Page) (n : ℕ) → a.lies g ≡ Some (block.Swap (proc p) n) → s ≡ status.Resident → ⊥
     pub frame : (g : Page) (n f : ℕ) → a.lies g ≡ Some (block.Swap (proc p) n) → a.page f ≡ Some g → MayHoldSwapped (a.state f) (a.status p) → MayHoldSwapped (a.state f) s
@@ -161,13 +165,13 @@ module _ (config : Config) (a : Pager) (flights : List Flight) (p : ℕ) (s : Pr
       old = kept.swapped g q n lies
 
       Result : ProcStatus → Ring → Type 0
-      Result t r = (t ≡ status.Resident → ⊥) × (n < length r.slots) × FitsSlot q (slot_of (slice_get r.slots n)) g × ((f : ℕ) → a.page f ≡ Some g → MayHoldSwapped (a.state f) t)
+      Result t r = (t ≡ status.Resident → ⊥) × (n < length r.slots) × FitsSlot q (slot_of (slice_get r.slots n)) g × (pins_of_page r g ≡ 0) × ((f : ℕ) → a.page f ≡ Some g → MayHoldSwapped (a.state f) t)
 
       from : Result (b.status q) (b.ring q) → IsSwapped a.lies b.status b.ring a.state a.page g q n
-      from result = record { own = old.own; away = result.0; alone = old.alone; within = result.1; slot = result.2; frame = result.3 }
+      from result = record { own = old.own; away = result.0; alone = old.alone; within = result.1; slot = result.2; unpinned = result.3; frame = result.4 }
 
       go : (p ≡ q) ⊎ (p ≡ q → ⊥) → IsSwapped a.lies b.status b.ring a.state a.page g q n
-      go (inr apart) = from (subst₂ Result (sym (at_number_other a.status p s q apart)) (sym (at_number_other a.ring p new q apart)) (old.away, old.within, old.slot, old.frame))
+      go (inr apart) = from (subst₂ Result (sym (at_number_other a.status p s q apart)) (sym (at_number_other a.ring p new q apart)) (old.away, old.within, old.slot, old.unpinned, old.frame))
       go (inl same) =
           let lies_p : a.lies g ≡ Some (block.Swap (proc p) n) = subst (λ (r : ℕ). a.lies g ≡ Some (block.Swap (proc r) n)) (sym same) lies in
           let status_is : b.status q ≡ s = subst (λ (r : ℕ). at_number a.status p s r ≡ s) same (at_number_same a.status p s) in
@@ -176,6 +180,7 @@ module _ (config : Config) (a : Pager) (flights : List Flight) (p : ℕ) (s : Pr
             moved.away g n lies_p,
             subst (λ (m : ℕ). n < m) (sym (relocked s (a.ring p)).slots) (subst (λ (r : ℕ). n < length (a.ring r).slots) (sym same) old.within),
             (relocked s (a.ring p)).slot q n g (subst (λ (r : ℕ). FitsSlot q (slot_of (slice_get (a.ring r).slots n)) g) (sym same) old.slot),
+            pins_of_less g (a.ring p) new (λ w. omega (arith, (relocked s (a.ring p)).pins w)) (subst (λ (r : ℕ). pins_of_page (a.ring r) g ≡ 0) (sym same) old.unpinned),
             λ f held. moved.frame g n f lies_p held (subst (λ (r : ℕ). MayHoldSwapped (a.state f) (a.status r)) (sym same) (old.frame f held)),
           ))
 
@@ -214,9 +219,9 @@ module _ (config : Config) (a : Pager) (flights : List Flight) (p : ℕ) (s : Pr
     failed = none_failed _ _;
   }
 
--- a page of p in an active frame is in p's ring
-in_ring : (config : Config) (o : PastView) (a : Pager) (p : ℕ) → IsKept config o a → (g : Page) (f : ℕ) → is_of p g ≡ true → a.page f ≡ Some g → a.state f ≡ state.Active → 0 < filled (a.ring p).slots
-in_ring config o a p kept g f own holds active =
+-- a page of p in an active frame is in p's ring, so it is pinned where all pages of the ring are
+in_ring : (config : Config) (o : PastView) (a : Pager) (p : ℕ) → IsKept config o a → (g : Page) (f : ℕ) → is_of p g ≡ true → a.page f ≡ Some g → a.state f ≡ state.Active → unpinned (a.ring p).slots ≡ 0 → pins_of_page (a.ring p) g ≡ 0 → ⊥
+in_ring config o a p kept g f own holds active none off =
     let row = at_state (frame_view config o a f) state.Active active (kept.frames f) in
     let found = found_one (λ (y : Valid). nat_eq y.frame f) a.valid row.shares in
     let e = found.0 in
@@ -226,7 +231,9 @@ in_ring config o a p kept g f own holds active =
     let page : fits.0 ≡ g = cc in
     let mine : e.proc ≡ p = own_process config a.map e.proc e.vpn p g (fits.1 ∙ ap Some page) own in
     let some : 0 < entries_at a.valid p e.vpn = count_found (is_entry p e.vpn) (λ (y : Valid). nat_eq y.frame f) a.valid e found.1 (and_from _ _ (eq-eqb _ _ mine) (nat_eq_refl e.vpn)) in
-    omega (arith, (kept.entries p e.vpn).slots, vpn_filled e.vpn (a.ring p).slots)
+    let g_is : g ≡ Private (proc e.proc) e.vpn = own_is config a.map e.proc e.vpn g (fits.1 ∙ ap Some page) (is_of_private p g own) in
+    let free : pins_with (a.ring p) e.vpn ≡ 0 = subst (λ (y : Page). pins_of_page (a.ring p) y ≡ 0) g_is off in
+    omega (arith, (kept.entries p e.vpn).slots, all_pinned (a.ring p).slots e.vpn none)
 
 moved : (config : Config) (a : Pager) (past : List Entry) (p : ℕ) (s : ProcStatus) (kept : IsKept config (quiet (open_flights past)) a) → IsTurned past a p s → IsMoved config a (open_flights past) p s kept
 moved config a past p status.Leaving kept legal = record {
@@ -238,7 +245,7 @@ moved config a past p status.Leaving kept legal = record {
   far = λ x counts. record {
     fault = λ q address is seat resident same. omega (arith, counts (λ (y : Flight). nat_eq y.seat p) (eq-eqb _ _ (seat ∙ sym same)), count_none (λ (y : Flight). nat_eq y.seat p) (open_flights past) legal.idle);
     come = λ q address n g is coming d_is lies same. omega (arith, counts (λ (y : Flight). is_come p y.direction) (ap (is_come p) is ∙ eq-eqb _ _ (sym same)), count_none (λ (y : Flight). is_come p y.direction) (open_flights past) legal.no_come);
-    swap = λ g w q leaving n held is same. not_leaving legal.was (ap a.status same ∙ leaving);
+    swap = λ g w q leaving n held is off same. not_leaving legal.was (ap a.status same ∙ leaving);
   };
 }
   where
@@ -258,13 +265,13 @@ moved config a past p status.Gone kept legal = record {
   far = λ x counts. record {
     fault = λ q address is seat resident same. let here = legal.0 in let there = ap a.status same ∙ resident in cc;
     come = λ q address n g is coming d_is lies same. let here = legal.0 in let there = ap a.status same ∙ coming in cc;
-    swap = λ g w q leaving n held is same. omega (arith, legal.1, filled_at (a.ring p).slots n held (subst (λ (r : ℕ). slice_get (a.ring r).slots n ≡ Some (Some held)) (sym same) is));
+    swap = λ g w q leaving n held is off same. omega (arith, legal.1, unpinned_at (a.ring p).slots n held (subst (λ (r : ℕ). slice_get (a.ring r).slots n ≡ Some (Some held)) (sym same) is) off);
   };
 }
   where
     out : (g : Page) (n f : ℕ) → a.lies g ≡ Some (block.Swap (proc p) n) → a.page f ≡ Some g → MayHoldSwapped (a.state f) (a.status p) → MayHoldSwapped (a.state f) status.Gone
     out g n f lies holds (inl is) = inl is
-    out g n f lies holds (inr is) = absurd (omega (arith, legal.1, in_ring config (quiet (open_flights past)) a p kept g f (kept.swapped g p n lies).own holds (states_equal _ _ is.1)))
+    out g n f lies holds (inr is) = absurd (in_ring config (quiet (open_flights past)) a p kept g f (kept.swapped g p n lies).own holds (states_equal _ _ is.1) legal.1 (kept.swapped g p n lies).unpinned)
 moved config a past p status.Coming kept legal = record {
   gone = λ is. absurd (cc);
   coming = λ is. (kept.processes p).gone legal.0;
@@ -274,7 +281,7 @@ moved config a past p status.Coming kept legal = record {
   far = λ x counts. record {
     fault = λ q address is seat resident same. let here = legal.0 in let there = ap a.status same ∙ resident in cc;
     come = λ q address n g is coming d_is lies same. let here = legal.0 in let there = ap a.status same ∙ coming in cc;
-    swap = λ g w q leaving n held is same. let here = legal.0 in let there = ap a.status same ∙ leaving in cc;
+    swap = λ g w q leaving n held is off same. let here = legal.0 in let there = ap a.status same ∙ leaving in cc;
   };
 }
   where
@@ -290,7 +297,7 @@ moved config a past p status.Resident kept legal = record {
   far = λ x counts. record {
     fault = λ q address is seat resident same. let here = legal.0 in let there = ap a.status same ∙ resident in cc;
     come = λ q address n g is coming d_is lies same. legal.1 g n (lies ∙ ap Some (d_is ∙ ap (λ (r : ℕ). block.Swap (proc r) n) (sym same)));
-    swap = λ g w q leaving n held is same. let here = legal.0 in let there = ap a.status same ∙ leaving in cc;
+    swap = λ g w q leaving n held is off same. let here = legal.0 in let there = ap a.status same ∙ leaving in cc;
   };
 }
 

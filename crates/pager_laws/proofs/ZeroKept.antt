@@ -6,38 +6,32 @@ use Rattle.std.proofs.lemmas.Option.{none-some}
 use Rattle.vm_types.specs.Same.{same_page}
 use Rattle.vm_types.specs.Ring.{Ring}
 use Rattle.vm_types.specs.declared.names.Page.{Page}
-use Rattle.vm_types.specs.declared.names.Page.TheVariants.{Private}
 use Rattle.vm_types.specs.declared.names.Addr.{Addr}
 use Rattle.vm_types.specs.declared.names.Pfn.{Pfn}
 use Rattle.vm_types.specs.declared.names.Seat.{Seat}
 use Rattle.vm_types.specs.declared.names.BlockId.{BlockId}
 use Rattle.vm_types.specs.declared.names.FrameState.TheVariants as state
 use Rattle.vm_types.specs.declared.config.Config.{Config}
-use Rattle.vm_types.specs.declared.config.Origin.{Origin}
 use Rattle.vm_journal.specs.declared.entry.Entry.{Entry}
 use Rattle.vm_journal.specs.declared.entry.What.TheVariants as what
 use Rattle.pager_model.specs.Around.{FrameView, frame_view, page_view, past_view, process_view, quiet}
 use Rattle.pager_model.specs.Changes.{valid_at}
 use Rattle.pager_model.specs.Flights.{is_busy, open_flights}
-use Rattle.pager_model.specs.Lookups.{count_page, entries_at, is_entry, page_at, page_by}
-use Rattle.pager_model.specs.Maps.{Mapped, page_behind, page_number, proc}
+use Rattle.pager_model.specs.Lookups.{count_page, entries_at, is_entry, own_page, page_by}
+use Rattle.pager_model.specs.Maps.{is_paged, page_number}
 use Rattle.pager_model.specs.Pager.{Pager, Valid}
 use Rattle.pager_model.specs.Ring.{placed}
 use Rattle.pager_model.specs.Sound.{HasSwapped}
-use Rattle.pager_model.specs.Zero.{IsDemandZero, IsZero, after_zero}
+use Rattle.pager_model.specs.Zero.{IsZero, after_zero, zeroed_page}
 use Rattle.pager_rules.proofs.Basics.{at_number_other, at_number_same, count_cons, count_cons_no, count_cons_yes, nat_eq_refl, pages_equal}
 use Rattle.pager_rules.proofs.Frames.{from_state}
-use Rattle.pager_rules.proofs.Pages.{own_process, swapped_move}
+use Rattle.pager_rules.proofs.Pages.{own_is, own_process, swapped_move, zeroed_mapped, zeroed_paged}
 use Rattle.pager_rules.proofs.PlacedRing.{IsPlaced}
 use Rattle.pager_rules.proofs.Put.{charged_other, charged_same, entries_put, free_row, head_counts, held_charged_put, held_put, no_entry, page_apart, unsaved_move, without_other, without_same}
 use Rattle.pager_rules.proofs.Rings.{entries_add, placed_process, placed_there}
 use Rattle.pager_rules.proofs.Transfers.{IsApart, alike, transfers_idle}
 use Rattle.pager_rules.proofs.Views.{frames_move, pages_move}
 use Rattle.pager_rules.specs.Kept.{FitsFrame, FitsPage, FitsProcess, HasUnsaved, IsInFrame, IsKept, saves, views}
-
-own_page : (config : Config) (p v : ℕ) (mapped : Option Mapped) → IsDemandZero mapped → page_at config p v mapped ≡ Some (Private (proc p) v)
-own_page config p v None demand = absurd demand
-own_page config p v (Some m) demand = ap (λ (o : Origin). Some (page_behind config p v o)) demand
 
 not_lying : (o : Option BlockId) → ((b : BlockId) → o ≡ Some b → ⊥) → o ≡ None
 not_lying None none = refl
@@ -48,7 +42,7 @@ module _ (config : Config) (past : List Entry) (a : Pager) (p address f : ℕ) (
   v = page_number address
 
   abbrev x : Page
-  x = Private (proc p) v
+  x = zeroed_page config p v (a.map p v)
 
   abbrev new : Ring
   new = placed (a.ring p) (a.limit p) v
@@ -61,13 +55,16 @@ module _ (config : Config) (past : List Entry) (a : Pager) (p address f : ℕ) (
 
   -- ---- the page is in no frame and lies nowhere
   own : page_by config a.map p v ≡ Some x
-  own = own_page config p v (a.map p v) legal.demand_zero
+  own = zeroed_mapped config p v (a.map p v) legal.demand_zero
+
+  paged : is_paged config x ≡ true
+  paged = zeroed_paged config p v (a.map p v) legal.demand_zero
 
   unheld : (g : ℕ) → a.page g ≡ Some x → ⊥
-  unheld g holds = absurd (omega (arith, legal.not_charged, kept.held_charged g x refl holds))
+  unheld g holds = absurd (omega (arith, legal.not_charged, kept.held_charged g x paged holds))
 
   nowhere : a.lies x ≡ None
-  nowhere = not_lying (a.lies x) (λ d lies. omega (arith, legal.not_charged, (kept.pages x).lying d refl lies))
+  nowhere = not_lying (a.lies x) (λ d lies. omega (arith, legal.not_charged, (kept.pages x).lying d paged lies))
 
   none : entries_at a.valid p v ≡ 0
   none = no_entry config a.map a.page a.valid p v x own unheld kept.valid
@@ -117,11 +114,12 @@ module _ (config : Config) (past : List Entry) (a : Pager) (p address f : ℕ) (
       let fits = kept.pages x in
       let one = charged_same x a.charged in
       record {
+        paged = λ some. paged;
         charged = omega (arith, legal.not_charged);
         touched = omega (arith, fits.touched);
         blocks = omega (arith, fits.blocks);
-        mapped = λ some. own;
-        lying = λ d private lies. absurd (none-some d (sym nowhere ∙ lies));
+        mapped = λ some private. subst (λ (g : Page). own_page config a.map g ≡ Some x) (sym (own_is config a.map p v x own private)) own;
+        lying = λ d paged lies. absurd (none-some d (sym nowhere ∙ lies));
         in_file = fits.in_file;
         not_in_section = fits.not_in_section;
         shared = fits.shared;
@@ -163,7 +161,7 @@ module _ (config : Config) (past : List Entry) (a : Pager) (p address f : ℕ) (
     blocks = kept.blocks;
     fit = legal.room;
     held_once = held_put a.page f x unheld kept.held_once;
-    held_charged = held_charged_put a.page a.charged b.charged f x (λ private. omega (arith, charged_same x a.charged)) (λ g. count_more g) kept.held_charged;
+    held_charged = held_charged_put config a.page a.charged b.charged f x (λ private. omega (arith, charged_same x a.charged)) (λ g. count_more g) kept.held_charged;
     unsaved = unsaved;
     swapped = swapped;
     coming_once = kept.coming_once;

@@ -31,7 +31,7 @@ use Rattle.pager_model.specs.Forget.{holder}
 use Rattle.pager_model.specs.Given.{Given, Seen, Target, eviction, given, is_stopped, page_address, pfn, reads_made, reuse_first, seen_at}
 use Rattle.pager_model.specs.In.{is_kin}
 use Rattle.pager_model.specs.Lookups.{count_page, entry_of, is_owner, is_pending, is_resident, page_by, section_at}
-use Rattle.pager_model.specs.Maps.{Mapped, is_private, page_number, proc}
+use Rattle.pager_model.specs.Maps.{Mapped, is_paged, page_number, proc}
 use Rattle.pager_model.specs.Pager.{Assigned, Pager, Valid}
 use Rattle.pager_model.specs.Spoken.{flat_after}
 use Rattle.pager_model.specs.Transfers.{is_on_block, is_read_on}
@@ -83,14 +83,19 @@ replace_given config past a p = replace_seen config past a p (seen_at a p (victi
 
 -- the block from which the page is read: that of its section before a private page is charged, else the one
 -- in which it lies
-abbrev pub is_uncharged : Pager → Page → Bool
-is_uncharged a g = is_private g && nat_eq (count_page a.charged g) 0
+abbrev pub is_uncharged : Config → Pager → Page → Bool
+is_uncharged config a g = is_paged config g && nat_eq (count_page a.charged g) 0
 
-abbrev pub source_of : Pager → Page → Option Mapped → Option BlockId
-source_of a g m = if is_uncharged a g then section_at m else a.lies g
+-- a shared page that isn't charged yet is made of zeros
+abbrev pub first_source : Page → Option Mapped → Option BlockId
+first_source (Private p v) m = section_at m
+first_source (Shared s i) m = None
+
+abbrev pub source_of : Config → Pager → Page → Option Mapped → Option BlockId
+source_of config a g m = if is_uncharged config a g then first_source g m else a.lies g
 
 -- the page that may follow so many places after the faulting one: the section's, or the owner of that block
--- where it lies there and is of the same process
+-- where it lies there and is of the same process, or of the same section
 abbrev pub owner_of : List Assigned → ℕ → Option Page
 owner_of assigned n = option_map (λ (x : Assigned). x.page) (find (is_owner (block.PageFile n)) assigned)
 
@@ -107,9 +112,9 @@ following_shared None s i = None
 following_shared (Some section) s i = if nat_lt i (section_pages section) then Some (Shared s i) else None
 
 abbrev pub following : Config → Pager → Page → BlockId → ℕ → Option Page
-following config a (Shared s i) b places = following_shared (slice_get config.sections s.0) s (i + places)
-following config a (Private p v) (block.PageFile n) places = following_owner a (Private p v) (n + places) (owner_of a.assigned (n + places))
-following config a (Private p v) other places = None
+following config a g (block.PageFile n) places = following_owner a g (n + places) (owner_of a.assigned (n + places))
+following config a (Shared s i) (block.Section t j) places = following_shared (slice_get config.sections s.0) s (i + places)
+following config a g other places = None
 
 abbrev pub is_out : Config → Pager → Option Page → Bool
 is_out config a None = false
@@ -119,7 +124,7 @@ is_out config a (Some g) = not (is_some (holder config a.page g))
 -- read of a copy on reference page is made by itself
 abbrev pub window : Config → Pager → Page → BlockId → List Bool
 window config a g b =
-    if is_uncharged a g then (true ∷ []) else (true ∷ map (λ (places : ℕ). is_out config a (following config a g b places)) (range_with_len 1 (config.params.pfc - 1)))
+    if is_uncharged config a g then (true ∷ []) else (true ∷ map (λ (places : ℕ). is_out config a (following config a g b places)) (range_with_len 1 (config.params.pfc - 1)))
 
 abbrev pub block_after : BlockId → ℕ → BlockId
 block_after (block.PageFile n) places = block.PageFile (n + places)
@@ -158,12 +163,12 @@ out_given config past a p r g o =
 abbrev pub held_given : Config → List Entry → Pager → ℕ → Ref → Page → Option ℕ → GivenNext
 held_given config past a p r g (Some f) =
     given (what.Back (proc p) (page_address (page_number (r.addr).0)) (pfn f) (a.state f) ∷ what.Done r unsaid ∷ []) next_answered
-held_given config past a p r g None = out_given config past a p r g (source_of a g (a.map p (page_number (r.addr).0)))
+held_given config past a p r g None = out_given config past a p r g (source_of config a g (a.map p (page_number (r.addr).0)))
 
 -- the page file's charge comes before the working set's limit, and both before the page
 abbrev pub room_given : Config → List Entry → Pager → ℕ → Ref → Page → GivenNext
 room_given config past a p r g =
-    if is_uncharged a g && nat_eq (length a.charged) config.pagefile then gives_again again_charging
+    if is_uncharged config a g && nat_eq (length a.charged) config.pagefile then gives_again again_charging
     else (if nat_le (a.limit p) (filled (a.ring p).slots) then replace_given config past a p
     else held_given config past a p r g (holder config a.page g))
 

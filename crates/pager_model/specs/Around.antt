@@ -7,10 +7,12 @@ use Rattle.vm_types.specs.declared.names.BlockId.{BlockId}
 use Rattle.vm_types.specs.declared.names.ProcStatus.{ProcStatus}
 use Rattle.vm_types.specs.declared.config.Config.{Config}
 use Rattle.vm_types.specs.declared.config.ProcSpec.{ProcSpec}
+use Rattle.vm_types.specs.declared.config.Version.{Version}
 use Rattle.vm_journal.specs.declared.entry.Entry.{Entry}
 use Rattle.page_lists.specs.Lists.{count_of}
 use Rattle.pager_model.specs.Flights.{Flight, failed_flight, has_failed_read, open_flights}
-use Rattle.pager_model.specs.Lookups.{block_of, count_page, entries_at, is_assigned_to, is_owner, own_page, own_section, page_by, shares, slots_with}
+use Rattle.pager_model.specs.Lookups.{block_of, count_page, entries_at, is_assigned_to, is_owner, own_page, own_section, page_by, pins_with, shares, slots_with}
+use Rattle.pager_model.specs.Maps.{is_paged}
 use Rattle.pager_model.specs.Opening.{is_bad}
 use Rattle.pager_model.specs.Pager.{Pager}
 use Rattle.pager_model.specs.Transfers.{is_on_block, reads_on, writes_on}
@@ -59,6 +61,7 @@ frame_view config o a f =
 
 -- a process: what the configuration says of it, its status, ring and limit
 pub record ProcessView : Type 0 where
+  pub version : Version
   pub spec : Option ProcSpec
   pub status : ProcStatus
   pub ring : Ring
@@ -66,23 +69,25 @@ pub record ProcessView : Type 0 where
 
 abbrev pub process_view : Config → Pager → ℕ → ProcessView
 process_view config a p =
-    record { spec = slice_get config.procs p; status = a.status p; ring = a.ring p; limit = a.limit p }
+    record { version = config.version; spec = slice_get config.procs p; status = a.status p; ring = a.ring p; limit = a.limit p }
 
 -- a page table entry: the page that is mapped there, how many valid entries and how many slots there are
--- for it, and its process's status
+-- for it, how many of these are pinned, and its process's status
 pub record EntryView : Type 0 where
   pub mapped : Option Page
   pub entries : ℕ
   pub slots : ℕ
+  pub pins : ℕ
   pub status : ProcStatus
 
 abbrev pub entry_view : Config → Pager → ℕ → ℕ → EntryView
 entry_view config a p v =
-    record { mapped = page_by config a.map p v; entries = entries_at a.valid p v; slots = slots_with (a.ring p) v; status = a.status p }
+    record { mapped = page_by config a.map p v; entries = entries_at a.valid p v; slots = slots_with (a.ring p) v; pins = pins_with (a.ring p) v; status = a.status p }
 
--- a page: how often it is charged, touched and assigned a block, that block, the block in which it lies,
+-- a page: whether it is paged, how often it is charged, touched and assigned a block, that block, the block in which it lies,
 -- and of a private page what its process has there, and the section block behind it
 pub record PageView : Type 0 where
+  pub paged : Bool
   pub charged : ℕ
   pub touched : ℕ
   pub blocks : ℕ
@@ -94,6 +99,7 @@ pub record PageView : Type 0 where
 abbrev pub page_view : Config → Pager → Page → PageView
 page_view config a g =
     record {
+      paged = is_paged config g;
       charged = count_page a.charged g;
       touched = count_page a.touched g;
       blocks = count_by (is_assigned_to g) a.assigned;

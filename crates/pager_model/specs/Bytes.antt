@@ -3,6 +3,7 @@ use Rattle.std.specs.Prelude.{ℕ, Bool, true, ◌+◌, List, [], ◌∷◌, Opt
 use Rattle.vm_types.specs.declared.names.Page.{Page}
 use Rattle.vm_types.specs.declared.names.Page.TheVariants.{Private, Shared}
 use Rattle.vm_types.specs.declared.config.Config.{Config}
+use Rattle.vm_types.specs.declared.config.Origin.TheVariants as origin
 use Rattle.vm_journal.specs.declared.entry.Entry.{Entry}
 use Rattle.pager_model.specs.Flat.{FlatState, page_bytes}
 use Rattle.pager_model.specs.Maps.{Mapped, shared_of}
@@ -15,7 +16,7 @@ bytes_at config flat g (Some m) = page_bytes config flat g m.origin
 -- a private page has bytes where it is mapped, a shared one always
 abbrev pub bytes_in : Config → FlatState → Page → List ℕ
 bytes_in config flat (Private p v) = bytes_at config flat (Private p v) (flat.map p.0 v)
-bytes_in config flat (Shared s i) = flat.stored (Shared s i)
+bytes_in config flat (Shared s i) = page_bytes config flat (Shared s i) (origin.Section s i)
 
 -- the entries before the one with this number
 abbrev pub before : ℕ → List Entry → List Entry

@@ -26,9 +26,9 @@ pub record IsDone (config : Config) (a : Pager) (p : ℕ) (r : Ref) : Type 0 whe
   pub allowed : Allows (a.map p (page_number (r.addr).0)) r
   pub valid : (e : Valid) × (entry_of a.valid p (page_number (r.addr).0) ≡ Some e)
 
-abbrev pub touched_at : List Page → Option Page → List Page
-touched_at touched None = touched
-touched_at touched (Some page) = touched_with touched page
+abbrev pub touched_at : Config → List Page → Option Page → List Page
+touched_at config touched None = touched
+touched_at config touched (Some page) = touched_with config touched page
 
 abbrev pub modify_done : Op → Option Valid → (ℕ → Bool) → ℕ → Bool
 modify_done op None modify = modify
@@ -41,5 +41,5 @@ after_done config a p r =
     record a {
       modify = modify_done r.op (entry_of a.valid p v) a.modify;
       references = at_number a.references p (a.references p + 1);
-      touched = touched_at a.touched (page_by config a.map p v);
+      touched = touched_at config a.touched (page_by config a.map p v);
     }

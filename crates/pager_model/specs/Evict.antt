@@ -2,7 +2,7 @@
 -- working set replacement, purging and outswap; the wait limit on the modified list is its SYSGEN
 -- parameter MPW_WAITLIMIT. The ring rule and the five reasons are this project's own.
 use Rattle.std.specs.Prelude.{◌≡◌, ℕ, Bool, true, false, ◌+◌, ◌<◌, ◌≤◌, List, Some, None, length, slice_get, slice_set, nat_lt, if◌then◌else◌}
-use Rattle.vm_types.specs.Ring.{Ring, Held, choose, filled}
+use Rattle.vm_types.specs.Ring.{Ring, Held, choose, filled, is_fixed}
 use Rattle.vm_types.specs.declared.names.Page.{Page}
 use Rattle.vm_types.specs.declared.names.FrameState.{FrameState}
 use Rattle.vm_types.specs.declared.names.FrameState.TheVariants as state
@@ -58,16 +58,18 @@ pub record IsReplace (config : Config) (past : List Entry) (a : Pager) (p addres
   pub evicted : IsEvicted past a p (page_number address) f slot to
   pub waits : Waits config a to
 
--- PURGE and DELETE: a page of the process's own; one that is purged isn't locked
+-- PURGE and DELETE: a page of the process's own; one that is purged is neither locked nor pinned
 pub record IsDropped (config : Config) (past : List Entry) (a : Pager) (p address f : ℕ) (purged : Bool) (to : FrameState) : Type 0 where
   pub own : IsOwn config a p
   pub taken : IsTaken past a p (page_number address) f to
-  pub unlocked : (held : Held) → slice_get (a.ring p).slots (slot_with (a.ring p) (page_number address)) ≡ Some (Some held) → purged ≡ true → held.locked ≡ false
+  pub loose : (held : Held) → slice_get (a.ring p).slots (slot_with (a.ring p) (page_number address)) ≡ Some (Some held) → purged ≡ true → is_fixed held ≡ false
   pub waits : Waits config a to
 
--- LEAVE: of a leaving process; a private page lies in its slot's swap block, unmodified and without a flight
+-- LEAVE: of a leaving process, a page that isn't pinned; a private page lies in its slot's swap block,
+-- unmodified and without a flight
 pub record IsLeavingEvict (config : Config) (past : List Entry) (a : Pager) (p address f : ℕ) (to : FrameState) : Type 0 where
   pub leaving : a.status p ≡ status.Leaving
+  pub unpinned : (held : Held) → slice_get (a.ring p).slots (slot_with (a.ring p) (page_number address)) ≡ Some (Some held) → held.pinned ≡ false
   pub taken : IsTaken past a p (page_number address) f to
   pub private : (g : Page) → a.page f ≡ Some g → is_private g ≡ true
       → (a.lies g ≡ Some (block.Swap (proc p) (slot_with (a.ring p) (page_number address)))) × (a.modify f ≡ false) × (reads_on f (open_flights past) + writes_on f (open_flights past) ≡ 0)
@@ -92,7 +94,7 @@ abbrev pub victim_of : Choice → ℕ
 victim_of (Victim slot) = slot
 victim_of other = 0
 
--- the slot is empty; after a replacement the hand stands on it
+-- the slot is empty, and its marks are gone; after a replacement the hand stands on it
 abbrev pub evicted_ring : EvictWhy → Ring → ℕ → ℕ → Ring
 evicted_ring evict.Replace ring limit v = cleared ring (victim_of (choose ring limit))
 evicted_ring other ring limit v = record ring { slots = slice_set ring.slots (slot_with ring v) None }

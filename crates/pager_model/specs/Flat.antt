@@ -16,10 +16,10 @@ use Rattle.vm_types.specs.declared.reply.Reply.{Reply}
 use Rattle.vm_types.specs.declared.reply.Reply.TheVariants as reply
 use Rattle.vm_types.specs.declared.reply.Why.{Why}
 use Rattle.vm_types.specs.declared.reply.Why.TheVariants as why
-use Rattle.pager_model.specs.Maps.{Map, Mapped, first_bytes, first_map, is_private, page_behind, page_number, section_bytes}
+use Rattle.pager_model.specs.Maps.{Map, Mapped, first_bytes, first_map, is_paged, page_behind, page_number, section_bytes}
 use Rattle.pager_model.specs.Sets.{at_page, has_page, with_page}
 
--- the maps, the private pages touched so far, and the bytes of shared and of touched pages
+-- the maps, the paged pages touched so far, and the bytes of pages in files and of touched pages
 pub record FlatState : Type 0 where
   pub map : Map
   pub touched : List Page
@@ -33,12 +33,12 @@ shared_bytes config (Shared s i) = section_bytes config s.0 i
 abbrev pub flat_start : Config → FlatState
 flat_start config = record { map = first_map config; touched = []; stored = shared_bytes config }
 
-abbrev pub is_untouched : FlatState → Page → Bool
-is_untouched flat page = is_private page && not (has_page flat.touched page)
+abbrev pub is_untouched : Config → FlatState → Page → Bool
+is_untouched config flat page = is_paged config page && not (has_page flat.touched page)
 
--- the bytes of a mapped page: those that its origin gives, until a private page is touched
+-- the bytes of a mapped page: those that its origin gives, until a paged page is touched
 abbrev pub page_bytes : Config → FlatState → Page → Origin → List ℕ
-page_bytes config flat page origin = if is_untouched flat page then first_bytes config origin else flat.stored page
+page_bytes config flat page origin = if is_untouched config flat page then first_bytes config origin else flat.stored page
 
 abbrev pub number_width : RefWidth → Width
 number_width One = w8
@@ -74,9 +74,9 @@ bytes_after (Read width) bytes offset = bytes
 bytes_after (Write width n) bytes offset = with_number width bytes offset n
 bytes_after (Add n) bytes offset = with_number Four bytes offset ((number_at Four bytes offset + n) % 2 ^ 32)
 
--- the page file has a block for each touched private page
+-- the page file has a block for each touched paged page
 abbrev pub is_page_file_full : Config → FlatState → Page → Bool
-is_page_file_full config flat page = is_untouched flat page && nat_eq (length flat.touched) config.pagefile
+is_page_file_full config flat page = is_untouched config flat page && nat_eq (length flat.touched) config.pagefile
 
 -- why the flat machine refuses a reference: no mapping, no right, or no page file block for a first touch
 abbrev pub refusal_at : Config → FlatState → ℕ → Ref → Option Mapped → Option Why
@@ -108,18 +108,18 @@ abbrev pub flat_reply : Config → FlatState → ℕ → Ref → Reply
 flat_reply config flat p r =
     reply_unless (flat_refusal config flat p r) (reply_from r.op (found_at config flat p r (mapping_of flat p r)) (offset_in_page r))
 
-abbrev pub touched_with : List Page → Page → List Page
-touched_with touched page = if is_private page then with_page touched page else touched
+abbrev pub touched_with : Config → List Page → Page → List Page
+touched_with config touched page = if is_paged config page then with_page touched page else touched
 
--- the state with a page's bytes stored and, where it is private, touched
-abbrev pub flat_with : FlatState → Page → List ℕ → FlatState
-flat_with flat page bytes =
-    record { map = flat.map; touched = touched_with flat.touched page; stored = at_page flat.stored page bytes }
+-- the state with a page's bytes stored and, where it is paged, touched
+abbrev pub flat_with : Config → FlatState → Page → List ℕ → FlatState
+flat_with config flat page bytes =
+    record { map = flat.map; touched = touched_with config flat.touched page; stored = at_page flat.stored page bytes }
 
 abbrev pub answered_at : Config → FlatState → ℕ → Ref → Option Mapped → FlatState
 answered_at config flat p r None = flat
 answered_at config flat p r (Some m) =
-    flat_with flat (page_behind config p (page_number (r.addr).0) m.origin)
+    flat_with config flat (page_behind config p (page_number (r.addr).0) m.origin)
     (bytes_after r.op (found_at config flat p r (Some m)) (offset_in_page r))
 
 abbrev pub next_unless : Option Why → FlatState → FlatState → FlatState

@@ -98,11 +98,11 @@ pub record Seen : Type 0 where
   pub vpn : ℕ
   pub frame : ℕ
   pub page : Page
-  pub locked : Bool
+  pub pinned : Bool
 
 abbrev pub seen_page : Held → ℕ → Option Page → Option Seen
 seen_page held f None = None
-seen_page held f (Some g) = Some (record { vpn = held.vpn; frame = f; page = g; locked = held.locked })
+seen_page held f (Some g) = Some (record { vpn = held.vpn; frame = f; page = g; pinned = held.pinned })
 
 abbrev pub seen_by : Pager → Held → Option Valid → Option Seen
 seen_by a held None = None

@@ -82,6 +82,14 @@ has_vpn v (Some held) = nat_eq held.vpn v
 abbrev pub slots_with : Ring → ℕ → ℕ
 slots_with ring v = count_by (has_vpn v) ring.slots
 
+-- how many slots have the page number pinned
+abbrev pub has_pin : ℕ → Option Held → Bool
+has_pin v None = false
+has_pin v (Some held) = nat_eq held.vpn v && held.pinned
+
+abbrev pub pins_with : Ring → ℕ → ℕ
+pins_with ring v = count_by (has_pin v) ring.slots
+
 -- the slot of a page number
 abbrev pub slot_with : Ring → ℕ → ℕ
 slot_with ring v = position_or_len (has_vpn v) ring.slots

@@ -1,5 +1,5 @@
--- What is behind a page of a process. This project's own: one file backs one section, which is
--- either shared or copy on reference.
+-- What is behind a page of a process. This project's own: one file backs one section, which is shared or
+-- copy on reference; a section in the page file is shared, and has no file.
 use Rattle.std.specs.Prelude.{ℕ, Bool, true, false, ◌*◌, List, Option, Some, None, find, slice_get, replicate, take, drop, if◌then◌else◌}
 use Rattle.std.specs.Option.{option_map}
 use Rattle.vm_types.specs.declared.names.Proc.{Proc}
@@ -12,6 +12,7 @@ use Rattle.vm_types.specs.declared.config.Origin.{Origin}
 use Rattle.vm_types.specs.declared.config.Origin.TheVariants as origin
 use Rattle.vm_types.specs.Behind.{origin_by}
 pub use Rattle.vm_types.specs.Behind.{page_number, covers, origin_after}
+pub use Rattle.vm_types.specs.Kinds.{paged_of, shared_of}
 
 -- what a page is mapped to: what is behind it, and its protection code
 pub record Mapped : Type 0 where
@@ -32,10 +33,6 @@ mapped_by v m = record { origin = origin_by v m; prot = m.prot }
 abbrev pub first_map : Config → Map
 first_map config p v = option_map (mapped_by v) (find (covers p v) config.maps)
 
-abbrev pub shared_of : Option Section → Bool
-shared_of None = false
-shared_of (Some section) = section.shared
-
 -- the page behind a page number of a process: a shared section's page, or the process's own
 abbrev pub page_behind : Config → ℕ → ℕ → Origin → Page
 page_behind config p v origin.Zero = Private (proc p) v
@@ -50,11 +47,18 @@ bytes_of (Some section) i = take 512 (drop (512 * i) section.bytes)
 abbrev pub section_bytes : Config → ℕ → ℕ → List ℕ
 section_bytes config s i = bytes_of (slice_get config.sections s) i
 
--- the bytes that a page has before it is touched
+-- the bytes that a page has before it is touched: zeros behind a demand zero page and in a section of the page
+-- file, else its file's
 abbrev pub first_bytes : Config → Origin → List ℕ
 first_bytes config origin.Zero = replicate 512 0
-first_bytes config (origin.Section s i) = section_bytes config s.0 i
+first_bytes config (origin.Section s i) =
+    if paged_of (slice_get config.sections s.0) then replicate 512 0 else section_bytes config s.0 i
 
 abbrev pub is_private : Page → Bool
 is_private (Private p v) = true
 is_private (Shared s i) = false
+
+-- a page that has a block of the page file: a private one, or one of a section in the page file
+abbrev pub is_paged : Config → Page → Bool
+is_paged config (Private p v) = true
+is_paged config (Shared s i) = paged_of (slice_get config.sections s.0)

@@ -39,10 +39,11 @@ MapsRight config map = (p v : ℕ) (m : Mapped) → map p v ≡ Some m → IsMap
 abbrev pub HoldsRight : Config → (ℕ → Option Page) → Type 0
 HoldsRight config page = (f : ℕ) (g : Page) → page f ≡ Some g → IsPageOf config g
 
--- mappings and held pages are right, assigned blocks are in the page file, and a process that isn't there is
--- resident
+-- mappings, held and charged pages are right, assigned blocks are in the page file, and a process that isn't
+-- there is resident
 pub record IsOfConfig (config : Config) (a : Pager) : Type 0 where
   pub mapped : MapsRight config a.map
   pub held : HoldsRight config a.page
+  pub charged : AllByRecursion (IsPageOf config) a.charged
   pub assigned : AllByRecursion (λ (x : Assigned). x.block < config.pagefile) a.assigned
   pub absent : (p : ℕ) → length config.procs ≤ p → a.status p ≡ status.Resident

@@ -1,7 +1,7 @@
 -- The opening state: all frames that aren't bad are empty and free in number order, all processes are
 -- resident with empty rings and the limits of the configuration, and nothing is charged. This
 -- project's own.
-use Rattle.std.specs.Prelude.{ℕ, Bool, true, false, ◌||◌, [], Option, Some, None, filter, slice_get, replicate, nat_le, not}
+use Rattle.std.specs.Prelude.{ℕ, Bool, true, false, ◌||◌, [], Option, Some, None, filter, slice_get, replicate, nat_le, not, if◌then◌else◌}
 use Rattle.std.specs.List.{range_with_len}
 use Rattle.vm_types.specs.Ring.{Ring}
 use Rattle.vm_types.specs.declared.names.Page.{Page}
@@ -13,7 +13,7 @@ use Rattle.vm_types.specs.declared.names.BlockId.TheVariants as block
 use Rattle.vm_types.specs.declared.names.ProcStatus.TheVariants as status
 use Rattle.vm_types.specs.declared.config.Config.{Config}
 use Rattle.vm_types.specs.declared.config.ProcSpec.{ProcSpec}
-use Rattle.pager_model.specs.Maps.{first_map}
+use Rattle.pager_model.specs.Maps.{first_map, paged_of}
 use Rattle.pager_model.specs.Pager.{Pager}
 use Rattle.pager_model.specs.Sets.{has}
 
@@ -34,10 +34,10 @@ abbrev pub first_limit : Option ProcSpec → ℕ
 first_limit None = 0
 first_limit (Some spec) = spec.limit
 
--- a shared page lies in its section's block, always; a private one lies nowhere at first
-abbrev pub first_block : Page → Option BlockId
-first_block (Private p v) = None
-first_block (Shared s i) = Some (block.Section s i)
+-- a page of a section with a file lies in its block, always; a paged one lies nowhere at first
+abbrev pub first_block : Config → Page → Option BlockId
+first_block config (Private p v) = None
+first_block config (Shared s i) = if paged_of (slice_get config.sections s.0) then None else Some (block.Section s i)
 
 abbrev pub opening : Config → Pager
 opening config =
@@ -57,6 +57,6 @@ opening config =
       valid = [];
       charged = [];
       touched = [];
-      lies = first_block;
+      lies = first_block config;
       assigned = [];
     }

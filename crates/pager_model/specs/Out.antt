@@ -14,18 +14,18 @@ use Rattle.vm_journal.specs.declared.entry.Entry.{Entry}
 use Rattle.page_lists.specs.Lists.{without}
 use Rattle.pager_model.specs.Flights.{open_flights}
 use Rattle.pager_model.specs.Lookups.{IsHead, block_of, entry_of, is_assigned_to, is_owner}
-use Rattle.pager_model.specs.Maps.{is_private, proc}
+use Rattle.pager_model.specs.Maps.{is_paged, is_private, proc}
 use Rattle.pager_model.specs.Pager.{Assigned, Pager, Valid}
 use Rattle.pager_model.specs.Sets.{at_number}
 use Rattle.pager_model.specs.Transfers.{IsHome, reads_on, writes_on}
 
--- the block of a listed page: a shared page's section block; a private page's assigned block or, if none
+-- the block of a listed page: the section block of a page with a file; a paged page's assigned block or, if none
 -- is assigned, a page file block that is free
 abbrev pub IsOutBlock : Config → Pager → BlockId → Page → Type 0
 IsOutBlock config a b g =
-    ((is_private g ≡ false) × (a.lies g ≡ Some b))
-    ⊎ (((n : ℕ) × (is_private g ≡ true) × (block_of a.assigned g ≡ Some n) × (b ≡ block.PageFile n))
-    ⊎ ((n : ℕ) × (is_private g ≡ true) × (block_of a.assigned g ≡ None) × (b ≡ block.PageFile n) × (n < config.pagefile)
+    ((is_paged config g ≡ false) × (a.lies g ≡ Some b))
+    ⊎ (((n : ℕ) × (is_paged config g ≡ true) × (block_of a.assigned g ≡ Some n) × (b ≡ block.PageFile n))
+    ⊎ ((n : ℕ) × (is_paged config g ≡ true) × (block_of a.assigned g ≡ None) × (b ≡ block.PageFile n) × (n < config.pagefile)
     × (count_by (is_owner (block.PageFile n)) a.assigned ≡ 0)))
 
 -- of the modified list's head
@@ -36,8 +36,8 @@ pub record IsOut (config : Config) (past : List Entry) (a : Pager) (f : ℕ) (b 
   pub holds : a.page f ≡ Some page
   pub block : IsOutBlock config a b page
 
--- of a private page that is valid for a leaving process, to its slot's swap block: its frame has no
--- flight, and it doesn't lie there unmodified
+-- of a private page that is valid for a leaving process and not pinned, to its slot's swap block: its frame has
+-- no flight, and it doesn't lie there unmodified
 pub record IsOutSwap (config : Config) (past : List Entry) (a : Pager) (f : ℕ) (b : BlockId) : Type 0 where
   pub home : IsHome config b (open_flights past)
   pub page : Page
@@ -54,13 +54,14 @@ pub record IsOutSwap (config : Config) (past : List Entry) (a : Pager) (f : ℕ)
   pub held : Held
   pub filled : slice_get (a.ring p).slots slot ≡ Some (Some held)
   pub same : held.vpn ≡ v
+  pub unpinned : held.pinned ≡ false
   pub still : reads_on f (open_flights past) + writes_on f (open_flights past) ≡ 0
   pub changed : a.lies page ≡ Some b → a.modify f ≡ false → ⊥
 
 abbrev pub IsAnyOut : Config → List Entry → Pager → ℕ → BlockId → Type 0
 IsAnyOut config past a f b = IsOut config past a f b ⊎ IsOutSwap config past a f b
 
--- a private page without an assigned block is assigned this one
+-- a page without an assigned block is assigned this one
 abbrev pub assigned_with : List Assigned → Option Page → BlockId → List Assigned
 assigned_with assigned None b = assigned
 assigned_with assigned (Some g) (block.PageFile n) = if nat_eq (count_by (is_assigned_to g) assigned) 0 then (record { page = g; block = n } ∷ assigned) else assigned

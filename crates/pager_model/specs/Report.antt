@@ -1,9 +1,9 @@
 -- The counts of a frame, and the report as a recount of the pager's state. Source: Kenah and Bate, "VAX/VMS
 -- Internals and Data Structures", the PFN database (reference count, share count); the report is this
 -- project's own.
-use Rattle.std.specs.Prelude.{ℕ, Bool, ◌+◌, List, [], ◌∷◌, Option, length, map, count_by, nat_lt, if◌then◌else◌}
+use Rattle.std.specs.Prelude.{ℕ, Bool, ◌+◌, ◌&&◌, List, [], ◌∷◌, Option, length, map, count_by, nat_eq, nat_lt, slice_get, if◌then◌else◌}
 use Rattle.std.specs.List.{range_with_len}
-use Rattle.vm_types.specs.Ring.{filled}
+use Rattle.vm_types.specs.Ring.{filled, is_pinned_slot}
 use Rattle.vm_types.specs.Same.{same_state}
 use Rattle.vm_types.specs.declared.names.Page.{Page}
 use Rattle.vm_types.specs.declared.names.FrameState.{FrameState}
@@ -12,13 +12,21 @@ use Rattle.vm_types.specs.declared.names.ProcStatus.{ProcStatus}
 use Rattle.vm_types.specs.declared.config.Config.{Config}
 use Rattle.vm_journal.specs.declared.entry.Entry.{Entry}
 use Rattle.pager_model.specs.Flights.{open_flights}
-use Rattle.pager_model.specs.Lookups.{shares}
-use Rattle.pager_model.specs.Pager.{Pager}
+use Rattle.pager_model.specs.Lookups.{shares, slot_of, slot_with}
+use Rattle.pager_model.specs.Pager.{Pager, Valid}
 use Rattle.pager_model.specs.Transfers.{reads_on, writes_on}
 
--- one for the valid entries together, and one for each open flight
+-- whether a valid entry is for the frame and its slot is pinned
+abbrev pub is_pin_on : Pager → ℕ → Valid → Bool
+is_pin_on a f e = nat_eq e.frame f && is_pinned_slot (slot_of (slice_get (a.ring e.proc).slots (slot_with (a.ring e.proc) e.vpn)))
+
+-- how many pinned slots have a valid entry for the frame
+abbrev pub pins_on : Pager → ℕ → ℕ
+pins_on a f = count_by (is_pin_on a f) a.valid
+
+-- one for the valid entries together, one for each open flight, and one for each pin
 abbrev pub refs_of : List Entry → Pager → ℕ → ℕ
-refs_of past a f = (if nat_lt 0 (shares a.valid f) then 1 else 0) + (reads_on f (open_flights past) + writes_on f (open_flights past))
+refs_of past a f = ((if nat_lt 0 (shares a.valid f) then 1 else 0) + (reads_on f (open_flights past) + writes_on f (open_flights past))) + pins_on a f
 
 -- a frame's line of the report
 pub record FrameRow : Type 0 where

@@ -25,16 +25,24 @@ cleared ring slot = record { slots = slice_set ring.slots slot None; hand = slot
 
 abbrev pub unlocked_slot : Option Held → Option Held
 unlocked_slot None = None
-unlocked_slot (Some held) = Some (record { vpn = held.vpn; locked = false })
+unlocked_slot (Some held) = Some (record held { locked = false })
 
--- the ring with no slot locked
+-- the ring with no slot locked; pins stay
 abbrev pub unlocked : Ring → Ring
 unlocked ring = record { slots = map unlocked_slot ring.slots; hand = ring.hand }
 
 abbrev pub relocked_slot : Bool → ℕ → ℕ → Option Held → Option Held
 relocked_slot lock address pages None = None
-relocked_slot lock address pages (Some held) = Some (record { vpn = held.vpn; locked = if in_range address pages held.vpn then lock else held.locked })
+relocked_slot lock address pages (Some held) = Some (record held { locked = if in_range address pages held.vpn then lock else held.locked })
 
 -- the ring with the pages of a range locked, or unlocked
 abbrev pub range_locked : Bool → ℕ → ℕ → Ring → Ring
 range_locked lock address pages ring = record { slots = map (relocked_slot lock address pages) ring.slots; hand = ring.hand }
+
+abbrev pub repinned_slot : Bool → ℕ → ℕ → Option Held → Option Held
+repinned_slot pin address pages None = None
+repinned_slot pin address pages (Some held) = Some (record held { pinned = if in_range address pages held.vpn then pin else held.pinned })
+
+-- the ring with the pages of a range pinned, or unpinned
+abbrev pub range_pinned : Bool → ℕ → ℕ → Ring → Ring
+range_pinned pin address pages ring = record { slots = map (repinned_slot pin address pages) ring.slots; hand = ring.hand }

@@ -3,7 +3,7 @@
 use Rattle.std.specs.Prelude.{ℕ, Bool, true, ◌+◌, ◌&&◌, List, [], ◌∷◌, Option, Some, None, find, count_by, slice_get, nat_le, nat_lt, not, if◌then◌else◌}
 use Rattle.std.specs.Option.{is_some}
 use Rattle.std.specs.List.{list_any}
-use Rattle.vm_types.specs.Ring.{Held, locked}
+use Rattle.vm_types.specs.Ring.{Held, Ring, fixed, is_fixed}
 use Rattle.vm_types.specs.declared.names.Addr.{Addr}
 use Rattle.vm_types.specs.declared.names.Page.{Page}
 use Rattle.vm_types.specs.declared.config.Config.{Config}
@@ -21,8 +21,8 @@ use Rattle.pager_model.specs.Forget.{holder, own_pages, range_of}
 use Rattle.pager_model.specs.Given.{Given, eviction, given, is_stopped, passes}
 use Rattle.pager_model.specs.Lookups.{entries_at, entry_of, is_resident, slot_of, slot_with}
 use Rattle.pager_model.specs.Pager.{Pager, Valid}
-use Rattle.pager_model.specs.Ring.{range_locked}
-use Rattle.pager_model.specs.Served.{is_locked_in, is_slot_in}
+use Rattle.pager_model.specs.Ring.{range_locked, range_pinned}
+use Rattle.pager_model.specs.Served.{is_locked_in, is_pinned_in, is_slot_in}
 use Rattle.pager_model.specs.Transfers.{is_in_flight}
 
 pub data ServeWhy : Type 0 where
@@ -54,18 +54,18 @@ is_in_use a p address pages = list_any (is_mapped_at a p) (range_of address page
 abbrev pub is_unmapped : Pager → ℕ → ℕ → ℕ → Bool
 is_unmapped a p address pages = list_any (is_unmapped_at a p) (range_of address pages)
 
--- the lowest page of the range that is valid, and that one which isn't locked
+-- the lowest page of the range that is valid, and that one which is neither locked nor pinned
 abbrev pub is_valid_at : Pager → ℕ → ℕ → Bool
 is_valid_at a p v = nat_lt 0 (entries_at a.valid p v)
 
-abbrev pub is_locked_at : Pager → ℕ → ℕ → Bool
-is_locked_at a p v = passes (λ (held : Held). held.locked) (slot_of (slice_get (a.ring p).slots (slot_with (a.ring p) v)))
+abbrev pub is_fixed_at : Pager → ℕ → ℕ → Bool
+is_fixed_at a p v = passes is_fixed (slot_of (slice_get (a.ring p).slots (slot_with (a.ring p) v)))
 
 abbrev pub valid_in : Pager → ℕ → ℕ → ℕ → Option ℕ
 valid_in a p address pages = find (is_valid_at a p) (range_of address pages)
 
-abbrev pub unlocked_in : Pager → ℕ → ℕ → ℕ → Option ℕ
-unlocked_in a p address pages = find (λ (v : ℕ). is_valid_at a p v && not (is_locked_at a p v)) (range_of address pages)
+abbrev pub loose_in : Pager → ℕ → ℕ → ℕ → Option ℕ
+loose_in a p address pages = find (λ (v : ℕ). is_valid_at a p v && not (is_fixed_at a p v)) (range_of address pages)
 
 -- such a page is evicted, unless the modified list is full
 abbrev pub evict_given : Config → List Entry → Pager → ℕ → ℕ → EvictWhy → Option Valid → GivenServe
@@ -89,11 +89,11 @@ abbrev pub purge_given : Config → List Entry → Pager → ℕ → Addr → �
 purge_given config past a p at pages (Some v) = evict_given config past a p v evict.Purge (entry_of a.valid p v)
 purge_given config past a p at pages None = served_with (service.Purge at pages) answer.Good
 
--- the pages of the range that would be locked with those that are
-abbrev pub lock_given : Pager → ℕ → Service → ℕ → ℕ → Option ProcSpec → GivenServe
-lock_given a p s address pages None = served_with s answer.LockLimit
-lock_given a p s address pages (Some spec) =
-    if nat_le (locked (range_locked true address pages (a.ring p)).slots) spec.locks
+-- the pages of the range that would be locked, or pinned, with those that are: this would be the ring
+abbrev pub lock_given : Pager → ℕ → Service → ℕ → ℕ → Ring → Option ProcSpec → GivenServe
+lock_given a p s address pages ring None = served_with s answer.LockLimit
+lock_given a p s address pages ring (Some spec) =
+    if nat_le (fixed ring.slots) spec.locks
     then served_with s (answer.Count (count_by (is_slot_in address pages) (a.ring p).slots)) else served_with s answer.LockLimit
 
 abbrev pub limits_given : ℕ → Option ProcSpec → GivenServe
@@ -112,10 +112,15 @@ service_gives config past a p (service.Protect at pages prot) =
     served_with (service.Protect at pages prot) (if is_unmapped a p at.0 pages then answer.Unmapped else answer.Good)
 service_gives config past a p (service.Lock at pages) =
     if is_unmapped a p at.0 pages then served_with (service.Lock at pages) answer.Unmapped
-    else lock_given a p (service.Lock at pages) at.0 pages (slice_get config.procs p)
+    else lock_given a p (service.Lock at pages) at.0 pages (range_locked true at.0 pages (a.ring p)) (slice_get config.procs p)
 service_gives config past a p (service.Unlock at pages) =
     served_with (service.Unlock at pages) (if is_unmapped a p at.0 pages then answer.Unmapped else answer.Count (count_by (is_locked_in at.0 pages) (a.ring p).slots))
-service_gives config past a p (service.Purge at pages) = purge_given config past a p at pages (unlocked_in a p at.0 pages)
+service_gives config past a p (service.Purge at pages) = purge_given config past a p at pages (loose_in a p at.0 pages)
+service_gives config past a p (service.Pin at pages) =
+    if is_unmapped a p at.0 pages then served_with (service.Pin at pages) answer.Unmapped
+    else lock_given a p (service.Pin at pages) at.0 pages (range_pinned true at.0 pages (a.ring p)) (slice_get config.procs p)
+service_gives config past a p (service.Unpin at pages) =
+    served_with (service.Unpin at pages) (if is_unmapped a p at.0 pages then answer.Unmapped else answer.Count (count_by (is_pinned_in at.0 pages) (a.ring p).slots))
 service_gives config past a p (service.Adjust n) = limits_given n (slice_get config.procs p)
 
 -- what is made for a service of process p by its own seat

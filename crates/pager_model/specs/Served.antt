@@ -1,9 +1,10 @@
 -- SERVED: a service is answered. Source: Kenah and Bate, "VAX/VMS Internals and Data Structures", memory
--- management system services ($CRETVA, $DELTVA, $SETPRT, $LKWSET, $ULWSET, $PURGWS, $ADJWSL); their
+-- management system services ($CRETVA, $DELTVA, $SETPRT, $LKWSET, $ULWSET, $PURGWS, $LCKPAG, $ULKPAG, $ADJWSL); their
 -- profile, with its refusals and counts, is this project's own.
 use Rattle.std.specs.Prelude.{◌≡◌, ◌⊎◌, ℕ, Bool, true, false, ◌+◌, ◌<◌, ◌≤◌, ◌&&◌, List, Option, Some, None, length, count_by, slice_get}
 use Rattle.std.specs.Option.{option_map}
-use Rattle.vm_types.specs.Ring.{Ring, Held, locked, is_locked_slot}
+use Rattle.vm_types.specs.Ring.{Ring, Held, fixed, is_fixed_slot, is_locked_slot, is_pinned_slot}
+use Rattle.vm_types.specs.WellFormed.{IsServiceOf}
 use Rattle.vm_types.specs.declared.names.Page.{Page}
 use Rattle.vm_types.specs.declared.names.Page.TheVariants.{Private}
 use Rattle.vm_types.specs.declared.names.ProcStatus.TheVariants as status
@@ -22,7 +23,7 @@ use Rattle.pager_model.specs.Lookups.{entries_at, page_by}
 use Rattle.pager_model.specs.Maps.{Mapped, proc}
 use Rattle.pager_model.specs.Own.{IsOwn}
 use Rattle.pager_model.specs.Pager.{Pager}
-use Rattle.pager_model.specs.Ring.{range_locked}
+use Rattle.pager_model.specs.Ring.{range_locked, range_pinned}
 use Rattle.pager_model.specs.Sets.{at_number}
 use Rattle.pager_model.specs.Transfers.{reads_on, writes_on}
 
@@ -57,17 +58,24 @@ is_slot_in address pages (Some held) = in_range address pages held.vpn
 abbrev pub is_locked_in : ℕ → ℕ → Option Held → Bool
 is_locked_in address pages slot = is_slot_in address pages slot && is_locked_slot slot
 
--- the locked pages with the valid pages of the range are within the process's bound, and the latter are counted
-pub record IsLocking (config : Config) (a : Pager) (p address pages n : ℕ) : Type 0 where
+abbrev pub is_fixed_in : ℕ → ℕ → Option Held → Bool
+is_fixed_in address pages slot = is_slot_in address pages slot && is_fixed_slot slot
+
+abbrev pub is_pinned_in : ℕ → ℕ → Option Held → Bool
+is_pinned_in address pages slot = is_slot_in address pages slot && is_pinned_slot slot
+
+-- the valid pages of the range are locked, or pinned, which makes the ring this one: its locked and pinned pages,
+-- each counted once, are within the process's bound, and the pages of the range are counted
+pub record IsLocking (config : Config) (a : Pager) (p address pages : ℕ) (ring : Ring) (n : ℕ) : Type 0 where
   pub mapped : AreMapped config a p address pages
-  pub fits : (spec : ProcSpec) → slice_get config.procs p ≡ Some spec → locked (range_locked true address pages (a.ring p)).slots ≤ spec.locks
+  pub fits : (spec : ProcSpec) → slice_get config.procs p ≡ Some spec → fixed ring.slots ≤ spec.locks
   pub counted : n ≡ count_by (is_slot_in address pages) (a.ring p).slots
 
-pub record IsOverLocking (config : Config) (a : Pager) (p address pages : ℕ) : Type 0 where
+pub record IsOverLocking (config : Config) (a : Pager) (p address pages : ℕ) (ring : Ring) : Type 0 where
   pub mapped : AreMapped config a p address pages
   pub spec : ProcSpec
   pub process : slice_get config.procs p ≡ Some spec
-  pub over : spec.locks < locked (range_locked true address pages (a.ring p)).slots
+  pub over : spec.locks < fixed ring.slots
 
 -- by service and answer, but for a disk fault; a pair that isn't here is illegal
 abbrev pub IsService : Config → List Entry → Pager → ℕ → Service → Answer → Type 0
@@ -77,12 +85,17 @@ IsService config past a p (service.Delete at pages) answer.Good = IsDelete confi
 IsService config past a p (service.Delete at pages) answer.Unmapped = IsUnmapped config a p at.0 pages
 IsService config past a p (service.Protect at pages prot) answer.Good = AreMapped config a p at.0 pages
 IsService config past a p (service.Protect at pages prot) answer.Unmapped = IsUnmapped config a p at.0 pages
-IsService config past a p (service.Lock at pages) (answer.Count n) = IsLocking config a p at.0 pages n
+IsService config past a p (service.Lock at pages) (answer.Count n) = IsLocking config a p at.0 pages (range_locked true at.0 pages (a.ring p)) n
 IsService config past a p (service.Lock at pages) answer.Unmapped = IsUnmapped config a p at.0 pages
-IsService config past a p (service.Lock at pages) answer.LockLimit = IsOverLocking config a p at.0 pages
+IsService config past a p (service.Lock at pages) answer.LockLimit = IsOverLocking config a p at.0 pages (range_locked true at.0 pages (a.ring p))
 IsService config past a p (service.Unlock at pages) (answer.Count n) = AreMapped config a p at.0 pages × (n ≡ count_by (is_locked_in at.0 pages) (a.ring p).slots)
 IsService config past a p (service.Unlock at pages) answer.Unmapped = IsUnmapped config a p at.0 pages
-IsService config past a p (service.Purge at pages) answer.Good = count_by (is_slot_in at.0 pages) (a.ring p).slots ≡ count_by (is_locked_in at.0 pages) (a.ring p).slots
+IsService config past a p (service.Purge at pages) answer.Good = count_by (is_slot_in at.0 pages) (a.ring p).slots ≡ count_by (is_fixed_in at.0 pages) (a.ring p).slots
+IsService config past a p (service.Pin at pages) (answer.Count n) = IsLocking config a p at.0 pages (range_pinned true at.0 pages (a.ring p)) n
+IsService config past a p (service.Pin at pages) answer.Unmapped = IsUnmapped config a p at.0 pages
+IsService config past a p (service.Pin at pages) answer.LockLimit = IsOverLocking config a p at.0 pages (range_pinned true at.0 pages (a.ring p))
+IsService config past a p (service.Unpin at pages) (answer.Count n) = AreMapped config a p at.0 pages × (n ≡ count_by (is_pinned_in at.0 pages) (a.ring p).slots)
+IsService config past a p (service.Unpin at pages) answer.Unmapped = IsUnmapped config a p at.0 pages
 IsService config past a p (service.Adjust n) answer.Good = (spec : ProcSpec) → slice_get config.procs p ≡ Some spec → (spec.locks + 2 ≤ n) × (n ≤ spec.extent)
 IsService config past a p (service.Adjust n) answer.BadLimit = (spec : ProcSpec) × (slice_get config.procs p ≡ Some spec) × ((n < spec.locks + 2) ⊎ (spec.extent < n))
 IsService config past a p s other = ⊥
@@ -98,10 +111,12 @@ pub record IsServedFault (config : Config) (past : List Entry) (a : Pager) (p : 
   pub lost : HasLost past p
   pub process : p < length config.procs
   pub waits : (a.status p ≡ status.Resident → ⊥) ⊎ (may_fail s ≡ true)
+  pub known : IsServiceOf config.version s
 
+-- pages are pinned in version 2 alone
 abbrev pub IsServed : Config → List Entry → Pager → ℕ → Service → Answer → Type 0
 IsServed config past a p s answer.DiskFault = IsServedFault config past a p s
-IsServed config past a p s other = IsOwn config a p × IsService config past a p s other
+IsServed config past a p s other = IsOwn config a p × IsService config past a p s other × IsServiceOf config.version s
 
 abbrev pub with_ring : Pager → ℕ → Ring → Pager
 with_ring a p ring = record a { ring = at_number a.ring p ring }
@@ -115,5 +130,7 @@ after_served config a p (service.Delete at pages) answer.Good = after_delete con
 after_served config a p (service.Protect at pages prot) answer.Good = remapped (option_map (with_prot prot)) p at.0 pages a
 after_served config a p (service.Lock at pages) (answer.Count n) = with_ring a p (range_locked true at.0 pages (a.ring p))
 after_served config a p (service.Unlock at pages) (answer.Count n) = with_ring a p (range_locked false at.0 pages (a.ring p))
+after_served config a p (service.Pin at pages) (answer.Count n) = with_ring a p (range_pinned true at.0 pages (a.ring p))
+after_served config a p (service.Unpin at pages) (answer.Count n) = with_ring a p (range_pinned false at.0 pages (a.ring p))
 after_served config a p (service.Adjust n) answer.Good = with_limit a p n
 after_served config a p s other = a

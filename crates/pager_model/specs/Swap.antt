@@ -4,7 +4,7 @@
 use Rattle.std.specs.Prelude.{ℕ, Bool, false, ◌+◌, ◌&&◌, ◌||◌, List, [], ◌∷◌, ◌++◌, Option, Some, None, length, find, filter, nat_eq, nat_le, nat_lt, not, if◌then◌else◌}
 use Rattle.std.specs.Option.{is_some}
 use Rattle.std.specs.List.{range_with_len}
-use Rattle.vm_types.specs.Ring.{filled}
+use Rattle.vm_types.specs.Ring.{unpinned}
 use Rattle.vm_types.specs.Adjust.{lesser}
 use Rattle.vm_types.specs.declared.names.Page.{Page}
 use Rattle.vm_types.specs.declared.names.FrameState.TheVariants as state
@@ -40,20 +40,23 @@ pub data SwapIs : Type 0 where
 abbrev pub GivenSwap : Type 0
 GivenSwap = Given SwapIs
 
--- ---- leaving
+-- ---- leaving; a pinned page stays
 abbrev pub is_shared_seen : Seen → Bool
 is_shared_seen s = not (is_private s.page)
+
+abbrev pub is_shared_unpinned : Seen → Bool
+is_shared_unpinned s = is_shared_seen s && not s.pinned
 
 abbrev pub is_still : List Entry → ℕ → Bool
 is_still past f = not (is_in_flight f (open_flights past))
 
 -- a private page that lies in its slot's swap block, unmodified and without a flight
 abbrev pub is_saved : List Entry → Pager → ℕ → ℕ → Seen → Bool
-is_saved past a p n s = is_private s.page && (lies_in (a.lies s.page) (block.Swap (proc p) n) && (not (a.modify s.frame) && is_still past s.frame))
+is_saved past a p n s = (is_private s.page && not s.pinned) && (lies_in (a.lies s.page) (block.Swap (proc p) n) && (not (a.modify s.frame) && is_still past s.frame))
 
 -- a private page without a flight
 abbrev pub is_to_save : List Entry → Seen → Bool
-is_to_save past s = is_private s.page && is_still past s.frame
+is_to_save past s = (is_private s.page && not s.pinned) && is_still past s.frame
 
 abbrev pub slot_where : Pager → ℕ → (ℕ → Seen → Bool) → Option ℕ
 slot_where a p t = find (λ (n : ℕ). passes (t n) (seen_at a p n)) (slots_of a p)
@@ -77,7 +80,7 @@ run_from t n most = leading t (range_with_len n most)
 
 abbrev pub turned_gone : Pager → ℕ → GivenSwap
 turned_gone a p =
-    if nat_lt 0 (filled (a.ring p).slots) then given [] (swap_again swap_in_flight) else given (what.Turn (proc p) status.Gone ∷ []) swap_settled
+    if nat_lt 0 (unpinned (a.ring p).slots) then given [] (swap_again swap_in_flight) else given (what.Turn (proc p) status.Gone ∷ []) swap_settled
 
 abbrev pub leave_unsaved : Config → List Entry → Pager → ℕ → Option ℕ → GivenSwap
 leave_unsaved config past a p (Some n) =
@@ -93,9 +96,9 @@ leave_shared config past a p (Some n) = leave_page config past a p (seen_at a p 
 leave_shared config past a p None = leave_saved config past a p (slot_where a p (is_saved past a p))
 
 -- first the shared pages are evicted, then the saved private ones; then those that aren't saved are written;
--- with an empty ring the process is gone
+-- when none but pinned pages are left the process is gone
 abbrev pub leave_gives : Config → List Entry → Pager → ℕ → GivenSwap
-leave_gives config past a p = leave_shared config past a p (slot_where a p (λ (n : ℕ) (s : Seen). is_shared_seen s))
+leave_gives config past a p = leave_shared config past a p (slot_where a p (λ (n : ℕ) (s : Seen). is_shared_unpinned s))
 
 -- ---- coming
 -- the page that lies in a swap block

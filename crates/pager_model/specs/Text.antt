@@ -3,6 +3,7 @@
 use Rattle.std.specs.Prelude.{ℕ, Bool, ◌+◌, ◌&&◌, List, [], ◌∷◌, ◌++◌, Option, Some, None, length, filter, map, reverse, slice_index_or, codes, decimal, if◌then◌else◌}
 use Rattle.std.specs.List.{range_with_len, list_any, flat_map}
 use Rattle.vm_types.specs.Configuration.{section_pages}
+use Rattle.vm_types.specs.Kinds.{is_shared_kind}
 use Rattle.vm_types.specs.declared.names.Page.{Page}
 use Rattle.vm_types.specs.declared.names.Page.TheVariants.{Shared}
 use Rattle.vm_types.specs.declared.names.FrameState.{FrameState}
@@ -75,11 +76,11 @@ report_text names report =
     ended (codes "PFN AT " ++ decimal report.at) ++ ended (states_text report.states) ++ frame_lines names 0 report.frames
     ++ ended (page_file_text report) ++ process_lines 0 report.processes
 
--- the pages of shared sections, in order of section and page
+-- the pages of sections that are shared, in order of section and page
 abbrev pub pages_from : ℕ → List Section → List Page
 pages_from s [] = []
 pages_from s (section ∷ sections) =
-    (if section.shared then map (Shared (record { 0 = s })) (range_with_len 0 (section_pages section)) else []) ++ pages_from (s + 1) sections
+    (if is_shared_kind section.kind then map (Shared (record { 0 = s })) (range_with_len 0 (section_pages section)) else []) ++ pages_from (s + 1) sections
 
 -- whether some frame holds the page with modify set
 abbrev pub is_dirty : Config → Pager → Page → Bool

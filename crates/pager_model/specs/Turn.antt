@@ -1,7 +1,7 @@
 -- TURN: a process's status changes. Source: Kenah and Bate, "VAX/VMS Internals and Data Structures",
 -- the swapper, outswap and inswap; the four statuses and their order are this project's own.
 use Rattle.std.specs.Prelude.{◌≡◌, ◌⊎◌, ℕ, false, ◌<◌, List, Some, length}
-use Rattle.vm_types.specs.Ring.{Ring, filled}
+use Rattle.vm_types.specs.Ring.{Ring, unpinned}
 use Rattle.vm_types.specs.declared.names.Page.{Page}
 use Rattle.vm_types.specs.declared.names.BlockId.TheVariants as block
 use Rattle.vm_types.specs.declared.names.ProcStatus.{ProcStatus}
@@ -21,11 +21,11 @@ pub record IsLeavingTurn (past : List Entry) (a : Pager) (p : ℕ) : Type 0 wher
   pub idle : is_busy p (open_flights past) ≡ false
   pub no_come : has_come p (open_flights past) ≡ false
 
--- from resident or coming to leaving; with an empty ring to gone; to coming if no process is coming;
+-- from resident or coming to leaving; with no page left but pinned ones to gone; to coming if no process is coming;
 -- and to resident when no page is left in the swap blocks
 abbrev pub IsTurned : List Entry → Pager → ℕ → ProcStatus → Type 0
 IsTurned past a p status.Leaving = IsLeavingTurn past a p
-IsTurned past a p status.Gone = (a.status p ≡ status.Leaving) × (filled (a.ring p).slots ≡ 0)
+IsTurned past a p status.Gone = (a.status p ≡ status.Leaving) × (unpinned (a.ring p).slots ≡ 0)
 IsTurned past a p status.Coming = (a.status p ≡ status.Gone) × ((q : ℕ) → a.status q ≡ status.Coming → ⊥)
 IsTurned past a p status.Resident = (a.status p ≡ status.Coming) × ((g : Page) (n : ℕ) → a.lies g ≡ Some (block.Swap (proc p) n) → ⊥)
 
@@ -33,7 +33,7 @@ pub record IsTurn (config : Config) (past : List Entry) (a : Pager) (p : ℕ) (s
   pub process : p < length config.procs
   pub turned : IsTurned past a p s
 
--- with leaving all locks are cleared
+-- with leaving all locks are cleared, and pins stay
 abbrev pub turned_ring : ProcStatus → Ring → Ring
 turned_ring status.Leaving ring = unlocked ring
 turned_ring other ring = ring

@@ -13,7 +13,7 @@ use Rattle.vm_journal.specs.declared.entry.What.TheVariants as what
 use Rattle.pager_model.specs.Given.{Given, given, pfn}
 use Rattle.pager_model.specs.InTurn.{is_next_block}
 use Rattle.pager_model.specs.Lookups.{block_of, is_owner}
-use Rattle.pager_model.specs.Maps.{is_private}
+use Rattle.pager_model.specs.Maps.{is_paged}
 use Rattle.pager_model.specs.Pager.{Pager}
 
 -- because the list is long, or because room is needed on it
@@ -48,14 +48,14 @@ abbrev pub paged_block : Config → Pager → Option BlockId → Option ℕ → 
 paged_block config a last (Some n) = if_next last (block.PageFile n)
 paged_block config a last None = new_block config a last
 
-abbrev pub shared_block : Option BlockId → Option BlockId → Option BlockId
-shared_block last None = None
-shared_block last (Some b) = if_next last b
+abbrev pub filed_block : Option BlockId → Option BlockId → Option BlockId
+filed_block last None = None
+filed_block last (Some b) = if_next last b
 
 abbrev pub block_out : Config → Pager → Option BlockId → Option Page → Option BlockId
 block_out config a last None = None
 block_out config a last (Some g) =
-    if is_private g then paged_block config a last (block_of a.assigned g) else shared_block last (a.lies g)
+    if is_paged config g then paged_block config a last (block_of a.assigned g) else filed_block last (a.lies g)
 
 abbrev pub writes_taken : ℕ → ℕ → Option BlockId → (BlockId → ℕ → List What) → List What
 writes_taken f zero o rest = []

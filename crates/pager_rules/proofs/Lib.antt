@@ -2,6 +2,7 @@ pub mod Basics
 pub mod Frames
 pub mod Lists
 pub mod Pages
+pub mod Pins
 pub mod PlacedRing
 pub mod Put
 pub mod Quiet

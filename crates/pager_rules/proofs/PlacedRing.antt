@@ -1,17 +1,17 @@
 -- The slot that a ring below its limit offers, and the ring with a page put there.
-use Rattle.std.proofs.Common.{◌≡◌, ℕ, ◌+◌, ◌-◌, ◌%◌, ◌<◌, ◌≤◌, Bool, true, false, cond, List, [], ◌∷◌, ◌++◌, Option, Some, None, length, take, drop, nat_eq, nat_lt, count_by, position, slice_get, slice_index_or, refl, sym, ap, ◌∙◌, subst, inl, inr, arith, length-append, length-drop, length-set, length-take-le, get_or-drop, get_or-take, mod-eq_of_lt, mod-lt, zero-add}
+use Rattle.std.proofs.Common.{◌≡◌, ℕ, ◌+◌, ◌-◌, ◌%◌, ◌<◌, ◌≤◌, Bool, true, false, cond, List, [], ◌&&◌, ◌∷◌, ◌++◌, Option, Some, None, length, take, drop, nat_eq, nat_lt, count_by, position, slice_get, slice_index_or, refl, sym, ap, ◌∙◌, subst, inl, inr, arith, length-append, length-drop, length-set, length-take-le, get_or-drop, get_or-take, mod-eq_of_lt, mod-lt, zero-add}
 use Rattle.std.specs.List.{position_or_len}
 use Rattle.std.proofs.Math.Nat.{mod-eq-sub-mod}
 use Rattle.std.proofs.lemmas.Bool.{cases_lt, lt-ltb, false≢true}
 use Rattle.std.proofs.lemmas.List.{get_or_append_left, get_or-append_right}
 use Rattle.std.proofs.lemmas.List.Sums.{sum_by-append, sum_by-take-drop, passes_at_first}
 use Rattle.std.proofs.lemmas.Option.{slice_get-get_or}
-use Rattle.vm_types.specs.Ring.{Ring, Held, choose, empty_at, victim_at, slot_after, from_hand, filled, locked, is_empty_slot, is_filled_slot, is_locked_slot, is_unlocked_slot}
+use Rattle.vm_types.specs.Ring.{Ring, Held, choose, empty_at, victim_at, slot_after, from_hand, filled, fixed, fresh_slot, is_empty_slot, is_filled_slot, is_fixed_slot, is_loose_slot, is_pinned_slot, pinned}
 use Rattle.vm_types.specs.declared.ring_choice.Choice.{Choice}
 use Rattle.vm_types.specs.declared.ring_choice.Choice.TheVariants.{Empty}
 use Rattle.pager_model.specs.Bytes.{before}
 use Rattle.pager_model.specs.Given.{passes}
-use Rattle.pager_model.specs.Lookups.{has_vpn, is}
+use Rattle.pager_model.specs.Lookups.{has_pin, has_vpn, is, pins_with}
 use Rattle.pager_model.specs.Ring.{placed, placed_at}
 use Rattle.pager_rules.proofs.Basics.{count_cons_yes, count_set}
 
@@ -66,7 +66,7 @@ pub record IsOffered (ring : Ring) (limit slot : ℕ) : Type 0 where
 
 choose_below : (ring : Ring) (limit k : ℕ) → nat_lt (filled ring.slots) limit ≡ true → position is_empty_slot (from_hand ring) ≡ Some k → choose ring limit ≡ Empty (slot_after ring k)
 choose_below ring limit k below found =
-    ap (λ (b : Bool). cond b (empty_at ring (position is_empty_slot (from_hand ring))) (victim_at ring (position is_unlocked_slot (from_hand ring)))) below
+    ap (λ (b : Bool). cond b (empty_at ring (position is_empty_slot (from_hand ring))) (victim_at ring (position is_loose_slot (from_hand ring)))) below
     ∙ ap (empty_at ring) found
 
 position_is : {X : Type 0} (p : X → Bool) (xs : List X) → position_or_len p xs < length xs → position p xs ≡ Some (position_or_len p xs)
@@ -102,16 +102,24 @@ offered ring limit below most inside = (slot_after ring k, offered_at ring limit
 -- ---- the ring with the page put there
 pub record IsPlaced (old new : Ring) (v : ℕ) : Type 0 where
   pub vpns : (w : ℕ) → count_by (has_vpn w) new.slots ≡ cond (nat_eq v w) 1 0 + count_by (has_vpn w) old.slots
-  pub locks : locked new.slots ≡ locked old.slots
+  pub pins : (w : ℕ) → pins_with new w ≡ pins_with old w
+  pub locks : fixed new.slots ≡ fixed old.slots
+  pub pinned : pinned new.slots ≡ pinned old.slots
   pub slots : length new.slots ≡ length old.slots
   pub hand : new.hand < length old.slots
+
+no_pin : (b : Bool) → (b && false) ≡ false
+no_pin true = refl
+no_pin false = refl
 
 placed_there : (ring : Ring) (limit slot v : ℕ) → IsOffered ring limit slot → IsPlaced ring (placed_at (Empty slot) ring v) v
 placed_there ring limit slot v is =
     record {
-      vpns = λ w. count_set (has_vpn w) ring.slots slot None (Some (record { vpn = v; locked = false })) is.empty refl;
-      locks = count_set is_locked_slot ring.slots slot None (Some (record { vpn = v; locked = false })) is.empty refl ∙ zero-add (locked ring.slots);
-      slots = length-set ring.slots slot (Some (record { vpn = v; locked = false }));
+      vpns = λ w. count_set (has_vpn w) ring.slots slot None (fresh_slot v) is.empty refl;
+      pins = λ w. count_set (has_pin w) ring.slots slot None (fresh_slot v) is.empty refl ∙ ap (λ (b : Bool). cond b 1 0 + pins_with ring w) (no_pin (nat_eq v w)) ∙ zero-add (pins_with ring w);
+      locks = count_set is_fixed_slot ring.slots slot None (fresh_slot v) is.empty refl ∙ zero-add (fixed ring.slots);
+      pinned = count_set is_pinned_slot ring.slots slot None (fresh_slot v) is.empty refl ∙ zero-add (pinned ring.slots);
+      slots = length-set ring.slots slot (fresh_slot v);
       hand = mod-lt (slot + 1) (omega (arith, is.within));
     }
 

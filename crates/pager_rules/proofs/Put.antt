@@ -16,7 +16,7 @@ use Rattle.pager_model.specs.Around.{FrameView, PastView, frame_view}
 use Rattle.pager_model.specs.Changes.{pushed_if}
 use Rattle.pager_model.specs.Flights.{Flight, is_busy}
 use Rattle.pager_model.specs.Lookups.{IsHead, block_of, count_page, entries_at, is, is_assigned_to, is_entry, page_by}
-use Rattle.pager_model.specs.Maps.{Map, is_private}
+use Rattle.pager_model.specs.Maps.{Map, is_paged, is_private}
 use Rattle.pager_model.specs.Pager.{Assigned, Pager, Valid}
 use Rattle.pager_model.specs.Sets.{at_number, at_page}
 use Rattle.pager_model.specs.Transfers.{faults_of, is_fault, is_fault_of}
@@ -73,15 +73,15 @@ held_put page f x unheld once g h y holds also = go (cases_eq f g) (cases_eq f h
     go (inr s) (inl t) = absurd (unheld g (old g s holds ∙ ap Some (sym (put h t also))))
     go (inr s) (inr t) = once g h y (old g s holds) (old h t also)
 
-pub held_charged_put : (page : ℕ → Option Page) (charged more : List Page) (f : ℕ) (x : Page) → (is_private x ≡ true → 0 < count_page more x) → ((g : Page) → count_page charged g ≤ count_page more g)
-    → HeldCharged page charged → HeldCharged (at_number page f (Some x)) more
-held_charged_put page charged more f x own grows all g y private holds = go (cases_eq f g)
+pub held_charged_put : (config : Config) (page : ℕ → Option Page) (charged more : List Page) (f : ℕ) (x : Page) → (is_paged config x ≡ true → 0 < count_page more x) → ((g : Page) → count_page charged g ≤ count_page more g)
+    → HeldCharged config page charged → HeldCharged config (at_number page f (Some x)) more
+held_charged_put config page charged more f x own grows all g y private holds = go (cases_eq f g)
   where
     go : (f ≡ g) ⊎ (f ≡ g → ⊥) → 0 < count_page more y
     go (inl same) =
         let there = subst (λ (j : ℕ). at_number page f (Some x) j ≡ Some x) same (at_number_same page f (Some x)) in
         let is : x ≡ y = cc in
-        subst (λ (z : Page). 0 < count_page more z) is (own (ap is_private is ∙ private))
+        subst (λ (z : Page). 0 < count_page more z) is (own (ap (is_paged config) is ∙ private))
     go (inr apart) = omega (arith, all g y private (sym (at_number_other page f (Some x) g apart) ∙ holds), grows y)
 
 -- no entry is for the empty frame

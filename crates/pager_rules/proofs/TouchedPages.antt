@@ -6,10 +6,11 @@ use Rattle.std.proofs.lemmas.Bool.{eqb-true, or_cases}
 use Rattle.std.proofs.lemmas.Map.Keys.{IsDistinct-cons}
 use Rattle.std.proofs.lemmas.Map.Made.{length-le_from_is_member}
 use Rattle.vm_types.specs.Same.{same_page}
+use Rattle.vm_types.specs.declared.config.Config.{Config}
 use Rattle.vm_types.specs.declared.names.Page.{Page}
 use Rattle.pager_model.specs.Flat.{touched_with}
 use Rattle.pager_model.specs.Given.{passes}
-use Rattle.pager_model.specs.Maps.{is_private}
+use Rattle.pager_model.specs.Maps.{is_paged}
 use Rattle.pager_model.specs.Sets.{at_number, has_page}
 use Rattle.pager_rules.proofs.Basics.{count_cons, count_cons_yes, each_fails, pages_equal, same_from_equal, same_page_refl}
 
@@ -61,11 +62,11 @@ shorter_list xs ys page once within out here =
     (or_cases (same_page x page) (has_page xs x) e)) in
     omega arith
 
--- a page that is touched where one more was touched: it was before, or is that one, a private page
-pub touched_cases : (touched : List Page) (page other : Page) → has_page (touched_with touched page) other ≡ true → (has_page touched other ≡ true) ⊎ ((is_private page ≡ true) × (other ≡ page))
-touched_cases touched page other = by (is_private page) (has_page touched page) refl
+-- a page that is touched where one more was touched: it was before, or is that one, a paged page
+pub touched_cases : (config : Config) (touched : List Page) (page other : Page) → has_page (touched_with config touched page) other ≡ true → (has_page touched other ≡ true) ⊎ ((is_paged config page ≡ true) × (other ≡ page))
+touched_cases config touched page other = by (is_paged config page) (has_page touched page) refl
   where
-    by : (b c : Bool) → is_private page ≡ b → has_page (cond b (cond c touched (page ∷ touched)) touched) other ≡ true → (has_page touched other ≡ true) ⊎ ((is_private page ≡ true) × (other ≡ page))
+    by : (b c : Bool) → is_paged config page ≡ b → has_page (cond b (cond c touched (page ∷ touched)) touched) other ≡ true → (has_page touched other ≡ true) ⊎ ((is_paged config page ≡ true) × (other ≡ page))
     by false c private e = inl e
     by true true private e = inl e
     by true false private e = ⊎_elim
@@ -73,8 +74,8 @@ touched_cases touched page other = by (is_private page) (has_page touched page) 
         (λ before. inl before)
         (or_cases (same_page other page) (has_page touched other) e)
 
-pub touched_once : (touched : List Page) (page : Page) → IsDistinct same_page touched → IsDistinct same_page (touched_with touched page)
-touched_once touched page once = by (is_private page) (has_page touched page) refl
+pub touched_once : (config : Config) (touched : List Page) (page : Page) → IsDistinct same_page touched → IsDistinct same_page (touched_with config touched page)
+touched_once config touched page once = by (is_paged config page) (has_page touched page) refl
   where
     by : (b c : Bool) → has_page touched page ≡ c → IsDistinct same_page (cond b (cond c touched (page ∷ touched)) touched)
     by false c e = once

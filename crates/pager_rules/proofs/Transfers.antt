@@ -31,11 +31,12 @@ pub record IsApart (v w : Views) (p : ℕ) : Type 0 where
 -- what a flight in this direction reads of its page is as it was
 pub record IsAlike (d : Direction) (old new : PageView) : Type 0 where
   pub read : is_reading d ≡ true → new ≡ old
+  pub paged : new.paged ≡ old.paged
   pub lies : new.lies ≡ old.lies
   pub block : new.block ≡ old.block
 
 pub alike : (d : Direction) (old new : PageView) → new ≡ old → IsAlike d old new
-alike d old new same = record { read = λ reads. same; lies = λ i. (same i).lies; block = λ i. (same i).block }
+alike d old new same = record { read = λ reads. same; paged = λ i. (same i).paged; lies = λ i. (same i).lies; block = λ i. (same i).block }
 
 module _ (v w : Views) (p : ℕ) (apart : IsApart v w p) where
   role_apart : (x : Flight) (g : Page) (r : Role) → (is_fault (reading r) ≡ true → p ≡ x.seat → ⊥) → FitsRole x g v.process v.entry r → FitsRole x g w.process w.entry r
@@ -52,7 +53,7 @@ module _ (v w : Views) (p : ℕ) (apart : IsApart v w p) where
   role_apart x g (role.Come q address) other fits = (apart.status q.0 ∙ fits.0, apart.mapped q.0 (page_number address.0) (λ same. fits.0) ∙ fits.1, fits.2)
 
   write_apart : (x : Flight) (g : Page) (old new : PageView) → IsAlike x.direction old new → FitsWrite x g old v.process → FitsWrite x g new w.process
-  write_apart x g old new alike (inl section) = inl (section.0, alike.lies ∙ section.1)
+  write_apart x g old new alike (inl section) = inl (alike.paged ∙ section.0, alike.lies ∙ section.1)
   write_apart x g old new alike (inr (inl file)) = inr (inl (file.0, alike.block ∙ file.1, file.2))
   write_apart x g old new alike (inr (inr swap)) =
       let far : (p ≡ swap.p → ⊥) = λ same. apart.not_leaving (ap (λ (q : ℕ). (v.process q).status) same ∙ swap.leaving) in
@@ -65,6 +66,7 @@ module _ (v w : Views) (p : ℕ) (apart : IsApart v w p) where
         held = swap.held;
         slot = subst (λ (y : ProcessView). slice_get y.ring.slots swap.n ≡ Some (Some swap.held)) (sym (apart.process swap.p far)) swap.slot;
         fits = swap.fits;
+        unpinned = swap.unpinned;
       }))
 
   direction_apart : (x : Flight) (g : Page) (old new : PageView) (d : Direction) → x.direction ≡ d → IsAlike x.direction old new → (is_fault d ≡ true → p ≡ x.seat → ⊥) → FitsDirection x g old v.process v.entry d → FitsDirection x g new w.process w.entry d
@@ -106,7 +108,7 @@ flight_same v held page x same alike fits =
     new = alike fits.page fits.held
 
     written : FitsWrite x fits.page (v.page fits.page) v.process → FitsWrite x fits.page (page fits.page) v.process
-    written (inl section) = inl (section.0, new.lies ∙ section.1)
+    written (inl section) = inl (new.paged ∙ section.0, new.lies ∙ section.1)
     written (inr (inl file)) = inr (inl (file.0, new.block ∙ file.1, file.2))
     written (inr (inr swap)) = inr (inr swap)
 
@@ -126,7 +128,7 @@ on_frame x flights counts f same = go (is_reading x.direction) refl
 pub record IsFar (v : Views) (x : Flight) (p : ℕ) : Type 0 where
   pub fault : (q : Proc) (address : Addr) → x.direction ≡ reading (role.Fault q address) → x.seat ≡ q.0 → (v.process q.0).status ≡ status.Resident → p ≡ q.0 → ⊥
   pub come : (q : Proc) (address : Addr) (n : ℕ) (g : Page) → x.direction ≡ reading (role.Come q address) → (v.process q.0).status ≡ status.Coming → x.block ≡ block.Swap q n → (v.page g).lies ≡ Some x.block → p ≡ q.0 → ⊥
-  pub swap : (g : Page) → IsSwapWrite x g v.process → (q : ℕ) → (v.process q).status ≡ status.Leaving → (n : ℕ) (held : Held) → slice_get (v.process q).ring.slots n ≡ Some (Some held) → p ≡ q → ⊥
+  pub swap : (g : Page) → IsSwapWrite x g v.process → (q : ℕ) → (v.process q).status ≡ status.Leaving → (n : ℕ) (held : Held) → slice_get (v.process q).ring.slots n ≡ Some (Some held) → held.pinned ≡ false → p ≡ q → ⊥
 
 pub flight_far : (v : Views) (process : ℕ → ProcessView) (entry : ℕ → ℕ → EntryView) (p : ℕ) (x : Flight) → ((q : ℕ) → (p ≡ q → ⊥) → process q ≡ v.process q) → ((q u : ℕ) → (p ≡ q → ⊥) → entry q u ≡ v.entry q u)
     → IsFar v x p → FitsFlight v x → FitsFlight (record v { process = process; entry = entry }) x
@@ -149,7 +151,7 @@ flight_far v process entry p x processes entries far fits =
     by writing is (inl section) = inl section
     by writing is (inr (inl file)) = inr (inl file)
     by writing is (inr (inr swap)) =
-        let same = sym (processes swap.p (far.swap fits.page swap swap.p swap.leaving swap.n swap.held swap.slot)) in
+        let same = sym (processes swap.p (far.swap fits.page swap swap.p swap.leaving swap.n swap.held swap.slot swap.unpinned)) in
         inr (inr (record {
           p = swap.p;
           n = swap.n;
@@ -159,4 +161,5 @@ flight_far v process entry p x processes entries far fits =
           held = swap.held;
           slot = subst (λ (y : ProcessView). slice_get y.ring.slots swap.n ≡ Some (Some swap.held)) same swap.slot;
           fits = swap.fits;
+          unpinned = swap.unpinned;
         }))

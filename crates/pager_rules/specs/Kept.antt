@@ -2,7 +2,7 @@
 -- This project's own.
 use Rattle.std.specs.Prelude.{◌≡◌, ◌⊎◌, ℕ, Bool, true, false, ◌+◌, ◌<◌, ◌≤◌, ◌||◌, List, Option, Some, None, length, map, slice_get, nat_lt, if◌then◌else◌}
 use Rattle.std.specs.List.{AllByRecursion}
-use Rattle.vm_types.specs.Ring.{Held, filled}
+use Rattle.vm_types.specs.Ring.{Held, filled, unpinned}
 use Rattle.vm_types.specs.declared.names.Page.{Page}
 use Rattle.vm_types.specs.declared.names.SecId.{SecId}
 use Rattle.vm_types.specs.declared.names.Page.TheVariants.{Shared}
@@ -19,7 +19,7 @@ use Rattle.vm_journal.specs.declared.entry.Role.TheVariants as role
 use Rattle.pager_model.specs.Around.{BlockView, EntryView, FrameView, PageView, PastView, ProcessView, block_view, entry_view, frame_view, page_view, process_view}
 use Rattle.pager_model.specs.Flights.{Direction, Flight, reading, writing}
 use Rattle.pager_model.specs.Lookups.{count_page, is, is_of, page_by}
-use Rattle.pager_model.specs.Maps.{Map, is_private, page_number, proc}
+use Rattle.pager_model.specs.Maps.{Map, is_paged, is_private, page_number, proc}
 use Rattle.pager_model.specs.Pager.{Pager, Valid}
 use Rattle.pager_model.specs.Sound.{FitsSlot, HasSwapped, IsBounded}
 use Rattle.pager_model.specs.Transfers.{faults_of, is_fault_role}
@@ -63,29 +63,30 @@ pub record FitsFrame (x : FrameView) : Type 0 where
 
 -- a process; one that isn't there has no slots
 pub record FitsProcess (x : ProcessView) : Type 0 where
-  pub bounds : (spec : ProcSpec) → x.spec ≡ Some spec → IsBounded spec x.ring x.limit
-  pub gone : x.status ≡ status.Gone → filled x.ring.slots ≡ 0
+  pub bounds : (spec : ProcSpec) → x.spec ≡ Some spec → IsBounded x.version spec x.ring x.limit
+  pub gone : x.status ≡ status.Gone → unpinned x.ring.slots ≡ 0
   pub none : x.spec ≡ None → (x.limit ≡ 0) × (length x.ring.slots ≡ 0)
 
 -- a page table entry
 pub record FitsEntry (x : EntryView) : Type 0 where
   pub once : x.entries ≤ 1
   pub slots : x.slots ≡ x.entries
-  pub coming : (g : Page) → x.status ≡ status.Coming → 0 < x.entries → x.mapped ≡ Some g → is_private g ≡ true
+  pub coming : (g : Page) → x.status ≡ status.Coming → 0 < x.entries → x.mapped ≡ Some g → (is_private g ≡ true) ⊎ (0 < x.pins)
 
 abbrev pub IsForItsPage : Config → Map → (ℕ → Option Page) → Valid → Type 0
 IsForItsPage config map page e = (g : Page) × (page_by config map e.proc e.vpn ≡ Some g) × (page e.frame ≡ Some g)
 
 -- a page
 pub record FitsPage (g : Page) (x : PageView) : Type 0 where
+  pub paged : 0 < x.charged → x.paged ≡ true
   pub charged : x.charged ≤ 1
   pub touched : x.touched ≤ x.charged
   pub blocks : x.blocks ≤ x.charged
-  pub mapped : 0 < x.charged → x.mapped ≡ Some g
-  pub lying : (b : BlockId) → is_private g ≡ true → x.lies ≡ Some b → x.charged ≡ 1
+  pub mapped : 0 < x.charged → is_private g ≡ true → x.mapped ≡ Some g
+  pub lying : (b : BlockId) → x.paged ≡ true → x.lies ≡ Some b → x.charged ≡ 1
   pub in_file : (b : ℕ) → x.lies ≡ Some (block.PageFile b) → x.block ≡ Some b
-  pub not_in_section : (s : SecId) (i : ℕ) → is_private g ≡ true → x.lies ≡ Some (block.Section s i) → ⊥
-  pub shared : (s : SecId) (i : ℕ) → g ≡ Shared s i → x.lies ≡ Some (block.Section s i)
+  pub not_in_section : (s : SecId) (i : ℕ) → x.paged ≡ true → x.lies ≡ Some (block.Section s i) → ⊥
+  pub shared : (s : SecId) (i : ℕ) → g ≡ Shared s i → x.paged ≡ false → x.lies ≡ Some (block.Section s i)
 
 -- a block
 pub record FitsBlock (x : BlockView) : Type 0 where
@@ -96,8 +97,8 @@ pub record FitsBlock (x : BlockView) : Type 0 where
 abbrev pub HeldOnce : (ℕ → Option Page) → Type 0
 HeldOnce page = (f g : ℕ) (x : Page) → page f ≡ Some x → page g ≡ Some x → f ≡ g
 
-abbrev pub HeldCharged : (ℕ → Option Page) → List Page → Type 0
-HeldCharged page charged = (f : ℕ) (g : Page) → is_private g ≡ true → page f ≡ Some g → 0 < count_page charged g
+abbrev pub HeldCharged : Config → (ℕ → Option Page) → List Page → Type 0
+HeldCharged config page charged = (f : ℕ) (g : Page) → is_paged config g ≡ true → page f ≡ Some g → 0 < count_page charged g
 
 -- a frame with modify set, an open flight or a read error
 abbrev pub saves : FrameView → Bool
@@ -143,10 +144,11 @@ pub record IsSwapWrite (x : Flight) (g : Page) (process : ℕ → ProcessView) :
   pub held : Held
   pub slot : slice_get (process p).ring.slots n ≡ Some (Some held)
   pub fits : FitsSlot p (Some held) g
+  pub unpinned : held.pinned ≡ false
 
 abbrev pub FitsWrite : Flight → Page → PageView → (ℕ → ProcessView) → Type 0
 FitsWrite x g view process =
-    ((is_private g ≡ false) × (view.lies ≡ Some x.block))
+    ((view.paged ≡ false) × (view.lies ≡ Some x.block))
     ⊎ (((b : ℕ) × (view.block ≡ Some b) × (x.block ≡ block.PageFile b)) ⊎ IsSwapWrite x g process)
 
 abbrev pub FitsDirection : Flight → Page → PageView → (ℕ → ProcessView) → (ℕ → ℕ → EntryView) → Direction → Type 0
@@ -192,7 +194,7 @@ pub record IsKept (config : Config) (o : PastView) (a : Pager) : Type 0 where
   pub blocks : (b : BlockId) → FitsBlock (block_view o a b)
   pub fit : length a.charged ≤ config.pagefile
   pub held_once : HeldOnce a.page
-  pub held_charged : HeldCharged a.page a.charged
+  pub held_charged : HeldCharged config a.page a.charged
   pub unsaved : HasUnsaved config o a
   pub swapped : HasSwapped a.lies a.status a.ring a.state a.page
   pub coming_once : ComingOnce a.status

@@ -6,7 +6,7 @@ ghost use Rattle.vm_types.specs.Configuration.{IsWellFormed};
 use std::alloc::Global;
 use vm_types::{
     Addr, Config, Listed, Mapping, Mode, NoMemory, Op, Origin, Params, Proc, ProcSpec, Ref,
-    Request, SecId, Section, Task, Width,
+    Request, SecId, Section, SectionKind, Task, Version, Width,
 };
 
 const PARAMS: Params = Params {
@@ -78,17 +78,18 @@ pub(crate) fn config(alloc: Global, pagefile: u32) -> Result<Config, NoMemory>
 {
     let shared = Section {
         name: Listed::of(vec![in alloc; b'S', b'H']?),
-        shared: true,
+        kind: SectionKind::Shared,
         bytes: Listed::of(Vec::from_slice(alloc, &[7; 512])?),
     };
     let copied = Section {
         name: Listed::of(vec![in alloc; b'C', b'R']?),
-        shared: false,
+        kind: SectionKind::Crf,
         bytes: Listed::of(Vec::from_slice(alloc, &[9; 512])?),
     };
     let first = Origin::Section(SecId(0), 0);
     let second = Origin::Section(SecId(1), 0);
     Ok(Config {
+        version: Version::One,
         frames: 64,
         bad: Listed::new(alloc),
         pagefile,

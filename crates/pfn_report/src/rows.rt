@@ -55,6 +55,7 @@ fn frame_row<B: Block>(state: &State<B>, f: Pfn, count: u32) -> FrameRow
         state: row.state,
         page: row.page,
         modify: row.modify,
+        // In version 1 no page is pinned.
         refs: u32::from(count > 0) + u32::from(flight.is_some()),
         shares: count,
     }

@@ -198,12 +198,12 @@ module _ (config : Config) (past : List Entry) (between : IsBetween config past)
         let one = spoken_more p (what.Done r reply) (by_seat p (what.Back (proc p) (page_address v) (pfn f) (a.state f)) ∷ past) refl in
         omega (arith, first, one))
     held None =
-        either (is_busy_block past (source_of a g (a.map p v))) (gives_again again_block_busy) (frame_given config a p r g (source_of a g (a.map p v)) a.free) (rests_lower config past c)
-        (framed (source_of a g (a.map p v)) a.free)
+        either (is_busy_block past (source_of config a g (a.map p v))) (gives_again again_block_busy) (frame_given config a p r g (source_of config a g (a.map p v)) a.free) (rests_lower config past c)
+        (framed (source_of config a g (a.map p v)) a.free)
 
     roomed : Advances (room_given config past a p r g)
     roomed =
-        either (is_uncharged a g && nat_eq (length a.charged) config.pagefile) (gives_again again_charging)
+        either (is_uncharged config a g && nat_eq (length a.charged) config.pagefile) (gives_again again_charging)
         (cond (nat_le (a.limit p) (filled (a.ring p).slots)) (replace_given config past a p) (held_given config past a p r g (holder config a.page g))) (rests_lower config past c)
         (either (nat_le (a.limit p) (filled (a.ring p).slots)) (replace_given config past a p) (held_given config past a p r g (holder config a.page g)) (replaced (seen_at a p (victim_of (choose (a.ring p) (a.limit p))))) (held (holder config a.page g)))
 

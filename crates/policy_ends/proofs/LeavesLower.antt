@@ -1,7 +1,7 @@
 -- A process that is left, and the cluster that is written because room is needed.
 use Rattle.std.proofs.Common.{◌≡◌, ◌⊎◌, inl, inr, ℕ, zero, suc, ◌<◌, ◌||◌, Bool, true, false, cond, List, [], ◌∷◌, ◌++◌, Option, Some, None, length, nat_eq, nat_lt, refl, ap, subst, arith}
 use Rattle.std.proofs.lemmas.Bool.{cases_eq, false≢true}
-use Rattle.vm_types.specs.Ring.{filled}
+use Rattle.vm_types.specs.Ring.{unpinned}
 use Rattle.vm_types.specs.declared.names.BlockId.{BlockId}
 use Rattle.vm_types.specs.declared.names.ProcStatus.{ProcStatus}
 use Rattle.vm_types.specs.declared.names.ProcStatus.TheVariants as status
@@ -17,7 +17,7 @@ use Rattle.pager_model.specs.Moves.{Control, Doing, carries, control, makes, res
 use Rattle.pager_model.specs.Pager.{Pager}
 use Rattle.pager_model.specs.Policy.{Ends, leave_move, leave_move_by, unless_all_failed, writing_move}
 use Rattle.pager_model.specs.Run.{IsRun, pager_after}
-use Rattle.pager_model.specs.Swap.{GivenSwap, is_saved, is_shared_seen, is_to_save, leave_page, leave_saved, leave_shared, leave_unsaved, run_from, slot_where, swap_again, swap_in_flight, swap_modified_full, swap_more, swap_settled, turned_gone, write_slot, write_slots}
+use Rattle.pager_model.specs.Swap.{GivenSwap, is_saved, is_shared_unpinned, is_to_save, leave_page, leave_saved, leave_shared, leave_unsaved, run_from, slot_where, swap_again, swap_in_flight, swap_modified_full, swap_more, swap_settled, turned_gone, write_slot, write_slots}
 use Rattle.pager_model.specs.WriteCluster.{BeginIs, Reason, begin_carry, begin_gives, begin_nothing, block_out, is_enough, reason_need, writes_from, writes_taken}
 use Rattle.pager_rules.proofs.Basics.{each_weaker}
 use Rattle.serial_laws.specs.Between.{IsBetween}
@@ -109,7 +109,7 @@ module _ (config : Config) (past : List Entry) (between : IsBetween config past)
 
     gone_left : Leaves (turned_gone a q)
     gone_left =
-        either (nat_lt 0 (filled (a.ring q).slots)) (given [] (swap_again swap_in_flight)) (given (what.Turn (proc q) status.Gone ∷ []) swap_settled)
+        either (nat_lt 0 (unpinned (a.ring q).slots)) (given [] (swap_again swap_in_flight)) (given (what.Turn (proc q) status.Gone ∷ []) swap_settled)
         (rests_lower config past c) (turn_lowers q status.Gone (control doing) refl (λ u v run. by u v (cases_eq q p)))
       where
         by : (u v : ℕ) → (q ≡ p) ⊎ (q ≡ p → ⊥) → AreLower config past (by_seat seat (what.Turn (proc q) status.Gone) ∷ past) p u v
@@ -134,4 +134,4 @@ module _ (config : Config) (past : List Entry) (between : IsBetween config past)
     shared_left None = saved_left (slot_where a q (is_saved past a q))
 
     pub leave_lowers : MoveLowers config past c (leave_move config past a seat q ends doing)
-    leave_lowers = shared_left (slot_where a q (λ (n : ℕ) (s : Seen). is_shared_seen s))
+    leave_lowers = shared_left (slot_where a q (λ (n : ℕ) (s : Seen). is_shared_unpinned s))

@@ -31,7 +31,7 @@ use Rattle.pager_model.specs.Step.{after_what}
 use Rattle.pager_model.specs.Transfers.{starts}
 use Rattle.pager_rules.proofs.Basics.{nat_eq_refl, pages_equal}
 use Rattle.pager_rules.proofs.Lists.{all_filter, all_found, count_filter_le, found_one, found_passes}
-use Rattle.pager_rules.proofs.Pages.{is_of_private}
+use Rattle.pager_rules.proofs.Pages.{is_of_private, private_is_paged}
 use Rattle.pager_rules.specs.Kept.{FitsDirection, FitsFlight, FitsRead, IsKept, views}
 use Rattle.pager_laws.proofs.RunsAreSound.{run_kept}
 use Rattle.policy_laws.proofs.Counting.{each_is}
@@ -141,7 +141,7 @@ nowhere_less config past a p n g kept lies =
     (ap (λ (h : Page). lies_in_swap p (a.lies h)) (sym (pages_equal g found.0 same)) ∙ (ap (lies_in_swap p) lies ∙ nat_eq_refl p))
   where
     found : (h : Page) × (find (same_page g) a.charged ≡ Some h)
-    found = found_one (same_page g) a.charged (let one = (kept.pages g).lying (block.Swap (proc p) n) (is_of_private p g (kept.swapped g p n lies).own) lies in omega (arith, one))
+    found = found_one (same_page g) a.charged (let one = (kept.pages g).lying (block.Swap (proc p) n) (private_is_paged config g (is_of_private p g (kept.swapped g p n lies).own)) lies in omega (arith, one))
 
     same : same_page g found.0 ≡ true
     same = found_passes (same_page g) a.charged found.0 found.1

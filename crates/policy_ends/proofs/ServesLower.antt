@@ -1,6 +1,6 @@
 -- A service's next step: an eviction, a cluster that makes room for it, or its answer.
+use Rattle.vm_types.specs.Ring.{Ring, fixed}
 use Rattle.std.proofs.Common.{◌≡◌, ℕ, ◌+◌, ◌<◌, ◌&&◌, Bool, true, false, cond, List, [], ◌∷◌, Option, Some, None, length, slice_get, nat_le, is_some, refl, ap, arith}
-use Rattle.vm_types.specs.Ring.{locked}
 use Rattle.vm_types.specs.declared.names.Addr.{Addr}
 use Rattle.vm_types.specs.declared.config.Config.{Config}
 use Rattle.vm_types.specs.declared.config.ProcSpec.{ProcSpec}
@@ -19,9 +19,9 @@ use Rattle.pager_model.specs.Lookups.{entry_of, is_resident}
 use Rattle.pager_model.specs.Moves.{Control, asking, control, saving}
 use Rattle.pager_model.specs.Pager.{Pager, Valid}
 use Rattle.pager_model.specs.Policy.{ends_request, next_task, serve_move_by}
-use Rattle.pager_model.specs.Ring.{range_locked}
+use Rattle.pager_model.specs.Ring.{range_locked, range_pinned}
 use Rattle.pager_model.specs.Run.{pager_after}
-use Rattle.pager_model.specs.Serve.{GivenServe, delete_given, evict_given, is_range_in_flight, is_unmapped, limits_given, lock_given, purge_given, serve_again, serve_gives, serve_in_flight, serve_modified_full, serve_more, serve_not_resident, served_with, service_gives, unlocked_in, valid_in}
+use Rattle.pager_model.specs.Serve.{GivenServe, delete_given, evict_given, is_range_in_flight, is_unmapped, limits_given, lock_given, loose_in, purge_given, serve_again, serve_gives, serve_in_flight, serve_modified_full, serve_more, serve_not_resident, served_with, service_gives, valid_in}
 use Rattle.pager_model.specs.Spoken.{request_of}
 use Rattle.pager_rules.proofs.Basics.{count_cons_yes}
 use Rattle.serial_laws.specs.Between.{IsBetween}
@@ -70,10 +70,10 @@ module _ (config : Config) (past : List Entry) (between : IsBetween config past)
   purged at pages (Some v) = evicted v evict.Purge (entry_of a.valid p v)
   purged at pages None = answered (service.Purge at pages) answer.Good
 
-  locked_in : (t : Service) (address pages : ℕ) (o : Option ProcSpec) → Serves (lock_given a p t address pages o)
-  locked_in t address pages None = answered t answer.LockLimit
-  locked_in t address pages (Some spec) =
-      either (nat_le (locked (range_locked true address pages (a.ring p)).slots) spec.locks) (served_with t (answer.Count _)) (served_with t answer.LockLimit) (answered t (answer.Count _))
+  fixed_in : (t : Service) (address pages : ℕ) (ring : Ring) (o : Option ProcSpec) → Serves (lock_given a p t address pages ring o)
+  fixed_in t address pages ring None = answered t answer.LockLimit
+  fixed_in t address pages ring (Some spec) =
+      either (nat_le (fixed ring.slots) spec.locks) (served_with t (answer.Count _)) (served_with t answer.LockLimit) (answered t (answer.Count _))
       (answered t answer.LockLimit)
 
   limited : (n : ℕ) (o : Option ProcSpec) → Serves (limits_given n o)
@@ -89,11 +89,16 @@ module _ (config : Config) (past : List Entry) (between : IsBetween config past)
       (answered (service.Delete at pages) answer.Unmapped) (deleted at pages (valid_in a p at.0 pages))
   served (service.Protect at pages prot) = answered (service.Protect at pages prot) _
   served (service.Lock at pages) =
-      either (is_unmapped a p at.0 pages) (served_with (service.Lock at pages) answer.Unmapped) (lock_given a p (service.Lock at pages) at.0 pages (slice_get config.procs p))
+      either (is_unmapped a p at.0 pages) (served_with (service.Lock at pages) answer.Unmapped) (lock_given a p (service.Lock at pages) at.0 pages (range_locked true at.0 pages (a.ring p)) (slice_get config.procs p))
       (answered (service.Lock at pages) answer.Unmapped)
-      (locked_in (service.Lock at pages) at.0 pages (slice_get config.procs p))
+      (fixed_in (service.Lock at pages) at.0 pages (range_locked true at.0 pages (a.ring p)) (slice_get config.procs p))
   served (service.Unlock at pages) = answered (service.Unlock at pages) _
-  served (service.Purge at pages) = purged at pages (unlocked_in a p at.0 pages)
+  served (service.Purge at pages) = purged at pages (loose_in a p at.0 pages)
+  served (service.Pin at pages) =
+      either (is_unmapped a p at.0 pages) (served_with (service.Pin at pages) answer.Unmapped) (lock_given a p (service.Pin at pages) at.0 pages (range_pinned true at.0 pages (a.ring p)) (slice_get config.procs p))
+      (answered (service.Pin at pages) answer.Unmapped)
+      (fixed_in (service.Pin at pages) at.0 pages (range_pinned true at.0 pages (a.ring p)) (slice_get config.procs p))
+  served (service.Unpin at pages) = answered (service.Unpin at pages) _
   served (service.Adjust n) = limited n (slice_get config.procs p)
 
   pub serve_lowers : Serves (serve_gives config past a p s)

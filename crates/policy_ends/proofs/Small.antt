@@ -1,11 +1,11 @@
 -- Each number of a rank is small, by the limits of the configuration.
-use Rattle.std.proofs.Common.{◌≡◌, ◌⊎◌, inl, inr, ℕ, ◌*◌, ◌^◌, ◌<◌, ◌≤◌, Bool, true, false, not, cond, List, [], ◌∷◌, Option, Some, None, length, count_by, nat_eq, nat_le, slice_get, refl, sym, ap, ◌∙◌, subst, arith}
+use Rattle.std.proofs.Common.{◌≡◌, ◌⊎◌, inl, inr, ℕ, ◌*◌, ◌^◌, ◌<◌, ◌≤◌, Bool, true, false, not, cond, List, [], ◌+◌, ◌∷◌, Option, Some, None, length, count_by, nat_eq, nat_le, slice_get, refl, sym, ap, ◌∙◌, subst, arith}
 use Rattle.std.specs.List.{AllByRecursion, sum_by}
 use Rattle.std.proofs.lemmas.Bool.{and_from, cases_lt, eq-eqb, eqb-true, le-leb, or_left}
 use Rattle.std.proofs.lemmas.List.FromFn.{length-range_with_len}
 use Rattle.std.proofs.lemmas.List.Sums.{sum_by-cons}
 use Rattle.std.proofs.lemmas.Option.{get_or_from_slice_get, slice_get_within}
-use Rattle.vm_types.specs.Configuration.{IsProcess, IsWellFormed}
+use Rattle.vm_types.specs.Configuration.{IsProcess, IsWellFormed, all_pins}
 use Rattle.vm_types.specs.Ring.{Held, filled, is_filled_slot}
 use Rattle.vm_types.specs.declared.names.Page.{Page}
 use Rattle.vm_types.specs.declared.names.FrameState.{FrameState}
@@ -87,7 +87,7 @@ module _ (config : Config) (past : List Entry) (formed : IsWellFormed config) (r
       by : (o : Option ProcSpec) → slice_get config.procs q ≡ o → filled (a.ring q).slots ≤ 1024
       by None is = let none = (kept.processes q).none is in omega (arith, none.1, count_most is_filled_slot (a.ring q).slots)
       by (Some spec) is =
-          let known : IsProcess config.frames (length config.bad) spec = subst (λ (s : ProcSpec). IsProcess config.frames (length config.bad) s) (get_or_from_slice_get config.procs q spec spec is) (formed.procs q spec (slice_get_within config.procs q spec is)) in
+          let known : IsProcess config.frames (length config.bad + all_pins config) spec = subst (λ (s : ProcSpec). IsProcess config.frames (length config.bad + all_pins config) s) (get_or_from_slice_get config.procs q spec spec is) (formed.procs q spec (slice_get_within config.procs q spec is)) in
           let slots = ((kept.processes q).bounds spec is).slots in
           let most = known.most in
           omega (arith, slots, most, count_most is_filled_slot (a.ring q).slots)

@@ -22,7 +22,7 @@ use Rattle.pager_model.specs.Around.{frame_view, past_view, process_view, page_v
 use Rattle.pager_model.specs.Changes.{pushed_if}
 use Rattle.pager_model.specs.Flights.{Direction, Flight, is_reading, open_flights, without_flight, writing}
 use Rattle.pager_model.specs.Lookups.{has_vpn, is, is_coming, is_entry, is_leaving, own_page, page_by, shares, slot_with}
-use Rattle.pager_model.specs.Maps.{is_private, proc}
+use Rattle.pager_model.specs.Maps.{is_paged, is_private, proc}
 use Rattle.pager_model.specs.Out.{IsAnyOut, IsOut, IsOutBlock, IsOutSwap, after_any_out, after_out}
 use Rattle.pager_model.specs.OutLanding.{after_out_ok, lies_at, marked}
 use Rattle.pager_model.specs.Pager.{Pager, Valid}
@@ -33,13 +33,13 @@ use Rattle.pager_model.specs.Transfers.{is_in_flight, is_read_on, is_write_on, r
 use Rattle.pager_rules.proofs.Basics.{at_number_other, at_number_same, count_cons, count_cons_no, count_cons_yes, each_weaker, nat_eq_refl, pages_equal, same_page_refl}
 use Rattle.pager_rules.proofs.Frames.{at_state, modified_frame}
 use Rattle.pager_rules.proofs.Lists.{all_filter, all_found, all_step, count_filter_le, count_removed, count_removed_yes, found_one}
-use Rattle.pager_rules.proofs.Pages.{is_of_private, own_is}
+use Rattle.pager_rules.proofs.Pages.{is_of_private, own_is, private_is_paged}
 use Rattle.pager_rules.proofs.Quiet.{starts_once}
 use Rattle.pager_rules.specs.Kept.{FitsDirection, FitsFlight, FitsWrite, HasWrites, IsForItsPage, IsKept, IsSwapWrite, one_if, views}
 use Rattle.call_laws.proofs.FollowingPages.{lies_there}
 use Rattle.call_laws.proofs.SlotsOnce.{only_place}
 use Rattle.serial_laws.proofs.Slots.{slot_counts}
-use Rattle.state_fits.proofs.ValidEntries.{IsValidAt, valid_at_page}
+use Rattle.page_holders.proofs.ValidEntries.{IsValidAt, valid_at_page}
 use Rattle.policy_ends.specs.Rank.{is_in_its_block, is_saved_page, is_unsaved, is_unsaved_page, left_to_come, lies_in_swap, unsaved}
 use Rattle.policy_laws.proofs.Counting.{each_is}
 use Rattle.pager_model.specs.Advance.{lies_in}
@@ -222,12 +222,12 @@ module _ (config : Config) (past : List Entry) (a : Pager) (k f : ℕ) (kept : I
   kind : (is_swap_block x.block ≡ false) ⊎ IsSwapWrite x g (process_view config a)
   kind = by fits
     where
-      shared_in : (h : Page) → is_private h ≡ false → a.lies h ≡ Some x.block → is_swap_block x.block ≡ false
-      shared_in (Private q w) shared lies = absurd (true≢false shared)
-      shared_in (Shared s i) shared lies = ap is_swap_block (same_Some x.block (block.Section s i) (sym lies ∙ (kept.pages (Shared s i)).shared s i refl))
+      filed_in : (h : Page) → is_paged config h ≡ false → a.lies h ≡ Some x.block → is_swap_block x.block ≡ false
+      filed_in (Private q w) file lies = absurd (true≢false file)
+      filed_in (Shared s i) file lies = ap is_swap_block (same_Some x.block (block.Section s i) (sym lies ∙ (kept.pages (Shared s i)).shared s i refl file))
 
       by : FitsWrite x g (page_view config a g) (process_view config a) → (is_swap_block x.block ≡ false) ⊎ IsSwapWrite x g (process_view config a)
-      by (inl shared) = inl (shared_in g shared.0 shared.1)
+      by (inl section) = inl (filed_in g section.0 section.1)
       by (inr (inl file)) = inl (ap is_swap_block file.2)
       by (inr (inr swap)) = inr swap
 
@@ -276,7 +276,7 @@ module _ (config : Config) (past : List Entry) (a : Pager) (k f : ℕ) (kept : I
       is_page (Shared s i) fits = absurd fits
 
       mapped : page_by config a.map swap.p swap.held.vpn ≡ Some g
-      mapped = by g (is_page g swap.fits) ((kept.pages g).mapped (kept.held_charged f g private holds))
+      mapped = by g (is_page g swap.fits) ((kept.pages g).mapped (kept.held_charged f g (private_is_paged config g private) holds) private)
         where
           by : (h : Page) → h ≡ Private (proc swap.p) swap.held.vpn → own_page config a.map h ≡ Some h → page_by config a.map swap.p swap.held.vpn ≡ Some h
           by h is own = subst (λ (y : Page). own_page config a.map y ≡ Some h) is own
@@ -608,7 +608,7 @@ out_no_higher config past a seat f (block.Swap q n) kept clear more opened (inr 
 out_no_higher config past a seat f (block.Swap q n) kept clear more opened (inl legal) = absurd (by legal.block)
   where
     by : IsOutBlock config a (block.Swap q n) legal.page → ⊥
-    by (inl shared) = let own = (kept.swapped legal.page q.0 n shared.1).own in true≢false (sym (is_of_private q.0 legal.page own) ∙ shared.0)
+    by (inl shared) = let own = (kept.swapped legal.page q.0 n shared.1).own in true≢false (sym (private_is_paged config legal.page (is_of_private q.0 legal.page own)) ∙ shared.0)
     by (inr (inl (m, private, assigned, is))) = false≢true (ap is_swap_block (sym is))
     by (inr (inr (m, private, assigned, is, below, free))) = false≢true (ap is_swap_block (sym is))
 out_no_higher config past a seat f (block.PageFile n) kept clear more opened (inl legal) = list_begins config past a seat f (block.PageFile n) kept clear more opened legal

@@ -1,9 +1,9 @@
 -- Pairs counted from either side.
 use Rattle.std.proofs.Common.{◌≡◌, ◌⊎◌, inl, inr, ℕ, zero, suc, ◌+◌, ◌<◌, ◌≤◌, Bool, true, false, cond, List, [], ◌∷◌, length, count_by, nat_eq, refl, sym, arith}
 use Rattle.std.specs.List.{AllByRecursion, range_with_len, sum_by}
-use Rattle.std.proofs.lemmas.Bool.{cases_eq, ne_eqb}
+use Rattle.std.proofs.lemmas.Bool.{cases_eq, eq-eqb, ne_eqb}
 use Rattle.std.proofs.lemmas.List.Sums.{sum_by-cons}
-use Rattle.pager_rules.proofs.Basics.{count_cons, count_cons_no}
+use Rattle.pager_rules.proofs.Basics.{count_cons, count_cons_no, count_cons_yes}
 
 pub sum_zeros : {X : Type 0} (xs : List X) → sum_by (λ (x : X). 0) xs ≡ 0
 sum_zeros [] = refl
@@ -58,3 +58,11 @@ once_in_range b a (suc n) = go (cases_eq b a) (once_in_range b (a + 1) n)
         at_most true = omega arith
         at_most false = omega arith
     go (inr apart) rest = omega (arith, rest, count_cons_no (nat_eq b) a (range_with_len (a + 1) n) (ne_eqb b a apart))
+
+pub range_holds : (b a n : ℕ) → a ≤ b → b < a + n → 1 ≤ count_by (nat_eq b) (range_with_len a n)
+range_holds b a zero low high = absurd (omega arith)
+range_holds b a (suc n) low high = go (cases_eq b a) (range_holds b (a + 1) n)
+  where
+    go : (b ≡ a) ⊎ (b ≡ a → ⊥) → (a + 1 ≤ b → b < a + 1 + n → 1 ≤ count_by (nat_eq b) (range_with_len (a + 1) n)) → 1 ≤ count_by (nat_eq b) (range_with_len a (suc n))
+    go (inl same) rest = omega (arith, count_cons_yes (nat_eq b) a (range_with_len (a + 1) n) (eq-eqb b a same))
+    go (inr apart) rest = let later = rest (omega arith) (omega arith) in omega (arith, later, count_cons (nat_eq b) a (range_with_len (a + 1) n))

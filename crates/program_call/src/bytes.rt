@@ -91,6 +91,20 @@ impl Sink for BytesSink {
 /// status and the bytes that it writes. No read and no write fails and each block is made, so the
 /// status is none of 3, 4 and 6.
 ///
+/// # Examples
+/// A trace without requests; what comes back is the report and the status line:
+///
+/// ```
+/// let trace = b"VMTRACE 1\nFRAMES 8\nPAGEFILE 4\nPROCESS A 4 4 4 0\nBODY\nEND\n";
+/// let (status, text) = run_bytes(rt.alloc(), &["serial"], trace)?;
+/// assert_eq!(rt; status, Status(0));
+/// assert_eq!(rt; text.as_slice(), b"PFN AT 0\n\
+/// FREE 8 MODIFIED 0 BAD 0 RELEASE 0 READERROR 0 WRITING 0 READING 0 ACTIVE 0\n\
+/// PAGEFILE 4 CHARGED 0 ASSIGNED 0\n\
+/// PROCESS A RESIDENT COUNT 0 LIMIT 4\n\
+/// STATUS 0\n");
+/// ```
+///
 /// # Errors
 /// `NoMemory` if memory ran out for the bytes that are written.
 pub fn run_bytes(alloc: Global, words: &[&str], input: &[u8]) -> Result<(Status, Vec<u8>), NoMemory>

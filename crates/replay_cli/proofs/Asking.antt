@@ -1,5 +1,6 @@
 -- Words that begin with a command's name and go on with no options of it ask for nothing.
-use Rattle.std.proofs.Common.{◌≡◌, ℕ, List, [], ◌∷◌, sym, ◌∙◌, subst, arith, codes}
+use Rattle.std.proofs.Common.{◌≡◌, ℕ, List, [], ◌∷◌, sym, ◌∙◌, ap, subst, arith, codes}
+use Rattle.std.specs.Prelude.{Option, None, IfNone}
 use Rattle.study_command.specs.CommandLine.{AsksFor}
 use Rattle.study_command.specs.declared.words.Study.{Study as Wanted}
 use Rattle.replay_cli.specs.Commands.{Asks}
@@ -16,6 +17,14 @@ pub study_or_make : codes "study" ≡ codes "make" → ⊥
 study_or_make e = absurd (omega (arith, first e)) where
   first : {a b : ℕ} {xs ys : List ℕ} → a ∷ xs ≡ b ∷ ys → a ≡ b
   first e = cc
+
+-- the words begin with the name
+pub begins : (words rest : List (List ℕ)) (first name : List ℕ) → words ≡ first ∷ rest → name ≡ first → words ≡ name ∷ rest
+begins words rest first name begin is = begin ∙ ap (λ (word : List ℕ). word ∷ rest) (sym is)
+
+-- what is said of none
+pub if_none_is : {T : Type 0} (P : Type 0) (found : Option T) → found ≡ None → IfNone found P → P
+if_none_is P found is known = subst (λ o. IfNone o P) is known
 
 -- the first word is none of the names, or what follows the name is none of its options
 pub no_command : (words rest : List (List ℕ)) (first : List ℕ) → words ≡ first ∷ rest → (codes "serial" ≡ first → rest ≡ [] → ⊥)

@@ -16,7 +16,7 @@ use Rattle.program_ends.proofs.Telling as telling
 use Rattle.check_command.specs.CheckTells.{CheckTells, HasCheckInput}
 use Rattle.check_command.proofs.Telling as checking
 use Rattle.study_command.specs.StudyText.{IsStudyAnswer}
-use Rattle.replay_cli.specs.Commands.{Asks, HasInput, IsDone, Obeys, Told, usage, obeyed}
+use Rattle.replay_cli.specs.Commands.{Asks, HasInput, HasOptionWords, IsDone, Obeys, Told, usage, unread_options, obeyed}
 use Rattle.replay_cli.specs.MakeAnswer.{IsMakeAnswer, MakeTells, made as counted, no_memory as memory_out}
 use Rattle.make_summary.specs.declared.make.Make.{Make}
 use Rattle.replay_cli.specs.Headline.{IsSerialAnswer}
@@ -162,40 +162,59 @@ module _ {before after : SourceView} {depot depot' : DepotView} where
   obeys_holds (MakeCommand make) status text obeys = told_by_make make status text obeys.0
   obeys_holds Check status text obeys = told_by_check status text obeys.0
 
+-- each command may end for want of memory
+memory_ends : (command : Command) → IsDone command 7
+memory_ends Serial = inr (inr refl)
+memory_ends (Study study) = inr (inr refl)
+memory_ends (MakeCommand make) = inr (inr refl)
+memory_ends Check = inr (inr refl)
+
 -- no text goes with status 4
 pub not_four : {words : List (List ℕ)} {before after : SourceView} {depot depot' : DepotView} (status : ℕ) (text : List ℕ) → Told words (moved before after) (moved depot depot') status text → status ≢ 4
 not_four status text (usage other same kept) e = absurd (omega arith)
+not_four status text (unread_options begin same kept) e = absurd (omega arith)
 not_four status text (obeyed command n t asks obeys) e = (obeys_holds command n t obeys).not_four e
 
 module _ {words : List (List ℕ)} {before after : SourceView} {depot depot' : DepotView} where
   -- with status 1 the words ask for nothing
   told_usage : (status : ℕ) (text : List ℕ) → Told words (moved before after) (moved depot depot') status text → status ≡ 1 → (command : Command) → Asks words command → ⊥
   told_usage status text (usage other same kept) e = other
+  told_usage status text (unread_options begin same kept) e = absurd (omega (arith, e))
   told_usage status text (obeyed command n t asks obeys) e = absurd ((obeys_holds command n t obeys).not_one e)
 
-  told_one : (status : ℕ) (text : List ℕ) → Told words (moved before after) (moved depot depot') status text → ((command : Command) → Asks words command → ⊥) → status ≡ 1
-  told_one status text (usage other same kept) bad = refl
+  told_one : (status : ℕ) (text : List ℕ) → Told words (moved before after) (moved depot depot') status text → ((command : Command) → Asks words command → ⊥) → (status ≡ 1) ⊎ (HasOptionWords words × (status ≡ 7))
+  told_one status text (usage other same kept) bad = inl refl
+  told_one status text (unread_options begin same kept) bad = inr (begin, refl)
   told_one status text (obeyed command n t asks obeys) bad = absurd (bad command asks)
 
   told_read : (status : ℕ) (text : List ℕ) → Told words (moved before after) (moved depot depot') status text → status ≡ 3 → Rose before.failures after.failures
   told_read status text (usage other same kept) e = absurd (omega arith)
+  told_read status text (unread_options begin same kept) e = absurd (omega arith)
   told_read status text (obeyed command n t asks obeys) e = (obeys_holds command n t obeys).read e
 
   -- with status 6 the depot failed
   told_depot : (status : ℕ) (text : List ℕ) → Told words (moved before after) (moved depot depot') status text → status ≡ 6 → Rose depot.failures depot'.failures
   told_depot status text (usage other same kept) e = absurd (omega arith)
+  told_depot status text (unread_options begin same kept) e = absurd (omega arith)
   told_depot status text (obeyed command n t asks obeys) e = (obeys_holds command n t obeys).made e
 
   told_complete : (status : ℕ) (text : List ℕ) → Told words (moved before after) (moved depot depot') status text → (command : Command) → Asks words command → HasInput command before
       → (Rose before.failures after.failures → ⊥) → (Rose depot.failures depot'.failures → ⊥) → IsDone command status
   told_complete status text (usage other same_source kept) command asks input unfailed made = absurd (other command asks)
+  told_complete status text (unread_options begin same_source kept) command asks input unfailed made = memory_ends command
   told_complete status text (obeyed own n t own_asks obeys) command asks input unfailed made =
       let are = same words before command own asks own_asks in are.done n ((obeys_holds own n t obeys).complete (are.input input) unfailed made)
 
   -- the same of the status that is answered
   module _ {sink sink' : SinkView} {result : ℕ} (c : Concludes (Told words (moved before after) (moved depot depot')) sink sink' result) where
-    pub usage_status : ((command : Command) → Asks words command → ⊥) → (result ≡ 1) ⊎ (result ≡ 4)
-    usage_status bad = elim (its_status c) [ inl is ↦ inl (is ∙ told_one c.status c.text c.tells_it bad) | inr four ↦ inr four ]
+    pub usage_status : ((command : Command) → Asks words command → ⊥) → (result ≡ 1) ⊎ ((result ≡ 4) ⊎ (HasOptionWords words × (result ≡ 7)))
+    usage_status bad = elim (its_status c) [
+      | inl is ↦ elim (told_one c.status c.text c.tells_it bad) [
+        | inl one ↦ inl (is ∙ one)
+        | inr memory ↦ inr (inr (memory.0, is ∙ memory.1))
+      ]
+      | inr four ↦ inr (inl four)
+    ]
 
     pub no_usage_status : result ≡ 1 → (command : Command) → Asks words command → ⊥
     no_usage_status one = elim (its_status c) [

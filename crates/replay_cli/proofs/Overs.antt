@@ -26,5 +26,6 @@ run_over tells config taken dirty past rest depot depot' known formed over longe
       taken = taken;
       longer = longer;
       asked = its.asked;
+      few = its.few;
       written = its.written;
     }

@@ -7,7 +7,7 @@ use Rattle.outside_io.specs.Views.{SinkView, SourceView}
 use Rattle.pager_model.specs.Serial.{IsSerial}
 use Rattle.program_ends.specs.Concludes.{HasTold}
 use Rattle.program_ends.specs.Tells.{Reads, Tells, answered, faulty, unfinished, unread, no_memory}
-use Rattle.replay_cli.specs.Commands.{Asks, Obeys, Told, usage, obeyed}
+use Rattle.replay_cli.specs.Commands.{Asks, Obeys, Told, usage, unread_options, obeyed}
 use Rattle.disk_trait.specs.DepotView.{DepotView}
 use Rattle.replay_cli.specs.Headline.{IsFinishedRun, IsSerialAnswer, IsServed}
 use Rattle.replay_cli.specs.declared.words.Command.{Command}
@@ -62,6 +62,7 @@ module _ {source : Moved SourceView} {depot : Moved DepotView} where
 
   told_run : (words : List (List ℕ)) (status : ℕ) (text : List ℕ) → words ≡ codes "serial" ∷ [] → Told words source depot status text → IsFinal status → HasRun source depot status text
   told_run words status text is (usage other same kept) ends = absurd (not_both 1 1 ends refl (λ e. omega (arith, e)) (λ e. omega (arith, e)))
+  told_run words status text is (unread_options begin same kept) ends = absurd (not_both 7 7 ends refl (λ e. omega (arith, e)) (λ e. omega (arith, e)))
   told_run words status text is (obeyed command n t asks obeys) ends = obeys_run words command status text is asks obeys ends
 
   pub served : {words : List (List ℕ)} {sink : Moved SinkView} {status : ℕ} → (status ≢ 4 → HasTold (Told words source depot) sink.before sink.after status)

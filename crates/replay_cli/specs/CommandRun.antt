@@ -4,7 +4,7 @@ use Rattle.outside_io.specs.Causes.{Rose}
 use Rattle.vm_types.specs.Moved.{Moved}
 use Rattle.outside_io.specs.Views.{SinkView, SourceView}
 use Rattle.program_ends.specs.Concludes.{HasTold, WasCut}
-use Rattle.replay_cli.specs.Commands.{Asks, HasInput, IsDone, Told}
+use Rattle.replay_cli.specs.Commands.{Asks, HasInput, HasOptionWords, IsDone, Told}
 use Rattle.disk_trait.specs.DepotView.{DepotView}
 use Rattle.replay_cli.specs.Headline.{IsServed}
 use Rattle.replay_cli.specs.declared.words.Command.{Command}
@@ -17,8 +17,8 @@ pub record IsCommandRun (words : List (List ℕ)) (source : Moved SourceView) (d
   pub cut : status ≡ 4 → WasCut (Told words source depot) sink.before sink.after
   -- The headline: with status 0 or 5 `serial` has served the trace.
   pub served : words ≡ codes "serial" ∷ [] → (status ≡ 0) ⊎ (status ≡ 5) → IsServed source depot sink status
-  -- Status 1 comes exactly if the words ask for no command, unless the write fails.
-  pub usage : ((command : Command) → Asks words command → ⊥) → (status ≡ 1) ⊎ (status ≡ 4)
+  -- Status 1 comes exactly if the words ask for no command, unless the write fails, or memory runs out while options are read.
+  pub usage : ((command : Command) → Asks words command → ⊥) → (status ≡ 1) ⊎ ((status ≡ 4) ⊎ (HasOptionWords words × (status ≡ 7)))
   pub no_usage : status ≡ 1 → (command : Command) → Asks words command → ⊥
   -- Status 3 comes only if a read failed, 4 only if a write failed or took nothing, and 6 only if the depot failed.
   pub read_fault : status ≡ 3 → Rose source.before.failures source.after.failures

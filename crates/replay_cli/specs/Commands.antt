@@ -27,6 +27,10 @@ Asks words (Study study) = (options : List (List ℕ)) × (words ≡ codes "stud
 Asks words (Make make) = (options : List (List ℕ)) × (words ≡ codes "make" ∷ options) × AsksToMake options make
 Asks words Check = words ≡ codes "check" ∷ []
 
+-- the words begin with a command that has options
+abbrev pub HasOptionWords : List (List ℕ) → Type 0
+HasOptionWords words = (options : List (List ℕ)) × ((words ≡ codes "study" ∷ options) ⊎ (words ≡ codes "make" ∷ options))
+
 -- its numbers are ones that it takes
 abbrev pub IsBounded : Command → Type 0
 IsBounded Serial = Unit {0}
@@ -62,6 +66,8 @@ Obeys Check source depot status text = CheckTells source.before source.after sta
 pub data Told (words : List (List ℕ)) (source : Moved SourceView) (depot : Moved DepotView) : ℕ → List ℕ → Type 0 where
   -- no command line: nothing is read, and no block is made
   usage : ((command : Command) → Asks words command → ⊥) → source.after ≡ source.before → depot.after ≡ depot.before → Told words source depot 1 (status_line 1)
+  -- memory ran out while options were read: nothing is read, and no block is made
+  unread_options : HasOptionWords words → source.after ≡ source.before → depot.after ≡ depot.before → Told words source depot 7 (status_line 7)
   -- what the command tells
   obeyed : (command : Command) (status : ℕ) (text : List ℕ) → Asks words command → Obeys command source depot status text
       → Told words source depot status text

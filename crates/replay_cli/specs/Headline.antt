@@ -18,6 +18,7 @@ use Rattle.pager_model.specs.Text.{dirty_pages, run_text, status_line}
 use Rattle.pager_model.specs.WrittenBack.{AreWrittenBack}
 use Rattle.pager_laws.specs.Laws.{IsSoundThroughout}
 use Rattle.program_ends.specs.Tells.{Tells}
+use Rattle.serial_run.specs.FewRefusals.{HasFewRefusals}
 use Rattle.trace_reader.specs.Meaning.{Configuration, trace_of}
 
 -- The run of a configuration is over. `past` are its entries up to the report, `rest` those after it, and `Makes`
@@ -32,7 +33,8 @@ pub record IsRunOver (Makes : List Entry → Type 0) (depot : Moved DepotView) (
   -- At the report each request is answered, and the entries after it are the rundown.
   pub whole : IsWhole config past rest
   pub made : Makes past
-  -- At the opening and after each entry every frame has one state, with the counts that the page tables give.
+  -- At the opening and after each entry every frame has one state, with the counts that page tables and
+  -- pins give.
   pub sound : IsSoundThroughout config (rest ++ past)
   -- The depot took these blocks back, after those that it had taken back before.
   pub taken : List Retired
@@ -40,8 +42,11 @@ pub record IsRunOver (Makes : List Entry → Type 0) (depot : Moved DepotView) (
   -- They are the blocks of the configuration, each once. Each transfer of the entries was a call on its block, and no
   -- other call was made.
   pub asked : IsAsked (depot.before.tells).plan config (rest ++ past) taken
-  -- If the blocks' content is known, each block of a shared section has its page's bytes, unless that page is left
-  -- dirty, and each block of a copy on reference section has its first bytes.
+  -- One failed transfer of a process's seat refuses at most one request, and each failed transfer is a failure of a block.
+  pub few : HasFewRefusals config (rest ++ past) taken
+  -- If the blocks' content is known, each block in which a shared page lies has that page's bytes, unless the page
+  -- is left dirty, and each block of a copy on reference section has its first bytes. A shared page that lies nowhere
+  -- and isn't left dirty was never charged.
   pub written : AreWrittenBack (depot.before.tells).content config (rest ++ past) taken
 
 -- The status of a run: 5 if it left a shared page dirty, and else 0.

@@ -1,8 +1,9 @@
 //! The program's one call.
 
-ghost use Rattle.std.specs.Prelude.{◌≤◌, ◌≢◌};
+ghost use Rattle.std.specs.Prelude.{◌≡◌, ◌≤◌, ◌≢◌};
 ghost use Rattle.vm_types.specs.Moved.{moved};
 ghost use Rattle.vm_types.specs.Configuration.{IsWellFormed};
+ghost use Rattle.vm_types.specs.declared.config.Version.{Version};
 ghost use Rattle.program_ends.specs.Concludes.{Concludes, EndsAnswered, HasTold};
 ghost use Rattle.program_ends.specs.Wrongs.{IsWrong, IsWrongText, TellsWrong};
 ghost use Rattle.replay_cli.specs.CommandRun.{IsCommandRun};
@@ -31,7 +32,8 @@ fn run_config<K: Sink, D: Depot>(
     sink: &mut K,
     depot: &mut D,
 ) -> Status
-    requires { IsWellFormed config }
+    requires formed { IsWellFormed config }
+    requires version { config.version ≡ Version.One }
     ensures outcome { EndsAnswered (IsSerialAnswer (moved (D.seen depot.old) (D.seen depot.new)) config)
         (K.seen sink.old) (K.seen sink.new) result.0 }
     ensures depot_later { (D.seen depot.old).failures ≤ (D.seen depot.new).failures }
@@ -90,12 +92,13 @@ fn conclude<S: Source, K: Sink, D: Depot>(
     ensures faults_later { (S.seen source.old).failures ≤ (S.seen source.new).failures }
     ensures depot_later { (D.seen depot.old).failures ≤ (D.seen depot.new).failures }
 {
-    match command_of(words) {
-        None => (end_with(1, sink), None),
-        Some(Command::Serial) => serial(alloc, source, sink, depot, kept),
-        Some(Command::Study(study)) => study_trace(alloc, study, source, sink, kept),
-        Some(Command::Make(make)) => (run_made(alloc, make, sink, depot), None),
-        Some(Command::Check) => check(alloc, source, sink, kept),
+    match command_of(alloc, words) {
+        Err(_) => (end_with(7, sink), None),
+        Ok(None) => (end_with(1, sink), None),
+        Ok(Some(Command::Serial)) => serial(alloc, source, sink, depot, kept),
+        Ok(Some(Command::Study(study))) => study_trace(alloc, study, source, sink, kept),
+        Ok(Some(Command::Make(make))) => (run_made(alloc, make, sink, depot), None),
+        Ok(Some(Command::Check)) => check(alloc, source, sink, kept),
     }
 }
 

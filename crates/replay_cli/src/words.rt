@@ -1,11 +1,13 @@
-ghost use Rattle.std.specs.Prelude.{IfSome, IfNone, map};
-ghost use Rattle.replay_cli.specs.Commands.{Asks, IsBounded};
+ghost use Rattle.std.specs.Prelude.{◌≡◌, IfOk, IfSome, IfNone, OnErr, map};
+ghost use Rattle.replay_cli.specs.Commands.{Asks, HasOptionWords, IsBounded};
 ghost use Rattle.replay_cli.specs.declared.words.Command.{Command};
 
 use crate::make_words::make_of;
 use make_summary::Make;
+use std::alloc::Global;
 use study_command::{Study, first_word, study_of};
 use vm_text::is;
+use vm_types::NoMemory;
 
 /// What a command line asks for.
 #[derive(Clone, Copy, Debug, PartialEq, Eq)]
@@ -21,34 +23,44 @@ pub enum Command {
 }
 
 /// The command for which the words ask: the one word `serial` or `check`, or `study` and its two options,
-/// or `make` and its three. None if they are no command line. Doesn't allocate.
-pub fn command_of(words: &[&str]) -> Option<Command>
-    ensures some { IfSome result (Asks (map (λ word. word.now) words.now)) }
-    ensures none { IfNone result ((command : Command) → Asks (map (λ word. word.now) words.now) command → ⊥) }
-    ensures bounded { IfSome result IsBounded }
+/// or `make` and its three. None if they are no command line. Fails only if the first word is `study` or
+/// `make` and memory runs out.
+pub fn command_of<'a>(alloc: Global, words: &'a [&'a str]) -> Result<Option<Command>, NoMemory>
+    ensures some { IfOk result (λ found. IfSome found (Asks (map (λ word. word.now) words.now))) }
+    ensures none { IfOk result (λ found. IfNone found ((command : Command) → Asks (map (λ word. word.now) words.now) command → ⊥)) }
+    ensures bounded { IfOk result (λ found. IfSome found IsBounded) }
+    ensures memory { OnErr result (HasOptionWords (map (λ word. word.now) words.now)) }
 {
-    let (first, rest) = first_word(words)?;
+    let Some((first, rest)) = first_word(words) else {
+        return Ok(None);
+    };
     if is(first, b"serial") {
         return if rest.is_empty() {
-            Some(Command::Serial)
+            Ok(Some(Command::Serial))
         } else {
-            None
+            Ok(None)
         };
     }
     if is(first, b"check") {
         return if rest.is_empty() {
-            Some(Command::Check)
+            Ok(Some(Command::Check))
         } else {
-            None
+            Ok(None)
         };
     }
     if is(first, b"study") {
-        let study = study_of(rest)?;
-        return Some(Command::Study(study));
+        return match study_of(alloc, rest) {
+            Ok(Some(study)) => Ok(Some(Command::Study(study))),
+            Ok(None) => Ok(None),
+            Err(fault) => Err(fault),
+        };
     }
     if !is(first, b"make") {
-        return None;
+        return Ok(None);
     }
-    let make = make_of(rest)?;
-    Some(Command::Make(make))
+    match make_of(alloc, rest) {
+        Ok(Some(make)) => Ok(Some(Command::Make(make))),
+        Ok(None) => Ok(None),
+        Err(fault) => Err(fault),
+    }
 }

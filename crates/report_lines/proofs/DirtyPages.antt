@@ -4,6 +4,7 @@ use Rattle.std.specs.Prelude.{All, IsSomeAnd, if◌then◌else◌}
 use Rattle.std.specs.List.{range_with_len}
 use Rattle.std.proofs.lemmas.List.Elements.{All-append, All-filter, All-map, All-nil}
 use Rattle.vm_types.specs.Configuration.{IsWellFormed, section_pages}
+use Rattle.vm_types.specs.Kinds.{is_shared_kind}
 use Rattle.vm_types.specs.declared.config.Config.{Config}
 use Rattle.vm_types.specs.declared.config.Section.{Section}
 use Rattle.vm_types.specs.declared.names.Page.{Page}
@@ -31,8 +32,8 @@ module _ (procs : ℕ) (names : List Section) (are : AreNames procs names) where
   from_printable s [] sized = All-nil (IsPrintablePage names)
   from_printable s (section ∷ sections) sized =
       let pages = range_with_len 0 (section_pages section) in
-      All-append (IsPrintablePage names) (if section.shared then map (Shared (record { 0 = s })) pages else []) (pages_from (s + 1) sections)
-      (own_printable s section.shared pages (omega arith)) (from_printable (s + 1) sections (omega arith))
+      All-append (IsPrintablePage names) (if is_shared_kind section.kind then map (Shared (record { 0 = s })) pages else []) (pages_from (s + 1) sections)
+      (own_printable s (is_shared_kind section.kind) pages (omega arith)) (from_printable (s + 1) sections (omega arith))
 
 dirty_printable : (config : Config) (a : Pager) → IsWellFormed config → All (IsPrintablePage config.sections) (dirty_pages config a)
 dirty_printable config a formed =

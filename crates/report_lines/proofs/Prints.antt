@@ -23,7 +23,7 @@ small v (inr most) = omega (arith, most.1)
 short_name : (config : Config) (s i : ℕ) → IsWellFormed config → IsSectionPage config.sections s i → IsShortSection config.sections s
 short_name config s i formed there =
     let at = there.1 in
-    let named : IsSection there.0 = subst IsSection (get_or_from_slice_get config.sections s there.0 there.0 at) (formed.sections.each s there.0 (slice_get_within config.sections s there.0 at)) in
+    let named : IsSection config.version there.0 = subst (IsSection config.version) (get_or_from_slice_get config.sections s there.0 there.0 at) (formed.sections.each s there.0 (slice_get_within config.sections s there.0 at)) in
     subst (λ (o : Option Section). IsSomeAnd o (λ (section : Section). length section.name ≤ 15)) (sym at) named.name.length.1
 
 page_named : (config : Config) (g : Page) → IsWellFormed config → IsPageOf config g → IsPrintablePage config.sections g

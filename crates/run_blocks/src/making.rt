@@ -1,6 +1,7 @@
 ghost use Rattle.std.specs.Prelude.{◌≡◌, ◌+◌, ◌≤◌, ◌<◌, ◌++◌, ◌∷◌, [], Some, All, IfOk, IsErrOf, OnOk, length, map, replicate, slice_get};
 ghost use Rattle.std.specs.List.{range_with_len};
-ghost use Rattle.vm_types.specs.Configuration.{IsWellFormed, section_pages};
+ghost use Rattle.vm_types.specs.Configuration.{IsWellFormed};
+ghost use Rattle.vm_types.specs.SectionBlocks.{section_block_count};
 ghost use Rattle.vm_types.specs.declared.config.Section.{Section};
 ghost use Rattle.vm_types.specs.declared.names.BlockId.{BlockId};
 ghost use Rattle.disk_trait.specs.Causes.{Rose};
@@ -11,7 +12,7 @@ ghost use Rattle.run_blocks.specs.Causes.{HasCause};
 
 use crate::planned::planned_calls;
 use disk_trait::{Block, Depot, MakeFault};
-use frame_store::block_count;
+use frame_store::{block_count, section_block_count};
 use std::alloc::Global;
 use vm_types::{BlockId, Config, Proc, SecId, Section};
 
@@ -55,7 +56,7 @@ fn make_one_of_zeros<D: Depot>(
     }
 }
 
-/// Makes the blocks of a section of the configuration.
+/// Makes the blocks of a section of the configuration: one for each page, and none in the page file.
 fn make_section<D: Depot>(
     config: &Config,
     depot: &mut D,
@@ -66,12 +67,12 @@ fn make_section<D: Depot>(
     requires formed { IsWellFormed config.now }
     requires there { Some section.now ≡ slice_get config.now.sections s.0 }
     ensures adds { OnOk result (Adds D.Block.seen D.Block.tells
-        config.now (map (section_block s.0) (range_with_len 0 (section_pages section.now))) blocks.old.items blocks.new.items) }
+        config.now (map (section_block s.0) (range_with_len 0 (section_block_count section.now))) blocks.old.items blocks.new.items) }
     ensures retired { (D.seen depot.new).retired ≡ (D.seen depot.old).retired }
     ensures cause { HasCause (D.seen depot.old).failures (D.seen depot.new).failures result }
 {
     let bytes = section.bytes.items();
-    for i in 0..(bytes.len() / 512) as u32 {
+    for i in 0..section_block_count(section) as u32 {
         let from = 512 * i as usize;
         let id = BlockId::Section(s, i);
         make_one(config, depot, id, &bytes[from..from + 512], blocks)?;

@@ -4,4 +4,4 @@
 mod counts;
 mod run_record;
 
-pub use run_record::RunRecord;
+pub use run_record::{RunRecord, record_is_moved};

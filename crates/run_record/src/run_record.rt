@@ -103,7 +103,8 @@ impl RunRecord {
 
     /// The entries, oldest first, if they are kept; else no entries. Doesn't allocate.
     pub fn entries(&self) -> &[Entry]
-        ensures { self.now.keeps ≡ true → result.now ≡ self.now.entries }
+        ensures kept { self.now.keeps ≡ true → result.now ≡ self.now.entries }
+        ensures none { self.now.keeps ≡ false → result.now ≡ [] }
     {
         match &self.kept {
             Kept::All(entries) => entries.as_slice(),
@@ -187,4 +188,11 @@ impl RunRecord {
             Kept::Counts(..) => Vec::new(alloc),
         }
     }
+}
+
+fn is_send<X: Send>(_: &X) {}
+
+/// A record may be moved to another thread.
+pub fn record_is_moved(run_record: &RunRecord) {
+    is_send(run_record);
 }

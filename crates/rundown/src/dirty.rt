@@ -7,7 +7,7 @@ ghost use Rattle.rundown.specs.DirtyPages.{shared_pages_of};
 use disk_trait::Block;
 use std::alloc::Global;
 use vm_state::State;
-use vm_types::{NoMemory, Page, SecId, Section};
+use vm_types::{NoMemory, Page, SecId, Section, is_shared_kind};
 
 /// Whether a frame holds a page with modify set. A shared page is of a section of the configuration.
 fn is_dirty<B: Block>(state: &State<B>, page: Page) -> bool
@@ -59,7 +59,7 @@ fn add_dirty<B: Block>(
         ≡ pages.old.items ++ filter (is_dirty state.now.config (pager state.now)) (shared_pages_of s.0 section.now)) }
 {
     state.run_law();
-    if !section.shared {
+    if !is_shared_kind(section.kind) {
         return Ok(());
     }
     let bytes = section.bytes.items();

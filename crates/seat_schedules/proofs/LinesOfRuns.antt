@@ -14,6 +14,6 @@ all_turned P xs all = All-from_recursion P (reverse xs) (all_reverse P xs (recur
 pub are_names : (config : Config) → IsWellFormed config → AreNames (length config.procs) config.sections
 are_names config formed = record {
   few = formed.some_process.1;
-  named = All-weaker IsSection (λ (section : Section). IsName section.name) (λ section is. is.name) config.sections formed.sections.each;
+  named = All-weaker (IsSection config.version) (λ (section : Section). IsName section.name) (λ section is. is.name) config.sections formed.sections.each;
   differ = formed.sections.differ;
 }

@@ -77,12 +77,12 @@ module _ (config : Config) (past : List Entry) (a : Pager) (p : ℕ) (r : Ref) w
   held_reads : (g : Page) (o : Option ℕ) → ReadsShaped p r (held_given config past a p r g o)
   held_reads g (Some f) = record { shape = tt }
   held_reads g None =
-      let source = source_of a g (a.map p (page_number (r.addr).0)) in
+      let source = source_of config a g (a.map p (page_number (r.addr).0)) in
       either p r (is_busy_block past source) _ _ (record { shape = tt }) (frame_reads g source a.free)
 
   room_reads : (g : Page) → ReadsShaped p r (room_given config past a p r g)
   room_reads g =
-      either p r (is_uncharged a g && nat_eq (length a.charged) config.pagefile) _ _ (record { shape = tt })
+      either p r (is_uncharged config a g && nat_eq (length a.charged) config.pagefile) _ _ (record { shape = tt })
       (either p r (nat_le (a.limit p) (filled (a.ring p).slots)) _ _ (seen_reads (seen_at a p (victim_of (choose (a.ring p) (a.limit p))))) (held_reads g (holder config a.page g)))
 
   read_reads : (g : Page) (f : ℕ) (o : Option Flight) → ReadsShaped p r (read_given config past a p r g f o)

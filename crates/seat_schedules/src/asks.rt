@@ -1,5 +1,5 @@
 ghost use Rattle.std.specs.Prelude.{◌≡◌, ◌+◌, ◌<◌, length};
-ghost use Rattle.vm_types.specs.WellFormed.{IsWellFormedReference, IsWellFormedService};
+ghost use Rattle.vm_types.specs.WellFormed.{IsServiceOf, IsWellFormedReference, IsWellFormedService};
 ghost use Rattle.seat_schedules.specs.AtWork.{HasWorked, IsFreeSeat, idle};
 
 use crate::went::Went;
@@ -34,6 +34,7 @@ fn refer<B: Block>(state: &mut State<B>, worker: &mut Worker<B>, seat: Seat, r: 
 fn serve_next<B: Block>(state: &mut State<B>, seat: Seat, s: Service) -> Went
     requires process { seat.0 < length state.old.config.procs }
     requires formed { IsWellFormedService s }
+    requires known { IsServiceOf state.old.config.version s }
     requires free { IsFreeSeat state.old seat }
     ensures { HasWorked B.seen B.tells state.old state.new seat (idle seat) }
 {

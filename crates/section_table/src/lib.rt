@@ -5,5 +5,5 @@ mod laying;
 mod part;
 mod sections;
 
-pub use part::{Kind, Part};
+pub use part::Part;
 pub use sections::Sections;

@@ -2,22 +2,12 @@ ghost use Rattle.std.specs.Prelude.{◌≡◌, IfOk, map};
 ghost use Rattle.section_table.specs.SectionTable.{backs_private, backs_shared, part_of, private_home, shared_home};
 
 use std::alloc::{AllocError, Global};
-use vm_types::{BlockId, Origin, SecId, Section};
-
-/// What the pages of a section are to the processes that map it. Source: Kenah and Bate, "VAX/VMS
-/// Internals and Data Structures", memory structures.
-#[derive(Clone, Copy, Debug, PartialEq, Eq)]
-pub enum Kind {
-    /// One page for all processes; the file has its bytes.
-    Shared,
-    /// A page of each process's own, with the file's bytes at its first touch.
-    CopyOnReference,
-}
+use vm_types::{BlockId, Origin, SecId, Section, SectionKind};
 
 /// A section's kind and the number of its pages.
 #[derive(Clone, Copy, Debug, PartialEq, Eq)]
 pub struct Part {
-    pub kind: Kind,
+    pub kind: SectionKind,
     pub pages: usize,
 }
 
@@ -25,13 +15,8 @@ pub struct Part {
 fn part_of(section: &Section) -> Part
     ensures { result ≡ part_of section.now }
 {
-    let kind = if section.shared {
-        Kind::Shared
-    } else {
-        Kind::CopyOnReference
-    };
     Part {
-        kind,
+        kind: section.kind,
         pages: section.bytes.items().len() / 512,
     }
 }
@@ -47,22 +32,22 @@ pub fn parts_of(alloc: Global, sections: &[Section]) -> Result<Vec<Part>, AllocE
 }
 
 /// Whether a shared page of such a section lies in its section block.
-fn backs_shared(kind: Kind) -> bool
+fn backs_shared(kind: SectionKind) -> bool
     ensures { result ≡ backs_shared kind }
 {
     match kind {
-        Kind::Shared => true,
-        Kind::CopyOnReference => false,
+        SectionKind::Shared => true,
+        SectionKind::Crf | SectionKind::Paged => false,
     }
 }
 
 /// Whether a process's own page over such a section has a section block behind it.
-fn backs_private(kind: Kind) -> bool
+fn backs_private(kind: SectionKind) -> bool
     ensures { result ≡ backs_private kind }
 {
     match kind {
-        Kind::Shared => false,
-        Kind::CopyOnReference => true,
+        SectionKind::Crf => true,
+        SectionKind::Shared | SectionKind::Paged => false,
     }
 }
 

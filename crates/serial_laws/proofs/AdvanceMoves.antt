@@ -28,7 +28,7 @@ use Rattle.pager_model.specs.Flights.{Flight, open_flights}
 use Rattle.pager_model.specs.Forget.{holder}
 use Rattle.pager_model.specs.Given.{Seen, by_seat, eviction, given, is_stopped, page_address, pfn, seen_at}
 use Rattle.pager_model.specs.Lookups.{count_page, entry_of, is_pending, is_resident, page_at, page_by}
-use Rattle.pager_model.specs.Maps.{Map, Mapped, is_private, page_behind, page_number, proc}
+use Rattle.pager_model.specs.Maps.{Map, Mapped, is_paged, page_behind, page_number, proc}
 use Rattle.pager_model.specs.Moves.{asking, control, rests}
 use Rattle.pager_model.specs.Pager.{Pager, Valid}
 use Rattle.pager_model.specs.Policy.{advance_move_by, ends_request, next_task}
@@ -39,10 +39,10 @@ use Rattle.pager_model.specs.Transfers.{is_on_block, is_read_on}
 use Rattle.pager_rules.specs.Kept.{IsKept}
 use Rattle.pager_laws.proofs.FlatFollows.{IsFollowed, follows}
 use Rattle.pager_laws.proofs.RunsAreSound.{run_kept}
-use Rattle.state_fits.proofs.Holders.{none_listed}
+use Rattle.page_holders.proofs.Holders.{none_listed}
 use Rattle.serial_laws.specs.Between.{IsBetween}
 use Rattle.serial_laws.specs.Controlled.{AreTouched, IsRead}
-use Rattle.serial_laws.proofs.Advances.{done_touches, more_touched, read_for, shared_uncharged}
+use Rattle.serial_laws.proofs.Advances.{done_touches, more_touched, read_for, unpaged_uncharged}
 use Rattle.serial_laws.proofs.Begins.{stopped_some, writing_known}
 use Rattle.serial_laws.proofs.Fetches.{reads_of_page, unmet, zero_known}
 use Rattle.serial_laws.proofs.Finds.{finding_known, not_alone}
@@ -54,12 +54,12 @@ use Rattle.serial_laws.proofs.Victims.{victim_seen}
 use Rattle.serial_laws.proofs.Work.{IsWork, calm_quiet, request_work, touched_calm}
 
 -- an answer touches no page less
-still_listed : (touched : List Page) (o : Option Page) (g : Page) → count_page touched g ≤ count_page (touched_at touched o) g
-still_listed touched None g = omega arith
-still_listed touched (Some page) g = more_touched touched page g
+still_listed : (config : Config) (touched : List Page) (o : Option Page) (g : Page) → count_page touched g ≤ count_page (touched_at config touched o) g
+still_listed config touched None g = omega arith
+still_listed config touched (Some page) g = more_touched config touched page g
 
 done_touched : (config : Config) (a : Pager) (p : ℕ) (r : Ref) → AreTouched a → AreTouched (after_done config a p r)
-done_touched config a p r old g some = let before = old g some in let more = still_listed a.touched (page_by config a.map p (page_number (r.addr).0)) g in omega (arith, before, more)
+done_touched config a p r old g some = let before = old g some in let more = still_listed config a.touched (page_by config a.map p (page_number (r.addr).0)) g in omega (arith, before, more)
 
 -- what the flat machine doesn't refuse is mapped, and the page file has room for it
 record IsUnrefused (config : Config) (flat : FlatState) (p : ℕ) (r : Ref) : Type 0 where
@@ -105,7 +105,7 @@ module _ (config : Config) (past : List Entry) (between : IsBetween config past)
     work = request_work config past task process next (unmet config past between Rest task process next r own resident touched none invalid g mapped) touched
 
     -- no charge is waited for: the touched pages are as many as the charged ones
-    not_charging : is_uncharged a g ≡ true → nat_eq (length a.charged) config.pagefile ≡ true → ⊥
+    not_charging : is_uncharged config a g ≡ true → nat_eq (length a.charged) config.pagefile ≡ true → ⊥
     not_charging uncharged full = by (unrefused config (flat_after config past) p r ((flat_after config past).map p v) refl none)
       where
         as_many : length a.touched ≡ config.pagefile
@@ -115,17 +115,17 @@ module _ (config : Config) (past : List Entry) (between : IsBetween config past)
             let count = eqb-true (length a.charged) config.pagefile full in
             omega (arith, up, down, count)
 
-        is_private_page : is_private g ≡ true
-        is_private_page = (and_parts (is_private g) _ uncharged).0
+        is_paged_page : is_paged config g ≡ true
+        is_paged_page = (and_parts (is_paged config g) _ uncharged).0
 
         not_listed : has_page a.touched g ≡ false
-        not_listed = none_listed a.touched g (let less = (kept.pages g).touched in let zero = eqb-true (count_page a.charged g) 0 (and_parts (is_private g) _ uncharged).1 in omega (arith, less, zero))
+        not_listed = none_listed a.touched g (let less = (kept.pages g).touched in let zero = eqb-true (count_page a.charged g) 0 (and_parts (is_paged config g) _ uncharged).1 in omega (arith, less, zero))
 
         by : IsUnrefused config (flat_after config past) p r → ⊥
         by free =
             let there : a.map p v ≡ Some free.mapping = ap (λ (m : Map). m p v) followed.map ∙ free.mapped in
             let page : g ≡ page_behind config p v free.mapping.origin = same_Some g _ (sym mapped ∙ ap (page_at config p v) there) in
-            let untouched : is_untouched (flat_after config past) g ≡ true = and_from _ _ is_private_page (ap (λ (pages : List Page). not (has_page pages g)) (sym followed.touched) ∙ ap not not_listed) in
+            let untouched : is_untouched config (flat_after config past) g ≡ true = and_from _ _ is_paged_page (ap (λ (pages : List Page). not (has_page pages g)) (sym followed.touched) ∙ ap not not_listed) in
             let many : nat_eq (length (flat_after config past).touched) config.pagefile ≡ true = ap (λ (pages : List Page). nat_eq (length pages) config.pagefile) (sym followed.touched) ∙ eq-eqb _ _ as_many in
             false≢true (sym free.room ∙ (ap (is_page_file_full config (flat_after config past)) (sym page) ∙ and_from _ _ untouched many))
 
@@ -141,7 +141,7 @@ module _ (config : Config) (past : List Entry) (between : IsBetween config past)
             (λ free. evict_known config past Rest p p s.vpn s.frame evict.Replace (control asking) (work.done _ (calm_quiet config past _ (evict_quiet config past p p s.vpn s.frame evict.Replace)))))
 
     -- a page that is out is fetched, or a frame is found
-    framed : (o : Option BlockId) → source_of a g (a.map p v) ≡ o → (free : List ℕ) → a.free ≡ free → Advances (frame_given config a p r g o free)
+    framed : (o : Option BlockId) → source_of config a g (a.map p v) ≡ o → (free : List ℕ) → a.free ≡ free → Advances (frame_given config a p r g o free)
     framed o source [] free = finding_known config past between p Rest p ends_request asking work rests (λ no_modified no_leaver no_victim. not_alone config past between p process free no_modified no_leaver no_victim)
     framed None source (f ∷ frames) free = zero_known config past between Rest task process next r own resident touched none invalid g mapped f source
     framed (Some b) source (f ∷ frames) free = reads_of_page config past between Rest task process next r own resident touched none invalid g mapped f frames b source
@@ -168,13 +168,13 @@ module _ (config : Config) (past : List Entry) (between : IsBetween config past)
       };
     }
     held None =
-        either (is_busy_block past (source_of a g (a.map p v))) (gives_again again_block_busy) (frame_given config a p r g (source_of a g (a.map p v)) a.free)
-        (λ busy. absurd (false≢true (sym (idle_block (source_of a g (a.map p v))) ∙ busy))) (λ idle. framed (source_of a g (a.map p v)) refl a.free refl)
+        either (is_busy_block past (source_of config a g (a.map p v))) (gives_again again_block_busy) (frame_given config a p r g (source_of config a g (a.map p v)) a.free)
+        (λ busy. absurd (false≢true (sym (idle_block (source_of config a g (a.map p v))) ∙ busy))) (λ idle. framed (source_of config a g (a.map p v)) refl a.free refl)
 
     roomed : Advances (room_given config past a p r g)
     roomed =
-        either (is_uncharged a g && nat_eq (length a.charged) config.pagefile) (gives_again again_charging) _
-        (λ charging. let both = and_parts (is_uncharged a g) (nat_eq (length a.charged) config.pagefile) charging in absurd (not_charging both.0 both.1))
+        either (is_uncharged config a g && nat_eq (length a.charged) config.pagefile) (gives_again again_charging) _
+        (λ charging. let both = and_parts (is_uncharged config a g) (nat_eq (length a.charged) config.pagefile) charging in absurd (not_charging both.0 both.1))
         (λ room. either (nat_le (a.limit p) (filled (a.ring p).slots)) (replace_given config past a p) (held_given config past a p r g (holder config a.page g)) (λ full. replaced (leb-true (a.limit p) (filled (a.ring p).slots) full)) (λ less. held (holder config a.page g)))
 
     -- no frame is being read
@@ -200,7 +200,7 @@ module _ (config : Config) (past : List Entry) (between : IsBetween config past)
       where
         by : AreTouched a ⊎ IsRead config past → AreTouched (after_done config a p r)
         by (inl touched) = done_touched config a p r touched
-        by (inr read) = let known = read_for config past task r next own read in done_touches config a p r known.page known.mapped (λ shared. shared_uncharged config past between known.page shared) known.others
+        by (inr read) = let known = read_for config past task r next own read in done_touches config a p r known.page known.mapped (λ shared. unpaged_uncharged config past between known.page shared) known.others
     entered none None invalid = mapped_in (page_by config a.map p v) refl (by charges)
       where
         by : AreTouched a ⊎ IsRead config past → AreTouched a

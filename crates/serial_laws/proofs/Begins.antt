@@ -1,5 +1,5 @@
 -- A write cluster that is begun has a write: the head of the modified list has a block.
-use Rattle.std.proofs.Common.{◌≡◌, ℕ, zero, suc, ◌<◌, ◌≤◌, ◌||◌, Bool, true, false, cond, List, [], ◌∷◌, Option, Some, None, length, nat_eq, nat_le, refl, sym, ap, ◌∙◌, subst, arith}
+use Rattle.std.proofs.Common.{◌≡◌, ℕ, zero, suc, ◌<◌, ◌≤◌, ◌||◌, Bool, true, false, cond, List, [], ◌∷◌, Option, Some, None, length, nat_eq, nat_le, refl, sym, ap, ◌∙◌, subst, arith, true≢false}
 use Rattle.std.proofs.lemmas.Bool.{and_parts, eqb-false, leb-true, ne_eqb, or_from, or_parts}
 use Rattle.vm_types.specs.declared.names.Page.{Page}
 use Rattle.vm_types.specs.declared.names.Page.TheVariants.{Private, Shared}
@@ -18,12 +18,13 @@ use Rattle.pager_model.specs.Moves.{Control, carries}
 use Rattle.pager_model.specs.Pager.{Pager}
 use Rattle.pager_model.specs.Policy.{Ends, unless_all_failed, writing_move}
 use Rattle.pager_model.specs.Run.{pager_after}
-use Rattle.pager_model.specs.WriteCluster.{BeginIs, Reason, begin_carry, begin_gives, begin_nothing, block_out, is_enough, paged_block, reason_need, shared_block, writes_from, writes_taken}
+use Rattle.pager_model.specs.WriteCluster.{BeginIs, Reason, begin_carry, begin_gives, begin_nothing, block_out, filed_block, is_enough, paged_block, reason_need, writes_from, writes_taken}
 use Rattle.pager_rules.proofs.Basics.{count_cons_yes, nat_eq_refl}
 use Rattle.pager_rules.proofs.Frames.{at_state, modified_frame}
 use Rattle.pager_rules.specs.Kept.{IsKept}
 use Rattle.pager_laws.proofs.RunsAreSound.{run_kept}
 use Rattle.page_lists.specs.Lists.{count_of}
+use Rattle.pager_model.specs.Maps.{is_paged}
 use Rattle.serial_laws.specs.Between.{IsBetween}
 use Rattle.serial_laws.specs.Controlled.{IsControlled}
 use Rattle.serial_laws.proofs.Known.{MoveIsKnown}
@@ -57,12 +58,22 @@ module _ (config : Config) (past : List Entry) (between : IsBetween config past)
 
   -- the block of a listed page
   has_block : (f : ℕ) (g : Page) → a.page f ≡ Some g → (b : BlockId) × (block_out config a None (Some g) ≡ Some b)
-  has_block f (Shared s i) holds = (block.Section s i, ap (λ (o : Option BlockId). shared_block None o) ((kept.pages (Shared s i)).shared s i refl))
-  has_block f (Private p v) holds = by (block_of a.assigned (Private p v)) refl
+  has_block f g holds = by_kind (is_paged config g) refl
     where
-      by : (o : Option ℕ) → block_of a.assigned (Private p v) ≡ o → (b : BlockId) × (paged_block config a None o ≡ Some b)
-      by (Some n) is = (block.PageFile n, refl)
-      by None is = has_free_block config (past_view past) a kept (Private p v) (kept.held_charged f (Private p v) refl holds) is
+      taken : Bool → Option BlockId
+      taken c = cond c (paged_block config a None (block_of a.assigned g)) (filed_block None (a.lies g))
+
+      owned : is_paged config g ≡ true → (o : Option ℕ) → block_of a.assigned g ≡ o → (b : BlockId) × (paged_block config a None o ≡ Some b)
+      owned paged (Some n) is = (block.PageFile n, refl)
+      owned paged None is = has_free_block config (past_view past) a kept g (kept.held_charged f g paged holds) is
+
+      filed : (h : Page) → is_paged config h ≡ false → (b : BlockId) × (filed_block None (a.lies h) ≡ Some b)
+      filed (Private p v) file = absurd (true≢false file)
+      filed (Shared s i) file = (block.Section s i, ap (λ (o : Option BlockId). filed_block None o) ((kept.pages (Shared s i)).shared s i refl file))
+
+      by_kind : (c : Bool) → is_paged config g ≡ c → (b : BlockId) × (block_out config a None (Some g) ≡ Some b)
+      by_kind true paged = let found = owned paged (block_of a.assigned g) refl in (found.0, ap taken paged ∙ found.1)
+      by_kind false file = let found = filed g file in (found.0, ap taken file ∙ found.1)
 
   listed_page : (f : ℕ) → 0 < count_of a.modified f → (g : Page) × (a.page f ≡ Some g)
   listed_page f listed = (at_state (frame_view config (past_view past) a f) state.Modified (modified_frame (frame_view config (past_view past) a f) (kept.frames f) listed) (kept.frames f)).page

@@ -1,7 +1,7 @@
 -- A page that is out is fetched: made of zeros, or read with its neighbours.
-use Rattle.std.proofs.Common.{◌≡◌, ◌⊎◌, inl, inr, ℕ, ◌-◌, ◌*◌, ◌<◌, ◌≤◌, ◌++◌, Bool, true, false, cond, List, [], ◌∷◌, Option, Some, None, length, map, refl, sym, ap, ap₂, ◌∙◌, subst, arith}
+use Rattle.std.proofs.Common.{◌≡◌, ◌⊎◌, inl, inr, ℕ, ◌-◌, ◌*◌, ◌<◌, ◌≤◌, ◌++◌, Bool, true, false, cond, List, [], ◌&&◌, ◌∷◌, Option, Some, None, length, map, refl, sym, ap, ap₂, ◌∙◌, subst, arith, nat_eq}
 use Rattle.std.specs.List.{AllByRecursion, range_with_len}
-use Rattle.std.proofs.lemmas.Bool.{and_parts, false≢true, true≢false}
+use Rattle.std.proofs.lemmas.Bool.{false≢true, true≢false}
 use Rattle.std.proofs.lemmas.Option.{none-some, same_Some}
 use Rattle.vm_types.specs.Same.{same_page}
 use Rattle.vm_types.specs.declared.names.Addr.{Addr}
@@ -23,7 +23,7 @@ use Rattle.vm_journal.specs.declared.entry.Role.{Role}
 use Rattle.vm_journal.specs.declared.entry.Role.TheVariants as role
 use Rattle.vm_journal.specs.declared.entry.What.{What}
 use Rattle.vm_journal.specs.declared.entry.What.TheVariants as what
-use Rattle.pager_model.specs.Advance.{cluster_targets, following, is_out, is_uncharged, near_target, near_targets, source_of, window}
+use Rattle.pager_model.specs.Advance.{cluster_targets, first_source, following, is_out, is_uncharged, near_target, near_targets, source_of, window}
 use Rattle.pager_model.specs.Around.{past_view}
 use Rattle.pager_model.specs.ClusterLength.{cluster_length, leading_out}
 use Rattle.pager_model.specs.Changes.{is_section_block}
@@ -35,7 +35,7 @@ use Rattle.pager_model.specs.Given.{Target, by_seat, made_by, page_address, pfn,
 use Rattle.pager_model.specs.In.{charged_with}
 use Rattle.pager_model.specs.Landings.{Outcome, carrier_of, first_bad, landed_by}
 use Rattle.pager_model.specs.Lookups.{count_page, entry_of, is_entry, page_by, section_at}
-use Rattle.pager_model.specs.Maps.{Map, is_private, page_behind, page_number, proc}
+use Rattle.pager_model.specs.Maps.{Map, is_paged, is_private, page_number, proc}
 use Rattle.pager_model.specs.Moves.{Control, asking, carries, control, goes, makes, refuses, saving}
 use Rattle.pager_model.specs.Pager.{Pager, Valid}
 use Rattle.pager_model.specs.Policy.{next_task, unless_first_failed}
@@ -43,8 +43,9 @@ use Rattle.pager_model.specs.Reuse.{charged_reused}
 use Rattle.pager_model.specs.Run.{pager_after}
 use Rattle.pager_model.specs.Spoken.{flat_after}
 use Rattle.pager_model.specs.Transfers.{is_fault}
+use Rattle.pager_model.specs.Zero.{zeroed_page}
 use Rattle.pager_rules.proofs.Basics.{count_cons_no, count_from_no_find, pages_equal, same_page_refl}
-use Rattle.pager_rules.proofs.Pages.{own_is, section_is}
+use Rattle.pager_rules.proofs.Pages.{first_private, not_first, section_is, zeroed_is}
 use Rattle.pager_rules.proofs.Quiet.{no_failure}
 use Rattle.pager_rules.specs.Kept.{IsKept}
 use Rattle.pager_laws.proofs.RunsAreSound.{run_kept}
@@ -106,25 +107,29 @@ module _ (config : Config) (past : List Entry) (between : IsBetween config past)
   charges_stay x = ap (λ (o : Option Flight). charged_reused o x a.charged) (no_failure past between.reused)
 
   -- ---- zeros
-  no_source : (h : Page) → g ≡ h → source_of a h (a.map p v) ≡ None → is_private h ≡ true
+  no_source : (h : Page) → g ≡ h → source_of config a h (a.map p v) ≡ None → is_paged config h ≡ true
   no_source (Private q w) same is = refl
-  no_source (Shared s i) same is = absurd (none-some _ (sym is ∙ (kept.pages (Shared s i)).shared s i refl))
+  no_source (Shared s i) same is = go (is_paged config (Shared s i)) refl
+    where
+      go : (c : Bool) → is_paged config (Shared s i) ≡ c → is_paged config (Shared s i) ≡ true
+      go true paged = paged
+      go false file = absurd (none-some _ (sym is ∙ (ap (λ (b : Bool). cond (b && nat_eq (count_page a.charged (Shared s i)) 0) None (a.lies (Shared s i))) file ∙ (kept.pages (Shared s i)).shared s i refl file)))
 
   -- only this page is charged
-  zero_charged : (charged : List Page) (h : Page) → is_private g ≡ true → (h ≡ g → ⊥) → count_page (page_behind config p (page_number (512 * v)) origin.Zero ∷ charged) h ≡ count_page charged h
-  zero_charged charged h private apart = count_cons_no (same_page h) _ charged (by (same_page h (page_behind config p (page_number (512 * v)) origin.Zero)) refl)
+  zero_charged : (charged : List Page) (h : Page) → (h ≡ g → ⊥) → count_page (zeroed_page config p (page_number (512 * v)) (a.map p (page_number (512 * v))) ∷ charged) h ≡ count_page charged h
+  zero_charged charged h apart = count_cons_no (same_page h) _ charged (by (same_page h (zeroed_page config p (page_number (512 * v)) (a.map p (page_number (512 * v))))) refl)
     where
-      by : (c : Bool) → same_page h (page_behind config p (page_number (512 * v)) origin.Zero) ≡ c → c ≡ false
+      by : (c : Bool) → same_page h (zeroed_page config p (page_number (512 * v)) (a.map p (page_number (512 * v)))) ≡ c → c ≡ false
       by false is = refl
-      by true is = absurd (apart (pages_equal h _ is ∙ (ap (λ (n : ℕ). Private (proc p) n) (same_number v) ∙ sym (own_is config a.map p v g mapped private))))
+      by true is = absurd (apart (pages_equal h _ is ∙ (ap (λ (n : ℕ). zeroed_page config p n (a.map p n)) (same_number v) ∙ zeroed_is config p v (a.map p v) g mapped)))
 
-  zero_touches : (f : ℕ) (reply : Reply) (o : Option Page) → is_private g ≡ true → AreTouched (pager_after config (made_by p (map (with_reply reply) (reuse_first o f (what.Zero (page_address v) (pfn f) ∷ what.Done r unsaid ∷ []))) past))
-  zero_touches f reply None private =
-      done_touches config (pager_after config (by_seat p (what.Zero (page_address v) (pfn f)) ∷ past)) p r g mapped (λ shared. absurd (true≢false (sym private ∙ shared)))
-      (λ h apart some. touched h (let same = zero_charged a.charged h private apart in omega (arith, some, same)))
-  zero_touches f reply (Some x) private =
-      done_touches config (pager_after config (by_seat p (what.Zero (page_address v) (pfn f)) ∷ by_seat p (what.Reuse (pfn f) x) ∷ past)) p r g mapped (λ shared. absurd (true≢false (sym private ∙ shared)))
-      (λ h apart some. touched h (let same = zero_charged (charged_reused (failed_flight past) x a.charged) h private apart in let stays = ap (λ (pages : List Page). count_page pages h) (charges_stay x) in omega (arith, some, same, stays)))
+  zero_touches : (f : ℕ) (reply : Reply) (o : Option Page) → is_paged config g ≡ true → AreTouched (pager_after config (made_by p (map (with_reply reply) (reuse_first o f (what.Zero (page_address v) (pfn f) ∷ what.Done r unsaid ∷ []))) past))
+  zero_touches f reply None paged =
+      done_touches config (pager_after config (by_seat p (what.Zero (page_address v) (pfn f)) ∷ past)) p r g mapped (λ file. absurd (true≢false (sym paged ∙ file)))
+      (λ h apart some. touched h (let same = zero_charged a.charged h apart in omega (arith, some, same)))
+  zero_touches f reply (Some x) paged =
+      done_touches config (pager_after config (by_seat p (what.Zero (page_address v) (pfn f)) ∷ by_seat p (what.Reuse (pfn f) x) ∷ past)) p r g mapped (λ file. absurd (true≢false (sym paged ∙ file)))
+      (λ h apart some. touched h (let same = zero_charged (charged_reused (failed_flight past) x a.charged) h apart in let stays = ap (λ (pages : List Page). count_page pages h) (charges_stay x) in omega (arith, some, same, stays)))
 
   zero_some : (f : ℕ) (o : Option Page) → 0 < length (reuse_first o f (what.Zero (page_address v) (pfn f) ∷ what.Done r unsaid ∷ []))
   zero_some f None = omega arith
@@ -134,7 +139,7 @@ module _ (config : Config) (past : List Entry) (between : IsBetween config past)
   zero_no_turn f None q s is = absurd (cc)
   zero_no_turn f (Some x) q s is = absurd (cc)
 
-  pub zero_known : (f : ℕ) → source_of a g (a.map p v) ≡ None → MoveIsKnown config past Rest (makes p (reuse_first (a.page f) f (what.Zero (page_address v) (pfn f) ∷ what.Done r unsaid ∷ [])) (control (saving false p)))
+  pub zero_known : (f : ℕ) → source_of config a g (a.map p v) ≡ None → MoveIsKnown config past Rest (makes p (reuse_first (a.page f) f (what.Zero (page_address v) (pfn f) ∷ what.Done r unsaid ∷ [])) (control (saving false p)))
   zero_known f source = record {
     known = record {
       some = zero_some f (a.page f);
@@ -169,16 +174,16 @@ module _ (config : Config) (past : List Entry) (between : IsBetween config past)
 
     -- no page but this one is charged, nor is this one if it was before
     abbrev WasCharged : Page → Type 0
-    WasCharged h = (h ≡ g → ⊥) ⊎ (is_uncharged a g ≡ false)
+    WasCharged h = (h ≡ g → ⊥) ⊎ ((is_private g && nat_eq (count_page a.charged g) 0) ≡ false)
 
     first_charged : (h : Page) → WasCharged h → count_page (charged_with a.charged (Some g)) h ≤ count_page a.charged h
-    first_charged h was = by (is_uncharged a g) refl was
+    first_charged h was = by (is_private g && nat_eq (count_page a.charged g) 0) refl was
       where
         apart_not : (h ≡ g → ⊥) → (c : Bool) → same_page h g ≡ c → same_page h g ≡ false
         apart_not apart false is = is
         apart_not apart true is = absurd (apart (pages_equal h g is))
 
-        by : (c : Bool) → is_uncharged a g ≡ c → WasCharged h → count_page (cond c (g ∷ a.charged) a.charged) h ≤ count_page a.charged h
+        by : (c : Bool) → (is_private g && nat_eq (count_page a.charged g) 0) ≡ c → WasCharged h → count_page (cond c (g ∷ a.charged) a.charged) h ≤ count_page a.charged h
         by false is was = omega arith
         by true is (inl apart) = let one = count_cons_no (same_page h) g a.charged (apart_not apart (same_page h g) refl) in omega (arith, one)
         by true is (inr before) = absurd (true≢false (sym is ∙ before))
@@ -259,11 +264,11 @@ module _ (config : Config) (past : List Entry) (between : IsBetween config past)
     }
 
     -- a page that was charged before
-    pub charged_goes : is_uncharged a g ≡ false → Goes
-    charged_goes before outcomes each good = record { leaving = λ q is. absurd (none-some q is); answered_process = tt; waiting = tt; touched = inl (λ h some. still_touched outcomes h (inr before) some) }
+    pub charged_goes : is_uncharged config a g ≡ false → Goes
+    charged_goes before outcomes each good = record { leaving = λ q is. absurd (none-some q is); answered_process = tt; waiting = tt; touched = inl (λ h some. still_touched outcomes h (inr (not_first config a g before)) some) }
 
-    pub charged_fails : is_uncharged a g ≡ false → Fails
-    charged_fails before outcomes each bad h some = still_touched outcomes h (inr before) some
+    pub charged_fails : is_uncharged config a g ≡ false → Fails
+    charged_fails before outcomes each bad h some = still_touched outcomes h (inr (not_first config a g before)) some
 
     -- what is known of the reference once its page was read
     pub now_read : (more : List Entry) → IsMild config past more → AreTouchedBut g (pager_after config more) → (e : Valid) → entry_of (pager_after config more).valid p v ≡ Some e → IsControlled config more (control asking)
@@ -287,12 +292,15 @@ module _ (config : Config) (past : List Entry) (between : IsBetween config past)
     }
 
   -- ---- the first read of a copy on reference page
-  module _ (f : ℕ) (b : BlockId) (first : is_uncharged a g ≡ true) (source : source_of a g (a.map p v) ≡ Some b) where
+  module _ (f : ℕ) (b : BlockId) (first : is_uncharged config a g ≡ true) (source : source_of config a g (a.map p v) ≡ Some b) where
+    both_first : (is_private g ≡ true) × (section_at (a.map p v) ≡ Some b)
+    both_first = first_private g (a.map p v) b (sym (ap (λ (c : Bool). cond c (first_source g (a.map p v)) (a.lies g)) first) ∙ source)
+
     private_first : is_private g ≡ true
-    private_first = (and_parts (is_private g) _ first).0
+    private_first = both_first.0
 
     section_first : is_section_block b ≡ true
-    section_first = section_is (a.map p v) b (sym (ap (λ (c : Bool). cond c (section_at (a.map p v)) (a.lies g)) first) ∙ source)
+    section_first = section_is (a.map p v) b both_first.1
 
     abbrev SingleGoes : Option Page → Type 0
     SingleGoes o = Goes f b o [] tt tt (λ k. tt)
@@ -356,13 +364,13 @@ module _ (config : Config) (past : List Entry) (between : IsBetween config past)
         by (x ∷ frames) = single
 
   -- ---- a cluster, by whether the page is charged
-  pub reads_of_page : (f : ℕ) (frames : List ℕ) (b : BlockId) → source_of a g (a.map p v) ≡ Some b → MoveIsKnown config past Rest (carries p (reads_made a.page (f ∷ frames) (cluster_targets config a p r g b)) (unless_first_failed (control asking)))
-  reads_of_page f frames b source = by (is_uncharged a g) refl
+  pub reads_of_page : (f : ℕ) (frames : List ℕ) (b : BlockId) → source_of config a g (a.map p v) ≡ Some b → MoveIsKnown config past Rest (carries p (reads_made a.page (f ∷ frames) (cluster_targets config a p r g b)) (unless_first_failed (control asking)))
+  reads_of_page f frames b source = by (is_uncharged config a g) refl
     where
       near : AllByRecursion IsNeighbour (near_targets config a g b (range_with_len 1 (cluster_length (window config a g b) config.params.pfc (length a.free) - 1)))
       near = all_near config a g b (range_with_len 1 (cluster_length (window config a g b) config.params.pfc (length a.free) - 1))
 
-      by : (c : Bool) → is_uncharged a g ≡ c → MoveIsKnown config past Rest (carries p (reads_made a.page (f ∷ frames) (cluster_targets config a p r g b)) (unless_first_failed (control asking)))
+      by : (c : Bool) → is_uncharged config a g ≡ c → MoveIsKnown config past Rest (carries p (reads_made a.page (f ∷ frames) (cluster_targets config a p r g b)) (unless_first_failed (control asking)))
       by true first = first_known f b first source frames
       by false before =
           let steady = reads_each (λ (w : What). is_steady w ≡ true) IsNeighbour (λ k x. refl) near_steady a.page frames _ near in

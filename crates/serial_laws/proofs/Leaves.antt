@@ -2,7 +2,7 @@
 use Rattle.std.proofs.Common.{◌≡◌, ℕ, zero, suc, ◌+◌, ◌<◌, ◌≤◌, ◌++◌, Bool, true, false, cond, not, List, [], ◌∷◌, Option, Some, None, nat_lt, refl, sym, ap, ◌∙◌, subst, arith}
 use Rattle.std.specs.List.{range_with_len}
 use Rattle.std.proofs.lemmas.Bool.{and_from, ltb-false, ltb-true}
-use Rattle.vm_types.specs.Ring.{filled}
+use Rattle.vm_types.specs.Ring.{filled, unpinned}
 use Rattle.vm_types.specs.declared.names.BlockId.TheVariants as block
 use Rattle.vm_types.specs.declared.names.ProcStatus.TheVariants as status
 use Rattle.vm_types.specs.declared.config.Config.{Config}
@@ -17,7 +17,7 @@ use Rattle.pager_model.specs.Moves.{Control, Doing, control, makes, while_leavin
 use Rattle.pager_model.specs.Pager.{Pager}
 use Rattle.pager_model.specs.Policy.{Ends, leave_move, leave_move_by}
 use Rattle.pager_model.specs.Run.{pager_after}
-use Rattle.pager_model.specs.Swap.{GivenSwap, is_saved, is_shared_seen, is_still, is_to_save, leave_page, leave_saved, leave_shared, leave_unsaved, run_from, slot_where, swap_again, swap_in_flight, swap_modified_full, swap_more, swap_settled, turned_gone, write_slot, write_slots}
+use Rattle.pager_model.specs.Swap.{GivenSwap, is_saved, is_shared_unpinned, is_still, is_to_save, leave_page, leave_saved, leave_shared, leave_unsaved, run_from, slot_where, swap_again, swap_in_flight, swap_modified_full, swap_more, swap_settled, turned_gone, write_slot, write_slots}
 use Rattle.pager_model.specs.Transfers.{is_in_flight}
 use Rattle.pager_rules.proofs.Lists.{found_passes}
 use Rattle.pager_laws.proofs.RunsAreSound.{run_kept}
@@ -26,7 +26,7 @@ use Rattle.serial_laws.specs.Between.{IsBetween}
 use Rattle.serial_laws.specs.Controlled.{IsControlled, IsLeft}
 use Rattle.serial_laws.proofs.Begins.{IsWriting, cluster_known, stopped_some, writing_known}
 use Rattle.serial_laws.proofs.Known.{MoveIsKnown}
-use Rattle.serial_laws.proofs.Slots.{IsSeenAt, filled_seen, passing}
+use Rattle.serial_laws.proofs.Slots.{IsSeenAt, passing, unpinned_seen}
 use Rattle.serial_laws.proofs.Steps.{none_made, steady_made}
 use Rattle.serial_laws.proofs.Turns.{turn_known, turn_legal}
 use Rattle.serial_laws.proofs.Work.{IsQuiet, IsWork, calm_quiet, calm_turn, left_quiet}
@@ -91,29 +91,29 @@ module _ (config : Config) (past : List Entry) (between : IsBetween config past)
           (λ stopped. writing_known config past between Rest seat ends (while_leaving doing q) (stopped_some config past between s.frame stopped) goes_on (λ more quiet. work.ended more (calm_quiet config past more quiet)))
           (λ free. evict_known config past Rest seat q s.vpn s.frame evict.Leave (while_leaving doing q) (goes_on _ (evict_quiet config past seat q s.vpn s.frame evict.Leave))))
 
-  -- with an empty ring it is gone
-  gone_left : (0 < filled (a.ring q).slots → ⊥) → Leaves (turned_gone a q)
+  -- with no page left but pinned ones it is gone
+  gone_left : (0 < unpinned (a.ring q).slots → ⊥) → Leaves (turned_gone a q)
   gone_left empty =
-      either (nat_lt 0 (filled (a.ring q).slots)) (given [] (swap_again swap_in_flight)) (given (what.Turn (proc q) status.Gone ∷ []) swap_settled)
-      (λ some. absurd (empty (ltb-true 0 (filled (a.ring q).slots) some)))
-      (λ none. turn_known config past Rest seat (proc q) status.Gone (control doing) (turn_legal config past seat q status.Gone between work.seat_there left.0 (left.1, (let most = ltb-false 0 (filled (a.ring q).slots) none in omega (arith, most))))
+      either (nat_lt 0 (unpinned (a.ring q).slots)) (given [] (swap_again swap_in_flight)) (given (what.Turn (proc q) status.Gone ∷ []) swap_settled)
+      (λ some. absurd (empty (ltb-true 0 (unpinned (a.ring q).slots) some)))
+      (λ none. turn_known config past Rest seat (proc q) status.Gone (control doing) (turn_legal config past seat q status.Gone between work.seat_there left.0 (left.1, (let most = ltb-false 0 (unpinned (a.ring q).slots) none in omega (arith, most))))
       (work.done _ (calm_turn config past seat q status.Gone (λ is. cc))))
 
-  -- where no slot is shared or is to be saved, none is filled
+  -- where no slot is shared or is to be saved, none but pinned ones are filled
   all_still : (f : ℕ) → is_still past f ≡ true
   all_still f = ap (λ flights. not (is_in_flight f flights)) between.landed
 
-  none_filled : slot_where a q (λ (n : ℕ) (s : Seen). is_shared_seen s) ≡ None → slot_where a q (λ (n : ℕ) (s : Seen). is_to_save past s) ≡ None → 0 < filled (a.ring q).slots → ⊥
-  none_filled no_shared no_private some = by (filled_seen config past (run_kept config past between.formed between.run) q some)
+  none_filled : slot_where a q (λ (n : ℕ) (s : Seen). is_shared_unpinned s) ≡ None → slot_where a q (λ (n : ℕ) (s : Seen). is_to_save past s) ≡ None → 0 < unpinned (a.ring q).slots → ⊥
+  none_filled no_shared no_private some = by (unpinned_seen config past (run_kept config past between.formed between.run) q some)
     where
-      by : (n : ℕ) × IsSeenAt a q n → ⊥
-      by (n, found) = go (is_private (found.seen).page) refl
+      by : (n : ℕ) × (found : IsSeenAt a q n) × ((found.seen).pinned ≡ false) → ⊥
+      by (n, found, off) = go (is_private (found.seen).page) refl
         where
           go : (b : Bool) → is_private (found.seen).page ≡ b → ⊥
-          go true is = unfound (λ (m : ℕ). passes (λ (s : Seen). is_to_save past s) (seen_at a q m)) (slots_of a q) n no_private found.listed (ap (passes (λ (s : Seen). is_to_save past s)) found.is ∙ and_from _ _ is (all_still (found.seen).frame))
-          go false is = unfound (λ (m : ℕ). passes (λ (s : Seen). is_shared_seen s) (seen_at a q m)) (slots_of a q) n no_shared found.listed (ap (passes (λ (s : Seen). is_shared_seen s)) found.is ∙ ap not is)
+          go true is = unfound (λ (m : ℕ). passes (λ (s : Seen). is_to_save past s) (seen_at a q m)) (slots_of a q) n no_private found.listed (ap (passes (λ (s : Seen). is_to_save past s)) found.is ∙ and_from _ _ (and_from _ _ is (ap not off)) (all_still (found.seen).frame))
+          go false is = unfound (λ (m : ℕ). passes (λ (s : Seen). is_shared_unpinned s) (seen_at a q m)) (slots_of a q) n no_shared found.listed (ap (passes (λ (s : Seen). is_shared_unpinned s)) found.is ∙ and_from _ _ (ap not is) (ap not off))
 
-  unsaved_left : slot_where a q (λ (n : ℕ) (s : Seen). is_shared_seen s) ≡ None → (o : Option ℕ) → slot_where a q (λ (n : ℕ) (s : Seen). is_to_save past s) ≡ o → Leaves (leave_unsaved config past a q o)
+  unsaved_left : slot_where a q (λ (n : ℕ) (s : Seen). is_shared_unpinned s) ≡ None → (o : Option ℕ) → slot_where a q (λ (n : ℕ) (s : Seen). is_to_save past s) ≡ o → Leaves (leave_unsaved config past a q o)
   unsaved_left no_shared None found = gone_left (none_filled no_shared found)
   unsaved_left no_shared (Some n) found =
       let is = found_passes (λ (m : ℕ). passes (is_to_save past) (seen_at a q m)) (slots_of a q) n found in
@@ -121,13 +121,13 @@ module _ (config : Config) (past : List Entry) (between : IsBetween config past)
       cluster_known config past between Rest seat ends (while_leaving doing q) _ (run_writes a q n config.params.wrtcluster (λ (m : ℕ). passes (is_to_save past) (seen_at a q m)) between.formed.params.wrtcluster.0 is seen.0 seen.1)
       goes_on (λ more quiet. work.ended more (calm_quiet config past more quiet))
 
-  saved_left : slot_where a q (λ (n : ℕ) (s : Seen). is_shared_seen s) ≡ None → (o : Option ℕ) → slot_where a q (is_saved past a q) ≡ o → Leaves (leave_saved config past a q o)
+  saved_left : slot_where a q (λ (n : ℕ) (s : Seen). is_shared_unpinned s) ≡ None → (o : Option ℕ) → slot_where a q (is_saved past a q) ≡ o → Leaves (leave_saved config past a q o)
   saved_left no_shared (Some n) found = page_left (is_saved past a q n) n (found_passes (λ (m : ℕ). passes (is_saved past a q m) (seen_at a q m)) (slots_of a q) n found)
   saved_left no_shared None found = unsaved_left no_shared (slot_where a q (λ (n : ℕ) (s : Seen). is_to_save past s)) refl
 
-  shared_left : (o : Option ℕ) → slot_where a q (λ (n : ℕ) (s : Seen). is_shared_seen s) ≡ o → Leaves (leave_shared config past a q o)
-  shared_left (Some n) found = page_left is_shared_seen n (found_passes (λ (m : ℕ). passes is_shared_seen (seen_at a q m)) (slots_of a q) n found)
+  shared_left : (o : Option ℕ) → slot_where a q (λ (n : ℕ) (s : Seen). is_shared_unpinned s) ≡ o → Leaves (leave_shared config past a q o)
+  shared_left (Some n) found = page_left is_shared_unpinned n (found_passes (λ (m : ℕ). passes is_shared_unpinned (seen_at a q m)) (slots_of a q) n found)
   shared_left None found = saved_left found (slot_where a q (is_saved past a q)) refl
 
   pub leave_known : MoveIsKnown config past Rest (leave_move config past a seat q ends doing)
-  leave_known = shared_left (slot_where a q (λ (n : ℕ) (s : Seen). is_shared_seen s)) refl
+  leave_known = shared_left (slot_where a q (λ (n : ℕ) (s : Seen). is_shared_unpinned s)) refl

@@ -1,7 +1,7 @@
 -- A request that a carrier's failure refuses is refused legally.
 use Rattle.std.proofs.Common.{◌≡◌, ◌⊎◌, inr, ℕ, ◌*◌, ◌<◌, Bool, List, Some, None, length, refl, sym, ap, ◌∙◌, subst, arith}
 use Rattle.std.proofs.lemmas.Option.{same_Some}
-use Rattle.vm_types.specs.WellFormed.{IsWellFormedRequest}
+use Rattle.vm_types.specs.WellFormed.{IsRequestOf, IsWellFormedRequest}
 use Rattle.vm_types.specs.declared.names.Addr.{Addr}
 use Rattle.vm_types.specs.declared.names.Proc.{Proc}
 use Rattle.vm_types.specs.declared.names.ProcStatus.TheVariants as status
@@ -37,19 +37,19 @@ use Rattle.serial_laws.proofs.Turns.{free_seat}
 use Rattle.serial_laws.proofs.Walks.{body_known, task_formed}
 
 -- the refusal of a request of this process
-refused_by : (config : Config) (past : List Entry) (task : Task) (q : Request) → IsBetween config past → (task.proc).0 < length config.procs → IsWellFormedRequest q → HasLost past (task.proc).0
+refused_by : (config : Config) (past : List Entry) (task : Task) (q : Request) → IsBetween config past → (task.proc).0 < length config.procs → IsWellFormedRequest q → IsRequestOf config.version q → HasLost past (task.proc).0
     → ((r : Ref) (x : Flight) (p : Proc) (at : Addr) → q ≡ request.Reference r → (carrying (task.proc).0 past).first ≡ Some x → x.direction ≡ reading (role.Fault p at) → at.0 ≡ page_number (r.addr).0 * 512)
     → ((pager_after config past).status (task.proc).0 ≡ status.Resident → ⊥) ⊎ IsUnmet config (pager_after config past) (task.proc).0 q
     → IsLegal config past (pager_after config past) (by_seat (task.proc).0 (refusal_of (record task { request = q })))
-refused_by config past task (request.Reference r) between process formed lost named waits = record {
+refused_by config past task (request.Reference r) between process formed known lost named waits = record {
   in_turn = free_turn config past (task.proc).0 (what.Denied r why.DiskFault) (free_seat config past (task.proc).0 between);
   line = record { seat = omega (arith, process); what = formed };
   row = inr (record { lost = lost; named = λ x p at first is. named r x p at refl first is; fault = refl; process = process; waits = waits });
 }
-refused_by config past task (request.Service s) between process formed lost named waits = record {
+refused_by config past task (request.Service s) between process formed known lost named waits = record {
   in_turn = free_turn config past (task.proc).0 (what.Served s answer.DiskFault) (free_seat config past (task.proc).0 between);
   line = record { seat = omega (arith, process); what = (formed, tt) };
-  row = record { lost = lost; process = process; waits = waits };
+  row = record { lost = lost; process = process; waits = waits; known = known };
 }
 
 -- once the carrier has landed
@@ -82,7 +82,7 @@ module _ (config : Config) (past : List Entry) (seat : ℕ) (ws : List What) (on
         next = refusal.may.next;
         own = refusal.may.own;
         legal = subst (λ (n : ℕ). IsLegal config landed (pager_after config landed) (by_seat n (refusal_of refusal.may.task))) (sym refusal.may.own)
-            (refused_by config landed refusal.may.task (refusal.may.task).request between formed.0 formed.1 (subst (HasLost landed) refusal.may.own lost) named refusal.may.waits);
+            (refused_by config landed refusal.may.task (refusal.may.task).request between formed.0 formed.1 formed.2 (subst (HasLost landed) refusal.may.own lost) named refusal.may.waits);
       }
 
 pub refusal_legal : (config : Config) (past : List Entry) (c : Control) (seat : ℕ) (ws : List What) (onward : Bool → Bool → After) (outcomes : List Outcome) (landed : List Entry) → IsBetween config past → IsControlled config past c → IsInBody c.doing

@@ -1,9 +1,9 @@
 -- A service's next step: an eviction, a cluster that makes room for it, or its answer. It never rests there.
+use Rattle.vm_types.specs.Ring.{Ring, fixed}
 use Rattle.std.proofs.Common.{◌≡◌, ◌⊎◌, inl, inr, ℕ, ◌+◌, ◌<◌, ◌&&◌, Bool, true, false, cond, not, List, [], ◌∷◌, Option, Some, None, length, slice_get, nat_le, nat_lt, refl, sym, ap, ◌∙◌, subst, arith}
 use Rattle.std.specs.List.{list_any}
 use Rattle.std.proofs.lemmas.Bool.{and_parts, false≢true, ltb-true, or_cases, true≢false}
 use Rattle.std.proofs.lemmas.Option.{none-some}
-use Rattle.vm_types.specs.Ring.{locked}
 use Rattle.vm_types.specs.Same.{same_page}
 use Rattle.vm_types.specs.declared.names.Addr.{Addr}
 use Rattle.vm_types.specs.declared.names.Page.{Page}
@@ -28,9 +28,9 @@ use Rattle.pager_model.specs.Lookups.{count_page, entries_at, entry_of, is_entry
 use Rattle.pager_model.specs.Moves.{asking, control}
 use Rattle.pager_model.specs.Pager.{Pager, Valid}
 use Rattle.pager_model.specs.Policy.{ends_request, next_task, serve_move_by}
-use Rattle.pager_model.specs.Ring.{range_locked}
+use Rattle.pager_model.specs.Ring.{range_locked, range_pinned}
 use Rattle.pager_model.specs.Run.{pager_after}
-use Rattle.pager_model.specs.Serve.{GivenServe, delete_given, evict_given, is_locked_at, is_page_in_flight, is_range_in_flight, is_unmapped, is_valid_at, limits_given, lock_given, purge_given, serve_again, serve_gives, serve_in_flight, serve_modified_full, serve_more, serve_not_resident, served_with, service_gives, unlocked_in, valid_in}
+use Rattle.pager_model.specs.Serve.{GivenServe, delete_given, evict_given, is_fixed_at, is_page_in_flight, is_range_in_flight, is_unmapped, is_valid_at, limits_given, lock_given, loose_in, purge_given, serve_again, serve_gives, serve_in_flight, serve_modified_full, serve_more, serve_not_resident, served_with, service_gives, valid_in}
 use Rattle.pager_model.specs.Served.{after_served, may_fail}
 use Rattle.pager_model.specs.Transfers.{is_in_flight}
 use Rattle.pager_rules.proofs.Basics.{pages_equal}
@@ -61,6 +61,8 @@ served_touched config a p (service.Create at pages prot) answer.Good old = old
 served_touched config a p (service.Protect at pages prot) answer.Good old = old
 served_touched config a p (service.Lock at pages) (answer.Count n) old = old
 served_touched config a p (service.Unlock at pages) (answer.Count n) old = old
+served_touched config a p (service.Pin at pages) (answer.Count n) old = old
+served_touched config a p (service.Unpin at pages) (answer.Count n) old = old
 served_touched config a p (service.Adjust n) answer.Good old = old
 served_touched config a p s other old = old
 
@@ -119,15 +121,15 @@ module _ (config : Config) (past : List Entry) (between : IsBetween config past)
       either (is_range_in_flight config past a p at.0 pages) (given [] (serve_again serve_in_flight)) (served_with (service.Delete at pages) answer.Good)
       (λ flies. absurd (none_in_flight (own_pages config a.map p (range_of at.0 pages)) flies)) (λ still. answered (service.Delete at pages) answer.Good)
 
-  purged : (at : Addr) (pages : ℕ) → task.request ≡ request.Service (service.Purge at pages) → (o : Option ℕ) → unlocked_in a p at.0 pages ≡ o → Serves (purge_given config past a p at pages o)
+  purged : (at : Addr) (pages : ℕ) → task.request ≡ request.Service (service.Purge at pages) → (o : Option ℕ) → loose_in a p at.0 pages ≡ o → Serves (purge_given config past a p at pages o)
   purged at pages own (Some v) found =
-      evicted (service.Purge at pages) own refl v evict.Purge (and_parts (is_valid_at a p v) (not (is_locked_at a p v)) (found_passes (λ (u : ℕ). is_valid_at a p u && not (is_locked_at a p u)) (range_of at.0 pages) v found)).0 (entry_of a.valid p v) refl
+      evicted (service.Purge at pages) own refl v evict.Purge (and_parts (is_valid_at a p v) (not (is_fixed_at a p v)) (found_passes (λ (u : ℕ). is_valid_at a p u && not (is_fixed_at a p u)) (range_of at.0 pages) v found)).0 (entry_of a.valid p v) refl
   purged at pages own None found = answered (service.Purge at pages) answer.Good
 
-  lock_known : (s : Service) (address pages : ℕ) (o : Option ProcSpec) → Serves (lock_given a p s address pages o)
-  lock_known s address pages None = answered s answer.LockLimit
-  lock_known s address pages (Some spec) =
-      either (nat_le (locked (range_locked true address pages (a.ring p)).slots) spec.locks) (served_with s (answer.Count _)) (served_with s answer.LockLimit) (λ fits. answered s (answer.Count _)) (λ over. answered s answer.LockLimit)
+  lock_known : (s : Service) (address pages : ℕ) (ring : Ring) (o : Option ProcSpec) → Serves (lock_given a p s address pages ring o)
+  lock_known s address pages ring None = answered s answer.LockLimit
+  lock_known s address pages ring (Some spec) =
+      either (nat_le (fixed ring.slots) spec.locks) (served_with s (answer.Count _)) (served_with s answer.LockLimit) (λ fits. answered s (answer.Count _)) (λ over. answered s answer.LockLimit)
 
   limits_known : (n : ℕ) (o : Option ProcSpec) → Serves (limits_given n o)
   limits_known n None = answered (service.Adjust n) answer.BadLimit
@@ -142,10 +144,14 @@ module _ (config : Config) (past : List Entry) (between : IsBetween config past)
       (λ unmapped. answered (service.Delete at pages) answer.Unmapped) (λ mapped. deleted at pages own (valid_in a p at.0 pages) refl)
   service_known (service.Protect at pages prot) own = answered (service.Protect at pages prot) _
   service_known (service.Lock at pages) own =
-      either (is_unmapped a p at.0 pages) (served_with (service.Lock at pages) answer.Unmapped) (lock_given a p (service.Lock at pages) at.0 pages (slice_get config.procs p))
-      (λ unmapped. answered (service.Lock at pages) answer.Unmapped) (λ mapped. lock_known (service.Lock at pages) at.0 pages (slice_get config.procs p))
+      either (is_unmapped a p at.0 pages) (served_with (service.Lock at pages) answer.Unmapped) (lock_given a p (service.Lock at pages) at.0 pages (range_locked true at.0 pages (a.ring p)) (slice_get config.procs p))
+      (λ unmapped. answered (service.Lock at pages) answer.Unmapped) (λ mapped. lock_known (service.Lock at pages) at.0 pages (range_locked true at.0 pages (a.ring p)) (slice_get config.procs p))
   service_known (service.Unlock at pages) own = answered (service.Unlock at pages) _
-  service_known (service.Purge at pages) own = purged at pages own (unlocked_in a p at.0 pages) refl
+  service_known (service.Purge at pages) own = purged at pages own (loose_in a p at.0 pages) refl
+  service_known (service.Pin at pages) own =
+      either (is_unmapped a p at.0 pages) (served_with (service.Pin at pages) answer.Unmapped) (lock_given a p (service.Pin at pages) at.0 pages (range_pinned true at.0 pages (a.ring p)) (slice_get config.procs p))
+      (λ unmapped. answered (service.Pin at pages) answer.Unmapped) (λ mapped. lock_known (service.Pin at pages) at.0 pages (range_pinned true at.0 pages (a.ring p)) (slice_get config.procs p))
+  service_known (service.Unpin at pages) own = answered (service.Unpin at pages) _
   service_known (service.Adjust n) own = limits_known n (slice_get config.procs p)
 
   pub serve_known : (s : Service) → task.request ≡ request.Service s → Serves (serve_gives config past a p s)

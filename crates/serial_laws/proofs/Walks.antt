@@ -3,7 +3,7 @@ use Rattle.std.proofs.Common.{◌≡◌, ◌⊎◌, inl, inr, ℕ, ◌<◌, ◌&
 use Rattle.std.proofs.lemmas.Option.{none-some}
 use Rattle.std.proofs.lemmas.Option.{get_or_from_slice_get, same_Some, slice_get_within}
 use Rattle.vm_types.specs.Configuration.{IsTask, IsWellFormed}
-use Rattle.vm_types.specs.WellFormed.{IsWellFormedRequest}
+use Rattle.vm_types.specs.WellFormed.{IsRequestOf, IsWellFormedRequest}
 use Rattle.vm_types.specs.declared.names.ProcStatus.{ProcStatus}
 use Rattle.vm_types.specs.declared.names.ProcStatus.TheVariants as status
 use Rattle.vm_types.specs.declared.config.Config.{Config}
@@ -36,10 +36,10 @@ use Rattle.serial_laws.proofs.Turns.{may_work, turn_known}
 use Rattle.serial_laws.proofs.Work.{IsQuiet, IsWork, calm_quiet, calm_turn, part_work, request_work, touched_calm}
 
 -- the next task is one of the body
-pub task_formed : (config : Config) (past : List Entry) (task : Task) → IsWellFormed config → next_task config past ≡ Some task → ((task.proc).0 < length config.procs) × IsWellFormedRequest task.request
+pub task_formed : (config : Config) (past : List Entry) (task : Task) → IsWellFormed config → next_task config past ≡ Some task → ((task.proc).0 < length config.procs) × IsWellFormedRequest task.request × IsRequestOf config.version task.request
 task_formed config past task formed next =
-    let known : IsTask (length config.procs) task = subst (λ (t : Task). IsTask (length config.procs) t) (get_or_from_slice_get config.body (spoken past) task task next) (formed.body (spoken past) task (slice_get_within config.body (spoken past) task next)) in
-    (known.proc, known.request)
+    let known : IsTask config.version (length config.procs) task = subst (λ (t : Task). IsTask config.version (length config.procs) t) (get_or_from_slice_get config.body (spoken past) task task next) (formed.body (spoken past) task (slice_get_within config.body (spoken past) task next)) in
+    (known.proc, known.request, known.of_version)
 
 -- a request that isn't a reference was read for none
 not_read : (config : Config) (past : List Entry) (task : Task) → next_task config past ≡ Some task → ((r : Ref) → task.request ≡ request.Reference r → ⊥) → AreTouched (pager_after config past) ⊎ IsRead config past → AreTouched (pager_after config past)

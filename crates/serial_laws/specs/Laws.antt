@@ -1,7 +1,7 @@
 -- The laws of the serial policy's moves, as statements. This project's own.
 use Rattle.std.specs.Prelude.{◌≡◌, ℕ, Bool, false, ◌+◌, ◌<◌, ◌≤◌, List, [], ◌∷◌, Some, None, length}
 use Rattle.vm_types.specs.Configuration.{IsWellFormed}
-use Rattle.vm_types.specs.WellFormed.{IsWellFormedRequest}
+use Rattle.vm_types.specs.WellFormed.{IsRequestOf, IsWellFormedRequest}
 use Rattle.vm_types.specs.declared.config.Config.{Config}
 use Rattle.vm_types.specs.declared.config.Task.{Task}
 use Rattle.vm_types.specs.declared.names.Proc.{Proc}
@@ -28,11 +28,11 @@ FirstControlFits = (config : Config) → IsWellFormed config → IsControlled co
 abbrev pub CleaningControlFits : Type 0
 CleaningControlFits = (config : Config) (past : List Entry) → IsControlled config past (at_slot 0 0 false)
 
--- the next task's process is one of the configuration, and its request is well formed
+-- the next task's process is one of the configuration, and its request is well formed and of its version
 abbrev pub TaskIsFormed : Type 0
 TaskIsFormed =
     (config : Config) (past : List Entry) (task : Task) → IsWellFormed config → next_task config past ≡ Some task
-    → ((task.proc).0 < length config.procs) × IsWellFormedRequest task.request
+    → ((task.proc).0 < length config.procs) × IsWellFormedRequest task.request × IsRequestOf config.version task.request
 
 -- the policy rests only where no request is left
 abbrev pub RestsAtTheEnd : Type 0

@@ -1,6 +1,6 @@
 ghost use Rattle.std.specs.Prelude.{◌≡◌, ◌+◌, ◌<◌, None, IfOk, IfSome, length};
 ghost use Rattle.std.specs.Option.{option_map};
-ghost use Rattle.vm_types.specs.WellFormed.{IsWellFormedReference, IsWellFormedRequest, IsWellFormedService};
+ghost use Rattle.vm_types.specs.WellFormed.{IsRequestOf, IsServiceOf, IsWellFormedReference, IsWellFormedRequest, IsWellFormedService};
 ghost use Rattle.vm_types.specs.declared.names.ProcStatus.TheVariants as status;
 ghost use Rattle.vm_types.specs.declared.reference.Ref.{Ref};
 ghost use Rattle.vm_types.specs.declared.service.Request.{Request};
@@ -175,6 +175,7 @@ fn serve_next<B: Block>(
     requires own { seat.0 ≡ p.0 }
     requires process { seat.0 < length state.old.config.procs }
     requires formed { IsWellFormedService s }
+    requires known { IsServiceOf state.old.config.version s }
     requires carrier { carrier.old ≡ empty seat }
     requires here { IsMoveHere state.old (resident_move state.old.config state.old.past (pager state.old) seat.0 (Request.Service s)) }
     ensures carrier { carrier.new ≡ carrier.old }
@@ -213,6 +214,7 @@ fn by_status<B: Block>(
     requires own { seat.0 ≡ (task.proc).0 }
     requires process { seat.0 < length state.old.config.procs }
     requires formed { IsWellFormedRequest task.request }
+    requires known { IsRequestOf state.old.config.version task.request }
     requires rare { (pager state.old).status (task.proc).0 ≡ status.Resident → (r : Ref) → task.request ≡ Request.Reference r → ⊥ }
     requires carrier { carrier.old ≡ empty seat }
     requires here { IsMoveHere state.old (asked_move state.old.config state.old.past (pager state.old) None seat.0 task.request) }
@@ -282,6 +284,7 @@ fn ask_other<B: Block>(
     requires steady { IsSteady state.old }
     requires process { (task.proc).0 < length state.old.config.procs }
     requires formed { IsWellFormedRequest task.request }
+    requires known { IsRequestOf state.old.config.version task.request }
     requires left { IfSome leaving (λ q. IsLeft state.old.config (pager state.old) q.0) }
     requires rare { leaving ≡ None → (pager state.old).status (task.proc).0 ≡ status.Resident → (r : Ref) → task.request ≡ Request.Reference r → ⊥ }
     requires carrier { carrier.old ≡ empty (record { 0 = (task.proc).0 }) }
@@ -311,6 +314,7 @@ pub fn ask<B: Block>(
     requires steady { IsSteady state.old }
     requires process { (task.proc).0 < length state.old.config.procs }
     requires formed { IsWellFormedRequest task.request }
+    requires known { IsRequestOf state.old.config.version task.request }
     requires left { IfSome leaving (λ q. IsLeft state.old.config (pager state.old) q.0) }
     requires carrier { carrier.old ≡ empty (record { 0 = (task.proc).0 }) }
     requires here { IsMoveHere state.old (asked_move state.old.config state.old.past (pager state.old) (option_map number_of leaving) (task.proc).0 task.request) }

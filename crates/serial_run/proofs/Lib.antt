@@ -2,4 +2,5 @@ pub mod SeatCarriers
 pub mod BodyRuns
 pub mod AskedOnce
 pub mod RunsEnd
+pub mod FewRefusals
 pub mod RunsFinish

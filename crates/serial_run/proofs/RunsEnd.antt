@@ -9,6 +9,7 @@ use Rattle.pager_model.specs.Run.{IsRun, pager_after}
 use Rattle.pager_model.specs.Serial.{IsRundown, IsSerial}
 use Rattle.pager_model.specs.Spoken.{IsRight}
 use Rattle.pager_model.specs.Text.{dirty_pages}
+use Rattle.content_laws.proofs.EndContent.{nowhere_uncharged}
 use Rattle.pager_laws.proofs.SerialInOrder.{serial_answered}
 use Rattle.report_lines.specs.Printable.{IsPrintable}
 use Rattle.serial_laws.specs.Between.{IsBetween}
@@ -37,6 +38,7 @@ module _ (tells : Bool) (mid s : History) (ending : Ending) (same : IsSameBut mi
     rest = down.0;
     all = down.1;
     landed = ended.landed;
+    nowhere = nowhere_uncharged s.config s.past ended.formed ended.run ended.landed ended.reused;
     run = record {
       run = subst (λ (p : List Entry). IsRun s.config p) down.1 ended.run;
       right = λ told. subst (IsRight s.config) down.1 (right told);

@@ -21,23 +21,28 @@ use Rattle.serial_run.specs.declared.finished.Counted.{Counted}
 use Rattle.serial_run.specs.declared.finished.Finished.{Finished}
 use Rattle.serial_run.specs.declared.run.Ending.{Ending}
 use Rattle.serial_run.proofs.AskedOnce.{asked, written}
+use Rattle.serial_run.proofs.FewRefusals.{has_few_refusals}
 
 module _ {B : Type 0} (seen : B → BlockView) (tells : Tells) where
   is_over : (config : Config) (s : History) (ending : Ending) (dirty : List Page) (taken : List (BlockId × B)) → s.config ≡ config → (ended : HasEnded tells.content s ending) → dirty ≡ (ending.dirty).items
       → map (λ (p : BlockId × B). p.0) taken ≡ blocks_of s.config → AreGivenBack seen tells s.config s.past taken
       → IsOver tells config (map (given_back seen) taken) dirty ended.past ended.rest
-  is_over config s ending dirty taken same ended left names given = record {
-    run = subst (λ (k : Config). IsWholeRun tells.content k ended.past ended.rest) same ended.run;
-    left = left ∙ (ended.dirty ∙ ap (λ (k : Config). dirty_pages k (pager_after k (ended.rest ++ ended.past))) same);
-    asked =
-        subst (λ (k : Config). IsAsked tells.plan k (ended.rest ++ ended.past) (map (given_back seen) taken)) same
-        (subst (λ (p : List Entry). IsAsked tells.plan s.config p (map (given_back seen) taken)) ended.all
-        (asked seen tells s.config s.past taken names given));
-    written =
-        subst (λ (k : Config). AreWrittenBack tells.content k (ended.rest ++ ended.past) (map (given_back seen) taken)) same
-        (subst (λ (p : List Entry). AreWrittenBack tells.content s.config p (map (given_back seen) taken)) ended.all
-        (written seen tells s.config s.past taken names given));
-  }
+  is_over config s ending dirty taken same ended left names given =
+      let run = subst (λ (k : Config). IsWholeRun tells.content k ended.past ended.rest) same ended.run in
+      let all_asked =
+      subst (λ (k : Config). IsAsked tells.plan k (ended.rest ++ ended.past) (map (given_back seen) taken)) same
+      (subst (λ (p : List Entry). IsAsked tells.plan s.config p (map (given_back seen) taken)) ended.all
+      (asked seen tells s.config s.past taken names given)) in
+      record {
+        run = run;
+        left = left ∙ (ended.dirty ∙ ap (λ (k : Config). dirty_pages k (pager_after k (ended.rest ++ ended.past))) same);
+        asked = all_asked;
+        written =
+            subst (λ (k : Config). AreWrittenBack tells.content k (ended.rest ++ ended.past) (map (given_back seen) taken)) same
+            (subst (λ (p : List Entry). AreWrittenBack tells.content s.config p (map (given_back seen) taken)) ended.all
+            (written seen tells s.config s.past taken names given ended.nowhere));
+        few = has_few_refusals tells.plan config (ended.rest ++ ended.past) (map (given_back seen) taken) run.run all_asked;
+      }
 
   pub is_finished : (config : Config) (s : History) (ending : Ending) (f : Finished) (taken : List (BlockId × B)) → s.config ≡ config → HasEnded tells.content s ending
       → f.config ≡ s.config → (f.entries).items ≡ reverse s.past → f.at ≡ ending.at → f.report ≡ ending.report → (f.dirty).items ≡ (ending.dirty).items

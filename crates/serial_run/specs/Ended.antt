@@ -11,10 +11,11 @@ use Rattle.pager_model.specs.Run.{IsRun, pager_after}
 use Rattle.pager_model.specs.Serial.{IsSerial, IsWhole}
 use Rattle.pager_model.specs.Spoken.{IsRight}
 use Rattle.pager_model.specs.Text.{dirty_pages}
-use Rattle.pager_model.specs.WrittenBack.{AreWrittenBack}
+use Rattle.pager_model.specs.WrittenBack.{AreWrittenBack, NowhereMeansUncharged}
 use Rattle.pager_model.specs.Flights.{open_flights}
 use Rattle.report_lines.specs.Printable.{IsPrintable}
 use Rattle.run_record.specs.Tallies.{tallies_of}
+use Rattle.serial_run.specs.FewRefusals.{HasFewRefusals}
 use Rattle.serial_run.specs.declared.finished.Counted.{Counted}
 use Rattle.serial_run.specs.declared.finished.Finished.{Finished}
 use Rattle.serial_run.specs.declared.run.Ending.{Ending}
@@ -36,6 +37,7 @@ pub record HasEnded (tells : Bool) (s : History) (ending : Ending) : Type 0 wher
   pub rest : List Entry
   pub all : s.past ≡ rest ++ past
   pub landed : open_flights s.past ≡ []
+  pub nowhere : NowhereMeansUncharged s.config (pager_after s.config s.past)
   pub run : IsWholeRun tells s.config past rest
   pub at : ending.at ≡ length past
   pub report : ending.report ≡ report_of s.config past (pager_after s.config past)
@@ -43,12 +45,14 @@ pub record HasEnded (tells : Bool) (s : History) (ending : Ending) : Type 0 wher
   pub dirty : (ending.dirty).items ≡ dirty_pages s.config (pager_after s.config (rest ++ past))
 
 -- the run of a configuration has ended with these entries and left these pages dirty, and these blocks were given
--- back: each block of the configuration once, and counted; where the bytes of blocks are known they are written back
+-- back: each block of the configuration once, and counted; where the bytes of blocks are known they are written back;
+-- and failed transfers have refused few requests
 pub record IsOver (tells : Tells) (config : Config) (taken : List Retired) (dirty : List Page) (past rest : List Entry) : Type 0 where
   pub run : IsWholeRun tells.content config past rest
   pub left : dirty ≡ dirty_pages config (pager_after config (rest ++ past))
   pub asked : IsAsked tells.plan config (rest ++ past) taken
   pub written : AreWrittenBack tells.content config (rest ++ past) taken
+  pub few : HasFewRefusals config (rest ++ past) taken
 
 -- such a run, its entries, and the report on them
 pub record IsFinished (tells : Tells) (config : Config) (taken : List Retired) (f : Finished) : Type 0 where

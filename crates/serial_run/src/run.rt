@@ -2,6 +2,7 @@ ghost use Rattle.std.specs.Prelude.{◌≡◌, ◌≤◌, ◌++◌, [], IfOk, Is
 ghost use Rattle.disk_trait.specs.Causes.{Rose};
 ghost use Rattle.vm_types.specs.BlockView.{Retired};
 ghost use Rattle.vm_types.specs.Configuration.{IsWellFormed};
+ghost use Rattle.vm_types.specs.declared.config.Version.{Version};
 ghost use Rattle.move_steps.specs.Moved.{IsSameBut};
 ghost use Rattle.serial_run.specs.Ended.{HasEnded, IsCounted, IsFinished};
 ghost use Rattle.serial_run.specs.declared.finished.RunFault.{RunFault};
@@ -68,7 +69,8 @@ pub fn run_serial<D: Depot>(
     config: Config,
     depot: &mut D,
 ) -> Result<Finished, RunFault>
-    requires { IsWellFormed config }
+    requires formed { IsWellFormed config }
+    requires version { config.version ≡ Version.One }
     ensures finished { IfOk result (λ f. (taken : List Retired) × ((D.seen depot.new).retired ≡ (D.seen depot.old).retired ++ taken)
         × IsFinished D.Block.tells config taken f) }
     ensures failed { IsErrOf result RunFault.DepotFault → Rose (D.seen depot.old).failures (D.seen depot.new).failures }
@@ -97,7 +99,8 @@ pub fn count_serial<D: Depot>(
     config: Config,
     depot: &mut D,
 ) -> Result<Counted, RunFault>
-    requires { IsWellFormed config }
+    requires formed { IsWellFormed config }
+    requires version { config.version ≡ Version.One }
     ensures counted { IfOk result (λ f. (taken : List Retired) × ((D.seen depot.new).retired ≡ (D.seen depot.old).retired ++ taken)
         × IsCounted D.Block.tells config taken f) }
     ensures failed { IsErrOf result RunFault.DepotFault → Rose (D.seen depot.old).failures (D.seen depot.new).failures }

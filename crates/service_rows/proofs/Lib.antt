@@ -1,4 +1,3 @@
-pub mod Locks
 pub mod MappedRanges
 pub mod Only
 pub mod Places

@@ -134,7 +134,7 @@ pub(crate) fn none_flies(
     at: Addr,
     pages: u32,
 ) -> bool
-    requires { (shown pager.now).frames ≤ 4096 }
+    requires { (shown pager.now).frames ≤ 16384 }
     ensures { IsTrue result ↔ ((v f : ℕ) → in_range at.0 pages v ≡ true → (shown pager.now).pager.page f ≡ Some (AnyPage.Private (proc p.0) v)
         → reads_on f (open_flights past.now.past) + writes_on f (open_flights past.now.past) ≡ 0) }
 {

@@ -58,5 +58,7 @@ state_left config a p (service.Delete at pages) answer.Good is = absurd (true≢
 state_left config a p (service.Protect at pages prot) answer.Good is = absurd (true≢false is)
 state_left config a p (service.Lock at pages) (answer.Count n) is = absurd (true≢false is)
 state_left config a p (service.Unlock at pages) (answer.Count n) is = absurd (true≢false is)
+state_left config a p (service.Pin at pages) (answer.Count n) is = absurd (true≢false is)
+state_left config a p (service.Unpin at pages) (answer.Count n) is = absurd (true≢false is)
 state_left config a p (service.Adjust n) answer.Good is = absurd (true≢false is)
 state_left config a p s other is = refl

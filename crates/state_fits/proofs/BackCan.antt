@@ -39,6 +39,8 @@ use Rattle.pager_model.specs.Sets.{has_page}
 use Rattle.pager_model.specs.Sound.{IsSwapped}
 use Rattle.pager_model.specs.Step.{IsLegal}
 use Rattle.pager_rules.specs.Kept.{IsKept}
+use Rattle.page_holders.proofs.RingBounds.{bounded, placed}
+use Rattle.page_holders.proofs.EntryPages.{mapped_right}
 use Rattle.state_fits.specs.Parts.{Parts}
 use Rattle.state_fits.specs.PartsFit.{PartsFit}
 use Rattle.state_fits.specs.Processes.{process_row}
@@ -47,8 +49,6 @@ use Rattle.state_fits.proofs.EnterCan.{CanEnter, can_enter}
 use Rattle.state_fits.proofs.FrameRows.{row_read}
 use Rattle.state_fits.proofs.LiesNowhere.{charged_there}
 use Rattle.state_fits.proofs.PartsSet.{process_read}
-use Rattle.state_fits.proofs.RingBounds.{bounded, placed}
-use Rattle.state_fits.proofs.EntryPages.{mapped_right}
 
 pub record CanBack (config : Config) (p v f : ℕ) (parts : Parts) : Type 0 where
   pub process : p < length parts.processes

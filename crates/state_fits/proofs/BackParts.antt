@@ -54,6 +54,8 @@ use Rattle.pager_rules.proofs.Pages.{is_of_private, own_is}
 use Rattle.pager_rules.proofs.Quiet.{no_failure}
 use Rattle.pager_rules.proofs.Turns.{calm, no_reuse}
 use Rattle.pager_rules.specs.Kept.{IsKept}
+use Rattle.page_holders.proofs.Holders.{holds_within}
+use Rattle.page_holders.proofs.EntryPages.{mapped_right}
 use Rattle.state_fits.specs.Changes.{page_slot, shared_in}
 use Rattle.state_fits.specs.Globals.{GlobalsFit}
 use Rattle.state_fits.specs.Parts.{Parts}
@@ -62,10 +64,8 @@ use Rattle.state_fits.specs.Processes.{process_row}
 use Rattle.state_fits.proofs.EnteredFrame.{IsPut, put_there}
 use Rattle.state_fits.proofs.EnteredParts.{entered_row, frames_entered, globals_entered, tables_entered}
 use Rattle.state_fits.proofs.FrameRows.{row_read}
-use Rattle.state_fits.proofs.Holders.{holds_within}
 use Rattle.state_fits.proofs.LiesNowhere.{charged_lies, pages_nowhere, swaps_cleared}
 use Rattle.state_fits.proofs.PartsSet.{process_read, processes_set}
-use Rattle.state_fits.proofs.EntryPages.{mapped_right}
 
 module _ (config : Config) (past : List Entry) (a : Pager) (seat : Seat) (q : Proc) (address : Addr) (f : Pfn) (from : FrameState) (parts : Parts)
     (before : IsKept config (past_view past) a) (right : IsOfConfig config a)

@@ -3,7 +3,7 @@ use Rattle.std.proofs.Common.{◌≡◌, inl, inr, ℕ, ◌+◌, ◌-◌, ◌^�
 use Rattle.std.specs.Prelude.{IsSome, is_some}
 use Rattle.std.proofs.lemmas.Bool.{and_from, le-leb, lt-ltb}
 use Rattle.std.proofs.lemmas.Option.{get_or_from_slice_get, slice_get_within}
-use Rattle.vm_types.specs.Configuration.{IsProcess, IsWellFormed}
+use Rattle.vm_types.specs.Configuration.{IsProcess, IsWellFormed, all_pins}
 use Rattle.vm_types.specs.PagePlaces.{region_place}
 use Rattle.vm_types.specs.declared.config.Config.{Config}
 use Rattle.vm_types.specs.declared.config.ProcSpec.{ProcSpec}
@@ -33,5 +33,5 @@ slot_there config o a swaps p n formed kept fit within = go (slice_get config.pr
     go (Some spec) found =
         let there = slice_get_within config.procs p spec found in
         let bounded = (kept.processes p).bounds spec found in
-        let process : IsProcess config.frames (length config.bad) spec = subst (IsProcess config.frames (length config.bad)) (get_or_from_slice_get config.procs p spec spec found) (formed.procs p spec there) in
+        let process : IsProcess config.frames (length config.bad + all_pins config) spec = subst (IsProcess config.frames (length config.bad + all_pins config)) (get_or_from_slice_get config.procs p spec spec found) (formed.procs p spec there) in
         record { proc = omega (arith, there, fit.procs); slot = omega (arith, within, bounded.slots, process.most) }

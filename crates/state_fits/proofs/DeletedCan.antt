@@ -31,6 +31,7 @@ use Rattle.pager_rules.proofs.Frames.{at_state}
 use Rattle.pager_rules.specs.Kept.{FitsFrame, IsKept}
 use Rattle.state_parts.specs.ChargedTable.{charged_at}
 use Rattle.state_parts.specs.declared.charged_page.ChargedPage.{ChargedPage}
+use Rattle.page_holders.proofs.Holders.{holder_holds, holds_within}
 use Rattle.state_fits.specs.Forgetting.{frame_in_transition, released_block}
 use Rattle.state_fits.specs.Pages.{charged_row}
 use Rattle.state_fits.specs.Parts.{Parts}
@@ -39,7 +40,6 @@ use Rattle.state_fits.proofs.BlockFreed.{assigned_there, length_without, release
 use Rattle.state_fits.proofs.DeletedParts.{idle, in_transition, kept_deleting, map_is, mapped, one_more}
 use Rattle.state_fits.proofs.ForgottenParts.{file_after, row_some}
 use Rattle.state_fits.proofs.FrameRows.{row_read}
-use Rattle.state_fits.proofs.Holders.{holder_holds, holds_within}
 use Rattle.state_fits.proofs.ServedCan.{mapped_behind, mapped_entry}
 use Rattle.state_fits.proofs.UnchargedPage.{assigned_fit}
 

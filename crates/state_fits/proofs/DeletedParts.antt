@@ -38,16 +38,17 @@ use Rattle.pager_rules.proofs.Lists.{filter_all}
 use Rattle.pager_rules.proofs.Pages.{own_is}
 use Rattle.pager_rules.specs.Kept.{IsKept}
 use Rattle.state_parts.specs.ChargedTable.{ChargedTable, charged_at}
+use Rattle.page_holders.proofs.Holders.{holder_none, no_block_lies}
+use Rattle.page_holders.proofs.ValidEntries.{mapping_of}
 use Rattle.state_fits.specs.Entries.{origin_of, own_place, place_away, pte_at, pte_of, resting_place}
 use Rattle.state_fits.specs.Forgetting.{emptied_frame, frame_in_transition, uncharged_page}
 use Rattle.state_fits.specs.Parts.{Parts}
 use Rattle.state_fits.specs.PartsFit.{PartsFit}
 use Rattle.state_fits.proofs.ForgottenParts.{forgotten_parts}
-use Rattle.state_fits.proofs.Holders.{holder_none, no_block_lies, shown}
+use Rattle.state_fits.proofs.ShownEntries.{shown}
 use Rattle.state_fits.proofs.OnePlace.{at_page_each}
 use Rattle.state_fits.proofs.PartsSet.{changed_here, changed_there, tables_set}
 use Rattle.state_fits.proofs.RangedPages.{ranged_more, ranged_next, ranged_none}
-use Rattle.state_fits.proofs.ValidEntries.{mapping_of}
 
 -- ---- one page is unmapped
 module _ (config : Config) (past : List Entry) (a : Pager) (p v : ℕ) (parts : Parts) (fit : PartsFit config past a parts) where
@@ -237,7 +238,7 @@ module _ (config : Config) (past : List Entry) (a : Pager) (p address pages : �
         go : (n : ℕ) → count_page (left i).charged g ≡ n → count_page (left i).charged g ≡ 0
         go zero none = none
         go (suc n) some =
-            let here = (kept_i.pages g).mapped (omega (arith, some)) in
+            let here = (kept_i.pages g).mapped (omega (arith, some)) refl in
             let both : Some mapped.0 ≡ Some g = sym mapped.1 ∙ (ap (page_at config p v) (sym map_is) ∙ here) in
             let same : mapped.0 ≡ g = cc in
             absurd (false≢true (sym shared ∙ ap is_private same))

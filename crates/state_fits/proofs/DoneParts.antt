@@ -9,6 +9,7 @@ use Rattle.vm_types.specs.declared.names.Page.{Page}
 use Rattle.vm_types.specs.declared.names.Page.TheVariants.{Private, Shared}
 use Rattle.vm_types.specs.declared.names.Proc.{Proc}
 use Rattle.vm_types.specs.declared.names.Seat.{Seat}
+use Rattle.vm_types.specs.declared.names.SecId.{SecId}
 use Rattle.vm_types.specs.declared.reference.Ref.{Ref}
 use Rattle.vm_types.specs.declared.reply.Reply.{Reply}
 use Rattle.vm_journal.specs.declared.entry.Entry.{Entry}
@@ -20,7 +21,7 @@ use Rattle.pager_model.specs.Done.{modify_done, touched_at}
 use Rattle.pager_model.specs.Flat.{is_change, touched_with}
 use Rattle.pager_model.specs.Flights.{Flight, open_flights}
 use Rattle.pager_model.specs.Lookups.{block_of, entry_of, shares}
-use Rattle.pager_model.specs.Maps.{page_number, proc}
+use Rattle.pager_model.specs.Maps.{is_paged, page_number, proc}
 use Rattle.pager_model.specs.Pager.{Assigned, Pager, Valid}
 use Rattle.pager_model.specs.Sets.{at_number, has_page, with_page}
 use Rattle.pager_model.specs.Step.{after, IsLegal}
@@ -32,17 +33,17 @@ use Rattle.state_parts.specs.ChargedTable.{ChargedTable, charged_at}
 use Rattle.state_parts.specs.declared.charged_page.ChargedPage.{ChargedPage}
 use Rattle.state_parts.specs.declared.process_row.ProcessRow.{ProcessRow}
 use Rattle.state_parts.specs.declared.spoken_row.SpokenRow.{SpokenRow}
+use Rattle.page_holders.proofs.Holders.{and_apart}
+use Rattle.page_holders.proofs.ValidEntries.{IsValidAt, valid_at_page}
 use Rattle.state_fits.specs.Frames.{FramesFit, frame_row, row_by, slot_for}
 use Rattle.state_fits.specs.Pages.{PagesFit, charged_row, touched_row, touched_rows}
 use Rattle.state_fits.specs.Parts.{Parts}
 use Rattle.state_fits.specs.PartsFit.{PartsFit}
 use Rattle.state_fits.specs.Processes.{process_row}
 use Rattle.state_fits.specs.Spoken.{one_more}
-use Rattle.state_fits.proofs.Holders.{and_apart}
 use Rattle.state_fits.proofs.OnePlace.{at_page_each}
 use Rattle.state_fits.proofs.PartsSet.{frames_set, processes_set, spoken_read, spoken_set}
 use Rattle.state_fits.proofs.SimpleParts.{none_failed, read_process}
-use Rattle.state_fits.proofs.ValidEntries.{IsValidAt, valid_at_page}
 
 touched_alike : (g : Page) (rows other : ℕ → ℕ → Option ChargedPage) → ((p v : ℕ) → rows p v ≡ other p v) → (q w : ℕ) → touched_rows g rows q w ≡ touched_rows g other q w
 touched_alike (Shared s i) rows other same q w = same q w
@@ -87,9 +88,15 @@ module _ (charged touched : List Page) (lies : Page → Option BlockId) (assigne
   touched_there q w p v apart =
       rw apart (ap (λ (b : Bool). row_with (has_page charged (Private (proc p) v)) b p v) (with_same touched (Private q w) (Private (proc p) v) (and_apart q.0 p w v apart)))
 
-  pub touched_charged : (g : Page) (p v : ℕ) → charged_row charged (touched_with touched g) lies assigned p v ≡ touched_rows g (charged_row charged touched lies assigned) p v
-  touched_charged (Shared s i) p v = refl
-  touched_charged (Private q w) p v = at_page_each (λ r u. charged_row charged (with_page touched (Private q w)) lies assigned r u ≡ changed_at rows q.0 w (touched_row (rows q.0 w)) r u) q.0 w (touched_here q w) (touched_there q w) p v
+  -- a shared page has no row here
+  touched_apart : (b : Bool) (s : SecId) (i p v : ℕ) → charged_row charged (if b then with_page touched (Shared s i) else touched) lies assigned p v ≡ charged_row charged touched lies assigned p v
+  unfolding charged_row
+  touched_apart true s i p v = ap (λ (c : Bool). row_with (has_page charged (Private (proc p) v)) c p v) (with_same touched (Shared s i) (Private (proc p) v) refl)
+  touched_apart false s i p v = refl
+
+  pub touched_charged : (config : Config) (g : Page) (p v : ℕ) → charged_row charged (touched_with config touched g) lies assigned p v ≡ touched_rows g (charged_row charged touched lies assigned) p v
+  touched_charged config (Shared s i) p v = touched_apart (is_paged config (Shared s i)) s i p v
+  touched_charged config (Private q w) p v = at_page_each (λ r u. charged_row charged (with_page touched (Private q w)) lies assigned r u ≡ changed_at rows q.0 w (touched_row (rows q.0 w)) r u) q.0 w (touched_here q w) (touched_there q w) p v
 
 module _ (config : Config) (past : List Entry) (a : Pager) (seat : Seat) (r : Ref) (reply : Reply) (kept : IsKept config (past_view past) a)
     (legal : IsLegal config past a (record { seat = seat; what = what.Done r reply })) (parts : Parts) (fit : PartsFit config past a parts) where
@@ -180,9 +187,9 @@ module _ (config : Config) (past : List Entry) (a : Pager) (seat : Seat) (r : Re
             (λ q. refl);
         tables = fit.tables;
         sections = fit.sections;
-        pages = subst (λ (o : Option Page). PagesFit (charged_row a.charged (touched_at a.touched o) a.lies a.assigned) (length config.procs) pages') (sym at.mapped) (record {
+        pages = subst (λ (o : Option Page). PagesFit (charged_row a.charged (touched_at config a.touched o) a.lies a.assigned) (length config.procs) pages') (sym at.mapped) (record {
           procs = procs ∙ fit.pages.procs;
-          each = λ q w. touched q w ∙ (touched_alike at.page (charged_at parts.pages) (charged_row a.charged a.touched a.lies a.assigned) fit.pages.each q w ∙ sym (touched_charged a.charged a.touched a.lies a.assigned at.page q w));
+          each = λ q w. touched q w ∙ (touched_alike at.page (charged_at parts.pages) (charged_row a.charged a.touched a.lies a.assigned) fit.pages.each q w ∙ sym (touched_charged a.charged a.touched a.lies a.assigned config at.page q w));
         });
         globals = fit.globals;
         file = fit.file;

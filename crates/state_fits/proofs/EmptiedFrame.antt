@@ -35,16 +35,17 @@ use Rattle.pager_rules.proofs.Basics.{at_number_other, at_number_same, find_none
 use Rattle.pager_rules.proofs.Pages.{own_is}
 use Rattle.pager_rules.proofs.Put.{page_apart}
 use Rattle.pager_rules.specs.Kept.{IsKept}
+use Rattle.page_holders.proofs.Holders.{holder_elsewhere, holder_none, holder_there, holds_within}
+use Rattle.page_holders.proofs.SectionNumbers.{number_within, numbers_differ}
+use Rattle.page_holders.proofs.EntryPages.{mapped_there}
 use Rattle.state_fits.specs.Changes.{released_in}
 use Rattle.state_fits.specs.Entries.{TablesFit, origin_of, own_place, place_by, pte_of, resting_place, section_page_number}
 use Rattle.state_fits.specs.Frames.{FramesFit, frame_row, row_by, slot_for}
 use Rattle.state_fits.specs.Globals.{GlobalsFit, shares_held}
 use Rattle.state_fits.proofs.FrameRows.{row_is, row_stays}
-use Rattle.state_fits.proofs.Holders.{holder_elsewhere, holder_none, holder_there, holds_within, pte_stays}
+use Rattle.state_fits.proofs.ShownEntries.{pte_stays}
 use Rattle.state_fits.proofs.KnownEntries.{placed_at, pte_known}
 use Rattle.state_fits.proofs.PartsSet.{frames_set, tables_same, tables_set}
-use Rattle.state_fits.proofs.SectionNumbers.{number_within, numbers_differ}
-use Rattle.state_fits.proofs.EntryPages.{mapped_there}
 
 abbrev number_of : Config → Page → ℕ
 number_of config (Private p v) = 0

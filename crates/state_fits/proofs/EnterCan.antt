@@ -19,6 +19,9 @@ use Rattle.pager_model.specs.Lookups.{entry_of as valid_of, is, page_by, shares}
 use Rattle.pager_model.specs.OfConfig.{IsOfConfig}
 use Rattle.pager_model.specs.Pager.{Pager}
 use Rattle.pager_rules.specs.Kept.{IsKept}
+use Rattle.page_holders.proofs.Holders.{holder_there, holds_within}
+use Rattle.page_holders.proofs.SectionNumbers.{number_within}
+use Rattle.page_holders.proofs.EntryPages.{mapped_right}
 use Rattle.state_fits.specs.Changes.{page_slot}
 use Rattle.state_fits.specs.Entries.{section_page_number}
 use Rattle.state_fits.specs.Globals.{shares_held}
@@ -27,10 +30,7 @@ use Rattle.state_fits.specs.PartsFit.{PartsFit}
 use Rattle.state_fits.proofs.FewShares.{few_shares}
 use Rattle.state_fits.proofs.FrameRows.{row_read}
 use Rattle.state_fits.proofs.GoodEntries.{good_valid}
-use Rattle.state_fits.proofs.Holders.{holder_there, holds_within}
 use Rattle.state_fits.proofs.KnownEntries.{placed_entry, pte_known}
-use Rattle.state_fits.proofs.SectionNumbers.{number_within}
-use Rattle.state_fits.proofs.EntryPages.{mapped_right}
 
 -- a page whose count of valid entries can go up
 abbrev pub CanShare : Config → GlobalPages → Page → Type 0

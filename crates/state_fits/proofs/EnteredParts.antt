@@ -27,17 +27,17 @@ use Rattle.pager_model.specs.Sets.{at_number}
 use Rattle.pager_rules.proofs.Basics.{at_number_other, at_number_same, count_cons_no, count_cons_yes, find_cons_no, find_cons_yes, find_none_from_count, nat_eq_refl}
 use Rattle.pager_rules.proofs.Pages.{own_is}
 use Rattle.pager_rules.specs.Kept.{IsKept}
+use Rattle.page_holders.proofs.EntryPages.{mapped_there, own_frame}
 use Rattle.state_fits.specs.Changes.{page_slot, shared_in}
 use Rattle.state_fits.specs.Entries.{TablesFit, pte_of}
 use Rattle.state_fits.specs.Frames.{FramesFit, frame_row, slot_for}
 use Rattle.state_fits.specs.Globals.{GlobalsFit}
 use Rattle.state_fits.proofs.EnteredFrame.{IsPut, entered_here, entered_there}
 use Rattle.state_fits.proofs.GlobalShares.{globals_shared}
-use Rattle.state_fits.proofs.Holders.{pte_stays}
+use Rattle.state_fits.proofs.ShownEntries.{pte_stays}
 use Rattle.state_fits.proofs.KnownEntries.{placed_at, pte_known, pte_valid}
 use Rattle.state_fits.proofs.PartsSet.{frames_set, tables_set}
 use Rattle.state_fits.proofs.RingSlots.{slot_put, slot_stays}
-use Rattle.state_fits.proofs.EntryPages.{mapped_there, own_frame}
 
 -- the row of a frame for which one valid entry more is there
 abbrev pub entered_row : Page → Bool → ℕ → Row → Row

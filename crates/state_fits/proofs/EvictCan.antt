@@ -35,6 +35,9 @@ use Rattle.pager_model.specs.Pager.{Pager}
 use Rattle.pager_model.specs.Step.{IsLegal}
 use Rattle.pager_rules.proofs.Frames.{active_frame}
 use Rattle.pager_rules.specs.Kept.{IsKept}
+use Rattle.page_holders.proofs.Holders.{holder_there}
+use Rattle.page_holders.proofs.SectionNumbers.{number_within}
+use Rattle.page_holders.proofs.EntryPages.{mapped_right}
 use Rattle.state_fits.specs.Changes.{place_left}
 use Rattle.state_fits.specs.Entries.{section_page_number}
 use Rattle.state_fits.specs.Globals.{shares_held}
@@ -44,11 +47,8 @@ use Rattle.state_fits.specs.Processes.{process_row}
 use Rattle.state_fits.proofs.EvictParts.{below, gone, held, kept, one_share, process, valid_there}
 use Rattle.state_fits.proofs.FrameRows.{row_read}
 use Rattle.state_fits.proofs.GoodEntries.{good_left}
-use Rattle.state_fits.proofs.Holders.{holder_there}
 use Rattle.state_fits.proofs.KnownEntries.{placed_entry, pte_valid}
 use Rattle.state_fits.proofs.PartsSet.{process_read}
-use Rattle.state_fits.proofs.SectionNumbers.{number_within}
-use Rattle.state_fits.proofs.EntryPages.{mapped_right}
 use Rattle.state_fits.proofs.WhyEvicted.{IsGivenUp}
 
 -- a page whose count of valid entries can go down

@@ -41,6 +41,8 @@ use Rattle.pager_rules.proofs.Pages.{own_is}
 use Rattle.pager_rules.proofs.Quiet.{no_failure}
 use Rattle.pager_rules.proofs.Turns.{calm, no_reuse}
 use Rattle.pager_rules.specs.Kept.{IsKept}
+use Rattle.page_holders.proofs.Holders.{holder_there, holds_within}
+use Rattle.page_holders.proofs.EntryPages.{entry_page, gone_here, gone_there, mapped_right, mapped_there, only_entry, own_frame}
 use Rattle.state_fits.specs.Changes.{place_left, unshared_in}
 use Rattle.state_fits.specs.Entries.{TablesFit, pte_of}
 use Rattle.state_fits.specs.Frames.{FramesFit, frame_row, row_by, slot_for}
@@ -50,11 +52,10 @@ use Rattle.state_fits.specs.PartsFit.{PartsFit}
 use Rattle.state_fits.specs.Processes.{process_row}
 use Rattle.state_fits.proofs.FrameRows.{row_is, row_read, row_stays}
 use Rattle.state_fits.proofs.GlobalShares.{globals_unshared}
-use Rattle.state_fits.proofs.Holders.{holder_there, holds_within, pte_stays}
+use Rattle.state_fits.proofs.ShownEntries.{pte_stays}
 use Rattle.state_fits.proofs.KnownEntries.{placed_at, pte_left, pte_valid}
 use Rattle.state_fits.proofs.PartsSet.{frames_set, process_read, processes_set, tables_set}
 use Rattle.state_fits.proofs.RingSlots.{slot_gone, slot_stays}
-use Rattle.state_fits.proofs.EntryPages.{entry_page, gone_here, gone_there, mapped_right, mapped_there, only_entry, own_frame}
 use Rattle.state_fits.proofs.WhyEvicted.{IsGivenUp, given_up}
 
 -- the row of a frame for which one valid entry less is there

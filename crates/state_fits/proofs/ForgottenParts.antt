@@ -39,6 +39,7 @@ use Rattle.pager_rules.specs.Kept.{IsKept}
 use Rattle.state_parts.specs.ChargedTable.{ChargedTable, charged_at}
 use Rattle.state_parts.specs.SwapTable.{SwapTable, swapped_at}
 use Rattle.state_parts.specs.declared.charged_page.ChargedPage.{ChargedPage}
+use Rattle.page_holders.proofs.Holders.{holder_elsewhere, holder_holds, holds_within, none_listed}
 use Rattle.state_fits.specs.Entries.{pte_of}
 use Rattle.state_fits.specs.File.{FileFits, owner_in}
 use Rattle.state_fits.specs.Forgetting.{emptied_frame, uncharged_page}
@@ -50,7 +51,7 @@ use Rattle.state_fits.specs.PartsFit.{PartsFit}
 use Rattle.state_fits.specs.Swaps.{SwapsFit}
 use Rattle.state_fits.proofs.BlockFreed.{length_without, released}
 use Rattle.state_fits.proofs.FrameRows.{row_stays}
-use Rattle.state_fits.proofs.Holders.{globals_same, holder_elsewhere, holder_holds, holds_within, none_listed, pte_stays}
+use Rattle.state_fits.proofs.ShownEntries.{globals_same, pte_stays}
 use Rattle.state_fits.proofs.PartsSet.{frames_set, pages_set, tables_same}
 
 -- ---- lists without what passes q

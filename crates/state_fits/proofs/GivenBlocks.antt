@@ -12,6 +12,7 @@ use Rattle.vm_types.specs.declared.names.BlockId.TheVariants as block
 use Rattle.vm_types.specs.declared.names.Page.{Page}
 use Rattle.vm_types.specs.declared.names.Page.TheVariants.{Private, Shared}
 use Rattle.vm_types.specs.declared.names.Proc.{Proc}
+use Rattle.vm_types.specs.declared.names.SecId.{SecId}
 use Rattle.page_file.specs.Blocks.{Blocks, owner_of}
 use Rattle.state_parts.specs.ChargedTable.{ChargedTable, charged_at}
 use Rattle.state_parts.specs.declared.charged_page.ChargedPage.{ChargedPage}
@@ -24,11 +25,11 @@ use Rattle.pager_model.specs.Sets.{has_page}
 use Rattle.pager_rules.proofs.Basics.{count_set, find_cons_no, find_cons_yes, find_none_from_count, nat_eq_refl, same_page_refl}
 use Rattle.pager_rules.proofs.Put.{no_block, no_blocks}
 use Rattle.pager_rules.specs.Kept.{FitsPage, IsKept}
+use Rattle.page_holders.proofs.Holders.{and_apart}
 use Rattle.state_fits.specs.File.{FileFits, has_block, owner_in}
-use Rattle.state_fits.specs.Pages.{PagesFit, charged_row}
+use Rattle.state_fits.specs.Pages.{HasNoPaged, PagesFit, charged_row}
 use Rattle.state_fits.specs.Writes.{block_given, block_taken, taken_by, taken_if, with_block}
 use Rattle.state_fits.proofs.ChargedRows.{charged_is, counted_page, pages_alike, pages_changed}
-use Rattle.state_fits.proofs.Holders.{and_apart}
 use Rattle.state_fits.proofs.OnePlace.{at_each}
 
 -- ---- the page file, with one assignment more
@@ -53,11 +54,10 @@ file_given charged assigned n file g b fit below free = record {
 
 -- ---- the page that is written
 -- a shared page lies in its section's block
-not_in_file : (x : Page) (view : PageView) (n : ℕ) → FitsPage x view → is_private x ≡ false → view.lies ≡ Some (block.PageFile n) → ⊥
-not_in_file (Private p v) view n fits shared lies = true≢false shared
-not_in_file (Shared s i) view n fits shared lies = let there = fits.shared s i refl in cc
+not_in_file : (s : SecId) (i : ℕ) (view : PageView) (n : ℕ) → FitsPage (Shared s i) view → view.paged ≡ false → view.lies ≡ Some (block.PageFile n) → ⊥
+not_in_file s i view n fits file lies = let there = fits.shared s i refl file in cc
 
-module _ (config : Config) (o : PastView) (a : Pager) (f : ℕ) (kept : IsKept config o a) (n : ℕ) (table : ChargedTable) (fit : PagesFit (charged_row a.charged a.touched a.lies a.assigned) n table) where
+module _ (config : Config) (o : PastView) (a : Pager) (f : ℕ) (kept : IsKept config o a) (plain : HasNoPaged config) (n : ℕ) (table : ChargedTable) (fit : PagesFit (charged_row a.charged a.touched a.lies a.assigned) n table) where
   abbrev given_table : BlockId → Page → ChargedTable → Type 0
   given_table d x new = (new.procs ≡ table.procs) × ((q w : ℕ) → charged_at new q w ≡ block_given d (Some x) (charged_at table) q w)
 
@@ -121,6 +121,6 @@ module _ (config : Config) (o : PastView) (a : Pager) (f : ℕ) (kept : IsKept c
     given_block (block.Section s i) x new holds why given = (pages_alike (charged_row a.charged a.touched a.lies a.assigned) n table new fit given.0 given.1, file)
     given_block (block.Swap q i) x new holds why given = (pages_alike (charged_row a.charged a.touched a.lies a.assigned) n table new fit given.0 given.1, file)
     given_block (block.PageFile b) (Private p v) new holds why given = given_private p v b new holds why given (nat_eq (count_by (is_assigned_to (Private p v)) a.assigned) 0) refl
-    given_block (block.PageFile b) (Shared s i) new holds (inl section) given = absurd (not_in_file (Shared s i) (page_view config a (Shared s i)) b (kept.pages (Shared s i)) section.0 section.1)
-    given_block (block.PageFile b) (Shared s i) new holds (inr (inl had)) given = absurd (false≢true had.1)
-    given_block (block.PageFile b) (Shared s i) new holds (inr (inr free)) given = absurd (false≢true free.1)
+    given_block (block.PageFile b) (Shared s i) new holds (inl section) given = absurd (not_in_file s i (page_view config a (Shared s i)) b (kept.pages (Shared s i)) section.0 section.1)
+    given_block (block.PageFile b) (Shared s i) new holds (inr (inl had)) given = absurd (false≢true (sym (plain s) ∙ had.1))
+    given_block (block.PageFile b) (Shared s i) new holds (inr (inr free)) given = absurd (false≢true (sym (plain s) ∙ free.1))

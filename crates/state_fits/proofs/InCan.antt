@@ -40,6 +40,8 @@ use Rattle.pager_rules.proofs.Put.{no_entry}
 use Rattle.pager_rules.specs.Kept.{IsKept}
 use Rattle.state_parts.specs.ChargedTable.{HasPage, charged_at}
 use Rattle.state_parts.specs.declared.process_row.ProcessRow.{ProcessRow}
+use Rattle.page_holders.proofs.SectionNumbers.{number_within}
+use Rattle.page_holders.proofs.EntryPages.{mapped_right}
 use Rattle.state_fits.specs.Entries.{section_page_number}
 use Rattle.state_fits.specs.Frames.{frame_row}
 use Rattle.state_fits.specs.Parts.{Parts}
@@ -52,21 +54,19 @@ use Rattle.state_fits.proofs.InParts.{IsChargedNow, IsReadable, WasCharged, char
 use Rattle.state_fits.proofs.KnownEntries.{placed_entry}
 use Rattle.state_fits.proofs.PartsSet.{process_read}
 use Rattle.state_fits.proofs.ReadBegun.{free_row, pte_away}
-use Rattle.state_fits.proofs.SectionNumbers.{number_within}
-use Rattle.state_fits.proofs.EntryPages.{mapped_right}
 
 -- of every role
 pub record CanRead (config : Config) (parts : Parts) (seat f : ℕ) (x : Page) : Type 0 where
   pub below : f < length (parts.frames).rows
-  pub number : f < 4096
+  pub number : f < 16384
   pub head : slice_get (parts.frames).free 0 ≡ Some f
   pub empty : (row_of parts.frames f).page ≡ None
   pub starts : f < length parts.starts
   pub still : slice_index_or parts.starts f None ≡ None
   pub roles : f < length parts.roles
   pub seats : seat < length parts.busy
-  pub busy : (n : ℕ) → n ≡ slice_index_or parts.busy seat n → n ≤ 4096
-  pub in_flight : parts.in_flight ≤ 4096
+  pub busy : (n : ℕ) → n ≡ slice_index_or parts.busy seat n → n ≤ 16384
+  pub in_flight : parts.in_flight ≤ 16384
   pub mapped : (p : Proc) (v : ℕ) → x ≡ Private p v → IsMapped parts.tables p.0 v
   pub entry : (p : Proc) (v : ℕ) (pte : Pte) → x ≡ Private p v → pte_in parts.tables p.0 v ≡ Some pte → IsEntry (record pte { place = place.Transition (pfn f) })
   pub global : (s : SecId) (i : ℕ) → x ≡ Shared s i → section_page_number config s.0 i < length (parts.globals).frames
@@ -111,7 +111,7 @@ module _ (config : Config) (past : List Entry) (a : Pager) (seat : Seat) (f : Pf
   seat_there : seat.0 < length config.procs + 2
   seat_there = let few = legal.line.seat in omega (arith, few)
 
-  few_flights : length (open_flights past) ≤ 4096
+  few_flights : length (open_flights past) ≤ 16384
   few_flights = let few = flights_few config (past_view past) a kept in omega (arith, few, formed.frames.1)
 
   none_on : flight_on f.0 (open_flights past) ≡ None
@@ -171,7 +171,7 @@ module _ (config : Config) (past : List Entry) (a : Pager) (seat : Seat) (f : Pf
     faults = λ y read. ap (λ (z : ProcessRow). z.faults) (process_read (process_row a.status a.ring a.limit a.references a.faults a.collided) (length config.procs) parts.processes q.0 y fit.processes fault_there read);
     room = λ p v is none. omega (arith, first_room p v (its ∙ is) none, fit.file.charges, fit.file.count);
     page = λ p v is.
-        let of = read_page_of config past a seat f d (role.Fault q address) formed kept right legal parts fit x (fault_readable_as config past a seat f d q address formed kept legal parts fit x own) p v is in
+        let of = read_page_of config past a seat f d (role.Fault q address) formed kept right legal parts fit x (fault_readable_as config past a seat f d q address formed kept right legal parts fit x own) p v is in
         record { proc = omega (arith, of.0, fit.pages.procs); page = of.1 };
   }
     where

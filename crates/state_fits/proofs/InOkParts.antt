@@ -50,6 +50,8 @@ use Rattle.state_parts.specs.ChargedTable.{ChargedTable, charged_at}
 use Rattle.state_parts.specs.SwapTable.{SwapTable, swapped_at}
 use Rattle.state_parts.specs.declared.charged_page.ChargedPage.{ChargedPage}
 use Rattle.state_parts.specs.declared.process_row.ProcessRow.{ProcessRow}
+use Rattle.page_holders.proofs.Holders.{and_apart}
+use Rattle.page_holders.proofs.EntryPages.{mapped_right}
 use Rattle.state_fits.specs.Changes.{page_slot, shared_in}
 use Rattle.state_fits.specs.Frames.{frame_row, row_by, slot_for}
 use Rattle.state_fits.specs.Globals.{GlobalsFit}
@@ -60,14 +62,12 @@ use Rattle.state_fits.specs.Seats.{FlightsFit, SeatsFit}
 use Rattle.state_fits.proofs.EnteredFrame.{IsPut, put_there}
 use Rattle.state_fits.proofs.FlightsMoved.{flights_landed_at, one_on_frame, seats_landed_at}
 use Rattle.state_fits.proofs.GlobalShares.{globals_shared}
-use Rattle.state_fits.proofs.Holders.{and_apart}
 use Rattle.state_fits.proofs.LiesNowhere.{pages_nowhere, swaps_cleared}
 use Rattle.state_fits.proofs.PartsSet.{frames_set, process_read, processes_set}
 use Rattle.state_fits.proofs.ReadIn.{one_more, others_share, read_in_frames, read_in_tables}
 use Rattle.state_fits.proofs.ReadLanded.{IsLandedOn, landed_on}
 use Rattle.state_fits.proofs.SimpleParts.{none_failed}
 use Rattle.state_fits.proofs.UnsharedFrames.{no_entries}
-use Rattle.state_fits.proofs.EntryPages.{mapped_right}
 
 module _ (config : Config) (past : List Entry) (a : Pager) (seat : Seat) (f : Pfn) (k : ℕ) (kept : IsKept config (past_view past) a) (right : IsOfConfig config a)
     (legal : IsLegal config past a (record { seat = seat; what = what.InOk f k })) (parts : Parts) (fit : PartsFit config past a parts) where

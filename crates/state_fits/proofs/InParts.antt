@@ -28,19 +28,22 @@ use Rattle.pager_model.specs.Around.{PastView, past_view}
 use Rattle.pager_model.specs.Flights.{Flight, open_flights, reading}
 use Rattle.pager_model.specs.In.{IsFirstIn, IsInFault, IsInLying, charged_with}
 use Rattle.pager_model.specs.Lookups.{IsHead, block_of, count_page, own_page, page_by}
-use Rattle.pager_model.specs.Maps.{is_private, page_number, proc}
+use Rattle.pager_model.specs.Maps.{is_paged, is_private, page_number, proc}
+use Rattle.pager_model.specs.OfConfig.{IsOfConfig}
 use Rattle.pager_model.specs.Pager.{Pager}
 use Rattle.pager_model.specs.Sets.{at_number, has_page}
 use Rattle.pager_model.specs.Step.{after, IsLegal}
 use Rattle.pager_rules.proofs.Basics.{at_number_other, at_number_same, count_none, has_page_first}
-use Rattle.pager_rules.proofs.Pages.{own_is}
+use Rattle.pager_rules.proofs.Pages.{own_is, private_is_paged}
 use Rattle.pager_rules.proofs.Put.{no_block}
 use Rattle.pager_rules.proofs.Turns.{no_reuse}
 use Rattle.pager_rules.specs.Kept.{IsKept}
+use Rattle.pager_laws.proofs.OfConfigKept.{charged_right}
 use Rattle.pager_laws.proofs.StepKept.{step_kept}
 use Rattle.state_parts.specs.ChargedTable.{ChargedTable, charged_at}
 use Rattle.state_parts.specs.declared.charged_page.ChargedPage.{ChargedPage}
 use Rattle.state_parts.specs.declared.process_row.ProcessRow.{ProcessRow}
+use Rattle.page_holders.proofs.Holders.{and_apart, holder_there, no_block_lies, none_listed}
 use Rattle.state_fits.specs.File.{FileFits, owner_in}
 use Rattle.state_fits.specs.Pages.{PagesFit, charged_row}
 use Rattle.state_fits.specs.Parts.{Parts}
@@ -48,7 +51,6 @@ use Rattle.state_fits.specs.PartsFit.{PartsFit}
 use Rattle.state_fits.specs.Processes.{ProcessesFit, process_row}
 use Rattle.state_fits.specs.ReadBegins.{charged_in, charged_now, entry_held, file_charged, held_in, one_charge}
 use Rattle.state_fits.proofs.FlightsMoved.{flights_begun, seats_begun}
-use Rattle.state_fits.proofs.Holders.{and_apart, holder_there, no_block_lies, none_listed}
 use Rattle.state_fits.proofs.PartsSet.{pages_set, processes_set, process_read}
 use Rattle.state_fits.proofs.ReadBegun.{begun_frames, begun_globals, begun_tables, free_row}
 use Rattle.state_fits.proofs.SimpleParts.{none_failed}
@@ -62,23 +64,32 @@ pub record IsReadable (config : Config) (a : Pager) (f : ℕ) (x : Page) : Type 
   pub section : (s : SecId) (i : ℕ) → x ≡ Shared s i → IsSectionPage config.sections s.0 i
 
 -- a shared page that lies in a block of the configuration
-lying_section : (config : Config) (o : PastView) (a : Pager) (b : BlockId) (x : Page) → IsKept config o a → IsBlock config b → a.lies x ≡ Some b → (s : SecId) (i : ℕ) → x ≡ Shared s i → IsSectionPage config.sections s.0 i
-lying_section config o a b x kept there lies s i is =
-    let own = (kept.pages (Shared s i)).shared s i refl in
-    let same : b ≡ block.Section s i = let at : a.lies (Shared s i) ≡ Some b = subst (λ (g : Page). a.lies g ≡ Some b) is lies in cc (at, own) in
-    subst (IsBlock config) same there
+lying_section : (config : Config) (o : PastView) (a : Pager) (b : BlockId) (x : Page) → IsKept config o a → IsOfConfig config a → IsBlock config b → a.lies x ≡ Some b → (s : SecId) (i : ℕ) → x ≡ Shared s i → IsSectionPage config.sections s.0 i
+lying_section config o a b x kept right there lies s i is = go (is_paged config (Shared s i)) refl
+  where
+    at : a.lies (Shared s i) ≡ Some b
+    at = subst (λ (g : Page). a.lies g ≡ Some b) is lies
 
-pub lying_readable : (config : Config) (past : List Entry) (a : Pager) (f : ℕ) (b : BlockId) (x : Page) → IsKept config (past_view past) a → IsInLying config past a f b x → IsReadable config a f x
-lying_readable config past a f b x kept legal = record {
+    go : (c : Bool) → is_paged config (Shared s i) ≡ c → IsSectionPage config.sections s.0 i
+    go true paged =
+        let one = (kept.pages (Shared s i)).lying b paged at in
+        (charged_right config a.charged (Shared s i) (omega (arith, one)) right.charged).0
+    go false paged =
+        let own = (kept.pages (Shared s i)).shared s i refl paged in
+        let same : b ≡ block.Section s i = cc (at, own) in
+        (subst (IsBlock config) same there).0
+
+pub lying_readable : (config : Config) (past : List Entry) (a : Pager) (f : ℕ) (b : BlockId) (x : Page) → IsKept config (past_view past) a → IsOfConfig config a → IsInLying config past a f b x → IsReadable config a f x
+lying_readable config past a f b x kept right legal = record {
   head = legal.frame.head;
   empty = legal.frame.empty;
   out = legal.out;
-  own = λ private. (kept.pages x).mapped (let one = (kept.pages x).lying b private legal.lies in omega (arith, one));
-  section = lying_section config (past_view past) a b x kept legal.home.exists legal.lies;
+  own = λ private. (kept.pages x).mapped (let one = (kept.pages x).lying b (private_is_paged config x private) legal.lies in omega (arith, one)) private;
+  section = lying_section config (past_view past) a b x kept right legal.home.exists legal.lies;
 }
 
-pub fault_readable : (config : Config) (past : List Entry) (a : Pager) (p f : ℕ) (b : BlockId) (q address : ℕ) → IsKept config (past_view past) a → (legal : IsInFault config past a p f b q address) → IsReadable config a f legal.page
-fault_readable config past a p f b q address kept legal = record {
+pub fault_readable : (config : Config) (past : List Entry) (a : Pager) (p f : ℕ) (b : BlockId) (q address : ℕ) → IsKept config (past_view past) a → IsOfConfig config a → (legal : IsInFault config past a p f b q address) → IsReadable config a f legal.page
+fault_readable config past a p f b q address kept right legal = record {
   head = legal.frame.head;
   empty = legal.frame.empty;
   out = legal.out;
@@ -87,7 +98,7 @@ fault_readable config past a p f b q address kept legal = record {
 }
   where
     by : (a.lies legal.page ≡ Some b) ⊎ IsFirstIn config a p (page_number address) b legal.page → (s : SecId) (i : ℕ) → legal.page ≡ Shared s i → IsSectionPage config.sections s.0 i
-    by (inl lies) s i is = lying_section config (past_view past) a b legal.page kept legal.home.exists lies s i is
+    by (inl lies) s i is = lying_section config (past_view past) a b legal.page kept right legal.home.exists lies s i is
     by (inr first) s i is = absurd (false≢true (sym (ap is_private is) ∙ first.private))
 
 -- what the calls tell of the frame's row, of the page's entry and of its global page
@@ -99,7 +110,7 @@ pub record IsReadBegun (config : Config) (parts : Parts) (f : ℕ) (x : Page) (p
   pub each : (q w : ℕ) → pte_in entries q w ≡ entry_held x f (pte_in parts.tables) q w
   pub global : globals ≡ held_in config x f parts.globals
 
-module _ (config : Config) (past : List Entry) (a : Pager) (seat : Seat) (f : Pfn) (d : BlockId) (r : Role) (formed : IsWellFormed config) (kept : IsKept config (past_view past) a)
+module _ (config : Config) (past : List Entry) (a : Pager) (seat : Seat) (f : Pfn) (d : BlockId) (r : Role) (formed : IsWellFormed config) (kept : IsKept config (past_view past) a) (right : IsOfConfig config a)
     (legal : IsLegal config past a (record { seat = seat; what = what.In f d r })) (parts : Parts) (fit : PartsFit config past a parts) where
   abbrev pub e : Entry
   e = record { seat = seat; what = what.In f d r }
@@ -226,7 +237,7 @@ module _ (config : Config) (past : List Entry) (a : Pager) (kept : IsKept config
           (record { count = fit.file.count; charges = let is = fit.file.charges in omega (arith, is); blocks = fit.file.blocks; owners = fit.file.owners })
       by (inr (was, (row, is))) = subst₂ Fits (sym was) (sym is) fit.file
 
-module _ (config : Config) (past : List Entry) (a : Pager) (seat : Seat) (f : Pfn) (d : BlockId) (q : Proc) (address : Addr) (formed : IsWellFormed config) (kept : IsKept config (past_view past) a)
+module _ (config : Config) (past : List Entry) (a : Pager) (seat : Seat) (f : Pfn) (d : BlockId) (q : Proc) (address : Addr) (formed : IsWellFormed config) (kept : IsKept config (past_view past) a) (right : IsOfConfig config a)
     (legal : IsLegal config past a (record { seat = seat; what = what.In f d (role.Fault q address) })) (parts : Parts) (fit : PartsFit config past a parts) where
   abbrev entry : Entry
   entry = record { seat = seat; what = what.In f d (role.Fault q address) }
@@ -237,7 +248,7 @@ module _ (config : Config) (past : List Entry) (a : Pager) (seat : Seat) (f : Pf
   pub fault_readable_as : (x : Page) → page_by config a.map q.0 (page_number address.0) ≡ Some x → IsReadable config a f.0 x
   fault_readable_as x own =
       let is : legal.row.page ≡ x = let first = fault_page in cc (first, own) in
-      subst (IsReadable config a f.0) is (fault_readable config past a seat.0 f.0 d q.0 address.0 kept legal.row)
+      subst (IsReadable config a f.0) is (fault_readable config past a seat.0 f.0 d q.0 address.0 kept right legal.row)
 
   fault_process : q.0 < length config.procs
   fault_process = subst (λ (p : ℕ). p < length config.procs) (sym legal.row.self) legal.row.own.process
@@ -297,7 +308,7 @@ module _ (config : Config) (past : List Entry) (a : Pager) (seat : Seat) (f : Pf
         busy = slice_set parts.busy seat.0 (n + 1);
         in_flight = parts.in_flight + 1;
       })) (sym own)
-      (read_parts config past a seat f d (role.Fault q address) formed kept legal parts fit x faults (charged_with a.charged (Some x)) (fault_readable_as x own)
+      (read_parts config past a seat f d (role.Fault q address) formed kept right legal parts fit x faults (charged_with a.charged (Some x)) (fault_readable_as x own)
       (subst (λ (o : Option Page). IsKept config (past_view (entry ∷ past)) (put o)) own (step_kept config past a entry formed kept legal))
       frames' tables' globals' moved _ (fault_processes y read)
       pages' (fault_pages config past a kept parts fit x pages' procs changed)
@@ -307,7 +318,7 @@ module _ (config : Config) (past : List Entry) (a : Pager) (seat : Seat) (f : Pf
       put o = record a { state = at_number a.state f.0 state.Reading; page = at_number a.page f.0 o; free = without a.free f.0; faults = at_number a.faults q.0 (a.faults q.0 + 1); charged = charged_with a.charged o }
 
 -- ---- NEAR
-module _ (config : Config) (past : List Entry) (a : Pager) (seat : Seat) (f : Pfn) (d : BlockId) (x : Page) (formed : IsWellFormed config) (kept : IsKept config (past_view past) a)
+module _ (config : Config) (past : List Entry) (a : Pager) (seat : Seat) (f : Pfn) (d : BlockId) (x : Page) (formed : IsWellFormed config) (kept : IsKept config (past_view past) a) (right : IsOfConfig config a)
     (legal : IsLegal config past a (record { seat = seat; what = what.In f d (role.Near x) })) (parts : Parts) (fit : PartsFit config past a parts) where
   pub in_near_parts : (frames' : Frames) (tables' : PageTables) (globals' : GlobalPages) → IsReadBegun config parts f.0 x frames' tables' globals'
       → (n : ℕ) → n ≡ slice_index_or parts.busy seat.0 n
@@ -321,12 +332,12 @@ module _ (config : Config) (past : List Entry) (a : Pager) (seat : Seat) (f : Pf
         in_flight = parts.in_flight + 1;
       })
   in_near_parts frames' tables' globals' moved n read =
-      read_parts config past a seat f d (role.Near x) formed kept legal parts fit x a.faults a.charged (lying_readable config past a f.0 d x kept legal.row.lying)
+      read_parts config past a seat f d (role.Near x) formed kept right legal parts fit x a.faults a.charged (lying_readable config past a f.0 d x kept right legal.row.lying)
       (step_kept config past a (record { seat = seat; what = what.In f d (role.Near x) }) formed kept legal)
       frames' tables' globals' moved parts.processes fit.processes parts.pages fit.pages parts.file fit.file n read
 
 -- ---- COME
-module _ (config : Config) (past : List Entry) (a : Pager) (seat : Seat) (f : Pfn) (d : BlockId) (q : Proc) (address : Addr) (formed : IsWellFormed config) (kept : IsKept config (past_view past) a)
+module _ (config : Config) (past : List Entry) (a : Pager) (seat : Seat) (f : Pfn) (d : BlockId) (q : Proc) (address : Addr) (formed : IsWellFormed config) (kept : IsKept config (past_view past) a) (right : IsOfConfig config a)
     (legal : IsLegal config past a (record { seat = seat; what = what.In f d (role.Come q address) })) (parts : Parts) (fit : PartsFit config past a parts) where
   abbrev come_entry : Entry
   come_entry = record { seat = seat; what = what.In f d (role.Come q address) }
@@ -334,7 +345,7 @@ module _ (config : Config) (past : List Entry) (a : Pager) (seat : Seat) (f : Pf
   pub come_readable : (x : Page) → page_by config a.map q.0 (page_number address.0) ≡ Some x → IsReadable config a f.0 x
   come_readable x own =
       let is : legal.row.page ≡ x = let first = legal.row.mapped in cc (first, own) in
-      subst (IsReadable config a f.0) is (lying_readable config past a f.0 d legal.row.page kept legal.row.lying)
+      subst (IsReadable config a f.0) is (lying_readable config past a f.0 d legal.row.page kept right legal.row.lying)
 
   pub in_come_parts : (x : Page) → page_by config a.map q.0 (page_number address.0) ≡ Some x
       → (frames' : Frames) (tables' : PageTables) (globals' : GlobalPages) → IsReadBegun config parts f.0 x frames' tables' globals'
@@ -358,7 +369,7 @@ module _ (config : Config) (past : List Entry) (a : Pager) (seat : Seat) (f : Pf
         busy = slice_set parts.busy seat.0 (n + 1);
         in_flight = parts.in_flight + 1;
       })) (sym own)
-      (read_parts config past a seat f d (role.Come q address) formed kept legal parts fit x a.faults a.charged (come_readable x own)
+      (read_parts config past a seat f d (role.Come q address) formed kept right legal parts fit x a.faults a.charged (come_readable x own)
       (subst (λ (o : Option Page). IsKept config (past_view (come_entry ∷ past)) (put o)) own (step_kept config past a come_entry formed kept legal))
       frames' tables' globals' moved parts.processes fit.processes parts.pages fit.pages parts.file fit.file n read)
     where

@@ -3,7 +3,7 @@ use Rattle.std.proofs.Common.{◌≡◌, ℕ, ◌<◌, ◌≤◌, ◌+◌, Bool,
 use Rattle.std.specs.Prelude.{IsSome, is_some}
 use Rattle.std.specs.Option.{option_and_then}
 use Rattle.std.proofs.lemmas.Option.{get_or_from_slice_get, slice_get_within}
-use Rattle.vm_types.specs.Configuration.{IsProcess, IsWellFormed}
+use Rattle.vm_types.specs.Configuration.{IsProcess, IsWellFormed, all_pins}
 use Rattle.vm_types.specs.Ring.{filled}
 use Rattle.vm_types.specs.Same.{same_page}
 use Rattle.vm_types.specs.declared.config.Config.{Config}
@@ -44,6 +44,9 @@ use Rattle.pager_rules.specs.Kept.{IsKept}
 use Rattle.state_parts.specs.ChargedTable.{HasPage, charged_at}
 use Rattle.state_parts.specs.SwapTable.{HasSlot}
 use Rattle.state_parts.specs.declared.process_row.ProcessRow.{ProcessRow}
+use Rattle.page_holders.proofs.Holders.{holder_there}
+use Rattle.page_holders.proofs.SectionNumbers.{number_within}
+use Rattle.page_holders.proofs.EntryPages.{mapped_right}
 use Rattle.state_fits.specs.Entries.{section_page_number}
 use Rattle.state_fits.specs.Frames.{row_by}
 use Rattle.state_fits.specs.Globals.{shares_held}
@@ -53,7 +56,6 @@ use Rattle.state_fits.specs.Processes.{process_row}
 use Rattle.state_fits.specs.Seats.{role_by, role_on}
 use Rattle.state_fits.proofs.FlightsMoved.{flight_is, one_on_frame, seat_has, seat_read, seat_few}
 use Rattle.state_fits.proofs.GoodEntries.{good_valid}
-use Rattle.state_fits.proofs.Holders.{holder_there}
 use Rattle.state_fits.proofs.InCan.{has_place}
 use Rattle.state_fits.proofs.InFailParts.{in_fail_on}
 use Rattle.state_fits.proofs.InOkParts.{come_empty, come_lies, come_own, come_page, come_swap, come_there, facts, in_ok_on}
@@ -62,9 +64,7 @@ use Rattle.state_fits.proofs.LiesNowhere.{charged_there}
 use Rattle.state_fits.proofs.OnePlace.{read_is}
 use Rattle.state_fits.proofs.PartsSet.{process_read}
 use Rattle.state_fits.proofs.ReadLanded.{IsLandedOn, landing_row}
-use Rattle.state_fits.proofs.SectionNumbers.{number_within}
 use Rattle.state_fits.proofs.UnsharedFrames.{no_entries}
-use Rattle.state_fits.proofs.EntryPages.{mapped_right}
 
 -- a page that a list counts is in it
 listed : (pages : List Page) (g : Page) → count_page pages g ≡ 1 → has_page pages g ≡ true
@@ -196,8 +196,8 @@ module _ (config : Config) (past : List Entry) (a : Pager) (seat : Seat) (f : Pf
         few None none = let zero = ((kept.processes q.0).none none).1 in absurd (omega (arith, zero, within))
         few (Some spec) found =
             let bounded = (kept.processes q.0).bounds spec found in
-            let process : IsProcess config.frames (length config.bad) spec
-            = subst (IsProcess config.frames (length config.bad)) (get_or_from_slice_get config.procs q.0 spec spec found) (formed.procs q.0 spec (slice_get_within config.procs q.0 spec found)) in
+            let process : IsProcess config.frames (length config.bad + all_pins config) spec
+            = subst (IsProcess config.frames (length config.bad + all_pins config)) (get_or_from_slice_get config.procs q.0 spec spec found) (formed.procs q.0 spec (slice_get_within config.procs q.0 spec found)) in
             omega (arith, within, bounded.slots, process.most)
 
     -- what is kept of the page

@@ -1,9 +1,8 @@
 pub mod OnePlace
 pub mod PartsSet
-pub mod Holders
+pub mod ShownEntries
 pub mod RingSlots
 pub mod SimpleParts
-pub mod ValidEntries
 pub mod DoneParts
 pub mod EnteredFrame
 pub mod ZeroParts
@@ -12,7 +11,6 @@ pub mod BackParts
 pub mod EmptiedFrame
 pub mod EnterCan
 pub mod EnteredParts
-pub mod EntryPages
 pub mod EvictCan
 pub mod EvictParts
 pub mod FewShares
@@ -23,13 +21,10 @@ pub mod KnownEntries
 pub mod LiesNowhere
 pub mod ReuseCan
 pub mod ReuseParts
-pub mod RingBounds
-pub mod SectionNumbers
 pub mod UnchargedPage
 pub mod WhyEvicted
 pub mod Bounds
 pub mod ChargedRows
-pub mod FewAssigned
 pub mod FirstNumbers
 pub mod FlightsMoved
 pub mod GivenBlocks

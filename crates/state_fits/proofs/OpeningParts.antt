@@ -23,6 +23,7 @@ use Rattle.pager_model.specs.Maps.{Mapped, first_map, mapped_by, page_behind}
 use Rattle.pager_model.specs.Opening.{first_block, first_limit, first_ring, is_bad, opening}
 use Rattle.pager_model.specs.Sets.{has}
 use Rattle.pager_rules.proofs.Basics.{count_replicate, nat_eq_apart}
+use Rattle.page_holders.proofs.Holders.{holder_none}
 use Rattle.state_fits.specs.Entries.{origin_of, place_away, pte_at, pte_of, section_page_number}
 use Rattle.state_fits.specs.Frames.{FramesFit, frame_row}
 use Rattle.vm_types.specs.Configuration.{section_pages}
@@ -33,7 +34,6 @@ use Rattle.state_fits.specs.Pages.{charged_row}
 use Rattle.state_fits.specs.Parts.{Parts}
 use Rattle.state_fits.specs.PartsFit.{PartsFit}
 use Rattle.state_fits.specs.Processes.{ProcessesFit, process_row}
-use Rattle.state_fits.proofs.Holders.{holder_none}
 
 nat_eq_sym : (m n : ℕ) → nat_eq m n ≡ nat_eq n m
 nat_eq_sym m n = go (nat_eq m n) refl
@@ -101,17 +101,17 @@ processes_opened config =
 none_held : (config : Config) (g : Page) → holder config (opening config).page g ≡ None
 none_held config g = holder_none config (opening config).page g (λ f holds. let no : ⊥ = cc in no)
 
-away : (config : Config) (g : Page) (o : Origin) (held : Option ℕ) → held ≡ None → place_away config g o held (first_block g) ≡ place_away config g o None None
+away : (config : Config) (g : Page) (o : Origin) (held : Option ℕ) → held ≡ None → place_away config g o held (first_block config g) ≡ place_away config g o None None
 away config (Private p v) o held none = rw none refl
 away config (Shared s i) o held none = refl
 
-entry_opened : (config : Config) (p v : ℕ) (o : Option Mapped) → pte_at config p v (holder config (opening config).page) first_block None o ≡ option_map (first_pte config p v) o
+entry_opened : (config : Config) (p v : ℕ) (o : Option Mapped) → pte_at config p v (holder config (opening config).page) (first_block config) None o ≡ option_map (first_pte config p v) o
 entry_opened config p v None = refl
 entry_opened config p v (Some m) =
     let g : Page = page_behind config p v m.origin in
     λ i. Some (record { prot = m.prot; place = away config g m.origin (holder config (opening config).page g) (none_held config g) i })
 
-table_opened : (config : Config) (p v : ℕ) → pte_of config (first_map config) [] (opening config).page first_block p v ≡ option_map (first_pte config p v) (first_map config p v)
+table_opened : (config : Config) (p v : ℕ) → pte_of config (first_map config) [] (opening config).page (first_block config) p v ≡ option_map (first_pte config p v) (first_map config p v)
 unfolding pte_of
 table_opened config p v = entry_opened config p v (first_map config p v)
 
@@ -122,9 +122,9 @@ behind_opened config p v = go (find (covers p v) config.maps)
     go None = refl
     go (Some m) = refl
 
-uncharged : (p v : ℕ) → charged_row [] [] first_block [] p v ≡ None
+uncharged : (config : Config) (p v : ℕ) → charged_row [] [] (first_block config) [] p v ≡ None
 unfolding charged_row
-uncharged p v = refl
+uncharged config p v = refl
 
 item_in : {X : Type 0} (n i : ℕ) (x : X) → slice_index_or (replicate n x) i x ≡ x
 item_in n i x = go (cases_lt i n)
@@ -149,7 +149,7 @@ opening_parts config parts are =
       spoken = rw are.spoken (record { count = length-replicate (length config.procs) unspoken; each = λ p below. replicated (length config.procs) p unspoken below });
       tables = record { procs = are.table_procs; each = λ p v. are.entries p v ∙ sym (table_opened config p v) };
       sections = record { procs = are.section_procs; kinds = are.kinds; each = λ p v. are.behind p v ∙ behind_opened config p v };
-      pages = record { procs = are.page_procs; each = λ p v. are.pages p v ∙ sym (uncharged p v) };
+      pages = record { procs = are.page_procs; each = λ p v. are.pages p v ∙ sym (uncharged config p v) };
       globals = rw are.globals (record {
         count = length-replicate (sum_by section_pages config.sections) None;
         counts = length-replicate (sum_by section_pages config.sections) 0;

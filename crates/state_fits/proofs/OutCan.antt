@@ -25,7 +25,7 @@ use Rattle.state_parts.specs.declared.charged_page.ChargedPage.{ChargedPage}
 use Rattle.pager_model.specs.Around.{frame_view, past_view}
 use Rattle.pager_model.specs.Flights.{open_flights}
 use Rattle.pager_model.specs.Lookups.{block_of, is_owner}
-use Rattle.pager_model.specs.Maps.{is_private}
+use Rattle.pager_model.specs.Maps.{is_paged, is_private}
 use Rattle.pager_model.specs.OfConfig.{IsOfConfig}
 use Rattle.pager_model.specs.Out.{IsAnyOut, IsOutBlock}
 use Rattle.pager_model.specs.Pager.{Assigned, Pager}
@@ -36,13 +36,13 @@ use Rattle.pager_rules.proofs.Basics.{find_none_from_count}
 use Rattle.pager_rules.proofs.Frames.{modified_frame}
 use Rattle.pager_rules.proofs.Put.{head_counts, no_blocks}
 use Rattle.pager_rules.specs.Kept.{IsKept}
+use Rattle.page_holders.proofs.FewAssigned.{one_unassigned}
 use Rattle.state_fits.specs.File.{has_block}
 use Rattle.state_fits.specs.Frames.{frame_row}
 use Rattle.state_fits.specs.Parts.{Parts}
 use Rattle.state_fits.specs.PartsFit.{PartsFit}
 use Rattle.state_fits.proofs.Bounds.{place_there}
 use Rattle.state_fits.proofs.ChargedRows.{charged_is, counted_page}
-use Rattle.state_fits.proofs.FewAssigned.{one_unassigned}
 use Rattle.state_fits.proofs.FlightsMoved.{flights_few, seat_few, seat_read}
 use Rattle.state_fits.proofs.OutParts.{listed_writable, row_page, swap_active, swap_writable}
 
@@ -54,8 +54,8 @@ pub record CanBeginWrite (parts : Parts) (seat f : ℕ) : Type 0 where
   pub starts : f < length parts.starts
   pub roles : f < length parts.roles
   pub seats : seat < length parts.busy
-  pub busy : (n : ℕ) → n ≡ slice_index_or parts.busy seat n → n ≤ 4096
-  pub in_flight : parts.in_flight ≤ 4096
+  pub busy : (n : ℕ) → n ≡ slice_index_or parts.busy seat n → n ≤ 16384
+  pub in_flight : parts.in_flight ≤ 16384
 
 -- of the page, if it is private, and of the page file block that it has or is given
 pub record CanGiveBlock (parts : Parts) (d : BlockId) (p : Proc) (v b : ℕ) : Type 0 where
@@ -88,7 +88,7 @@ module _ (config : Config) (past : List Entry) (a : Pager) (seat : Seat) (f : Pf
   unfolding frame_row
   row_flights = ap (λ (r : Row). r.flights) (fit.frames.rows f.0)
 
-  few_flights : length (open_flights past) ≤ 4096
+  few_flights : length (open_flights past) ≤ 16384
   few_flights = let few = flights_few config (past_view past) a kept in omega (arith, few, formed.frames.1)
 
   pub can_begin_write : CanBeginWrite parts seat.0 f.0
@@ -121,7 +121,7 @@ module _ (config : Config) (past : List Entry) (a : Pager) (seat : Seat) (f : Pf
         sym (ap (λ (r : ChargedPage). r.assigned) same) ∙ none
 
     free_block : (x : Page) → x ≡ Private p v → block_of a.assigned (Private p v) ≡ None → IsOutBlock config a d x → IsFreeBlock parts.file b
-    free_block x is none (inl section) = absurd (let private : is_private (Private p v) ≡ false = ap is_private (sym is) ∙ section.0 in true≢false private)
+    free_block x is none (inl section) = absurd (let private : is_paged config (Private p v) ≡ false = ap (is_paged config) (sym is) ∙ section.0 in true≢false private)
     free_block x is none (inr (inl had)) = absurd (none-some had.0 (sym none ∙ (ap (block_of a.assigned) (sym is) ∙ had.2)))
     free_block x is none (inr (inr free)) =
         let same : free.0 ≡ b = let e = sym free.3 ∙ goes in cc in

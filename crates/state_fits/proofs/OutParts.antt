@@ -32,16 +32,16 @@ use Rattle.pager_rules.proofs.Lists.{count_found}
 use Rattle.pager_rules.proofs.Put.{head_counts, modified_row}
 use Rattle.pager_rules.proofs.Turns.{no_reuse}
 use Rattle.pager_rules.specs.Kept.{IsKept, one_if}
+use Rattle.page_holders.proofs.Holders.{holds_within, without_absent}
 use Rattle.state_fits.specs.File.{FileFits, owner_in}
 use Rattle.state_fits.specs.Frames.{frame_row}
-use Rattle.state_fits.specs.Pages.{PagesFit, charged_row}
+use Rattle.state_fits.specs.Pages.{HasNoPaged, PagesFit, charged_row}
 use Rattle.state_fits.specs.Parts.{Parts}
 use Rattle.state_fits.specs.PartsFit.{PartsFit}
 use Rattle.state_fits.specs.Writes.{block_given, block_taken}
 use Rattle.state_fits.proofs.ChargedRows.{pages_alike}
 use Rattle.state_fits.proofs.FlightsMoved.{flights_begun, seats_begun}
 use Rattle.state_fits.proofs.GivenBlocks.{given_block}
-use Rattle.state_fits.proofs.Holders.{holds_within, without_absent}
 use Rattle.state_fits.proofs.SimpleParts.{none_failed}
 use Rattle.state_fits.proofs.WriteBegun.{write_begun}
 
@@ -113,12 +113,13 @@ module _ (parts : Parts) (start seat f : ℕ) (d : BlockId) where
   }
 
 module _ (config : Config) (past : List Entry) (a : Pager) (seat : Seat) (f : Pfn) (kept : IsKept config (past_view past) a) (parts : Parts) (fit : PartsFit config past a parts) where
-  abbrev entry : BlockId → Entry
-  entry d = record { seat = seat; what = what.Out f d }
-
   pub row_page : (row_of parts.frames f.0).page ≡ a.page f.0
   unfolding frame_row
   row_page = ap (λ (r : Row). r.page) (fit.frames.rows f.0)
+
+module _ (config : Config) (past : List Entry) (a : Pager) (seat : Seat) (f : Pfn) (kept : IsKept config (past_view past) a) (plain : HasNoPaged config) (parts : Parts) (fit : PartsFit config past a parts) where
+  abbrev entry : BlockId → Entry
+  entry d = record { seat = seat; what = what.Out f d }
 
   begun_parts : (d : BlockId) (frames' : Frames) (n : ℕ) (pages' : ChargedTable) → IsOutDone parts (length past + 1) seat.0 f.0 d frames' n pages' → awaits_reuse past ≡ false → seat.0 < length config.procs + 2
       → (x : Page) (state_of : ℕ → FrameState) (modified : List ℕ) (more : List Assigned) → IsWritable config a (open_flights past) f.0 x state_of modified
@@ -147,8 +148,8 @@ module _ (config : Config) (past : List Entry) (a : Pager) (seat : Seat) (f : Pf
   listed_parts : (d : BlockId) (frames' : Frames) (n : ℕ) (pages' : ChargedTable) → IsOutDone parts (length past + 1) seat.0 f.0 d frames' n pages' → awaits_reuse past ≡ false → seat.0 < length config.procs + 2 → IsOut config past a f.0 d
       → PartsFit config (entry d ∷ past) (record a { state = at_number a.state f.0 state.Writing; modify = at_number a.modify f.0 false; modified = without a.modified f.0; assigned = assigned_with a.assigned (a.page f.0) d }) (parts_out parts (length past + 1) seat.0 f.0 d frames' n pages')
   listed_parts d frames' n pages' done calm there legal =
-      let page : (row_of parts.frames f.0).page ≡ Some legal.page = row_page ∙ legal.holds in
-      let given = given_block config (past_view past) a f.0 kept (length config.procs) parts.pages fit.pages parts.file fit.file d legal.page pages' legal.holds legal.block
+      let page : (row_of parts.frames f.0).page ≡ Some legal.page = row_page config past a seat f kept parts fit ∙ legal.holds in
+      let given = given_block config (past_view past) a f.0 kept plain (length config.procs) parts.pages fit.pages parts.file fit.file d legal.page pages' legal.holds legal.block
       (done.procs, λ q w. done.pages q w ∙ ap (λ (o : Option Page). block_given d o (charged_at parts.pages) q w) page) in
       begun_parts d frames' n pages' done calm there legal.page (at_number a.state f.0 state.Writing) (without a.modified f.0) (assigned_with a.assigned (a.page f.0) d) (listed_writable config past a f.0 d kept legal)
       (subst (λ (o : Option Page). PagesFit (charged_row a.charged a.touched a.lies (assigned_with a.assigned o d)) (length config.procs) pages') (sym legal.holds) given.0)
@@ -178,7 +179,7 @@ module _ (config : Config) (past : List Entry) (a : Pager) (seat : Seat) (f : Pf
       go (block.Swap q i) legal done (inl out) = absurd (no_swap out.block)
         where
           no_swap : IsOutBlock config a (block.Swap q i) out.page → ⊥
-          no_swap (inl section) = false≢true (shared_block out.page (page_view config a out.page) (block.Swap q i) (kept.pages out.page) section.0 section.1)
+          no_swap (inl section) = false≢true (shared_block config a out.page (block.Swap q i) (kept.pages out.page) section.0 section.1)
           no_swap (inr (inl had)) = let e = had.3 in cc
           no_swap (inr (inr free)) = let e = free.3 in cc
       go (block.Section s i) legal done (inr out) = absurd (let e = out.block in cc)

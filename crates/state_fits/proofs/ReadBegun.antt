@@ -34,15 +34,16 @@ use Rattle.pager_rules.proofs.Basics.{at_number_other, at_number_same, count_con
 use Rattle.pager_rules.proofs.Pages.{own_is}
 use Rattle.pager_rules.proofs.Put.{head_counts, no_entry, page_apart}
 use Rattle.pager_rules.specs.Kept.{IsKept}
+use Rattle.page_holders.proofs.Holders.{IsFreeRow, free_is, holder_elsewhere, holder_none}
+use Rattle.page_holders.proofs.SectionNumbers.{number_within, numbers_differ}
+use Rattle.page_holders.proofs.EntryPages.{mapped_there}
 use Rattle.state_fits.specs.Entries.{TablesFit, place_away, pte_at, pte_of, section_page_number}
 use Rattle.state_fits.specs.Frames.{FramesFit, frame_row, or_zero, row_by, slot_for}
 use Rattle.state_fits.specs.Globals.{GlobalsFit, shares_held}
 use Rattle.state_fits.specs.ReadBegins.{entry_held, held_in, with_place}
-use Rattle.state_fits.proofs.Holders.{IsFreeRow, free_is, holder_elsewhere, holder_none, pte_stays}
+use Rattle.state_fits.proofs.ShownEntries.{pte_stays}
 use Rattle.state_fits.proofs.PartsSet.{frames_set, tables_set}
 use Rattle.state_fits.proofs.RingSlots.{absent}
-use Rattle.state_fits.proofs.SectionNumbers.{number_within, numbers_differ}
-use Rattle.state_fits.proofs.EntryPages.{mapped_there}
 
 -- the entry of a mapped page that isn't valid
 pub pte_away : (config : Config) (map : Map) (valid : List Valid) (page : ℕ → Option Page) (lies : Page → Option BlockId) (p v : ℕ) (m : Mapped) (g : Page) → map p v ≡ Some m → page_behind config p v m.origin ≡ g → valid_of valid p v ≡ None

@@ -26,17 +26,17 @@ use Rattle.pager_model.specs.Sets.{at_number}
 use Rattle.pager_rules.proofs.Basics.{at_number_other, at_number_same, count_cons_no, count_cons_yes, find_cons_no, find_cons_yes, find_none_from_count, nat_eq_refl}
 use Rattle.pager_rules.proofs.Pages.{own_is}
 use Rattle.pager_rules.specs.Kept.{IsKept}
+use Rattle.page_holders.proofs.EntryPages.{mapped_there, own_frame}
 use Rattle.state_fits.specs.Changes.{page_slot}
 use Rattle.state_fits.specs.Entries.{TablesFit, pte_of}
 use Rattle.state_fits.specs.Frames.{FramesFit, frame_row, row_by, slot_for}
 use Rattle.state_fits.proofs.EnteredFrame.{IsPut}
-use Rattle.state_fits.proofs.Holders.{pte_stays}
+use Rattle.state_fits.proofs.ShownEntries.{pte_stays}
 use Rattle.state_fits.proofs.KnownEntries.{placed_at, pte_known, pte_valid}
 use Rattle.state_fits.proofs.PartsSet.{frames_set, tables_set}
 use Rattle.state_fits.proofs.ReadLanded.{IsLandedOn}
 use Rattle.state_fits.proofs.RingSlots.{slot_put, slot_stays}
 use Rattle.state_fits.proofs.UnsharedFrames.{no_entries}
-use Rattle.state_fits.proofs.EntryPages.{mapped_there, own_frame}
 
 module _ (config : Config) (o : PastView) (a : Pager) (flights rest : List Flight) (f p v : ℕ) (new : Ring) (slot : ℕ) (m : Bool) (kept : IsKept config o a) (at : IsLandedOn config a flights rest f)
     (own : page_by config a.map p v ≡ Some at.page) (put : IsPut (a.ring p) new slot v) where

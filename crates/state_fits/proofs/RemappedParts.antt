@@ -23,12 +23,12 @@ use Rattle.pager_model.specs.Lookups.{entry_of as valid_of, page_at, page_by}
 use Rattle.pager_model.specs.Maps.{Map, Mapped, proc}
 use Rattle.pager_model.specs.Pager.{Pager, Valid}
 use Rattle.pager_rules.specs.Kept.{IsKept}
+use Rattle.page_holders.proofs.Holders.{holder_none, no_block_lies}
+use Rattle.page_holders.proofs.ValidEntries.{valid_at_page}
 use Rattle.state_fits.specs.Entries.{pte_at, pte_of}
 use Rattle.state_fits.specs.Parts.{Parts}
 use Rattle.state_fits.specs.PartsFit.{PartsFit}
 use Rattle.state_fits.specs.Serving.{ranged, with_code}
-use Rattle.state_fits.proofs.Holders.{holder_none, no_block_lies}
-use Rattle.state_fits.proofs.ValidEntries.{valid_at_page}
 
 module _ (config : Config) (past : List Entry) (a : Pager) (p address pages : ℕ) (parts : Parts) (fit : PartsFit config past a parts) where
   -- ---- another protection code
@@ -97,11 +97,11 @@ module _ (config : Config) (past : List Entry) (a : Pager) (p address pages : �
 
     not_held : (q w : ℕ) → a.map q w ≡ None → holder config a.page (Private (proc q) w) ≡ None
     not_held q w none = holder_none config a.page (Private (proc q) w)
-        (λ f holds. none-some (Private (proc q) w) (sym (unmapped q w none) ∙ (kept.pages (Private (proc q) w)).mapped (kept.held_charged f (Private (proc q) w) refl holds)))
+        (λ f holds. none-some (Private (proc q) w) (sym (unmapped q w none) ∙ (kept.pages (Private (proc q) w)).mapped (kept.held_charged f (Private (proc q) w) refl holds) refl))
 
     lies_nowhere : (q w : ℕ) → a.map q w ≡ None → a.lies (Private (proc q) w) ≡ None
     lies_nowhere q w none = no_block_lies (a.lies (Private (proc q) w))
-        (λ b lies. let one = (kept.pages (Private (proc q) w)).lying b refl lies in none-some (Private (proc q) w) (sym (unmapped q w none) ∙ (kept.pages (Private (proc q) w)).mapped (omega (arith, one))))
+        (λ b lies. let one = (kept.pages (Private (proc q) w)).lying b refl lies in none-some (Private (proc q) w) (sym (unmapped q w none) ∙ (kept.pages (Private (proc q) w)).mapped (omega (arith, one)) refl))
 
     zero_at : (q w : ℕ) → a.map q w ≡ None → pte_at config q w (holder config a.page) a.lies (valid_of a.valid q w) (Some (demand_zero prot)) ≡ zero_pte
     zero_at q w none = rw (not_valid q w none, not_held q w none, lies_nowhere q w none) refl

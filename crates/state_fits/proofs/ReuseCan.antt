@@ -48,20 +48,21 @@ use Rattle.pager_rules.proofs.Lists.{all_found}
 use Rattle.pager_rules.proofs.Put.{no_blocks}
 use Rattle.pager_rules.proofs.Quiet.{no_failure}
 use Rattle.pager_rules.specs.Kept.{FitsFailure, FitsRead, IsKept, views}
+use Rattle.pager_rules.proofs.Pages.{private_is_paged}
+use Rattle.page_holders.proofs.Holders.{holds_within}
+use Rattle.page_holders.proofs.RingBounds.{placed, slots_few}
+use Rattle.page_holders.proofs.SectionNumbers.{number_within}
+use Rattle.page_holders.proofs.EntryPages.{mapped_right}
 use Rattle.state_fits.specs.Changes.{is_failed_first}
 use Rattle.state_fits.specs.Entries.{resting_place, section_page_number}
 use Rattle.state_fits.specs.Parts.{Parts}
 use Rattle.state_fits.specs.PartsFit.{PartsFit}
 use Rattle.state_fits.proofs.FrameRows.{row_read}
 use Rattle.state_fits.proofs.GoodEntries.{good_resting}
-use Rattle.state_fits.proofs.Holders.{holds_within}
 use Rattle.state_fits.proofs.KnownEntries.{placed_entry, pte_known}
 use Rattle.state_fits.proofs.LiesNowhere.{charged_there}
 use Rattle.state_fits.proofs.ReuseParts.{holds, lies_is, one_charge, own, resting, still}
-use Rattle.state_fits.proofs.RingBounds.{placed, slots_few}
-use Rattle.state_fits.proofs.SectionNumbers.{number_within}
 use Rattle.state_fits.proofs.UnchargedPage.{assigned_fit, fewer_charged, other_count}
-use Rattle.state_fits.proofs.EntryPages.{mapped_right}
 
 pub record CanReuse (f : ℕ) (parts : Parts) : Type 0 where
   pub below : f < length parts.frames.rows
@@ -152,7 +153,7 @@ module _ (config : Config) (past : List Entry) (a : Pager) (seat : Seat) (f : Pf
       fits = subst (λ (y : Page). FitsRead failed.flight failure.role y (page_view config a y)) page_is failure.fits
 
       of_block : (d : BlockId) → is_section_block d ≡ true → a.lies g ≡ Some d → is_private g ≡ true → ⊥
-      of_block (block.Section s i) section lies private = (before.pages g).not_in_section s i private lies
+      of_block (block.Section s i) section lies private = (before.pages g).not_in_section s i (private_is_paged config g private) lies
       of_block (block.PageFile n) section lies private = false≢true section
       of_block (block.Swap q n) section lies private = false≢true section
 

@@ -38,6 +38,7 @@ use Rattle.pager_model.specs.Transfers.{reads_on, writes_on}
 use Rattle.pager_rules.proofs.Frames.{at_state, failed_frame, free_frame}
 use Rattle.pager_rules.proofs.Put.{free_row, head_counts}
 use Rattle.pager_rules.specs.Kept.{IsKept}
+use Rattle.pager_rules.proofs.Pages.{private_is_paged}
 use Rattle.state_fits.specs.Changes.{is_failed_first, released_in}
 use Rattle.state_fits.specs.Entries.{TablesFit, pte_of, resting_place}
 use Rattle.state_fits.specs.File.{FileFits, owner_in}
@@ -145,11 +146,11 @@ module _ (config : Config) (past : List Entry) (a : Pager) (seat : Seat) (f : Pf
   -- ---- a private page
   module _ (p : Proc) (v : ℕ) (private : g ≡ Private p v) where
     pub one_charge : count_page a.charged g ≡ 1
-    one_charge = let some = before.held_charged f.0 g (ap is_private private) holds in let once = (before.pages g).charged in omega (arith, some, once)
+    one_charge = let some = before.held_charged f.0 g (private_is_paged config g (ap is_private private)) holds in let once = (before.pages g).charged in omega (arith, some, once)
 
     pub own : page_by config a.map p.0 v ≡ Some g
     own =
-        let mapped : own_page config a.map g ≡ Some g = (before.pages g).mapped (let one = one_charge in omega (arith, one)) in
+        let mapped : own_page config a.map g ≡ Some g = (before.pages g).mapped (let one = one_charge in omega (arith, one)) (ap is_private private) in
         subst (λ (h : Page). own_page config a.map h ≡ Some g) private mapped
 
     globals_same : GlobalsFit config page' a.valid parts.globals

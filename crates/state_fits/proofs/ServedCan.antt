@@ -18,13 +18,13 @@ use Rattle.pager_model.specs.Lookups.{entry_of as valid_of, page_by}
 use Rattle.pager_model.specs.Maps.{Mapped}
 use Rattle.pager_model.specs.Pager.{Pager}
 use Rattle.state_parts.specs.ChargedTable.{HasPage as HasChargedPage}
+use Rattle.page_holders.proofs.RingBounds.{placed}
+use Rattle.page_holders.proofs.ValidEntries.{mapping_of}
 use Rattle.state_fits.specs.Entries.{pte_at, pte_of}
 use Rattle.state_fits.specs.Parts.{Parts}
 use Rattle.state_fits.specs.PartsFit.{PartsFit}
 use Rattle.state_fits.specs.Serving.{with_code}
-use Rattle.state_fits.proofs.Holders.{shown}
-use Rattle.state_fits.proofs.RingBounds.{placed}
-use Rattle.state_fits.proofs.ValidEntries.{mapping_of}
+use Rattle.state_fits.proofs.ShownEntries.{shown}
 
 -- ---- entries
 -- with another code, and of zeros

@@ -11,13 +11,14 @@ use Rattle.pager_model.specs.Pager.{Pager, Valid}
 use Rattle.pager_rules.proofs.Basics.{count_from_no_find}
 use Rattle.pager_rules.proofs.Lists.{count_found}
 use Rattle.pager_rules.specs.Kept.{IsKept}
+use Rattle.pager_rules.proofs.Pages.{private_is_paged}
+use Rattle.page_holders.proofs.EntryPages.{entry_page}
 use Rattle.state_fits.specs.Frames.{or_zero, slot_for}
 use Rattle.state_fits.proofs.RingSlots.{absent}
-use Rattle.state_fits.proofs.EntryPages.{entry_page}
 
 -- a private page that a frame holds is its process's page there
 pub held_own : (config : Config) (o : PastView) (a : Pager) (f : ℕ) (g : Page) → IsKept config o a → a.page f ≡ Some g → is_private g ≡ true → own_page config a.map g ≡ Some g
-held_own config o a f g kept holds private = (kept.pages g).mapped (kept.held_charged f g private holds)
+held_own config o a f g kept holds private = (kept.pages g).mapped (kept.held_charged f g (private_is_paged config g private) holds) private
 
 pub no_entries : (config : Config) (o : PastView) (a : Pager) (f p v : ℕ) (g : Page) → IsKept config o a → a.page f ≡ Some g → shares a.valid f ≡ 0 → page_by config a.map p v ≡ Some g → entries_at a.valid p v ≡ 0
 no_entries config o a f p v g kept holds none own = go (entry_of a.valid p v) refl

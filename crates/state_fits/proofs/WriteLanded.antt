@@ -23,11 +23,11 @@ use Rattle.pager_rules.proofs.Frames.{at_state}
 use Rattle.pager_rules.proofs.Lists.{all_found, count_filter_le, count_removed_no, count_removed_yes}
 use Rattle.pager_rules.proofs.Quiet.{starts_once}
 use Rattle.pager_rules.specs.Kept.{FitsDirection, FitsFlight, FitsFrame, FitsWrite, IsKept, views}
+use Rattle.page_holders.proofs.Holders.{holds_within}
+use Rattle.page_holders.proofs.ValidEntries.{valid_at_page}
 use Rattle.state_fits.specs.Frames.{FramesFit, frame_row, or_zero, row_by, slot_for}
-use Rattle.state_fits.proofs.Holders.{holds_within}
 use Rattle.state_fits.proofs.PartsSet.{frames_set}
 use Rattle.state_fits.proofs.RingSlots.{absent}
-use Rattle.state_fits.proofs.ValidEntries.{valid_at_page}
 
 -- ---- the frame
 record IsWritten (x : FrameView) : Type 0 where
@@ -57,7 +57,7 @@ unshared_slot config past a f (Shared s i) kept holds none = refl
 unshared_slot config past a f (Private p v) kept holds none = ap or_zero (absent (has_vpn v) (a.ring p.0).slots ((kept.entries p.0 v).slots ∙ go (entry_of a.valid p.0 v) refl))
   where
     own : page_by config a.map p.0 v ≡ Some (Private p v)
-    own = (kept.pages (Private p v)).mapped (kept.held_charged f (Private p v) refl holds)
+    own = (kept.pages (Private p v)).mapped (kept.held_charged f (Private p v) refl holds) refl
 
     go : (e : Option Valid) → entry_of a.valid p.0 v ≡ e → entries_at a.valid p.0 v ≡ 0
     go None is = count_from_no_find (is_entry p.0 v) a.valid is

@@ -33,12 +33,12 @@ use Rattle.pager_model.specs.Sound.{FitsSlot}
 use Rattle.pager_rules.proofs.Basics.{pages_equal, same_page_refl}
 use Rattle.pager_rules.proofs.Put.{lies_other, lies_same}
 use Rattle.pager_rules.specs.Kept.{FitsWrite, IsKept}
+use Rattle.page_holders.proofs.Holders.{and_apart, holder_there}
 use Rattle.state_fits.specs.Entries.{TablesFit, place_away, pte_at, pte_by, pte_of}
 use Rattle.state_fits.specs.Pages.{PagesFit, charged_row}
 use Rattle.state_fits.specs.Swaps.{SwapsFit}
 use Rattle.state_fits.specs.Writes.{lies_by, lying_in, page_landed, page_written, slot_emptied, slot_filled, swaps_landed, swaps_written}
 use Rattle.state_fits.proofs.ChargedRows.{charged_is, counted_page, pages_alike, pages_changed}
-use Rattle.state_fits.proofs.Holders.{and_apart, holder_there}
 use Rattle.state_fits.proofs.PartsSet.{pages_same, tables_same}
 use Rattle.state_fits.proofs.SwapBlocks.{AreLying, swaps_emptied, swaps_filled, swaps_from, swaps_same}
 

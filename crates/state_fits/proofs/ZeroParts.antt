@@ -1,7 +1,7 @@
 -- ZERO: a demand zero page gets its first frame.
-use Rattle.std.proofs.Common.{◌≡◌, ℕ, ◌+◌, Bool, true, false, List, ◌∷◌, Option, Some, None, length, nat_eq, count_by, slice_set, slice_index_or, refl, sym, ap, ◌∙◌, arith}
+use Rattle.std.proofs.Common.{◌≡◌, ℕ, ◌+◌, Bool, true, false, List, ◌∷◌, Option, Some, None, length, nat_eq, count_by, slice_set, slice_index_or, refl, sym, ap, ◌∙◌, arith, subst}
 use Rattle.std.specs.Prelude.{◌&&◌, ◌||◌, if◌then◌else◌}
-use Rattle.std.proofs.lemmas.Bool.{and_from, ne_eqb}
+use Rattle.std.proofs.lemmas.Bool.{and_from, ne_eqb, true≢false}
 use Rattle.std.proofs.lemmas.Option.{none-some}
 use Rattle.vm_types.specs.Configuration.{IsWellFormed}
 use Rattle.vm_types.specs.PagePlaces.{changed_at}
@@ -30,14 +30,14 @@ use Rattle.pager_model.specs.Around.{past_view, process_view}
 use Rattle.pager_model.specs.Changes.{valid_at}
 use Rattle.pager_model.specs.Flights.{Flight, open_flights}
 use Rattle.pager_model.specs.Forget.{holder, holds_page}
-use Rattle.pager_model.specs.Lookups.{block_of, entries_at, entry_of as valid_of, has_vpn, is_entry, page_at, page_by}
+use Rattle.pager_model.specs.Lookups.{block_of, entries_at, entry_of as valid_of, has_vpn, is_entry, page_at, page_by, count_page}
 use Rattle.pager_model.specs.Maps.{Mapped, page_behind, page_number, proc}
 use Rattle.pager_model.specs.OfConfig.{IsOfConfig}
 use Rattle.pager_model.specs.Pager.{Pager, Valid}
 use Rattle.pager_model.specs.Ring.{placed}
 use Rattle.pager_model.specs.Sets.{at_number, has_page}
 use Rattle.pager_model.specs.Step.{after, IsLegal}
-use Rattle.pager_model.specs.Zero.{IsDemandZero}
+use Rattle.pager_model.specs.Zero.{IsDemandZero, is_zero_origin, zeroed_page}
 use Rattle.pager_rules.proofs.Basics.{at_number_other, at_number_same, count_cons_no, find_cons_no, find_cons_yes, has_page_first, nat_eq_refl}
 use Rattle.pager_rules.proofs.Pages.{own_is}
 use Rattle.pager_rules.proofs.Put.{head_counts, no_block, no_entry}
@@ -45,20 +45,21 @@ use Rattle.pager_rules.proofs.Turns.{no_reuse}
 use Rattle.pager_rules.specs.Kept.{IsKept}
 use Rattle.state_parts.specs.ChargedTable.{ChargedTable, charged_at}
 use Rattle.state_parts.specs.declared.process_row.ProcessRow.{ProcessRow}
+use Rattle.page_holders.proofs.Holders.{IsFreeRow, holder_holds, none_listed, and_apart, free_is, holder_elsewhere, not_modified, without_absent, no_block_lies}
 use Rattle.state_fits.specs.Entries.{TablesFit, pte_at, pte_of}
 use Rattle.state_fits.specs.Frames.{FramesFit, frame_row, row_by, slot_for}
 use Rattle.state_fits.specs.Globals.{GlobalsFit}
-use Rattle.state_fits.specs.Pages.{PagesFit, charged_row}
+use Rattle.state_fits.specs.Pages.{HasNoPaged, PagesFit, charged_row}
 use Rattle.state_fits.specs.Parts.{Parts}
 use Rattle.state_fits.specs.PartsFit.{PartsFit}
 use Rattle.state_fits.specs.Processes.{ProcessesFit, process_row}
 use Rattle.state_fits.proofs.EnteredFrame.{IsPut, entered_here, entered_there, put_there}
-use Rattle.state_fits.proofs.Holders.{IsFreeRow, code_kept, globals_same, holder_holds, none_listed, and_apart, free_is, holder_elsewhere, not_modified, pte_stays, without_absent, no_block_lies}
+use Rattle.state_fits.proofs.ShownEntries.{code_kept, globals_same, pte_stays}
 use Rattle.state_fits.proofs.PartsSet.{frames_set, pages_set, processes_set, tables_set}
 use Rattle.state_fits.proofs.RingSlots.{slot_put, slot_stays}
 use Rattle.state_fits.proofs.SimpleParts.{none_failed, read_process}
 
-module _ (config : Config) (past : List Entry) (a : Pager) (seat : Seat) (address : Addr) (f : Pfn) (formed : IsWellFormed config) (kept : IsKept config (past_view past) a) (right : IsOfConfig config a)
+module _ (config : Config) (past : List Entry) (a : Pager) (seat : Seat) (address : Addr) (f : Pfn) (formed : IsWellFormed config) (kept : IsKept config (past_view past) a) (right : IsOfConfig config a) (plain : HasNoPaged config)
     (legal : IsLegal config past a (record { seat = seat; what = what.Zero address f })) (parts : Parts) (fit : PartsFit config past a parts) where
   abbrev p : ℕ
   p = seat.0
@@ -79,9 +80,13 @@ module _ (config : Config) (past : List Entry) (a : Pager) (seat : Seat) (addres
   old_row = frame_row a.state a.page a.modify a.valid a.ring flights
 
   -- ---- facts
-  own_page : (o : Option Mapped) → IsDemandZero o → (m : Mapped) × (o ≡ Some m) × (m.origin ≡ origin.Zero)
+  zero_origin : (o : Origin) → is_zero_origin config o ≡ true → o ≡ origin.Zero
+  zero_origin origin.Zero is = refl
+  zero_origin (origin.Section s i) is = absurd (true≢false (sym is ∙ plain s))
+
+  own_page : (o : Option Mapped) → IsDemandZero config o → (m : Mapped) × (o ≡ Some m) × (m.origin ≡ origin.Zero)
   own_page None demand = absurd demand
-  own_page (Some m) demand = (m, refl, demand)
+  own_page (Some m) demand = (m, refl, zero_origin m.origin demand)
 
   pub mapped : (m : Mapped) × (a.map p v ≡ Some m) × (m.origin ≡ origin.Zero)
   mapped = own_page (a.map p v) legal.row.demand_zero
@@ -89,11 +94,17 @@ module _ (config : Config) (past : List Entry) (a : Pager) (seat : Seat) (addres
   own : page_by config a.map p v ≡ Some g
   own = ap (page_at config p v) mapped.1 ∙ ap (λ (o : Origin). Some (page_behind config p v o)) mapped.2
 
+  zeroed : zeroed_page config p v (a.map p v) ≡ g
+  zeroed = ap (zeroed_page config p v) mapped.1 ∙ ap (page_behind config p v) mapped.2
+
+  not_charged : count_page a.charged g ≡ 0
+  not_charged = ap (count_page a.charged) (sym zeroed) ∙ legal.row.not_charged
+
   unheld : (h : ℕ) → a.page h ≡ Some g → ⊥
-  unheld h holds = let some = kept.held_charged h g refl holds in absurd (omega (arith, legal.row.not_charged, some))
+  unheld h holds = let some = kept.held_charged h g refl holds in absurd (omega (arith, not_charged, some))
 
   nowhere : a.lies g ≡ None
-  nowhere = no_block_lies (a.lies g) (λ b lies. let one = (kept.pages g).lying b refl lies in absurd (omega (arith, legal.row.not_charged, one)))
+  nowhere = no_block_lies (a.lies g) (λ b lies. let one = (kept.pages g).lying b refl lies in absurd (omega (arith, not_charged, one)))
 
   pub head : IsFreeRow config a flights f.0
   head = free_is config past a f.0 kept (head_counts a.free f.0 legal.row.frame.head)
@@ -194,8 +205,8 @@ module _ (config : Config) (past : List Entry) (a : Pager) (seat : Seat) (addres
   fresh : charged_row (g ∷ a.charged) a.touched a.lies a.assigned p v ≡ Some (record { touched = false; lies = None; assigned = None })
   unfolding charged_row
   fresh =
-      let untouched : has_page a.touched g ≡ false = none_listed a.touched g (let few = (kept.pages g).touched in omega (arith, few, legal.row.not_charged)) in
-      let unassigned : block_of a.assigned g ≡ None = no_block a.assigned g (let few = (kept.pages g).blocks in omega (arith, few, legal.row.not_charged)) in
+      let untouched : has_page a.touched g ≡ false = none_listed a.touched g (let few = (kept.pages g).touched in omega (arith, few, not_charged)) in
+      let unassigned : block_of a.assigned g ≡ None = no_block a.assigned g (let few = (kept.pages g).blocks in omega (arith, few, not_charged)) in
       ap (λ (b : Bool). if b then Some (record { touched = has_page a.touched g; lies = a.lies g; assigned = block_of a.assigned g }) else None) has_it
       ∙ (λ i. Some (record { touched = untouched i; lies = nowhere i; assigned = unassigned i }))
 
@@ -227,6 +238,7 @@ module _ (config : Config) (past : List Entry) (a : Pager) (seat : Seat) (addres
       → PartsFit config (record { seat = seat; what = what.Zero address f } ∷ past) (after config past a (record { seat = seat; what = what.Zero address f }))
       (record parts { frames = frames'; processes = slice_set parts.processes p (record x { ring = placed x.ring x.limit v; faults = x.faults + 1 }); tables = tables'; pages = pages'; file = record parts.file { charged = parts.file.charged + 1 } })
   zero_parts x read slot chosen frames' rows free modified tables' old procs changed there pages' procs' changed' =
+      subst (λ (h : Page). PartsFit config (record { seat = seat; what = what.Zero address f } ∷ past) (put h) parts') (sym zeroed) (
       record {
         frames = frames frames' slot chosen rows free modified;
         flights = fit.flights;
@@ -240,7 +252,22 @@ module _ (config : Config) (past : List Entry) (a : Pager) (seat : Seat) (addres
         swaps = fit.swaps;
         seats = fit.seats;
         failed = none_failed past parts (no_reuse config past (record { seat = seat; what = what.Zero address f }) legal.in_turn refl) fit.failed;
-      }
+      })
     where
+      put : Page → Pager
+      put h = record a {
+        state = at_number a.state f.0 state.Active;
+        page = at_number a.page f.0 (Some h);
+        modify = at_number a.modify f.0 true;
+        free = without a.free f.0;
+        ring = ring';
+        faults = at_number a.faults p (a.faults p + 1);
+        valid = valid_at p v f.0 ∷ a.valid;
+        charged = h ∷ a.charged;
+      }
+
+      parts' : Parts
+      parts' = record parts { frames = frames'; processes = slice_set parts.processes p (record x { ring = placed x.ring x.limit v; faults = x.faults + 1 }); tables = tables'; pages = pages'; file = record parts.file { charged = parts.file.charged + 1 } }
+
       more : length a.charged + 1 ≡ length (g ∷ a.charged)
       more = omega arith

@@ -1,9 +1,8 @@
 -- The page table entries of the processes, and what is behind their pages, as they stand for the pager's state.
 -- Source: VAX Architecture Reference Manual, memory management; Kenah and Bate, "VAX/VMS Internals and Data
 -- Structures", the forms of an invalid page table entry.
-use Rattle.std.specs.Prelude.{◌≡◌, ℕ, ◌+◌, List, Option, Some, None, map, take, length, sum_by, false}
+use Rattle.std.specs.Prelude.{◌≡◌, ℕ, List, Option, Some, None, map, length, false}
 use Rattle.std.specs.Option.{option_map}
-use Rattle.vm_types.specs.Configuration.{section_pages}
 use Rattle.vm_types.specs.declared.config.Config.{Config}
 use Rattle.vm_types.specs.declared.config.Origin.{Origin}
 use Rattle.vm_types.specs.declared.config.Origin.TheVariants as origin
@@ -21,10 +20,7 @@ use Rattle.pager_model.specs.Forget.{holder}
 use Rattle.pager_model.specs.Lookups.{entry_of as valid_of}
 use Rattle.pager_model.specs.Maps.{Map, Mapped, page_behind}
 use Rattle.pager_model.specs.Pager.{Valid}
-
--- section pages are numbered through all sections, in order
-abbrev pub section_page_number : Config → ℕ → ℕ → ℕ
-section_page_number config s i = sum_by section_pages (take s config.sections) + i
+pub use Rattle.page_holders.specs.SectionNumbers.{section_page_number}
 
 abbrev pub origin_place : Config → Origin → Place
 origin_place config origin.Zero = place.DemandZero

@@ -1,9 +1,12 @@
 -- What is kept of charged pages, as it stands for the pager's state. This project's own.
-use Rattle.std.specs.Prelude.{◌≡◌, ℕ, true, List, Option, Some, None, if◌then◌else◌}
+use Rattle.std.specs.Prelude.{◌≡◌, ℕ, true, List, Option, Some, None, if◌then◌else◌, slice_get, false}
+use Rattle.vm_types.specs.Kinds.{paged_of}
 use Rattle.vm_types.specs.PagePlaces.{changed_at}
+use Rattle.vm_types.specs.declared.config.Config.{Config}
 use Rattle.vm_types.specs.declared.names.BlockId.{BlockId}
 use Rattle.vm_types.specs.declared.names.Page.{Page}
 use Rattle.vm_types.specs.declared.names.Page.TheVariants.{Private, Shared}
+use Rattle.vm_types.specs.declared.names.SecId.{SecId}
 use Rattle.state_parts.specs.ChargedTable.{ChargedTable, charged_at}
 use Rattle.state_parts.specs.declared.charged_page.ChargedPage.{ChargedPage}
 use Rattle.pager_model.specs.Lookups.{block_of}
@@ -16,6 +19,10 @@ charged_row charged touched lies assigned p v =
     if has_page charged (Private (proc p) v)
     then Some (record { touched = has_page touched (Private (proc p) v); lies = lies (Private (proc p) v); assigned = block_of assigned (Private (proc p) v) })
     else None
+
+-- no section is in the page file, so that no shared page is charged
+abbrev pub HasNoPaged : Config → Type 0
+HasNoPaged config = (s : SecId) → paged_of (slice_get config.sections s.0) ≡ false
 
 pub record PagesFit (row : ℕ → ℕ → Option ChargedPage) (n : ℕ) (table : ChargedTable) : Type 0 where
   pub procs : table.procs ≡ n

@@ -15,6 +15,8 @@ is_serving (service.Delete at pages) answer.Good = true
 is_serving (service.Protect at pages prot) answer.Good = true
 is_serving (service.Lock at pages) (answer.Count n) = true
 is_serving (service.Unlock at pages) (answer.Count n) = true
+is_serving (service.Pin at pages) (answer.Count n) = true
+is_serving (service.Unpin at pages) (answer.Count n) = true
 is_serving (service.Adjust n) answer.Good = true
 is_serving s other = false
 

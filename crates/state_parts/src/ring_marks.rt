@@ -1,10 +1,10 @@
 ghost use Rattle.std.specs.Prelude.{◌≡◌, ◌<◌, ◌≤◌, count_by, length};
-ghost use Rattle.vm_types.specs.Ring.{choose, filled};
-ghost use Rattle.working_set.specs.Slots.{IsEmptySlot, slot_at, with_lock};
+ghost use Rattle.vm_types.specs.Ring.{choose, filled, unpinned};
+ghost use Rattle.working_set.specs.Slots.{IsEmptySlot, slot_at, with_lock, with_pin};
 ghost use Rattle.pager_model.specs.Evict.{evicted_ring};
 ghost use Rattle.pager_model.specs.Lookups.{has_vpn, slot_with};
-ghost use Rattle.pager_model.specs.Ring.{placed, range_locked, slotted, unlocked};
-ghost use Rattle.pager_model.specs.Served.{is_locked_in, is_slot_in};
+ghost use Rattle.pager_model.specs.Ring.{placed, range_locked, range_pinned, slotted, unlocked};
+ghost use Rattle.pager_model.specs.Served.{is_fixed_in, is_locked_in, is_pinned_in, is_slot_in};
 ghost use Rattle.state_parts.specs.Victim.{HasVictim};
 
 use vm_journal::EvictWhy;
@@ -28,6 +28,18 @@ pub fn lock_range(ring: &mut Ring, at: Addr, pages: u32, lock: bool)
     for slot in 0..ring.slots() {
         if is_in(ring, slot, at, pages) {
             mark(ring, slot, lock);
+        }
+    }
+}
+
+/// Pins, or unpins, each page of the ring that is one of so many pages (any number) from the
+/// address's page on.
+pub fn pin_range(ring: &mut Ring, at: Addr, pages: u32, pin: bool)
+    ensures { ring.new ≡ range_pinned pin at.0 pages ring.old }
+{
+    for slot in 0..ring.slots() {
+        if is_in(ring, slot, at, pages) {
+            mark_pin(ring, slot, pin);
         }
     }
 }
@@ -71,6 +83,47 @@ pub fn locked_in(ring: &Ring, at: Addr, pages: u32) -> u32
     count
 }
 
+/// How many slots have a page that isn't pinned.
+pub fn unpinned(ring: &Ring) -> u32
+    ensures { result ≡ unpinned ring.now.slots }
+{
+    let mut count = 0;
+    for slot in 0..ring.slots() {
+        if ring.at(slot).is_some() && !ring.pinned(slot) {
+            count += 1;
+        }
+    }
+    count
+}
+
+/// How many slots have one of so many pages (any number) from the address's page on, and that locked
+/// or pinned.
+pub fn fixed_in(ring: &Ring, at: Addr, pages: u32) -> u32
+    ensures { result ≡ count_by (is_fixed_in at.0 pages) ring.now.slots }
+{
+    let mut count = 0;
+    for slot in 0..ring.slots() {
+        if is_in(ring, slot, at, pages) && (ring.is_locked(slot) || ring.pinned(slot)) {
+            count += 1;
+        }
+    }
+    count
+}
+
+/// How many slots have one of so many pages (any number) from the address's page on, and that
+/// pinned.
+pub fn pinned_in(ring: &Ring, at: Addr, pages: u32) -> u32
+    ensures { result ≡ count_by (is_pinned_in at.0 pages) ring.now.slots }
+{
+    let mut count = 0;
+    for slot in 0..ring.slots() {
+        if is_in(ring, slot, at, pages) && ring.pinned(slot) {
+            count += 1;
+        }
+    }
+    count
+}
+
 /// Puts a page, by its number (any), into the slot that a ring below its limit (at most the number
 /// of slots) offers, and returns that slot. The hand goes on past it.
 pub fn take_slot(ring: &mut Ring, limit: u32, vpn: u32) -> u32
@@ -94,7 +147,7 @@ pub fn put_in_slot(ring: &mut Ring, slot: u32, vpn: u32)
     ring.place(slot, vpn, false);
 }
 
-/// Empties the slot of a page that leaves the ring, with its lock. A replaced page is the ring's
+/// Empties the slot of a page that leaves the ring, with its lock and its pin. A replaced page is the ring's
 /// victim at the limit, and the hand stands on its slot then; for each other cause the hand stays.
 pub fn give_up(ring: &mut Ring, limit: u32, why: EvictWhy, vpn: u32)
     requires held { slot_with ring.old vpn < length ring.old.slots }
@@ -124,6 +177,21 @@ fn mark(ring: &mut Ring, slot: u32, lock: bool)
         ring.lock(slot);
     } else {
         ring.unlock(slot);
+    }
+}
+
+/// Pins, or unpins, the page in the slot, if it has one.
+fn mark_pin(ring: &mut Ring, slot: u32, pin: bool)
+    requires { slot < length ring.old.slots }
+    ensures { ring.new ≡ with_pin ring.old slot pin }
+{
+    if ring.at(slot).is_none() {
+        return;
+    }
+    if pin {
+        ring.pin(slot);
+    } else {
+        ring.unpin(slot);
     }
 }
 

@@ -3,6 +3,7 @@ use Rattle.std.specs.Prelude.{◌≡◌, ℕ, ◌+◌, ◌/◌, ◌%◌, ◌<◌
 use Rattle.std.specs.Prelude.{All, IfSome, IsSome}
 use Rattle.vm_types.specs.declared.config.ProcSpec.{ProcSpec}
 use Rattle.vm_types.specs.declared.config.Section.{Section}
+use Rattle.vm_types.specs.declared.config.SectionKind.TheVariants as kind
 use Rattle.vm_types.specs.declared.names.BlockId.{BlockId}
 use Rattle.vm_types.specs.declared.names.BlockId.TheVariants as block
 use Rattle.disk_trait.specs.MemoryBlock.{reads_of, writes_of}
@@ -10,7 +11,7 @@ use Rattle.disk_trait.specs.declared.memory_block.MemoryBlock.{MemoryBlock}
 use Rattle.frame_store.specs.StoreView.{StoreView}
 
 abbrev pub great_section : ℕ → Section
-great_section number = record { name = (65 + number / 8) ∷ (65 + number % 8) ∷ []; shared = true; bytes = replicate 131072 0 }
+great_section number = record { name = (65 + number / 8) ∷ (65 + number % 8) ∷ []; kind = kind.Shared; bytes = replicate 131072 0 }
 
 abbrev pub great_spec : ProcSpec
 great_spec = record { limit = 1024; quota = 1024; extent = 1024; locks = 0 }

@@ -8,10 +8,13 @@ ghost use Rattle.frame_store.specs.Blocks.{blocks_of, held_at, number_in, sectio
 ghost use Rattle.store_tests.specs.TestStore.{IsReady, great_section, in_row};
 
 use disk_trait::{Depot, MemoryBlock, MemoryDepot};
-use frame_store::{Carried, Store};
+use frame_store::{Carried, Store, section_block_count};
 use std::alloc::Global;
 use std::test::Fail;
-use vm_types::{BlockId, Config, Listed, Page, Params, Pfn, Proc, ProcSpec, Seat, SecId, Section};
+use vm_types::{
+    BlockId, Config, Listed, Page, Params, Pfn, Proc, ProcSpec, Seat, SecId, Section, SectionKind,
+    Version,
+};
 
 const PARAMS: Params = Params {
     pfc: 1,
@@ -54,7 +57,7 @@ fn section(alloc: Global, number: u8) -> Result<Section, Fail>
     let name = [b'A' + number / 8, b'A' + number % 8];
     Ok(Section {
         name: Listed::of(Vec::from_slice(alloc, &name)?),
-        shared: true,
+        kind: SectionKind::Shared,
         bytes: Listed::of(zeros(alloc, 131_072)?),
     })
 }
@@ -77,6 +80,7 @@ fn greatest(alloc: Global) -> Result<Config, Fail>
     ensures procs { IfOk result (λ config. length config.procs ≡ 16) }
 {
     Ok(Config {
+        version: Version::One,
         frames: 4096,
         bad: Listed::new(alloc),
         pagefile: 16_384,
@@ -118,8 +122,8 @@ fn push_sections(ids: &mut Vec<BlockId>, sections: &[Section]) -> Result<(), Fai
 {
     let mut number = 0;
     for section in sections {
-        let pages = (section.bytes.items().len() / 512) as u32;
-        push_row(ids, BlockId::Section(SecId(number), 0), pages)?;
+        let blocks = section_block_count(section) as u32;
+        push_row(ids, BlockId::Section(SecId(number), 0), blocks)?;
         number += 1;
     }
     Ok(())

@@ -1,4 +1,3 @@
-pub mod Options
-pub mod ThreeOptions
+pub mod Asking
 pub mod Printed
 pub mod Answering

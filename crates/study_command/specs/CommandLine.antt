@@ -2,7 +2,7 @@
 use Rattle.std.specs.Prelude.{◌≡◌, ℕ, ◌-◌, ◌&&◌, nat_le, List, [], ◌∷◌, Option, Some, None, Result, Ok, Err, codes, if◌then◌else◌}
 use Rattle.trace_words.specs.declared.cause.Cause.{Cause}
 use Rattle.trace_words.specs.Number.{decimal_within}
-use Rattle.study_command.specs.Options.{HasTwo}
+use Rattle.command_options.specs.Options.{HasOptions}
 use Rattle.study_command.specs.declared.words.Study.{Study}
 
 -- a letter, A to P
@@ -18,13 +18,13 @@ if_right (Err cause) = None
 abbrev pub frames_named : List ℕ → Option ℕ
 frames_named word = if_right (decimal_within 1 1024 word)
 
--- the two options in either order
-abbrev pub HasOptions : List (List ℕ) → List ℕ → List ℕ → Type 0
-HasOptions words letter number = HasTwo (codes "--process") letter (codes "--frames") number words
+-- a letter and a number, which name the study
+abbrev pub AreValues : List (List ℕ) → Study → Type 0
+AreValues (letter ∷ number ∷ []) study = (process_named letter ≡ Some (study.process).0) × (frames_named number ≡ Some study.frames)
+AreValues other study = ⊥
 
+-- the two options in either order, with these values
 pub record AsksFor (words : List (List ℕ)) (study : Study) : Type 0 where
-  pub letter : List ℕ
-  pub number : List ℕ
-  pub options : HasOptions words letter number
-  pub process : process_named letter ≡ Some (study.process).0
-  pub frames : frames_named number ≡ Some study.frames
+  pub values : List (List ℕ)
+  pub options : HasOptions (codes "process" ∷ codes "frames" ∷ []) values words
+  pub name : AreValues values study

@@ -1,4 +1,3 @@
-pub mod Options
 pub mod CommandLine
 pub mod LeastOf
 pub mod StudyText

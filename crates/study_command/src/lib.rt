@@ -4,10 +4,8 @@
 
 mod answers;
 mod command;
-mod option_words;
 mod printing;
 mod words;
 
 pub use command::study_trace;
-pub use option_words::{first_word, three_options, two_options};
-pub use words::{Study, study_of};
+pub use words::{Study, first_word, study_of};

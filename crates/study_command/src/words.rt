@@ -1,10 +1,13 @@
-ghost use Rattle.std.specs.Prelude.{◌≡◌, ◌≤◌, ◌<◌, [], ◌∷◌, ℕ, List, IfSome, IfNone, MatchOption, map};
+ghost use Rattle.std.specs.Prelude.{◌≡◌, ◌≤◌, ◌<◌, [], ◌∷◌, ℕ, List, IfOk, IfSome, IfNone, MatchOption, map};
 ghost use Rattle.study_command.specs.declared.words.Study.{Study};
-ghost use Rattle.study_command.specs.CommandLine.{AsksFor, frames_named, process_named};
+ghost use Rattle.study_command.specs.CommandLine.{AsksFor, AreValues, frames_named, process_named};
 
-use crate::option_words::two_options;
+use command_options::option_values;
+use std::alloc::Global;
 use trace_words::decimal_within;
-use vm_types::Proc;
+use vm_types::{NoMemory, Proc};
+
+static OPTIONS: [&str; 2] = ["process", "frames"];
 
 /// Whose references to study, and with how many frames.
 #[derive(Clone, Copy, Debug, PartialEq, Eq)]
@@ -13,6 +16,15 @@ pub struct Study {
     pub process: Proc,
     /// Frames, 1 to 1024.
     pub frames: u32,
+}
+
+/// The first word, and those behind it; none if there is no word. Doesn't allocate.
+pub fn first_word<'a>(words: &'a [&'a str]) -> Option<(&'a [u8], &'a [&'a str])>
+    ensures { MatchOption result (map (λ word. word.now) words.entry.now ≡ [])
+        (λ p. map (λ word. word.now) words.entry.now ≡ p.0.now ∷ map (λ word. word.now) p.1.now) }
+{
+    let (first, rest) = words.split_first()?;
+    Some((first.as_bytes(), rest))
 }
 
 // The number of the process, A to P.
@@ -39,19 +51,43 @@ fn frames_of(word: &[u8]) -> Option<u32>
     }
 }
 
-/// What the words behind `study` ask for: `--process` with a letter A to P and `--frames` with a number
-/// of one to ten digits, 1 to 1024, each once and in either order, its value in the next word or in
-/// the same one behind `=`. None if they are anything else. Doesn't allocate.
-pub fn study_of(words: &[&str]) -> Option<Study>
-    ensures some { IfSome result (AsksFor (map (λ word. word.now) words.now)) }
-    ensures none { IfNone result ((study : Study) → AsksFor (map (λ word. word.now) words.now) study → ⊥) }
+// The study that a letter and a number name.
+fn study_from(letter: &[u8], number: &[u8]) -> Option<Study>
+    ensures some { IfSome result (AreValues (letter.now ∷ number.now ∷ [])) }
+    ensures none { IfNone result ((study : Study) → AreValues (letter.now ∷ number.now ∷ []) study → ⊥) }
     ensures range { IfSome result (λ study. (1 ≤ study.frames) × (study.frames ≤ 1024)) }
 {
-    let (letter, number) = two_options(words, b"--process", b"--frames")?;
     let process = process_of(letter)?;
     let frames = frames_of(number)?;
     Some(Study {
         process: Proc(process),
         frames,
     })
+}
+
+// The study that the values name.
+fn study_by(values: &[&str]) -> Option<Study>
+    ensures some { IfSome result (AreValues (map (λ value. value.now) values.now)) }
+    ensures none { IfNone result ((study : Study) → AreValues (map (λ value. value.now) values.now) study → ⊥) }
+    ensures range { IfSome result (λ study. (1 ≤ study.frames) × (study.frames ≤ 1024)) }
+{
+    match values {
+        [letter, number] => study_from(letter.as_bytes(), number.as_bytes()),
+        _ => None,
+    }
+}
+
+/// What the words behind `study` ask for: `--process` with a letter A to P and `--frames` with a number
+/// of one to ten digits, 1 to 1024, each once and in either order, its value in the next word or in
+/// the same one behind `=`. None if they are anything else. Fails only if memory runs out.
+pub fn study_of<'a>(alloc: Global, words: &'a [&'a str]) -> Result<Option<Study>, NoMemory>
+    ensures some { IfOk result (λ found. IfSome found (AsksFor (map (λ word. word.now) words.now))) }
+    ensures none { IfOk result (λ found. IfNone found ((study : Study) → AsksFor (map (λ word. word.now) words.now) study → ⊥)) }
+    ensures range { IfOk result (λ found. IfSome found (λ study. (1 ≤ study.frames) × (study.frames ≤ 1024))) }
+{
+    match option_values(alloc, OPTIONS.as_slice(), words) {
+        Ok(Some(values)) => Ok(study_by(values.as_slice())),
+        Ok(None) => Ok(None),
+        Err(fault) => Err(fault),
+    }
 }

@@ -2,9 +2,11 @@
 use Rattle.std.proofs.Common.{◌≡◌, true, false, Some, None, [], ◌∷◌, ◌++◌, refl, subst, sym, inl, arith}
 use Rattle.std.specs.Prelude.{All, AllPairs}
 use Rattle.std.specs.List.{AllByRecursion}
+use Rattle.std.proofs.lemmas.Bool.{false≢true}
 use Rattle.std.proofs.lemmas.List.Elements.{All-from_recursion}
 use Rattle.vm_types.specs.Configuration.{IsWellFormed, AreSections, IsSection, IsNameByte, IsProcess, IsMapping, AreApart}
 use Rattle.vm_types.specs.declared.config.Config.{Config}
+use Rattle.vm_types.specs.declared.config.Version.TheVariants as version
 use Rattle.pager_model.specs.Flights.{Flight, reading}
 use Rattle.pager_model.specs.Opening.{opening}
 use Rattle.pager_model.specs.Report.{Report, report_of}
@@ -35,7 +37,7 @@ begins_legal =
       row = record {
         own = record { process = omega arith; resident = refl };
         self = refl;
-        home = record { exists = (shared_section, refl, omega arith); still = refl };
+        home = record { exists = ((shared_section, refl, omega arith), refl); still = refl };
         frame = record { head = record { rest = 1 ∷ 2 ∷ 3 ∷ 4 ∷ 5 ∷ 6 ∷ 7 ∷ []; heads = refl }; empty = refl };
         below_limit = omega arith;
         page = the_page;
@@ -72,23 +74,24 @@ test_run = (((tt, begins_legal), ends_legal), written_legal)
 letters : All IsNameByte (83 ∷ 72 ∷ [])
 letters = All-from_recursion IsNameByte (83 ∷ 72 ∷ []) (inl (omega arith, omega arith), (inl (omega arith, omega arith), tt))
 
-section_formed : IsSection shared_section
+section_formed : IsSection version.One shared_section
 section_formed =
     record {
       name = record { length = (omega arith, omega arith); letter = (omega arith, omega arith); bytes = letters };
       whole = refl;
       some = omega arith;
+      paged = λ paged. absurd (false≢true paged);
     }
 
 one_pair : {X : Type 0} (R : X → X → Type 0) (x : X) → AllPairs R (x ∷ [])
 one_pair R x = λ i j d less within. absurd (omega arith)
 
-sections_formed : AreSections (shared_section ∷ [])
+sections_formed : AreSections version.One (shared_section ∷ [])
 sections_formed =
     record {
       few = omega arith;
       pages = omega arith;
-      each = All-from_recursion IsSection (shared_section ∷ []) (section_formed, tt);
+      each = All-from_recursion (IsSection version.One) (shared_section ∷ []) (section_formed, tt);
       differ = one_pair (λ s t. s.name ≡ t.name → ⊥) shared_section;
     }
 
@@ -108,6 +111,7 @@ test_formed : IsWellFormed test_config
 test_formed =
     record {
       frames = (omega arith, omega arith);
+      of_version = omega arith;
       bad = λ k d within. absurd (omega arith);
       bad_differ = λ i j d less within. absurd (omega arith);
       pagefile = (omega arith, omega arith);

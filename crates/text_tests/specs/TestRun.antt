@@ -1,12 +1,14 @@
 -- The run that the tests print: a process reads the one page of a shared section, and writes it after the report.
 -- This project's own.
-use Rattle.std.specs.Prelude.{true, false, List, [], ◌∷◌, Some, None, replicate}
+use Rattle.std.specs.Prelude.{false, List, [], ◌∷◌, Some, None, replicate}
 use Rattle.vm_types.specs.declared.config.Config.{Config}
 use Rattle.vm_types.specs.declared.config.Mapping.{Mapping}
 use Rattle.vm_types.specs.declared.config.Origin.TheVariants as origin
 use Rattle.vm_types.specs.declared.config.Params.{Params}
 use Rattle.vm_types.specs.declared.config.ProcSpec.{ProcSpec}
 use Rattle.vm_types.specs.declared.config.Section.{Section}
+use Rattle.vm_types.specs.declared.config.SectionKind.TheVariants as kind
+use Rattle.vm_types.specs.declared.config.Version.TheVariants as version
 use Rattle.vm_types.specs.declared.names.BlockId.{BlockId}
 use Rattle.vm_types.specs.declared.names.BlockId.TheVariants as block
 use Rattle.vm_types.specs.declared.names.FrameState.TheVariants as state
@@ -25,7 +27,7 @@ use Rattle.vm_journal.specs.declared.entry.What.TheVariants as what
 use Rattle.pager_model.specs.Report.{FrameRow, Report}
 
 abbrev pub shared_section : Section
-shared_section = record { name = 83 ∷ 72 ∷ []; shared = true; bytes = replicate 512 7 }
+shared_section = record { name = 83 ∷ 72 ∷ []; kind = kind.Shared; bytes = replicate 512 7 }
 
 abbrev pub one_spec : ProcSpec
 one_spec = record { limit = 4; quota = 4; extent = 4; locks = 0 }
@@ -56,6 +58,7 @@ least_params =
 abbrev pub test_config : Config
 test_config =
     record {
+      version = version.One;
       frames = 8;
       bad = [];
       pagefile = 4;

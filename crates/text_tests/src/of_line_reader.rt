@@ -11,7 +11,7 @@ use std::test::Fail;
 use vm_journal::{Entry, EvictWhy, Role, What};
 use vm_types::{
     Addr, Answer, BlockId, FrameState, Listed, Mode, NoMemory, Op, Page, Pfn, Proc, ProcStatus,
-    Ref, Reply, Seat, SecId, Section, Service, Why, Width,
+    Ref, Reply, Seat, SecId, Section, SectionKind, Service, Why, Width,
 };
 
 fn section(alloc: Global, name: &[u8]) -> Result<Section, NoMemory>
@@ -20,7 +20,7 @@ fn section(alloc: Global, name: &[u8]) -> Result<Section, NoMemory>
     let bytes = Vec::from_slice(alloc, name)?;
     Ok(Section {
         name: Listed::of(bytes),
-        shared: true,
+        kind: SectionKind::Shared,
         bytes: Listed::new(alloc),
     })
 }

@@ -5,7 +5,8 @@ use paging_study::{
 use std::alloc::Global;
 use std::test::Fail;
 use vm_types::{
-    Addr, Config, Listed, Mode, NoMemory, Op, Params, Proc, Ref, Request, Service, Task, Width,
+    Addr, Config, Listed, Mode, NoMemory, Op, Params, Proc, Ref, Request, Service, Task, Version,
+    Width,
 };
 
 const PARAMS: Params = Params {
@@ -40,6 +41,7 @@ fn read(proc: u32, at: u32) -> Task {
 /// A configuration with a body and nothing else.
 fn config(alloc: Global, body: &[Task]) -> Result<Config, NoMemory> {
     Ok(Config {
+        version: Version::One,
         frames: 8,
         bad: Listed::new(alloc),
         pagefile: 1,

@@ -10,7 +10,7 @@ use std::test::Fail;
 use vm_journal::{Entry, Role, What};
 use vm_types::{
     Addr, BlockId, Config, FrameState, Listed, Mapping, Mode, NoMemory, Op, Origin, Page, Params,
-    Pfn, Proc, ProcSpec, ProcStatus, Ref, Reply, Seat, SecId, Section, Width,
+    Pfn, Proc, ProcSpec, ProcStatus, Ref, Reply, Seat, SecId, Section, SectionKind, Version, Width,
 };
 
 const PARAMS: Params = Params {
@@ -36,7 +36,7 @@ fn config(alloc: Global) -> Result<Config, NoMemory>
 {
     let section = Section {
         name: Listed::of(vec![in alloc; b'S', b'H']?),
-        shared: true,
+        kind: SectionKind::Shared,
         bytes: Listed::of(Vec::from_slice(alloc, &[7; 512])?),
     };
     let spec = ProcSpec {
@@ -53,6 +53,7 @@ fn config(alloc: Global) -> Result<Config, NoMemory>
         prot: 4,
     };
     Ok(Config {
+        version: Version::One,
         frames: 8,
         bad: Listed::new(alloc),
         pagefile: 4,

@@ -11,9 +11,43 @@ fn reads_the_words(rt: HostRuntime) -> Result<(), Fail> {
         process: Proc(15),
         frames: 12,
     };
-    let words = ["--frames", "0000000012", "--process=P"];
-    assert_eq!(rt; study_of(&words), Some(study));
-    assert_eq!(rt; study_of(&["--frames=12"]), None);
+    let accepted: [&[&str]; 4] = [
+        &["--frames", "0000000012", "--process=P"],
+        &["--process", "P", "--frames=12"],
+        &["--frames=12", "--process", "P"],
+        &["--process", "P", "--frames", "12"],
+    ];
+    for words in accepted {
+        assert_eq!(rt; study_of(rt.alloc(), words), Ok(Some(study)));
+    }
+    let refused: [&[&str]; 22] = [
+        &[],
+        &["--frames=12"],
+        &["--frames=12", "--process"],
+        &["--process=P", "--frames="],
+        &["--process=P", "--frames", ""],
+        &["--process=P", "--frames", "-12"],
+        &["--process=P", "--frames=-12"],
+        &["--process=P", "--frames=--frames"],
+        &["--process=P", "--frames==12"],
+        &["--process", "--frames", "--frames=12"],
+        &["--process", "--frames", "12"],
+        &["--process", "-", "--frames=12"],
+        &["--process=P", "--process=P", "--frames=12"],
+        &["--process=P", "--frames=12", "--frames=12"],
+        &["--process=P", "--frames=12", ""],
+        &["--process=P", "--frames=12", "12"],
+        &["--process=P", "--frames=12", "--"],
+        &["--", "--process=P", "--frames=12"],
+        &["--process=P", "--frames=12", "--help"],
+        &["--process=P", "--frames=12", "--version"],
+        &["--proc=P", "--frames=12"],
+        &["-process=P", "--frames=12"],
+    ];
+    for words in refused {
+        assert_eq!(rt; study_of(rt.alloc(), words), Ok(None));
+    }
+    let words = ["--frames", "12"];
     assert!(rt; matches!(first_word(&words), Some((b"--frames", _))));
     Ok(())
 }

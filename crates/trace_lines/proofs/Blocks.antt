@@ -1,17 +1,20 @@
 -- Blocks that are there have keys of their own.
-use Rattle.std.proofs.Common.{◌≡◌, ℕ, zero, suc, ◌≤◌, eqb, List, [], ◌∷◌, All, refl, arith}
+use Rattle.std.proofs.Common.{◌≡◌, ℕ, zero, suc, ◌≤◌, eqb, List, [], ◌∷◌, Option, Some, None, slice_get, All, refl, arith}
 use Rattle.std.specs.Prelude.{sum_by}
 use Rattle.std.specs.List.{list_any, AllByRecursion}
+use Rattle.std.specs.Option.{option_map_or}
 use Rattle.std.proofs.lemmas.List.Sums.{sum_by-cons}
 use Rattle.std.proofs.lemmas.List.Elements.{recursion_from_All}
 use Rattle.vm_types.specs.Configuration.{section_pages}
+use Rattle.vm_types.specs.SectionBlocks.{section_block_count}
 use Rattle.vm_types.specs.declared.names.BlockId.{BlockId}
 use Rattle.vm_types.specs.declared.names.BlockId.TheVariants as block
 use Rattle.vm_types.specs.declared.config.Fails.{Fails}
 use Rattle.vm_types.specs.declared.config.ProcSpec.{ProcSpec}
 use Rattle.vm_types.specs.declared.config.Section.{Section as Held}
+use Rattle.vm_types.proofs.SectionBlocks.{few_blocks}
 use Rattle.trace_lines.specs.Fails.{is_same, slots_at}
-use Rattle.trace_lines.specs.Lookups.{pages_at}
+use Rattle.trace_lines.specs.Lookups.{blocks_at, pages_at}
 use Rattle.trace_lines.specs.Keys.{block_key}
 use Rattle.trace_lines.specs.Seen.{IsKeyed}
 
@@ -39,6 +42,14 @@ pub pages_at_most : (sections : List Held) (s : ℕ) → pages_at sections s ≤
 pages_at_most [] s = omega arith
 pages_at_most (x ∷ sections) zero = let more = sum_by-cons section_pages x sections in rw more (omega arith)
 pages_at_most (x ∷ sections) (suc s) = let more = sum_by-cons section_pages x sections in let rest = pages_at_most sections s in rw more (omega arith)
+
+-- and at most as many blocks as pages
+pub blocks_at_most : (sections : List Held) (s : ℕ) → blocks_at sections s ≤ sum_by section_pages sections
+blocks_at_most sections s = let pages = pages_at_most sections s in let few = fewer (slice_get sections s) in omega (arith, pages, few)
+  where
+    fewer : (o : Option Held) → option_map_or section_block_count o 0 ≤ option_map_or section_pages o 0
+    fewer None = omega arith
+    fewer (Some x) = few_blocks x
 
 slots_most : (procs : List ProcSpec) (p : ℕ) → AllByRecursion (λ spec. spec.extent ≤ 1024) procs → slots_at procs p ≤ 1024
 slots_most [] p each = omega arith

@@ -11,7 +11,7 @@ use Rattle.trace_words.specs.declared.cause.Cause.TheVariants.{Misplaced, NoSuch
 use Rattle.trace_words.specs.Judged.{◌>>=◌, owed}
 use Rattle.trace_words.specs.BlockWords.{Named, Section, PageFile, Swap, block_name}
 use Rattle.trace_words.specs.Number.{decimal_within}
-use Rattle.trace_lines.specs.Lookups.{number_named, or_none, pages_at}
+use Rattle.trace_lines.specs.Lookups.{blocks_at, number_named, or_none}
 use Rattle.trace_lines.specs.Says.{Says, Fail}
 
 -- whether both are one block
@@ -30,11 +30,11 @@ is_same (block.Swap p n) (block.Swap q m) = (p.0 == q.0) && (n == m)
 abbrev pub slots_at : List ProcSpec → ℕ → ℕ
 slots_at procs p = option_map_or (λ spec. spec.extent) (slice_get procs p) 0
 
--- the block of this name, if it is there
+-- the block of this name, if it is there; a section in the page file has none
 abbrev pub block_named : Config → Named → Result BlockId Cause
 block_named config (Section name page) =
     or_none (number_named config.sections name) >>= λ s.
-    owed (nat_lt page (pages_at config.sections s)) NoSuch (Ok (block.Section (record { 0 = s }) page))
+    owed (nat_lt page (blocks_at config.sections s)) NoSuch (Ok (block.Section (record { 0 = s }) page))
 block_named config (PageFile b) = owed (nat_lt b config.pagefile) NoSuch (Ok (block.PageFile b))
 block_named config (Swap p slot) = owed (nat_lt slot (slots_at config.procs p)) NoSuch (Ok (block.Swap (record { 0 = p }) slot))
 

@@ -1,8 +1,9 @@
 -- What a line says. Source: this project's own.
-use Rattle.std.specs.Prelude.{ℕ, Bool, List, Result, Ok, Err}
+use Rattle.std.specs.Prelude.{ℕ, List, Result, Ok, Err}
 use Rattle.vm_types.specs.declared.names.BlockId.{BlockId}
 use Rattle.vm_types.specs.declared.config.Mapping.{Mapping}
 use Rattle.vm_types.specs.declared.config.ProcSpec.{ProcSpec}
+use Rattle.vm_types.specs.declared.config.SectionKind.{SectionKind}
 use Rattle.vm_types.specs.declared.config.Task.{Task}
 use Rattle.trace_words.specs.declared.cause.Cause.{Cause}
 use Rattle.trace_lines.specs.declared.params.Param.{Param as Parameter}
@@ -17,8 +18,8 @@ pub data Says : Type 0 where
   PageFile : ℕ → Says
   Param : Parameter → ℕ → Says
   Bad : ℕ → Says
-  -- a section's name, whether it is shared, and its pages
-  Section : List ℕ → Bool → ℕ → Says
+  -- a section's name, its kind, and its pages
+  Section : List ℕ → SectionKind → ℕ → Says
   -- a section's number, the place of the first byte, and the bytes
   Data : ℕ → ℕ → List ℕ → Says
   Process : ProcSpec → Says
@@ -36,7 +37,7 @@ meant (line.Frames n) = Frames n
 meant (line.PageFile n) = PageFile n
 meant (line.Param param n) = Param param n
 meant (line.Bad f) = Bad f
-meant (line.Section name shared pages) = Section name.now shared pages
+meant (line.Section name kind pages) = Section name.now kind pages
 meant (line.Data s at bytes) = Data s at bytes.items
 meant (line.Process spec) = Process spec
 meant (line.Map m) = Map m

@@ -1,21 +1,21 @@
 ghost use Rattle.std.specs.Prelude.{◌≡◌, ◌≤◌, sum_by};
 ghost use Rattle.vm_types.specs.Configuration.{section_pages};
 ghost use Rattle.trace_words.specs.Split.{listed};
-ghost use Rattle.trace_lines.specs.Declarations.{sharing, has_room, section_line, data_line, are_ordered, process_line};
+ghost use Rattle.trace_lines.specs.Declarations.{section_kind, has_room, section_line, data_line, are_ordered, process_line};
 ghost use Rattle.trace_lines.specs.Says.{said};
 
 use crate::line::Line;
-use crate::lookups::{bytes_at, number_named, section as section_of, total_pages};
+use crate::lookups::{bytes_at, has_file, number_named, section as section_of, total_pages};
 use trace_words::{Cause, Words, decimal, decimal_within, is, is_name, letter, pairs};
-use vm_types::{Config, ProcSpec, Section};
+use vm_types::{Config, ProcSpec, Section, SectionKind};
 
-fn sharing(word: &[u8]) -> Result<bool, Cause>
-    ensures { result ≡ sharing word.now }
+fn section_kind(word: &[u8]) -> Result<SectionKind, Cause>
+    ensures { result ≡ section_kind word.now }
 {
     if is(word, b"SHARED") {
-        Ok(true)
+        Ok(SectionKind::Shared)
     } else if is(word, b"CRF") {
-        Ok(false)
+        Ok(SectionKind::Crf)
     } else {
         Err(Cause::UnknownWord)
     }
@@ -38,7 +38,7 @@ pub(crate) fn section<'a>(config: &Config, args: &Words<'a>) -> Result<Line<'a>,
     if !is_name(name) {
         return Err(Cause::UnknownWord);
     }
-    let shared = sharing(kind)?;
+    let kind = section_kind(kind)?;
     let pages = decimal_within(1, 0xffff_ffff, n)?;
     let sections = config.sections.items();
     if number_named(sections, name).is_some() {
@@ -47,7 +47,7 @@ pub(crate) fn section<'a>(config: &Config, args: &Words<'a>) -> Result<Line<'a>,
     if !has_room(sections, pages) {
         return Err(Cause::TooMany);
     }
-    Ok(Line::Section(name, shared, pages))
+    Ok(Line::Section(name, kind, pages))
 }
 
 pub(crate) fn data<'a>(config: &Config, args: &Words<'a>) -> Result<Line<'a>, Cause>
@@ -58,6 +58,9 @@ pub(crate) fn data<'a>(config: &Config, args: &Words<'a>) -> Result<Line<'a>, Ca
     };
     let sections = config.sections.items();
     let s = section_of(sections, name)?;
+    if !has_file(sections, s) {
+        return Err(Cause::NoSuch);
+    }
     let at = decimal(offset)?;
     let bytes = pairs(hex)?;
     if at as usize + bytes.len() > bytes_at(sections, s) {

@@ -8,7 +8,7 @@ ghost use Rattle.trace_lines.specs.Says.{said};
 ghost use Rattle.trace_lines.specs.Seen.{IsSeen, IsBounded, IsKeyed};
 
 use crate::line::Line;
-use crate::lookups::{number_named, pages_at};
+use crate::lookups::{blocks_at, number_named};
 use crate::seen::{Seen, block_key};
 use arrayvec::ArrayVec;
 use trace_words::{BlockName, Cause, block_name, decimal_within, next_word};
@@ -36,7 +36,7 @@ fn block_named(config: &Config, name: &BlockName) -> Result<BlockId, Cause>
             let Some(s) = number_named(sections, name) else {
                 return Err(Cause::NoSuch);
             };
-            if (page as usize) < pages_at(sections, s) {
+            if (page as usize) < blocks_at(sections, s) {
                 Ok(BlockId::Section(SecId(s as u32), page))
             } else {
                 Err(Cause::NoSuch)

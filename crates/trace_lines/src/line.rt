@@ -1,6 +1,6 @@
 use crate::params::Param;
 use arrayvec::ArrayVec;
-use vm_types::{BlockId, Mapping, ProcSpec, Task};
+use vm_types::{BlockId, Mapping, ProcSpec, SectionKind, Task};
 
 /// What a line says.
 #[derive(Debug, Drop)]
@@ -17,8 +17,8 @@ pub enum Line<'a> {
     Param(Param, u32),
     /// A bad frame.
     Bad(u32),
-    /// A section: its name, whether it is shared, and its pages.
-    Section(&'a [u8], bool, u32),
+    /// A section: its name, its kind, and its pages.
+    Section(&'a [u8], SectionKind, u32),
     /// Bytes of a section: its number, the place of the first, and the bytes.
     Data(usize, u32, ArrayVec<u8, 64>),
     /// The next process.

@@ -1,9 +1,9 @@
 ghost use Rattle.std.specs.Prelude.{◌≡◌, ◌<◌, ◌≤◌, IfOk, IfSome, length, sum_by};
 ghost use Rattle.vm_types.specs.Configuration.{section_pages};
-ghost use Rattle.trace_lines.specs.Lookups.{process, number_named, section, pages_at, bytes_at, aligned, is_inside};
+ghost use Rattle.trace_lines.specs.Lookups.{process, number_named, section, pages_at, bytes_at, blocks_at, has_file, aligned, is_inside};
 
 use trace_words::{Cause, hexadecimal, is_name, letter};
-use vm_types::{ProcSpec, Section};
+use vm_types::{ProcSpec, Section, SectionKind};
 
 /// The process of this letter.
 pub(crate) fn process(procs: &[ProcSpec], word: &[u8]) -> Result<u32, Cause>
@@ -54,6 +54,29 @@ pub(crate) fn bytes_at(sections: &[Section], s: usize) -> usize
     ensures { result ≡ bytes_at sections.now s }
 {
     sections[s].bytes.items().len()
+}
+
+/// The section blocks of the section of this number: one for each page, and none if it is in the
+/// page file.
+pub(crate) fn blocks_at(sections: &[Section], s: usize) -> usize
+    requires { s < length sections.now }
+    ensures { result ≡ blocks_at sections.now s }
+{
+    match sections[s].kind {
+        SectionKind::Shared | SectionKind::Crf => pages_at(sections, s),
+        SectionKind::Paged => 0,
+    }
+}
+
+/// Whether the section of this number has a file: not if it is in the page file.
+pub(crate) fn has_file(sections: &[Section], s: usize) -> bool
+    requires { s < length sections.now }
+    ensures { result ≡ has_file sections.now s }
+{
+    match sections[s].kind {
+        SectionKind::Shared | SectionKind::Crf => true,
+        SectionKind::Paged => false,
+    }
 }
 
 /// The pages of all sections.

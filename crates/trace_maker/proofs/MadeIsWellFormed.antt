@@ -1,17 +1,23 @@
 -- What is made is well formed.
 use Rattle.std.proofs.Common.{◌≡◌, ◌≢◌, ℕ, zero, suc, ◌+◌, ◌*◌, ◌/◌, ◌%◌, ◌^◌, ◌<◌, ◌≤◌, ◌⊎◌, Bool, true, false, eqb, ltb, cond, List, [], ◌∷◌, ◌++◌, length, get_or, All, refl, sym, ap, subst, ◌∙◌, arith, lit<, lit≤, inl, inr}
 use Rattle.std.specs.Prelude.{AllPairs, slice_index, codes}
+use Rattle.std.proofs.lemmas.Bool.{true≢false}
 use Rattle.std.proofs.lemmas.List.{length-append}
 use Rattle.std.proofs.lemmas.List.Elements.{All-nil, All-cons, All-push, All-weaker}
 use Rattle.std.proofs.lemmas.List.Quantifiers.{all_pairs_push}
 use Rattle.std.proofs.lemmas.List.Kept.{AllPairs-cons}
-use Rattle.vm_types.specs.Configuration.{IsName, IsLetter, IsNameByte, IsSection, AreSections, IsProcess, HasPages, IsMapping, AreApart, AreFails, IsTask, IsWellFormed, section_pages}
+use Rattle.vm_types.specs.Configuration.{IsName, IsLetter, IsNameByte, IsSection, AreSections, IsProcess, HasPages, IsMapping, AreApart, AreFails, IsTask, IsWellFormed, all_pins, section_pages}
+use Rattle.vm_types.specs.Kinds.{is_paged_kind}
 use Rattle.vm_types.specs.WellFormed.{IsRange, IsCode, FitsOp, op_bytes}
 use Rattle.vm_types.specs.declared.config.Mapping.{Mapping}
 use Rattle.vm_types.specs.declared.config.Origin.TheVariants as origin
 use Rattle.vm_types.specs.declared.config.ProcSpec.{ProcSpec}
+use Rattle.vm_types.specs.declared.config.SectionKind.{SectionKind}
+use Rattle.vm_types.specs.declared.config.SectionKind.TheVariants as kind
+use Rattle.vm_types.specs.declared.config.Version.TheVariants as version
 use Rattle.vm_types.specs.declared.reference.Width.TheVariants.{Four}
 use Rattle.vm_types.specs.declared.reference.Op.TheVariants.{Read, Write, Add}
+use Rattle.vm_types.proofs.VersionOne.{no_pins}
 use Rattle.trace_maker.specs.declared.draws.Region.{Region}
 use Rattle.trace_maker.specs.Draws.{next_state, draw_of, region_of, op_of, near_pages, address_from, task_of, task_from}
 use Rattle.trace_maker.specs.Made.{pattern, made_section, made_sections, made_process, made_procs, made_map, made_maps, state_after, made_body, made_config}
@@ -38,13 +44,13 @@ all_procs P (suc n) p = All-push P (made_procs n) made_process (all_procs P n p)
 
 -- sections
 
-section_good : (name : List ℕ) (shared : Bool) (pages : ℕ) → IsName name → 1 ≤ pages → IsSection (made_section name shared pages)
-section_good name shared pages good some =
+section_good : (name : List ℕ) (of_kind : SectionKind) (pages : ℕ) → is_paged_kind of_kind ≡ false → IsName name → 1 ≤ pages → IsSection version.One (made_section name of_kind pages)
+section_good name of_kind pages file good some =
     let count : length (pattern (512 * pages)) ≡ 512 * pages = length_pattern (512 * pages) in
-    record { name = good; whole = ap (λ (n : ℕ). n % 512) count ∙ omega arith; some = omega (arith, count, some) }
+    record { name = good; whole = ap (λ (n : ℕ). n % 512) count ∙ omega arith; some = omega (arith, count, some); paged = λ paged. absurd (true≢false (sym paged ∙ file)) }
 
-pages_of : (name : List ℕ) (shared : Bool) (pages : ℕ) → section_pages (made_section name shared pages) ≡ pages
-pages_of name shared pages = ap (λ (n : ℕ). n / 512) (length_pattern (512 * pages)) ∙ omega arith
+pages_of : (name : List ℕ) (of_kind : SectionKind) (pages : ℕ) → section_pages (made_section name of_kind pages) ≡ pages
+pages_of name of_kind pages = ap (λ (n : ℕ). n / 512) (length_pattern (512 * pages)) ∙ omega arith
 
 -- mappings
 
@@ -58,10 +64,10 @@ last_range : IsRange 0x7fffc000 32
 last_range = record { aligned = refl; some = lit≤ tt; few = lit≤ tt; inside = inr (lit≤ tt, lit≤ tt) }
 
 lib_pages : HasPages made_sections (origin.Section (record { 0 = 0 }) 0) 256
-lib_pages = let pages = pages_of (codes "LIB") true 256 in (made_section (codes "LIB") true 256, refl, omega (arith, pages))
+lib_pages = let pages = pages_of (codes "LIB") kind.Shared 256 in (made_section (codes "LIB") kind.Shared 256, refl, omega (arith, pages))
 
 img_pages : HasPages made_sections (origin.Section (record { 0 = 1 }) 0) 64
-img_pages = let pages = pages_of (codes "IMG") false 64 in (made_section (codes "IMG") false 64, refl, omega (arith, pages))
+img_pages = let pages = pages_of (codes "IMG") kind.Crf 64 in (made_section (codes "IMG") kind.Crf 64, refl, omega (arith, pages))
 
 all_maps : (P : Mapping → Type 0) (n : ℕ) → ((p : ℕ) → p < n → P (made_map p 0 256 origin.Zero) × P (made_map p 0x40000 256 (origin.Section (record { 0 = 0 }) 0)) × P (made_map p 0x80000 64 (origin.Section (record { 0 = 1 }) 0)) × P (made_map p 0x7fffc000 32 origin.Zero)) → All P (made_maps n)
 unfolding made_maps
@@ -158,7 +164,7 @@ op_good kind value at small whole = by_kind (ltb kind 2) (ltb kind 3) where
   by_kind false true = (whole, small)
   by_kind false false = (whole, small)
 
-task_good : (x procs : ℕ) → 1 ≤ procs → IsTask procs (task_from x procs)
+task_good : (x procs : ℕ) → 1 ≤ procs → IsTask version.One procs (task_from x procs)
 task_good x procs some =
     let a = next_state x in
     let b = next_state a in
@@ -169,16 +175,16 @@ task_good x procs some =
       below : (p n : ℕ) → 1 ≤ n → p % n < n
       below p n h = omega arith
 
-      good : (procs d1 d2 d3 d4 d5 d6 : ℕ) → 1 ≤ procs → d6 < 2 ^ 32 → IsTask procs (task_of procs d1 d2 d3 d4 d5 d6)
+      good : (procs d1 d2 d3 d4 d5 d6 : ℕ) → 1 ≤ procs → d6 < 2 ^ 32 → IsTask version.One procs (task_of procs d1 d2 d3 d4 d5 d6)
       good procs d1 d2 d3 d4 d5 d6 some small =
           let at = address_good (region_of (d2 % 16)) d3 d4 (region_good (d2 % 16)) in
           let op = op_good (d5 % 4) d6 (address_from (region_of (d2 % 16)) d3 d4) small at.1 in
-          record { proc = below d1 procs some; request = record { address = at.0; aligned = op.0; fits = op.1 } }
+          record { proc = below d1 procs some; request = record { address = at.0; aligned = op.0; fits = op.1 }; of_version = tt }
 
-body_good : (seed procs n : ℕ) → 1 ≤ procs → All (IsTask procs) (made_body seed procs n)
+body_good : (seed procs n : ℕ) → 1 ≤ procs → All (IsTask version.One procs) (made_body seed procs n)
 unfolding made_body
-body_good seed procs zero some = All-nil (IsTask procs)
-body_good seed procs (suc n) some = All-push (IsTask procs) (made_body seed procs n) (task_from (state_after seed n) procs) (body_good seed procs n some) (task_good (state_after seed n) procs some)
+body_good seed procs zero some = All-nil (IsTask version.One procs)
+body_good seed procs (suc n) some = All-push (IsTask version.One procs) (made_body seed procs n) (task_from (state_after seed n) procs) (body_good seed procs n some) (task_good (state_after seed n) procs some)
 
 -- names
 
@@ -192,15 +198,15 @@ img_name = record { length = (lit≤ tt, lit≤ tt); letter = (lit≤ tt, lit≤
   three : (a b c : ℕ) → IsLetter a → IsLetter b → IsLetter c → All IsNameByte (a ∷ b ∷ c ∷ [])
   three a b c x y z = All-cons IsNameByte a (b ∷ c ∷ []) (inl x) (All-cons IsNameByte b (c ∷ []) (inl y) (All-cons IsNameByte c [] (inl z) (All-nil IsNameByte)))
 
-sections_good : AreSections made_sections
+sections_good : AreSections version.One made_sections
 sections_good =
-    let lib = pages_of (codes "LIB") true 256 in
-    let img = pages_of (codes "IMG") false 64 in
+    let lib = pages_of (codes "LIB") kind.Shared 256 in
+    let img = pages_of (codes "IMG") kind.Crf 64 in
     record {
       few = lit≤ tt;
       pages = omega (arith, lib, img);
-      each = All-cons IsSection (made_section (codes "LIB") true 256) (made_section (codes "IMG") false 64 ∷ []) (section_good (codes "LIB") true 256 lib_name (lit≤ tt)) (All-cons IsSection (made_section (codes "IMG") false 64) [] (section_good (codes "IMG") false 64 img_name (lit≤ tt)) (All-nil IsSection));
-      differ = AllPairs-cons (λ s t. s.name ≢ t.name) (made_section (codes "LIB") true 256) (made_section (codes "IMG") false 64 ∷ []) (All-cons (λ t. codes "LIB" ≢ t.name) (made_section (codes "IMG") false 64) [] other (All-nil (λ t. codes "LIB" ≢ t.name))) (AllPairs-cons (λ s t. s.name ≢ t.name) (made_section (codes "IMG") false 64) [] (All-nil (λ t. codes "IMG" ≢ t.name)) (λ i j d lt bound. absurd (omega (arith, bound))));
+      each = All-cons (IsSection version.One) (made_section (codes "LIB") kind.Shared 256) (made_section (codes "IMG") kind.Crf 64 ∷ []) (section_good (codes "LIB") kind.Shared 256 refl lib_name (lit≤ tt)) (All-cons (IsSection version.One) (made_section (codes "IMG") kind.Crf 64) [] (section_good (codes "IMG") kind.Crf 64 refl img_name (lit≤ tt)) (All-nil (IsSection version.One)));
+      differ = AllPairs-cons (λ s t. s.name ≢ t.name) (made_section (codes "LIB") kind.Shared 256) (made_section (codes "IMG") kind.Crf 64 ∷ []) (All-cons (λ t. codes "LIB" ≢ t.name) (made_section (codes "IMG") kind.Crf 64) [] other (All-nil (λ t. codes "LIB" ≢ t.name))) (AllPairs-cons (λ s t. s.name ≢ t.name) (made_section (codes "IMG") kind.Crf 64) [] (All-nil (λ t. codes "IMG" ≢ t.name)) (λ i j d lt bound. absurd (omega (arith, bound))));
     } where
       other : codes "LIB" ≢ codes "IMG"
       other e = let heads : 76 ≡ 73 = ap (λ (name : List ℕ). slice_index name 0) e in omega (arith, heads)
@@ -209,19 +215,22 @@ pub made_is_well_formed : (seed procs refs : ℕ) → 1 ≤ procs → procs ≤ 
 made_is_well_formed seed procs refs some few short =
     let count = length_procs procs in
     let requests = length_body seed procs refs in
+    let pins = no_pins (made_config seed procs refs) refl in
+    let kept : 0 + all_pins (made_config seed procs refs) ≡ 0 = omega (arith, pins) in
     record {
       frames = (omega arith, omega (arith, few));
+      of_version = omega (arith, few);
       bad = All-nil (λ f. f < 96 * procs + 32);
       bad_differ = λ i j d lt bound. absurd (omega (arith, bound));
       pagefile = (lit≤ tt, lit≤ tt);
       params = record { pfc = (lit≤ tt, lit≤ tt); hilimit = lit≤ tt; lolimit = lit≤ tt; waitlimit = (lit≤ tt, lit≤ tt); wait_above = lit≤ tt; wrtcluster = (lit≤ tt, lit≤ tt); freelim = lit≤ tt; freegoal = lit≤ tt; awstime = lit≤ tt; pfrath = lit≤ tt; pfratl = lit≤ tt; wsinc = lit≤ tt; wsdec = lit≤ tt; awsmin = (lit≤ tt, lit≤ tt); borrowlim = lit≤ tt };
       sections = sections_good;
       some_process = (omega (arith, count, some), omega (arith, count, few));
-      procs = all_procs (IsProcess (96 * procs + 32) 0) procs (record { locks = lit≤ tt; quota = lit≤ tt; extent = lit≤ tt; most = lit≤ tt; room = omega (arith, some) });
+      procs = subst (λ (n : ℕ). All (IsProcess (96 * procs + 32) n) (made_procs procs)) (sym kept) (all_procs (IsProcess (96 * procs + 32) 0) procs (record { locks = lit≤ tt; quota = lit≤ tt; extent = lit≤ tt; most = lit≤ tt; room = omega (arith, some) }));
       maps = subst (λ (n : ℕ). All (IsMapping n made_sections) (made_maps procs)) (sym count) (maps_good procs);
       maps_apart = maps_apart procs;
       fails = All-nil (AreFails (made_config seed procs refs));
       fails_differ = λ i j d lt bound. absurd (omega (arith, bound));
       few_tasks = omega (arith, requests, short);
-      body = subst (λ (n : ℕ). All (IsTask n) (made_body seed procs refs)) (sym count) (body_good seed procs refs some);
+      body = subst (λ (n : ℕ). All (IsTask version.One n) (made_body seed procs refs)) (sym count) (body_good seed procs refs some);
     }

@@ -1,5 +1,5 @@
 -- The configuration that a seed makes. Source: this project's own.
-use Rattle.std.specs.Prelude.{ℕ, zero, suc, ◌+◌, ◌*◌, ◌/◌, ◌%◌, Bool, true, false, List, [], ◌∷◌, ◌++◌, codes}
+use Rattle.std.specs.Prelude.{ℕ, zero, suc, ◌+◌, ◌*◌, ◌/◌, ◌%◌, List, [], ◌∷◌, ◌++◌, codes}
 use Rattle.vm_types.specs.declared.config.Config.{Config}
 use Rattle.vm_types.specs.declared.config.Mapping.{Mapping}
 use Rattle.vm_types.specs.declared.config.Origin.{Origin}
@@ -7,7 +7,10 @@ use Rattle.vm_types.specs.declared.config.Origin.TheVariants as origin
 use Rattle.vm_types.specs.declared.config.Params.{Params}
 use Rattle.vm_types.specs.declared.config.ProcSpec.{ProcSpec}
 use Rattle.vm_types.specs.declared.config.Section.{Section}
+use Rattle.vm_types.specs.declared.config.SectionKind.{SectionKind}
+use Rattle.vm_types.specs.declared.config.SectionKind.TheVariants as kind
 use Rattle.vm_types.specs.declared.config.Task.{Task}
+use Rattle.vm_types.specs.declared.config.Version.TheVariants as version
 use Rattle.trace_maker.specs.Draws.{after_six, task_from}
 
 abbrev pub made_params : Params
@@ -33,11 +36,11 @@ unfoldable pub pattern : ℕ → List ℕ
 pattern zero = []
 pattern (suc n) = pattern n ++ ((n / 512 + n % 512) % 256) ∷ []
 
-abbrev pub made_section : List ℕ → Bool → ℕ → Section
-made_section name shared pages = record { name = name; shared = shared; bytes = pattern (512 * pages) }
+abbrev pub made_section : List ℕ → SectionKind → ℕ → Section
+made_section name of_kind pages = record { name = name; kind = of_kind; bytes = pattern (512 * pages) }
 
 abbrev pub made_sections : List Section
-made_sections = made_section (codes "LIB") true 256 ∷ made_section (codes "IMG") false 64 ∷ []
+made_sections = made_section (codes "LIB") kind.Shared 256 ∷ made_section (codes "IMG") kind.Crf 64 ∷ []
 
 abbrev pub made_process : ProcSpec
 made_process = record { limit = 48; quota = 64; extent = 80; locks = 8 }
@@ -71,6 +74,7 @@ made_body seed procs (suc n) = made_body seed procs n ++ task_from (state_after 
 
 abbrev pub made_config : ℕ → ℕ → ℕ → Config
 made_config seed procs refs = record {
+  version = version.One;
   frames = 96 * procs + 32;
   bad = [];
   pagefile = 8192;

@@ -2,7 +2,9 @@ ghost use Rattle.std.specs.Prelude.{◌≡◌, ◌≤◌, IfOk};
 ghost use Rattle.trace_maker.specs.Made.{pattern, made_section, made_sections, made_process, made_procs, made_map, made_maps};
 
 use std::alloc::Global;
-use vm_types::{Addr, Listed, Mapping, NoMemory, Origin, Proc, ProcSpec, SecId, Section};
+use vm_types::{
+    Addr, Listed, Mapping, NoMemory, Origin, Proc, ProcSpec, SecId, Section, SectionKind,
+};
 
 // The first bytes of a section.
 fn bytes_of(alloc: Global, count: u32) -> Result<Listed<u8>, NoMemory>
@@ -15,13 +17,13 @@ fn bytes_of(alloc: Global, count: u32) -> Result<Listed<u8>, NoMemory>
     Ok(Listed::of(bytes))
 }
 
-fn section(alloc: Global, name: &[u8], shared: bool, pages: u32) -> Result<Section, NoMemory>
+fn section(alloc: Global, name: &[u8], kind: SectionKind, pages: u32) -> Result<Section, NoMemory>
     requires { pages ≤ 256 }
-    ensures { IfOk result (λ section. section ≡ made_section name.now shared pages) }
+    ensures { IfOk result (λ section. section ≡ made_section name.now kind pages) }
 {
     Ok(Section {
         name: Listed::of(name.to_vec(alloc)?),
-        shared,
+        kind,
         bytes: bytes_of(alloc, 512 * pages)?,
     })
 }
@@ -31,8 +33,8 @@ pub(crate) fn sections(alloc: Global) -> Result<Listed<Section>, NoMemory>
     ensures { IfOk result (λ sections. sections ≡ made_sections) }
 {
     let mut sections = Listed::new(alloc);
-    sections.push(section(alloc, b"LIB", true, 256)?)?;
-    sections.push(section(alloc, b"IMG", false, 64)?)?;
+    sections.push(section(alloc, b"LIB", SectionKind::Shared, 256)?)?;
+    sections.push(section(alloc, b"IMG", SectionKind::Crf, 64)?)?;
     Ok(sections)
 }
 

@@ -1,11 +1,12 @@
 ghost use Rattle.std.specs.Prelude.{◌≡◌, ◌≤◌, IfOk};
 ghost use Rattle.vm_types.specs.Configuration.{IsWellFormed};
+ghost use Rattle.vm_types.specs.declared.config.Version.{Version};
 ghost use Rattle.trace_maker.specs.Made.{made_body, made_config};
 
 use crate::draws::Draws;
 use crate::machine::{mappings, processes, sections};
 use std::alloc::Global;
-use vm_types::{Config, Listed, NoMemory, Params, Task};
+use vm_types::{Config, Listed, NoMemory, Params, Task, Version};
 
 // So many references.
 #[tactic(auto, using(crate::proofs::Growing::body_none, crate::proofs::Growing::body_more, crate::proofs::Growing::state_none, crate::proofs::Growing::state_more))]
@@ -35,8 +36,10 @@ pub fn make_trace(alloc: Global, seed: u64, procs: u32, refs: u32) -> Result<Con
     requires few_refs { refs ≤ 100000 }
     ensures made { IfOk result (λ config. config ≡ made_config seed procs refs) }
     ensures well_formed { IfOk result IsWellFormed }
+    ensures version { IfOk result (λ config. config.version ≡ Version.One) }
 {
     Ok(Config {
+        version: Version::One,
         frames: 96 * procs + 32,
         bad: Listed::new(alloc),
         pagefile: 8192,

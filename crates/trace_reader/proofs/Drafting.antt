@@ -1,18 +1,21 @@
 -- The declarations so far keep what makes a configuration well formed.
-use Rattle.std.proofs.Common.{◌≡◌, ◌≢◌, ℕ, zero, suc, ◌+◌, ◌<◌, ◌≤◌, true, leb, ◌&&◌, List, [], ◌∷◌, length, Some, Ok, refl, subst, arith, lit≤}
+use Rattle.std.proofs.Common.{◌≡◌, ◌≢◌, ℕ, zero, suc, ◌+◌, ◌<◌, ◌≤◌, true, leb, ◌&&◌, List, [], ◌∷◌, length, All, Some, Ok, refl, sym, subst, arith, lit≤}
 use Rattle.std.specs.Prelude.{IfOk, AllPairs, sum_by, slice_get}
 use Rattle.std.specs.List.{list_all, AllByRecursion}
 use Rattle.std.proofs.lemmas.Bool.{and_parts, leb-true}
 use Rattle.std.proofs.lemmas.List.Elements.{All-nil, All-weaker, All-from_recursion, recursion_from_All}
 use Rattle.std.proofs.lemmas.Option.{slice_get_within}
-use Rattle.vm_types.specs.Configuration.{AreParams, IsProcess, IsSection, IsMapping, AreApart, IsBlock, AreFails, IsTask, IsWellFormed, section_pages}
+use Rattle.vm_types.specs.Configuration.{AreParams, FitsVersion, IsProcess, IsSection, IsMapping, AreApart, IsBlock, AreFails, IsTask, IsWellFormed, all_pins, section_pages}
 use Rattle.vm_types.specs.declared.config.Config.{Config}
 use Rattle.vm_types.specs.declared.config.Fails.{Fails}
 use Rattle.vm_types.specs.declared.config.Params.{Params}
 use Rattle.vm_types.specs.declared.config.ProcSpec.{ProcSpec}
 use Rattle.vm_types.specs.declared.config.Section.{Section as Held}
+use Rattle.vm_types.specs.declared.config.Version.{Version}
+use Rattle.vm_types.specs.declared.config.Version.TheVariants as version
 use Rattle.vm_types.specs.declared.names.BlockId.{BlockId}
 use Rattle.vm_types.specs.declared.names.BlockId.TheVariants as block
+use Rattle.vm_types.proofs.VersionOne.{no_pins}
 use Rattle.trace_lines.specs.declared.part.Part.{Part}
 use Rattle.trace_lines.specs.declared.places.Place.{Place}
 use Rattle.trace_lines.specs.declared.places.Place.TheVariants.{Ended}
@@ -38,12 +41,13 @@ no_pairs R i j d lt bound = absurd (omega (arith, bound))
 
 start_sound : AreSound start.config
 start_sound = record {
+  version = refl;
   frames = lit≤ tt;
   bad = All-nil (λ f. f < 0);
   bad_differ = no_pairs (λ f g. f ≢ g);
   pagefile = lit≤ tt;
   params = record { pfc = (lit≤ tt, lit≤ tt); hilimit = lit≤ tt; lolimit = lit≤ tt; waitlimit = (lit≤ tt, lit≤ tt); wrtcluster = (lit≤ tt, lit≤ tt); freelim = lit≤ tt; freegoal = lit≤ tt; awstime = lit≤ tt; pfrath = lit≤ tt; pfratl = lit≤ tt; wsinc = lit≤ tt; wsdec = lit≤ tt; awsmin = (lit≤ tt, lit≤ tt); borrowlim = lit≤ tt };
-  sections = record { few = lit≤ tt; pages = lit≤ tt; each = All-nil IsSection; differ = no_pairs (λ (s : Held) (t : Held). s.name ≢ t.name) };
+  sections = record { few = lit≤ tt; pages = lit≤ tt; each = All-nil (IsSection version.One); differ = no_pairs (λ (s : Held) (t : Held). s.name ≢ t.name) };
   few_procs = lit≤ tt;
   procs = All-nil IsOrdered;
   maps = All-nil (IsMapping 0 []);
@@ -51,7 +55,7 @@ start_sound = record {
   fails = All-nil (AreFails start.config);
   fails_differ = no_pairs (λ (a : Fails) (b : Fails). a.block ≢ b.block);
   few_tasks = lit≤ tt;
-  body = All-nil (IsTask 0);
+  body = All-nil (IsTask version.One 0);
 }
 
 start_placed : IsPlaced 0 start.config
@@ -71,9 +75,9 @@ keyed : (c : Config) → AreSound c → (id : BlockId) → IsBlock c id → IsKe
 keyed c s (block.Section k page) h =
     let few : length c.sections ≤ 64 = s.sections.few in
     let pages : sum_by section_pages c.sections ≤ 16384 = s.sections.pages in
-    let there = slice_get_within c.sections k.0 h.0 h.1 in
-    let most = page_of_all c.sections k.0 h.0 h.1 in
-    (omega (arith, there, few), omega (arith, h.2, most, pages))
+    let there = slice_get_within c.sections k.0 h.0.0 h.0.1 in
+    let most = page_of_all c.sections k.0 h.0.0 h.0.1 in
+    (omega (arith, there, few), omega (arith, h.0.2, most, pages))
 keyed c s (block.PageFile b) h = omega (arith, h, s.pagefile)
 keyed c s (block.Swap p n) h =
     let there = slice_get_within c.procs p.0 h.0 h.1 in
@@ -129,21 +133,25 @@ whole_procs frames bad (spec ∷ procs) each e =
 
 pub whole : (c : Config) → AreSound c → IsPlaced 5 c → IsWellFormed c
 whole c s p = record {
-  frames = (p.frames (lit≤ tt), s.frames);
+  frames = (p.frames (lit≤ tt), (let few = s.frames in omega (arith, few)));
+  of_version = subst (λ (v : Version). FitsVersion v c.frames) (sym s.version) s.frames;
   bad = s.bad;
   bad_differ = s.bad_differ;
   pagefile = (p.pagefile (lit≤ tt), s.pagefile);
   params = whole_params c.params s.params (p.agree (lit≤ tt));
   sections = s.sections;
   some_process = (p.some_process (lit≤ tt), s.few_procs);
-  procs = All-from_recursion (IsProcess c.frames (length c.bad)) c.procs (whole_procs c.frames (length c.bad) c.procs (recursion_from_All IsOrdered c.procs s.procs) (p.room (lit≤ tt)));
+  procs = subst (λ (kept : ℕ). All (IsProcess c.frames kept) c.procs) none
+      (All-from_recursion (IsProcess c.frames (length c.bad)) c.procs (whole_procs c.frames (length c.bad) c.procs (recursion_from_All IsOrdered c.procs s.procs) (p.room (lit≤ tt))));
   maps = s.maps;
   maps_apart = s.maps_apart;
   fails = s.fails;
   fails_differ = s.fails_differ;
   few_tasks = s.few_tasks;
   body = s.body;
-}
+} where
+  none : length c.bad ≡ length c.bad + all_pins c
+  none = let pins = no_pins c s.version in omega (arith, pins)
 
 pub read_whole : (part : Part) → IsDraft part → part.place ≡ Ended → IsWellFormed part.config
 read_whole part d e = whole part.config d.sound (subst (λ (p : Place). IsPlaced (rank p) part.config) e d.placed)

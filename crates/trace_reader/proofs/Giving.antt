@@ -1,5 +1,5 @@
 -- What holds of the value of each step, and of words.
-use Rattle.std.proofs.Common.{◌≡◌, ℕ, suc, ◌+◌, ◌*◌, ◌%◌, ◌^◌, ◌<◌, ◌≤◌, ◌-◌, ◌⊎◌, Bool, true, false, eqb, leb, ltb, ◌&&◌, ◌||◌, cond, List, [], ◌∷◌, length, All, Option, Some, None, Result, Ok, Err, refl, arith, lit<, inl, inr}
+use Rattle.std.proofs.Common.{◌≡◌, ℕ, suc, ◌+◌, ◌*◌, ◌%◌, ◌^◌, ◌<◌, ◌≤◌, ◌-◌, ◌⊎◌, Bool, true, false, eqb, leb, ltb, ◌&&◌, ◌||◌, cond, List, [], ◌∷◌, length, All, Option, Some, None, Result, Ok, Err, refl, ap, ◌∙◌, arith, lit<, inl, inr}
 use native.Mathlib.Numerals.{unary_clauses}
 use Rattle.std.specs.Prelude.{IfOk, IfSome, slice_get, slice_index, codes, bytes_eq}
 use Rattle.std.specs.List.{list_all, position, position_or_len}
@@ -7,8 +7,10 @@ use Rattle.std.specs.Option.{option_map_or}
 use Rattle.std.proofs.Math.Nat.{mul-le-mul_right, pow-le-pow_right}
 use Rattle.std.proofs.lemmas.Bool.{and_parts, leb-true, ltb-true, eqb-true, eqb-false}
 use Rattle.std.proofs.lemmas.List.Elements.{All-nil, All-cons}
-use Rattle.vm_types.specs.Configuration.{IsLetter, IsNameByte, IsName, HasPages, section_pages}
+use Rattle.vm_types.specs.Configuration.{IsLetter, IsNameByte, IsName, IsSectionPage, HasPages, section_pages}
+use Rattle.vm_types.specs.Kinds.{is_paged_kind, paged_of}
 use Rattle.vm_types.specs.WellFormed.{IsRange, IsCode}
+use Rattle.vm_types.specs.SectionBlocks.{section_block_count}
 use Rattle.vm_types.specs.declared.config.Origin.TheVariants as origin
 use Rattle.vm_types.specs.declared.config.ProcSpec.{ProcSpec}
 use Rattle.vm_types.specs.declared.config.Section.{Section}
@@ -19,7 +21,7 @@ use Rattle.trace_words.specs.Name.{is_capital, is_name_byte, is_name}
 use Rattle.trace_words.specs.Number.{decimal, within, decimal_within, hexadecimal, hexadecimal_digit, decimal_digit, spelled, has_length}
 use Rattle.trace_words.specs.Protection.{kernel_code, executive_code, other_code, protection}
 use Rattle.trace_words.specs.Words.{is}
-use Rattle.trace_lines.specs.Lookups.{process, number_named, section, or_none, pages_at, aligned, is_inside}
+use Rattle.trace_lines.specs.Lookups.{process, number_named, section, or_none, pages_at, blocks_at, aligned, is_inside}
 
 pub owed_gives : {A : Type 0} (test : Bool) (cause : Cause) (value : Result A Cause) (P : A → Type 0) → (test ≡ true → IfOk value P) → IfOk (owed test cause value) P
 owed_gives true cause value P h = h refl
@@ -187,6 +189,16 @@ pages_give sections s page lt = by_section (slice_get sections s) refl lt where
   by_section : (o : Option Section) → slice_get sections s ≡ o → page < option_map_or section_pages o 0 → (x : Section) × (slice_get sections s ≡ Some x) × (page < section_pages x)
   by_section None e h = absurd (omega (arith, h))
   by_section (Some x) e h = (x, e, h)
+
+-- a section with so many blocks is there, with a file and so many pages
+pub blocks_give : (sections : List Section) (s page : ℕ) → page < blocks_at sections s → IsSectionPage sections s page × (paged_of (slice_get sections s) ≡ false)
+blocks_give sections s page lt = by_section (slice_get sections s) refl lt where
+  by_section : (o : Option Section) → slice_get sections s ≡ o → page < option_map_or section_block_count o 0 → IsSectionPage sections s page × (paged_of (slice_get sections s) ≡ false)
+  by_section None e h = absurd (omega (arith, h))
+  by_section (Some x) e h = by_kind (is_paged_kind x.kind) refl h where
+    by_kind : (b : Bool) → is_paged_kind x.kind ≡ b → page < cond b 0 (section_pages x) → IsSectionPage sections s page × (paged_of (slice_get sections s) ≡ false)
+    by_kind true k h = absurd (omega (arith, h))
+    by_kind false k h = ((x, e, h), ap paged_of e ∙ k)
 
 pub origin_gives : (sections : List Section) (s first pages : ℕ) → 1 ≤ pages → first + pages ≤ pages_at sections s → HasPages sections (origin.Section (record { 0 = s }) first) pages
 origin_gives sections s first pages some le =

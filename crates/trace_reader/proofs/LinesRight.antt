@@ -1,12 +1,13 @@
 -- What a line that breaks no rule says: each kind of line by its words.
-use Rattle.std.proofs.Common.{◌≡◌, ℕ, suc, ◌+◌, ◌%◌, ◌^◌, ◌<◌, ◌≤◌, true, not, eqb, leb, ltb, ◌&&◌, List, [], ◌∷◌, length, All, Option, Some, None, Ok, refl, arith, ap}
-use Rattle.std.specs.Prelude.{IfOk, slice_get, is_some}
+use Rattle.std.proofs.Common.{◌≡◌, ℕ, suc, ◌+◌, ◌%◌, ◌^◌, ◌<◌, ◌≤◌, true, false, not, eqb, leb, ltb, ◌&&◌, List, [], ◌∷◌, length, All, Option, Some, None, Ok, refl, arith, ap}
+use Rattle.std.specs.Prelude.{IfOk, codes, slice_get, is_some}
 use Rattle.std.specs.List.{list_any}
 use Rattle.std.specs.Option.{option_map_or}
 use Rattle.std.proofs.lemmas.Bool.{and_parts, leb-true, ltb-true, not-true}
 use Rattle.std.proofs.lemmas.List.Elements.{All-nil, All-cons}
 use Rattle.vm_types.specs.Configuration.{IsBlock, IsMapping}
-use Rattle.vm_types.specs.WellFormed.{IsCode, IsRange, IsWellFormedRequest, width_bytes}
+use Rattle.vm_types.specs.Kinds.{is_paged_kind}
+use Rattle.vm_types.specs.WellFormed.{IsCode, IsRange, IsRequestOf, IsWellFormedRequest, width_bytes}
 use Rattle.vm_types.specs.declared.config.Config.{Config}
 use Rattle.vm_types.specs.declared.config.Mapping.{Mapping}
 use Rattle.vm_types.specs.declared.config.Origin.TheVariants as origin
@@ -34,14 +35,15 @@ use Rattle.trace_words.specs.Number.{decimal, decimal_within, hexadecimal}
 use Rattle.trace_words.specs.Pairs.{pairs}
 use Rattle.trace_words.specs.Protection.{protection}
 use Rattle.trace_words.specs.VerbWords.{verb_of}
+use Rattle.trace_words.specs.Words.{is}
 use Rattle.trace_lines.specs.declared.part.Part.{Part}
 use Rattle.trace_lines.specs.declared.ranges.Written.{Written}
 use Rattle.trace_lines.specs.declared.ranges.Range.{Range}
 use Rattle.trace_lines.specs.declared.ranges.CodedRange.{CodedRange}
-use Rattle.trace_lines.specs.Declarations.{are_ordered, has_room, sharing, section_line, data_line, process_line}
+use Rattle.trace_lines.specs.Declarations.{are_ordered, has_room, section_kind, section_line, data_line, process_line}
 use Rattle.trace_lines.specs.Fails.{is_same, slots_at, block_named, call_numbers, fail_line}
 use Rattle.trace_lines.specs.Headers.{version_line, frames_line, pagefile_line, param_line, bad_line, is_listed}
-use Rattle.trace_lines.specs.Lookups.{process, section, number_named, or_none, pages_at, bytes_at, aligned, is_inside}
+use Rattle.trace_lines.specs.Lookups.{process, section, number_named, or_none, pages_at, blocks_at, bytes_at, has_file, aligned, is_inside}
 use Rattle.trace_lines.specs.Mappings.{overlaps, mapped, mapzero_line, mapsec_line}
 use Rattle.trace_lines.specs.ParamWords.{param_of, least, most}
 use Rattle.trace_lines.specs.Places.{rank}
@@ -49,7 +51,7 @@ use Rattle.trace_lines.specs.Requests.{params_agree, has_frames, body_line, end_
 use Rattle.trace_lines.specs.Says as says
 use Rattle.trace_lines.specs.Says.{Says}
 use Rattle.trace_reader.specs.Right.{IsOrdered, Fits, place_for}
-use Rattle.trace_reader.proofs.Giving.{owed_gives, bind_gives, then_gives, InRange, number_gives, IsWord, decimal_gives, aligned_gives, process_number, section_number, name_gives, protection_gives, inside_gives, pages_give, origin_gives}
+use Rattle.trace_reader.proofs.Giving.{owed_gives, bind_gives, if_gives, then_gives, InRange, number_gives, IsWord, decimal_gives, aligned_gives, process_number, section_number, name_gives, protection_gives, inside_gives, blocks_give, origin_gives}
 
 -- the line says what fits, and stands there
 abbrev pub Gives : Part → ℕ → Says → Type 0
@@ -89,16 +91,20 @@ none_found : (o : Option ℕ) → not (is_some o) ≡ true → o ≡ None
 none_found None e = refl
 none_found (Some n) e = cc
 
+-- SHARED and CRF have files
+kind_gives : (word : List ℕ) → IfOk (section_kind word) (λ of_kind. is_paged_kind of_kind ≡ false)
+kind_gives word = if_gives (is word (codes "SHARED")) _ _ _ refl (if_gives (is word (codes "CRF")) _ _ _ refl tt)
+
 pub section_gives : (part : Part) (words : List (List ℕ)) → IfOk (section_line part.config words) (Gives part 3)
 section_gives part [] = tt
 section_gives part (a ∷ []) = tt
 section_gives part (a ∷ b ∷ []) = tt
-section_gives part (name ∷ kind ∷ n ∷ []) =
-    owed_gives (is_name name) _ _ (Gives part 3) (λ good. then_gives (sharing kind) _ (Gives part 3) (λ shared.
+section_gives part (name ∷ word ∷ n ∷ []) =
+    owed_gives (is_name name) _ _ (Gives part 3) (λ good. bind_gives (section_kind word) _ (λ of_kind. is_paged_kind of_kind ≡ false) (Gives part 3) (kind_gives word) (λ of_kind file.
     bind_gives (decimal_within 1 4294967295 n) _ (InRange 1 4294967295) (Gives part 3) (number_gives 1 4294967295 n) (λ pages range.
     owed_gives (not (is_some (number_named part.config.sections name))) _ _ (Gives part 3) (λ new.
-    owed_gives (has_room part.config.sections pages) _ (Ok (says.Section name shared pages)) (Gives part 3) (λ room.
-    ((name_gives name good, range.0, none_found (number_named part.config.sections name) new, room), refl))))))
+    owed_gives (has_room part.config.sections pages) _ (Ok (says.Section name of_kind pages)) (Gives part 3) (λ room.
+    ((name_gives name good, range.0, none_found (number_named part.config.sections name) new, room, file), refl))))))
 section_gives part (a ∷ b ∷ c ∷ d ∷ more) = tt
 
 pub data_gives : (part : Part) (words : List (List ℕ)) → IfOk (data_line part.config words) (Gives part 3)
@@ -107,9 +113,9 @@ data_gives part (a ∷ []) = tt
 data_gives part (a ∷ b ∷ []) = tt
 data_gives part (name ∷ offset ∷ hex ∷ []) =
     bind_gives (section part.config.sections name) _ (λ s. s < length part.config.sections) (Gives part 3) (section_number part.config.sections name) (λ s there.
-    then_gives (decimal offset) _ (Gives part 3) (λ at. then_gives (pairs hex) _ (Gives part 3) (λ bytes.
+    owed_gives (has_file part.config.sections s) _ _ (Gives part 3) (λ file. then_gives (decimal offset) _ (Gives part 3) (λ at. then_gives (pairs hex) _ (Gives part 3) (λ bytes.
     owed_gives (leb (at + length bytes) (bytes_at part.config.sections s)) _ (Ok (says.Data s at bytes)) (Gives part 3) (λ inside.
-    ((there, leb-true (at + length bytes) (bytes_at part.config.sections s) inside), refl)))))
+    ((there, leb-true (at + length bytes) (bytes_at part.config.sections s) inside, file), refl))))))
 data_gives part (a ∷ b ∷ c ∷ d ∷ more) = tt
 
 ordered_gives : (spec : ProcSpec) → spec.extent ≤ 1024 → are_ordered spec ≡ true → IsOrdered spec
@@ -192,8 +198,8 @@ slots_give procs p slot lt = by_process (slice_get procs p) refl lt where
 
 block_gives : (config : Config) (name : Named) → IfOk (block_named config name) (IsBlock config)
 block_gives config (named.Section name page) =
-    then_gives (or_none (number_named config.sections name)) _ (IsBlock config) (λ s. owed_gives (ltb page (pages_at config.sections s)) _ (Ok (block.Section (record { 0 = s }) page)) (IsBlock config) (λ e.
-    pages_give config.sections s page (ltb-true page (pages_at config.sections s) e)))
+    then_gives (or_none (number_named config.sections name)) _ (IsBlock config) (λ s. owed_gives (ltb page (blocks_at config.sections s)) _ (Ok (block.Section (record { 0 = s }) page)) (IsBlock config) (λ e.
+    blocks_give config.sections s page (ltb-true page (blocks_at config.sections s) e)))
 block_gives config (named.PageFile b) = owed_gives (ltb b config.pagefile) _ (Ok (block.PageFile b)) (IsBlock config) (λ e. ltb-true b config.pagefile e)
 block_gives config (named.Swap p slot) = owed_gives (ltb slot (slots_at config.procs p)) _ (Ok (block.Swap (record { 0 = p }) slot)) (IsBlock config) (λ e. slots_give config.procs p slot (ltb-true slot (slots_at config.procs p) e))
 
@@ -232,17 +238,17 @@ pub end_gives : (part : Part) (words : List (List ℕ)) → IfOk (end_line words
 end_gives part [] = (tt, refl)
 end_gives part (a ∷ more) = tt
 
-asked_gives : (part : Part) (p : ℕ) (request : Wanted) → p < length part.config.procs → IsWellFormedRequest request → IfOk (asked_by part.config p request) (Gives part 4)
-asked_gives part p request there good =
+asked_gives : (part : Part) (p : ℕ) (request : Wanted) → p < length part.config.procs → IsWellFormedRequest request → IsRequestOf part.config.version request → IfOk (asked_by part.config p request) (Gives part 4)
+asked_gives part p request there good known =
     owed_gives (ltb (length part.config.body) 100000) _ (Ok (says.Request (record { proc = record { 0 = p }; request = request }))) (Gives part 4) (λ room.
-    ((record { proc = there; request = good }, ltb-true (length part.config.body) 100000 room), refl))
+    ((record { proc = there; request = good; of_version = known }, ltb-true (length part.config.body) 100000 room), refl))
 
 read_gives : (part : Part) (x : List ℕ) (mode : Mode) (width : Width) (words : List (List ℕ)) → IfOk (read_line part.config x mode width words) (Gives part 4)
 read_gives part x mode width [] = tt
 read_gives part x mode width (addr ∷ []) =
     bind_gives (process part.config.procs x) _ (λ p. p < length part.config.procs) (Gives part 4) (process_number part.config.procs x) (λ p there.
     bind_gives (aligned (width_bytes width) addr) _ (λ at. IsWord at × (at % width_bytes width ≡ 0)) (Gives part 4) (aligned_gives (width_bytes width) addr) (λ at good.
-    asked_gives part p (wanted.Reference (record { mode = mode; addr = record { 0 = at }; op = what.Read width })) there (record { address = good.0; aligned = good.1; fits = tt })))
+    asked_gives part p (wanted.Reference (record { mode = mode; addr = record { 0 = at }; op = what.Read width })) there (record { address = good.0; aligned = good.1; fits = tt }) tt))
 read_gives part x mode width (a ∷ b ∷ more) = tt
 
 abbrev IsGoodWrite : Part → Width → Written → Type 0
@@ -261,9 +267,9 @@ write_gives part x width (a ∷ b ∷ c ∷ more) = tt
 reference_gives : (part : Part) (x : List ℕ) (mode : Mode) (access : Access) (words : List (List ℕ)) → IfOk (reference_line part.config x mode access words) (Gives part 4)
 reference_gives part x mode (Read width) words = read_gives part x mode width words
 reference_gives part x mode (Write width) words = bind_gives (write_of part.config x width words) _ (IsGoodWrite part width) (Gives part 4) (write_gives part x width words) (λ w good.
-    asked_gives part w.proc (wanted.Reference (record { mode = mode; addr = record { 0 = w.at }; op = what.Write width w.value })) good.0 (record { address = good.1; aligned = good.2; fits = good.3 }))
+    asked_gives part w.proc (wanted.Reference (record { mode = mode; addr = record { 0 = w.at }; op = what.Write width w.value })) good.0 (record { address = good.1; aligned = good.2; fits = good.3 }) tt)
 reference_gives part x mode Add words = bind_gives (write_of part.config x Four words) _ (IsGoodWrite part Four) (Gives part 4) (write_gives part x Four words) (λ w good.
-    asked_gives part w.proc (wanted.Reference (record { mode = mode; addr = record { 0 = w.at }; op = what.Add w.value })) good.0 (record { address = good.1; aligned = good.2; fits = good.3 }))
+    asked_gives part w.proc (wanted.Reference (record { mode = mode; addr = record { 0 = w.at }; op = what.Add w.value })) good.0 (record { address = good.1; aligned = good.2; fits = good.3 }) tt)
 
 abbrev IsGoodRange : Part → Range → Type 0
 IsGoodRange part r = (r.proc < length part.config.procs) × IsRange r.at r.pages
@@ -297,16 +303,16 @@ adjust_gives : (part : Part) (x : List ℕ) (words : List (List ℕ)) → IfOk (
 adjust_gives part x [] = tt
 adjust_gives part x (limit ∷ []) =
     bind_gives (process part.config.procs x) _ (λ p. p < length part.config.procs) (Gives part 4) (process_number part.config.procs x) (λ p there.
-    bind_gives (decimal limit) _ IsWord (Gives part 4) (decimal_gives limit) (λ n small. asked_gives part p (wanted.Service (asked.Adjust n)) there small))
+    bind_gives (decimal limit) _ IsWord (Gives part 4) (decimal_gives limit) (λ n small. asked_gives part p (wanted.Service (asked.Adjust n)) there small tt))
 adjust_gives part x (a ∷ b ∷ more) = tt
 
 service_gives : (part : Part) (x : List ℕ) (name : ServiceName) (words : List (List ℕ)) → IfOk (service_line part.config x name words) (Gives part 4)
-service_gives part x service.Create words = bind_gives (coded_range_of part.config x words) _ (IsGoodCodedRange part) (Gives part 4) (coded_range_gives part x words) (λ r good. asked_gives part r.proc (wanted.Service (asked.Create (record { 0 = r.at }) r.pages r.prot)) good.0 (good.1, good.2))
-service_gives part x service.Protect words = bind_gives (coded_range_of part.config x words) _ (IsGoodCodedRange part) (Gives part 4) (coded_range_gives part x words) (λ r good. asked_gives part r.proc (wanted.Service (asked.Protect (record { 0 = r.at }) r.pages r.prot)) good.0 (good.1, good.2))
-service_gives part x service.Delete words = bind_gives (range_of part.config x words) _ (IsGoodRange part) (Gives part 4) (range_gives part x words) (λ r good. asked_gives part r.proc (wanted.Service (asked.Delete (record { 0 = r.at }) r.pages)) good.0 good.1)
-service_gives part x service.Lock words = bind_gives (range_of part.config x words) _ (IsGoodRange part) (Gives part 4) (range_gives part x words) (λ r good. asked_gives part r.proc (wanted.Service (asked.Lock (record { 0 = r.at }) r.pages)) good.0 good.1)
-service_gives part x service.Unlock words = bind_gives (range_of part.config x words) _ (IsGoodRange part) (Gives part 4) (range_gives part x words) (λ r good. asked_gives part r.proc (wanted.Service (asked.Unlock (record { 0 = r.at }) r.pages)) good.0 good.1)
-service_gives part x service.Purge words = bind_gives (range_of part.config x words) _ (IsGoodRange part) (Gives part 4) (range_gives part x words) (λ r good. asked_gives part r.proc (wanted.Service (asked.Purge (record { 0 = r.at }) r.pages)) good.0 good.1)
+service_gives part x service.Create words = bind_gives (coded_range_of part.config x words) _ (IsGoodCodedRange part) (Gives part 4) (coded_range_gives part x words) (λ r good. asked_gives part r.proc (wanted.Service (asked.Create (record { 0 = r.at }) r.pages r.prot)) good.0 (good.1, good.2) tt)
+service_gives part x service.Protect words = bind_gives (coded_range_of part.config x words) _ (IsGoodCodedRange part) (Gives part 4) (coded_range_gives part x words) (λ r good. asked_gives part r.proc (wanted.Service (asked.Protect (record { 0 = r.at }) r.pages r.prot)) good.0 (good.1, good.2) tt)
+service_gives part x service.Delete words = bind_gives (range_of part.config x words) _ (IsGoodRange part) (Gives part 4) (range_gives part x words) (λ r good. asked_gives part r.proc (wanted.Service (asked.Delete (record { 0 = r.at }) r.pages)) good.0 good.1 tt)
+service_gives part x service.Lock words = bind_gives (range_of part.config x words) _ (IsGoodRange part) (Gives part 4) (range_gives part x words) (λ r good. asked_gives part r.proc (wanted.Service (asked.Lock (record { 0 = r.at }) r.pages)) good.0 good.1 tt)
+service_gives part x service.Unlock words = bind_gives (range_of part.config x words) _ (IsGoodRange part) (Gives part 4) (range_gives part x words) (λ r good. asked_gives part r.proc (wanted.Service (asked.Unlock (record { 0 = r.at }) r.pages)) good.0 good.1 tt)
+service_gives part x service.Purge words = bind_gives (range_of part.config x words) _ (IsGoodRange part) (Gives part 4) (range_gives part x words) (λ r good. asked_gives part r.proc (wanted.Service (asked.Purge (record { 0 = r.at }) r.pages)) good.0 good.1 tt)
 service_gives part x service.Adjust words = adjust_gives part x words
 
 verb_gives : (part : Part) (x : List ℕ) (words : List (List ℕ)) (verb : Option Verb) → IfOk (by_verb part.config x words verb) (Gives part 4)

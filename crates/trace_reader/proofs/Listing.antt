@@ -1,13 +1,15 @@
 -- Lists with one more, and lists of sections with other bytes.
-use Rattle.std.proofs.Common.{◌≡◌, ℕ, zero, suc, ◌+◌, ◌/◌, ◌<◌, ◌≤◌, Bool, true, false, ◌||◌, List, [], ◌∷◌, ◌++◌, length, get_or, take, drop, All, Some, refl, ap, subst, arith}
+use Rattle.std.proofs.Common.{◌≡◌, ℕ, zero, suc, ◌+◌, ◌/◌, ◌<◌, ◌≤◌, Bool, true, false, not, ◌||◌, List, [], ◌∷◌, ◌++◌, length, get_or, take, drop, All, Some, refl, sym, ap, ◌∙◌, subst, arith}
 use Rattle.std.specs.Prelude.{sum_by, slice_get}
 use Rattle.std.specs.List.{list_any, AllByRecursion}
+use Rattle.std.proofs.lemmas.Bool.{false≢true}
 use Rattle.std.proofs.lemmas.List.{length-append, length-take-le, length-drop}
 use Rattle.std.proofs.lemmas.List.Sums.{sum_by-cons}
 use Rattle.std.proofs.lemmas.List.Elements.{All-from_recursion}
 use Rattle.vm_types.specs.Configuration.{section_pages}
+use Rattle.vm_types.specs.Kinds.{is_paged_kind}
 use Rattle.vm_types.specs.declared.config.Section.{Section}
-use Rattle.trace_lines.specs.Lookups.{bytes_at}
+use Rattle.trace_lines.specs.Lookups.{bytes_at, has_file}
 use Rattle.trace_reader.specs.Changes.{overwritten, with_bytes}
 
 -- an element of a list is one of a longer list
@@ -38,10 +40,12 @@ length_overwritten bytes at new inside =
     let joined = length-append (take at bytes) (new ++ drop (at + length new) bytes) in
     simp (length-append, length-drop) (omega (arith, front))
 
--- the same sections but for their bytes
+-- the same sections but for their bytes, which stay in the page file
 pub record IsSame (x y : Section) : Type 0 where
   pub name : y.name ≡ x.name
+  pub kind : y.kind ≡ x.kind
   pub count : length y.bytes ≡ length x.bytes
+  pub zeros : is_paged_kind x.kind ≡ true → y.bytes ≡ x.bytes
 
 abbrev pub AreSame : List Section → List Section → Type 0
 AreSame [] [] = Unit {0}
@@ -51,12 +55,12 @@ AreSame (x ∷ xs) (y ∷ ys) = IsSame x y × AreSame xs ys
 
 same_all : (xs : List Section) → AreSame xs xs
 same_all [] = tt
-same_all (x ∷ xs) = (record { name = refl; count = refl }, same_all xs)
+same_all (x ∷ xs) = (record { name = refl; kind = refl; count = refl; zeros = λ paged. refl }, same_all xs)
 
-pub same_with_bytes : (sections : List Section) (s at : ℕ) (new : List ℕ) → at + length new ≤ bytes_at sections s → AreSame sections (with_bytes sections s at new)
-same_with_bytes [] s at new inside = tt
-same_with_bytes (x ∷ sections) zero at new inside = (record { name = refl; count = length_overwritten x.bytes at new inside }, same_all sections)
-same_with_bytes (x ∷ sections) (suc s) at new inside = (record { name = refl; count = refl }, same_with_bytes sections s at new inside)
+pub same_with_bytes : (sections : List Section) (s at : ℕ) (new : List ℕ) → at + length new ≤ bytes_at sections s → has_file sections s ≡ true → AreSame sections (with_bytes sections s at new)
+same_with_bytes [] s at new inside file = tt
+same_with_bytes (x ∷ sections) zero at new inside file = (record { name = refl; kind = refl; count = length_overwritten x.bytes at new inside; zeros = λ paged. absurd (false≢true (sym (ap not paged) ∙ file)) }, same_all sections)
+same_with_bytes (x ∷ sections) (suc s) at new inside file = (record { name = refl; kind = refl; count = refl; zeros = λ paged. refl }, same_with_bytes sections s at new inside file)
 
 pub same_length : (xs ys : List Section) → AreSame xs ys → length ys ≡ length xs
 same_length [] [] h = refl

@@ -25,7 +25,7 @@ placed_next part (says.Param q n) p r =
 placed_next part (says.Bad f) p r =
     let here : rank part.place ≡ 3 = r.here in
     record { no_bad = λ h. absurd (omega (arith, h, here)); no_fails = λ h. absurd (omega (arith, h, here)); frames = p.frames; pagefile = p.pagefile; some_process = λ h. absurd (omega (arith, h, here)); agree = λ h. absurd (omega (arith, h, here)); room = λ h. absurd (omega (arith, h, here)) }
-placed_next part (says.Section name shared pages) p r =
+placed_next part (says.Section name of_kind pages) p r =
     let here : rank part.place ≡ 3 = r.here in
     record { no_bad = λ h. absurd (omega (arith, h, here)); no_fails = λ h. absurd (omega (arith, h, here)); frames = p.frames; pagefile = p.pagefile; some_process = λ h. absurd (omega (arith, h, here)); agree = λ h. absurd (omega (arith, h, here)); room = λ h. absurd (omega (arith, h, here)) }
 placed_next part (says.Data k at bytes) p r =

@@ -1,6 +1,6 @@
 -- The declarations so far keep what makes a configuration well formed.
 use Rattle.std.proofs.Common.{◌≡◌, ◌≢◌, ℕ, ◌+◌, ◌*◌, ◌%◌, ◌<◌, ◌≤◌, Bool, true, false, eqb, ltb, ◌&&◌, List, [], ◌∷◌, ◌++◌, length, get_or, All, Some, refl, sym, ap, subst, ◌∙◌, arith, inl, inr, eq-eqb, ◌⊎◌}
-use Rattle.std.specs.Prelude.{sum_by, slice_get}
+use Rattle.std.specs.Prelude.{replicate, sum_by, slice_get}
 use Rattle.std.specs.List.{list_any}
 use Rattle.std.proofs.lemmas.Bool.{ltb-false, eqb-false}
 use Rattle.std.proofs.lemmas.List.{length-append}
@@ -8,6 +8,7 @@ use Rattle.std.proofs.lemmas.List.Elements.{All-nil, All-push, All-weaker}
 use Rattle.std.proofs.lemmas.List.Quantifiers.{all_pairs_push}
 use Rattle.std.proofs.lemmas.List.Sums.{sum_by-append, sum_by-cons}
 use Rattle.vm_types.specs.Configuration.{AreSections, IsName, IsSection, HasPages, IsMapping, AreApart, IsBlock, AreFails, IsTask, section_pages}
+use Rattle.vm_types.specs.Kinds.{is_paged_kind, paged_of}
 use Rattle.vm_types.specs.declared.config.Config.{Config}
 use Rattle.vm_types.specs.declared.config.Fails.{Fails}
 use Rattle.vm_types.specs.declared.config.Mapping.{Mapping}
@@ -17,6 +18,7 @@ use Rattle.vm_types.specs.declared.config.Params.{Params}
 use Rattle.vm_types.specs.declared.config.ProcSpec.{ProcSpec}
 use Rattle.vm_types.specs.declared.config.Section.{Section as Held}
 use Rattle.vm_types.specs.declared.config.Task.{Task}
+use Rattle.vm_types.specs.declared.config.Version.{Version}
 use Rattle.vm_types.specs.declared.names.BlockId.{BlockId}
 use Rattle.vm_types.specs.declared.names.BlockId.TheVariants as block
 use Rattle.trace_lines.specs.Fails.{is_same}
@@ -29,17 +31,18 @@ use Rattle.trace_reader.proofs.Listing.{get_append, none_passes, IsSame, AreSame
 -- blocks and pages stay where they are
 
 abbrev SectionsGo : Config → Config → Type 0
-SectionsGo a b = (s : ℕ) (x : Held) → slice_get a.sections s ≡ Some x → (y : Held) × (slice_get b.sections s ≡ Some y) × (section_pages y ≡ section_pages x)
+SectionsGo a b = (s : ℕ) (x : Held) → slice_get a.sections s ≡ Some x → (y : Held) × (slice_get b.sections s ≡ Some y) × (section_pages y ≡ section_pages x) × (y.kind ≡ x.kind)
 
 abbrev ProcsGo : Config → Config → Type 0
 ProcsGo a b = (p : ℕ) (x : ProcSpec) → slice_get a.procs p ≡ Some x → slice_get b.procs p ≡ Some x
 
 block_goes : (a b : Config) → SectionsGo a b → ProcsGo a b → b.pagefile ≡ a.pagefile → (id : BlockId) → IsBlock a id → IsBlock b id
 block_goes a b sections procs pagefile (block.Section s page) h =
-    let y = sections s.0 h.0 h.1 in
-    let pages : section_pages y.0 ≡ section_pages h.0 = y.2 in
-    let lt : page < section_pages h.0 = h.2 in
-    (y.0, y.1, omega arith)
+    let x = h.0 in
+    let y = sections s.0 x.0 x.1 in
+    let pages : section_pages y.0 ≡ section_pages x.0 = y.2 in
+    let lt : page < section_pages x.0 = x.2 in
+    ((y.0, y.1, omega arith), ap paged_of y.1 ∙ (ap is_paged_kind y.3 ∙ (ap paged_of (sym x.1) ∙ h.1)))
 block_goes a b sections procs pagefile (block.PageFile n) h = omega (arith, h, pagefile)
 block_goes a b sections procs pagefile (block.Swap p n) h = (h.0, procs p.0 h.0 h.1, h.2)
 
@@ -59,7 +62,7 @@ maps_go a b sections more maps each = All-weaker (IsMapping (length a.procs) a.s
           (y.0, y.1, omega arith)
 
 stay : (a : Config) → SectionsGo a a
-stay a s x e = (x, e, refl)
+stay a s x e = (x, e, refl, refl)
 
 stay_procs : (a : Config) → ProcsGo a a
 stay_procs a p x e = e
@@ -88,8 +91,8 @@ other_block a b e same = let yes : is_same a b ≡ true = ap (is_same a) (sym sa
   both : false ≡ true → ⊥
   both e = cc
 
-sections_same : (xs ys : List Held) → AreSections xs → AreSame xs ys → AreSections ys
-sections_same xs ys s same = record {
+sections_same : (v : Version) (xs ys : List Held) → AreSections v xs → AreSame xs ys → AreSections v ys
+sections_same v xs ys s same = record {
   few = (let n = same_length xs ys same in let few : length xs ≤ 64 = s.few in omega arith);
   pages = (let n = same_sum xs ys same in let pages : sum_by section_pages xs ≤ 16384 = s.pages in omega (arith, n, pages));
   each = λ k d lt. (let there : k < length xs = omega (arith, lt, same_length xs ys same) in section_same (get_or xs k d) (get_or ys k d) (same_get_or xs ys k d same there) (s.each k d there));
@@ -99,17 +102,22 @@ sections_same xs ys s same = record {
       let second = same_get_or xs ys j d same there in
       λ e. s.differ i j d lt there (sym first.name ∙ e ∙ second.name));
 } where
-  section_same : (x y : Held) → IsSame x y → IsSection x → IsSection y
+  section_same : (x y : Held) → IsSame x y → IsSection v x → IsSection v y
   section_same x y same s = record {
     name = subst IsName (sym same.name) s.name;
     whole = ap (λ (n : ℕ). n % 512) same.count ∙ s.whole;
     some = (let some : 512 ≤ length x.bytes = s.some in let n = same.count in omega arith);
+    paged = λ paged. (
+      (s.paged (ap is_paged_kind (sym same.kind) ∙ paged)).0,
+      subst (λ (bytes : List ℕ). bytes ≡ replicate (length bytes) 0) (sym (same.zeros (ap is_paged_kind (sym same.kind) ∙ paged))) (s.paged (ap is_paged_kind (sym same.kind) ∙ paged)).1,
+    );
   }
 
 -- one line more keeps the declarations sound
 
 pub with_bad : (c : Config) (f : ℕ) → AreSound c → f < c.frames → is_listed c.bad f ≡ false → AreSound (record c { bad = c.bad ++ f ∷ [] })
 with_bad c f s below new = record {
+  version = s.version;
   frames = s.frames;
   bad = All-push (λ g. g < c.frames) c.bad f s.bad below;
   bad_differ = all_pairs_push (λ g h. g ≢ h) c.bad f s.bad_differ (λ k d lt. eqb-false (get_or c.bad k d) f (none_passes (λ g. eqb g f) c.bad new k d lt));
@@ -128,6 +136,7 @@ with_bad c f s below new = record {
 
 pub with_frames : (c : Config) (n : ℕ) → AreSound c → n ≤ 4096 → c.bad ≡ [] → AreSound (record c { frames = n })
 with_frames c n s few none = record {
+  version = s.version;
   frames = few;
   bad = subst (λ (fs : List ℕ). All (λ f. f < n) fs) (sym none) (All-nil (λ f. f < n));
   bad_differ = s.bad_differ;
@@ -146,6 +155,7 @@ with_frames c n s few none = record {
 
 pub with_pagefile : (c : Config) (n : ℕ) → AreSound c → n ≤ 16384 → c.fails ≡ [] → AreSound (record c { pagefile = n })
 with_pagefile c n s few none = record {
+  version = s.version;
   frames = s.frames;
   bad = s.bad;
   bad_differ = s.bad_differ;
@@ -164,6 +174,7 @@ with_pagefile c n s few none = record {
 
 pub with_params : (c : Config) (params : Params) → AreSound c → AreInRange params → AreSound (record c { params = params })
 with_params c params s good = record {
+  version = s.version;
   frames = s.frames;
   bad = s.bad;
   bad_differ = s.bad_differ;
@@ -180,17 +191,18 @@ with_params c params s good = record {
   body = s.body;
 }
 
-pub with_section : (c : Config) (x : Held) → AreSound c → IsSection x → length c.sections < 64 → sum_by section_pages c.sections + section_pages x ≤ 16384 → ((k : ℕ) (d : Held) → k < length c.sections → (get_or c.sections k d).name ≢ x.name)
+pub with_section : (c : Config) (x : Held) → AreSound c → IsSection c.version x → length c.sections < 64 → sum_by section_pages c.sections + section_pages x ≤ 16384 → ((k : ℕ) (d : Held) → k < length c.sections → (get_or c.sections k d).name ≢ x.name)
     → AreSound (record c { sections = c.sections ++ x ∷ [] })
 with_section c x s good few pages differ =
-    let go : SectionsGo c (record c { sections = c.sections ++ x ∷ [] }) = λ k y e. (y, get_append c.sections (x ∷ []) k y e, refl) in
+    let go : SectionsGo c (record c { sections = c.sections ++ x ∷ [] }) = λ k y e. (y, get_append c.sections (x ∷ []) k y e, refl, refl) in
     record {
+      version = s.version;
       frames = s.frames;
       bad = s.bad;
       bad_differ = s.bad_differ;
       pagefile = s.pagefile;
       params = s.params;
-      sections = record { few = simp length-append (omega arith); pages = (let total = sum_by-append section_pages c.sections (x ∷ []) in let one = sum_by-cons section_pages x [] in omega (arith, total, one, pages)); each = All-push IsSection c.sections x s.sections.each good; differ = all_pairs_push (λ a b. a.name ≢ b.name) c.sections x s.sections.differ differ };
+      sections = record { few = simp length-append (omega arith); pages = (let total = sum_by-append section_pages c.sections (x ∷ []) in let one = sum_by-cons section_pages x [] in omega (arith, total, one, pages)); each = All-push (IsSection c.version) c.sections x s.sections.each good; differ = all_pairs_push (λ a b. a.name ≢ b.name) c.sections x s.sections.differ differ };
       few_procs = s.few_procs;
       procs = s.procs;
       maps = maps_go c (record c { sections = c.sections ++ x ∷ [] }) go (omega arith) c.maps s.maps;
@@ -203,14 +215,15 @@ with_section c x s good few pages differ =
 
 pub with_sections : (c : Config) (ys : List Held) → AreSound c → AreSame c.sections ys → AreSound (record c { sections = ys })
 with_sections c ys s same =
-    let go : SectionsGo c (record c { sections = ys }) = λ k x e. (let y = same_get c.sections ys k x same e in (y.0, y.1, same_pages x y.0 y.2)) in
+    let go : SectionsGo c (record c { sections = ys }) = λ k x e. (let y = same_get c.sections ys k x same e in (y.0, y.1, same_pages x y.0 y.2, (y.2).kind)) in
     record {
+      version = s.version;
       frames = s.frames;
       bad = s.bad;
       bad_differ = s.bad_differ;
       pagefile = s.pagefile;
       params = s.params;
-      sections = sections_same c.sections ys s.sections same;
+      sections = sections_same c.version c.sections ys s.sections same;
       few_procs = s.few_procs;
       procs = s.procs;
       maps = maps_go c (record c { sections = ys }) go (omega arith) c.maps s.maps;
@@ -225,6 +238,7 @@ pub with_process : (c : Config) (spec : ProcSpec) → AreSound c → IsOrdered s
 with_process c spec s good room =
     let longer : length (c.procs ++ spec ∷ []) ≡ length c.procs + 1 = length-append c.procs (spec ∷ []) in
     record {
+      version = s.version;
       frames = s.frames;
       bad = s.bad;
       bad_differ = s.bad_differ;
@@ -238,11 +252,12 @@ with_process c spec s good room =
       fails = fails_go c (record c { procs = c.procs ++ spec ∷ [] }) (stay c) (λ p x e. get_append c.procs (spec ∷ []) p x e) refl c.fails s.fails;
       fails_differ = s.fails_differ;
       few_tasks = s.few_tasks;
-      body = All-weaker (IsTask (length c.procs)) (IsTask (length (c.procs ++ spec ∷ []))) (λ t h. record { proc = (let there : (t.proc).0 < length c.procs = h.proc in omega (arith, there, longer)); request = h.request }) c.body s.body;
+      body = All-weaker (IsTask c.version (length c.procs)) (IsTask c.version (length (c.procs ++ spec ∷ []))) (λ t h. record { proc = (let there : (t.proc).0 < length c.procs = h.proc in omega (arith, there, longer)); request = h.request; of_version = h.of_version }) c.body s.body;
     }
 
 pub with_map : (c : Config) (m : Mapping) → AreSound c → IsMapping (length c.procs) c.sections m → list_any (λ b. overlaps b m) c.maps ≡ false → AreSound (record c { maps = c.maps ++ m ∷ [] })
 with_map c m s good new = record {
+  version = s.version;
   frames = s.frames;
   bad = s.bad;
   bad_differ = s.bad_differ;
@@ -261,6 +276,7 @@ with_map c m s good new = record {
 
 pub with_fail : (c : Config) (f : Fails) → AreSound c → AreFails c f → list_any (λ g. is_same g.block f.block) c.fails ≡ false → AreSound (record c { fails = c.fails ++ f ∷ [] })
 with_fail c f s good new = record {
+  version = s.version;
   frames = s.frames;
   bad = s.bad;
   bad_differ = s.bad_differ;
@@ -277,8 +293,9 @@ with_fail c f s good new = record {
   body = s.body;
 }
 
-pub with_task : (c : Config) (t : Task) → AreSound c → IsTask (length c.procs) t → length c.body < 100000 → AreSound (record c { body = c.body ++ t ∷ [] })
+pub with_task : (c : Config) (t : Task) → AreSound c → IsTask c.version (length c.procs) t → length c.body < 100000 → AreSound (record c { body = c.body ++ t ∷ [] })
 with_task c t s good room = record {
+  version = s.version;
   frames = s.frames;
   bad = s.bad;
   bad_differ = s.bad_differ;
@@ -292,5 +309,5 @@ with_task c t s good room = record {
   fails = fails_go c (record c { body = c.body ++ t ∷ [] }) (stay c) (stay_procs c) refl c.fails s.fails;
   fails_differ = s.fails_differ;
   few_tasks = simp length-append (omega arith);
-  body = All-push (IsTask (length c.procs)) c.body t s.body good;
+  body = All-push (IsTask c.version (length c.procs)) c.body t s.body good;
 }

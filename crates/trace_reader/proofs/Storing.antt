@@ -7,7 +7,7 @@ use Rattle.trace_reader.specs.Changes.{overwritten, with_bytes}
 
 -- a section with other bytes
 abbrev pub with_new : Section → List ℕ → Section
-with_new section new = record { name = section.name; shared = section.shared; bytes = new }
+with_new section new = record { name = section.name; kind = section.kind; bytes = new }
 
 set_bytes : (sections : List Section) (s at : ℕ) (new : List ℕ) (d : Section) → s < length sections
     → set sections s (with_new (get_or sections s d) (overwritten (get_or sections s d).bytes at new)) ≡ with_bytes sections s at new

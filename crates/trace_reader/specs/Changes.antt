@@ -2,6 +2,8 @@
 use Rattle.std.specs.Prelude.{ℕ, zero, suc, ◌+◌, ◌*◌, Bool, true, false, List, [], ◌∷◌, ◌++◌, length, take, drop, replicate, slice_set}
 use Rattle.vm_types.specs.declared.config.Config.{Config}
 use Rattle.vm_types.specs.declared.config.Section.{Section as Held}
+use Rattle.vm_types.specs.declared.config.SectionKind.{SectionKind}
+use Rattle.vm_types.specs.declared.config.Version.TheVariants as version
 use Rattle.trace_lines.specs.declared.part.Part.{Part}
 use Rattle.trace_lines.specs.declared.places.Place.TheVariants as place
 use Rattle.trace_lines.specs.ParamWords.{default_params, with_param, number_of}
@@ -11,7 +13,7 @@ use Rattle.trace_lines.specs.Says.{Says, Nothing, Version, Frames, PageFile, Par
 abbrev pub start : Part
 start = record {
   place = place.Version;
-  config = record { frames = 0; bad = []; pagefile = 0; params = default_params; sections = []; procs = []; maps = []; fails = []; body = [] };
+  config = record { version = version.One; frames = 0; bad = []; pagefile = 0; params = default_params; sections = []; procs = []; maps = []; fails = []; body = [] };
   given = replicate 14 false;
 }
 
@@ -26,8 +28,8 @@ with_bytes (x ∷ sections) zero at new = record x { bytes = overwritten x.bytes
 with_bytes (x ∷ sections) (suc s) at new = x ∷ with_bytes sections s at new
 
 -- a section of zeros
-abbrev pub blank_section : List ℕ → Bool → ℕ → Held
-blank_section name shared pages = record { name = name; shared = shared; bytes = replicate (512 * pages) 0 }
+abbrev pub blank_section : List ℕ → SectionKind → ℕ → Held
+blank_section name of_kind pages = record { name = name; kind = of_kind; bytes = replicate (512 * pages) 0 }
 
 -- the declarations with these
 abbrev pub at : Part → Config → Part
@@ -41,7 +43,7 @@ changed part (Frames n) = record { place = place.PageFile; config = record part.
 changed part (PageFile n) = record { place = place.Declarations; config = record part.config { pagefile = n }; given = part.given }
 changed part (Param param n) = record { place = part.place; config = record part.config { params = with_param param n part.config.params }; given = slice_set part.given (number_of param) true }
 changed part (Bad f) = at part (record part.config { bad = part.config.bad ++ f ∷ [] })
-changed part (Section name shared pages) = at part (record part.config { sections = part.config.sections ++ blank_section name shared pages ∷ [] })
+changed part (Section name of_kind pages) = at part (record part.config { sections = part.config.sections ++ blank_section name of_kind pages ∷ [] })
 changed part (Data s offset new) = at part (record part.config { sections = with_bytes part.config.sections s offset new })
 changed part (Process spec) = at part (record part.config { procs = part.config.procs ++ spec ∷ [] })
 changed part (Map m) = at part (record part.config { maps = part.config.maps ++ m ∷ [] })

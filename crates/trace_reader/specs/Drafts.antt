@@ -3,6 +3,7 @@ use Rattle.std.specs.Prelude.{◌≡◌, ◌≢◌, ℕ, ◌<◌, ◌≤◌, tru
 use Rattle.vm_types.specs.Configuration.{AreSections, IsMapping, AreApart, AreFails, IsTask}
 use Rattle.vm_types.specs.declared.config.Config.{Config}
 use Rattle.vm_types.specs.declared.config.Params.{Params}
+use Rattle.vm_types.specs.declared.config.Version.TheVariants as version
 use Rattle.trace_words.specs.declared.cause.Cause.{Cause}
 use Rattle.trace_lines.specs.declared.part.Part.{Part}
 use Rattle.trace_lines.specs.Places.{rank}
@@ -28,14 +29,15 @@ pub record AreInRange (params : Params) : Type 0 where
   pub awsmin : (2 ≤ params.awsmin) × (params.awsmin ≤ 1024)
   pub borrowlim : params.borrowlim ≤ 4096
 
--- what the declarations keep by themselves
+-- what the declarations keep by themselves; the traces that are read are of version 1
 pub record AreSound (config : Config) : Type 0 where
+  pub version : config.version ≡ version.One
   pub frames : config.frames ≤ 4096
   pub bad : All (λ f. f < config.frames) config.bad
   pub bad_differ : AllPairs (λ f g. f ≢ g) config.bad
   pub pagefile : config.pagefile ≤ 16384
   pub params : AreInRange config.params
-  pub sections : AreSections config.sections
+  pub sections : AreSections config.version config.sections
   pub few_procs : length config.procs ≤ 16
   pub procs : All IsOrdered config.procs
   pub maps : All (IsMapping (length config.procs) config.sections) config.maps
@@ -43,7 +45,7 @@ pub record AreSound (config : Config) : Type 0 where
   pub fails : All (AreFails config) config.fails
   pub fails_differ : AllPairs (λ a b. a.block ≢ b.block) config.fails
   pub few_tasks : length config.body ≤ 100000
-  pub body : All (IsTask (length config.procs)) config.body
+  pub body : All (IsTask config.version (length config.procs)) config.body
 
 -- what the places before keep
 pub record IsPlaced (place : ℕ) (config : Config) : Type 0 where

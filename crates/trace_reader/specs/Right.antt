@@ -2,12 +2,13 @@
 use Rattle.std.specs.Prelude.{◌≡◌, ℕ, ◌+◌, ◌<◌, ◌≤◌, true, false, None, length, All}
 use Rattle.std.specs.List.{list_any}
 use Rattle.vm_types.specs.Configuration.{IsName, IsMapping, IsBlock, IsTask}
+use Rattle.vm_types.specs.Kinds.{is_paged_kind}
 use Rattle.vm_types.specs.declared.config.ProcSpec.{ProcSpec}
 use Rattle.trace_lines.specs.declared.part.Part.{Part}
 use Rattle.trace_lines.specs.Declarations.{has_room}
 use Rattle.trace_lines.specs.Fails.{is_same}
 use Rattle.trace_lines.specs.Headers.{is_listed}
-use Rattle.trace_lines.specs.Lookups.{bytes_at, number_named, is_inside}
+use Rattle.trace_lines.specs.Lookups.{bytes_at, has_file, number_named, is_inside}
 use Rattle.trace_lines.specs.Mappings.{overlaps}
 use Rattle.trace_lines.specs.ParamWords.{least, most}
 use Rattle.trace_lines.specs.Places.{rank}
@@ -29,13 +30,13 @@ Fits part (Frames n) = (8 ≤ n) × (n ≤ 4096)
 Fits part (PageFile n) = (1 ≤ n) × (n ≤ 16384)
 Fits part (Param param n) = (least param ≤ n) × (n ≤ most param)
 Fits part (Bad f) = (f < part.config.frames) × (is_listed part.config.bad f ≡ false)
-Fits part (Section name shared pages) = IsName name × (1 ≤ pages) × (number_named part.config.sections name ≡ None) × (has_room part.config.sections pages ≡ true)
-Fits part (Data s at bytes) = (s < length part.config.sections) × (at + length bytes ≤ bytes_at part.config.sections s)
+Fits part (Section name of_kind pages) = IsName name × (1 ≤ pages) × (number_named part.config.sections name ≡ None) × (has_room part.config.sections pages ≡ true) × (is_paged_kind of_kind ≡ false)
+Fits part (Data s at bytes) = (s < length part.config.sections) × (at + length bytes ≤ bytes_at part.config.sections s) × (has_file part.config.sections s ≡ true)
 Fits part (Process spec) = IsOrdered spec × (length part.config.procs < 16)
 Fits part (Map m) = IsMapping (length part.config.procs) part.config.sections m × (is_inside (m.at).0 m.pages ≡ true) × (list_any (λ b. overlaps b m) part.config.maps ≡ false)
 Fits part (Fail id calls) = IsBlock part.config id × ((1 ≤ length calls) × (length calls ≤ 16)) × All (λ call. 1 ≤ call) calls × (list_any (λ f. is_same f.block id) part.config.fails ≡ false)
 Fits part Body = (1 ≤ length part.config.procs) × (params_agree part.config.params ≡ true) × (has_frames part.config ≡ true)
-Fits part (Request task) = IsTask (length part.config.procs) task × (length part.config.body < 100000)
+Fits part (Request task) = IsTask part.config.version (length part.config.procs) task × (length part.config.body < 100000)
 Fits part End = Unit {0}
 
 -- where a line that says this stands
@@ -46,7 +47,7 @@ place_for (Frames n) now = 1
 place_for (PageFile n) now = 2
 place_for (Param param n) now = 3
 place_for (Bad f) now = 3
-place_for (Section name shared pages) now = 3
+place_for (Section name of_kind pages) now = 3
 place_for (Data s at bytes) now = 3
 place_for (Process spec) now = 3
 place_for (Map m) now = 3

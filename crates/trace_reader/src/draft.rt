@@ -10,7 +10,7 @@ use crate::store::{add, add_range, blank, fails_of, write_bytes};
 use std::alloc::Global;
 use trace_lines::{DEFAULTS, Line, Part, Place, Seen, block_key, judge, page_key, plain_line};
 use trace_words::Cause;
-use vm_types::{BlockId, Config, Listed, Mapping, NoMemory, Task};
+use vm_types::{BlockId, Config, Listed, Mapping, NoMemory, Task, Version};
 
 /// Why a line wasn't taken.
 #[derive(Clone, Copy, Debug)]
@@ -60,6 +60,7 @@ impl Draft {
             part: Part {
                 place: Place::Version,
                 config: Config {
+                    version: Version::One,
                     frames: 0,
                     bad: Listed::new(alloc),
                     pagefile: 0,
@@ -105,8 +106,8 @@ impl Draft {
                 Ok(())
             }
             Line::Bad(f) => self.store_bad(*f),
-            Line::Section(name, shared, pages) => {
-                let section = blank(alloc, name, *shared, *pages)?;
+            Line::Section(name, kind, pages) => {
+                let section = blank(alloc, name, *kind, *pages)?;
                 self.part.config.sections.push(section)
             }
             Line::Data(s, at, bytes) => {

@@ -1,6 +1,7 @@
 ghost use Rattle.std.specs.Prelude.{◌≡◌, ◌+◌, ◌-◌, ◌<◌, ◌≤◌, ◌↔◌, length, take, drop, IfOk, IfErr, OnOk, OnErr, IfSome, IsSome, IsTrue};
 ghost use Rattle.std.specs.Io.KnownBytes.{Keeps, Consumes, IsAtEnd};
 ghost use Rattle.vm_types.specs.Configuration.{IsWellFormed};
+ghost use Rattle.vm_types.specs.declared.config.Version.{Version};
 ghost use Rattle.outside_io.specs.Causes.{HasCause};
 ghost use Rattle.trace_lines.specs.Seen.{IsSeen};
 ghost use Rattle.trace_reader.specs.Answer.{Answers, FaultsBy};
@@ -22,7 +23,7 @@ use vm_types::{Config, Failed, NoMemory};
 // Bytes of the buffer that the source's pieces go to.
 const ROOM: usize = 8192;
 
-/// The configuration of a trace: the source is read to its end, in pieces of at most 8192 bytes, up
+/// The configuration of a trace of version 1: the source is read to its end, in pieces of at most 8192 bytes, up
 /// to the first faulty line, of which the first 80 bytes are kept in `kept`.
 ///
 /// # Errors
@@ -37,6 +38,7 @@ pub fn read_trace<S: Source>(
     kept: &mut ArrayVec<u8, 80>,
 ) -> Result<Config, TraceFault>
     ensures well_formed { IfOk result IsWellFormed }
+    ensures version { IfOk result (λ config. config.version ≡ Version.One) }
     ensures text { IfSome (S.seen source.old).left (λ text. Answers result text (S.seen source.new).left) }
     ensures kept { IfErr result (λ fault. IsTextOf fault (S.seen source.old).left kept.new.items) }
     ensures known { IsSome (S.seen source.old).left → IsSome (S.seen source.new).left }
@@ -64,6 +66,7 @@ fn read_pieces<S: Source>(
     requires seen { IsSeen reader.draft.seen reader.draft.part.config }
     requires room { length buffer.old ≡ 8192 }
     ensures well_formed { IfOk result IsWellFormed }
+    ensures version { IfOk result (λ config. config.version ≡ Version.One) }
     ensures text { IfSome (S.seen source.old).left (λ text. Answers result text (S.seen source.new).left) }
     ensures kept { IfErr result (λ fault. IsTextOf fault (S.seen source.old).left kept.new.items) }
     ensures known { IsSome (S.seen source.old).left → IsSome (S.seen source.new).left }
@@ -181,6 +184,7 @@ impl Reader {
         requires { IsReading self.draft self.number }
         ensures means { Means self.number self.draft.part rest.now result (at_end self.number self.draft.part rest.now) }
         ensures well_formed { IfOk result IsWellFormed }
+        ensures version { IfOk result (λ config. config.version ≡ Version.One) }
         ensures kept { IfErr result (KeepsLine self.number rest.now kept.new.items) }
     {
         if !rest.is_empty() {

@@ -6,7 +6,7 @@ ghost use Rattle.trace_reader.specs.Changes.{blank_section, overwritten, with_by
 
 use std::alloc::Global;
 use std::collections::BTreeSet;
-use vm_types::{BlockId, Fails, Listed, NoMemory, Section};
+use vm_types::{BlockId, Fails, Listed, NoMemory, Section, SectionKind};
 
 /// Adds a number to a set.
 pub(crate) fn add(set: &mut BTreeSet<u64>, key: u64) -> Result<(), NoMemory>
@@ -31,16 +31,16 @@ pub(crate) fn add_range(set: &mut BTreeSet<u64>, first: u64, count: u32) -> Resu
 pub(crate) fn blank(
     alloc: Global,
     name: &[u8],
-    shared: bool,
+    kind: SectionKind,
     pages: u32,
 ) -> Result<Section, NoMemory>
     requires { pages ≤ 16384 }
-    ensures { IfOk result (λ section. section ≡ blank_section name.now shared pages) }
+    ensures { IfOk result (λ section. section ≡ blank_section name.now kind pages) }
 {
     let count = 512 * pages as usize;
     Ok(Section {
         name: Listed::of(name.to_vec(alloc)?),
-        shared,
+        kind,
         bytes: Listed::of(vec![in alloc; 0; count]?),
     })
 }

@@ -1,15 +1,18 @@
 -- The lines FAIL.
-use Rattle.std.proofs.Common.{◌≡◌, ◌≢◌, ℕ, zero, suc, ◌+◌, ◌*◌, ◌<◌, ◌≤◌, ◌^◌, true, false, not, leb, ltb, eqb, ◌&&◌, List, [], ◌∷◌, ◌++◌, map, length, get_or, replicate, All, Option, Some, Ok, refl, sym, ap, ap₂, subst, ◌∙◌, arith, inl, inr, lit<, lt-ltb, le-leb, eqb-true, ltb-true, length-append}
+use Rattle.std.proofs.Common.{◌≡◌, ◌≢◌, ℕ, zero, suc, ◌+◌, ◌*◌, ◌<◌, ◌≤◌, ◌^◌, true, false, not, leb, ltb, eqb, ◌&&◌, List, [], ◌∷◌, ◌++◌, map, length, get_or, replicate, All, Option, Some, Ok, refl, sym, ap, ap₂, subst, ◌∙◌, arith, inl, inr, lit<, lt-ltb, le-leb, eqb-true, ltb-true, length-append, Bool, cond}
 use Rattle.std.specs.Prelude.{codes, slice_index, decimal as printed}
 use Rattle.std.specs.List.{list_any, list_all}
 use Rattle.std.specs.Option.{option_map_or}
 use Rattle.std.proofs.lemmas.Bool.{and_from, and_parts, false_from_ne_true, not_from_false}
 use Rattle.std.proofs.lemmas.List.{length-map}
 use Rattle.std.proofs.lemmas.List.Elements.{All-head, All-tail}
-use Rattle.vm_types.specs.Configuration.{IsWellFormed, IsName, IsNameByte, IsBlock, IsProcess, AreFails, section_pages}
+use Rattle.vm_types.specs.Configuration.{IsWellFormed, IsName, IsNameByte, IsBlock, IsProcess, AreFails, section_pages, all_pins}
+use Rattle.vm_types.specs.Kinds.{paged_of}
+use Rattle.vm_types.specs.SectionBlocks.{section_block_count}
 use Rattle.vm_types.specs.declared.config.Config.{Config}
 use Rattle.vm_types.specs.declared.config.Fails.{Fails}
 use Rattle.vm_types.specs.declared.config.ProcSpec.{ProcSpec}
+use Rattle.vm_types.specs.declared.config.Section.{Section}
 use Rattle.vm_types.specs.declared.names.BlockId.{BlockId}
 use Rattle.vm_types.specs.declared.names.BlockId.TheVariants as block
 use Rattle.vm_types.specs.declared.names.Proc.{Proc}
@@ -22,7 +25,7 @@ use Rattle.trace_words.proofs.Splitting.{cut_found}
 use Rattle.trace_lines.specs.declared.keywords.Keyword.TheVariants as keyword
 use Rattle.trace_lines.specs.declared.part.Part.{Part}
 use Rattle.trace_lines.specs.Fails.{is_same, slots_at, block_named, call_numbers}
-use Rattle.trace_lines.specs.Lookups.{pages_at}
+use Rattle.trace_lines.specs.Lookups.{blocks_at}
 use Rattle.trace_lines.specs.Says as says
 use Rattle.trace_spelling.specs.Laws.{IsTyped}
 use Rattle.trace_spelling.specs.Lines.{fail_line}
@@ -82,21 +85,22 @@ record IsBlockRead (c : Config) (id : BlockId) : Type 0 where
 
 block_read : (c : Config) → IsWellFormed c → (id : BlockId) → IsBlock c id → IsBlockRead c id
 block_read c w (block.Section s page) is =
-    let f = found c.sections w.sections s.0 is.0 is.1 in
-    let inside : page < section_pages is.0 = is.2 in
-    let most : section_pages is.0 ≤ 16384 = f.few in
-    let pages : pages_at c.sections s.0 ≡ section_pages is.0 = f.pages in
-    let text : block_text c.sections (block.Section s page) ≡ 83 ∷ 58 ∷ (is.0.name ++ 47 ∷ printed page) = ap (λ (n : List ℕ). 83 ∷ 58 ∷ (n ++ 47 ∷ printed page)) f.named in
-    let below : ltb page (pages_at c.sections s.0) ≡ true = lt-ltb page (pages_at c.sections s.0) (omega arith) in
+    let there = is.0 in
+    let f = found c.version c.sections w.sections s.0 there.0 there.1 in
+    let inside : page < section_pages there.0 = there.2 in
+    let most : section_pages there.0 ≤ 16384 = f.few in
+    let blocks : blocks_at c.sections s.0 ≡ section_pages there.0 = ap (λ (o : Option Section). option_map_or section_block_count o 0) there.1 ∙ ap (λ (b : Bool). cond b 0 (section_pages there.0)) (ap paged_of (sym there.1) ∙ is.1) in
+    let text : block_text c.sections (block.Section s page) ≡ 83 ∷ 58 ∷ (there.0.name ++ 47 ∷ printed page) = ap (λ (n : List ℕ). 83 ∷ 58 ∷ (n ++ 47 ∷ printed page)) f.named in
+    let below : ltb page (blocks_at c.sections s.0) ≡ true = lt-ltb page (blocks_at c.sections s.0) (omega (arith, blocks, inside)) in
     let number = number_word page (omega arith) in
-    let name = name_word is.0.name f.is.name in
+    let name = name_word there.0.name f.name in
     record {
       word = subst (IsShortWord 28) (sym text) (record {
-        is = record { some = begins 83 (58 ∷ (is.0.name ++ 47 ∷ printed page)); plain = passes_both printing.is_plain (83 ∷ 58 ∷ is.0.name) (47 ∷ printed page) name.is.plain number.is.plain };
-        short = omega (arith, length-append is.0.name (47 ∷ printed page), name.short, number.short);
+        is = record { some = begins 83 (58 ∷ (there.0.name ++ 47 ∷ printed page)); plain = passes_both printing.is_plain (83 ∷ 58 ∷ there.0.name) (47 ∷ printed page) name.is.plain number.is.plain };
+        short = omega (arith, length-append there.0.name (47 ∷ printed page), name.short, number.short);
       });
-      name = InSection is.0.name page;
-      named = ap block_name text ∙ section_block_read is.0.name page f.is.name (omega arith);
+      name = InSection there.0.name page;
+      named = ap block_name text ∙ section_block_read there.0.name page f.name (omega arith);
       there = rw (f.number, below) refl;
     }
 block_read c w (block.PageFile b) is =
@@ -111,7 +115,7 @@ block_read c w (block.PageFile b) is =
     }
 block_read c w (block.Swap p slot) is =
     let at = parted c.procs p.0 is.0 is.1 in
-    let spec : IsProcess c.frames (length c.bad) is.0 = member (IsProcess c.frames (length c.bad)) at.0 is.0 at.1 c.procs at.2 w.procs in
+    let spec : IsProcess c.frames (length c.bad + all_pins c) is.0 = member (IsProcess c.frames (length c.bad + all_pins c)) at.0 is.0 at.1 c.procs at.2 w.procs in
     let most : is.0.extent ≤ 1024 = spec.most in
     let below : slot < is.0.extent = is.2 in
     let count = count_before at.0 is.0 at.1 c.procs at.2 in

@@ -1,5 +1,5 @@
 -- The lines VMTRACE, FRAMES, PAGEFILE, PARAM and BAD.
-use Rattle.std.proofs.Common.{◌≡◌, ◌≢◌, ℕ, ◌<◌, ◌≤◌, ◌^◌, Bool, true, false, eqb, List, [], ◌∷◌, map, replicate, Some, Ok, refl, ◌∙◌, arith, lit<, lt-ltb, ne_eqb, eq-eqb}
+use Rattle.std.proofs.Common.{◌≡◌, ◌≢◌, ℕ, ◌<◌, ◌≤◌, ◌^◌, Bool, true, false, eqb, List, [], ◌∷◌, map, replicate, Some, Ok, refl, ◌∙◌, arith, lit<, lt-ltb, ne_eqb, eq-eqb, sym, subst}
 use Rattle.std.specs.Prelude.{codes, slice_index_or, slice_set, decimal as printed}
 use Rattle.vm_types.specs.Configuration.{IsWellFormed, AreParams}
 use Rattle.vm_types.specs.declared.config.Config.{Config}
@@ -8,6 +8,9 @@ use Rattle.vm_types.specs.declared.config.Mapping.{Mapping}
 use Rattle.vm_types.specs.declared.config.Params.{Params}
 use Rattle.vm_types.specs.declared.config.ProcSpec.{ProcSpec}
 use Rattle.vm_types.specs.declared.config.Section.{Section}
+use Rattle.vm_types.specs.declared.config.Version.{Version}
+use Rattle.vm_types.specs.declared.config.Version.TheVariants as version
+use Rattle.vm_types.proofs.VersionOne.{few_frames}
 use Rattle.trace_lines.specs.declared.keywords.Keyword.{Keyword}
 use Rattle.trace_lines.specs.declared.keywords.Keyword.TheVariants as keyword
 use Rattle.trace_lines.specs.declared.params.Param.{Param}
@@ -36,30 +39,31 @@ keyword_says part word args keyword a b e here = rw (a, b, e, eq-eqb (rank part.
 abbrev pub declaring : Config → List Bool → Params → List ℕ → List Section → List ProcSpec → List Mapping → List Fails → Part
 declaring c given params bad sections procs maps fails = record {
   place = place.Declarations;
-  config = record { frames = c.frames; bad = bad; pagefile = c.pagefile; params = params; sections = sections; procs = procs; maps = maps; fails = fails; body = [] };
+  config = record { version = c.version; frames = c.frames; bad = bad; pagefile = c.pagefile; params = params; sections = sections; procs = procs; maps = maps; fails = fails; body = [] };
   given = given;
 }
 
 -- VMTRACE, FRAMES, PAGEFILE
 
-pub headers_lead : (c : Config) → IsWellFormed c → Leads start (header_lines c) (declaring c (replicate 14 false) default_params [] [] [] [] [])
-headers_lead c w =
-    let frames_small : c.frames ≤ 4096 = w.frames.1 in
+pub headers_lead : (c : Config) → IsWellFormed c → c.version ≡ version.One → Leads start (header_lines c) (declaring c (replicate 14 false) default_params [] [] [] [] [])
+headers_lead c w one =
+    let frames_small : c.frames ≤ 4096 = few_frames c w one in
     let pagefile_small : c.pagefile ≤ 16384 = w.pagefile.1 in
     let first = changed start says.Version in
     let second = changed first (says.Frames c.frames) in
     let third = changed second (says.PageFile c.pagefile) in
-    let version : Line = codes "VMTRACE" ∷ printed 1 ∷ [] in
     let frames : Line = codes "FRAMES" ∷ printed c.frames ∷ [] in
     let pagefile : Line = codes "PAGEFILE" ∷ printed c.pagefile ∷ [] in
-    leads_append start first third (version ∷ []) (frames ∷ pagefile ∷ [])
-    (leads_line start version says.Version (line_of (8 ∷ 10 ∷ []) (codes "VMTRACE") (printed 1 ∷ []) (literal 8 _ refl refl refl, (number_word 1 (lit< tt), tt)) (omega arith))
+    let first_line : Line = codes "VMTRACE" ∷ printed 1 ∷ [] in
+    subst (λ (v : Version). Leads start (header_lines c) (declaring (record c { version = v }) (replicate 14 false) default_params [] [] [] [] [])) (sym one)
+    (leads_append start first third (first_line ∷ []) (frames ∷ pagefile ∷ [])
+    (leads_line start first_line says.Version (line_of (8 ∷ 10 ∷ []) (codes "VMTRACE") (printed 1 ∷ []) (literal 8 _ refl refl refl, (number_word 1 (lit< tt), tt)) (omega arith))
     (keyword_says start (codes "VMTRACE") (printed 1 ∷ []) keyword.Version refl refl refl refl ∙ (rw (within_read 1 1 1 (omega arith) (omega arith) (lit< tt)) refl)))
     (leads_append first second third (frames ∷ []) (pagefile ∷ [])
     (leads_line first frames (says.Frames c.frames) (line_of (8 ∷ 10 ∷ []) (codes "FRAMES") (printed c.frames ∷ []) (literal 8 _ refl refl refl, (number_word c.frames (omega arith), tt)) (omega arith))
-    (keyword_says first (codes "FRAMES") (printed c.frames ∷ []) keyword.Frames refl refl refl refl ∙ (rw (within_read 8 4096 c.frames w.frames.0 w.frames.1 (lit< tt)) refl)))
+    (keyword_says first (codes "FRAMES") (printed c.frames ∷ []) keyword.Frames refl refl refl refl ∙ (rw (within_read 8 4096 c.frames w.frames.0 frames_small (lit< tt)) refl)))
     (leads_line second pagefile (says.PageFile c.pagefile) (line_of (8 ∷ 10 ∷ []) (codes "PAGEFILE") (printed c.pagefile ∷ []) (literal 8 _ refl refl refl, (number_word c.pagefile (omega arith), tt)) (omega arith))
-    (keyword_says second (codes "PAGEFILE") (printed c.pagefile ∷ []) keyword.PageFile refl refl refl refl ∙ (rw (within_read 1 16384 c.pagefile w.pagefile.0 w.pagefile.1 (lit< tt)) refl))))
+    (keyword_says second (codes "PAGEFILE") (printed c.pagefile ∷ []) keyword.PageFile refl refl refl refl ∙ (rw (within_read 1 16384 c.pagefile w.pagefile.0 w.pagefile.1 (lit< tt)) refl)))))
 
 -- PARAM
 
@@ -232,7 +236,7 @@ params_lead c w = sets_lead c (replicate 14 false) default_params (settings c.pa
 pub bads_lead : (c : Config) → IsWellFormed c → Leads (declaring c (replicate 14 true) c.params [] [] [] [] []) (map bad_line c.bad) (declaring c (replicate 14 true) c.params c.bad [] [] [] [])
 bads_lead c w = leads_each bad_line (λ bad. declaring c (replicate 14 true) c.params bad [] [] [] []) c.bad (λ before f after e.
     let part = declaring c (replicate 14 true) c.params before [] [] [] [] in
-    let few : c.frames ≤ 4096 = w.frames.1 in
+    let few : c.frames ≤ 16384 = w.frames.1 in
     let below : f < c.frames = member (λ g. g < c.frames) before f after c.bad e w.bad in
     let small : f < 2 ^ 32 = omega arith in
     let new : is_listed before f ≡ false = none_before (λ g h. g ≢ h) (λ g. eqb g f) before f after c.bad e w.bad_differ (λ g differ. ne_eqb g f differ) in

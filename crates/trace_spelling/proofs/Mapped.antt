@@ -4,7 +4,7 @@ use Rattle.std.specs.Prelude.{codes, slice_get, position, sum_by, bytes_eq, deci
 use Rattle.std.specs.List.{list_any}
 use Rattle.std.specs.Option.{option_map_or}
 use Rattle.std.proofs.lemmas.Bool.{and_from, and_left, and_right, or_left, or_right}
-use Rattle.vm_types.specs.Configuration.{IsWellFormed, AreSections, IsSection, IsProcess, IsMapping, AreApart, section_pages}
+use Rattle.vm_types.specs.Configuration.{IsWellFormed, AreSections, IsName, IsSection, IsProcess, IsMapping, AreApart, all_pins, section_pages}
 use Rattle.vm_types.specs.WellFormed.{IsRange}
 use Rattle.vm_types.specs.declared.config.Config.{Config}
 use Rattle.vm_types.specs.declared.config.Mapping.{Mapping}
@@ -12,6 +12,7 @@ use Rattle.vm_types.specs.declared.config.Origin.{Origin}
 use Rattle.vm_types.specs.declared.config.Origin.TheVariants as origin
 use Rattle.vm_types.specs.declared.config.ProcSpec.{ProcSpec}
 use Rattle.vm_types.specs.declared.config.Section.{Section}
+use Rattle.vm_types.specs.declared.config.Version.{Version}
 use Rattle.vm_text.specs.Names.{process_name, section_name, address_text, name_of}
 use Rattle.vm_text.specs.Services.{protection_name}
 use Rattle.trace_lines.specs.declared.keywords.Keyword.TheVariants as keyword
@@ -38,7 +39,7 @@ process_leads : (c : Config) → IsWellFormed c → (before : List ProcSpec) (x 
     → Leads (with_procs c before) (process_line (length before) x ∷ []) (with_procs c (before ++ x ∷ []))
 process_leads c w before x after e =
     let part = with_procs c before in
-    let is : IsProcess c.frames (length c.bad) x = member (IsProcess c.frames (length c.bad)) before x after c.procs e w.procs in
+    let is : IsProcess c.frames (length c.bad + all_pins c) x = member (IsProcess c.frames (length c.bad + all_pins c)) before x after c.procs e w.procs in
     let count = count_before before x after c.procs e in
     let few : length c.procs ≤ 16 = w.some_process.1 in
     let locks : x.locks + 2 ≤ x.limit = is.locks in
@@ -88,26 +89,26 @@ range_small at pages is = by_region is.inside where
 
 pub record IsFound (sections : List Section) (s : ℕ) (x : Section) : Type 0 where
   pub named : section_name sections s ≡ x.name
-  pub is : IsSection x
+  pub name : IsName x.name
   pub number : number_named sections x.name ≡ Some s
   pub pages : pages_at sections s ≡ section_pages x
   pub few : section_pages x ≤ 16384
 
-pub found : (sections : List Section) → AreSections sections → (s : ℕ) (x : Section) → slice_get sections s ≡ Some x → IsFound sections s x
-found sections are s x e =
+pub found : (v : Version) (sections : List Section) → AreSections v sections → (s : ℕ) (x : Section) → slice_get sections s ≡ Some x → IsFound sections s x
+found v sections are s x e =
     let at = parted sections s x e in
     let total : sum_by section_pages sections ≤ 16384 = are.pages in
     let here : position (λ (y : Section). bytes_eq y.name x.name) (at.0 ++ x ∷ at.1) ≡ Some (length at.0) = position_at (λ (y : Section). bytes_eq y.name x.name) at.0 x at.1 (others_before at.0 x at.1 sections at.2 are.differ) (same_bytes x.name) in
     record {
       named = ap name_of e;
-      is = member IsSection at.0 x at.1 sections at.2 are.each;
+      name = (member (IsSection v) at.0 x at.1 sections at.2 are.each).name;
       number = ap (λ (ys : List Section). number_named ys x.name) (sym at.2) ∙ here ∙ ap (λ (n : ℕ). Some n) at.3;
       pages = ap (λ (o : Option Section). option_map_or section_pages o 0) e;
       few = (let sum = sum_before section_pages at.0 x at.1 sections at.2 in omega arith);
     }
 
 pub section_read : (sections : List Section) (s : ℕ) (x : Section) → IsFound sections s x → section sections (section_name sections s) ≡ Ok s
-section_read sections s x f = rw (f.named, name_passes x.name f.is.name, f.number) refl
+section_read sections s x f = rw (f.named, name_passes x.name f.name, f.number) refl
 
 -- MAPZERO and MAPSEC
 
@@ -142,12 +143,12 @@ map_leads c w before m (origin.Section s first) is new =
     let there : (m.proc).0 < length c.procs = is.proc in
     let small = range_small (m.at).0 m.pages is.range in
     let pages : m.pages ≤ 4096 = is.range.few in
-    let f = found c.sections w.sections s.0 is.origin.0 is.origin.1 in
+    let f = found c.version c.sections w.sections s.0 is.origin.0 is.origin.1 in
     let last : first + m.pages ≤ section_pages is.origin.0 = is.origin.2 in
     let most : section_pages is.origin.0 ≤ 16384 = f.few in
     let count : pages_at c.sections s.0 ≡ section_pages is.origin.0 = f.pages in
     let within : leb (first + m.pages) (pages_at c.sections s.0) ≡ true = le-leb (first + m.pages) (pages_at c.sections s.0) (omega arith) in
-    let name_short : IsShortWord 15 (section_name c.sections s.0) = subst (IsShortWord 15) (sym f.named) (name_word is.origin.0.name f.is.name) in
+    let name_short : IsShortWord 15 (section_name c.sections s.0) = subst (IsShortWord 15) (sym f.named) (name_word is.origin.0.name f.name) in
     leads_line part (map_words c.sections m (origin.Section s first)) (says.Map (from m (origin.Section s first)))
     (line_of (6 ∷ 1 ∷ 8 ∷ 10 ∷ 15 ∷ 10 ∷ 4 ∷ []) (codes "MAPSEC") (process_name (m.proc).0 ∷ address_text (m.at).0 ∷ printed m.pages ∷ section_name c.sections s.0 ∷ printed first ∷ protection_name m.prot ∷ [])
     (literal 6 _ refl refl refl, (letter_word (m.proc).0 (omega arith), (hex_word 8 (m.at).0 (omega arith), (number_word m.pages (omega arith), (name_short, (number_word first (omega arith), (protection_word m.prot is.code, tt))))))) (omega arith))

@@ -2,22 +2,27 @@
 use Rattle.std.proofs.Common.{◌≡◌, ◌≢◌, ℕ, zero, suc, ◌+◌, ◌-◌, ◌*◌, ◌/◌, ◌%◌, ◌<◌, ◌≤◌, ◌^◌, Bool, true, false, not, leb, ltb, eqb, List, [], ◌∷◌, ◌++◌, map, flat_map, length, get_or, take, drop, replicate, All, AllPairs, Option, Some, None, Ok, refl, sym, ap, ap₂, subst, ◌∙◌, arith, lit<, eqb-true, if◌then◌else◌, lt-ltb, le-leb, append_assoc, append-nil, length-append}
 use Rattle.std.specs.Prelude.{codes, slice_get, position, sum_by, is_some, bytes_eq, decimal as printed}
 use Rattle.std.specs.Option.{option_map_or}
-use Rattle.std.proofs.lemmas.Bool.{and_from, and_parts}
+use Rattle.std.proofs.lemmas.Bool.{and_from, and_parts, true≢false}
 use Rattle.std.proofs.lemmas.List.{map-append, length-map, length-replicate, length-take-le, length-drop, take_all, drop-replicate, replicate-append-replicate}
 use Rattle.std.proofs.lemmas.List.Elements.{All-take, All-drop}
 use Rattle.std.proofs.lemmas.List.Sums.{sum_by-cons}
 use Rattle.std.proofs.Math.Seq.{take-add, take-append_seam, drop-append-add}
 use Rattle.vm_types.specs.Configuration.{IsWellFormed, IsSection, IsName, section_pages}
+use Rattle.vm_types.specs.Kinds.{is_paged_kind, paged_of}
 use Rattle.vm_types.specs.declared.config.Config.{Config}
 use Rattle.vm_types.specs.declared.config.Section.{Section}
+use Rattle.vm_types.specs.declared.config.SectionKind.{SectionKind}
+use Rattle.vm_types.specs.declared.config.SectionKind.TheVariants as kind
+use Rattle.vm_types.specs.declared.config.Version.{Version}
+use Rattle.vm_types.specs.declared.config.Version.TheVariants as version
 use Rattle.trace_lines.specs.declared.keywords.Keyword.TheVariants as keyword
 use Rattle.trace_lines.specs.declared.part.Part.{Part}
-use Rattle.trace_lines.specs.Declarations.{sharing, has_room}
-use Rattle.trace_lines.specs.Lookups.{number_named, section, bytes_at}
+use Rattle.trace_lines.specs.Declarations.{has_room, section_kind}
+use Rattle.trace_lines.specs.Lookups.{bytes_at, has_file, number_named, section}
 use Rattle.trace_lines.specs.Says as says
 use Rattle.trace_reader.specs.Changes.{blank_section, overwritten, with_bytes, changed}
 use Rattle.trace_spelling.specs.Laws.{IsTyped}
-use Rattle.trace_spelling.specs.Lines.{sharing_word, piece, pairs_text, are_zeros, piece_lines, below, data_lines}
+use Rattle.trace_spelling.specs.Lines.{kind_word, piece, pairs_text, are_zeros, piece_lines, below, data_lines}
 use Rattle.trace_spelling.specs.Lines as lines
 use Rattle.trace_spelling.proofs.Numbers.{number_read, within_read}
 use Rattle.trace_spelling.proofs.Printing.{IsShortWord, literal, number_word, name_word}
@@ -28,7 +33,7 @@ use Rattle.trace_spelling.proofs.Headers.{keyword_says, declaring}
 
 -- the same section before its bytes are given
 abbrev pub blank : Section → Section
-blank x = blank_section x.name x.shared (section_pages x)
+blank x = blank_section x.name x.kind (section_pages x)
 
 blank_pages : (x : Section) → section_pages (blank x) ≡ section_pages x
 blank_pages x =
@@ -58,21 +63,31 @@ blank_number xs name =
     ∙ ap (position (λ n. bytes_eq n name)) (blank_names xs)
     ∙ sym (position_map (λ (s : Section). s.name) (λ n. bytes_eq n name) xs)
 
-sharing_read : (shared : Bool) → sharing (sharing_word shared) ≡ Ok shared
-sharing_read true = refl
-sharing_read false = refl
+kind_read : (of_kind : SectionKind) → is_paged_kind of_kind ≡ false → section_kind (kind_word of_kind) ≡ Ok of_kind
+kind_read kind.Shared file = refl
+kind_read kind.Crf file = refl
+kind_read kind.Paged file = absurd (true≢false file)
 
-sharing_is_word : (shared : Bool) → IsShortWord 6 (sharing_word shared)
-sharing_is_word true = literal 6 _ refl refl refl
-sharing_is_word false = literal 6 _ refl refl refl
+kind_is_word : (of_kind : SectionKind) → IsShortWord 6 (kind_word of_kind)
+kind_is_word kind.Shared = literal 6 _ refl refl refl
+kind_is_word kind.Crf = literal 6 _ refl refl refl
+kind_is_word kind.Paged = literal 6 _ refl refl refl
+
+-- in version 1 a section has a file
+of_file : (v : Version) (x : Section) → v ≡ version.One → IsSection v x → is_paged_kind x.kind ≡ false
+of_file v x one is = go (is_paged_kind x.kind) refl where
+  go : (b : Bool) → is_paged_kind x.kind ≡ b → is_paged_kind x.kind ≡ false
+  go false e = e
+  go true e = absurd (let both : version.One ≡ version.Two = sym one ∙ (is.paged e).0 in cc)
 
 not_found : (o : Option ℕ) → o ≡ None → not (is_some o) ≡ true
 not_found o e = rw e refl
 
-pub sections_lead : (c : Config) → IsWellFormed c → Leads (declaring c (replicate 14 true) c.params c.bad [] [] [] []) (map lines.section_line c.sections) (declaring c (replicate 14 true) c.params c.bad (map blank c.sections) [] [] [])
-sections_lead c w = leads_each lines.section_line (λ xs. declaring c (replicate 14 true) c.params c.bad (map blank xs) [] [] []) c.sections (λ before x after e.
+pub sections_lead : (c : Config) → IsWellFormed c → c.version ≡ version.One → Leads (declaring c (replicate 14 true) c.params c.bad [] [] [] []) (map lines.section_line c.sections) (declaring c (replicate 14 true) c.params c.bad (map blank c.sections) [] [] [])
+sections_lead c w one = leads_each lines.section_line (λ xs. declaring c (replicate 14 true) c.params c.bad (map blank xs) [] [] []) c.sections (λ before x after e.
     let part = declaring c (replicate 14 true) c.params c.bad (map blank before) [] [] [] in
-    let is : IsSection x = member IsSection before x after c.sections e w.sections.each in
+    let is : IsSection c.version x = member (IsSection c.version) before x after c.sections e w.sections.each in
+    let file = of_file c.version x one is in
     let bytes : 512 ≤ length x.bytes = is.some in
     let some : 1 ≤ length x.bytes / 512 = omega arith in
     let sum = sum_before section_pages before x after c.sections e in
@@ -85,11 +100,11 @@ sections_lead c w = leads_each lines.section_line (λ xs. declaring c (replicate
     let inside : sum_by section_pages (map blank before) + length x.bytes / 512 ≤ 16384 = omega (arith, blank_sum before) in
     let room : has_room (map blank before) (length x.bytes / 512) ≡ true = and_from (ltb (length (map blank before)) 64) (leb (sum_by section_pages (map blank before) + length x.bytes / 512) 16384) (lt-ltb (length (map blank before)) 64 short) (le-leb (sum_by section_pages (map blank before) + length x.bytes / 512) 16384 inside) in
     let unnamed = not_found (number_named (map blank before) x.name) new in
-    leads_to part (changed part (says.Section x.name x.shared (length x.bytes / 512))) (declaring c (replicate 14 true) c.params c.bad (map blank (before ++ x ∷ [])) [] [] []) (lines.section_line x ∷ [])
-    (leads_line part (lines.section_line x) (says.Section x.name x.shared (length x.bytes / 512))
-    (line_of (7 ∷ 15 ∷ 6 ∷ 10 ∷ []) (codes "SECTION") (x.name ∷ sharing_word x.shared ∷ printed (length x.bytes / 512) ∷ []) (literal 7 _ refl refl refl, (name_word x.name is.name, (sharing_is_word x.shared, (number_word (length x.bytes / 512) (omega arith), tt)))) (omega arith))
-    (keyword_says part (codes "SECTION") (x.name ∷ sharing_word x.shared ∷ printed (length x.bytes / 512) ∷ []) keyword.Section refl refl refl refl
-    ∙ (rw (name_passes x.name is.name, sharing_read x.shared, within_read 1 4294967295 (length x.bytes / 512) some (omega arith) (lit< tt), unnamed, room) refl)))
+    leads_to part (changed part (says.Section x.name x.kind (length x.bytes / 512))) (declaring c (replicate 14 true) c.params c.bad (map blank (before ++ x ∷ [])) [] [] []) (lines.section_line x ∷ [])
+    (leads_line part (lines.section_line x) (says.Section x.name x.kind (length x.bytes / 512))
+    (line_of (7 ∷ 15 ∷ 6 ∷ 10 ∷ []) (codes "SECTION") (x.name ∷ kind_word x.kind ∷ printed (length x.bytes / 512) ∷ []) (literal 7 _ refl refl refl, (name_word x.name is.name, (kind_is_word x.kind, (number_word (length x.bytes / 512) (omega arith), tt)))) (omega arith))
+    (keyword_says part (codes "SECTION") (x.name ∷ kind_word x.kind ∷ printed (length x.bytes / 512) ∷ []) keyword.Section refl refl refl refl
+    ∙ (rw (name_passes x.name is.name, kind_read x.kind file, within_read 1 4294967295 (length x.bytes / 512) some (omega arith) (lit< tt), unnamed, room) refl)))
     (ap (λ (xs : List Section). declaring c (replicate 14 true) c.params c.bad xs [] [] []) (sym (map-append blank before (x ∷ [])))))
 
 -- a section with so many of its pieces
@@ -97,16 +112,16 @@ sections_lead c w = leads_each lines.section_line (λ xs. declaring c (replicate
 abbrev begun : Section → ℕ → Section
 begun x k = record x { bytes = take (64 * k) x.bytes ++ replicate (length x.bytes - 64 * k) 0 }
 
-none_begun : (x : Section) → IsSection x → begun x 0 ≡ blank x
-none_begun x is =
+none_begun : (v : Version) (x : Section) → IsSection v x → begun x 0 ≡ blank x
+none_begun v x is =
     let whole : length x.bytes % 512 ≡ 0 = is.whole in
     let long : length x.bytes - 64 * 0 ≡ 512 * (length x.bytes / 512) = omega arith in
     ap (λ (n : ℕ). blank_bytes x (replicate n 0)) long where
       blank_bytes : Section → List ℕ → Section
       blank_bytes x bytes = record x { bytes = bytes }
 
-all_begun : (x : Section) → IsSection x → begun x (length x.bytes / 64) ≡ x
-all_begun x is =
+all_begun : (v : Version) (x : Section) → IsSection v x → begun x (length x.bytes / 64) ≡ x
+all_begun v x is =
     let whole : length x.bytes % 512 ≡ 0 = is.whole in
     let long : length x.bytes - 64 * (length x.bytes / 64) ≡ 0 = omega arith in
     let bytes : take (64 * (length x.bytes / 64)) x.bytes ++ replicate (length x.bytes - 64 * (length x.bytes / 64)) 0 ≡ x.bytes =
@@ -182,12 +197,12 @@ section_found before y after name is same others =
     let found : number_named (before ++ y ∷ after) name ≡ Some (length before) = position_at (λ s. bytes_eq s.name name) before y after others here in
     rw (name_passes name is, found) refl
 
-module _ (c : Config) (w : IsWellFormed c) (t : IsTyped c) (before : List Section) (x : Section) (after : List Section) (e : before ++ x ∷ after ≡ c.sections) where
+module _ (c : Config) (w : IsWellFormed c) (one : c.version ≡ version.One) (t : IsTyped c) (before : List Section) (x : Section) (after : List Section) (e : before ++ x ∷ after ≡ c.sections) where
   abbrev with_pieces : ℕ → Part
   with_pieces k = declaring c (replicate 14 true) c.params c.bad (before ++ begun x k ∷ map blank after) [] [] []
 
-  is_section : IsSection x
-  is_section = member IsSection before x after c.sections e w.sections.each
+  is_section : IsSection c.version x
+  is_section = member (IsSection c.version) before x after c.sections e w.sections.each
 
   bytes_small : All (λ b. b < 2 ^ 8) x.bytes
   bytes_small = member (λ (s : Section). All (λ b. b < 2 ^ 8) s.bytes) before x after c.sections e t.bytes
@@ -208,13 +223,14 @@ module _ (c : Config) (w : IsWellFormed c) (t : IsTyped c) (before : List Sectio
       let small : All (λ b. b < 2 ^ 8) (piece x.bytes k) = All-take (λ b. b < 2 ^ 8) 64 (drop (64 * k) x.bytes) (All-drop (λ b. b < 2 ^ 8) (64 * k) x.bytes bytes_small) in
       let room : bytes_at (before ++ begun x k ∷ map blank after) (length before) ≡ length x.bytes = bytes_there before (begun x k) (map blank after) ∙ begun_length x k (omega arith) in
       let inside : leb (64 * k + length (piece x.bytes k)) (bytes_at (before ++ begun x k ∷ map blank after) (length before)) ≡ true = le-leb (64 * k + length (piece x.bytes k)) (bytes_at (before ++ begun x k ∷ map blank after) (length before)) (omega arith) in
+      let file : has_file (before ++ begun x k ∷ map blank after) (length before) ≡ true = ap (λ (o : Option Section). not (paged_of o)) (get_at before (begun x k) (map blank after)) ∙ ap not (of_file c.version x one is_section) in
       let digits : length (pairs_text (piece x.bytes k)) ≡ 2 * length (piece x.bytes k) = length_pairs (piece x.bytes k) in
       let word : IsShortWord 128 (pairs_text (piece x.bytes k)) = record { is = record { some = lt-ltb 0 (length (pairs_text (piece x.bytes k))) (omega arith); plain = pairs_plain (piece x.bytes k) }; short = omega arith } in
       leads_to (with_pieces k) (changed (with_pieces k) (says.Data (length before) (64 * k) (piece x.bytes k))) (with_pieces (k + 1)) (lines.data_line x k ∷ [])
       (leads_line (with_pieces k) (lines.data_line x k) (says.Data (length before) (64 * k) (piece x.bytes k))
       (line_of (4 ∷ 15 ∷ 10 ∷ 128 ∷ []) (codes "DATA") (x.name ∷ printed (64 * k) ∷ pairs_text (piece x.bytes k) ∷ []) (literal 4 _ refl refl refl, (name_word x.name is_section.name, (number_word (64 * k) (omega arith), (word, tt)))) (omega arith))
       (keyword_says (with_pieces k) (codes "DATA") (x.name ∷ printed (64 * k) ∷ pairs_text (piece x.bytes k) ∷ []) keyword.Data refl refl refl refl
-      ∙ (rw (here, number_read (64 * k) (omega arith), pairs_read (piece x.bytes k) (omega arith) (omega arith) small, inside) refl)))
+      ∙ (rw (here, file, number_read (64 * k) (omega arith), pairs_read (piece x.bytes k) (omega arith) (omega arith) small, inside) refl)))
       (ap (λ (xs : List Section). declaring c (replicate 14 true) c.params c.bad xs [] [] [])
       (bytes_given before (begun x k) (map blank after) (64 * k) (piece x.bytes k) ∙ ap (λ (bs : List ℕ). before ++ with_new bs ∷ map blank after) (one_piece x.bytes k le))) where
         with_new : List ℕ → Section
@@ -240,12 +256,12 @@ module _ (c : Config) (w : IsWellFormed c) (t : IsTyped c) (before : List Sectio
 
   pub section_leads : Leads (declaring c (replicate 14 true) c.params c.bad (before ++ map blank (x ∷ after)) [] [] []) (data_lines x) (declaring c (replicate 14 true) c.params c.bad ((before ++ x ∷ []) ++ map blank after) [] [] [])
   section_leads =
-      let first : before ++ begun x 0 ∷ map blank after ≡ before ++ map blank (x ∷ after) = ap (λ (y : Section). before ++ y ∷ map blank after) (none_begun x is_section) in
-      let last : before ++ begun x (length x.bytes / 64) ∷ map blank after ≡ (before ++ x ∷ []) ++ map blank after = ap (λ (y : Section). before ++ y ∷ map blank after) (all_begun x is_section) ∙ sym (append_assoc before (x ∷ []) (map blank after)) in
+      let first : before ++ begun x 0 ∷ map blank after ≡ before ++ map blank (x ∷ after) = ap (λ (y : Section). before ++ y ∷ map blank after) (none_begun c.version x is_section) in
+      let last : before ++ begun x (length x.bytes / 64) ∷ map blank after ≡ (before ++ x ∷ []) ++ map blank after = ap (λ (y : Section). before ++ y ∷ map blank after) (all_begun c.version x is_section) ∙ sym (append_assoc before (x ∷ []) (map blank after)) in
       subst (λ (xs : List Section). Leads (declaring c (replicate 14 true) c.params c.bad xs [] [] []) (data_lines x) (declaring c (replicate 14 true) c.params c.bad ((before ++ x ∷ []) ++ map blank after) [] [] [])) first
       (subst (λ (xs : List Section). Leads (with_pieces 0) (data_lines x) (declaring c (replicate 14 true) c.params c.bad xs [] [] [])) last (pieces_lead (length x.bytes / 64) (omega arith)))
 
-pub data_lead : (c : Config) → IsWellFormed c → IsTyped c → Leads (declaring c (replicate 14 true) c.params c.bad (map blank c.sections) [] [] []) (flat_map data_lines c.sections) (declaring c (replicate 14 true) c.params c.bad c.sections [] [] [])
-data_lead c w t =
+pub data_lead : (c : Config) → IsWellFormed c → c.version ≡ version.One → IsTyped c → Leads (declaring c (replicate 14 true) c.params c.bad (map blank c.sections) [] [] []) (flat_map data_lines c.sections) (declaring c (replicate 14 true) c.params c.bad c.sections [] [] [])
+data_lead c w one t =
     subst (λ (xs : List Section). Leads (declaring c (replicate 14 true) c.params c.bad (map blank c.sections) [] [] []) (flat_map data_lines c.sections) (declaring c (replicate 14 true) c.params c.bad xs [] [] [])) (append-nil c.sections)
-    (leads_many data_lines (λ before rest. declaring c (replicate 14 true) c.params c.bad (before ++ map blank rest) [] [] []) c.sections (λ before x after e. section_leads c w t before x after e))
+    (leads_many data_lines (λ before rest. declaring c (replicate 14 true) c.params c.bad (before ++ map blank rest) [] [] []) c.sections (λ before x after e. section_leads c w one t before x after e))

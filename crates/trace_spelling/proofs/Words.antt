@@ -5,7 +5,8 @@ use Rattle.std.specs.List.{list_all}
 use Rattle.std.proofs.lemmas.Bool.{and_from, or_left, or_right}
 use Rattle.std.proofs.lemmas.List.Elements.{All-head, All-tail}
 use Rattle.vm_types.specs.Configuration.{IsName, IsNameByte, IsLetter}
-use Rattle.vm_types.specs.WellFormed.{IsCode}
+use Rattle.vm_types.specs.WellFormed.{IsCode, IsServiceOf}
+use Rattle.vm_types.specs.declared.config.Version.TheVariants as version
 use Rattle.vm_types.specs.declared.reference.Mode.{Mode}
 use Rattle.vm_types.specs.declared.reference.Mode.TheVariants.{K, E, S, U}
 use Rattle.vm_types.specs.declared.reference.Width.TheVariants.{One, Two, Four}
@@ -180,16 +181,21 @@ named (service.Protect at pages prot) = Protect
 named (service.Lock at pages) = Lock
 named (service.Unlock at pages) = Unlock
 named (service.Purge at pages) = Purge
+-- the words of pins aren't read in version 1
+named (service.Pin at pages) = Lock
+named (service.Unpin at pages) = Unlock
 named (service.Adjust limit) = Adjust
 
-pub service_read : (s : Service) → verb_of (service_name s) ≡ Some (verb.Service (named s))
-service_read (service.Create at pages prot) = refl
-service_read (service.Delete at pages) = refl
-service_read (service.Protect at pages prot) = refl
-service_read (service.Lock at pages) = refl
-service_read (service.Unlock at pages) = refl
-service_read (service.Purge at pages) = refl
-service_read (service.Adjust limit) = refl
+pub service_read : (s : Service) → IsServiceOf version.One s → verb_of (service_name s) ≡ Some (verb.Service (named s))
+service_read (service.Create at pages prot) known = refl
+service_read (service.Delete at pages) known = refl
+service_read (service.Protect at pages prot) known = refl
+service_read (service.Lock at pages) known = refl
+service_read (service.Unlock at pages) known = refl
+service_read (service.Purge at pages) known = refl
+service_read (service.Pin at pages) known = absurd cc
+service_read (service.Unpin at pages) known = absurd cc
+service_read (service.Adjust limit) known = refl
 
 pub service_word : (s : Service) → IsShortWord 6 (service_name s)
 service_word (service.Create at pages prot) = literal 6 _ refl refl refl
@@ -198,6 +204,8 @@ service_word (service.Protect at pages prot) = literal 6 _ refl refl refl
 service_word (service.Lock at pages) = literal 6 _ refl refl refl
 service_word (service.Unlock at pages) = literal 6 _ refl refl refl
 service_word (service.Purge at pages) = literal 6 _ refl refl refl
+service_word (service.Pin at pages) = literal 6 _ refl refl refl
+service_word (service.Unpin at pages) = literal 6 _ refl refl refl
 service_word (service.Adjust limit) = literal 6 _ refl refl refl
 
 -- bytes

@@ -1,6 +1,6 @@
 -- The lines of a trace as words, one definition for each kind, with the keywords written out.
 -- Source: this project's own.
-use Rattle.std.specs.Prelude.{ℕ, zero, suc, ◌+◌, ◌*◌, ◌/◌, ◌==◌, Bool, true, false, List, [], ◌∷◌, ◌++◌, length, take, drop, map, codes, decimal, if◌then◌else◌}
+use Rattle.std.specs.Prelude.{ℕ, zero, suc, ◌+◌, ◌*◌, ◌/◌, ◌==◌, Bool, List, [], ◌∷◌, ◌++◌, length, take, drop, map, codes, decimal, if◌then◌else◌}
 use Rattle.std.specs.List.{list_all}
 use Rattle.vm_types.specs.Configuration.{section_pages}
 use Rattle.vm_types.specs.declared.config.Config.{Config}
@@ -11,6 +11,8 @@ use Rattle.vm_types.specs.declared.config.Origin.TheVariants as origin
 use Rattle.vm_types.specs.declared.config.Params.{Params}
 use Rattle.vm_types.specs.declared.config.ProcSpec.{ProcSpec}
 use Rattle.vm_types.specs.declared.config.Section.{Section}
+use Rattle.vm_types.specs.declared.config.SectionKind.{SectionKind}
+use Rattle.vm_types.specs.declared.config.SectionKind.TheVariants as kind
 use Rattle.vm_types.specs.declared.config.Task.{Task}
 use Rattle.vm_types.specs.declared.service.Request.{Request}
 use Rattle.vm_types.specs.declared.service.Request.TheVariants as request
@@ -58,13 +60,14 @@ param_lines params =
 abbrev pub bad_line : ℕ → Line
 bad_line f = codes "BAD" ∷ decimal f ∷ []
 
-abbrev pub sharing_word : Bool → List ℕ
-sharing_word true = codes "SHARED"
-sharing_word false = codes "CRF"
+abbrev pub kind_word : SectionKind → List ℕ
+kind_word kind.Shared = codes "SHARED"
+kind_word kind.Crf = codes "CRF"
+kind_word kind.Paged = codes "PAGED"
 
--- SECTION name SHARED n, SECTION name CRF n
+-- SECTION name SHARED n, SECTION name CRF n, SECTION name PAGED n
 abbrev pub section_line : Section → Line
-section_line section = codes "SECTION" ∷ section.name ∷ sharing_word section.shared ∷ decimal (section_pages section) ∷ []
+section_line section = codes "SECTION" ∷ section.name ∷ kind_word section.kind ∷ decimal (section_pages section) ∷ []
 
 -- two digits for each byte
 abbrev pub pairs_text : List ℕ → List ℕ

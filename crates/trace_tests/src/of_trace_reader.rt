@@ -10,7 +10,7 @@ use trace_reader::{
 };
 use vm_types::{
     Addr, BlockId, Failed, Mapping, Mode, Op, Origin, Params, Proc, ProcSpec, Ref, Request, SecId,
-    Service, Task, Width,
+    SectionKind, Service, Task, Width,
 };
 
 // The machine.
@@ -324,7 +324,7 @@ fn reads_a_whole_trace(rt: HostRuntime) -> Result<(), Fail> {
     assert_eq!(rt; sections.len(), 1);
     let bytes = sections[0].bytes.items();
     assert_eq!(rt; sections[0].name.items(), b"LIB".as_slice());
-    assert!(rt; sections[0].shared && bytes.len() == 1024);
+    assert!(rt; sections[0].kind == SectionKind::Shared && bytes.len() == 1024);
     assert!(rt; bytes[510] == 0 && bytes[511] == 0x0a && bytes[512] == 0xff && bytes[513] == 0);
     let spec = ProcSpec {
         limit: 4,

@@ -30,3 +30,5 @@ impl Past {
         Past {}
     }
 }
+
+unsafe impl Send for Past {}

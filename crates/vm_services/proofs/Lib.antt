@@ -1,5 +1,5 @@
 pub mod Searches
-pub mod LowestUnlocked
+pub mod LowestLoose
 pub mod RangeTests
 pub mod Steps
 pub mod OneEviction

@@ -1,6 +1,6 @@
 -- What a step of a service leaves, by what was given for it.
 use Rattle.std.proofs.Common.{◌≡◌, ◌+◌, ◌≤◌, [], ◌∷◌, refl, sym, ap, subst, arith}
-use Rattle.vm_types.specs.WellFormed.{IsWellFormedService}
+use Rattle.vm_types.specs.WellFormed.{IsServiceOf, IsWellFormedService}
 use Rattle.vm_types.specs.declared.names.Seat.{Seat}
 use Rattle.vm_types.specs.declared.reply.Answer.{Answer}
 use Rattle.vm_types.specs.declared.service.Service.{Service}
@@ -22,9 +22,9 @@ use Rattle.vm_services.specs.declared.next.ServeNext.{ServeNext}
 use Rattle.vm_services.specs.declared.next.ServeNext.TheVariants.{Again, Answered, More}
 
 -- what is given for a service of a resident process may be made, if there is room
-pub may_serve : (s : History) (seat : Seat) (x : Service) → IsReadySeat s seat → IsWellFormedService x → owed s.past + 64 ≤ s.spare → MayServe s seat (at_service s seat x)
-may_serve s seat x ready formed room = record {
-  legal = subst (λ (g : GivenServe). AreLegal s.config s.past seat.0 g.made) (if_true (is_resident ((pager s).status seat.0)) _ _ (ap is_resident ready.resident)) (serve_legal s.config s.past seat.0 (ready_of s seat ready) x formed);
+pub may_serve : (s : History) (seat : Seat) (x : Service) → IsReadySeat s seat → IsServiceOf s.config.version x → IsWellFormedService x → owed s.past + 64 ≤ s.spare → MayServe s seat (at_service s seat x)
+may_serve s seat x ready known formed room = record {
+  legal = subst (λ (g : GivenServe). AreLegal s.config s.past seat.0 g.made) (if_true (is_resident ((pager s).status seat.0)) _ _ (ap is_resident ready.resident)) (serve_legal s.config s.past seat.0 (ready_of s seat ready) x known formed);
   room = room;
 }
 

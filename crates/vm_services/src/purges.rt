@@ -7,7 +7,7 @@ ghost use Rattle.vm_services.specs.Serves.{MayServe, Serves};
 
 use crate::evictions::evict;
 use crate::next::ServeNext;
-use crate::slots::unlocked_in;
+use crate::slots::loose_in;
 use disk_trait::Block;
 use vm_journal::EvictWhy;
 use vm_state::State;
@@ -20,7 +20,7 @@ pub fn purge<B: Block>(state: &mut State<B>, seat: Seat, at: Addr, pages: u32) -
     requires may { MayServe state.old seat (at_service state.old seat (Service.Purge at pages)) }
     ensures { Serves state.old state.new seat (at_service state.old seat (Service.Purge at pages)) result }
 {
-    match unlocked_in(state, Proc(seat.0), at, pages) {
+    match loose_in(state, Proc(seat.0), at, pages) {
         Some(vpn) => evict(state, seat, vpn, EvictWhy::Purge),
         None => {
             state.answer(seat, Service::Purge { at, pages }, Answer::Good);

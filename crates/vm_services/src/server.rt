@@ -1,5 +1,5 @@
 ghost use Rattle.std.specs.Prelude.{◌≡◌, ◌+◌, ◌<◌, ◌≤◌, ◌↔◌};
-ghost use Rattle.vm_types.specs.WellFormed.{IsWellFormedService};
+ghost use Rattle.vm_types.specs.WellFormed.{IsServiceOf, IsWellFormedService};
 ghost use Rattle.vm_types.specs.declared.reply.Answer.{Answer};
 ghost use Rattle.vm_journal.specs.declared.entry.What.{What};
 ghost use Rattle.pager_model.specs.Lookups.{is_resident};
@@ -25,6 +25,7 @@ pub fn serve<B: Block>(state: &mut State<B>, seat: Seat, p: Proc, s: Service) ->
     requires own { seat.0 ≡ p.0 }
     requires idle { IsIdleSeat state.old seat }
     requires formed { IsWellFormedService s }
+    requires known { IsServiceOf state.old.config.version s }
     ensures room { (result ≡ ServeNext.Room) ↔ (state.old.spare < owed state.old.past + 64) }
     ensures same { result ≡ ServeNext.Room → state.new ≡ state.old }
     ensures gives { owed state.old.past + 64 ≤ state.old.spare
@@ -62,6 +63,8 @@ fn resident<B: Block>(state: &mut State<B>, seat: Seat, s: Service) -> ServeNext
         | Service::Protect { .. }
         | Service::Lock { .. }
         | Service::Unlock { .. }
+        | Service::Pin { .. }
+        | Service::Unpin { .. }
         | Service::Adjust { .. } => ServeNext::Answered(state.served(seat, s, false)),
     }
 }

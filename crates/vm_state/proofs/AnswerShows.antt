@@ -6,8 +6,8 @@ use Rattle.std.specs.Option.{is_some}
 use Rattle.std.proofs.lemmas.Bool.{le-leb, leb-true}
 use Rattle.std.proofs.lemmas.Option.{slice_get-get_or}
 use Rattle.vm_types.specs.BlockView.{BlockView, Tells}
-use Rattle.vm_types.specs.Configuration.{IsProcess}
-use Rattle.vm_types.specs.Ring.{Held, Ring, is_locked_slot, locked}
+use Rattle.vm_types.specs.Configuration.{IsProcess, all_pins}
+use Rattle.vm_types.specs.Ring.{Held, Ring, fixed, is_fixed_slot}
 use Rattle.vm_types.specs.declared.config.Config.{Config}
 use Rattle.vm_types.specs.declared.config.ProcSpec.{ProcSpec}
 use Rattle.vm_types.specs.declared.names.BlockId.{BlockId}
@@ -19,10 +19,10 @@ use Rattle.pager_model.specs.Forget.{holder, range_of}
 use Rattle.pager_model.specs.Lookups.{entry_of as valid_of}
 use Rattle.pager_model.specs.Maps.{Map, Mapped}
 use Rattle.pager_model.specs.Pager.{Pager, Valid}
-use Rattle.pager_model.specs.Ring.{relocked_slot}
+use Rattle.pager_model.specs.Ring.{relocked_slot, repinned_slot}
 use Rattle.pager_model.specs.Run.{pager_after}
 use Rattle.pager_model.specs.Serve.{is_in_use, is_unmapped}
-use Rattle.pager_model.specs.Served.{is_locked_in, is_slot_in}
+use Rattle.pager_model.specs.Served.{is_fixed_in, is_slot_in}
 use Rattle.pager_rules.proofs.Basics.{count_cons}
 use Rattle.frame_store.specs.StoreView.{StoreView}
 use Rattle.state_parts.specs.declared.process_row.ProcessRow.{ProcessRow}
@@ -45,32 +45,54 @@ any_step t first n pages less =
     next : first + n + 1 ≡ first + (n + 1)
     next = omega arith
 
--- ---- the locks that a range would have
-lock_more : (address pages : ℕ) (o : Option Held)
-    → cond {A = ℕ} (is_locked_slot (relocked_slot true address pages o)) 1 0 + cond {A = ℕ} (is_locked_in address pages o) 1 0 ≡ cond {A = ℕ} (is_locked_slot o) 1 0 + cond {A = ℕ} (is_slot_in address pages o) 1 0
-lock_more address pages None = refl
-lock_more address pages (Some held) = by (in_range address pages held.vpn) held.locked
+-- ---- the locked and pinned pages that there would be
+-- a change of the slots that fixes those of the range
+abbrev Fixes : ℕ → ℕ → (Option Held → Option Held) → Type 0
+Fixes address pages f =
+    (o : Option Held) → cond {A = ℕ} (is_fixed_slot (f o)) 1 0 + cond {A = ℕ} (is_fixed_in address pages o) 1 0 ≡ cond {A = ℕ} (is_fixed_slot o) 1 0 + cond {A = ℕ} (is_slot_in address pages o) 1 0
+
+pub locks_fix : (address pages : ℕ) → Fixes address pages (relocked_slot true address pages)
+locks_fix address pages None = refl
+locks_fix address pages (Some held) = by (in_range address pages held.vpn) held.locked held.pinned
   where
-    by : (i l : Bool) → cond {A = ℕ} (cond i true l) 1 0 + cond {A = ℕ} (i && l) 1 0 ≡ cond {A = ℕ} l 1 0 + cond {A = ℕ} i 1 0
-    by true true = refl
-    by true false = refl
-    by false true = refl
-    by false false = refl
+    by : (i l p : Bool) → cond {A = ℕ} (cond i true l || p) 1 0 + cond {A = ℕ} (i && (l || p)) 1 0 ≡ cond {A = ℕ} (l || p) 1 0 + cond {A = ℕ} i 1 0
+    by true true p = refl
+    by true false true = refl
+    by true false false = refl
+    by false true p = refl
+    by false false true = refl
+    by false false false = refl
 
-locks_more : (address pages : ℕ) (slots : List (Option Held))
-    → count_by is_locked_slot (map (relocked_slot true address pages) slots) + count_by (is_locked_in address pages) slots ≡ count_by is_locked_slot slots + count_by (is_slot_in address pages) slots
-locks_more address pages [] = refl
-locks_more address pages (o ∷ slots) =
-    let after = count_cons is_locked_slot (relocked_slot true address pages o) (map (relocked_slot true address pages) slots) in
-    let both = count_cons (is_locked_in address pages) o slots in
-    let locks = count_cons is_locked_slot o slots in
+pub pins_fix : (address pages : ℕ) → Fixes address pages (repinned_slot true address pages)
+pins_fix address pages None = refl
+pins_fix address pages (Some held) = by (in_range address pages held.vpn) held.locked held.pinned
+  where
+    by : (i l p : Bool) → cond {A = ℕ} (l || cond i true p) 1 0 + cond {A = ℕ} (i && (l || p)) 1 0 ≡ cond {A = ℕ} (l || p) 1 0 + cond {A = ℕ} i 1 0
+    by true true p = refl
+    by true false true = refl
+    by true false false = refl
+    by false true p = refl
+    by false false true = refl
+    by false false false = refl
+
+fixed_more : (address pages : ℕ) (f : Option Held → Option Held) → Fixes address pages f → (slots : List (Option Held))
+    → count_by is_fixed_slot (map f slots) + count_by (is_fixed_in address pages) slots ≡ count_by is_fixed_slot slots + count_by (is_slot_in address pages) slots
+fixed_more address pages f fixes [] = refl
+fixed_more address pages f fixes (o ∷ slots) =
+    let after = count_cons is_fixed_slot (f o) (map f slots) in
+    let both = count_cons (is_fixed_in address pages) o slots in
+    let locks = count_cons is_fixed_slot o slots in
     let inside = count_cons (is_slot_in address pages) o slots in
-    omega (arith, after, both, locks, inside, lock_more address pages o, locks_more address pages slots)
+    omega (arith, after, both, locks, inside, fixes o, fixed_more address pages f fixes slots)
 
-pub too_many : (ring : Ring) (spec : ProcSpec) (address pages n : ℕ) → n ≡ count_by (is_slot_in address pages) ring.slots → spec.locks + count_by (is_locked_in address pages) ring.slots < locked ring.slots + n
-    → answer.LockLimit ≡ lock_answer ring address pages (Some spec)
-too_many ring spec address pages n count more =
-    let all = locks_more address pages ring.slots in
+-- the ring that there would be
+abbrev fixed_by : (Option Held → Option Held) → Ring → Ring
+fixed_by f ring = record { slots = map f ring.slots; hand = ring.hand }
+
+pub too_many : (ring : Ring) (spec : ProcSpec) (address pages n : ℕ) (f : Option Held → Option Held) → Fixes address pages f → n ≡ count_by (is_slot_in address pages) ring.slots → spec.locks + count_by (is_fixed_in address pages) ring.slots < fixed ring.slots + n
+    → answer.LockLimit ≡ lock_answer ring (fixed_by f ring) address pages (Some spec)
+too_many ring spec address pages n f fixes count more =
+    let all = fixed_more address pages f fixes ring.slots in
     sym (ap (λ (b : Bool). cond b (answer.Count (count_by (is_slot_in address pages) ring.slots)) answer.LockLimit) (lt-leb-false _ _ (omega (arith, all, count, more))))
   where
     lt-leb-false : (m k : ℕ) → k < m → nat_le m k ≡ false
@@ -80,10 +102,10 @@ too_many ring spec address pages n count more =
         go false is = is
         go true is = absurd (let least = leb-true m k is in omega (arith, least, less))
 
-pub few_enough : (ring : Ring) (spec : ProcSpec) (address pages n : ℕ) → n ≡ count_by (is_slot_in address pages) ring.slots → locked ring.slots + n ≤ spec.locks + count_by (is_locked_in address pages) ring.slots
-    → answer.Count n ≡ lock_answer ring address pages (Some spec)
-few_enough ring spec address pages n count few =
-    let all = locks_more address pages ring.slots in
+pub few_enough : (ring : Ring) (spec : ProcSpec) (address pages n : ℕ) (f : Option Held → Option Held) → Fixes address pages f → n ≡ count_by (is_slot_in address pages) ring.slots → fixed ring.slots + n ≤ spec.locks + count_by (is_fixed_in address pages) ring.slots
+    → answer.Count n ≡ lock_answer ring (fixed_by f ring) address pages (Some spec)
+few_enough ring spec address pages n f fixes count few =
+    let all = fixed_more address pages f fixes ring.slots in
     ap answer.Count count ∙ sym (ap (λ (b : Bool). cond b (answer.Count (count_by (is_slot_in address pages) ring.slots)) answer.LockLimit) (le-leb _ _ (omega (arith, all, count, few))))
 
 -- ---- a page number is mapped exactly if it has an entry
@@ -120,10 +142,10 @@ module _ {B : Type 0} {seen : B → BlockView} {tells : Tells} {config : Config}
 
       pub few_slots : length (x.ring).slots ≤ 1024
       few_slots =
-          let limits : IsProcess config.frames (length config.bad) (slice_index_or specs p d) = subst (λ (xs : List ProcSpec). IsProcess config.frames (length config.bad) (slice_index_or xs p d)) (sym are) (before.formed.procs p d there) in
+          let limits : IsProcess config.frames (length config.bad + all_pins config) (slice_index_or specs p d) = subst (λ (xs : List ProcSpec). IsProcess config.frames (length config.bad + all_pins config) (slice_index_or xs p d)) (sym are) (before.formed.procs p d there) in
           let most = limits.most in
           let slots = (((kept before).processes p).bounds (slice_index_or specs p d) spec_is).slots in
           subst (λ (r : Ring). length r.slots ≤ 1024) (sym ring_is) (omega (arith, most, slots))
 
-      pub lock_is : (address pages : ℕ) → lock_answer x.ring address pages (Some (slice_index_or specs p d)) ≡ lock_answer (a.ring p) address pages (slice_get config.procs p)
-      lock_is address pages i = lock_answer (ring_is i) address pages (sym spec_is i)
+      pub lock_is : (address pages : ℕ) (would : Ring → Ring) → lock_answer x.ring (would x.ring) address pages (Some (slice_index_or specs p d)) ≡ lock_answer (a.ring p) (would (a.ring p)) address pages (slice_get config.procs p)
+      lock_is address pages would i = lock_answer (ring_is i) (would (ring_is i)) address pages (sym spec_is i)

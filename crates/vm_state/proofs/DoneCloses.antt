@@ -46,11 +46,12 @@ use Rattle.frame_store.specs.StoreView.{StoreView}
 use Rattle.state_parts.specs.ChargedTable.{ChargedTable, charged_at}
 use Rattle.state_parts.specs.declared.process_row.ProcessRow.{ProcessRow}
 use Rattle.state_parts.specs.declared.spoken_row.SpokenRow.{SpokenRow}
+use Rattle.page_holders.proofs.ValidEntries.{IsValidAt, mapping_of}
 use Rattle.state_fits.specs.Frames.{frame_row}
 use Rattle.state_fits.specs.Pages.{touched_rows}
 use Rattle.state_fits.specs.Parts.{Parts}
 use Rattle.state_fits.proofs.DoneParts.{at as page_at_done, done_parts}
-use Rattle.state_fits.proofs.ValidEntries.{IsValidAt, mapping_of, valid_shown}
+use Rattle.state_fits.proofs.ShownEntries.{valid_shown}
 use Rattle.vm_state.specs.History.{History, MayAnswer, entry_by, owed, pager}
 use Rattle.page_states.specs.Shown.{frame_entry, frame_number, frame_shown}
 use Rattle.vm_state.specs.StateKept.{IsState, home_in}

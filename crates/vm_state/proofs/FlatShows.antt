@@ -11,6 +11,7 @@ use Rattle.vm_types.specs.declared.config.Config.{Config}
 use Rattle.vm_types.specs.declared.names.BlockId.{BlockId}
 use Rattle.vm_types.specs.declared.names.Page.{Page}
 use Rattle.vm_types.specs.declared.names.Page.TheVariants.{Private, Shared}
+use Rattle.vm_types.specs.declared.names.SecId.{SecId}
 use Rattle.vm_types.specs.declared.names.Proc.{Proc}
 use Rattle.vm_types.specs.declared.reference.Ref.{Ref}
 use Rattle.vm_types.specs.declared.reply.Why.{Why}
@@ -22,21 +23,21 @@ use Rattle.pager_model.specs.Maps.{Map, Mapped, page_behind, page_number, proc}
 use Rattle.pager_model.specs.Pager.{Assigned, Pager}
 use Rattle.pager_model.specs.Run.{pager_after}
 use Rattle.pager_model.specs.Sets.{has_page}
-use Rattle.pager_model.specs.Sound.{HasCharges, IsPrivateMapped}
+use Rattle.pager_model.specs.Sound.{HasCharges, IsPagedMapped}
 use Rattle.pager_model.specs.Spoken.{flat_after}
 use Rattle.pager_laws.proofs.FlatFollows.{follows}
 use Rattle.pager_laws.proofs.KeptIsSound.{kept_is_sound}
 use Rattle.pager_rules.proofs.TouchedPages.{same_page_equiv, shorter_list}
 use Rattle.frame_store.specs.StoreView.{StoreView}
 use Rattle.state_parts.specs.ChargedTable.{charged_at}
+use Rattle.page_holders.proofs.EntryPages.{mapped_right}
 use Rattle.state_fits.specs.Pages.{charged_row}
 use Rattle.state_fits.specs.Parts.{Parts}
-use Rattle.state_fits.proofs.EntryPages.{mapped_right}
 use Rattle.vm_state.specs.PageReadings.{found_in, found_with}
 use Rattle.page_states.specs.PagesShown.{HasWaiting, NoneWaits, is_touched_row, is_waiting}
 use Rattle.vm_state.specs.StateKept.{IsState}
 use Rattle.page_states.specs.declared.found.Found.{Found}
-use Rattle.vm_state.proofs.Closing.{kept, right}
+use Rattle.vm_state.proofs.Closing.{kept, plain, right}
 
 -- ---- what is kept of a private page says whether it is touched
 touched_row : (charged touched : List Page) (lies : Page → Option BlockId) (assigned : List Assigned) (p v : ℕ) → (has_page touched (Private (proc p) v) ≡ true → has_page charged (Private (proc p) v) ≡ true)
@@ -102,8 +103,8 @@ module _ {B : Type 0} {seen : B → BlockView} {tells : Tells} {config : Config}
       both true false is row = absurd (true≢false row)
       both false c is row = absurd (false≢true is)
 
-      by : (h : Page) → has_page a.charged h ≡ true → IsPrivateMapped config a h → has_page a.touched h ≡ true
-      by (Shared s i) there mapped = absurd mapped
+      by : (h : Page) → has_page a.charged h ≡ true → IsPagedMapped config a h → has_page a.touched h ≡ true
+      by (Shared s i) there mapped = absurd (true≢false (sym mapped ∙ plain before s))
       by (Private p v) there mapped =
           let found = mapped_right config a p.0 v (Private p v) (right before) mapped in
           let still : is_waiting (charged_at fields.pages p.0 v) ≡ false = none p.0 (found.3).process v (found.3).page in
@@ -121,9 +122,16 @@ module _ {B : Type 0} {seen : B → BlockView} {tells : Tells} {config : Config}
       eqb_apart : (m n : ℕ) → nat_eq m n ≡ false → m ≡ n → ⊥
       eqb_apart m n apart same = false≢true (sym apart ∙ eq-eqb m n same)
 
+  -- a shared page needs none
+  shared_needs_none : (s : SecId) (i : ℕ) → false ≡ is_page_file_full config flat (Shared s i)
+  shared_needs_none s i = ap (λ (b : Bool). (b && not (has_page flat.touched (Shared s i))) && nat_eq (length flat.touched) config.pagefile) (sym (plain before s))
+
+  pub shared_is : {s : SecId} {i : ℕ} (h : Page) → h ≡ Shared s i → false ≡ is_page_file_full config flat h
+  shared_is {s} {i} h is = shared_needs_none s i ∙ ap (is_page_file_full config flat) (sym is)
+
   -- while some block of the page file is free no page needs one in vain
   pub blocks_left : (h : Page) (n : ℕ) → n ≡ length a.charged → n < config.pagefile → false ≡ is_page_file_full config flat h
-  blocks_left (Shared s i) n count less = refl
+  blocks_left (Shared s i) n count less = shared_needs_none s i
   blocks_left (Private p v) n count less = by (has_page flat.touched (Private p v)) (not_charged n count (ne_eqb _ _ (λ same. omega (arith, less, same))))
     where
       by : (b : Bool) → nat_eq (length flat.touched) config.pagefile ≡ false → false ≡ (not b && nat_eq (length flat.touched) config.pagefile)

@@ -33,3 +33,4 @@ pub mod FlightShows
 pub mod FlatShows
 pub mod EndCloses
 pub mod AnswerShows
+pub mod NeverPinned

@@ -25,7 +25,7 @@ use Rattle.write_moves.proofs.MayMove.{may_give}
 use Rattle.vm_state.specs.History.{History, owed}
 use Rattle.vm_state.specs.LiftsBegin.{HasBegun}
 use Rattle.vm_state.specs.StateKept.{IsState}
-use Rattle.vm_state.proofs.Closing.{closed, kept, right}
+use Rattle.vm_state.proofs.Closing.{closed, kept, plain, right}
 use Rattle.vm_state.proofs.WriteBegins as begin
 
 -- what a method ensures of a lift is of the value, what is known is of the fields
@@ -66,7 +66,7 @@ module _ {B : Type 0} {seen : B → BlockView} {tells : Tells} {config : Config}
         (begin.store_after before seat f b legal frames' (length past + 1))
         (record fields { frames = frames'; starts = slice_set starts f.0 (Some (length past + 1)); roles = slice_set fields.roles f.0 None; pages = pages'; file = block_taken b page (charged_at fields.pages) fields.file; busy = slice_set fields.busy seat.0 (n + 1); in_flight = fields.in_flight + 1 }) numbers) same
         (closed before (record { seat = seat; what = what.Out f b }) legal paid (begin.store_after before seat f b legal frames' (length past + 1)) _
-        (out_parts config past a seat f (kept before) fields before.parts b legal frames' n pages' done)
+        (out_parts config past a seat f (kept before) (plain before) fields before.parts b legal frames' n pages' done)
         (refl, begin.block_away before seat f b legal frames' (length past + 1))
         (begin.places before seat f b legal frames' (length past + 1))))
 

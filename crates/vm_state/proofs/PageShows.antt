@@ -1,7 +1,7 @@
 -- What the readers of pages show is what the parts stand for.
 use Rattle.std.proofs.Common.{◌≡◌, ℕ, ◌+◌, ◌<◌, ◌≤◌, Bool, true, false, List, Option, Some, None, nat_lt, slice_index, ◌⊎◌, inl, inr, refl, sym, ap, ◌∙◌, arith}
 use Rattle.std.specs.Option.{is_some, option_map}
-use Rattle.std.proofs.lemmas.Bool.{cases_lt, eqb-true, false≢true, lt-ltb}
+use Rattle.std.proofs.lemmas.Bool.{cases_lt, eqb-true, false≢true, lt-ltb, true≢false}
 use Rattle.std.proofs.lemmas.Option.{get_or_from_slice_get, none-some}
 use Rattle.vm_types.specs.BlockView.{BlockView, Tells}
 use Rattle.vm_types.specs.Same.{same_page}
@@ -39,11 +39,11 @@ use Rattle.frame_store.specs.StoreView.{StoreView}
 use Rattle.state_parts.specs.ChargedTable.{charged_at}
 use Rattle.state_parts.specs.SwapTable.{swapped_at}
 use Rattle.state_parts.specs.declared.charged_page.ChargedPage.{ChargedPage}
+use Rattle.page_holders.proofs.EntryPages.{entry_page, mapped_there}
+use Rattle.page_holders.proofs.Holders.{holder_none, holder_there}
 use Rattle.state_fits.specs.Entries.{origin_of, place_away, place_by, pte_at, pte_of, resting_place, section_page_number}
 use Rattle.state_fits.specs.Pages.{charged_row}
 use Rattle.state_fits.specs.Parts.{Parts}
-use Rattle.state_fits.proofs.EntryPages.{entry_page, mapped_there}
-use Rattle.state_fits.proofs.Holders.{holder_none, holder_there}
 use Rattle.state_fits.proofs.KnownEntries.{pte_known}
 use Rattle.vm_types.specs.Configuration.{IsSectionPage}
 use Rattle.vm_state.specs.PageReadings.{backing_in, found_in, found_with, frame_of}
@@ -52,7 +52,7 @@ use Rattle.page_states.specs.Shown.{frame_by, frame_entry}
 use Rattle.vm_state.specs.StateKept.{IsState}
 use Rattle.page_states.specs.declared.found.Backing.{Backing}
 use Rattle.page_states.specs.declared.found.Found.{Found}
-use Rattle.vm_state.proofs.Closing.{kept}
+use Rattle.vm_state.proofs.Closing.{kept, plain}
 use Rattle.vm_state.proofs.Numbered.{has_number}
 
 -- ---- the place of a page whose entry isn't valid
@@ -180,14 +180,14 @@ module _ {B : Type 0} {seen : B → BlockView} {tells : Tells} {config : Config}
   -- ---- a page that is charged is mapped, and its entry names its frame
   names_frame : (p v : ℕ) → 0 < count_page a.charged (Private (proc p) v) → frame_named (pte_of config a.map a.valid a.page a.lies p v) ≡ option_map pfn (holder config a.page (Private (proc p) v))
   names_frame p v some =
-      let mapped = mapped_there config a.map p v (Private (proc p) v) (((kept before).pages (Private (proc p) v)).mapped some) in
+      let mapped = mapped_there config a.map p v (Private (proc p) v) (((kept before).pages (Private (proc p) v)).mapped some refl) in
       ap frame_named (pte_known config a.map a.valid a.page a.lies p v mapped.0 (Private (proc p) v) mapped.1 mapped.2 (entry_of a.valid p v) refl)
       ∙ frame_own config p v mapped.0 (entry_of a.valid p v) (holder config a.page (Private (proc p) v)) (a.lies (Private (proc p) v)) held
     where
       held : (e : Valid) → entry_of a.valid p v ≡ Some e → holder config a.page (Private (proc p) v) ≡ Some e.frame
       held e is =
           let page = entry_page config (past_view past) a p v e (kept before) is in
-          let mine : Some page.0 ≡ Some (Private (proc p) v) = sym page.1 ∙ ((kept before).pages (Private (proc p) v)).mapped some in
+          let mine : Some page.0 ≡ Some (Private (proc p) v) = sym page.1 ∙ ((kept before).pages (Private (proc p) v)).mapped some refl in
           holder_there config (past_view past) a (Private (proc p) v) e.frame (kept before) (page.2 ∙ mine)
 
   own_shows : (p v : ℕ) (b : Bool) → has_page a.charged (Private (proc p) v) ≡ b
@@ -211,7 +211,7 @@ module _ {B : Type 0} {seen : B → BlockView} {tells : Tells} {config : Config}
   not_charged s i = go (cases_lt 0 (count_page a.charged (Shared s i)))
     where
       go : (0 < count_page a.charged (Shared s i)) ⊎ (count_page a.charged (Shared s i) ≤ 0) → count_page a.charged (Shared s i) ≡ 0
-      go (inl some) = absurd (none-some (Shared s i) (((kept before).pages (Shared s i)).mapped some))
+      go (inl some) = absurd (true≢false (sym (((kept before).pages (Shared s i)).paged some) ∙ plain before s))
       go (inr none) = omega (arith, none)
 
   -- the number of a section's page follows from that of the section's first
@@ -222,7 +222,7 @@ module _ {B : Type 0} {seen : B → BlockView} {tells : Tells} {config : Config}
       → ◌≡◌ {A = Backing} (record { charged = false; lies = Some (block.Section s i); assigned = None; frame = frame }) (backing_in config a (Shared s i))
   shared_is s i frame there is =
       backings_equal false (Some (block.Section s i)) (a.lies (Shared s i)) None (block_of a.assigned (Shared s i)) frame (option_map pfn (holder config a.page (Shared s i))) _
-      (sym (ap (nat_lt 0) (not_charged s i))) (sym (((kept before).pages (Shared s i)).shared s i refl)) (sym (none_assigned (Shared s i) (not_charged s i))) (is ∙ before.parts.globals.frames s i there)
+      (sym (ap (nat_lt 0) (not_charged s i))) (sym (((kept before).pages (Shared s i)).shared s i refl (plain before s))) (sym (none_assigned (Shared s i) (not_charged s i))) (is ∙ before.parts.globals.frames s i there)
 
   -- ---- the page that lies in a swap block
   lies_at : (g : Page) (p n : ℕ) → lies_in (a.lies g) (block.Swap (proc p) n) ≡ true → a.lies g ≡ Some (block.Swap (proc p) n)

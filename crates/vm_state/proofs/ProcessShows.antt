@@ -22,7 +22,7 @@ use Rattle.state_fits.specs.Parts.{Parts}
 use Rattle.state_fits.specs.Processes.{process_row}
 use Rattle.state_fits.proofs.SimpleParts.{read_process}
 use Rattle.vm_state.specs.PageReadings.{frame_of}
-use Rattle.vm_state.specs.ProcessReadings.{IsAfter, held_pair, pending_by, pending_in, slot_in, slot_with}
+use Rattle.vm_state.specs.ProcessReadings.{IsAfter, held_parts, pending_by, pending_in, slot_in, slot_with}
 use Rattle.vm_state.specs.Readings.{listed}
 use Rattle.page_states.specs.Shown.{frame_entry}
 use Rattle.vm_state.specs.StateKept.{IsState}
@@ -30,28 +30,28 @@ use Rattle.vm_state.proofs.Closing.{kept}
 use Rattle.vm_state.proofs.PageShows.{frame_is}
 
 -- ---- a slot, by the page number in it and the frame of that
-pub slot_missing : (valid : List Valid) (p v : ℕ) (locked : Bool) (o : Option Held) → Some (v, locked) ≡ option_map held_pair o → None ≡ option_map frame_of (entry_of valid p v) → None ≡ slot_with valid p o
-slot_missing valid p v locked None is none = absurd (none-some (v, locked) (sym is))
-slot_missing valid p v locked (Some held) is none =
-    let same : (v, locked) ≡ held_pair held = cc in
-    go (entry_of valid p held.vpn) refl (none ∙ ap (λ (w : ℕ × Bool). option_map frame_of (entry_of valid p w.0)) same)
+pub slot_missing : (valid : List Valid) (p v : ℕ) (locked pinned : Bool) (o : Option Held) → Some (v, locked, pinned) ≡ option_map held_parts o → None ≡ option_map frame_of (entry_of valid p v) → None ≡ slot_with valid p o
+slot_missing valid p v locked pinned None is none = absurd (none-some (v, locked, pinned) (sym is))
+slot_missing valid p v locked pinned (Some held) is none =
+    let same : (v, locked, pinned) ≡ held_parts held = cc in
+    go (entry_of valid p held.vpn) refl (none ∙ ap (λ (w : ℕ × Bool × Bool). option_map frame_of (entry_of valid p w.0)) same)
   where
     go : (e : Option Valid) → entry_of valid p held.vpn ≡ e → None ≡ option_map frame_of e → None ≡ slot_with valid p (Some held)
     go None at missing = rw at refl
     go (Some e) at missing = absurd (none-some e.frame missing)
 
-pub slot_there : (valid : List Valid) (p v : ℕ) (locked : Bool) (f : Pfn) (o : Option Held) → Some (v, locked) ≡ option_map held_pair o → Some f.0 ≡ option_map frame_of (entry_of valid p v)
-    → Some (record { vpn = v; frame = f; locked = locked }) ≡ slot_with valid p o
-slot_there valid p v locked f None is some = absurd (none-some (v, locked) (sym is))
-slot_there valid p v locked f (Some held) is some =
-    let same : (v, locked) ≡ held_pair held = cc in
-    go (entry_of valid p held.vpn) refl (some ∙ ap (λ (w : ℕ × Bool). option_map frame_of (entry_of valid p w.0)) same) same
+pub slot_there : (valid : List Valid) (p v : ℕ) (locked pinned : Bool) (f : Pfn) (o : Option Held) → Some (v, locked, pinned) ≡ option_map held_parts o → Some f.0 ≡ option_map frame_of (entry_of valid p v)
+    → Some (record { vpn = v; frame = f; locked = locked; pinned = pinned }) ≡ slot_with valid p o
+slot_there valid p v locked pinned f None is some = absurd (none-some (v, locked, pinned) (sym is))
+slot_there valid p v locked pinned f (Some held) is some =
+    let same : (v, locked, pinned) ≡ held_parts held = cc in
+    go (entry_of valid p held.vpn) refl (some ∙ ap (λ (w : ℕ × Bool × Bool). option_map frame_of (entry_of valid p w.0)) same) same
   where
-    go : (e : Option Valid) → entry_of valid p held.vpn ≡ e → Some f.0 ≡ option_map frame_of e → (v, locked) ≡ held_pair held → Some (record { vpn = v; frame = f; locked = locked }) ≡ slot_with valid p (Some held)
+    go : (e : Option Valid) → entry_of valid p held.vpn ≡ e → Some f.0 ≡ option_map frame_of e → (v, locked, pinned) ≡ held_parts held → Some (record { vpn = v; frame = f; locked = locked; pinned = pinned }) ≡ slot_with valid p (Some held)
     go None at missing same = absurd (none-some f.0 (sym missing))
     go (Some e) at found same =
         let frame : f.0 ≡ e.frame = cc in
-        rw at (λ i. Some (record { vpn = (same i).0; frame = record { 0 = frame i }; locked = (same i).1 }))
+        rw at (λ i. Some (record { vpn = (same i).0; frame = record { 0 = frame i }; locked = (same i).1; pinned = (same i).2 }))
 
 module _ {B : Type 0} {seen : B → BlockView} {tells : Tells} {config : Config} {past : List Entry} {spare : ℕ} {store : StoreView B} {fields : Parts} {numbers : List ℕ}
     (before : IsState seen tells config past spare store fields numbers) where
@@ -80,13 +80,13 @@ module _ {B : Type 0} {seen : B → BlockView} {tells : Tells} {config : Config}
   slot_is : (p n : ℕ) (x : ProcessRow) → p < length config.procs → x ≡ slice_index_or fields.processes p x → slot_with a.valid p (slot_of (slice_get (x.ring).slots n)) ≡ slot_in a p n
   slot_is p n x there read = ap (λ (z : ProcessRow). slot_with a.valid p (slot_of (slice_get (z.ring).slots n))) (row_is p x there read)
 
-  pub slot_none : (p n v : ℕ) (locked : Bool) (x : ProcessRow) → p < length config.procs → x ≡ slice_index_or fields.processes p x → Some (v, locked) ≡ option_map held_pair (slot_of (slice_get (x.ring).slots n))
+  pub slot_none : (p n v : ℕ) (locked pinned : Bool) (x : ProcessRow) → p < length config.procs → x ≡ slice_index_or fields.processes p x → Some (v, locked, pinned) ≡ option_map held_parts (slot_of (slice_get (x.ring).slots n))
       → None ≡ frame_entry (pte_in fields.tables p v) → None ≡ slot_in a p n
-  slot_none p n v locked x there read holds none = slot_missing a.valid p v locked (slot_of (slice_get (x.ring).slots n)) holds (none ∙ frame_is before p v) ∙ slot_is p n x there read
+  slot_none p n v locked pinned x there read holds none = slot_missing a.valid p v locked pinned (slot_of (slice_get (x.ring).slots n)) holds (none ∙ frame_is before p v) ∙ slot_is p n x there read
 
-  pub slot_some : (p n v : ℕ) (locked : Bool) (f : Pfn) (x : ProcessRow) → p < length config.procs → x ≡ slice_index_or fields.processes p x → Some (v, locked) ≡ option_map held_pair (slot_of (slice_get (x.ring).slots n))
-      → Some f.0 ≡ frame_entry (pte_in fields.tables p v) → Some (record { vpn = v; frame = f; locked = locked }) ≡ slot_in a p n
-  slot_some p n v locked f x there read holds some = slot_there a.valid p v locked f (slot_of (slice_get (x.ring).slots n)) holds (some ∙ frame_is before p v) ∙ slot_is p n x there read
+  pub slot_some : (p n v : ℕ) (locked pinned : Bool) (f : Pfn) (x : ProcessRow) → p < length config.procs → x ≡ slice_index_or fields.processes p x → Some (v, locked, pinned) ≡ option_map held_parts (slot_of (slice_get (x.ring).slots n))
+      → Some f.0 ≡ frame_entry (pte_in fields.tables p v) → Some (record { vpn = v; frame = f; locked = locked; pinned = pinned }) ≡ slot_in a p n
+  slot_some p n v locked pinned f x there read holds some = slot_there a.valid p v locked pinned f (slot_of (slice_get (x.ring).slots n)) holds (some ∙ frame_is before p v) ∙ slot_is p n x there read
 
   -- ---- the next frame on a list
   pub after_is : (f : ℕ) (next : Option ℕ) → IsNext (lists_of fields.frames) f next → IsAfter a f next

@@ -51,12 +51,12 @@ use Rattle.frame_store.specs.StoreView.{StoreView, lifted_in}
 use Rattle.frame_store.proofs.Blocks.{block_kept, block_set}
 use Rattle.state_parts.specs.ChargedTable.{ChargedTable}
 use Rattle.state_parts.specs.declared.process_row.ProcessRow.{ProcessRow}
+use Rattle.page_holders.proofs.Holders.{free_is}
 use Rattle.state_fits.specs.Entries.{section_page_number}
 use Rattle.state_fits.specs.Parts.{Parts}
 use Rattle.state_fits.specs.PartsFit.{PartsFit}
 use Rattle.state_fits.specs.ReadBegins.{held_at as page_held_at, held_in, page_number_of}
 use Rattle.state_fits.proofs.FirstNumbers as first
-use Rattle.state_fits.proofs.Holders.{free_is}
 use Rattle.state_fits.proofs.InCan.{CanFault, CanRead, can_fault, can_read}
 use Rattle.state_fits.proofs.InParts.{IsReadBegun, IsReadable, come_readable, fault_readable_as, in_come_parts, in_fault_parts, in_near_parts, lying_readable}
 use Rattle.state_fits.proofs.MappedPages.{page_shown}
@@ -119,9 +119,9 @@ module _ {B : Type 0} {seen : B → BlockView} {tells : Tells} {config : Config}
   some_page (role.Come q address) legal = subst IsSome (sym (page_shown config a.map fields.sections q.0 (page_number address.0) before.parts.sections ∙ legal.row.mapped)) refl
 
   readable : (r : Role) → Legal r → (x : Page) → page_read config fields.sections r ≡ Some x → IsReadable config a f.0 x
-  readable (role.Fault q address) legal x page = fault_readable_as config past a seat f d q address before.formed (kept before) legal fields before.parts x (shown q address x page)
-  readable (role.Near g) legal x page = subst (IsReadable config a f.0) (same_Some _ _ page) (lying_readable config past a f.0 d g (kept before) legal.row.lying)
-  readable (role.Come q address) legal x page = come_readable config past a seat f d q address before.formed (kept before) legal fields before.parts x (shown q address x page)
+  readable (role.Fault q address) legal x page = fault_readable_as config past a seat f d q address before.formed (kept before) (right before) legal fields before.parts x (shown q address x page)
+  readable (role.Near g) legal x page = subst (IsReadable config a f.0) (same_Some _ _ page) (lying_readable config past a f.0 d g (kept before) (right before) legal.row.lying)
+  readable (role.Come q address) legal x page = come_readable config past a seat f d q address before.formed (kept before) (right before) legal fields before.parts x (shown q address x page)
 
   -- it is in the frame after
   page_after : (r : Role) (x : Page) → page_read config fields.sections r ≡ Some x → (after_in config a f.0 r).page f.0 ≡ Some x
@@ -257,13 +257,13 @@ module _ {B : Type 0} {seen : B → BlockView} {tells : Tells} {config : Config}
         parts_by : (r' : Role) (legal' : Legal r') → page_read config fields.sections r' ≡ Some x → IsReadBegun config fields f.0 x frames' tables' globals' → CountsFault r' fields.processes rows' → ChargesFault r' x fields.pages pages' fields.file file'
             → PartsFit config (entry r' ∷ past) (after config past a (entry r')) (after_parts r' (slice_set fields.starts f.0 (Some (length past + 1))))
         parts_by (role.Fault q address) legal' page' moved counts charges =
-            rw counts.2 (in_fault_parts config past a seat f d q address before.formed (kept before) legal' fields before.parts x (shown q address x page') frames' tables' globals' moved
+            rw counts.2 (in_fault_parts config past a seat f d q address before.formed (kept before) (right before) legal' fields before.parts x (shown q address x page') frames' tables' globals' moved
             counts.0 (sym (get_or_from_slice_get fields.processes q.0 counts.0 counts.0 counts.1)) pages' charges.procs charges.rows file' charges.charge n read)
         parts_by (role.Near g) legal' page' moved counts charges =
             let same : g ≡ x = same_Some _ _ page' in
-            rw (counts, charges.0, charges.1) (in_near_parts config past a seat f d g before.formed (kept before) legal' fields before.parts frames' tables' globals' (subst (λ (h : Page). IsReadBegun config fields f.0 h frames' tables' globals') (sym same) moved) n read)
+            rw (counts, charges.0, charges.1) (in_near_parts config past a seat f d g before.formed (kept before) (right before) legal' fields before.parts frames' tables' globals' (subst (λ (h : Page). IsReadBegun config fields f.0 h frames' tables' globals') (sym same) moved) n read)
         parts_by (role.Come q address) legal' page' moved counts charges =
-            rw (counts, charges.0, charges.1) (in_come_parts config past a seat f d q address before.formed (kept before) legal' fields before.parts x (shown q address x page') frames' tables' globals' moved n read)
+            rw (counts, charges.0, charges.1) (in_come_parts config past a seat f d q address before.formed (kept before) (right before) legal' fields before.parts x (shown q address x page') frames' tables' globals' moved n read)
 
         -- ---- the store after it
         abbrev store_after : StoreView B

@@ -28,10 +28,10 @@ use Rattle.pager_model.specs.Run.{pager_after}
 use Rattle.pager_model.specs.Step.{IsLegal}
 use Rattle.frame_store.specs.StoreView.{StoreView}
 use Rattle.state_parts.specs.ChargedTable.{ChargedTable}
+use Rattle.page_holders.proofs.EntryPages.{mapped_right}
 use Rattle.state_fits.specs.Changes.{is_failed_first, released_in}
 use Rattle.state_fits.specs.Parts.{Parts}
 use Rattle.state_fits.specs.PartsFit.{PartsFit}
-use Rattle.state_fits.proofs.EntryPages.{mapped_right}
 use Rattle.state_fits.proofs.ReuseCan.{CanReuse, reuse_can, reuse_global, reuse_private, reuse_uncharges}
 use Rattle.state_fits.proofs.ReuseParts.{holds, own, reuse_private_parts, reuse_shared_parts, reuse_uncharged_parts}
 use Rattle.vm_state.specs.History.{owed}

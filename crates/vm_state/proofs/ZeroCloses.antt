@@ -35,14 +35,15 @@ use Rattle.frame_store.specs.Blocks.{held_at}
 use Rattle.frame_store.specs.StoreView.{StoreView}
 use Rattle.state_parts.specs.ChargedTable.{ChargedTable, charged_at}
 use Rattle.state_parts.specs.declared.process_row.ProcessRow.{ProcessRow}
+use Rattle.page_holders.proofs.Holders.{IsFreeRow}
 use Rattle.state_fits.specs.Frames.{row_by}
 use Rattle.state_fits.specs.Parts.{Parts}
-use Rattle.state_fits.proofs.Holders.{IsFreeRow, code_kept, shown}
+use Rattle.state_fits.proofs.ShownEntries.{code_kept, shown}
 use Rattle.state_fits.proofs.SimpleParts.{read_process}
 use Rattle.state_fits.proofs.ZeroParts.{head as zero_head, mapped as zero_mapped, zero_parts, zero_row}
 use Rattle.vm_state.specs.History.{owed}
 use Rattle.vm_state.specs.StateKept.{IsState}
-use Rattle.vm_state.proofs.Closing.{closed, kept, right}
+use Rattle.vm_state.proofs.Closing.{closed, kept, plain, right}
 
 -- what a call that could be refused did, if it can't have been
 pub went_well : {T E : Type 0} (r : Result T E) {Q P : Type 0} → (IsErr r ↔ Q) → (Q → ⊥) → OnOk r P → P
@@ -63,10 +64,10 @@ module _ {B : Type 0} {seen : B → BlockView} {tells : Tells} {config : Config}
   v = page_number address.0
 
   pub head : IsFreeRow config a (open_flights past) f.0
-  head = zero_head config past a seat address f before.formed (kept before) (right before) legal fields before.parts
+  head = zero_head config past a seat address f before.formed (kept before) (right before) (plain before) legal fields before.parts
 
   pub mapped : (m : Mapped) × (a.map seat.0 v ≡ Some m)
-  mapped = let all = zero_mapped config past a seat address f before.formed (kept before) (right before) legal fields before.parts in (all.0, all.1)
+  mapped = let all = zero_mapped config past a seat address f before.formed (kept before) (right before) (plain before) legal fields before.parts in (all.0, all.1)
 
   -- ---- the process's row
   pub row_is : (x : ProcessRow) → x ≡ slice_index_or fields.processes seat.0 x → (x.ring ≡ a.ring seat.0) × (x.limit ≡ a.limit seat.0)
@@ -74,7 +75,7 @@ module _ {B : Type 0} {seen : B → BlockView} {tells : Tells} {config : Config}
 
   -- ---- the frame's row
   pub frame_free : row_of fields.frames f.0 ≡ row_by state.Free None false 0 0 0
-  frame_free = zero_row config past a seat address f before.formed (kept before) (right before) legal fields before.parts
+  frame_free = zero_row config past a seat address f before.formed (kept before) (right before) (plain before) legal fields before.parts
 
   pub below : f.0 < length fields.frames.rows
   below = let count = before.parts.frames.count in let less = head.within in omega (arith, count, less)
@@ -132,7 +133,7 @@ module _ {B : Type 0} {seen : B → BlockView} {tells : Tells} {config : Config}
       (record store { frames = frames'; buffers = slice_set store.buffers f.0 (Some (replicate 512 0)) })
       (record fields { frames = frames'; starts = starts; processes = slice_set fields.processes seat.0 (record x { ring = placed x.ring x.limit v; faults = x.faults + 1 }); tables = tables'; pages = pages'; file = record fields.file { charged = fields.file.charged + 1 } }) numbers) same
       (closed before (record { seat = seat; what = what.Zero address f }) legal paid (record store { frames = frames'; buffers = slice_set store.buffers f.0 (Some (replicate 512 0)) }) _
-      (zero_parts config past a seat address f before.formed (kept before) (right before) legal fields before.parts x read slot
+      (zero_parts config past a seat address f before.formed (kept before) (right before) (plain before) legal fields before.parts x read slot
       ((λ i. choose (sym is.0 i) (sym is.1 i)) ∙ chosen) frames' rows free modified tables' old procs changed there pages' procs' changed')
       (list_puts_buffer store.buffers f.0 (Some (replicate 512 0)) (let count = before.places.buffers in let less = head.within in omega (arith, count, less)), refl)
       (record { ids = before.places.ids; buffers = length-set store.buffers f.0 (Some (replicate 512 0)) ∙ before.places.buffers; blocks = before.places.blocks; left = before.places.left; firsts = before.places.firsts })))

@@ -29,10 +29,10 @@ pending_by params spec row free =
     if not (nat_eq params.awstime 0) && nat_le params.awstime row.references
     then Some (adjust params spec row.faults row.limit free, row.faults) else None
 
--- a page in a slot: its number, the frame of its valid entry, and whether it is locked
+-- a page in a slot: its number, the frame of its valid entry, and whether it is locked, and pinned
 abbrev pub slot_by : Held → Option Valid → Option Slot
 slot_by held None = None
-slot_by held (Some e) = Some (record { vpn = held.vpn; frame = pfn e.frame; locked = held.locked })
+slot_by held (Some e) = Some (record { vpn = held.vpn; frame = pfn e.frame; locked = held.locked; pinned = held.pinned })
 
 abbrev pub slot_with : List Valid → ℕ → Option Held → Option Slot
 slot_with valid p None = None
@@ -41,9 +41,9 @@ slot_with valid p (Some held) = slot_by held (entry_of valid p held.vpn)
 abbrev pub slot_in : Pager → ℕ → ℕ → Option Slot
 slot_in a p n = slot_with a.valid p (slot_of (slice_get (a.ring p).slots n))
 
--- the page number in a slot, and whether it is locked
-abbrev pub held_pair : Held → ℕ × Bool
-held_pair held = (held.vpn, held.locked)
+-- the page number in a slot, and whether it is locked, and pinned
+abbrev pub held_parts : Held → ℕ × Bool × Bool
+held_parts held = (held.vpn, held.locked, held.pinned)
 
 -- wherever the frame stands on a list, this is what stands in the next place; none if it is the last, or on no list
 pub record IsAfter (a : Pager) (f : ℕ) (next : Option ℕ) : Type 0 where

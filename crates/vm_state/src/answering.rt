@@ -19,12 +19,20 @@ impl<B: Block> State<B> {
                 Service::Delete { at, pages } => self.delete(seat, at, pages),
                 Service::Protect { at, pages, prot } => self.protect(seat, at, pages, prot),
                 Service::Adjust { limit } => self.adjust(seat, limit),
-                Service::Lock { .. } | Service::Unlock { .. } | Service::Purge { .. } =>
-                    self.answer_unchanged(seat, s, answer),
+                Service::Lock { .. }
+                | Service::Unlock { .. }
+                | Service::Purge { .. }
+                | Service::Pin { .. }
+                | Service::Unpin { .. } => self.answer_unchanged(seat, s, answer),
             },
             Answer::Count(count) => match s {
                 Service::Lock { at, pages } => self.lock(seat, at, pages, count),
                 Service::Unlock { at, pages } => self.unlock(seat, at, pages, count),
+                // Pages are pinned in version 2 alone.
+                Service::Pin { .. } | Service::Unpin { .. } => {
+                    self.run_law();
+                    unreachable!()
+                }
                 Service::Create { .. }
                 | Service::Delete { .. }
                 | Service::Protect { .. }

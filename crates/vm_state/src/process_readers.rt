@@ -3,7 +3,7 @@ ghost use Rattle.std.specs.Option.{option_map};
 ghost use Rattle.vm_types.specs.Configuration.{AreParams, IsLimited};
 ghost use Rattle.pager_model.specs.Lookups.{slot_of};
 ghost use Rattle.vm_state.specs.History.{pager};
-ghost use Rattle.vm_state.specs.ProcessReadings.{IsAfter, held_pair, pending_by, pending_in, slot_in};
+ghost use Rattle.vm_state.specs.ProcessReadings.{IsAfter, held_parts, pending_by, pending_in, slot_in};
 ghost use Rattle.page_states.specs.Shown.{frame_number};
 
 use crate::state::State;
@@ -30,16 +30,16 @@ fn pending_by(params: &Params, spec: &ProcSpec, row: &ProcessRow, free: u32) -> 
     ))
 }
 
-/// The page number in a slot (any number), and whether it is locked; none if the slot is empty, or
-/// isn't there.
-fn held_in(ring: &Ring, n: u32) -> Option<(u32, bool)>
-    ensures { result ≡ option_map held_pair (slot_of (slice_get ring.now.slots n)) }
+/// The page number in a slot (any number), and whether it is locked, and pinned; none if the slot is
+/// empty, or isn't there.
+fn held_in(ring: &Ring, n: u32) -> Option<(u32, bool, bool)>
+    ensures { result ≡ option_map held_parts (slot_of (slice_get ring.now.slots n)) }
 {
     if n >= ring.slots() {
         return None;
     }
     let vpn = ring.at(n)?;
-    Some((vpn, ring.is_locked(n)))
+    Some((vpn, ring.is_locked(n), ring.pinned(n)))
 }
 
 /// No reader allocates.
@@ -62,9 +62,14 @@ impl<B: Block> State<B> {
         requires { p.0 < length self.now.config.procs }
         ensures { result ≡ slot_in (pager self.now) p.0 n }
     {
-        let (vpn, locked) = held_in(&self.processes[p.0 as usize].ring, n)?;
+        let (vpn, locked, pinned) = held_in(&self.processes[p.0 as usize].ring, n)?;
         let frame = frame_in(self.tables.look(p, vpn))?;
-        Some(Slot { vpn, frame, locked })
+        Some(Slot {
+            vpn,
+            frame,
+            locked,
+            pinned,
+        })
     }
 
     /// The slot on which the hand of a process of the configuration stands.

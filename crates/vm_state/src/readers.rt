@@ -4,7 +4,7 @@ ghost use Rattle.state_fits.specs.File.{owner_in};
 ghost use Rattle.state_fits.specs.Seats.{start_on};
 ghost use Rattle.pager_model.specs.Policy.{spoken};
 ghost use Rattle.state_fits.specs.Spoken.{spoken_by};
-ghost use Rattle.vm_types.specs.Ring.{choose, filled};
+ghost use Rattle.vm_types.specs.Ring.{choose, filled, unpinned};
 ghost use Rattle.vm_state.specs.History.{pager};
 ghost use Rattle.std.specs.Option.{option_map};
 ghost use Rattle.vm_state.specs.Readings.{listed, row_at};
@@ -14,6 +14,7 @@ ghost use Rattle.run_record.specs.Tallies.{tallies_of};
 use crate::state::State;
 use disk_trait::Block;
 use pfn_database::{ListName, Row};
+use state_parts::unpinned;
 use vm_journal::Entry;
 use vm_types::{Config, Page, Pfn, Proc, ProcStatus, Seat};
 use working_set::Choice;
@@ -120,6 +121,15 @@ impl<B: Block> State<B> {
         ensures { result ≡ filled ((pager self.now).ring p.0).slots }
     {
         self.processes[p.0 as usize].ring.count()
+    }
+
+    /// How many pages of the working set of a process of the configuration aren't pinned. Looks at each
+    /// slot once.
+    pub fn unpinned(&self, p: Proc) -> u32
+        requires { p.0 < length self.now.config.procs }
+        ensures { result ≡ unpinned ((pager self.now).ring p.0).slots }
+    {
+        unpinned(&self.processes[p.0 as usize].ring)
     }
 
     /// The working set limit of a process of the configuration.

@@ -1,9 +1,10 @@
-ghost use Rattle.std.specs.Prelude.{◌≡◌, ◌<◌, ◌≤◌, Some, count_by, length, slice_get};
+ghost use Rattle.std.specs.Prelude.{◌≡◌, ◌<◌, ◌≤◌, true, Some, count_by, length, slice_get};
 ghost use Rattle.std.specs.List.{list_any};
 ghost use Rattle.vm_types.specs.WellFormed.{IsRange, IsWellFormedService};
 ghost use Rattle.pager_model.specs.Forget.{range_of};
 ghost use Rattle.pager_model.specs.Serve.{is_in_use, is_unmapped};
-ghost use Rattle.pager_model.specs.Served.{is_locked_in};
+ghost use Rattle.pager_model.specs.Ring.{range_locked, range_pinned};
+ghost use Rattle.pager_model.specs.Served.{is_locked_in, is_pinned_in};
 ghost use Rattle.vm_types.specs.declared.reply.Answer.{Answer};
 ghost use Rattle.vm_state.specs.Answering.{answer_in, has_entry, limit_answer, lock_answer};
 ghost use Rattle.vm_state.specs.History.{pager};
@@ -12,7 +13,7 @@ use crate::state::State;
 use disk_trait::Block;
 use page_states::entry_in;
 use page_tables::Tables;
-use state_parts::{count_in, locked_in};
+use state_parts::{count_in, fixed_in, locked_in, pinned_in};
 use vm_types::{Addr, Answer, Proc, ProcSpec, Seat, Service};
 use working_set::Ring;
 
@@ -38,15 +39,16 @@ fn some_entry(tables: &Tables, p: Proc, mapped: bool, at: Addr, pages: u32) -> b
     false
 }
 
-/// The answer to a lock of a range that is mapped.
+/// The answer to a lock, or a pin, of a range that is mapped.
 fn lock_answer(ring: &Ring, spec: &ProcSpec, at: Addr, pages: u32) -> Answer
     requires slots { length ring.now.slots ≤ 1024 }
     requires locks { spec.now.locks ≤ 1024 }
-    ensures { result ≡ lock_answer ring.now at.0 pages (Some spec.now) }
+    ensures locked { result ≡ lock_answer ring.now (range_locked true at.0 pages ring.now) at.0 pages (Some spec.now) }
+    ensures pinned { result ≡ lock_answer ring.now (range_pinned true at.0 pages ring.now) at.0 pages (Some spec.now) }
 {
     let count = count_in(ring, at, pages);
     let locked = ring.locked() + count;
-    if locked > spec.locks + locked_in(ring, at, pages) {
+    if locked > spec.locks + fixed_in(ring, at, pages) {
         Answer::LockLimit
     } else {
         Answer::Count(count)
@@ -121,6 +123,20 @@ impl<B: Block> State<B> {
                     self.answer_to_unlock(p, at, pages)
                 }
             }
+            Service::Pin { at, pages } => {
+                if self.is_unmapped(p, at, pages) {
+                    Answer::Unmapped
+                } else {
+                    self.answer_to_lock(p, at, pages)
+                }
+            }
+            Service::Unpin { at, pages } => {
+                if self.is_unmapped(p, at, pages) {
+                    Answer::Unmapped
+                } else {
+                    self.answer_to_unpin(p, at, pages)
+                }
+            }
             Service::Purge { .. } => Answer::Good,
             Service::Adjust { limit } => self.answer_to_adjust(p, limit),
         }
@@ -142,10 +158,11 @@ impl<B: Block> State<B> {
         some_entry(&self.tables, p, false, at, pages)
     }
 
-    /// The answer to a lock of a range that is mapped.
+    /// The answer to a lock, or a pin, of a range that is mapped.
     fn answer_to_lock(&self, p: Proc, at: Addr, pages: u32) -> Answer
         requires { p.0 < length self.now.config.procs }
-        ensures { result ≡ lock_answer ((pager self.now).ring p.0) at.0 pages (slice_get self.now.config.procs p.0) }
+        ensures locked { result ≡ lock_answer ((pager self.now).ring p.0) (range_locked true at.0 pages ((pager self.now).ring p.0)) at.0 pages (slice_get self.now.config.procs p.0) }
+        ensures pinned { result ≡ lock_answer ((pager self.now).ring p.0) (range_pinned true at.0 pages ((pager self.now).ring p.0)) at.0 pages (slice_get self.now.config.procs p.0) }
     {
         let spec = &self.config.procs.items()[p.0 as usize];
         lock_answer(&self.processes[p.0 as usize].ring, spec, at, pages)
@@ -157,6 +174,14 @@ impl<B: Block> State<B> {
         ensures { result ≡ Answer.Count (count_by (is_locked_in at.0 pages) ((pager self.now).ring p.0).slots) }
     {
         Answer::Count(locked_in(&self.processes[p.0 as usize].ring, at, pages))
+    }
+
+    /// The answer to an unpin of a range that is mapped.
+    fn answer_to_unpin(&self, p: Proc, at: Addr, pages: u32) -> Answer
+        requires { p.0 < length self.now.config.procs }
+        ensures { result ≡ Answer.Count (count_by (is_pinned_in at.0 pages) ((pager self.now).ring p.0).slots) }
+    {
+        Answer::Count(pinned_in(&self.processes[p.0 as usize].ring, at, pages))
     }
 
     /// The answer to an adjustment of a limit.

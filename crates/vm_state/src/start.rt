@@ -1,6 +1,7 @@
 ghost use Rattle.std.specs.Prelude.{◌≡◌, ℕ, ◌+◌, [], None, Some, All, IfOk, map, true, false, length, replicate, sum_by};
 ghost use Rattle.std.specs.Option.{option_map};
 ghost use Rattle.vm_types.specs.Configuration.{IsWellFormed, section_pages};
+ghost use Rattle.vm_types.specs.declared.config.Version.{Version};
 ghost use Rattle.vm_types.specs.declared.names.BlockId.{BlockId};
 ghost use Rattle.page_tables.specs.PageTables.{entry_of};
 ghost use Rattle.pager_model.specs.Maps.{first_map};
@@ -76,7 +77,7 @@ impl<B: Block> State<B> {
     /// The state before the first entry: all frames that aren't bad are free and empty, all processes
     /// are resident with empty working sets, and all blocks are home. They are given in their order,
     /// section blocks by section and page, page file blocks, swap blocks by process and slot, each as
-    /// it was made. But for `reserve` no other call allocates.
+    /// it was made. But for `reserve` no other call allocates. The configuration is of version 1.
     ///
     /// # Errors
     /// `NoMemory` if out of memory.
@@ -86,6 +87,7 @@ impl<B: Block> State<B> {
         blocks: Vec<(BlockId, B)>,
     ) -> Result<State<B>, NoMemory>
         requires formed { IsWellFormed config }
+        requires version { config.version ≡ Version.One }
         requires names { map (λ (p : BlockId × B). p.0) blocks.items ≡ blocks_of config }
         requires made { All (λ (p : BlockId × B). IsMade B.tells config p.0 (B.seen p.1)) blocks.items }
         ensures { IfOk result (λ s. s ≡ record { config = config; past = []; spare = 0; pool = s.pool; halted = false; keeps = true }) }
@@ -103,6 +105,7 @@ impl<B: Block> State<B> {
         blocks: Vec<(BlockId, B)>,
     ) -> Result<State<B>, NoMemory>
         requires formed { IsWellFormed config }
+        requires version { config.version ≡ Version.One }
         requires names { map (λ (p : BlockId × B). p.0) blocks.items ≡ blocks_of config }
         requires made { All (λ (p : BlockId × B). IsMade B.tells config p.0 (B.seen p.1)) blocks.items }
         ensures { IfOk result (λ s. s ≡ record { config = config; past = []; spare = 0; pool = s.pool; halted = false; keeps = false }) }
@@ -118,6 +121,7 @@ impl<B: Block> State<B> {
         journal: RunRecord,
     ) -> Result<State<B>, NoMemory>
         requires formed { IsWellFormed config }
+        requires version { config.version ≡ Version.One }
         requires names { map (λ (p : BlockId × B). p.0) blocks.items ≡ blocks_of config }
         requires made { All (λ (p : BlockId × B). IsMade B.tells config p.0 (B.seen p.1)) blocks.items }
         requires empty { journal ≡ record { entries = []; spare = 0; keeps = journal.keeps } }

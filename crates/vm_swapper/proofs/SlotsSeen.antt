@@ -19,8 +19,8 @@ use Rattle.pager_model.specs.Swap.{is_still}
 use Rattle.pager_model.specs.Transfers.{reads_on, writes_on}
 use Rattle.pager_laws.proofs.OfConfigKept.{run_right}
 use Rattle.pager_laws.proofs.RunsAreSound.{run_kept}
-use Rattle.state_fits.proofs.EntryPages.{mapped_right}
-use Rattle.state_fits.proofs.ValidEntries.{IsValidAt, valid_at_page}
+use Rattle.page_holders.proofs.EntryPages.{mapped_right}
+use Rattle.page_holders.proofs.ValidEntries.{IsValidAt, valid_at_page}
 use Rattle.state_fits.specs.Frames.{frame_row}
 use Rattle.vm_state.specs.History.{History, pager}
 use Rattle.vm_state.specs.ProcessReadings.{slot_by, slot_in, slot_with}
@@ -31,7 +31,7 @@ use Rattle.call_steps.proofs.Slots.{IsSlotOf, slot_entry}
 -- the page of a frame, as it is seen in a slot
 abbrev pub shown_in : Slot → Option Page → Option Shown
 shown_in x None = None
-shown_in x (Some g) = Some (record { vpn = x.vpn; frame = (x.frame).0; page = g; locked = x.locked })
+shown_in x (Some g) = Some (record { vpn = x.vpn; frame = (x.frame).0; page = g; pinned = x.pinned })
 
 -- the number of a page that a process has is small
 pub page_small : (config : Config) (a : Pager) (p v : ℕ) (g : Page) → IsOfConfig config a → page_by config a.map p v ≡ Some g → v < 2 ^ 23
@@ -49,7 +49,7 @@ shown a p x (Some held) is = by (entry_of a.valid p held.vpn) is
     by None is = absurd (none-some x (sym is))
     by (Some e) is = subst (λ (y : Slot). seen_page held e.frame (a.page e.frame) ≡ shown_in y (a.page (y.frame).0)) (sym (same_Some x _ is)) (page (a.page e.frame))
       where
-        page : (o : Option Page) → seen_page held e.frame o ≡ shown_in (record { vpn = held.vpn; frame = record { 0 = e.frame }; locked = held.locked }) o
+        page : (o : Option Page) → seen_page held e.frame o ≡ shown_in (record { vpn = held.vpn; frame = record { 0 = e.frame }; locked = held.locked; pinned = held.pinned }) o
         page None = refl
         page (Some g) = refl
 
@@ -98,6 +98,11 @@ module _ (config : Config) (past : List Entry) (p : ℕ) (formed : IsWellFormed 
 -- a page that is saved, by its parts
 pub saved_if : (private lies clean r : Bool) → private ≡ true → lies ≡ true → r ≡ clean → r ≡ (private && (lies && clean))
 saved_if private lies clean r own there is = is ∙ (λ i. sym own i && (sym there i && clean))
+
+pub pinned_first : (private loose clean : Bool) → (loose && (private && clean)) ≡ ((private && loose) && clean)
+pinned_first true loose clean = refl
+pinned_first false true clean = refl
+pinned_first false false clean = refl
 
 pub saved_not : (private lies clean : Bool) → private ≡ true → lies ≡ false → false ≡ (private && (lies && clean))
 saved_not private lies clean own there = λ i. sym own i && (sym there i && clean)

@@ -19,7 +19,7 @@ use Rattle.pager_rules.proofs.Lists.{found_passes}
 use Rattle.pager_rules.specs.Kept.{IsKept}
 use Rattle.pager_laws.proofs.OfConfigKept.{run_right}
 use Rattle.pager_laws.proofs.RunsAreSound.{run_kept}
-use Rattle.state_fits.proofs.Holders.{holder_holds, holds_within}
+use Rattle.page_holders.proofs.Holders.{holder_holds, holds_within}
 use Rattle.call_laws.proofs.FollowingPages.{lies_there}
 use Rattle.vm_state.specs.PageReadings.{IsKnown}
 use Rattle.vm_swapper.specs.SeenSlots.{IsSmall}
@@ -51,7 +51,7 @@ module _ (config : Config) (past : List Entry) (formed : IsWellFormed config) (r
         by (Shared s i) there = tt
         by (Private q v) there =
             let charged = (kept.pages (Private q v)).lying (block.Swap (proc p) n) refl there in
-            page_small config a q.0 v (Private q v) (run_right config past formed run) ((kept.pages (Private q v)).mapped (omega (arith, charged)))
+            page_small config a q.0 v (Private q v) (run_right config past formed run) ((kept.pages (Private q v)).mapped (omega (arith, charged)) refl)
 
   pub held_within : (g : Page) (f : ℕ) → holder config a.page g ≡ Some f → f < config.frames
   held_within g f held = holds_within config (past_view past) a f g kept (holder_holds config a.page g f held)

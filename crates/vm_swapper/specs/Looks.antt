@@ -4,13 +4,13 @@ use Rattle.vm_types.specs.declared.config.Config.{Config}
 use Rattle.vm_journal.specs.declared.entry.Entry.{Entry}
 use Rattle.pager_model.specs.Given.{Seen, passes, seen_at, slots_of}
 use Rattle.pager_model.specs.Pager.{Pager}
-use Rattle.pager_model.specs.Swap.{is_back_on_free, is_out_page, is_saved, is_shared_seen, is_to_save, lying_in}
+use Rattle.pager_model.specs.Swap.{is_back_on_free, is_out_page, is_saved, is_shared_unpinned, is_to_save, lying_in}
 use Rattle.vm_swapper.specs.declared.looks.Look.{Look}
 use Rattle.vm_swapper.specs.declared.looks.Look.TheVariants as look
 
 -- whether a slot has it
 abbrev pub has : Config → List Entry → Pager → ℕ → Look → ℕ → Bool
-has config past a p look.Shared = λ (n : ℕ). passes (λ (s : Seen). is_shared_seen s) (seen_at a p n)
+has config past a p look.Shared = λ (n : ℕ). passes (λ (s : Seen). is_shared_unpinned s) (seen_at a p n)
 has config past a p look.Saved = λ (n : ℕ). passes (is_saved past a p n) (seen_at a p n)
 has config past a p look.Unsaved = λ (n : ℕ). passes (is_to_save past) (seen_at a p n)
 has config past a p look.OnFree = λ (n : ℕ). passes (is_back_on_free config a) (lying_in a p n)

@@ -8,7 +8,7 @@ use Rattle.vm_swapper.specs.declared.seen.Seen.{Seen}
 
 -- the same with plain numbers
 abbrev pub seen_as : Seen → Shown
-seen_as x = record { vpn = x.vpn; frame = (x.frame).0; page = x.page; locked = x.locked }
+seen_as x = record { vpn = x.vpn; frame = (x.frame).0; page = x.page; pinned = x.pinned }
 
 -- its frame is one of the configuration, and its page number is small
 pub record IsPlaced (config : Config) (x : Seen) : Type 0 where

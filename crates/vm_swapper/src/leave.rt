@@ -21,7 +21,7 @@ use vm_types::{Addr, Proc, ProcStatus, Seat};
 /// Makes the next entries for a process that leaves memory, by any seat without an open transfer: by the
 /// first case that applies. There may be room for too few entries; else a shared page is evicted, then a
 /// private page that is saved in its slot's swap block; then a run of private pages is written there; and
-/// a process without pages is gone. Doesn't allocate.
+/// a process without pages is gone. Pinned pages stay. Doesn't allocate.
 pub fn leave_some<B: Block>(
     state: &mut State<B>,
     seat: Seat,
@@ -143,14 +143,14 @@ fn write_from<B: Block>(
     Swap::Carry
 }
 
-/// A process without pages is gone; one whose pages are in flight waits for them.
+/// A process without pages but pinned ones is gone; one whose pages are in flight waits for them.
 fn turn_gone<B: Block>(state: &mut State<B>, seat: Seat, p: Proc, carrier: &mut Carrier<B>) -> Swap
     requires process { p.0 < length state.old.config.procs }
     requires may { MaySwap state.old seat (at_gone state.old p.0) }
     requires carrier { carrier.old ≡ empty seat }
     ensures { Swaps B.seen B.tells state.old state.new seat (at_gone state.old p.0) result carrier.old carrier.new }
 {
-    if state.count(p) > 0 {
+    if state.unpinned(p) > 0 {
         Swap::Again(SwapWhy::InFlight)
     } else {
         state.turn(seat, p, ProcStatus::Gone);

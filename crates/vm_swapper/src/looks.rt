@@ -2,7 +2,7 @@ ghost use Rattle.std.specs.Prelude.{◌≡◌, ◌<◌, ◌≤◌, IfSome, lengt
 ghost use Rattle.vm_state.specs.History.{pager};
 ghost use Rattle.vm_swapper.specs.Looks.{first, has};
 
-use crate::slots::{address_at, frame_at, has_saved, has_shared, is_on_free_at};
+use crate::slots::{address_at, frame_at, has_saved, has_shared_unpinned, is_on_free_at};
 use disk_trait::Block;
 use vm_state::State;
 use vm_types::Proc;
@@ -10,11 +10,12 @@ use vm_types::Proc;
 /// What is looked for in the slots of a process.
 #[derive(Clone, Copy, Debug, PartialEq, Eq)]
 pub enum Look {
-    /// A shared page.
+    /// A shared page that isn't pinned.
     Shared,
-    /// A private page that lies in the slot's swap block, unmodified and without an open transfer.
+    /// A private page that lies in the slot's swap block, not pinned, unmodified and without an open
+    /// transfer.
     Saved,
-    /// A private page without an open transfer.
+    /// A private page, not pinned and without an open transfer.
     Unsaved,
     /// A page that lies in the slot's swap block, and whose frame is on the free list.
     OnFree,
@@ -39,7 +40,7 @@ fn has<B: Block>(state: &State<B>, p: Proc, n: u32, look: Look) -> bool
     ensures { result ≡ has state.now.config state.now.past (pager state.now) p.0 look n }
 {
     match look {
-        Look::Shared => has_shared(state, p, n),
+        Look::Shared => has_shared_unpinned(state, p, n),
         Look::Saved => has_saved(state, p, n),
         Look::Unsaved => frame_at(state, p, n).is_some(),
         Look::OnFree => is_on_free_at(state, p, n),

@@ -11,13 +11,13 @@ use vm_state::State;
 use vm_types::{Page, Pfn, Proc};
 
 /// A page in a slot of a working set: its number, the frame of its valid entry, the page that the frame
-/// holds, and whether it is locked in the slot.
+/// holds, and whether it is pinned in memory.
 #[derive(Clone, Copy, Debug, PartialEq, Eq)]
 pub struct Seen {
     pub vpn: u32,
     pub frame: Pfn,
     pub page: Page,
-    pub locked: bool,
+    pub pinned: bool,
 }
 
 /// What is seen in a slot (any number) of a process of the configuration; none if the slot is empty, or
@@ -35,7 +35,7 @@ pub fn see<B: Block>(state: &State<B>, p: Proc, n: u32) -> Option<Seen>
             vpn: slot.vpn,
             frame: slot.frame,
             page,
-            locked: slot.locked,
+            pinned: slot.pinned,
         }),
         None => None,
     }

@@ -2,7 +2,8 @@ ghost use Rattle.std.specs.Prelude.{◌≡◌, ◌<◌, ◌&&◌, length, not};
 ghost use Rattle.pager_model.specs.Advance.{lies_in};
 ghost use Rattle.pager_model.specs.Given.{Seen as Shown, address_of, passes, seen_at};
 ghost use Rattle.pager_model.specs.Lookups.{is};
-ghost use Rattle.pager_model.specs.Swap.{is_back_on_free, is_out_page, is_saved, is_shared_seen, is_still, is_to_save, lying_in};
+ghost use Rattle.pager_model.specs.Maps.{is_private};
+ghost use Rattle.pager_model.specs.Swap.{is_back_on_free, is_out_page, is_saved, is_shared_seen, is_shared_unpinned, is_still, is_to_save, lying_in};
 ghost use Rattle.vm_types.specs.declared.names.BlockId.TheVariants as block;
 ghost use Rattle.vm_types.specs.declared.names.FrameState.TheVariants as state;
 ghost use Rattle.vm_state.specs.History.{pager};
@@ -43,10 +44,10 @@ fn is_clean<B: Block>(state: &State<B>, f: Pfn) -> bool
 }
 
 /// Whether a page that is seen in this slot is private, lies in the slot's swap block, is unmodified, and
-/// has no open transfer.
-fn is_saved<B: Block>(state: &State<B>, p: Proc, n: u32, x: Seen) -> bool
+/// has no open transfer; pinned or not.
+fn lies_saved<B: Block>(state: &State<B>, p: Proc, n: u32, x: Seen) -> bool
     requires { IsPlaced state.now.config x }
-    ensures { result ≡ is_saved state.now.past (pager state.now) p.0 n (seen_as x) }
+    ensures { result ≡ (is_private x.page && (lies_in ((pager state.now).lies x.page) (block.Swap p n) && (not ((pager state.now).modify (x.frame).0) && is_still state.now.past (x.frame).0))) }
 {
     match x.page {
         Page::Private(..) => {
@@ -61,15 +62,31 @@ fn is_saved<B: Block>(state: &State<B>, p: Proc, n: u32, x: Seen) -> bool
     }
 }
 
-/// Whether a page that is seen in a slot is private, and has no open transfer.
+/// Whether both are true.
+fn both(one: bool, other: bool) -> bool
+    ensures { result ≡ (one && other) }
+{
+    one && other
+}
+
+/// Whether a page that is seen in this slot isn't pinned, is private, lies in the slot's swap block, is
+/// unmodified, and has no open transfer.
+fn is_saved<B: Block>(state: &State<B>, p: Proc, n: u32, x: Seen) -> bool
+    requires { IsPlaced state.now.config x }
+    ensures { result ≡ is_saved state.now.past (pager state.now) p.0 n (seen_as x) }
+{
+    both(!x.pinned, lies_saved(state, p, n, x))
+}
+
+/// Whether a page that is seen in a slot is private and not pinned, and has no open transfer.
 fn is_to_save<B: Block>(state: &State<B>, x: Seen) -> bool
     requires { IsPlaced state.now.config x }
     ensures { result ≡ is_to_save state.now.past (seen_as x) }
 {
-    is_private(x.page) && is_still(state, x.frame)
+    is_private(x.page) && !x.pinned && is_still(state, x.frame)
 }
 
-/// Whether a slot (any number) of a process of the configuration has a shared page.
+/// Whether a slot (any number) of a process of the configuration has a shared page, pinned or not.
 pub fn has_shared<B: Block>(state: &State<B>, p: Proc, n: u32) -> bool
     requires { p.0 < length state.now.config.procs }
     ensures { result ≡ passes (λ (s : Shown). is_shared_seen s) (seen_at (pager state.now) p.0 n) }
@@ -80,8 +97,19 @@ pub fn has_shared<B: Block>(state: &State<B>, p: Proc, n: u32) -> bool
     }
 }
 
+/// Whether a slot (any number) of a process of the configuration has a shared page that isn't pinned.
+pub fn has_shared_unpinned<B: Block>(state: &State<B>, p: Proc, n: u32) -> bool
+    requires { p.0 < length state.now.config.procs }
+    ensures { result ≡ passes (λ (s : Shown). is_shared_unpinned s) (seen_at (pager state.now) p.0 n) }
+{
+    match see(state, p, n) {
+        Some(x) => !is_private(x.page) && !x.pinned,
+        None => false,
+    }
+}
+
 /// Whether a slot (any number) of a process of the configuration has a private page that lies in its
-/// swap block, unmodified and without an open transfer.
+/// swap block, not pinned, unmodified and without an open transfer.
 pub fn has_saved<B: Block>(state: &State<B>, p: Proc, n: u32) -> bool
     requires { p.0 < length state.now.config.procs }
     ensures { result ≡ passes (is_saved state.now.past (pager state.now) p.0 n) (seen_at (pager state.now) p.0 n) }
@@ -92,7 +120,7 @@ pub fn has_saved<B: Block>(state: &State<B>, p: Proc, n: u32) -> bool
     }
 }
 
-/// The number of the frame of the private page without an open transfer that a slot (any number) of a process of the
+/// The number of the frame of the private page, not pinned and without an open transfer, that a slot (any number) of a process of the
 /// configuration has; none if it has none.
 pub fn frame_at<B: Block>(state: &State<B>, p: Proc, n: u32) -> Option<u32>
     requires { p.0 < length state.now.config.procs }

@@ -215,6 +215,8 @@ service_blankless (service.Delete a n) h = (refl, range_blankless a.0 n h)
 service_blankless (service.Lock a n) h = (refl, range_blankless a.0 n h)
 service_blankless (service.Unlock a n) h = (refl, range_blankless a.0 n h)
 service_blankless (service.Purge a n) h = (refl, range_blankless a.0 n h)
+service_blankless (service.Pin a n) h = (refl, range_blankless a.0 n h)
+service_blankless (service.Unpin a n) h = (refl, range_blankless a.0 n h)
 service_blankless (service.Adjust n) h = (refl, (decimal_above n (omega arith), tt))
 
 pub answer_blankless : (a : Answer) → HasAnswerWords a → Blankless (answer_words a)

@@ -366,11 +366,25 @@ service_same (service.Purge a m) (service.Purge b n) xs ys h h' e =
     let at = range.0 in
     let count = range.1 in
     (cc, cc)
+service_same (service.Pin a m) (service.Pin b n) xs ys h h' e =
+    let text : address_text a.0 ≡ address_text b.0 = cc in
+    let pages : decimal m ≡ decimal n = cc in
+    let range = range_same a b m n h h' text pages in
+    let at = range.0 in
+    let count = range.1 in
+    (cc, cc)
+service_same (service.Unpin a m) (service.Unpin b n) xs ys h h' e =
+    let text : address_text a.0 ≡ address_text b.0 = cc in
+    let pages : decimal m ≡ decimal n = cc in
+    let range = range_same a b m n h h' text pages in
+    let at = range.0 in
+    let count = range.1 in
+    (cc, cc)
 service_same (service.Adjust m) (service.Adjust n) xs ys h h' e =
     let text : decimal m ≡ decimal n = cc in
     let limit : m ≡ n = decimal_injective m n (omega arith) (omega arith) text in
     (cc, cc)
-service_same s t xs ys h h' e = absurd (omega (arith, ap (λ (ws : List (List ℕ)). first_byte (get_or ws 0 [])) e))
+service_same s t xs ys h h' e = absurd (omega (arith, ap (λ (ws : List (List ℕ)). get_or (get_or ws 0 []) 0 0 + 256 * get_or (get_or ws 0 []) 2 0) e))
 
 -- what tells the words of answers apart
 answer_mark : List (List ℕ) → ℕ

@@ -2,7 +2,7 @@
 -- by the VAX Architecture Reference Manual; the rest is this project's own.
 use Rattle.std.specs.Prelude.{ℕ, ◌^◌, ◌<◌, List, [], ◌∷◌, slice_index_or, codes, decimal}
 use Rattle.vm_types.specs.declared.service.Service.{Service}
-use Rattle.vm_types.specs.declared.service.Service.TheVariants.{Create, Delete, Protect, Lock, Unlock, Purge, Adjust}
+use Rattle.vm_types.specs.declared.service.Service.TheVariants.{Create, Delete, Protect, Lock, Unlock, Purge, Adjust, Pin, Unpin}
 use Rattle.vm_types.specs.declared.reply.Answer.{Answer}
 use Rattle.vm_types.specs.declared.reply.Answer.TheVariants as answer
 use Rattle.vm_text.specs.Names.{address_text}
@@ -23,6 +23,8 @@ service_name (Protect at pages prot) = codes "SETPRT"
 service_name (Lock at pages) = codes "LKWSET"
 service_name (Unlock at pages) = codes "ULWSET"
 service_name (Purge at pages) = codes "PURGWS"
+service_name (Pin at pages) = codes "LCKPAG"
+service_name (Unpin at pages) = codes "ULKPAG"
 service_name (Adjust limit) = codes "ADJWSL"
 
 -- a range: its first address and its pages
@@ -37,6 +39,8 @@ operands (Protect at pages prot) = address_text at.0 ∷ decimal pages ∷ prote
 operands (Lock at pages) = range_words at.0 pages
 operands (Unlock at pages) = range_words at.0 pages
 operands (Purge at pages) = range_words at.0 pages
+operands (Pin at pages) = range_words at.0 pages
+operands (Unpin at pages) = range_words at.0 pages
 operands (Adjust limit) = decimal limit ∷ []
 
 abbrev pub service_words : Service → List (List ℕ)

@@ -48,6 +48,8 @@ pub fn push_service_name<const CAP: usize>(out: &mut ArrayVec<u8, CAP>, service:
         Service::Lock { .. } => push_word(out, b"LKWSET"),
         Service::Unlock { .. } => push_word(out, b"ULWSET"),
         Service::Purge { .. } => push_word(out, b"PURGWS"),
+        Service::Pin { .. } => push_word(out, b"LCKPAG"),
+        Service::Unpin { .. } => push_word(out, b"ULKPAG"),
         Service::Adjust { .. } => push_word(out, b"ADJWSL"),
     }
 }

@@ -1,7 +1,8 @@
 -- What makes a configuration well formed. This project's own: the limits of the machine, and that
 -- each thing is named once.
-use Rattle.std.specs.Prelude.{◌≡◌, ◌≢◌, ◌⊎◌, ℕ, ◌+◌, ◌*◌, ◌/◌, ◌%◌, ◌<◌, ◌≤◌, List, Some, length, sum_by, slice_get, All, AllPairs, IfSome}
-use Rattle.vm_types.specs.WellFormed.{IsRange, IsCode, IsWellFormedRequest}
+use Rattle.std.specs.Prelude.{◌≡◌, ◌≢◌, ◌⊎◌, ℕ, false, true, ◌+◌, ◌*◌, ◌/◌, ◌%◌, ◌<◌, ◌≤◌, List, Some, length, sum_by, slice_get, All, AllPairs, IfSome, replicate}
+use Rattle.vm_types.specs.Kinds.{is_paged_kind, paged_of}
+use Rattle.vm_types.specs.WellFormed.{IsRange, IsCode, IsRequestOf, IsWellFormedRequest}
 use Rattle.vm_types.specs.declared.names.BlockId.{BlockId}
 use Rattle.vm_types.specs.declared.names.BlockId.TheVariants as block
 use Rattle.vm_types.specs.declared.config.Config.{Config}
@@ -13,6 +14,8 @@ use Rattle.vm_types.specs.declared.config.Params.{Params}
 use Rattle.vm_types.specs.declared.config.ProcSpec.{ProcSpec}
 use Rattle.vm_types.specs.declared.config.Section.{Section}
 use Rattle.vm_types.specs.declared.config.Task.{Task}
+use Rattle.vm_types.specs.declared.config.Version.{Version}
+use Rattle.vm_types.specs.declared.config.Version.TheVariants as version
 
 -- the pages of a section
 abbrev pub section_pages : Section → ℕ
@@ -48,15 +51,17 @@ pub record IsName (name : List ℕ) : Type 0 where
   pub letter : IfSome (slice_get name 0) IsLetter
   pub bytes : All IsNameByte name
 
-pub record IsSection (section : Section) : Type 0 where
+-- sections in the page file are of version 2, and their bytes are zeros
+pub record IsSection (v : Version) (section : Section) : Type 0 where
   pub name : IsName section.name
   pub whole : length section.bytes % 512 ≡ 0
   pub some : 512 ≤ length section.bytes
+  pub paged : is_paged_kind section.kind ≡ true → (v ≡ version.Two) × (section.bytes ≡ replicate (length section.bytes) 0)
 
-pub record AreSections (sections : List Section) : Type 0 where
+pub record AreSections (v : Version) (sections : List Section) : Type 0 where
   pub few : length sections ≤ 64
   pub pages : sum_by section_pages sections ≤ 16384
-  pub each : All IsSection sections
+  pub each : All (IsSection v) sections
   pub differ : AllPairs (λ s t. s.name ≢ t.name) sections
 
 -- the limits of a process, in their order
@@ -66,13 +71,23 @@ pub record IsLimited (spec : ProcSpec) : Type 0 where
   pub extent : spec.quota ≤ spec.extent
   pub most : spec.extent ≤ 1024
 
--- a process alone in memory always finds a free or a modified page, and a victim
-pub record IsProcess (frames bad : ℕ) (spec : ProcSpec) : Type 0 where
+-- the pages that a process may pin
+abbrev pub pins_of : Version → ProcSpec → ℕ
+pins_of version.One spec = 0
+pins_of version.Two spec = spec.locks
+
+-- and all processes together
+abbrev pub all_pins : Config → ℕ
+all_pins config = sum_by (pins_of config.version) config.procs
+
+-- a process alone in memory but for pinned pages always finds a free or a modified page, and a victim; as many
+-- frames are kept as are bad or may be pinned
+pub record IsProcess (frames kept : ℕ) (spec : ProcSpec) : Type 0 where
   pub locks : spec.locks + 2 ≤ spec.limit
   pub quota : spec.limit ≤ spec.quota
   pub extent : spec.quota ≤ spec.extent
   pub most : spec.extent ≤ 1024
-  pub room : spec.extent + bad + 2 ≤ frames
+  pub room : spec.extent + kept + 2 ≤ frames
 
 -- the page is one of the section's
 abbrev pub IsSectionPage : List Section → ℕ → ℕ → Type 0
@@ -94,9 +109,10 @@ pub record IsMapping (procs : ℕ) (sections : List Section) (m : Mapping) : Typ
 abbrev pub AreApart : Mapping → Mapping → Type 0
 AreApart m n = ((m.proc).0 ≢ (n.proc).0) ⊎ (((m.at).0 + 512 * m.pages ≤ (n.at).0) ⊎ ((n.at).0 + 512 * n.pages ≤ (m.at).0))
 
--- section blocks by section and page, the page file's blocks, and as many swap blocks of a process as its extent
+-- section blocks by section and page, but none of a section in the page file, the page file's blocks, and as many
+-- swap blocks of a process as its extent
 abbrev pub IsBlock : Config → BlockId → Type 0
-IsBlock config (block.Section s page) = IsSectionPage config.sections s.0 page
+IsBlock config (block.Section s page) = IsSectionPage config.sections s.0 page × (paged_of (slice_get config.sections s.0) ≡ false)
 IsBlock config (block.PageFile b) = b < config.pagefile
 IsBlock config (block.Swap p n) = (spec : ProcSpec) × (slice_get config.procs p.0 ≡ Some spec) × (n < spec.extent)
 
@@ -105,23 +121,30 @@ pub record AreFails (config : Config) (fails : Fails) : Type 0 where
   pub some : (1 ≤ length fails.calls) × (length fails.calls ≤ 16)
   pub calls : All (λ call. 1 ≤ call) fails.calls
 
-pub record IsTask (procs : ℕ) (task : Task) : Type 0 where
+pub record IsTask (v : Version) (procs : ℕ) (task : Task) : Type 0 where
   pub proc : (task.proc).0 < procs
   pub request : IsWellFormedRequest task.request
+  pub of_version : IsRequestOf v task.request
+
+-- version 1 has fewer frames
+abbrev pub FitsVersion : Version → ℕ → Type 0
+FitsVersion version.One frames = frames ≤ 4096
+FitsVersion version.Two frames = frames ≤ 16384
 
 -- all that a trace's configuration keeps
 pub record IsWellFormed (config : Config) : Type 0 where
-  pub frames : (8 ≤ config.frames) × (config.frames ≤ 4096)
+  pub frames : (8 ≤ config.frames) × (config.frames ≤ 16384)
+  pub of_version : FitsVersion config.version config.frames
   pub bad : All (λ f. f < config.frames) config.bad
   pub bad_differ : AllPairs (λ f g. f ≢ g) config.bad
   pub pagefile : (1 ≤ config.pagefile) × (config.pagefile ≤ 16384)
   pub params : AreParams config.params
-  pub sections : AreSections config.sections
+  pub sections : AreSections config.version config.sections
   pub some_process : (1 ≤ length config.procs) × (length config.procs ≤ 16)
-  pub procs : All (IsProcess config.frames (length config.bad)) config.procs
+  pub procs : All (IsProcess config.frames (length config.bad + all_pins config)) config.procs
   pub maps : All (IsMapping (length config.procs) config.sections) config.maps
   pub maps_apart : AllPairs AreApart config.maps
   pub fails : All (AreFails config) config.fails
   pub fails_differ : AllPairs (λ a b. a.block ≢ b.block) config.fails
   pub few_tasks : length config.body ≤ 100000
-  pub body : All (IsTask (length config.procs)) config.body
+  pub body : All (IsTask config.version (length config.procs)) config.body

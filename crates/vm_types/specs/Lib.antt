@@ -3,8 +3,10 @@ pub mod Access
 pub mod Ring
 pub mod Adjust
 pub mod Same
+pub mod Kinds
 pub mod WellFormed
 pub mod Configuration
+pub mod SectionBlocks
 pub mod Loan
 pub mod Cluster
 pub mod PagePlaces

@@ -1,6 +1,8 @@
 -- What makes a reference and a service well formed. Source: references and addresses by the VAX
 -- Architecture Reference Manual, narrowed to aligned references; ranges are this project's own.
 use Rattle.std.specs.Prelude.{◌≡◌, ◌≢◌, ◌⊎◌, ℕ, ◌+◌, ◌-◌, ◌*◌, ◌%◌, ◌^◌, ◌<◌, ◌≤◌}
+use Rattle.vm_types.specs.declared.config.Version.{Version}
+use Rattle.vm_types.specs.declared.config.Version.TheVariants as version
 use Rattle.vm_types.specs.declared.reference.Width.{Width}
 use Rattle.vm_types.specs.declared.reference.Width.TheVariants.{One, Two, Four}
 use Rattle.vm_types.specs.declared.reference.Op.{Op}
@@ -53,7 +55,19 @@ IsWellFormedService (service.Protect at pages prot) = IsRange at.0 pages × IsCo
 IsWellFormedService (service.Lock at pages) = IsRange at.0 pages
 IsWellFormedService (service.Unlock at pages) = IsRange at.0 pages
 IsWellFormedService (service.Purge at pages) = IsRange at.0 pages
+IsWellFormedService (service.Pin at pages) = IsRange at.0 pages
+IsWellFormedService (service.Unpin at pages) = IsRange at.0 pages
 IsWellFormedService (service.Adjust limit) = limit < 2 ^ 32
+
+-- pages are pinned and unpinned in version 2 alone
+abbrev pub IsServiceOf : Version → Service → Type 0
+IsServiceOf v (service.Pin at pages) = v ≡ version.Two
+IsServiceOf v (service.Unpin at pages) = v ≡ version.Two
+IsServiceOf v other = Unit {0}
+
+abbrev pub IsRequestOf : Version → Request → Type 0
+IsRequestOf v (request.Reference r) = Unit {0}
+IsRequestOf v (request.Service s) = IsServiceOf v s
 
 abbrev pub IsWellFormedRequest : Request → Type 0
 IsWellFormedRequest (request.Reference r) = IsWellFormedReference r

@@ -35,12 +35,23 @@ pub struct Params {
     pub borrowlim: u32,
 }
 
-/// A section: its name of 2 to 15 bytes, whether it is shared (else copy on reference), and the
-/// bytes of its pages, 512 for each.
+/// What stands behind the pages of a section.
+#[derive(Clone, Copy, Debug, PartialEq, Eq)]
+pub enum SectionKind {
+    /// A file, which its processes share.
+    Shared,
+    /// A file, of whose pages each process gets copies at its first reference.
+    Crf,
+    /// The page file; processes share it, and its pages are zeros at first.
+    Paged,
+}
+
+/// A section: its name of 2 to 15 bytes, its kind, and the bytes of its pages, 512 for each; those
+/// of one in the page file are zeros.
 #[derive(Debug, Drop)]
 pub struct Section {
     pub name: Listed<u8>,
-    pub shared: bool,
+    pub kind: SectionKind,
     pub bytes: Listed<u8>,
 }
 
@@ -85,10 +96,20 @@ pub struct Task {
     pub request: Request,
 }
 
+/// The version of a trace's format, 1 or 2.
+#[derive(Clone, Copy, Debug, PartialEq, Eq)]
+pub enum Version {
+    /// At most 4096 frames; sections have files, and nothing is pinned.
+    One,
+    /// At most 16,384 frames; sections may be in the page file, and pages may be pinned.
+    Two,
+}
+
 /// What a trace says: the machine, its sections, processes and mappings, and the requests in order.
 #[derive(Debug, Drop)]
 pub struct Config {
-    /// Page frames, 8 to 4096.
+    pub version: Version,
+    /// Page frames, 8 to 4096, in version 2 to 16,384.
     pub frames: u32,
     /// The bad ones, each once.
     pub bad: Listed<u32>,

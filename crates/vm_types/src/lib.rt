@@ -6,6 +6,7 @@ mod address;
 mod config;
 mod faults;
 mod in_tables;
+mod kinds;
 mod listed;
 mod names;
 mod pool_name;
@@ -16,9 +17,12 @@ mod service;
 
 pub use access::allowed;
 pub use address::split;
-pub use config::{Config, Fails, Mapping, Origin, Params, ProcSpec, Section, Task};
+pub use config::{
+    Config, Fails, Mapping, Origin, Params, ProcSpec, Section, SectionKind, Task, Version,
+};
 pub use faults::{Failed, NoMemory};
 pub use in_tables::page_place;
+pub use kinds::is_shared_kind;
 pub use listed::Listed;
 pub use names::{Addr, BlockId, FrameState, Page, Pfn, Proc, ProcStatus, Seat, SecId};
 pub use pool_name::PoolName;

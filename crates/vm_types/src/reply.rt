@@ -35,7 +35,7 @@ pub enum Answer {
     InUse,
     /// A page of the range isn't mapped.
     Unmapped,
-    /// More pages would be locked in the working set than the process may lock.
+    /// More pages would be locked in the working set or in memory than the process may lock.
     LockLimit,
     /// The working set limit is below the locked pages and two, or above the extent.
     BadLimit,

@@ -14,8 +14,12 @@ pub enum Service {
     Lock { at: Addr, pages: u32 },
     /// Unlocks the locked pages: `ULWSET` ($ULWSET).
     Unlock { at: Addr, pages: u32 },
-    /// Evicts the valid pages that aren't locked: `PURGWS` ($PURGWS).
+    /// Evicts the valid pages that are neither locked nor pinned: `PURGWS` ($PURGWS).
     Purge { at: Addr, pages: u32 },
+    /// Pins the valid pages, which then stay in memory: `LCKPAG` ($LCKPAG).
+    Pin { at: Addr, pages: u32 },
+    /// Unpins the pinned pages: `ULKPAG` ($ULKPAG).
+    Unpin { at: Addr, pages: u32 },
     /// Sets the working set limit, in pages: `ADJWSL` ($ADJWSL).
     Adjust { limit: u32 },
 }

@@ -5,9 +5,9 @@ use Rattle.std.specs.Option.{is_some, IsSome}
 use Rattle.std.proofs.lemmas.Bool.{cond_below, not-true, not-false, both_ways}
 use Rattle.std.proofs.lemmas.List.{get_or_default}
 use Rattle.std.proofs.lemmas.List.Sums.{sum_by-cons, sum_by-append, sum_by-take-drop}
-use Rattle.vm_types.specs.Ring.{Held, Ring, filled, from_hand, slot_after, is_empty_slot, is_filled_slot, is_unlocked_slot}
+use Rattle.vm_types.specs.Ring.{Held, Ring, filled, from_hand, slot_after, is_empty_slot, is_filled_slot, is_fixed, is_loose_slot}
 use Rattle.working_set.specs.Slots.{slot_at}
-use Rattle.working_set.specs.Offers.{OffersEmpty, OffersVictim, OffersNone, IsUnlocked, IsEmptyOrLocked}
+use Rattle.working_set.specs.Offers.{IsEmptyOrFixed, IsLoose, OffersEmpty, OffersVictim, OffersNone}
 use Rattle.working_set.proofs.FromHand.{length-from_hand, slot_after-lt-length, first_passes, before_fails, all_fail}
 
 -- what the tests of a slot say
@@ -19,13 +19,13 @@ is_empty_slot-false : (slot : Option Held) → is_empty_slot slot ≡ false → 
 is_empty_slot-false None h = cc
 is_empty_slot-false (Some held) h = refl
 
-is_unlocked_slot-true : (slot : Option Held) → is_unlocked_slot slot ≡ true → IsUnlocked slot
-is_unlocked_slot-true None h = cc
-is_unlocked_slot-true (Some held) h = not-true held.locked h
+is_loose_slot-true : (slot : Option Held) → is_loose_slot slot ≡ true → IsLoose slot
+is_loose_slot-true None h = cc
+is_loose_slot-true (Some held) h = not-true (is_fixed held) h
 
-is_unlocked_slot-false : (slot : Option Held) → is_unlocked_slot slot ≡ false → IsEmptyOrLocked slot
-is_unlocked_slot-false None h = tt
-is_unlocked_slot-false (Some held) h = not-false held.locked h
+is_loose_slot-false : (slot : Option Held) → is_loose_slot slot ≡ false → IsEmptyOrFixed slot
+is_loose_slot-false None h = tt
+is_loose_slot-false (Some held) h = not-false (is_fixed held) h
 
 -- each slot before the first empty one is filled
 position_or_len-le-filled : (slots : List (Option Held)) → position_or_len is_empty_slot slots ≤ filled slots
@@ -58,26 +58,26 @@ module _ (ring : Ring) (on_slot : ring.hand < length ring.slots) where
     before = λ k within before. is_empty_slot-false _ (before_fails ring on_slot is_empty_slot places first k within before);
   }
 
-  pub offers_victim : (limit places : ℕ) → limit ≤ filled ring.slots → position is_unlocked_slot (from_hand ring) ≡ Some places → OffersVictim ring limit (slot_after ring places)
+  pub offers_victim : (limit places : ℕ) → limit ≤ filled ring.slots → position is_loose_slot (from_hand ring) ≡ Some places → OffersVictim ring limit (slot_after ring places)
   offers_victim limit places full first = record {
     full = full;
-    exists = slot_after-lt-length ring on_slot is_unlocked_slot places first;
-    unlocked = is_unlocked_slot-true _ (first_passes ring on_slot is_unlocked_slot places first);
-    before = λ k within before. is_unlocked_slot-false _ (before_fails ring on_slot is_unlocked_slot places first k within before);
+    exists = slot_after-lt-length ring on_slot is_loose_slot places first;
+    loose = is_loose_slot-true _ (first_passes ring on_slot is_loose_slot places first);
+    before = λ k within before. is_loose_slot-false _ (before_fails ring on_slot is_loose_slot places first k within before);
   }
 
-  pub offers_none : (limit : ℕ) → limit ≤ filled ring.slots → position is_unlocked_slot (from_hand ring) ≡ None → OffersNone ring limit
+  pub offers_none : (limit : ℕ) → limit ≤ filled ring.slots → position is_loose_slot (from_hand ring) ≡ None → OffersNone ring limit
   offers_none limit full none = record {
     full = full;
-    locked = λ k d within. subst IsEmptyOrLocked (get_or_default ring.slots k None d within) (is_unlocked_slot-false _ (all_fail ring on_slot is_unlocked_slot none k within));
+    fixed = λ k d within. subst IsEmptyOrFixed (get_or_default ring.slots k None d within) (is_loose_slot-false _ (all_fail ring on_slot is_loose_slot none k within));
   }
 
 -- a page that is not locked is no locked one
-not_both : (slot : Option Held) → IsUnlocked slot → IsEmptyOrLocked slot → ⊥
-not_both None unlocked _ = unlocked
-not_both (Some held) unlocked locked = both_ways held.locked unlocked locked
+not_both : (slot : Option Held) → IsLoose slot → IsEmptyOrFixed slot → ⊥
+not_both None loose _ = loose
+not_both (Some held) loose fixed = both_ways (is_fixed held) loose fixed
 
 -- where there is a slot to replace, not every page is locked
 pub victim_refutes_none : (ring : Ring) (limit slot : ℕ) → OffersVictim ring limit slot → OffersNone ring limit → ⊥
 victim_refutes_none ring limit slot offered none =
-    not_both (slot_at ring slot) offered.unlocked (none.locked slot None offered.exists)
+    not_both (slot_at ring slot) offered.loose (none.fixed slot None offered.exists)

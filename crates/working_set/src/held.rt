@@ -1,12 +1,13 @@
-ghost use Rattle.std.specs.Prelude.{◌≡◌};
+ghost use Rattle.std.specs.Prelude.{◌≡◌, false};
 
 use std::marker::Model;
 
-/// A page in a slot, by its number, and whether it is locked there.
+/// A page in a slot, by its number, and whether it is locked there, and pinned in memory.
 #[derive(Clone, Copy, Debug)]
 pub(crate) struct Held {
     vpn: u32,
     locked: bool,
+    pinned: bool,
 }
 
 impl Model for Held {
@@ -15,17 +16,37 @@ impl Model for Held {
 
     ghost Value = { HeldPage };
 
-    ghost view = { λ h. record { vpn = h.vpn; locked = h.locked } };
+    ghost view = { λ h. record { vpn = h.vpn; locked = h.locked; pinned = h.pinned } };
 
-    ghost inverse = { λ h. record { vpn = h.vpn; locked = h.locked } };
+    ghost inverse = { λ h. record { vpn = h.vpn; locked = h.locked; pinned = h.pinned } };
 }
 
 impl Held {
-    /// The page, locked or not.
-    pub(crate) fn new(vpn: u32, locked: bool) -> Held
-        ensures { result ≡ record { vpn = vpn; locked = locked } }
+    ghost use Rattle.vm_types.specs.Ring.{is_fixed};
+
+    /// The page, neither locked nor pinned.
+    pub(crate) fn new(vpn: u32) -> Held
+        ensures { result ≡ record { vpn = vpn; locked = false; pinned = false } }
     {
-        Held { vpn, locked }
+        Held {
+            vpn,
+            locked: false,
+            pinned: false,
+        }
+    }
+
+    /// The page, locked or not.
+    pub(crate) fn with_lock(self, locked: bool) -> Held
+        ensures { result ≡ record self { locked = locked } }
+    {
+        Held { locked, ..self }
+    }
+
+    /// The page, pinned or not.
+    pub(crate) fn with_pin(self, pinned: bool) -> Held
+        ensures { result ≡ record self { pinned = pinned } }
+    {
+        Held { pinned, ..self }
     }
 
     /// The number of the page.
@@ -40,5 +61,19 @@ impl Held {
         ensures { result ≡ self.locked }
     {
         self.locked
+    }
+
+    /// Whether the page is pinned.
+    pub(crate) fn is_pinned(self) -> bool
+        ensures { result ≡ self.pinned }
+    {
+        self.pinned
+    }
+
+    /// Whether the page is locked or pinned.
+    pub(crate) fn is_fixed(self) -> bool
+        ensures { result ≡ is_fixed self }
+    {
+        self.locked || self.pinned
     }
 }

@@ -1,5 +1,5 @@
 ghost use Rattle.std.specs.Prelude.{◌≡◌, ℕ, true, false, ◌+◌, ◌%◌, ◌<◌, ◌≤◌, ◌^◌, ◌↔◌, ◌++◌, length, take, drop, position, replicate, slice_set, IfOk, if◌then◌else◌};
-ghost use Rattle.vm_types.specs.Ring.{is_empty_slot, is_locked_slot, is_unlocked_slot};
+ghost use Rattle.vm_types.specs.Ring.{is_empty_slot, is_fixed_slot, is_locked_slot, is_loose_slot, is_pinned_slot};
 
 use crate::held::Held;
 use std::alloc::Global;
@@ -13,25 +13,25 @@ pub struct Ring {
     slots: Vec<Option<Held>>,
     hand: u32,
     pages: u32,
-    locks: u32,
+    marks: u32,
 }
 
 impl Model for Ring {
     ghost use Rattle.std.specs.Prelude.{◌≡◌};
-    ghost use Rattle.vm_types.specs.Ring.{Ring as RingOfSlots, filled, locked};
+    ghost use Rattle.vm_types.specs.Ring.{Ring as RingOfSlots, filled, fixed};
     ghost use Rattle.working_set.specs.Slots.{IsRing};
 
     ghost Value = { RingOfSlots };
 
     ghost view = { λ r. record { slots = r.slots.items; hand = r.hand } };
 
-    ghost invariant = { λ r. (r.pages ≡ filled r.slots.items) × (r.locks ≡ locked r.slots.items)
+    ghost invariant = { λ r. (r.pages ≡ filled r.slots.items) × (r.marks ≡ fixed r.slots.items)
         × IsRing (record { slots = r.slots.items; hand = r.hand }) };
 }
 
 impl Ring {
-    ghost use Rattle.vm_types.specs.Ring.{filled, locked, choose, slot_after, fresh_slot};
-    ghost use Rattle.working_set.specs.Slots.{IsRing, IsEmptySlot, IsFilledSlot, slot_at, page_at, lock_at, with_lock};
+    ghost use Rattle.vm_types.specs.Ring.{filled, fixed, choose, slot_after, fresh_slot};
+    ghost use Rattle.working_set.specs.Slots.{IsRing, IsEmptySlot, IsFilledSlot, slot_at, page_at, lock_at, pin_at, with_lock, with_pin};
     ghost use Rattle.working_set.specs.Offers.{Offers, OffersNone};
 
     /// A ring of so many slots (1 at least): each is empty, and the hand stands on slot 0.
@@ -47,13 +47,13 @@ impl Ring {
             slots: vec![in alloc; None; slots as usize]?,
             hand: 0,
             pages: 0,
-            locks: 0,
+            marks: 0,
         })
     }
 
     /// The slot for one more page at this limit (at most the number of slots): below the limit the
-    /// first empty one from the hand on, going round, else the first whose page is not locked, if
-    /// there is one. Looks at each slot once at most.
+    /// first empty one from the hand on, going round, else the first whose page is neither locked nor
+    /// pinned, if there is one. Looks at each slot once at most.
     pub fn choose(&self, limit: u32) -> Choice
         requires { limit ≤ length self.now.slots }
         ensures chosen { result ≡ choose self.now limit }
@@ -64,13 +64,13 @@ impl Ring {
             let places = places_to_empty(&self.slots, self.hand as usize).unwrap();
             return Choice::Empty(self.slot_after(places));
         }
-        match places_to_unlocked(&self.slots, self.hand as usize) {
+        match places_to_loose(&self.slots, self.hand as usize) {
             Some(places) => Choice::Victim(self.slot_after(places)),
             None => Choice::AllLocked,
         }
     }
 
-    /// Puts a page, by its number (any), into an empty slot, not locked. With `step` the hand goes to
+    /// Puts a page, by its number (any), into an empty slot, neither locked nor pinned. With `step` the hand goes to
     /// the slot after it, slot 0 after the last.
     #[tactic(auto, using(crate::proofs::Counts::filled_below))]
     pub fn place(&mut self, slot: u32, vpn: u32, step: bool)
@@ -81,14 +81,14 @@ impl Ring {
         } }
         ensures ring { IsRing self.new }
     {
-        self.slots[slot as usize] = Some(Held::new(vpn, false));
+        self.slots[slot as usize] = Some(Held::new(vpn));
         self.pages += 1;
         if step {
             self.hand = round(slot as usize + 1, self.slots.len());
         }
     }
 
-    /// Empties the slot, with its lock, where it was empty too. With `point` the hand stands on it.
+    /// Empties the slot, with its lock and its pin, where it was empty too. With `point` the hand stands on it.
     pub fn clear(&mut self, slot: u32, point: bool)
         requires { slot < length self.old.slots }
         ensures cleared { self.new ≡ record {
@@ -99,7 +99,7 @@ impl Ring {
     {
         let was = self.slots[slot as usize].take();
         self.pages -= u32::from(was.is_some());
-        self.locks -= u32::from(is_locked(was));
+        self.marks -= u32::from(is_fixed(was));
         if point {
             self.hand = slot;
         }
@@ -139,12 +139,30 @@ impl Ring {
         self.pages
     }
 
-    /// How many slots hold a locked page.
+    /// Pins the page in the slot. It may be pinned already.
+    pub fn pin(&mut self, slot: u32)
+        requires { IsFilledSlot self.old slot }
+        ensures pinned { self.new ≡ with_pin self.old slot true }
+        ensures ring { IsRing self.new }
+    {
+        self.set_pin(slot, true);
+    }
+
+    /// Unpins the page in the slot. It may be unpinned already.
+    pub fn unpin(&mut self, slot: u32)
+        requires { IsFilledSlot self.old slot }
+        ensures unpinned { self.new ≡ with_pin self.old slot false }
+        ensures ring { IsRing self.new }
+    {
+        self.set_pin(slot, false);
+    }
+
+    /// How many slots hold a page that is locked or pinned.
     pub fn locked(&self) -> u32
-        ensures value { result ≡ locked self.now.slots }
+        ensures value { result ≡ fixed self.now.slots }
         ensures ring { IsRing self.now }
     {
-        self.locks
+        self.marks
     }
 
     /// The number of the page in the slot: none where it is empty.
@@ -161,6 +179,14 @@ impl Ring {
         ensures { result ≡ lock_at self.now slot }
     {
         is_locked(self.slots[slot as usize])
+    }
+
+    /// Whether the page in the slot is pinned: not where it is empty.
+    pub fn pinned(&self, slot: u32) -> bool
+        requires { slot < length self.now.slots }
+        ensures { result ≡ pin_at self.now slot }
+    {
+        is_pinned(self.slots[slot as usize])
     }
 
     /// The slot on which the hand stands.
@@ -189,9 +215,24 @@ impl Ring {
         ensures ring { IsRing self.new }
     {
         if let Some(held) = self.slots[slot as usize] {
-            self.slots[slot as usize] = Some(Held::new(held.vpn(), lock));
-            self.locks -= u32::from(held.is_locked());
-            self.locks += u32::from(lock);
+            let new = held.with_lock(lock);
+            self.slots[slot as usize] = Some(new);
+            self.marks -= u32::from(held.is_fixed());
+            self.marks += u32::from(new.is_fixed());
+        }
+    }
+
+    /// Pins or unpins the page in the slot.
+    fn set_pin(&mut self, slot: u32, pin: bool)
+        requires { IsFilledSlot self.old slot }
+        ensures pinned { self.new ≡ with_pin self.old slot pin }
+        ensures ring { IsRing self.new }
+    {
+        if let Some(held) = self.slots[slot as usize] {
+            let new = held.with_pin(pin);
+            self.slots[slot as usize] = Some(new);
+            self.marks -= u32::from(held.is_fixed());
+            self.marks += u32::from(new.is_fixed());
         }
     }
 }
@@ -223,11 +264,25 @@ fn is_locked(slot: Option<Held>) -> bool
     slot.is_some_and(Held::is_locked)
 }
 
-/// Whether the slot holds a page that is not locked.
-fn is_unlocked(slot: Option<Held>) -> bool
-    ensures { result ≡ is_unlocked_slot slot }
+/// Whether the slot holds a pinned page.
+fn is_pinned(slot: Option<Held>) -> bool
+    ensures { result ≡ is_pinned_slot slot }
 {
-    slot.is_some_and(|held| !held.is_locked())
+    slot.is_some_and(Held::is_pinned)
+}
+
+/// Whether the slot holds a page that is locked or pinned.
+fn is_fixed(slot: Option<Held>) -> bool
+    ensures { result ≡ is_fixed_slot slot }
+{
+    slot.is_some_and(Held::is_fixed)
+}
+
+/// Whether the slot holds a page that is neither locked nor pinned.
+fn is_loose(slot: Option<Held>) -> bool
+    ensures { result ≡ is_loose_slot slot }
+{
+    slot.is_some_and(|held| !held.is_fixed())
 }
 
 /// How many places from the hand on the first empty slot is.
@@ -243,15 +298,15 @@ fn places_to_empty(slots: &[Option<Held>], hand: usize) -> Option<usize>
     back.iter().chain(front).position(|slot| is_empty(*slot))
 }
 
-/// How many places from the hand on the first page that is not locked is.
-fn places_to_unlocked(slots: &[Option<Held>], hand: usize) -> Option<usize>
+/// How many places from the hand on the first page that is neither locked nor pinned is.
+fn places_to_loose(slots: &[Option<Held>], hand: usize) -> Option<usize>
     requires { hand < length slots.now }
-    ensures { result ≡ position is_unlocked_slot (drop hand slots.now ++ take hand slots.now) }
+    ensures { result ≡ position is_loose_slot (drop hand slots.now ++ take hand slots.now) }
 {
     // Mostly it is the hand's own slot.
-    if is_unlocked(slots[hand]) {
+    if is_loose(slots[hand]) {
         return Some(0);
     }
     let (front, back) = slots.split_at(hand);
-    back.iter().chain(front).position(|slot| is_unlocked(*slot))
+    back.iter().chain(front).position(|slot| is_loose(*slot))
 }

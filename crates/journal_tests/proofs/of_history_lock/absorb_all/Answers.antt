@@ -7,6 +7,11 @@ use Rattle.history_lock.specs.Passes.{numbers}
 use Rattle.history_lock.proofs.Places.{still_there, last_there}
 use Rattle.journal_tests.proofs.of_history_lock.absorb_all.Goals as goal
 
+pub absorb-requires-clause-other_idle : goal.absorb-requires-clause-other_idle
+absorb-requires-clause-other_idle c =
+    let mine = c.loop-job.invariant.jobs (length c.pop-in-loop-job.new.self.items) c.in-Some.job (last_there c.pop-in-loop-job.new.self.items c.loop-job.jobs.items c.in-Some.job c.in-Some.ensures.items) in
+    mine.2.1
+
 pub loop-job-preserved : goal.loop-job-preserved
 loop-job-preserved c = let left : ℕ = length c.pop-in-loop-job.new.self.items in let popped = c.in-Some.ensures.items in let inv = c.loop-job.invariant in let fewer = c.in-Some.ensures.len in
     let mine = inv.jobs left c.in-Some.job (last_there c.pop-in-loop-job.new.self.items c.loop-job.jobs.items c.in-Some.job popped) in let place = mine.1 in record {

@@ -1,7 +1,7 @@
 use Rattle.std.proofs.Common.{◌≡◌, ◌++◌, ◌∙◌, ap, sym, refl, arith}
 use Rattle.std.proofs.lemmas.Bool.{false≢true}
 use Rattle.vm_types.specs.WellFormed.{IsWellFormedService}
-use Rattle.vm_types.specs.declared.service.Service.TheVariants.{Create, Delete, Protect, Lock, Unlock, Purge, Adjust}
+use Rattle.vm_types.specs.declared.service.Service.TheVariants.{Create, Delete, Protect, Lock, Unlock, Purge, Adjust, Pin, Unpin}
 use Rattle.vm_text.specs.Services.{service_words}
 use Rattle.line_reader.proofs.Behind.{behind, first, first_byte}
 use Rattle.line_reader.proofs.requests.take_service.Goals as goal
@@ -17,6 +17,8 @@ returns-in_err-at c = rw c.from_residual-in_err-at.ensures (record {
         | Lock at pages ↦ λ has e. c.in_err-at.ensures.none (at, pages) _ has (behind e (sym c.in_ok-name.ensures))
         | Unlock at pages ↦ λ has e. c.in_err-at.ensures.none (at, pages) _ has (behind e (sym c.in_ok-name.ensures))
         | Purge at pages ↦ λ has e. c.in_err-at.ensures.none (at, pages) _ has (behind e (sym c.in_ok-name.ensures))
+        | Pin at pages ↦ λ has e. c.in_err-at.ensures.none (at, pages) _ has (behind e (sym c.in_ok-name.ensures))
+        | Unpin at pages ↦ λ has e. c.in_err-at.ensures.none (at, pages) _ has (behind e (sym c.in_ok-name.ensures))
         | Adjust limit ↦ λ has e. false≢true (c.if-is.ensures.1 (first e (sym c.in_ok-name.ensures)))
       ] has e;
 })
@@ -32,6 +34,8 @@ returns-in_err-prot c = rw c.from_residual-in_err-prot.ensures (record {
         | Lock at pages ↦ λ has e. absurd (omega (arith, ap first_byte (first e (sym c.in_ok-name.ensures) ∙ sym (c.if-is-2.ensures.0 refl))))
         | Unlock at pages ↦ λ has e. absurd (omega (arith, ap first_byte (first e (sym c.in_ok-name.ensures) ∙ sym (c.if-is-2.ensures.0 refl))))
         | Purge at pages ↦ λ has e. absurd (omega (arith, ap first_byte (first e (sym c.in_ok-name.ensures) ∙ sym (c.if-is-2.ensures.0 refl))))
+        | Pin at pages ↦ λ has e. absurd (omega (arith, ap first_byte (first e (sym c.in_ok-name.ensures) ∙ sym (c.if-is-2.ensures.0 refl))))
+        | Unpin at pages ↦ λ has e. absurd (omega (arith, ap first_byte (first e (sym c.in_ok-name.ensures) ∙ sym (c.if-is-2.ensures.0 refl))))
         | Adjust limit ↦ λ has e. absurd (omega (arith, ap first_byte (first e (sym c.in_ok-name.ensures) ∙ sym (c.if-is-2.ensures.0 refl))))
       ] has e;
 })
@@ -47,6 +51,8 @@ returns-in_err-prot-2 c = rw c.from_residual-in_err-prot-2.ensures (record {
         | Lock at pages ↦ λ has e. absurd (omega (arith, ap first_byte (first e (sym c.in_ok-name.ensures) ∙ sym (c.if-is-3.ensures.0 refl))))
         | Unlock at pages ↦ λ has e. absurd (omega (arith, ap first_byte (first e (sym c.in_ok-name.ensures) ∙ sym (c.if-is-3.ensures.0 refl))))
         | Purge at pages ↦ λ has e. absurd (omega (arith, ap first_byte (first e (sym c.in_ok-name.ensures) ∙ sym (c.if-is-3.ensures.0 refl))))
+        | Pin at pages ↦ λ has e. absurd (omega (arith, ap first_byte (first e (sym c.in_ok-name.ensures) ∙ sym (c.if-is-3.ensures.0 refl))))
+        | Unpin at pages ↦ λ has e. absurd (omega (arith, ap first_byte (first e (sym c.in_ok-name.ensures) ∙ sym (c.if-is-3.ensures.0 refl))))
         | Adjust limit ↦ λ has e. absurd (omega (arith, ap first_byte (first e (sym c.in_ok-name.ensures) ∙ sym (c.if-is-3.ensures.0 refl))))
       ] has e;
 })

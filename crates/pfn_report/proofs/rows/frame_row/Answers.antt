@@ -1,8 +1,12 @@
-use Rattle.std.proofs.Common.{◌≡◌, ℕ, ◌+◌, ◌∙◌, Bool, ap, cond, nat_lt}
+use Rattle.std.proofs.Common.{◌≡◌, ℕ, ◌+◌, ◌∙◌, Bool, ap, arith, cond, nat_lt}
 use Rattle.std.specs.Prelude.{is_some}
+use Rattle.pager_model.specs.Around.{past_view}
 use Rattle.pager_model.specs.Flights.{open_flights}
 use Rattle.pager_model.specs.Lookups.{shares}
+use Rattle.pager_model.specs.Report.{refs_of}
 use Rattle.pager_model.specs.Transfers.{reads_on, writes_on}
+use Rattle.pager_laws.proofs.RunsAreSound.{run_kept}
+use Rattle.page_holders.proofs.Pins.{no_pins}
 use Rattle.state_fits.proofs.FrameRows.{row_is}
 use Rattle.vm_state.specs.History.{pager}
 use Rattle.vm_state.proofs.Owed.{byte_is}
@@ -18,4 +22,6 @@ returns g c =
     let shared : c.from.result ≡ cond (nat_lt 0 (shares a.valid f)) 1 0 = c.from.ensures ∙ (byte_is (nat_lt 0 c.args.count) ∙ ap (λ (n : ℕ). cond {A = ℕ} (nat_lt 0 n) 1 0) c.requires.shares) in
     let open_on : c.from-2.result ≡ reads_on f (open_flights s.past) + writes_on f (open_flights s.past) =
     c.from-2.ensures ∙ (byte_is c.is_some.result ∙ (ap (λ (b : Bool). cond {A = ℕ} b 1 0) (c.is_some.ensures ∙ ap is_some c.flight-flight.ensures) ∙ one_flight s.config s.past f c.run_law.ensures.formed c.run_law.ensures.run)) in
-    λ i. record { state = (seen i).state; page = (seen i).page; modify = (seen i).modify; refs = shared i + open_on i; shares = c.requires.shares i }
+    let none = no_pins s.config (past_view s.past) a (run_kept s.config s.past c.run_law.ensures.formed c.run_law.ensures.run) c.run_law.ensures.version f in
+    let counted : c.from.result + c.from-2.result ≡ refs_of s.past a f = omega (arith, shared, open_on, none) in
+    λ i. record { state = (seen i).state; page = (seen i).page; modify = (seen i).modify; refs = counted i; shares = c.requires.shares i }

@@ -1,30 +1,35 @@
 use Rattle.std.proofs.Common.{refl}
 use Rattle.pager_model.specs.Text.{status_line}
-use Rattle.program_ends.proofs.Wronging.{concludes_wrong, one_right}
-use Rattle.replay_cli.specs.Commands.{usage, obeyed}
+use Rattle.program_ends.proofs.Wronging.{concludes_wrong, one_right, seven_right}
+use Rattle.replay_cli.specs.Commands.{usage, unread_options, obeyed}
 use Rattle.replay_cli.specs.declared.words.Command.TheVariants.{Serial, Study, Make, Check}
 use Rattle.replay_cli.proofs.Making.{concludes_made}
 use Rattle.replay_cli.proofs.cli.conclude.Goals as goal
 
-pub returns-in-None-clause-outcome : goal.returns-in-None-clause-outcome
-returns-in-None-clause-outcome g c = record { status = 1; text = status_line 1; tells_it = record { told = usage c.in-None.ensures.none refl refl; says = one_right (status_line 1) }; ends = c.end_with.ensures }
+pub returns-in-Err-clause-outcome : goal.returns-in-Err-clause-outcome
+returns-in-Err-clause-outcome g c = record { status = 7; text = status_line 7; tells_it = record { told = unread_options c.in-Err.ensures.memory refl refl; says = seven_right (status_line 7) }; ends = c.end_with.ensures }
 
-pub returns-in-Some-Serial-clause-outcome : goal.returns-in-Some-Serial-clause-outcome
-returns-in-Some-Serial-clause-outcome g c =
-    let asks = rw c.in-Some-Serial.field-0-is at c.in-Some-Serial.ensures.some in
+pub returns-in-Ok-None-clause-outcome : goal.returns-in-Ok-None-clause-outcome
+returns-in-Ok-None-clause-outcome g c =
+    let none = rw c.in-Ok-None.field-0-is at c.in-Ok-None.ensures.none in
+    record { status = 1; text = status_line 1; tells_it = record { told = usage none refl refl; says = one_right (status_line 1) }; ends = c.end_with-in-Ok-None.ensures }
+
+pub returns-in-Ok-Some-Serial-clause-outcome : goal.returns-in-Ok-Some-Serial-clause-outcome
+returns-in-Ok-Some-Serial-clause-outcome g c =
+    let asks = rw c.in-Ok-Some-Serial.field-0-0-is at (rw c.in-Ok-Some-Serial.field-0-is at c.in-Ok-Some-Serial.ensures.some) in
     concludes_wrong (λ status text told. obeyed Serial status text asks told) c.serial.ensures.outcome
 
-pub returns-in-Some-Study-clause-outcome : goal.returns-in-Some-Study-clause-outcome
-returns-in-Some-Study-clause-outcome g c =
-    let asks = rw c.in-Some-Study.field-0-is at c.in-Some-Study.ensures.some in
-    concludes_wrong (λ status text told. obeyed (Study c.in-Some-Study.study) status text asks (told, refl)) c.study_trace.ensures.outcome
+pub returns-in-Ok-Some-Study-clause-outcome : goal.returns-in-Ok-Some-Study-clause-outcome
+returns-in-Ok-Some-Study-clause-outcome g c =
+    let asks = rw c.in-Ok-Some-Study.field-0-0-is at (rw c.in-Ok-Some-Study.field-0-is at c.in-Ok-Some-Study.ensures.some) in
+    concludes_wrong (λ status text told. obeyed (Study c.in-Ok-Some-Study.study) status text asks (told, refl)) c.study_trace.ensures.outcome
 
-pub returns-in-Some-Make-clause-outcome : goal.returns-in-Some-Make-clause-outcome
-returns-in-Some-Make-clause-outcome g c =
-    let asks = rw c.in-Some-Make.field-0-is at c.in-Some-Make.ensures.some in
-    concludes_wrong (λ status text told. obeyed (Make c.in-Some-Make.make) status text asks (told, refl)) (concludes_made c.run_made.ensures.outcome)
+pub returns-in-Ok-Some-Make-clause-outcome : goal.returns-in-Ok-Some-Make-clause-outcome
+returns-in-Ok-Some-Make-clause-outcome g c =
+    let asks = rw c.in-Ok-Some-Make.field-0-0-is at (rw c.in-Ok-Some-Make.field-0-is at c.in-Ok-Some-Make.ensures.some) in
+    concludes_wrong (λ status text told. obeyed (Make c.in-Ok-Some-Make.make) status text asks (told, refl)) (concludes_made c.run_made.ensures.outcome)
 
-pub returns-in-Some-Check-clause-outcome : goal.returns-in-Some-Check-clause-outcome
-returns-in-Some-Check-clause-outcome g c =
-    let asks = rw c.in-Some-Check.field-0-is at c.in-Some-Check.ensures.some in
+pub returns-in-Ok-Some-Check-clause-outcome : goal.returns-in-Ok-Some-Check-clause-outcome
+returns-in-Ok-Some-Check-clause-outcome g c =
+    let asks = rw c.in-Ok-Some-Check.field-0-0-is at (rw c.in-Ok-Some-Check.field-0-is at c.in-Ok-Some-Check.ensures.some) in
     concludes_wrong (λ status text told. obeyed Check status text asks (told, refl)) c.check.ensures.outcome

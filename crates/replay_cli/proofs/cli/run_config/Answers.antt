@@ -7,7 +7,7 @@ use Rattle.replay_cli.proofs.cli.run_config.Goals as goal
 pub print_run-requires : goal.print_run-requires
 print_run-requires g c =
     is_reported g.D.Block.Block.tells
-    c.args.config c.in-Ok.ensures.finished.0 c.in-Ok.finished c.deref.result.now c.deref-in-Ok.result.now c.requires c.in-Ok.ensures.finished.2 c.deref.ensures.value c.deref-in-Ok.ensures.value
+    c.args.config c.in-Ok.ensures.finished.0 c.in-Ok.finished c.deref.result.now c.deref-in-Ok.result.now c.requires.formed c.in-Ok.ensures.finished.2 c.deref.ensures.value c.deref-in-Ok.ensures.value
 
 pub returns-in-Ok-clause-outcome : goal.returns-in-Ok-clause-outcome
 returns-in-Ok-clause-outcome g c =
@@ -15,13 +15,13 @@ returns-in-Ok-clause-outcome g c =
     let status = run_status c.deref-in-Ok.result.now in
     let parts =
     are_parts g.D.Block.Block.tells
-    c.args.config c.in-Ok.ensures.finished.0 c.in-Ok.finished c.deref.result.now c.deref-in-Ok.result.now c.requires c.in-Ok.ensures.finished.2 c.deref.ensures.value c.deref-in-Ok.ensures.value in
+    c.args.config c.in-Ok.ensures.finished.0 c.in-Ok.finished c.deref.result.now c.deref-in-Ok.result.now c.requires.formed c.in-Ok.ensures.finished.2 c.deref.ensures.value c.deref-in-Ok.ensures.value in
     inl (record {
       status = status;
       text = run_text c.in-Ok.finished.config ended.past ended.rest status;
       outcome = run_outcome c.deref-in-Ok.result.now;
       answers = inl (finished_run g.D.Block.Block.tells
-          c.args.config c.in-Ok.ensures.finished.0 c.in-Ok.finished c.deref.result.now c.deref-in-Ok.result.now c.requires c.in-Ok.ensures.finished.2 c.deref.ensures.value c.deref-in-Ok.ensures.value
+          c.args.config c.in-Ok.ensures.finished.0 c.in-Ok.finished c.deref.result.now c.deref-in-Ok.result.now c.requires.formed c.in-Ok.ensures.finished.2 c.deref.ensures.value c.deref-in-Ok.ensures.value
           (g.D.Depot.seen c.args.depot.now) (g.D.Depot.seen c.run_serial.new.depot) (g.met.D.Depot.known c.args.depot.now)
           c.in-Ok.ensures.finished.1 c.runs_are_sound.ensures);
       ends = c.print_run.ensures ended.past ended.rest parts;

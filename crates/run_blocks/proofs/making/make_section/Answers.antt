@@ -1,4 +1,5 @@
 use Rattle.std.proofs.Common.{◌∙◌, ◌*◌, ◌+◌, ◌-◌, List, ℕ, ap, drop, length, sym, take, arith}
+use Rattle.vm_types.proofs.SectionBlocks.{few_blocks}
 use Rattle.frame_store.specs.Blocks.{section_block}
 use Rattle.run_blocks.proofs.Added.{added_item}
 use Rattle.run_blocks.proofs.SectionBytes.{few_pages, page_bytes}
@@ -16,9 +17,14 @@ loop-i-preserved g c =
 pub overflow_cast-i-end : goal.overflow_cast-i-end
 overflow_cast-i-end g c =
     let few = few_pages c.args.config.now.sections (c.args.s).0 c.args.section.now c.requires.formed.sections.pages (sym c.requires.there) in
-    omega (arith, few, ap length c.items-bytes.ensures)
+    omega (arith, few, few_blocks c.args.section.now, c.section_block_count-i-end.ensures)
 
 pub make_one-requires-clause-first : goal.make_one-requires-clause-first
 make_one-requires-clause-first g c κs within =
     ap (λ (bytes : List ℕ). take (512 * c.loop-i.i + 512 - 512 * c.loop-i.i) (drop (512 * c.loop-i.i) bytes)) c.items-bytes.ensures
     ∙ page_bytes c.args.config.now (c.args.s).0 c.loop-i.i c.args.section.now (sym c.requires.there)
+
+pub slice_bounds-make_one-end : goal.slice_bounds-make_one-end
+slice_bounds-make_one-end g c =
+    let few = few_blocks c.args.section.now in
+    omega (arith, c.loop-i-test.true, c.section_block_count-i-end.ensures, few, ap length c.items-bytes.ensures)

@@ -17,6 +17,9 @@ ask-requires-clause-process g c κs within = (task_formed c.args.state.now.confi
 pub ask-requires-clause-formed : goal.ask-requires-clause-formed
 ask-requires-clause-formed g c κs within = (task_formed c.args.state.now.config c.args.state.now.past c.in-Some.task c.requires.steady.between.formed (sym c.in-Some.ensures)).1
 
+pub ask-requires-clause-known : goal.ask-requires-clause-known
+ask-requires-clause-known g c κs within = (task_formed c.args.state.now.config c.args.state.now.past c.in-Some.task c.requires.steady.between.formed (sym c.in-Some.ensures)).2
+
 pub ask-requires-clause-carrier : goal.ask-requires-clause-carrier
 ask-requires-clause-carrier g c κs within =
     empty_at c.args.state.now c.args.carriers.now c.requires.carriers (c.in-Some.task.proc).0 c.index-carriers-task.result (task_seat c.args.state.now c.in-Some.task c.requires.steady (sym c.in-Some.ensures))

@@ -1,5 +1,5 @@
 use Rattle.std.proofs.Common.{◌<◌, ℕ, arith, length, subst, sym}
-use Rattle.vm_types.specs.WellFormed.{IsWellFormedRequest}
+use Rattle.vm_types.specs.WellFormed.{IsRequestOf, IsWellFormedRequest}
 use Rattle.vm_types.specs.declared.service.Request.{Request}
 use Rattle.serial_moves.proofs.AskedMoves.{asked_coming, asked_gone, asked_leaving, asked_service, is_coming_there}
 use Rattle.serial_moves.proofs.SteadySeats.{goes_as, here_as, leads_as}
@@ -11,6 +11,9 @@ status-requires-after_bounds g c κs within = subst (λ (n : ℕ). n < length c.
 -- ---- it is resident
 pub serve_next-requires-clause-formed : goal.serve_next-requires-clause-formed
 serve_next-requires-clause-formed g c κs within = subst (λ (x : Request). IsWellFormedRequest x) c.in-Service.is c.requires.formed
+
+pub serve_next-requires-clause-known : goal.serve_next-requires-clause-known
+serve_next-requires-clause-known g c κs within = subst (λ (x : Request). IsRequestOf c.args.state.now.config.version x) c.in-Service.is c.requires.known
 
 pub serve_next-requires-clause-here : goal.serve_next-requires-clause-here
 serve_next-requires-clause-here g c κs within = here_as c.args.state.now _ _ (asked_service c.args.state.now (c.args.seat).0 (c.args.task.proc).0 c.requires.own c.args.task.request c.in-Service.s c.in-Resident.ensures c.in-Service.is) c.requires.here

@@ -1,7 +1,19 @@
-use Rattle.study_command.specs.CommandLine.{AsksFor}
-use Rattle.study_command.specs.declared.words.Study.{Study}
-use Rattle.study_command.proofs.Options.{texts, if_none}
+use Rattle.std.proofs.Common.{rules, ◌≡◌, ℕ, List, Bor, ap, subst, sym, map}
+use Rattle.command_options.specs.Options.{AreNames}
+use Rattle.study_command.proofs.Asking.{are_names, names, none_asked_by, not_asked_by}
 use Rattle.study_command.proofs.words.study_of.Goals as goal
 
-pub returns-in_err-letter-clause-none : goal.returns-in_err-letter-clause-none
-returns-in_err-letter-clause-none c = if_none _ ((study : Study) → AsksFor (texts c.args.words.now) study → ⊥) (λ study asks. c.in_err-letter.ensures.none asks.letter asks.number asks.options)
+pub option_values-requires : goal.option_values-requires
+option_values-requires c =
+    let are : map (λ name. name.now) c.as_slice.result.now ≡ names = search rules in
+    subst AreNames (sym are) are_names
+
+pub returns-in-Ok-Some-clause-none : goal.returns-in-Ok-Some-clause-none
+returns-in-Ok-Some-clause-none c =
+    let are : map (λ name. name.now) c.as_slice.result.now ≡ names = search rules in
+    not_asked_by _ _ _ are _ _ c.in-Ok-Some.field-0-is c.in-Ok-Some.ensures.all _ (ap (map (λ (value : Bor (List ℕ)). value.now)) c.as_slice-in-Ok-Some.ensures.value) c.study_by.result c.study_by.ensures.none
+
+pub returns-in-Ok-None-clause-none : goal.returns-in-Ok-None-clause-none
+returns-in-Ok-None-clause-none c =
+    let are : map (λ name. name.now) c.as_slice.result.now ≡ names = search rules in
+    none_asked_by _ _ _ are _ c.in-Ok-None.field-0-is c.in-Ok-None.ensures.all

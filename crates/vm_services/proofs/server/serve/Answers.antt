@@ -15,4 +15,4 @@ resident-requires-clause-may g c κs within =
       short = c.run_law.ensures.short;
       seat_is = c.requires.idle;
       resident = subst (λ (n : ℕ). (pager c.args.state.now).status n ≡ status.Resident) (sym c.requires.own) (is_in_memory _ (ap is_resident (sym c.status.ensures) ∙ (sym c.is_resident.ensures ∙ c.if-is_resident.true)));
-    }) c.requires.formed (let spare = c.spare.ensures in let owed = c.owed.ensures in let paid = c.run_law.ensures.paid in omega (arith, spare, owed, paid))
+    }) c.requires.known c.requires.formed (let spare = c.spare.ensures in let owed = c.owed.ensures in let paid = c.run_law.ensures.paid in omega (arith, spare, owed, paid))

@@ -1,17 +1,32 @@
-use Rattle.std.proofs.Common.{arith}
+use Rattle.std.proofs.Common.{true, arith}
+use Rattle.pager_model.specs.Ring.{relocked_slot, repinned_slot}
 use Rattle.vm_state.proofs.AnswerShows as shows
 use Rattle.vm_state.proofs.serving.lock_answer.Goals as goal
 
-pub returns-then-locked-spec : goal.returns-then-locked-spec
-returns-then-locked-spec c =
+pub returns-then-locked-spec-clause-locked : goal.returns-then-locked-spec-clause-locked
+returns-then-locked-spec-clause-locked c =
     let more = c.if-locked-spec.true in
-    let within = c.locked_in.ensures in
+    let within = c.fixed_in.ensures in
     let all = c.locked.ensures.value in
-    shows.too_many c.args.ring.now c.args.spec.now c.args.at.0 c.args.pages c.count_in-count.result c.count_in-count.ensures (omega (arith, more, within, all))
+    shows.too_many c.args.ring.now c.args.spec.now c.args.at.0 c.args.pages c.count_in-count.result (relocked_slot true c.args.at.0 c.args.pages) (shows.locks_fix c.args.at.0 c.args.pages) c.count_in-count.ensures (omega (arith, more, within, all))
 
-pub returns-else-locked-spec : goal.returns-else-locked-spec
-returns-else-locked-spec c =
-    let few = c.if-locked-spec.false in
-    let within = c.locked_in.ensures in
+pub returns-then-locked-spec-clause-pinned : goal.returns-then-locked-spec-clause-pinned
+returns-then-locked-spec-clause-pinned c =
+    let more = c.if-locked-spec.true in
+    let within = c.fixed_in.ensures in
     let all = c.locked.ensures.value in
-    shows.few_enough c.args.ring.now c.args.spec.now c.args.at.0 c.args.pages c.count_in-count.result c.count_in-count.ensures (omega (arith, few, within, all))
+    shows.too_many c.args.ring.now c.args.spec.now c.args.at.0 c.args.pages c.count_in-count.result (repinned_slot true c.args.at.0 c.args.pages) (shows.pins_fix c.args.at.0 c.args.pages) c.count_in-count.ensures (omega (arith, more, within, all))
+
+pub returns-else-locked-spec-clause-locked : goal.returns-else-locked-spec-clause-locked
+returns-else-locked-spec-clause-locked c =
+    let few = c.if-locked-spec.false in
+    let within = c.fixed_in.ensures in
+    let all = c.locked.ensures.value in
+    shows.few_enough c.args.ring.now c.args.spec.now c.args.at.0 c.args.pages c.count_in-count.result (relocked_slot true c.args.at.0 c.args.pages) (shows.locks_fix c.args.at.0 c.args.pages) c.count_in-count.ensures (omega (arith, few, within, all))
+
+pub returns-else-locked-spec-clause-pinned : goal.returns-else-locked-spec-clause-pinned
+returns-else-locked-spec-clause-pinned c =
+    let few = c.if-locked-spec.false in
+    let within = c.fixed_in.ensures in
+    let all = c.locked.ensures.value in
+    shows.few_enough c.args.ring.now c.args.spec.now c.args.at.0 c.args.pages c.count_in-count.result (repinned_slot true c.args.at.0 c.args.pages) (shows.pins_fix c.args.at.0 c.args.pages) c.count_in-count.ensures (omega (arith, few, within, all))

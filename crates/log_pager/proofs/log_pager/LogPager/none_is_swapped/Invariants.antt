@@ -7,4 +7,4 @@ use Rattle.log_pager.proofs.log_pager.LogPager.none_is_swapped.Given as goal
 
 -- none of those so far lies there
 abbrev pub invariant-loop-lying : goal.invariant-loop-lying
-invariant-loop-lying l = (k : ℕ) (x : Lying) (n : ℕ) → k < l.lying-index → slice_get l.self.lies.items k ≡ Some x → lies_in l.self.lies.items x.page ≡ Some (block.Swap (proc l.p.0) n) → ⊥
+invariant-loop-lying l = (k : ℕ) (x : Lying) (n : ℕ) → k < l.lying-index → slice_get l.self.lies.items k ≡ Some x → lies_in l.self.kinds.items l.self.lies.items x.page ≡ Some (block.Swap (proc l.p.0) n) → ⊥

@@ -1,11 +1,12 @@
 use Rattle.std.proofs.Common.{◌≡◌, ◌&&◌, nat_eq, not, refl, sym, ap, ap₂, ◌∙◌}
 use Rattle.pager_model.specs.Changes.{pushed_if}
 use Rattle.pager_model.specs.Lookups.{shares}
+use Rattle.pager_model.specs.OutLanding.{lies_at}
 use Rattle.pager_model.specs.Sets.{at_number}
 use Rattle.log_tables.specs.Lying.{lies_in}
 use Rattle.log_pager.specs.Shown.{at_or, shown}
 use Rattle.vm_types.specs.declared.names.FrameState.TheVariants as state
-use Rattle.log_pager.proofs.Landed.{landed_same, lies_same}
+use Rattle.log_pager.proofs.Landed.{kinds_same, landed_same, lies_same}
 use Rattle.log_pager.proofs.Same.{same_shown, same_pager}
 use Rattle.log_pager.proofs.Tables.{modify_read, page_read, set_state, state_read}
 use Rattle.log_pager.proofs.log_pager.LogPager.write_lands.Goals as goal
@@ -26,4 +27,5 @@ returns c = λ x same.
     (c.in_ok-push_if-2.ensures ∙ ap (λ b. pushed_if b s.modified.items f) (c.both-2.ensures ∙ ap₂ (λ b m. b && m) unshared modify))
     refl refl refl refl refl refl
     refl refl refl refl
-    (c.in_ok-lay_at.ensures ∙ lies_same (lies_in s.lies.items) _ _ _ _ _ _ modify page (sym same)) refl)
+    (kinds_same _ _ s.lies.items c.lay_at.new.lies.items (λ lies. lies_at lies c.index-modified.result.now c.index.result.now c.args.block) c.deref.ensures.value c.in_ok-lay_at.ensures
+    ∙ lies_same (lies_in s.kinds.items s.lies.items) _ _ _ _ _ _ modify page (sym same)) refl)

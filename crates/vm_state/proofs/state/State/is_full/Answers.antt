@@ -26,3 +26,8 @@ returns-else-not-is_touched_row g c =
     shows.touched_private c.self.invariant c.in-Private.p c.in-Private.vpn c.is_touched_row.result (c.is_touched_row.ensures ∙ ap is_touched_row c.at.ensures) c.if-not-is_touched_row.false
     ∙ ap (λ (s : History). is_page_file_full s.config (flat_after s.config s.past) (Private c.in-Private.p c.in-Private.vpn)) c.self.view_is
     ∙ ap (λ (h : Page). is_page_file_full c.args.self.now.config (flat_after c.args.self.now.config c.args.self.now.past) h) (sym c.in-Private.is)
+
+pub returns-in-Shared : goal.returns-in-Shared
+returns-in-Shared g c =
+    shows.shared_is c.self.invariant c.args.page c.in-Shared.is
+    ∙ ap (λ (s : History). is_page_file_full s.config (flat_after s.config s.past) c.args.page) c.self.view_is

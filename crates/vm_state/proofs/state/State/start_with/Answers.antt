@@ -15,7 +15,7 @@ invariant_of-result g c =
       names = c.requires.names;
       made = c.requires.made;
     })
-    _ _ c.args.journal c.requires.formed
+    _ _ c.args.journal c.requires.formed c.requires.version
     (record {
       frames = c.in_ok-store.ensures.frames;
       starts = c.in_ok-store.ensures.flights;

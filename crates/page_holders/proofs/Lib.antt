@@ -1,0 +1,7 @@
+pub mod Holders
+pub mod EntryPages
+pub mod ValidEntries
+pub mod RingBounds
+pub mod SectionNumbers
+pub mod FewAssigned
+pub mod Pins
