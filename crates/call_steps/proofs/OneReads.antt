@@ -21,10 +21,10 @@ use Rattle.content_laws.proofs.LiftsStay.{lifts_stay}
 use Rattle.frame_store.specs.LiftView.{LiftView}
 use Rattle.frame_store.specs.declared.lift.Carried.TheVariants.{Waiting}
 use Rattle.call_laws.specs.AreLegal.{AreLegal}
-use Rattle.vm_state.specs.CarrierView.{CanTake, CarrierView, taking}
+use Rattle.lift_carriers.specs.CarrierView.{CanTake, CarrierView, taking}
 use Rattle.vm_state.specs.History.{History, MayAdd, added, entry_by, owed, pager}
 use Rattle.vm_state.specs.LiftsBegin.{HasBegun}
-use Rattle.vm_state.specs.LiftsFit.{lift_seen}
+use Rattle.lift_carriers.specs.LiftsFit.{lift_seen}
 use Rattle.vm_state.specs.LiftsLand.{added_each}
 use Rattle.call_steps.specs.Lifted.{HasBegunLifts, IsBegun, place_of, places_in}
 use Rattle.call_steps.specs.OneRead.{one_read}

@@ -9,7 +9,7 @@ use Rattle.vm_types.specs.declared.names.Seat.{Seat}
 use Rattle.vm_journal.specs.declared.entry.What.TheVariants as what
 use Rattle.pager_model.specs.Run.{IsRun}
 use Rattle.frame_store.specs.LiftView.{LiftView}
-use Rattle.vm_state.specs.CarrierView.{CarrierView, taking}
+use Rattle.lift_carriers.specs.CarrierView.{CarrierView, taking}
 use Rattle.vm_state.specs.History.{History, MayAdd, added, entry_by}
 use Rattle.vm_state.specs.LiftsBegin.{HasBegun}
 use Rattle.call_steps.specs.Lifted.{HasBegunLifts, IsBegun, place_of}

@@ -20,7 +20,7 @@ use Rattle.pager_model.specs.Reuse.{IsReuse}
 use Rattle.pager_model.specs.Run.{IsRun, pager_after}
 use Rattle.call_laws.specs.AreLegal.{AreLegal}
 use Rattle.call_laws.proofs.NearLegal.{tail_without}
-use Rattle.vm_state.specs.CarrierView.{CarrierView}
+use Rattle.lift_carriers.specs.CarrierView.{CarrierView}
 use Rattle.vm_state.specs.History.{History, entry_by, pager}
 use Rattle.vm_state.specs.LiftsLand.{added_each}
 use Rattle.call_steps.proofs.OneReads.{no_more, none_read, one_is}

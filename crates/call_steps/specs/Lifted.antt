@@ -8,9 +8,9 @@ use Rattle.vm_journal.specs.declared.entry.What.{What}
 use Rattle.vm_journal.specs.declared.entry.What.TheVariants as what
 use Rattle.frame_store.specs.LiftView.{LiftView}
 use Rattle.frame_store.specs.declared.lift.Carried.TheVariants.{Waiting}
-use Rattle.vm_state.specs.CarrierView.{CarrierView}
+use Rattle.lift_carriers.specs.CarrierView.{CarrierView}
 use Rattle.vm_state.specs.History.{History}
-use Rattle.vm_state.specs.LiftsFit.{LiftFits}
+use Rattle.lift_carriers.specs.LiftsFit.{LiftFits}
 
 -- the frame and the block of each read and of each write that begins among the entries, in their order
 abbrev pub places_in : List What → List (ℕ × BlockId)

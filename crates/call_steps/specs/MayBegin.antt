@@ -2,7 +2,7 @@
 use Rattle.std.specs.Prelude.{◌≡◌, false, ◌+◌, ◌<◌, [], length}
 use Rattle.vm_types.specs.declared.names.Seat.{Seat}
 use Rattle.pager_model.specs.Flights.{awaits_reuse, is_busy, open_flights}
-use Rattle.vm_state.specs.CarrierView.{CarrierView}
+use Rattle.lift_carriers.specs.CarrierView.{CarrierView}
 use Rattle.vm_state.specs.History.{History}
 
 -- the seat is there and has no open transfer, and no reuse is due

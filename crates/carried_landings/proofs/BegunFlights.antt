@@ -11,7 +11,7 @@ use Rattle.pager_model.specs.Flights.{Flight, flights_with, open_flights, readin
 use Rattle.pager_model.specs.Landings.{carrier_of}
 use Rattle.pager_model.specs.Transfers.{is_by}
 use Rattle.pager_rules.proofs.Basics.{nat_eq_refl}
-use Rattle.vm_state.specs.CarrierView.{CarrierView}
+use Rattle.lift_carriers.specs.CarrierView.{CarrierView}
 use Rattle.vm_state.specs.History.{History, added, entry_by}
 use Rattle.vm_state.specs.LiftsLand.{added_each}
 use Rattle.call_steps.specs.Lifted.{HasBegunLifts, HasLifts, place_of, places_in}

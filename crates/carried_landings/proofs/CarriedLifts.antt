@@ -6,7 +6,7 @@ use Rattle.vm_types.specs.declared.pool_name.PoolName.{PoolName}
 use Rattle.frame_store.specs.LiftView.{CarriedAs, LiftView}
 use Rattle.frame_store.specs.declared.lift.Carried.{Carried}
 use Rattle.frame_store.specs.declared.lift.Carried.TheVariants.{Waiting}
-use Rattle.vm_state.specs.Carrying.{AreCarried, HasCarried}
+use Rattle.lift_carriers.specs.Carrying.{AreCarried, HasCarried}
 use Rattle.call_steps.specs.Lifted.{place_of}
 
 module _ {B : Type 0} (seen : B → BlockView) (tells : Tells) where

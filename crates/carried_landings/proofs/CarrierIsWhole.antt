@@ -18,7 +18,7 @@ use Rattle.pager_rules.proofs.Lists.{all_found, count_filter_le, found_passes}
 use Rattle.pager_rules.proofs.Quiet.{starts_once}
 use Rattle.frame_store.specs.LiftView.{LiftView}
 use Rattle.frame_store.specs.declared.lift.Carried.TheVariants.{Waiting}
-use Rattle.vm_state.specs.CarrierView.{CarrierView}
+use Rattle.lift_carriers.specs.CarrierView.{CarrierView}
 use Rattle.vm_state.specs.History.{History}
 use Rattle.vm_state.specs.LiftsLand.{CarrierMayLand, HaveOwnStarts, MayLand}
 use Rattle.call_steps.specs.Lifted.{place_of}

@@ -6,7 +6,7 @@ use Rattle.pager_rules.proofs.Basics.{count_cons_no, count_cons_yes}
 use Rattle.frame_store.specs.LiftView.{LiftView}
 use Rattle.frame_store.specs.declared.lift.Carried.{Carried}
 use Rattle.frame_store.specs.declared.lift.Carried.TheVariants.{Waiting, Good, Bad}
-use Rattle.vm_state.specs.LiftsLand.{first_failed, has_failed, lift_failed}
+use Rattle.lift_carriers.specs.Counted.{first_failed, has_failed, lift_failed}
 use Rattle.carried_landings.proofs.AllLand.{outcomes_of}
 use Rattle.carried_landings.proofs.LandingsAgree.{outcome_of}
 

@@ -20,7 +20,7 @@ use Rattle.frame_store.specs.LiftView.{LiftView}
 use Rattle.frame_store.specs.declared.lift.Carried.{Carried}
 use Rattle.frame_store.specs.declared.lift.Carried.TheVariants.{Waiting, Good, Bad}
 use Rattle.vm_state.specs.Landings.{ended_as}
-use Rattle.vm_state.specs.LiftsFit.{LiftFits, lift_seen, result_of}
+use Rattle.lift_carriers.specs.LiftsFit.{LiftFits, lift_seen, result_of}
 use Rattle.vm_state.specs.LiftsLand.{landings_of, reuse_after}
 
 -- the outcome that a result tells

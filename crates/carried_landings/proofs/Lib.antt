@@ -8,3 +8,4 @@ pub mod Paid
 pub mod Failures
 pub mod BegunFlights
 pub mod WholeCarriers
+pub mod CarriedOut

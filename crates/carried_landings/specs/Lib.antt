@@ -1,2 +1,3 @@
 pub mod SeatFlights
 pub mod HaveLanded
+pub mod Outside

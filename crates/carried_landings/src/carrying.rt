@@ -6,6 +6,7 @@ ghost use Rattle.carried_landings.specs.HaveLanded.{HaveLanded};
 ghost use Rattle.carried_landings.specs.SeatFlights.{flight_place, of_others};
 
 use crate::carrier_landed::CarrierLanded;
+use crate::landing::land_carried;
 use disk_trait::Block;
 use vm_state::{Carrier, State};
 
@@ -25,12 +26,6 @@ pub fn carry_and_land<B: Block>(state: &mut State<B>, carrier: &mut Carrier<B>) 
     ensures idle { is_busy carrier.old.seat.0 (open_flights state.new.past) ≡ false }
     ensures carrier { carrier.new ≡ record carrier.old { lifts = [] } }
 {
-    state.run_law();
     carrier.carry();
-    let landed = state.land(carrier);
-    state.run_law();
-    CarrierLanded {
-        all_failed: landed.good == 0,
-        first_failed: landed.first_bad,
-    }
+    land_carried(state, carrier)
 }

@@ -1,11 +1,9 @@
-//! Blocks of 512 bytes on a disk, depots that make them, and both in memory and as files.
+//! Blocks of 512 bytes on a disk, depots that make them, and both in memory.
 #![tactic(auto)]
 
 mod block;
 mod body;
 mod depot;
-mod file_block;
-mod file_depot;
 mod memory_block;
 mod memory_depot;
 mod never_fails;
@@ -14,8 +12,6 @@ mod planned_buf;
 
 pub use block::Block;
 pub use depot::{Depot, MakeFault};
-pub use file_block::FileBlock;
-pub use file_depot::FileDepot;
 pub use memory_block::MemoryBlock;
 pub use memory_depot::MemoryDepot;
 pub use never_fails::NeverFails;

@@ -20,7 +20,7 @@ use Rattle.pager_model.specs.Maps.{proc}
 use Rattle.pager_model.specs.Pager.{Pager}
 use Rattle.pager_model.specs.Run.{IsRun}
 use Rattle.call_laws.specs.AreLegal.{AreLegal}
-use Rattle.vm_state.specs.CarrierView.{CarrierView}
+use Rattle.lift_carriers.specs.CarrierView.{CarrierView}
 use Rattle.vm_state.specs.History.{History, owed, pager}
 use Rattle.vm_state.specs.LiftsLand.{added_each}
 use Rattle.call_steps.proofs.ReadsLeft.{IsReading, may_one, next_read, read_all}

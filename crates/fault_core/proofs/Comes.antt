@@ -34,7 +34,7 @@ use Rattle.page_holders.proofs.EntryPages.{mapped_right}
 use Rattle.page_holders.proofs.Holders.{holder_holds, holds_within}
 use Rattle.vm_state.specs.History.{History, MayAdd, MayAnswer, added, entry_by, owed, pager}
 use Rattle.vm_state.specs.PageReadings.{IsKnown}
-use Rattle.vm_state.specs.CarrierView.{CarrierView}
+use Rattle.lift_carriers.specs.CarrierView.{CarrierView}
 use Rattle.vm_state.specs.Readings.{row_at}
 use Rattle.page_states.specs.Shown.{frame_number}
 use Rattle.page_states.specs.declared.found.Backing.{Backing}

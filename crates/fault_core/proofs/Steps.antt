@@ -18,7 +18,7 @@ use Rattle.pager_model.specs.Flights.{fails_read, open_flights}
 use Rattle.pager_model.specs.Given.{by_seat, given, pfn, reuse_first, unsaid, with_reply}
 use Rattle.pager_model.specs.Spoken.{flat_after}
 use Rattle.call_laws.specs.AreLegal.{IsLegalNext}
-use Rattle.vm_state.specs.CarrierView.{CarrierView}
+use Rattle.lift_carriers.specs.CarrierView.{CarrierView}
 use Rattle.vm_state.specs.History.{History, MayAnswer, added, entry_by, owed}
 use Rattle.vm_state.specs.LiftsLand.{added_each}
 use Rattle.fault_core.specs.Gives.{Gives, MayGive, again_of, returned}

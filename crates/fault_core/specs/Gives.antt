@@ -15,7 +15,7 @@ use Rattle.pager_model.specs.Flat.{flat_reply}
 use Rattle.pager_model.specs.Given.{with_reply}
 use Rattle.pager_model.specs.Spoken.{flat_after}
 use Rattle.call_laws.specs.AreLegal.{AreLegal}
-use Rattle.vm_state.specs.CarrierView.{CarrierView}
+use Rattle.lift_carriers.specs.CarrierView.{CarrierView}
 use Rattle.vm_state.specs.History.{History, owed}
 use Rattle.vm_state.specs.LiftsLand.{added_each}
 use Rattle.fault_core.specs.Lifted.{IsCarrying}

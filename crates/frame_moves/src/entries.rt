@@ -1,6 +1,6 @@
 ghost use Rattle.std.specs.Prelude.{◌≡◌, ◌≢◌, ◌<◌, ◌+◌, ◌-◌, ◌^◌, ◌==◌, if◌then◌else◌, length, IfSome, slice_set, Some};
 ghost use Rattle.page_lists.specs.Lists.{without};
-ghost use Rattle.pfn_database.specs.Rows.{FitsSlot, counted_references};
+ghost use Rattle.pfn_database.specs.Rows.{FitsSlot, counted_references, uncounted};
 ghost use Rattle.pfn_database.specs.Frames.{row_of, IsConsistent};
 ghost use Rattle.pager_model.specs.Changes.{pushed_if};
 ghost use Rattle.pager_model.specs.Evict.{evicted_to};
@@ -26,7 +26,7 @@ pub fn enter(frames: &mut Pfns, f: Pfn, page: Page, slot: u32, modify: bool)
           state = FrameState.Active;
           page = Some page;
           modify = modify;
-          refs = counted_references (row.shares + 1) row.flights;
+          refs = counted_references (row.shares + 1) row.flights + uncounted row;
           shares = row.shares + 1;
           slot = slot;
         }) }
@@ -51,7 +51,7 @@ pub fn leave(frames: &mut Pfns, f: Pfn)
         frames.new.rows ≡ slice_set frames.old.rows f.0
         (record row {
           state = evicted_to row.shares row.flights row.modify;
-          refs = counted_references (row.shares - 1) row.flights;
+          refs = counted_references (row.shares - 1) row.flights + uncounted row;
           shares = row.shares - 1;
           slot = if row.shares == 1 then 0 else row.slot;
         }) }

@@ -1,6 +1,6 @@
 ghost use Rattle.std.specs.Prelude.{◌≡◌, ◌<◌, ◌+◌, false, None, Some, [], ◌∷◌, ◌++◌, length, slice_get, slice_set};
 ghost use Rattle.page_lists.specs.Lists.{without};
-ghost use Rattle.pfn_database.specs.Rows.{FitsSlot, counted_references};
+ghost use Rattle.pfn_database.specs.Rows.{FitsSlot, counted_references, uncounted};
 ghost use Rattle.pfn_database.specs.Frames.{row_of, IsConsistent};
 
 use crate::entries::enter;
@@ -19,7 +19,7 @@ pub fn begin_read(frames: &mut Pfns, f: Pfn, page: Page)
           state = FrameState.Reading;
           page = Some page;
           modify = false;
-          refs = counted_references row.shares 1;
+          refs = counted_references row.shares 1 + uncounted row;
           flights = 1;
         }) }
     ensures free { frames.new.free ≡ without frames.old.free f.0 }
@@ -45,7 +45,7 @@ pub fn end_read(frames: &mut Pfns, f: Pfn, page: Page, slot: u32, modify: bool)
         (record row {
           state = FrameState.Active;
           modify = modify;
-          refs = counted_references (row.shares + 1) 0;
+          refs = counted_references (row.shares + 1) 0 + uncounted row;
           shares = row.shares + 1;
           slot = slot;
           flights = 0;
@@ -68,7 +68,7 @@ pub fn end_read_free(frames: &mut Pfns, f: Pfn)
         frames.new.rows ≡ slice_set frames.old.rows f.0
         (record row {
           state = FrameState.Free;
-          refs = counted_references row.shares 0;
+          refs = counted_references row.shares 0 + uncounted row;
           slot = 0;
           flights = 0;
         }) }
@@ -89,7 +89,7 @@ pub fn fail_read(frames: &mut Pfns, f: Pfn)
         frames.new.rows ≡ slice_set frames.old.rows f.0
         (record row {
           state = FrameState.ReadError;
-          refs = counted_references row.shares 0;
+          refs = counted_references row.shares 0 + uncounted row;
           flights = 0;
         }) }
     ensures free { frames.new.free ≡ frames.old.free }

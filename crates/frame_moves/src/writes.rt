@@ -1,6 +1,6 @@
-ghost use Rattle.std.specs.Prelude.{◌≡◌, ◌<◌, ◌==◌, ◌&&◌, ◌||◌, false, not, if◌then◌else◌, [], ◌∷◌, length, slice_set};
+ghost use Rattle.std.specs.Prelude.{◌≡◌, ◌<◌, ◌+◌, ◌==◌, ◌&&◌, ◌||◌, false, not, if◌then◌else◌, [], ◌∷◌, length, slice_set};
 ghost use Rattle.page_lists.specs.Lists.{without};
-ghost use Rattle.pfn_database.specs.Rows.{IsOneOf, counted_references, state_in_transfer};
+ghost use Rattle.pfn_database.specs.Rows.{IsOneOf, counted_references, uncounted, state_in_transfer};
 ghost use Rattle.pfn_database.specs.Frames.{row_of, IsConsistent};
 ghost use Rattle.pager_model.specs.Changes.{pushed_if, settled_to};
 
@@ -19,7 +19,7 @@ pub fn begin_write(frames: &mut Pfns, f: Pfn)
         (record row {
           state = state_in_transfer row.state;
           modify = false;
-          refs = counted_references row.shares 1;
+          refs = counted_references row.shares 1 + uncounted row;
           flights = 1;
         }) }
     ensures free { frames.new.free ≡ frames.old.free }
@@ -45,7 +45,7 @@ pub fn end_write(frames: &mut Pfns, f: Pfn, failed: bool)
         (record row {
           state = if is_unshared then settled_to modify else row.state;
           modify = modify;
-          refs = counted_references row.shares 0;
+          refs = counted_references row.shares 0 + uncounted row;
           slot = if is_unshared then 0 else row.slot;
           flights = 0;
         }) }

@@ -8,7 +8,7 @@ use Rattle.pager_model.specs.Run.{IsRun}
 use Rattle.pager_model.specs.WriteCluster.{BeginIs, Reason, begin_carry, begin_gives, begin_nothing, is_enough}
 use Rattle.call_laws.specs.AreLegal.{AreLegal}
 use Rattle.call_laws.proofs.WritesLegal.{begin_legal}
-use Rattle.vm_state.specs.CarrierView.{CarrierView}
+use Rattle.lift_carriers.specs.CarrierView.{CarrierView}
 use Rattle.vm_state.specs.History.{History, pager}
 use Rattle.vm_state.specs.LiftsLand.{added_each}
 use Rattle.call_steps.specs.Lifted.{HasLifts}

@@ -20,7 +20,7 @@ use Rattle.pager_model.specs.Run.{IsRun}
 use Rattle.pager_model.specs.WriteCluster.{writes_from}
 use Rattle.pager_laws.proofs.RunsAreSound.{run_kept}
 use Rattle.call_laws.specs.AreLegal.{AreLegal}
-use Rattle.vm_state.specs.CarrierView.{CarrierView}
+use Rattle.lift_carriers.specs.CarrierView.{CarrierView}
 use Rattle.vm_state.specs.History.{History, MayAdd, added, entry_by, owed, pager}
 use Rattle.vm_state.specs.LiftsLand.{added_each}
 use Rattle.call_steps.specs.Lifted.{HasBegunLifts, HasLifts, place_of, places_in}

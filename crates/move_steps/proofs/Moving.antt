@@ -18,7 +18,7 @@ use Rattle.carried_landings.proofs.BegunFlights.{none_of_others, only_own, whole
 use Rattle.serial_laws.specs.Between.{IsBetween}
 use Rattle.serial_laws.proofs.Kept.{carriers_between}
 use Rattle.serial_laws.proofs.Refusals.{refusal_legal}
-use Rattle.vm_state.specs.CarrierView.{CarrierView}
+use Rattle.lift_carriers.specs.CarrierView.{CarrierView}
 use Rattle.vm_state.specs.History.{History, added, entry_by}
 use Rattle.vm_state.specs.LiftsLand.{added_each}
 use Rattle.move_steps.specs.CarriedOn.{IsCarriedOn, IsLoaded, MayRefuse}

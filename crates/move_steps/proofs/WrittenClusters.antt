@@ -11,7 +11,7 @@ use Rattle.call_steps.specs.MayBegin.{empty}
 use Rattle.modified_writer.specs.Begins.{Begins, begin_of}
 use Rattle.modified_writer.specs.declared.begun.Begin.{Begin}
 use Rattle.modified_writer.specs.declared.begun.Begin.TheVariants.{Carry, Nothing, Room}
-use Rattle.vm_state.specs.CarrierView.{CarrierView}
+use Rattle.lift_carriers.specs.CarrierView.{CarrierView}
 use Rattle.vm_state.specs.History.{History, pager}
 use Rattle.move_steps.specs.CarriedOn.{IsCarriedOn, IsLoaded, MayRefuse}
 use Rattle.move_steps.specs.Moved.{IsMoveHere, IsMoved, IsSteady}

@@ -14,7 +14,7 @@ use Rattle.pager_model.specs.Spoken.{IsRight}
 use Rattle.call_steps.specs.Lifted.{HasBegunLifts, place_of}
 use Rattle.carried_landings.specs.SeatFlights.{flight_place, of_others}
 use Rattle.serial_laws.specs.Laws.{IsRefusedLegally}
-use Rattle.vm_state.specs.CarrierView.{CarrierView}
+use Rattle.lift_carriers.specs.CarrierView.{CarrierView}
 use Rattle.vm_state.specs.History.{History}
 use Rattle.move_steps.specs.Moved.{IsSameBut}
 

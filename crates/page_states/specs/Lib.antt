@@ -6,3 +6,4 @@ pub mod Resting
 pub mod RingSlots
 pub mod ReadStarts
 pub mod PagesShown
+pub mod ComeRoles

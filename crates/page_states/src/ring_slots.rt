@@ -1,9 +1,13 @@
 ghost use Rattle.std.specs.Prelude.{◌≡◌};
+ghost use Rattle.pager_model.specs.Turn.{turned_ring};
 ghost use Rattle.state_fits.specs.Changes.{page_slot};
 ghost use Rattle.page_states.specs.RingSlots.{CanComeHome, CanFault, CanTakeSlot, HasComeHome, HasFaulted, TakesSlot, mark_back};
 
-use state_parts::{ChargedPage, ChargedPages, ProcessRow, SwapPages, put_in_slot, take_slot};
+use state_parts::{
+    ChargedPage, ChargedPages, ProcessRow, SwapPages, put_in_slot, take_slot, unlock_all,
+};
 use vm_types::{BlockId, Page, Proc, ProcStatus};
+use working_set::Ring;
 
 /// Gives a page its slot in the ring of its process: in that of one that comes back the slot in
 /// whose swap block the page lies, else the slot that the ring offers. Returns the slot.
@@ -72,4 +76,13 @@ pub fn come_home(
     pages.set(p, vpn, Some(ChargedPage { lies: None, ..kept }));
     swaps.set(p, slot, None);
     slot
+}
+
+/// The ring of a process whose status turns.
+pub fn turn_ring(ring: &mut Ring, status: ProcStatus)
+    ensures { ring.new ≡ turned_ring status ring.old }
+{
+    if let ProcStatus::Leaving = status {
+        unlock_all(ring);
+    }
 }

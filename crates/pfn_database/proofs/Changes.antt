@@ -1,5 +1,5 @@
 -- What keeps rows and lists consistent where one frame changes.
-use Rattle.std.proofs.Common.{◌≡◌, ℕ, ◌+◌, ◌-◌, ◌≤◌, ◌<◌, Bool, true, false, cond, eqb, List, [], ◌∷◌, ◌++◌, Option, Some, None, IsSome, length, set, get_or, refl, sym, ◌∙◌, ⊎_elim, arith, get_or-set_same, get_or-set_other}
+use Rattle.std.proofs.Common.{◌≡◌, ℕ, ◌+◌, ◌-◌, ◌^◌, ◌≤◌, ◌<◌, Bool, true, false, cond, eqb, List, [], ◌∷◌, ◌++◌, Option, Some, None, IsSome, length, set, get_or, refl, sym, ◌∙◌, ⊎_elim, arith, get_or-set_same, get_or-set_other}
 use Rattle.std.proofs.lemmas.Bool.{cases_eq, eq-eqb, ne_eqb}
 use Rattle.std.proofs.lemmas.List.Elements.{All-set}
 use Rattle.vm_types.specs.declared.names.FrameState.{FrameState}
@@ -8,7 +8,7 @@ use Rattle.vm_types.specs.declared.names.Page.TheVariants.{Private, Shared}
 use Rattle.page_lists.specs.Lists.{count_of, without}
 use Rattle.page_lists.proofs.Counts.{count_of-cons, count_of-push, count_of-without}
 use Rattle.pfn_database.specs.declared.row.Row.{Row}
-use Rattle.pfn_database.specs.Rows.{IsRow, IsOneOf, FitsModify, FitsPage, FitsSlot, FitsReferences, counted_references, shared, bad_row, empty_row, unshared, state_in_transfer}
+use Rattle.pfn_database.specs.Rows.{IsRow, IsOneOf, FitsModify, FitsPage, FitsSlot, FitsReferences, counted_references, shared, bad_row, empty_row, unshared, held, unheld, state_in_transfer}
 use Rattle.vm_types.specs.declared.names.Page.{Page}
 use Rattle.pfn_database.specs.Frames.{Frames, row_of, is_free, is_modified, IsConsistent}
 
@@ -34,24 +34,24 @@ is_modified-other Reading other = refl
 is_modified-other Active other = refl
 
 pub IsRow-empty : IsRow empty_row
-IsRow-empty = record { refs = refl; flights = omega arith; modify = refl; page = tt; slot = tt; shared = λ _. (refl, refl); listed = λ _. refl }
+IsRow-empty = record { refs = (omega arith, omega arith); flights = omega arith; modify = refl; page = tt; slot = tt; shared = λ _. (refl, refl); listed = λ _. refl }
 
 pub IsRow-bad : IsRow bad_row
-IsRow-bad = record { refs = refl; flights = omega arith; modify = refl; page = refl; slot = tt; shared = λ _. (refl, refl); listed = λ _. refl }
+IsRow-bad = record { refs = (omega arith, omega arith); flights = omega arith; modify = refl; page = refl; slot = tt; shared = λ _. (refl, refl); listed = λ _. refl }
 
 -- what is used of the references: they follow what is counted, and there are as many at least
 FitsReferences-change : (refs counted refs' counted' : ℕ) → FitsReferences refs counted → refs' + counted ≡ refs + counted' → FitsReferences refs' counted'
-FitsReferences-change refs counted refs' counted' fits moved = omega arith
+FitsReferences-change refs counted refs' counted' fits moved = (omega (arith, fits.0), omega (arith, fits.1))
 
 FitsReferences-least : (refs counted : ℕ) → FitsReferences refs counted → counted ≤ refs
-FitsReferences-least refs counted fits = omega arith
+FitsReferences-least refs counted fits = fits.0
 
--- and no more than two, so that there is room for one more
+-- and few enough that there is room for one more
 counted_references-most : (shares flights : ℕ) → flights ≤ 1 → counted_references shares flights ≤ 2
 counted_references-most shares flights one = grind arith
 
-pub refs-most : (row : Row) → IsRow row → row.refs ≤ 2
-refs-most row good = let most = counted_references-most row.shares row.flights good.flights in omega (arith, good.refs)
+pub refs-most : (row : Row) → IsRow row → row.refs ≤ 2 ^ 31 + 2
+refs-most row good = let most = counted_references-most row.shares row.flights good.flights in omega (arith, good.refs.1)
 
 pub refs-least : (row : Row) → IsRow row → 0 < row.shares → 0 < row.refs
 refs-least row good some =
@@ -191,6 +191,29 @@ module _ (row : Row) (good : IsRow row) where
     slot = good.slot;
     shared = good.shared;
     listed = λ h. refl;
+  }
+
+  -- one reference more or less that isn't counted
+  pub IsRow-held : row.refs < 2 ^ 31 → IsRow (held row)
+  IsRow-held room = record {
+    refs = (omega (arith, good.refs.0), omega arith);
+    flights = good.flights;
+    modify = good.modify;
+    page = good.page;
+    slot = good.slot;
+    shared = good.shared;
+    listed = good.listed;
+  }
+
+  pub IsRow-unheld : counted_references row.shares row.flights < row.refs → IsRow (unheld row)
+  IsRow-unheld some = record {
+    refs = (omega arith, omega (arith, good.refs.1));
+    flights = good.flights;
+    modify = good.modify;
+    page = good.page;
+    slot = good.slot;
+    shared = good.shared;
+    listed = good.listed;
   }
 
   begun : IsOneOf (Modified ∷ Active ∷ Reading ∷ []) row.state → row.flights ≡ 0 → FitsReferences (row.refs + 1) (counted_references row.shares 1)

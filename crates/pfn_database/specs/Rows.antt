@@ -1,7 +1,7 @@
 -- The rows of the PFN database. Source: Kenah and Bate, "VAX/VMS Internals and Data Structures",
 -- the PFN database: page state, reference count, share count, working set list index. That a frame
 -- has at most one open transfer, and that only an active one has shares, is this project's own.
-use Rattle.std.specs.Prelude.{◌≡◌, ℕ, ◌≢◌, ◌⊎◌, ⊤, ◌+◌, ◌-◌, ◌≤◌, ◌==◌, Bool, true, false, ◌&&◌, if◌then◌else◌, List, [], ◌∷◌, Option, None, Some, IsSome}
+use Rattle.std.specs.Prelude.{◌≡◌, ℕ, ◌≢◌, ◌⊎◌, ⊤, ◌+◌, ◌-◌, ◌≤◌, ◌^◌, ◌==◌, Bool, true, false, ◌&&◌, if◌then◌else◌, List, [], ◌∷◌, Option, None, Some, IsSome}
 use Rattle.vm_types.specs.declared.names.FrameState.{FrameState}
 use Rattle.vm_types.specs.declared.names.FrameState.TheVariants.{Free, Modified, Bad, ReleasePending, ReadError, Writing, Reading, Active}
 use Rattle.vm_types.specs.declared.names.Page.{Page}
@@ -51,9 +51,21 @@ FitsPage ReleasePending page = IsSome page
 abbrev pub counted_references : ℕ → ℕ → ℕ
 counted_references shares flights = (if shares == 0 then 0 else 1) + flights
 
--- a frame has the references that are counted. That it has no others is said here alone
+-- a frame has the references that are counted, and may have others: one for each pin. How many pins
+-- it has, the database doesn't know; there are at most 2^31 of them
 abbrev pub FitsReferences : ℕ → ℕ → Type 0
-FitsReferences references counted = references ≡ counted
+FitsReferences references counted = (counted ≤ references) × (references ≤ counted + 2 ^ 31)
+
+-- the references of a row that aren't counted: one for each pin
+abbrev pub uncounted : Row → ℕ
+uncounted row = row.refs - counted_references row.shares row.flights
+
+-- the row once there is one reference more, and one less
+abbrev pub held : Row → Row
+held row = record row { refs = row.refs + 1 }
+
+abbrev pub unheld : Row → Row
+unheld row = record row { refs = row.refs - 1 }
 
 -- a shared page has no ring slot
 abbrev pub FitsSlot : Option Page → ℕ → Type 0

@@ -1,6 +1,6 @@
 ghost use Rattle.std.specs.Prelude.{◌≡◌, ◌≢◌, ◌<◌, ◌+◌, ◌-◌, ◌^◌, ◌==◌, true, false, if◌then◌else◌, [], ◌∷◌, ◌++◌, length, drop, All, IfOk, IfSome, option_map, slice_get, slice_set, slice_index_or, Some};
 ghost use Rattle.page_lists.specs.Lists.{list_of, without, count_of, cells_of, IsOnNone, IsNext};
-ghost use Rattle.pfn_database.specs.Rows.{IsOneOf, states_in_use, FitsModify, FitsSlot, bad_row, empty_row, shared, unshared, state_in_transfer};
+ghost use Rattle.pfn_database.specs.Rows.{IsOneOf, states_in_use, FitsModify, FitsSlot, bad_row, empty_row, counted_references, held, unheld, shared, unshared, state_in_transfer};
 ghost use Rattle.pfn_database.specs.Kept.{joined, kept_of};
 ghost use Rattle.pfn_database.specs.Frames.{row_of, lists_of, is_free, is_modified, opening, number, IsConsistent};
 
@@ -263,6 +263,40 @@ impl Pfns {
         let row = without_share(joined(kept_at(&self.kept, f), self.lists.cells(f.0)));
         self.lists.set_cells(f.0, (row.shares, row.slot));
         self.kept[f.0 as usize] = kept_of(row);
+    }
+
+    /// Counts one reference of a frame more, for a pin.
+    pub fn hold(&mut self, f: Pfn)
+        requires below { f.0 < length self.old.rows }
+        requires room { (row_of self.old f.0).refs < 2 ^ 31 }
+        ensures rows { self.new.rows ≡ slice_set self.old.rows f.0 (held (row_of self.old f.0)) }
+        ensures free { self.new.free ≡ self.old.free }
+        ensures modified { self.new.modified ≡ self.old.modified }
+        ensures consistent { IsConsistent self.new }
+    {
+        let kept = kept_at(&self.kept, f);
+        self.kept[f.0 as usize] = Kept {
+            refs: kept.refs + 1,
+            ..kept
+        };
+    }
+
+    /// Counts one reference of a frame less, for a pin: it has more than are counted for its shares
+    /// and its transfer.
+    pub fn unhold(&mut self, f: Pfn)
+        requires below { f.0 < length self.old.rows }
+        requires some { let row = row_of self.old f.0 in
+            counted_references row.shares row.flights < row.refs }
+        ensures rows { self.new.rows ≡ slice_set self.old.rows f.0 (unheld (row_of self.old f.0)) }
+        ensures free { self.new.free ≡ self.old.free }
+        ensures modified { self.new.modified ≡ self.old.modified }
+        ensures consistent { IsConsistent self.new }
+    {
+        let kept = kept_at(&self.kept, f);
+        self.kept[f.0 as usize] = Kept {
+            refs: kept.refs - 1,
+            ..kept
+        };
     }
 
     /// Begins a transfer of a frame that is active, modified or reading. Its modify mark is

@@ -8,7 +8,7 @@ pub struct Row {
     pub page: Option<Page>,
     /// Whether that page has to be written before the frame is reused.
     pub modify: bool,
-    /// One for the shares together, and one for an open transfer.
+    /// One for the shares together, one for an open transfer, and one for each pin.
     pub refs: u32,
     /// How many valid process entries are for the frame.
     pub shares: u32,

@@ -1,4 +1,4 @@
 mod Copying
-mod Saying
+mod Lines
 mod Telling
 mod Texts

@@ -1,4 +1,4 @@
 pub mod Words
 pub mod ProgramTells
 pub mod ProgramRun
-pub mod Messages
+pub mod LineTold

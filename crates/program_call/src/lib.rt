@@ -4,7 +4,6 @@
 
 mod arguments;
 mod bytes;
-mod messages;
 mod program;
 mod sure_depot;
 mod words;

@@ -1,4 +1,4 @@
-ghost use Rattle.std.specs.Prelude.{◌≡◌, ◌≢◌, ◌⊎◌, ◌≤◌, [], List, ℕ};
+ghost use Rattle.std.specs.Prelude.{◌≡◌, ◌≢◌, ◌⊎◌, ◌≤◌, [], List, ℕ, Some, map};
 ghost use Rattle.std.specs.Io.KnownBytes.{Keeps};
 ghost use Rattle.outside_io.specs.Causes.{Rose};
 ghost use Rattle.vm_types.specs.Moved.{moved};
@@ -6,19 +6,48 @@ ghost use Rattle.program_ends.specs.Concludes.{HasTold, WasCut};
 ghost use Rattle.program_ends.specs.Wrongs.{IsWrong, IsWrongText};
 ghost use Rattle.program_ends.specs.declared.wrong.Wrong.{Wrong};
 ghost use Rattle.std.specs.declared.option.Option.{Option};
-ghost use Rattle.program_call.specs.Messages.{IsSaid, message_of};
+ghost use Rattle.command_messages.specs.LineFaults.{Holds, Quotes};
+ghost use Rattle.command_messages.specs.Messages.{IsSaid, message_of};
+ghost use Rattle.command_messages.specs.declared.faults.LineFault.{LineFault};
+ghost use Rattle.replay_cli.specs.CommandRun.{IsCommandRun};
+ghost use Rattle.program_call.specs.LineTold.{IsLineTold};
 ghost use Rattle.program_call.specs.ProgramRun.{IsProgramRun};
 ghost use Rattle.program_call.specs.ProgramTells.{ProgramTells};
 
 use crate::arguments::Arguments;
-use crate::messages::explain;
 use crate::words::{copied_words, texts_of};
 use arrayvec::ArrayVec;
+use command_messages::{LineFault, explain, quoted_fault};
 use disk_trait::Depot;
 use outside_io::{Sink, Source};
 use program_ends::{Status, Wrong, end_with};
 use replay_cli::run_and_tell;
 use std::alloc::Global;
+
+/// Runs the command that the words name. With status 1 it answers besides what is wrong with them, and keeps the
+/// bytes of the first word that a message quotes.
+fn run_texts<S: Source, K: Sink, D: Depot>(
+    alloc: Global,
+    words: &[&str],
+    source: &mut S,
+    output: &mut K,
+    depot: &mut D,
+    kept: &mut ArrayVec<u8, 80>,
+) -> (Status, Option<Wrong>, Option<LineFault>)
+    ensures run { IsCommandRun (map (λ word. word.now) words.now) (moved (S.seen source.old) (S.seen source.new))
+        (moved (D.seen depot.old) (D.seen depot.new))
+        (moved (K.seen output.old) (K.seen output.new)) result.0.0 }
+    ensures wrong { result.0.0 ≢ 4 → HasTold (IsWrong result.1) (K.seen output.old) (K.seen output.new) result.0.0 }
+    ensures kept { IsWrongText result.1 (S.seen source.old).left kept.new.items }
+    ensures line { result.0.0 ≡ 1 → (fault : LineFault) × (result.2 ≡ Some fault)
+        × Holds (map (λ word. word.now) words.now) fault × Quotes (map (λ word. word.now) words.now) fault kept.new.items }
+{
+    let told = run_and_tell(alloc, words, source, output, depot, kept);
+    if told.0.0 == 1 {
+        return (told.0, None, Some(quoted_fault(words, kept)));
+    }
+    (told.0, told.1, None)
+}
 
 /// Copies the words, and runs the command that they name. With words that aren't UTF-8 the command
 /// line is faulty.
@@ -29,7 +58,7 @@ fn run_words<A: Arguments, S: Source, K: Sink, D: Depot>(
     output: &mut K,
     depot: &mut D,
     kept: &mut ArrayVec<u8, 80>,
-) -> (Status, Option<Wrong>)
+) -> (Status, Option<Wrong>, Option<LineFault>)
     ensures told { result.0.0 ≢ 4 → HasTold (ProgramTells (A.left arguments.old) (moved (S.seen source.old) (S.seen source.new))
         (moved (D.seen depot.old) (D.seen depot.new)))
         (K.seen output.old) (K.seen output.new) result.0.0 }
@@ -40,14 +69,18 @@ fn run_words<A: Arguments, S: Source, K: Sink, D: Depot>(
     ensures unfailed { result.0.0 ≢ 4 → ((K.seen output.new).failures ≡ (K.seen output.old).failures) × ((K.seen output.new).stalls ≡ (K.seen output.old).stalls) }
     ensures wrong { result.0.0 ≢ 4 → HasTold (IsWrong result.1) (K.seen output.old) (K.seen output.new) result.0.0 }
     ensures kept { IsWrongText result.1 (S.seen source.old).left kept.new.items }
+    ensures line { result.0.0 ≡ 1 → IsLineTold (A.left arguments.old) result.2 kept.new.items }
 {
     let Ok(words) = copied_words(alloc, arguments) else {
-        return (end_with(7, output), None);
+        return (end_with(7, output), None, None);
     };
     match texts_of(alloc, words.as_slice()) {
-        Ok(Some(texts)) => run_and_tell(alloc, texts.as_slice(), source, output, depot, kept),
-        Ok(None) => run_and_tell(alloc, &[], source, output, depot, kept),
-        Err(_) => (end_with(7, output), None),
+        Ok(Some(texts)) => run_texts(alloc, texts.as_slice(), source, output, depot, kept),
+        Ok(None) => {
+            let told = run_and_tell(alloc, &[], source, output, depot, kept);
+            (told.0, told.1, Some(LineFault::NotText))
+        }
+        Err(_) => (end_with(7, output), None, None),
     }
 }
 
@@ -70,8 +103,8 @@ fn finish<K: Sink>(status: Status, output: &mut K) -> Status
     }
 }
 
-/// As `run_program`, and answers besides what is wrong with the input. The first 80 bytes of a faulty line of
-/// a trace are kept in `kept`.
+/// As `run_program`, and answers besides what is wrong with the input and with the command line. The first 80
+/// bytes of a faulty line of a trace, or of a word that is no command, are kept in `kept`.
 fn run_and_finish<A: Arguments, S: Source, K: Sink, D: Depot>(
     alloc: Global,
     arguments: &mut A,
@@ -79,15 +112,16 @@ fn run_and_finish<A: Arguments, S: Source, K: Sink, D: Depot>(
     output: &mut K,
     depot: &mut D,
     kept: &mut ArrayVec<u8, 80>,
-) -> (Status, Option<Wrong>)
+) -> (Status, Option<Wrong>, Option<LineFault>)
     ensures run { IsProgramRun (A.left arguments.old) (moved (S.seen source.old) (S.seen source.new))
         (moved (D.seen depot.old) (D.seen depot.new))
         (moved (K.seen output.old) (K.seen output.new)) result.0.0 }
     ensures wrong { result.0.0 ≢ 4 → HasTold (IsWrong result.1) (K.seen output.old) (K.seen output.new) result.0.0 }
     ensures kept { IsWrongText result.1 (S.seen source.old).left kept.new.items }
+    ensures line { result.0.0 ≡ 1 → IsLineTold (A.left arguments.old) result.2 kept.new.items }
 {
     let told = run_words(alloc, arguments, source, output, depot, kept);
-    (finish(told.0, output), told.1)
+    (finish(told.0, output), told.1, told.2)
 }
 
 /// The whole program over its ends: copies the words after the program's own name, runs the command
@@ -109,11 +143,10 @@ pub fn run_program<A: Arguments, S: Source, K: Sink, D: Depot>(
     run_and_finish(alloc, arguments, source, output, depot, &mut kept).0
 }
 
-/// As `run_program`, with messages beside the output: usage beside status 1; for a trace that is wrong a line
-/// with the number of the faulty line, the rule that it breaks in words, and the printable ones of its first 80
-/// bytes, or that it is unfinished; that a log is too long, or the number and the text of its first line that
-/// isn't legal;
-/// what failed beside status 3, 4, 6 and 7. Messages that can't be written change nothing.
+/// As `run_program`, with messages beside the output: what is wrong with the command line, and usage, beside
+/// status 1; for a trace that is wrong a line with the number of the faulty line, why it is at fault, and its
+/// first 80 bytes, or that it is unfinished; that a log is too long, or the number and the text of its first
+/// line that isn't legal; what failed beside status 3, 4, 6 and 7. Messages that can't be written change nothing.
 pub fn run_and_explain<A: Arguments, S: Source, K: Sink, M: Sink, D: Depot>(
     alloc: Global,
     arguments: &mut A,
@@ -127,13 +160,15 @@ pub fn run_and_explain<A: Arguments, S: Source, K: Sink, M: Sink, D: Depot>(
         (moved (K.seen output.old) (K.seen output.new)) result.0 }
     // The message is that for what is wrong: the text that was written says the same of the input, and of its
     // faulty line these are the first bytes.
-    ensures message { (wrong : Option Wrong) × (text : List ℕ)
+    // With status 1 it is that for a fault that holds of the words, if they are known.
+    ensures message { (wrong : Option Wrong) × (line : Option LineFault) × (text : List ℕ)
         × (result.0 ≢ 4 → HasTold (IsWrong wrong) (K.seen output.old) (K.seen output.new) result.0)
         × IsWrongText wrong (S.seen source.old).left text
-        × IsSaid (M.seen messages.old) (M.seen messages.new) (message_of wrong text result.0) }
+        × (result.0 ≡ 1 → IsLineTold (A.left arguments.old) line text)
+        × IsSaid (M.seen messages.old) (M.seen messages.new) (message_of wrong line text result.0) }
 {
     let mut kept = ArrayVec::new();
     let told = run_and_finish(alloc, arguments, source, output, depot, &mut kept);
-    explain(told.0.0, told.1, &kept, messages);
+    explain(told.0.0, told.1, told.2, &kept, messages);
     told.0
 }

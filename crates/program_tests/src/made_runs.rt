@@ -1,6 +1,6 @@
 //! Made runs: what `make` writes, and the words that it refuses.
 
-use crate::runs::outcome;
+use program_runs::outcome;
 use replay_cli::Status;
 use std::test::Fail;
 

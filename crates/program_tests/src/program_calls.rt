@@ -76,7 +76,7 @@ fn explains(rt: HostRuntime) -> Result<(), Fail> {
     let name = b"neqysbar".as_slice();
     let command = b"serial".as_slice();
     let usage =
-        b"neqysbar 1.0.0\nusage: neqysbar serial < TRACE\n           reads a trace and runs it; writes each entry, a report, the pages left dirty and the status\n       neqysbar study --process X --frames K < TRACE\n           reads a trace; writes what the references of process X, A to P, cost with K page frames, 1 to 1024\n       neqysbar make --seed N --procs P --refs R\n           reads nothing; makes a trace from the seed N, 0 to 4294967295, with P processes, 1 to 16, and R\n           references, 1 to 100000, and runs it; writes how many entries of each kind the run has\n       neqysbar check < TRACE-AND-LOG\n           reads a trace, a line LOG and a log; writes whether the log is legal, or its first line that isn't\nexample: neqysbar study --process A --frames 8 < examples/swapping.trace\n".as_slice();
+        b"neqysbar: no command\nneqysbar 1.0.0\nusage: neqysbar serial < TRACE\n           reads a trace and runs it; writes each entry, a report, the pages left dirty and the status\n       neqysbar study --process X --frames K < TRACE\n           reads a trace; writes what the references of process X, A to P, cost with K page frames, 1 to 1024\n       neqysbar make --seed N --procs P --refs R\n           reads nothing; makes a trace from the seed N, 0 to 4294967295, with P processes, 1 to 16, and R\n           references, 1 to 100000, and runs it; writes how many entries of each kind the run has\n       neqysbar check < TRACE-AND-LOG\n           reads a trace, a line LOG and a log; writes whether the log is legal, or its first line that isn't\nexample: neqysbar study --process A --frames 8 < examples/swapping.trace\n".as_slice();
     let table: [(&[&[u8]], &[u8], u8, &[u8]); 7] = [
         (&[name, command], TRACE, 0, b""),
         (&[name], TRACE, 1, usage),
@@ -84,7 +84,7 @@ fn explains(rt: HostRuntime) -> Result<(), Fail> {
             &[name, command],
             b"VMTRACE 1\n! a remark\nFRAMES\x01 8\nFRAMES 8\n",
             2,
-            b"neqysbar: line 3: the line has a byte that is neither a blank, a tab nor a printable character: FRAMES 8\n",
+            b"neqysbar: line 3: the line has a byte that is neither a blank, a tab nor a printable character: FRAMES\\x01 8\n",
         ),
         (
             &[name, command],
@@ -115,7 +115,7 @@ fn explains(rt: HostRuntime) -> Result<(), Fail> {
         let mut arguments = ListedArguments::new(words);
         let mut source = MemorySource::new(Vec::from_slice(alloc, trace)?, Vec::new(alloc));
         let mut output = MemorySink::new(alloc, 1000, Vec::new(alloc), Vec::new(alloc))?;
-        let mut messages = MemorySink::new(alloc, 1000, Vec::new(alloc), Vec::new(alloc))?;
+        let mut messages = MemorySink::new(alloc, 2000, Vec::new(alloc), Vec::new(alloc))?;
         let mut depot = MemoryDepot::new(alloc, Vec::new(alloc));
         let ended = run_and_explain(
             alloc,

@@ -1,4 +1,4 @@
-use crate::runs::{FIRST_RUN, FIRST_RUN_TEXT, outcome};
+use program_runs::{FIRST_RUN, FIRST_RUN_TEXT, outcome};
 use replay_cli::Status;
 use std::test::Fail;
 

@@ -1,5 +1,5 @@
 -- A run that is over, seen by what is seen of the depot before and after.
-use Rattle.std.proofs.Common.{◌≡◌, List, ◌++◌, subst, sym}
+use Rattle.std.proofs.Common.{◌≡◌, ◌∙◌, List, ◌++◌, subst, sym}
 use Rattle.vm_types.specs.BlockView.{Retired, Tells}
 use Rattle.vm_types.specs.Configuration.{IsWellFormed}
 use Rattle.vm_types.specs.Moved.{moved}
@@ -27,5 +27,6 @@ run_over tells config taken dirty past rest depot depot' known formed over longe
       longer = longer;
       asked = its.asked;
       few = its.few;
+      complete = λ none. ((its.complete none).0, sym its.left ∙ (its.complete none).1);
       written = its.written;
     }

@@ -18,7 +18,7 @@ use Rattle.pager_model.specs.Text.{dirty_pages, run_text, status_line}
 use Rattle.pager_model.specs.WrittenBack.{AreWrittenBack}
 use Rattle.pager_laws.specs.Laws.{IsSoundThroughout}
 use Rattle.program_ends.specs.Tells.{Tells}
-use Rattle.serial_run.specs.FewRefusals.{HasFewRefusals}
+use Rattle.serial_run.specs.FewRefusals.{HasFewRefusals, faults_of, refusals}
 use Rattle.trace_reader.specs.Meaning.{Configuration, trace_of}
 
 -- The run of a configuration is over. `past` are its entries up to the report, `rest` those after it, and `Makes`
@@ -44,6 +44,8 @@ pub record IsRunOver (Makes : List Entry → Type 0) (depot : Moved DepotView) (
   pub asked : IsAsked (depot.before.tells).plan config (rest ++ past) taken
   -- One failed transfer of a process's seat refuses at most one request, and each failed transfer is a failure of a block.
   pub few : HasFewRefusals config (rest ++ past) taken
+  -- If no block failed, no request was refused for a failed transfer and no page is left dirty.
+  pub complete : faults_of taken ≡ 0 → (refusals (rest ++ past) ≡ 0) × (dirty_pages config (pager_after config (rest ++ past)) ≡ [])
   -- If the blocks' content is known, each block in which a shared page lies has that page's bytes, unless the page
   -- is left dirty, and each block of a copy on reference section has its first bytes. A shared page that lies nowhere
   -- and isn't left dirty was never charged.

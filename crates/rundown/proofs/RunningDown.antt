@@ -14,7 +14,7 @@ use Rattle.serial_laws.specs.Between.{IsBetween}
 use Rattle.serial_laws.proofs.Kept.{moves_between, moves_longer}
 use Rattle.serial_laws.proofs.Rundowns.{cleaning_fits}
 use Rattle.call_steps.specs.MayBegin.{empty}
-use Rattle.vm_state.specs.CarrierView.{CarrierView}
+use Rattle.lift_carriers.specs.CarrierView.{CarrierView}
 use Rattle.vm_state.specs.History.{History}
 use Rattle.move_steps.specs.Moved.{IsMoved, IsResting, IsSameBut}
 use Rattle.move_steps.proofs.Moving.{same_then}

@@ -20,7 +20,7 @@ use Rattle.carried_landings.specs.SeatFlights.{flight_place}
 use Rattle.carried_landings.specs.declared.carrier_landed.CarrierLanded.{CarrierLanded}
 use Rattle.modified_writer.specs.Begins.{Begins}
 use Rattle.modified_writer.specs.declared.begun.Begin.{Begin}
-use Rattle.vm_state.specs.CarrierView.{CarrierView}
+use Rattle.lift_carriers.specs.CarrierView.{CarrierView}
 use Rattle.vm_state.specs.History.{History, owed, pager}
 use Rattle.move_steps.specs.CarriedOn.{IsLoaded}
 use Rattle.move_steps.specs.Moved.{IsMoved, IsSameBut, IsSteady}

@@ -16,14 +16,16 @@ use Rattle.call_steps.specs.Lifted.{HasBegunLifts, place_of}
 use Rattle.carried_landings.specs.HaveLanded.{HaveLanded}
 use Rattle.carried_landings.specs.SeatFlights.{flight_place}
 use Rattle.carried_landings.specs.declared.carrier_landed.CarrierLanded.{CarrierLanded}
-use Rattle.vm_state.specs.CarrierView.{CarrierView}
+use Rattle.lift_carriers.specs.CarrierView.{CarrierView}
 use Rattle.vm_state.specs.History.{History, MayAdd, added, entry_by, pager}
-use Rattle.seat_schedules.specs.AtWork.{HasWorked, IsAtWork, IsFor, IsFreeSeat, idle}
-use Rattle.seat_schedules.specs.Lost.{IsLost, IsReadFor}
-use Rattle.seat_schedules.specs.Unmet.{IsUnmet}
+use Rattle.seat_laws.specs.FreeSeat.{IsFreeSeat}
+use Rattle.seat_schedules.specs.AtWork.{HasWorked, IsAtWork, IsFor, idle}
+use Rattle.seat_laws.specs.Lost.{IsLost, IsReadFor}
+use Rattle.seat_laws.specs.Unmet.{IsUnmet}
 use Rattle.seat_schedules.specs.declared.worker.Worker.{Worker}
-use Rattle.seat_schedules.proofs.OwnWork.{carries_none, not_busy, still_worked}
-use Rattle.seat_schedules.proofs.Refusable.{landed_made, reads_lost, refusal_legal}
+use Rattle.seat_laws.proofs.FreeSeats.{carries_none, not_busy}
+use Rattle.seat_schedules.proofs.OwnWork.{still_worked}
+use Rattle.seat_laws.proofs.Refusable.{landed_made, reads_lost, refusal_legal}
 
 not_false : (b : Bool) → Rattle.std.proofs.Common.not b ≡ false → b ≡ true
 not_false true is = refl

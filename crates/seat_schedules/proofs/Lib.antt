@@ -1,7 +1,3 @@
-pub mod OtherSeats
-pub mod ReadsFor
-pub mod ReadsBegun
-pub mod Refusable
 pub mod OthersAtWork
 pub mod OwnWork
 pub mod FirstWorkers
@@ -9,7 +5,6 @@ pub mod ReferenceCalls
 pub mod OtherCalls
 pub mod LandedWork
 pub mod LinesOfRuns
-pub mod UnmetReferences
 pub mod WorkersTogether
 pub mod LinesPlayed
 pub mod NextFrames

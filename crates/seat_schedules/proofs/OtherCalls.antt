@@ -22,15 +22,17 @@ use Rattle.move_steps.proofs.Shapes.{AreStarts, ServeShape, SwapShape, leave_sha
 use Rattle.move_steps.proofs.WrittenClusters.{begin_starts, begun_lifts}
 use Rattle.vm_services.specs.Serves.{Serves}
 use Rattle.vm_services.specs.declared.next.ServeNext.{ServeNext}
-use Rattle.vm_state.specs.CarrierView.{CarrierView}
+use Rattle.lift_carriers.specs.CarrierView.{CarrierView}
 use Rattle.vm_state.specs.History.{History, MayAdd, added, entry_by, pager}
 use Rattle.vm_swapper.specs.Swaps.{IsCarrying, Swaps, returned}
 use Rattle.vm_swapper.specs.Victims.{process_number}
 use Rattle.vm_swapper.specs.declared.swap.Swap.{Swap}
 use Rattle.vm_swapper.specs.declared.swap.Swap.TheVariants.{Again, Carry, More, Room, Settled}
-use Rattle.seat_schedules.specs.AtWork.{HasWorked, IsFreeSeat, idle}
+use Rattle.seat_laws.specs.FreeSeat.{IsFreeSeat}
+use Rattle.seat_schedules.specs.AtWork.{HasWorked, idle}
 use Rattle.seat_schedules.specs.declared.worker.Worker.{Worker}
-use Rattle.seat_schedules.proofs.OwnWork.{AreStill, none_are_still, not_busy, quiet_are_still, served_are_still, starts_worked, still_worked}
+use Rattle.seat_laws.proofs.FreeSeats.{AreStill, none_are_still, not_busy, quiet_are_still, served_are_still}
+use Rattle.seat_schedules.proofs.OwnWork.{starts_worked, still_worked}
 
 -- ---- a service
 served_still : (x : ServeIs) (made : List What) → ServeShape x made → AreStill made

@@ -17,15 +17,15 @@ use Rattle.pager_model.specs.Run.{IsRun}
 use Rattle.content_laws.proofs.LiftsStay.{lifts_stay}
 use Rattle.pager_rules.proofs.Basics.{each_weaker}
 use Rattle.vm_state.specs.History.{History}
-use Rattle.vm_state.specs.LiftsFit.{LiftFits, lift_seen}
+use Rattle.lift_carriers.specs.LiftsFit.{LiftFits, lift_seen}
 use Rattle.call_steps.specs.Lifted.{IsBegun}
 use Rattle.carried_landings.specs.SeatFlights.{flight_place}
 use Rattle.carried_landings.proofs.CarrierIsWhole.{AreFlightsOf, whole_flights}
 use Rattle.carried_landings.proofs.SeatLandings.{carrier_by}
 use Rattle.seat_schedules.specs.AtWork.{HasWorked, IsAtWork, IsFor}
-use Rattle.seat_schedules.specs.Lost.{IsLost, IsReadFor}
+use Rattle.seat_laws.specs.Lost.{IsLost, IsReadFor}
 use Rattle.seat_schedules.specs.declared.worker.Worker.{Worker}
-use Rattle.seat_schedules.proofs.OtherSeats.{carrier_stays, carrying_stays, lands_none}
+use Rattle.seat_laws.proofs.OtherSeats.{carrier_stays, carrying_stays, lands_none}
 
 -- ---- the reads for a reference, and lost ones
 module _ (past now : List Entry) (seat : ℕ) (same : carrying seat now ≡ carrying seat past) where

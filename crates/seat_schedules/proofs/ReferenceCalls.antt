@@ -10,7 +10,7 @@ use Rattle.vm_journal.specs.declared.entry.Entry.{Entry}
 use Rattle.vm_journal.specs.declared.entry.What.{What}
 use Rattle.pager_model.specs.Advance.{GivenNext, NextIs, advance_gives, next_again, next_answered, next_carry, next_more}
 use Rattle.pager_model.specs.Given.{made_by, with_reply}
-use Rattle.vm_state.specs.CarrierView.{CarrierView}
+use Rattle.lift_carriers.specs.CarrierView.{CarrierView}
 use Rattle.vm_state.specs.History.{History, pager}
 use Rattle.vm_state.specs.LiftsLand.{added_each}
 use Rattle.fault_core.specs.Gives.{Gives, last_reply, returned}
@@ -21,12 +21,14 @@ use Rattle.fault_core.specs.declared.next.Next.TheVariants.{Again, Answered, Car
 use Rattle.move_steps.proofs.Entries.{each_past, starts_mute}
 use Rattle.move_steps.proofs.Mute.{mute_same}
 use Rattle.move_steps.proofs.Shapes.{AreStarts, NextShape, advance_shape}
-use Rattle.seat_schedules.specs.AtWork.{HasWorked, IsFreeSeat, idle}
-use Rattle.seat_schedules.specs.Lost.{IsReadFor}
+use Rattle.seat_laws.specs.FreeSeat.{IsFreeSeat}
+use Rattle.seat_schedules.specs.AtWork.{HasWorked, idle}
+use Rattle.seat_laws.specs.Lost.{IsReadFor}
 use Rattle.seat_schedules.specs.declared.worker.Worker.{Worker}
-use Rattle.seat_schedules.proofs.OwnWork.{AreStill, ended_are_still, none_are_still, not_busy, quiet_are_still, shown_are_still, starts_worked, still_worked}
-use Rattle.seat_schedules.proofs.ReadsBegun.{reads_begun}
-use Rattle.seat_schedules.proofs.ReadsFor.{advance_reads}
+use Rattle.seat_laws.proofs.FreeSeats.{AreStill, ended_are_still, none_are_still, not_busy, quiet_are_still, shown_are_still}
+use Rattle.seat_schedules.proofs.OwnWork.{starts_worked, still_worked}
+use Rattle.seat_laws.proofs.ReadsBegun.{reads_begun}
+use Rattle.seat_laws.proofs.ReadsFor.{advance_reads}
 
 carry_is : (x : NextIs) (shown : Option Reply) → Some Carry ≡ returned x shown → x ≡ next_carry
 carry_is next_answered None is = absurd (none-some _ (sym is))

@@ -1,5 +1,5 @@
 -- Seats at work beside one another. This project's own.
-use Rattle.std.specs.Prelude.{◌≡◌, ℕ, ◌+◌, ◌<◌, ◌≤◌, false, List, [], ◌∷◌, Some, None, length, map, slice_get}
+use Rattle.std.specs.Prelude.{◌≡◌, ℕ, ◌+◌, false, List, [], ◌∷◌, Some, None, length, map, slice_get}
 use Rattle.vm_types.specs.BlockView.{BlockView, Tells}
 use Rattle.vm_types.specs.WellFormed.{IsWellFormedReference}
 use Rattle.vm_types.specs.declared.names.Seat.{Seat}
@@ -10,11 +10,11 @@ use Rattle.frame_store.specs.LiftView.{LiftView}
 use Rattle.pager_model.specs.Flights.{awaits_reuse}
 use Rattle.pager_model.specs.Given.{made_by}
 use Rattle.pager_model.specs.Landings.{carrier_of}
-use Rattle.vm_state.specs.History.{History, owed}
+use Rattle.vm_state.specs.History.{History}
 use Rattle.call_steps.specs.Lifted.{HasBegunLifts, place_of}
 use Rattle.call_steps.specs.MayBegin.{empty}
 use Rattle.carried_landings.specs.SeatFlights.{flight_place}
-use Rattle.seat_schedules.specs.Lost.{IsLost, IsReadFor}
+use Rattle.seat_laws.specs.Lost.{IsLost, IsReadFor}
 use Rattle.seat_schedules.specs.declared.worker.Worker.{Worker}
 
 -- a worker without lifts and without a reference
@@ -25,13 +25,6 @@ idle seat = record { carrier = empty seat; reference = None }
 abbrev pub IsFor : {B : Type 0} → List Entry → ℕ → Ref → List (LiftView B) → Type 0
 IsFor past seat r [] = IsLost past seat r
 IsFor past seat r (lift ∷ lifts) = IsReadFor past seat r
-
--- a call may be made by the seat: it has no open transfer, no reuse is due, and there is room for its entries
-pub record IsFreeSeat (s : History) (seat : Seat) : Type 0 where
-  pub there : seat.0 < length s.config.procs + 2
-  pub free : carrier_of seat.0 s.past ≡ []
-  pub calm : awaits_reuse s.past ≡ false
-  pub room : owed s.past + 64 ≤ s.spare
 
 module _ {B : Type 0} (seen : B → BlockView) (tells : Tells) where
   -- the worker has the lifts of all open transfers of its seat, in their order

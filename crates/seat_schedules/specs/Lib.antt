@@ -1,4 +1,2 @@
-pub mod Lost
-pub mod Unmet
 pub mod AtWork
 pub mod Played

@@ -1,6 +1,7 @@
 ghost use Rattle.std.specs.Prelude.{◌≡◌, ◌+◌, ◌<◌, length};
 ghost use Rattle.vm_types.specs.WellFormed.{IsServiceOf, IsWellFormedReference, IsWellFormedService};
-ghost use Rattle.seat_schedules.specs.AtWork.{HasWorked, IsFreeSeat, idle};
+ghost use Rattle.seat_laws.specs.FreeSeat.{IsFreeSeat};
+ghost use Rattle.seat_schedules.specs.AtWork.{HasWorked, idle};
 
 use crate::went::Went;
 use crate::worker::Worker;

@@ -1,8 +1,9 @@
 ghost use Rattle.std.specs.Prelude.{◌≡◌, ◌+◌, ◌<◌, [], IsTrue, length};
 ghost use Rattle.vm_types.specs.declared.names.ProcStatus.TheVariants as status;
 ghost use Rattle.vm_state.specs.History.{pager};
-ghost use Rattle.seat_schedules.specs.AtWork.{HasWorked, IsAtWork, IsFreeSeat};
-ghost use Rattle.seat_schedules.specs.Unmet.{IsUnmet};
+ghost use Rattle.seat_laws.specs.FreeSeat.{IsFreeSeat};
+ghost use Rattle.seat_schedules.specs.AtWork.{HasWorked, IsAtWork};
+ghost use Rattle.seat_laws.specs.Unmet.{IsUnmet};
 
 use crate::went::Went;
 use crate::worker::Worker;

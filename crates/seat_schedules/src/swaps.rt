@@ -1,7 +1,8 @@
 ghost use Rattle.std.specs.Prelude.{◌≡◌, ◌+◌, ◌<◌, IsTrue, length};
 ghost use Rattle.vm_types.specs.declared.names.ProcStatus.TheVariants as status;
 ghost use Rattle.vm_state.specs.History.{pager};
-ghost use Rattle.seat_schedules.specs.AtWork.{HasWorked, IsFreeSeat, idle};
+ghost use Rattle.seat_laws.specs.FreeSeat.{IsFreeSeat};
+ghost use Rattle.seat_schedules.specs.AtWork.{HasWorked, idle};
 
 use crate::went::Went;
 use crate::worker::Worker;

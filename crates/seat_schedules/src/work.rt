@@ -1,7 +1,8 @@
 ghost use Rattle.std.specs.Prelude.{◌≡◌, ◌+◌, ◌<◌, ◌≤◌, false, length};
 ghost use Rattle.pager_model.specs.Flights.{awaits_reuse};
 ghost use Rattle.vm_state.specs.History.{owed};
-ghost use Rattle.seat_schedules.specs.AtWork.{HasWorked, IsAtWork, IsFreeSeat, idle};
+ghost use Rattle.seat_laws.specs.FreeSeat.{IsFreeSeat};
+ghost use Rattle.seat_schedules.specs.AtWork.{HasWorked, IsAtWork, idle};
 
 use crate::act::Act;
 use crate::asks::ask;

@@ -19,7 +19,7 @@ use Rattle.serial_laws.specs.Controlled.{IsLeft}
 use Rattle.serial_laws.proofs.Walks.{task_formed}
 use Rattle.modified_writer.specs.Begins.{Begins, begin_of}
 use Rattle.modified_writer.specs.declared.begun.Begin.TheVariants.{Carry, Nothing, Room}
-use Rattle.vm_state.specs.CarrierView.{CarrierView}
+use Rattle.lift_carriers.specs.CarrierView.{CarrierView}
 use Rattle.vm_state.specs.History.{History, owed, pager}
 use Rattle.vm_state.specs.LiftsLand.{added_each}
 use Rattle.move_steps.specs.CarriedOn.{IsCarriedOn, IsLoaded, MayRefuse, after_saving}

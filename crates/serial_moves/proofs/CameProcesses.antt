@@ -9,7 +9,7 @@ use Rattle.vm_swapper.specs.Swaps.{Swaps}
 use Rattle.vm_swapper.specs.declared.swap.Swap.TheVariants.{Again, Carry, More, Settled}
 use Rattle.vm_swapper.specs.declared.swap.SwapWhy.{SwapWhy}
 use Rattle.vm_swapper.specs.declared.swap.SwapWhy.TheVariants.{InFlight, ModifiedFull, NoFrame}
-use Rattle.vm_state.specs.CarrierView.{CarrierView}
+use Rattle.lift_carriers.specs.CarrierView.{CarrierView}
 use Rattle.vm_state.specs.History.{History, pager}
 use Rattle.vm_state.specs.LiftsLand.{added_each}
 use Rattle.move_steps.specs.CarriedOn.{IsCarriedOn, IsLoaded, MayRefuse}

@@ -15,7 +15,7 @@ use Rattle.carried_landings.specs.HaveLanded.{HaveLanded}
 use Rattle.carried_landings.specs.SeatFlights.{flight_place, of_others}
 use Rattle.carried_landings.specs.declared.carrier_landed.CarrierLanded.{CarrierLanded}
 use Rattle.serial_laws.specs.Laws.{IsRefusedLegally}
-use Rattle.vm_state.specs.CarrierView.{CarrierView}
+use Rattle.lift_carriers.specs.CarrierView.{CarrierView}
 use Rattle.vm_state.specs.History.{History}
 use Rattle.move_steps.specs.CarriedOn.{IsCarriedOn, IsLoaded, IsRefusedThere, MayRefuse}
 use Rattle.move_steps.specs.Moved.{IsSameBut}

@@ -11,7 +11,7 @@ use Rattle.vm_swapper.specs.declared.swap.Swap.TheVariants.{Again, Carry, More, 
 use Rattle.vm_swapper.specs.declared.swap.SwapWhy.{SwapWhy}
 use Rattle.vm_swapper.specs.declared.swap.SwapWhy.TheVariants.{InFlight, ModifiedFull, NoFrame}
 use Rattle.serial_laws.specs.Between.{IsBetween}
-use Rattle.vm_state.specs.CarrierView.{CarrierView}
+use Rattle.lift_carriers.specs.CarrierView.{CarrierView}
 use Rattle.vm_state.specs.History.{History, pager}
 use Rattle.move_steps.specs.CarriedOn.{IsCarriedOn, IsLoaded, MayRefuse}
 use Rattle.move_steps.specs.Moved.{IsMoveHere, IsMoved, IsResting}

@@ -1,7 +1,7 @@
 -- The carriers of all seats. This project's own.
 use Rattle.std.specs.Prelude.{◌≡◌, ℕ, ◌+◌, ◌<◌, List, Some, length, slice_get}
 use Rattle.call_steps.specs.MayBegin.{empty}
-use Rattle.vm_state.specs.CarrierView.{CarrierView}
+use Rattle.lift_carriers.specs.CarrierView.{CarrierView}
 use Rattle.vm_state.specs.History.{History}
 
 -- by seat, each without lifts

@@ -11,7 +11,7 @@ use Rattle.pager_model.specs.Spoken.{IsRight}
 use Rattle.serial_laws.specs.Between.{IsBetween}
 use Rattle.serial_laws.specs.Controlled.{IsControlled, IsInBody}
 use Rattle.serial_laws.proofs.Kept.{moves_between, moves_fit, moves_longer, rests_last}
-use Rattle.vm_state.specs.CarrierView.{CarrierView}
+use Rattle.lift_carriers.specs.CarrierView.{CarrierView}
 use Rattle.vm_state.specs.History.{History}
 use Rattle.move_steps.specs.Moved.{IsMoved, IsResting, IsSameBut}
 use Rattle.move_steps.proofs.Moving.{same_then}

@@ -34,7 +34,7 @@ use Rattle.pager_rules.proofs.Lists.{all_found}
 use Rattle.pager_rules.proofs.Put.{blocks_equal}
 use Rattle.pager_laws.proofs.FlightsBegun.{flight_blocks}
 use Rattle.pager_laws.proofs.KeptIsSound.{same_block_refl}
-use Rattle.policy_laws.specs.Refused.{failures_of, is_disk_refusal, is_failure, is_own, refusals_of}
+use Rattle.policy_laws.specs.Refused.{is_disk_refusal, is_failure, is_own}
 use Rattle.policy_laws.proofs.RefusedOnce.{failures_refuse_once}
 use Rattle.serial_run.specs.FewRefusals.{HasFewRefusals, failures, faults_of, is_process_failure, process_failures, refusals}
 

@@ -6,21 +6,56 @@ use Rattle.vm_journal.specs.declared.entry.Entry.{Entry}
 use Rattle.pager_model.specs.Order.{IsAnswered, IsInOrder, answered}
 use Rattle.pager_model.specs.Report.{report_of}
 use Rattle.pager_model.specs.Run.{IsRun, pager_after}
-use Rattle.pager_model.specs.Serial.{IsRundown, IsSerial}
+use Rattle.pager_model.specs.Serial.{IsRundown, IsSerial, IsWhole}
 use Rattle.pager_model.specs.Spoken.{IsRight}
 use Rattle.pager_model.specs.Text.{dirty_pages}
 use Rattle.content_laws.proofs.EndContent.{nowhere_uncharged}
 use Rattle.pager_laws.proofs.SerialInOrder.{serial_answered}
 use Rattle.report_lines.specs.Printable.{IsPrintable}
+use Rattle.rundown_laws.proofs.CleanRuns.{no_failure_no_dirt}
 use Rattle.serial_laws.specs.Between.{IsBetween}
 use Rattle.move_steps.specs.Moved.{IsSameBut}
 use Rattle.vm_state.specs.History.{History}
+use Rattle.serial_run.specs.AtReport.{IsAtReport, IsReached}
 use Rattle.serial_run.specs.Ended.{HasEnded}
 use Rattle.serial_run.specs.declared.run.Ending.{Ending}
 
+-- at the report's place the run is between two moves
+pub between_there : (tells : Bool) (config : Config) (past : List Entry) → IsAtReport tells config past → IsBetween config past
+between_there tells config past there = record { formed = there.formed; run = there.run; landed = there.landed; reused = there.reused }
+
 -- where the policy rests every request is answered
-pub answered_there : (s : History) → IsSerial s.config s.past → IsAnswered s.config s.past
+answered_there : (s : History) → IsSerial s.config s.past → IsAnswered s.config s.past
 answered_there s serial = serial_answered s.config s.past serial.control serial.reached serial.none_left
+
+-- where the policy rests is the report's place
+pub is_there : (tells : Bool) (s : History) → IsBetween s.config s.past → IsSerial s.config s.past → (tells ≡ true → IsRight s.config s.past) → IsAtReport tells s.config s.past
+is_there tells s between serial right =
+    let all = answered_there s serial in
+    record {
+      formed = between.formed;
+      run = between.run;
+      right = right;
+      serial = serial;
+      in_order = λ p. ([], append-nil (answered p s.past) ∙ all p);
+      answered = all;
+      landed = between.landed;
+      reused = between.reused;
+    }
+
+-- a state that was started with the configuration and has come there
+pub is_reached : (tells : Bool) (config : Config) (first s : History) → first.config ≡ config → first.keeps ≡ true → IsSameBut first s → IsAtReport tells s.config s.past → IsReached tells config s
+is_reached tells config first s own keeps same there =
+    let config_is : s.config ≡ config = ap (λ (x : History). x.config) same ∙ own in
+    record {
+      same = config_is;
+      keeps = ap (λ (x : History). x.keeps) same ∙ keeps;
+      there = subst (λ (k : Config). IsAtReport tells k s.past) config_is there;
+    }
+
+-- and there by its own configuration
+pub reached_there : (tells : Bool) (config : Config) (s : History) → IsReached tells config s → IsAtReport tells s.config s.past
+reached_there tells config s reached = subst (λ (k : Config). IsAtReport tells k s.past) (sym reached.same) reached.there
 
 module _ (tells : Bool) (mid s : History) (ending : Ending) (same : IsSameBut mid s) where
   config_is : s.config ≡ mid.config
@@ -29,30 +64,34 @@ module _ (tells : Bool) (mid s : History) (ending : Ending) (same : IsSameBut mi
   there : (P : Config → Type 0) → P mid.config → P s.config
   there P = subst P (sym config_is)
 
-  pub has_ended : IsBetween mid.config mid.past → IsSerial mid.config mid.past → IsBetween s.config s.past → IsAnswered s.config s.past → (tells ≡ true → IsRight s.config s.past)
+  pub has_ended : IsAtReport tells mid.config mid.past → IsBetween s.config s.past → IsAnswered s.config s.past → (tells ≡ true → IsRight s.config s.past)
       → (rest : List Entry) × (s.past ≡ rest ++ mid.past) × IsRundown mid.config mid.past rest
       → ending.at ≡ length mid.past → ending.report ≡ report_of mid.config mid.past (pager_after mid.config mid.past) → IsPrintable mid.config.sections ending.report
       → (ending.dirty).items ≡ dirty_pages s.config (pager_after s.config s.past) → HasEnded tells s ending
-  has_ended begun serial ended all right down at report printable dirty = record {
-    past = mid.past;
-    rest = down.0;
-    all = down.1;
-    landed = ended.landed;
-    nowhere = nowhere_uncharged s.config s.past ended.formed ended.run ended.landed ended.reused;
-    run = record {
-      run = subst (λ (p : List Entry). IsRun s.config p) down.1 ended.run;
-      right = λ told. subst (IsRight s.config) down.1 (right told);
-      in_order = subst (λ (p : List Entry). IsInOrder s.config p) down.1 (λ p. ([], append-nil (answered p s.past) ∙ all p));
-      serial = there (λ (k : Config). IsSerial k mid.past) serial;
-      whole = record {
-        answered = there (λ (k : Config). IsAnswered k mid.past) (answered_there mid serial);
+  has_ended begun ended all right down at report printable dirty =
+      let ran : IsRun s.config (down.0 ++ mid.past) = subst (λ (p : List Entry). IsRun s.config p) down.1 ended.run in
+      let whole : IsWhole s.config mid.past down.0 = record {
+        answered = there (λ (k : Config). IsAnswered k mid.past) begun.answered;
         landed = begun.landed;
         reused = begun.reused;
         rundown = there (λ (k : Config). IsRundown k mid.past down.0) down.2;
-      };
-    };
-    at = at;
-    report = there (λ (k : Config). ending.report ≡ report_of k mid.past (pager_after k mid.past)) report;
-    printable = there (λ (k : Config). IsPrintable k.sections ending.report) printable;
-    dirty = subst (λ (p : List Entry). (ending.dirty).items ≡ dirty_pages s.config (pager_after s.config p)) down.1 dirty;
-  }
+      } in
+      record {
+        past = mid.past;
+        rest = down.0;
+        all = down.1;
+        landed = ended.landed;
+        nowhere = nowhere_uncharged s.config s.past ended.formed ended.run ended.landed ended.reused;
+        run = record {
+          run = ran;
+          right = λ told. subst (IsRight s.config) down.1 (right told);
+          in_order = subst (λ (p : List Entry). IsInOrder s.config p) down.1 (λ p. ([], append-nil (answered p s.past) ∙ all p));
+          serial = there (λ (k : Config). IsSerial k mid.past) begun.serial;
+          whole = whole;
+        };
+        at = at;
+        report = there (λ (k : Config). ending.report ≡ report_of k mid.past (pager_after k mid.past)) report;
+        printable = there (λ (k : Config). IsPrintable k.sections ending.report) printable;
+        dirty = subst (λ (p : List Entry). (ending.dirty).items ≡ dirty_pages s.config (pager_after s.config p)) down.1 dirty;
+        clean = no_failure_no_dirt s.config mid.past down.0 ended.formed ran whole;
+      }

@@ -1,5 +1,5 @@
 -- A run that has ended, once its blocks are given back.
-use Rattle.std.proofs.Common.{◌≡◌, List, ◌++◌, length, map, reverse, sym, ap, ◌∙◌, subst}
+use Rattle.std.proofs.Common.{◌≡◌, ◌≤◌, List, ◌++◌, length, map, reverse, sym, ap, ◌∙◌, subst, arith}
 use Rattle.vm_types.specs.BlockView.{BlockView, Tells}
 use Rattle.vm_types.specs.declared.config.Config.{Config}
 use Rattle.vm_types.specs.declared.names.BlockId.{BlockId}
@@ -21,6 +21,9 @@ use Rattle.serial_run.specs.declared.finished.Counted.{Counted}
 use Rattle.serial_run.specs.declared.finished.Finished.{Finished}
 use Rattle.serial_run.specs.declared.run.Ending.{Ending}
 use Rattle.serial_run.proofs.AskedOnce.{asked, written}
+use Rattle.rundown_laws.specs.Clean.{failures}
+use Rattle.rundown_laws.proofs.Unfailed.{failures_both}
+use Rattle.serial_run.specs.FewRefusals.{faults_of}
 use Rattle.serial_run.proofs.FewRefusals.{has_few_refusals}
 
 module _ {B : Type 0} (seen : B → BlockView) (tells : Tells) where
@@ -33,6 +36,8 @@ module _ {B : Type 0} (seen : B → BlockView) (tells : Tells) where
       subst (λ (k : Config). IsAsked tells.plan k (ended.rest ++ ended.past) (map (given_back seen) taken)) same
       (subst (λ (p : List Entry). IsAsked tells.plan s.config p (map (given_back seen) taken)) ended.all
       (asked seen tells s.config s.past taken names given)) in
+      let few = has_few_refusals tells.plan config (ended.rest ++ ended.past) (map (given_back seen) taken) run.run all_asked in
+      let failed : failures (ended.rest ++ ended.past) ≤ faults_of (map (given_back seen) taken) = few.failed in
       record {
         run = run;
         left = left ∙ (ended.dirty ∙ ap (λ (k : Config). dirty_pages k (pager_after k (ended.rest ++ ended.past))) same);
@@ -41,7 +46,11 @@ module _ {B : Type 0} (seen : B → BlockView) (tells : Tells) where
             subst (λ (k : Config). AreWrittenBack tells.content k (ended.rest ++ ended.past) (map (given_back seen) taken)) same
             (subst (λ (p : List Entry). AreWrittenBack tells.content s.config p (map (given_back seen) taken)) ended.all
             (written seen tells s.config s.past taken names given ended.nowhere));
-        few = has_few_refusals tells.plan config (ended.rest ++ ended.past) (map (given_back seen) taken) run.run all_asked;
+        few = few;
+        complete = λ none. (
+          let refused = few.refused in let of_all = few.of_all in let of_blocks = few.failed in omega (arith, none, refused, of_all, of_blocks),
+          left ∙ (ended.dirty ∙ ended.clean (omega (arith, none, failed, failures_both ended.rest ended.past))),
+        );
       }
 
   pub is_finished : (config : Config) (s : History) (ending : Ending) (f : Finished) (taken : List (BlockId × B)) → s.config ≡ config → HasEnded tells.content s ending

@@ -3,7 +3,7 @@ use Rattle.std.proofs.Common.{◌≡◌, ℕ, ◌+◌, ◌<◌, Bool, true, fals
 use Rattle.std.proofs.lemmas.Bool.{eqb-true, eq-eqb, false≢true}
 use Rattle.frame_store.proofs.Rows.{get_left, get_right}
 use Rattle.call_steps.specs.MayBegin.{empty}
-use Rattle.vm_state.specs.CarrierView.{CarrierView}
+use Rattle.lift_carriers.specs.CarrierView.{CarrierView}
 
 -- those of the seats below this one, each without lifts
 pub record AreFirst {B : Type 0} (cs : List (CarrierView B)) (n : ℕ) : Type 0 where

@@ -15,7 +15,8 @@ use Rattle.pager_model.specs.WrittenBack.{AreWrittenBack, NowhereMeansUncharged}
 use Rattle.pager_model.specs.Flights.{open_flights}
 use Rattle.report_lines.specs.Printable.{IsPrintable}
 use Rattle.run_record.specs.Tallies.{tallies_of}
-use Rattle.serial_run.specs.FewRefusals.{HasFewRefusals}
+use Rattle.rundown_laws.specs.Clean.{NoneFailed}
+use Rattle.serial_run.specs.FewRefusals.{HasFewRefusals, faults_of, refusals}
 use Rattle.serial_run.specs.declared.finished.Counted.{Counted}
 use Rattle.serial_run.specs.declared.finished.Finished.{Finished}
 use Rattle.serial_run.specs.declared.run.Ending.{Ending}
@@ -43,16 +44,18 @@ pub record HasEnded (tells : Bool) (s : History) (ending : Ending) : Type 0 wher
   pub report : ending.report ≡ report_of s.config past (pager_after s.config past)
   pub printable : IsPrintable s.config.sections ending.report
   pub dirty : (ending.dirty).items ≡ dirty_pages s.config (pager_after s.config (rest ++ past))
+  pub clean : NoneFailed rest → dirty_pages s.config (pager_after s.config (rest ++ past)) ≡ []
 
 -- the run of a configuration has ended with these entries and left these pages dirty, and these blocks were given
 -- back: each block of the configuration once, and counted; where the bytes of blocks are known they are written back;
--- and failed transfers have refused few requests
+-- failed transfers have refused few requests; and if no block failed, no request was refused and no page left dirty
 pub record IsOver (tells : Tells) (config : Config) (taken : List Retired) (dirty : List Page) (past rest : List Entry) : Type 0 where
   pub run : IsWholeRun tells.content config past rest
   pub left : dirty ≡ dirty_pages config (pager_after config (rest ++ past))
   pub asked : IsAsked tells.plan config (rest ++ past) taken
   pub written : AreWrittenBack tells.content config (rest ++ past) taken
   pub few : HasFewRefusals config (rest ++ past) taken
+  pub complete : faults_of taken ≡ 0 → (refusals (rest ++ past) ≡ 0) × (dirty ≡ [])
 
 -- such a run, its entries, and the report on them
 pub record IsFinished (tells : Tells) (config : Config) (taken : List Retired) (f : Finished) : Type 0 where

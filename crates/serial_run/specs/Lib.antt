@@ -1,3 +1,4 @@
 pub mod Faults
+pub mod AtReport
 pub mod Ended
 pub mod FewRefusals

@@ -6,6 +6,8 @@ mod body;
 mod carriers;
 mod finished;
 mod run;
+mod to_report;
 
 pub use finished::{Counted, Finished, RunFault};
 pub use run::{count_serial, run_serial};
+pub use to_report::run_to_report;

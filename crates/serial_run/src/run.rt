@@ -1,15 +1,15 @@
-ghost use Rattle.std.specs.Prelude.{◌≡◌, ◌≤◌, ◌++◌, [], IfOk, IsErrOf, List, OnOk};
+ghost use Rattle.std.specs.Prelude.{◌≡◌, ◌≤◌, ◌++◌, IfOk, IsErrOf, List, OnOk};
 ghost use Rattle.disk_trait.specs.Causes.{Rose};
 ghost use Rattle.vm_types.specs.BlockView.{Retired};
 ghost use Rattle.vm_types.specs.Configuration.{IsWellFormed};
 ghost use Rattle.vm_types.specs.declared.config.Version.{Version};
 ghost use Rattle.move_steps.specs.Moved.{IsSameBut};
+ghost use Rattle.serial_run.specs.AtReport.{IsAtReport};
 ghost use Rattle.serial_run.specs.Ended.{HasEnded, IsCounted, IsFinished};
 ghost use Rattle.serial_run.specs.declared.finished.RunFault.{RunFault};
 
-use crate::body::run_body;
-use crate::carriers::all_carriers;
 use crate::finished::{Counted, Finished, RunFault};
+use crate::to_report::{answer_requests, run_to_report};
 use disk_trait::{Block, Depot};
 use pfn_report::recount;
 use report_lines::Report;
@@ -28,31 +28,15 @@ pub struct Ending {
     pub dirty: Vec<Page>,
 }
 
-/// Room for so many entries of each request is made at once.
-const ENTRIES_PER_REQUEST: u32 = 5;
-
-/// Makes room at once for the entries of all requests, so that the journal isn't copied as it grows. If
-/// there is too little memory for that, the moves ask for room as they go.
-fn reserve_answers<B: Block>(state: &mut State<B>)
-    ensures { state.new ≡ record state.old { spare = (state.new).spare } }
-{
-    let requests = state.config().body.items().len();
-    let _ = state.reserve(ENTRIES_PER_REQUEST * requests.min(1 << 24) as u32);
-}
-
-/// Runs a state from its first entry on.
+/// Ends a state at the report's place: counts the report, and writes the shared pages back.
 ///
 /// # Errors
 /// `NoMemory` if out of memory.
-fn run_state<B: Block>(alloc: Global, state: &mut State<B>) -> Result<Ending, NoMemory>
-    requires { state.old.past ≡ [] }
+fn end_state<B: Block>(alloc: Global, state: &mut State<B>) -> Result<Ending, NoMemory>
+    requires { IsAtReport B.tells.content state.old.config state.old.past }
     ensures same { OnOk result (IsSameBut state.old state.new) }
     ensures ended { IfOk result (HasEnded B.tells.content state.new) }
 {
-    state.run_law();
-    reserve_answers(state);
-    let mut carriers = all_carriers(alloc, state)?;
-    run_body(state, &mut carriers)?;
     let at = state.entry_count();
     let report = recount(alloc, state)?;
     let dirty = rundown(alloc, state)?;
@@ -76,9 +60,8 @@ pub fn run_serial<D: Depot>(
     ensures failed { IsErrOf result RunFault.DepotFault → Rose (D.seen depot.old).failures (D.seen depot.new).failures }
     ensures later { (D.seen depot.old).failures ≤ (D.seen depot.new).failures }
 {
-    let blocks = make_blocks(alloc, &config, depot)?;
-    let mut state = State::start(alloc, config, blocks)?;
-    let ending = run_state(alloc, &mut state)?;
+    let mut state = run_to_report(alloc, config, depot)?;
+    let ending = end_state(alloc, &mut state)?;
     let (config, entries, blocks) = state.finish();
     retire_blocks(blocks, depot)?;
     Ok(Finished {
@@ -108,7 +91,8 @@ pub fn count_serial<D: Depot>(
 {
     let blocks = make_blocks(alloc, &config, depot)?;
     let mut state = State::start_counting(alloc, config, blocks)?;
-    let ending = run_state(alloc, &mut state)?;
+    answer_requests(alloc, &mut state)?;
+    let ending = end_state(alloc, &mut state)?;
     let all = state.entry_count();
     let kinds = state.kinds();
     let (_, _, blocks) = state.finish();

@@ -35,7 +35,7 @@ use Rattle.state_parts.specs.declared.process_row.ProcessRow.{ProcessRow}
 use Rattle.state_parts.specs.declared.spoken_row.SpokenRow.{SpokenRow}
 use Rattle.page_holders.proofs.Holders.{and_apart}
 use Rattle.page_holders.proofs.ValidEntries.{IsValidAt, valid_at_page}
-use Rattle.state_fits.specs.Frames.{FramesFit, frame_row, row_by, slot_for}
+use Rattle.state_fits.specs.Frames.{FramesFit, frame_pins, frame_row, row_by, slot_for}
 use Rattle.state_fits.specs.Pages.{PagesFit, charged_row, touched_row, touched_rows}
 use Rattle.state_fits.specs.Parts.{Parts}
 use Rattle.state_fits.specs.PartsFit.{PartsFit}
@@ -135,11 +135,11 @@ module _ (config : Config) (past : List Entry) (a : Pager) (seat : Seat) (r : Re
   unfolding frame_row
   row_here =
       ap (λ (x : Row). record x { modify = (if is_change r.op then true else x.modify) }) done_row
-      ∙ ap (λ (m : Bool). row_by (a.state e.frame) (a.page e.frame) m (shares a.valid e.frame) (reads_on e.frame flights + writes_on e.frame flights) (slot_for a.ring (a.page e.frame))) (sym (modify_here (is_change r.op)))
+      ∙ ap (λ (m : Bool). row_by (a.state e.frame) (a.page e.frame) m (shares a.valid e.frame) (reads_on e.frame flights + writes_on e.frame flights) (slot_for a.ring (a.page e.frame)) (frame_pins a.valid a.ring e.frame)) (sym (modify_here (is_change r.op)))
 
   row_there : (h : ℕ) → (e.frame ≡ h → ⊥) → frame_row a.state a.page modify' a.valid a.ring flights h ≡ frame_row a.state a.page a.modify a.valid a.ring flights h
   unfolding frame_row
-  row_there h apart = ap (λ (m : Bool). row_by (a.state h) (a.page h) m (shares a.valid h) (reads_on h flights + writes_on h flights) (slot_for a.ring (a.page h))) (modify_there (is_change r.op) h apart)
+  row_there h apart = ap (λ (m : Bool). row_by (a.state h) (a.page h) m (shares a.valid h) (reads_on h flights + writes_on h flights) (slot_for a.ring (a.page h)) (frame_pins a.valid a.ring h)) (modify_there (is_change r.op) h apart)
 
   frames : (frames' : Frames) → frames'.rows ≡ slice_set parts.frames.rows e.frame (record (row_of parts.frames e.frame) { modify = (if is_change r.op then true else (row_of parts.frames e.frame).modify) })
       → frames'.free ≡ parts.frames.free → frames'.modified ≡ parts.frames.modified

@@ -42,6 +42,7 @@ use Rattle.state_fits.specs.Changes.{released_in}
 use Rattle.state_fits.specs.Entries.{TablesFit, origin_of, own_place, place_by, pte_of, resting_place, section_page_number}
 use Rattle.state_fits.specs.Frames.{FramesFit, frame_row, row_by, slot_for}
 use Rattle.state_fits.specs.Globals.{GlobalsFit, shares_held}
+use Rattle.state_fits.proofs.FramePins.{no_pins}
 use Rattle.state_fits.proofs.FrameRows.{row_is, row_stays}
 use Rattle.state_fits.proofs.ShownEntries.{pte_stays}
 use Rattle.state_fits.proofs.KnownEntries.{placed_at, pte_known}
@@ -64,10 +65,10 @@ module _ (config : Config) (o : PastView) (a : Pager) (f : ℕ) (g : Page) (kept
       fit (holds_within config o a f g kept holds) rows
       (free ∙ ap (λ (xs : List ℕ). f ∷ without xs f) fit.free_list)
       (modified ∙ (ap (λ (xs : List ℕ). without xs f) fit.modified_list ∙ without-absent a.modified f absent))
-      ((λ i. row_by (sym (at_number_same a.state f state.Free) i) (sym (at_number_same a.page f None) i) (sym (at_number_same a.modify f false) i) (sym unshared i) (sym still i) (slot_for a.ring (sym (at_number_same a.page f None) i)))
+      ((λ i. row_by (sym (at_number_same a.state f state.Free) i) (sym (at_number_same a.page f None) i) (sym (at_number_same a.modify f false) i) (sym unshared i) (sym still i) (slot_for a.ring (sym (at_number_same a.page f None) i)) (sym (no_pins a.valid a.ring f unshared) i))
       ∙ sym (row_is (at_number a.state f state.Free) page' (at_number a.modify f false) a.valid a.ring o.flights f))
       (λ h apart. row_stays a.state a.page a.modify a.valid a.ring o.flights (at_number a.state f state.Free) page' (at_number a.modify f false) a.valid a.ring h
-      (at_number_other a.state f state.Free h apart) (at_number_other a.page f None h apart) (at_number_other a.modify f false h apart) refl (ap (slot_for a.ring) (at_number_other a.page f None h apart)))
+      (at_number_other a.state f state.Free h apart) (at_number_other a.page f None h apart) (at_number_other a.modify f false h apart) refl (ap (slot_for a.ring) (at_number_other a.page f None h apart)) refl)
 
   -- no frame holds the page any more
   page_out : holder config page' g ≡ None

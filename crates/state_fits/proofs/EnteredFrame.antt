@@ -7,7 +7,7 @@ use Rattle.vm_types.specs.declared.ring_choice.Choice.TheVariants.{Empty}
 use Rattle.vm_types.specs.declared.config.ProcSpec.{ProcSpec}
 use Rattle.vm_types.specs.declared.names.FrameState.{FrameState}
 use Rattle.vm_types.specs.declared.names.Page.{Page}
-use Rattle.pfn_database.specs.Rows.{counted_references}
+use Rattle.pfn_database.specs.Rows.{counted_references, uncounted}
 use Rattle.pfn_database.specs.declared.row.Row.{Row}
 use Rattle.pager_model.specs.Around.{ProcessView}
 use Rattle.pager_model.specs.Changes.{valid_at}
@@ -19,7 +19,8 @@ use Rattle.pager_model.specs.Transfers.{reads_on, writes_on}
 use Rattle.pager_rules.proofs.Basics.{count_cons_no, count_cons_yes, nat_eq_refl}
 use Rattle.pager_rules.proofs.PlacedRing.{IsOffered, offered}
 use Rattle.pager_rules.specs.Kept.{FitsProcess}
-use Rattle.state_fits.specs.Frames.{frame_row, slot_for}
+use Rattle.state_fits.specs.Frames.{frame_pins, frame_row, slot_for}
+use Rattle.state_fits.proofs.FrameRows.{over_pins}
 
 -- the slot that the ring offers below the limit: it is there, it is empty, and the page goes into it
 pub record IsPut (ring new : Ring) (slot v : ℕ) : Type 0 where
@@ -55,31 +56,32 @@ module _ (state state' : ℕ → FrameState) (page page' : ℕ → Option Page) 
   abbrev new : ℕ → Row
   new = frame_row state' page' modify' (valid_at p v f ∷ valid) ring' flights
 
-  pub entered_here : (row : Row) (s : FrameState) (g : Page) (m : Bool) (slot : ℕ) → row ≡ old f → state' f ≡ s → page' f ≡ Some g → modify' f ≡ m → slot_for ring' (Some g) ≡ slot
-      → record row { state = s; page = Some g; modify = m; refs = counted_references (row.shares + 1) row.flights; shares = row.shares + 1; slot = slot } ≡ new f
+  pub entered_here : (row : Row) (s : FrameState) (g : Page) (m : Bool) (slot : ℕ) → row ≡ old f → state' f ≡ s → page' f ≡ Some g → modify' f ≡ m → slot_for ring' (Some g) ≡ slot → frame_pins (valid_at p v f ∷ valid) ring' f ≡ frame_pins valid ring f
+      → record row { state = s; page = Some g; modify = m; refs = counted_references (row.shares + 1) row.flights + uncounted row; shares = row.shares + 1; slot = slot } ≡ new f
   unfolding frame_row
-  entered_here row s g m slot is state_is page_is modify_is slot_is =
+  entered_here row s g m slot is state_is page_is modify_is slot_is pins =
+      let over = over_pins (counted_references (shares valid f) (reads_on f flights + writes_on f flights)) (frame_pins valid ring f) ∙ sym pins in
       let more : shares valid f + 1 ≡ shares (valid_at p v f ∷ valid) f = let one = count_cons_yes (λ (e : Valid). nat_eq e.frame f) (valid_at p v f) valid (nat_eq_refl f) in omega (arith, one) in
-      ap (λ (r : Row). record r { state = s; page = Some g; modify = m; refs = counted_references (r.shares + 1) r.flights; shares = r.shares + 1; slot = slot }) is
+      ap (λ (r : Row). record r { state = s; page = Some g; modify = m; refs = counted_references (r.shares + 1) r.flights + uncounted r; shares = r.shares + 1; slot = slot }) is
       ∙ (λ i. record {
         state = sym state_is i;
         page = sym page_is i;
         modify = sym modify_is i;
-        refs = counted_references (more i) (reads_on f flights + writes_on f flights);
+        refs = counted_references (more i) (reads_on f flights + writes_on f flights) + over i;
         shares = more i;
         slot = (sym slot_is ∙ ap (slot_for ring') (sym page_is)) i;
         flights = reads_on f flights + writes_on f flights;
       })
 
-  pub entered_there : (h : ℕ) → (f ≡ h → ⊥) → state' h ≡ state h → page' h ≡ page h → modify' h ≡ modify h → slot_for ring' (page h) ≡ slot_for ring (page h) → new h ≡ old h
+  pub entered_there : (h : ℕ) → (f ≡ h → ⊥) → state' h ≡ state h → page' h ≡ page h → modify' h ≡ modify h → slot_for ring' (page h) ≡ slot_for ring (page h) → frame_pins (valid_at p v f ∷ valid) ring' h ≡ frame_pins valid ring h → new h ≡ old h
   unfolding frame_row
-  entered_there h apart state_is page_is modify_is slot_is =
+  entered_there h apart state_is page_is modify_is slot_is pins =
       let same = count_cons_no (λ (e : Valid). nat_eq e.frame h) (valid_at p v f) valid (ne_eqb f h apart) in
       λ i. record {
         state = state_is i;
         page = page_is i;
         modify = modify_is i;
-        refs = counted_references (same i) (reads_on h flights + writes_on h flights);
+        refs = counted_references (same i) (reads_on h flights + writes_on h flights) + pins i;
         shares = same i;
         slot = (ap (slot_for ring') page_is ∙ slot_is) i;
         flights = reads_on h flights + writes_on h flights;

@@ -11,7 +11,7 @@ use Rattle.vm_types.specs.declared.names.Page.TheVariants.{Private, Shared}
 use Rattle.global_pages.specs.GlobalPages.{GlobalPages}
 use Rattle.page_tables.specs.PageTables.{PageTables, entry_of}
 use Rattle.pfn_database.specs.Frames.{Frames, row_of}
-use Rattle.pfn_database.specs.Rows.{counted_references}
+use Rattle.pfn_database.specs.Rows.{counted_references, uncounted}
 use Rattle.pfn_database.specs.declared.row.Row.{Row}
 use Rattle.pte_forms.specs.declared.pte.Place.TheVariants as place
 use Rattle.pte_forms.specs.declared.pte.Pte.{Pte}
@@ -32,6 +32,7 @@ use Rattle.state_fits.specs.Changes.{page_slot, shared_in}
 use Rattle.state_fits.specs.Entries.{TablesFit, pte_of}
 use Rattle.state_fits.specs.Frames.{FramesFit, frame_row, slot_for}
 use Rattle.state_fits.specs.Globals.{GlobalsFit}
+use Rattle.state_fits.proofs.FramePins.{pins_entered}
 use Rattle.state_fits.proofs.EnteredFrame.{IsPut, entered_here, entered_there}
 use Rattle.state_fits.proofs.GlobalShares.{globals_shared}
 use Rattle.state_fits.proofs.ShownEntries.{pte_stays}
@@ -45,7 +46,7 @@ entered_row g modify slot row = record row {
   state = state.Active;
   page = Some g;
   modify = modify;
-  refs = counted_references (row.shares + 1) row.flights;
+  refs = counted_references (row.shares + 1) row.flights + uncounted row;
   shares = row.shares + 1;
   slot = slot;
 }
@@ -76,8 +77,8 @@ module _ (config : Config) (o : PastView) (a : Pager) (p v f slot : ℕ) (g : Pa
   frames_entered flights modify' m free' modified' old now marked unmarked fit below rows free modified =
       frames_set (frame_row a.state a.page a.modify a.valid a.ring flights) (frame_row (at_number a.state f state.Active) a.page modify' more (at_number a.ring p new) flights) config.frames a.free free' a.modified modified' old now f
       (entered_row g m (page_slot g slot) (row_of old f)) fit below rows free modified
-      (entered_here a.state (at_number a.state f state.Active) a.page a.page a.modify modify' a.valid a.ring (at_number a.ring p new) flights p v f (row_of old f) state.Active g m (page_slot g slot) (fit.rows f) (at_number_same a.state f state.Active) holds marked slot_here)
-      (λ h apart. entered_there a.state (at_number a.state f state.Active) a.page a.page a.modify modify' a.valid a.ring (at_number a.ring p new) flights p v f h apart (at_number_other a.state f state.Active h apart) refl (unmarked h apart) (slot_there h apart))
+      (entered_here a.state (at_number a.state f state.Active) a.page a.page a.modify modify' a.valid a.ring (at_number a.ring p new) flights p v f (row_of old f) state.Active g m (page_slot g slot) (fit.rows f) (at_number_same a.state f state.Active) holds marked slot_here (pins_entered a.valid a.ring p v f slot new put ((kept.entries p v).slots ∙ not_valid) f))
+      (λ h apart. entered_there a.state (at_number a.state f state.Active) a.page a.page a.modify modify' a.valid a.ring (at_number a.ring p new) flights p v f h apart (at_number_other a.state f state.Active h apart) refl (unmarked h apart) (slot_there h apart) (pins_entered a.valid a.ring p v f slot new put ((kept.entries p v).slots ∙ not_valid) h))
 
   pub tables_entered : (lies' : Page → Option BlockId) (old now : PageTables) (pte : Pte) → ((q w : ℕ) → (nat_eq p q && nat_eq v w) ≡ false → lies' (Private (proc q) w) ≡ a.lies (Private (proc q) w))
       → TablesFit (pte_of config a.map a.valid a.page a.lies) (length config.procs) old → entry_of old p v ≡ Some pte → now.procs ≡ old.procs

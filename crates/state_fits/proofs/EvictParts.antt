@@ -1,10 +1,15 @@
 -- EVICT: the parts afterwards, for each of the five reasons.
-use Rattle.std.proofs.Common.{◌≡◌, ℕ, ◌+◌, ◌-◌, ◌<◌, Bool, true, false, cond, List, ◌∷◌, Some, None, length, nat_eq, count_by, slice_set, slice_index_or, refl, sym, ap, ap₂, ◌∙◌, subst, arith}
+use Rattle.std.proofs.Common.{◌≡◌, ℕ, ◌+◌, ◌-◌, ◌<◌, Bool, true, false, cond, List, ◌∷◌, Some, None, length, nat_eq, count_by, slice_set, slice_index_or, refl, sym, ap, ap₂, ◌∙◌, subst, arith, ◌⊎◌, inl, inr, ◌≤◌, slice_get}
 use Rattle.std.specs.Prelude.{◌==◌, if◌then◌else◌}
 use Rattle.std.proofs.lemmas.Bool.{ne_eqb, eq-eqb}
 use Rattle.vm_types.specs.PagePlaces.{changed_at}
-use Rattle.vm_types.specs.Ring.{Ring}
+use Rattle.std.proofs.lemmas.Option.{slice_get_cases}
+use Rattle.vm_types.specs.Configuration.{pins_of}
+use Rattle.vm_types.specs.Ring.{Ring, is_pinned_slot, pinned}
 use Rattle.vm_types.specs.declared.config.Config.{Config}
+use Rattle.vm_types.specs.declared.config.ProcSpec.{ProcSpec}
+use Rattle.vm_types.specs.declared.config.Version.{Version}
+use Rattle.vm_types.specs.declared.config.Version.TheVariants as version
 use Rattle.vm_types.specs.declared.names.FrameState.{FrameState}
 use Rattle.vm_types.specs.declared.names.FrameState.TheVariants as state
 use Rattle.vm_types.specs.declared.names.Page.{Page}
@@ -21,7 +26,7 @@ use Rattle.global_pages.specs.GlobalPages.{GlobalPages}
 use Rattle.state_parts.specs.declared.process_row.ProcessRow.{ProcessRow}
 use Rattle.page_tables.specs.PageTables.{PageTables, entry_of}
 use Rattle.pfn_database.specs.Frames.{Frames, row_of}
-use Rattle.pfn_database.specs.Rows.{counted_references}
+use Rattle.pfn_database.specs.Rows.{counted_references, uncounted}
 use Rattle.pfn_database.specs.declared.row.Row.{Row}
 use Rattle.pte_forms.specs.declared.pte.Pte.{Pte}
 use Rattle.pager_model.specs.Around.{past_view, quiet}
@@ -45,27 +50,32 @@ use Rattle.page_holders.proofs.Holders.{holder_there, holds_within}
 use Rattle.page_holders.proofs.EntryPages.{entry_page, gone_here, gone_there, mapped_right, mapped_there, only_entry, own_frame}
 use Rattle.state_fits.specs.Changes.{place_left, unshared_in}
 use Rattle.state_fits.specs.Entries.{TablesFit, pte_of}
-use Rattle.state_fits.specs.Frames.{FramesFit, frame_row, row_by, slot_for}
+use Rattle.state_fits.specs.Frames.{FramesFit, frame_pins, frame_row, row_by, slot_for}
 use Rattle.state_fits.specs.Globals.{GlobalsFit}
 use Rattle.state_fits.specs.Parts.{Parts}
 use Rattle.state_fits.specs.PartsFit.{PartsFit}
 use Rattle.state_fits.specs.Processes.{process_row}
-use Rattle.state_fits.proofs.FrameRows.{row_is, row_read, row_stays}
+use Rattle.state_fits.proofs.FrameRows.{over_pins, row_is, row_read, row_stays}
 use Rattle.state_fits.proofs.GlobalShares.{globals_unshared}
 use Rattle.state_fits.proofs.ShownEntries.{pte_stays}
 use Rattle.state_fits.proofs.KnownEntries.{placed_at, pte_left, pte_valid}
+use Rattle.state_fits.proofs.PinsLeft.{pins_elsewhere, pins_left}
 use Rattle.state_fits.proofs.PartsSet.{frames_set, process_read, processes_set, tables_set}
 use Rattle.state_fits.proofs.RingSlots.{slot_gone, slot_stays}
 use Rattle.state_fits.proofs.WhyEvicted.{IsGivenUp, given_up}
 
--- the row of a frame for which one valid entry less is there
-abbrev pub left_row : Row → Row
-left_row row = record row {
+-- the row of a frame for which one valid entry less is there, whose page was pinned or wasn't
+abbrev pub left_row : Bool → Row → Row
+left_row pinned row = record row {
   state = evicted_to row.shares row.flights row.modify;
-  refs = counted_references (row.shares - 1) row.flights;
+  refs = counted_references (row.shares - 1) row.flights + (if pinned then uncounted row - 1 else uncounted row);
   shares = row.shares - 1;
   slot = if row.shares == 1 then 0 else row.slot;
 }
+
+less_pins : (pinned : Bool) (old new : ℕ) → old ≡ cond {A = ℕ} pinned 1 0 + new → cond pinned (old - 1) old ≡ new
+less_pins true old new is = omega (arith, is)
+less_pins false old new is = omega (arith, is)
 
 -- the page's slot is empty now
 module _ (config : Config) (past : List Entry) (a : Pager) (p v f slot : ℕ) (to : FrameState) (kept : IsKept config (quiet (open_flights past)) a) (legal : IsEvicted past a p v f slot to)
@@ -109,16 +119,18 @@ module _ (config : Config) (past : List Entry) (a : Pager) (p v f slot : ℕ) (t
           let one : shares a.valid f ≡ 1 = omega (arith, one_share, alone) in
           rw (eq-eqb _ _ one) (sym (ap (λ (g : Page). slot_for (at_number a.ring p new) (Some g)) same ∙ slot_gone a.ring p v new no_slot))
 
-  row_here : left_row (row_by (a.state f) (a.page f) (a.modify f) (shares a.valid f) (reads_on f (open_flights past) + writes_on f (open_flights past)) (slot_for a.ring (a.page f)))
-      ≡ row_by (at_number a.state f to f) (a.page f) (a.modify f) (shares fewer f) (reads_on f (open_flights past) + writes_on f (open_flights past)) (slot_for (at_number a.ring p new) (a.page f))
+  row_here : left_row (legal.held).pinned (row_by (a.state f) (a.page f) (a.modify f) (shares a.valid f) (reads_on f (open_flights past) + writes_on f (open_flights past)) (slot_for a.ring (a.page f)) (frame_pins a.valid a.ring f))
+      ≡ row_by (at_number a.state f to f) (a.page f) (a.modify f) (shares fewer f) (reads_on f (open_flights past) + writes_on f (open_flights past)) (slot_for (at_number a.ring p new) (a.page f)) (frame_pins fewer (at_number a.ring p new) f)
   row_here =
       let state_is = at_number_same a.state f to ∙ legal.taken.goes in
       let less : shares a.valid f - 1 ≡ shares fewer f = omega (arith, one_share) in
+      let left = pins_left a.valid a.ring p v f slot legal.taken.entry legal.held new legal.taken.valid (kept.entries p v).once legal.taken.frame legal.holds legal.same emptied no_slot in
+      let over = ap (λ (n : ℕ). cond (legal.held).pinned (n - 1) n) (over_pins (counted_references (shares a.valid f) (reads_on f (open_flights past) + writes_on f (open_flights past))) (frame_pins a.valid a.ring f)) ∙ less_pins (legal.held).pinned _ _ left in
       λ i. record {
         state = sym state_is i;
         page = a.page f;
         modify = a.modify f;
-        refs = counted_references (less i) (reads_on f (open_flights past) + writes_on f (open_flights past));
+        refs = counted_references (less i) (reads_on f (open_flights past) + writes_on f (open_flights past)) + over i;
         shares = less i;
         slot = slot_here i;
         flights = reads_on f (open_flights past) + writes_on f (open_flights past);
@@ -129,19 +141,20 @@ module _ (config : Config) (past : List Entry) (a : Pager) (p v f slot : ℕ) (t
       (at_number_other a.state f to g apart) refl refl (shares_there g apart)
       (slot_stays a.ring p new slot (Some legal.held) None legal.holds emptied (a.page g)
       (λ w at. (ne_eqb (legal.held).vpn w (λ same. apart (own_frame config (quiet (open_flights past)) a p v f g its.0 kept its.1 holds (at ∙ ap (λ (u : ℕ). Some (Private (proc p) u)) (sym same ∙ legal.same)))), refl)))
+      (pins_elsewhere a.valid a.ring p v f slot legal.taken.entry legal.held new legal.taken.valid (kept.entries p v).once legal.taken.frame legal.holds legal.same emptied no_slot g apart)
 
   frames_left : (old now : Frames) → FramesFit (frame_row a.state a.page a.modify a.valid a.ring (open_flights past)) config.frames a.free a.modified old → f < config.frames
-      → now.rows ≡ slice_set old.rows f (left_row (row_of old f))
-      → now.free ≡ pushed_if (is state.Free (left_row (row_of old f)).state) old.free f
-      → now.modified ≡ pushed_if (is state.Modified (left_row (row_of old f)).state) old.modified f
+      → now.rows ≡ slice_set old.rows f (left_row (legal.held).pinned (row_of old f))
+      → now.free ≡ pushed_if (is state.Free (left_row (legal.held).pinned (row_of old f)).state) old.free f
+      → now.modified ≡ pushed_if (is state.Modified (left_row (legal.held).pinned (row_of old f)).state) old.modified f
       → FramesFit (frame_row (at_number a.state f to) a.page a.modify fewer (at_number a.ring p new) (open_flights past)) config.frames (pushed_if (is state.Free to) a.free f) (pushed_if (is state.Modified to) a.modified f) now
   frames_left old now fit below rows free modified =
       let read = row_read a.state a.page a.modify a.valid a.ring (open_flights past) config.frames a.free a.modified old f fit in
-      let goes : (left_row (row_of old f)).state ≡ to = ap (λ (row : Row). (left_row row).state) read ∙ sym legal.taken.goes in
-      frames_set _ _ config.frames a.free _ a.modified _ old now f (left_row (row_of old f)) fit below rows
+      let goes : (left_row (legal.held).pinned (row_of old f)).state ≡ to = ap (λ (row : Row). (left_row (legal.held).pinned row).state) read ∙ sym legal.taken.goes in
+      frames_set _ _ config.frames a.free _ a.modified _ old now f (left_row (legal.held).pinned (row_of old f)) fit below rows
       (free ∙ ap₂ (λ (s : FrameState) (xs : List ℕ). pushed_if (is state.Free s) xs f) goes fit.free_list)
       (modified ∙ ap₂ (λ (s : FrameState) (xs : List ℕ). pushed_if (is state.Modified s) xs f) goes fit.modified_list)
-      (ap left_row read ∙ (row_here ∙ sym (row_is (at_number a.state f to) a.page a.modify fewer (at_number a.ring p new) (open_flights past) f)))
+      (ap (left_row (legal.held).pinned) read ∙ (row_here ∙ sym (row_is (at_number a.state f to) a.page a.modify fewer (at_number a.ring p new) (open_flights past) f)))
       row_there
 
   -- ---- the page tables
@@ -188,6 +201,21 @@ module _ (config : Config) (past : List Entry) (a : Pager) (seat : Seat) (q : Pr
   pub below : f.0 < config.frames
   below = holds_within config (quiet (open_flights past)) a f.0 valid_there.0 kept held
 
+  -- in version 1 no slot is pinned
+  pub unpinned : config.version ≡ version.One → (gone.evicted.held).pinned ≡ false
+  unpinned one = of (slice_get_cases config.procs q.0).1
+    where
+      flag : (b : Bool) → cond {A = ℕ} b 1 0 ≡ 0 → b ≡ false
+      flag true some = absurd (omega (arith, some))
+      flag false none = refl
+
+      of : ((spec : ProcSpec) × (q.0 < length config.procs) × (slice_get config.procs q.0 ≡ Some spec) × (slice_index_or config.procs q.0 spec ≡ spec)) ⊎ ((length config.procs ≤ q.0) × (slice_get config.procs q.0 ≡ None)) → (gone.evicted.held).pinned ≡ false
+      of (inl found) =
+          let most : pinned (a.ring q.0).slots ≤ 0 = subst (λ (n : Version). pinned (a.ring q.0).slots ≤ pins_of n found.0) one ((kept.processes q.0).bounds found.0 found.2).pins in
+          let written = count_written is_pinned_slot (a.ring q.0).slots gone.slot (Some gone.evicted.held) None gone.evicted.holds in
+          flag _ (omega (arith, most, written))
+      of (inr past_all) = absurd (omega (arith, process, past_all.0))
+
   row_held : (g : Page) → (row_of parts.frames f.0).page ≡ Some g → a.page f.0 ≡ Some g
   row_held g is = sym (ap (λ (row : Row). row.page) (row_read a.state a.page a.modify a.valid a.ring (open_flights past) config.frames a.free a.modified parts.frames f.0 fit.frames)) ∙ is
 
@@ -195,9 +223,9 @@ module _ (config : Config) (past : List Entry) (a : Pager) (seat : Seat) (q : Pr
       → x ≡ slice_index_or parts.processes q.0 x
       → (row_of parts.frames f.0).page ≡ Some g
       → entry_of parts.tables q.0 v ≡ Some pte
-      → frames'.rows ≡ slice_set parts.frames.rows f.0 (left_row (row_of parts.frames f.0))
-      → frames'.free ≡ pushed_if (is state.Free (left_row (row_of parts.frames f.0)).state) parts.frames.free f.0
-      → frames'.modified ≡ pushed_if (is state.Modified (left_row (row_of parts.frames f.0)).state) parts.frames.modified f.0
+      → frames'.rows ≡ slice_set parts.frames.rows f.0 (left_row (gone.evicted.held).pinned (row_of parts.frames f.0))
+      → frames'.free ≡ pushed_if (is state.Free (left_row (gone.evicted.held).pinned (row_of parts.frames f.0)).state) parts.frames.free f.0
+      → frames'.modified ≡ pushed_if (is state.Modified (left_row (gone.evicted.held).pinned (row_of parts.frames f.0)).state) parts.frames.modified f.0
       → tables'.procs ≡ parts.tables.procs
       → ((r w : ℕ) → entry_of tables' r w ≡ changed_at (entry_of parts.tables) q.0 v (Some (record pte { place = place_left config f.0 g })) r w)
       → PartsFit config (e ∷ past) (after config past a e) (record parts {

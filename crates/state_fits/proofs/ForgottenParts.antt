@@ -49,6 +49,7 @@ use Rattle.state_fits.specs.Pages.{charged_row}
 use Rattle.state_fits.specs.Parts.{Parts}
 use Rattle.state_fits.specs.PartsFit.{PartsFit}
 use Rattle.state_fits.specs.Swaps.{SwapsFit}
+use Rattle.state_fits.proofs.FramePins.{no_pins}
 use Rattle.state_fits.proofs.BlockFreed.{length_without, released}
 use Rattle.state_fits.proofs.FrameRows.{row_stays}
 use Rattle.state_fits.proofs.ShownEntries.{globals_same, pte_stays}
@@ -111,7 +112,7 @@ module _ (config : Config) (past : List Entry) (a : Pager) (p v : ℕ) (kept : I
       → empty_row ≡ frame_row (at_number a.state f state.Free) (at_number a.page f None) (at_number a.modify f false) a.valid a.ring flights f
   unfolding frame_row
   emptied_row f unshared still =
-      λ i. row_by (sym (at_number_same a.state f state.Free) i) (sym (at_number_same a.page f None) i) (sym (at_number_same a.modify f false) i) (sym unshared i) (sym still i) (slot_for a.ring (sym (at_number_same a.page f None) i))
+      λ i. row_by (sym (at_number_same a.state f state.Free) i) (sym (at_number_same a.page f None) i) (sym (at_number_same a.modify f false) i) (sym unshared i) (sym still i) (slot_for a.ring (sym (at_number_same a.page f None) i)) (sym (no_pins a.valid a.ring f unshared) i)
 
   frames : IsIdlePage a.page a.valid flights g → (o : Option ℕ) → holder config a.page g ≡ o → (pfns : Frames)
       → FramesFit (frame_row a.state a.page a.modify a.valid a.ring flights) config.frames a.free a.modified pfns
@@ -124,7 +125,7 @@ module _ (config : Config) (past : List Entry) (a : Pager) (p v : ℕ) (kept : I
       (ap (λ (xs : List ℕ). f ∷ without xs f) fit.free_list) (ap (λ (xs : List ℕ). without xs f) fit.modified_list)
       (emptied_row f (idle.unshared f holds) (idle.still f holds))
       (λ h apart. row_stays a.state a.page a.modify a.valid a.ring flights (at_number a.state f state.Free) (at_number a.page f None) (at_number a.modify f false) a.valid a.ring h
-      (at_number_other a.state f state.Free h apart) (at_number_other a.page f None h apart) (at_number_other a.modify f false h apart) refl (ap (slot_for a.ring) (at_number_other a.page f None h apart)))
+      (at_number_other a.state f state.Free h apart) (at_number_other a.page f None h apart) (at_number_other a.modify f false h apart) refl (ap (slot_for a.ring) (at_number_other a.page f None h apart)) refl)
 
   -- ---- which frames hold the other pages
   held : (o : Option ℕ) → holder config a.page g ≡ o → (h : Page) → (h ≡ g → ⊥) → holder config (put_at a.page o None) h ≡ holder config a.page h

@@ -8,7 +8,7 @@ use Rattle.vm_types.specs.declared.names.Seat.{Seat}
 use Rattle.vm_journal.specs.declared.entry.Entry.{Entry}
 use Rattle.vm_journal.specs.declared.entry.What.TheVariants as what
 use Rattle.pfn_database.specs.Frames.{Frames, row_of}
-use Rattle.pfn_database.specs.Rows.{counted_references}
+use Rattle.pfn_database.specs.Rows.{counted_references, uncounted}
 use Rattle.pfn_database.specs.declared.row.Row.{Row}
 use Rattle.pager_laws.proofs.InFailKept.{begun_open}
 use Rattle.pager_model.specs.Around.{past_view, quiet}
@@ -17,13 +17,15 @@ use Rattle.pager_model.specs.Lookups.{shares}
 use Rattle.pager_model.specs.Pager.{Pager}
 use Rattle.pager_model.specs.Sets.{at_number}
 use Rattle.pager_model.specs.Step.{after, IsLegal}
+use Rattle.pager_model.specs.Transfers.{reads_on, writes_on}
 use Rattle.pager_rules.proofs.Basics.{at_number_other, at_number_same}
 use Rattle.pager_rules.proofs.Quiet.{starts_once}
 use Rattle.pager_rules.proofs.Turns.{calm}
 use Rattle.pager_rules.specs.Kept.{IsKept}
-use Rattle.state_fits.specs.Frames.{FramesFit, frame_row, row_by, slot_for}
+use Rattle.state_fits.specs.Frames.{FramesFit, frame_pins, frame_row, row_by, slot_for}
 use Rattle.state_fits.specs.Parts.{Parts}
 use Rattle.state_fits.specs.PartsFit.{PartsFit}
+use Rattle.state_fits.proofs.FrameRows.{over_pins}
 use Rattle.state_fits.proofs.FlightsMoved.{flights_landed_at, one_on_frame, seats_landed_at}
 use Rattle.state_fits.proofs.PartsSet.{frames_set}
 use Rattle.state_fits.proofs.ReadLanded.{IsLandedOn, landed_on}
@@ -54,13 +56,13 @@ module _ (config : Config) (past : List Entry) (a : Pager) (seat : Seat) (f : Pf
   abbrev new_row : ℕ → Row
   new_row = frame_row (at_number a.state f.0 state.ReadError) a.page a.modify a.valid a.ring rest
 
-  row_here : (row : Row) → row ≡ old_row f.0 → record row { state = state.ReadError; refs = counted_references row.shares 0; flights = 0 } ≡ new_row f.0
+  row_here : (row : Row) → row ≡ old_row f.0 → record row { state = state.ReadError; refs = counted_references row.shares 0 + uncounted row; flights = 0 } ≡ new_row f.0
   unfolding frame_row
   row_here row is = λ i. record {
     state = sym (at_number_same a.state f.0 state.ReadError) i;
     page = (is i).page;
     modify = (is i).modify;
-    refs = (ap (λ (r : Row). counted_references r.shares 0) is ∙ ap (counted_references (shares a.valid f.0)) (sym in_fail_on.none)) i;
+    refs = (ap (λ (r : Row). counted_references r.shares 0 + uncounted r) is ∙ (λ j. counted_references (shares a.valid f.0) (sym in_fail_on.none j) + over_pins (counted_references (shares a.valid f.0) (reads_on f.0 flights + writes_on f.0 flights)) (frame_pins a.valid a.ring f.0) j)) i;
     shares = (is i).shares;
     slot = (is i).slot;
     flights = sym in_fail_on.none i;
@@ -68,9 +70,9 @@ module _ (config : Config) (past : List Entry) (a : Pager) (seat : Seat) (f : Pf
 
   row_there : (h : ℕ) → (f.0 ≡ h → ⊥) → new_row h ≡ old_row h
   unfolding frame_row
-  row_there h apart = λ i. row_by (at_number_other a.state f.0 state.ReadError h apart i) (a.page h) (a.modify h) (shares a.valid h) (in_fail_on.there h apart i) (slot_for a.ring (a.page h))
+  row_there h apart = λ i. row_by (at_number_other a.state f.0 state.ReadError h apart i) (a.page h) (a.modify h) (shares a.valid h) (in_fail_on.there h apart i) (slot_for a.ring (a.page h)) (frame_pins a.valid a.ring h)
 
-  frames : (frames' : Frames) → frames'.rows ≡ slice_set (parts.frames).rows f.0 (record (row_of parts.frames f.0) { state = state.ReadError; refs = counted_references (row_of parts.frames f.0).shares 0; flights = 0 })
+  frames : (frames' : Frames) → frames'.rows ≡ slice_set (parts.frames).rows f.0 (record (row_of parts.frames f.0) { state = state.ReadError; refs = counted_references (row_of parts.frames f.0).shares 0 + uncounted (row_of parts.frames f.0); flights = 0 })
       → frames'.free ≡ (parts.frames).free → frames'.modified ≡ (parts.frames).modified → FramesFit new_row config.frames a.free a.modified frames'
   frames frames' rows free modified =
       frames_set old_row new_row config.frames a.free a.free a.modified a.modified parts.frames frames' f.0 _ fit.frames in_fail_on.within rows (free ∙ fit.frames.free_list) (modified ∙ fit.frames.modified_list)
@@ -80,7 +82,7 @@ module _ (config : Config) (past : List Entry) (a : Pager) (seat : Seat) (f : Pf
   seat_there = let few = legal.line.seat in omega (arith, few)
 
   pub in_fail_parts : (frames' : Frames)
-      → frames'.rows ≡ slice_set (parts.frames).rows f.0 (record (row_of parts.frames f.0) { state = state.ReadError; refs = counted_references (row_of parts.frames f.0).shares 0; flights = 0 })
+      → frames'.rows ≡ slice_set (parts.frames).rows f.0 (record (row_of parts.frames f.0) { state = state.ReadError; refs = counted_references (row_of parts.frames f.0).shares 0 + uncounted (row_of parts.frames f.0); flights = 0 })
       → frames'.free ≡ (parts.frames).free → frames'.modified ≡ (parts.frames).modified
       → (n : ℕ) → n ≡ slice_index_or parts.busy seat.0 n
       → PartsFit config (e ∷ past) (after config past a e) (record parts {

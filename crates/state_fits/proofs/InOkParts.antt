@@ -24,7 +24,7 @@ use Rattle.pte_forms.specs.declared.pte.Place.TheVariants as place
 use Rattle.pte_forms.specs.declared.pte.Pte.{Pte}
 use Rattle.global_pages.specs.GlobalPages.{GlobalPages}
 use Rattle.pfn_database.specs.Frames.{Frames, row_of}
-use Rattle.pfn_database.specs.Rows.{counted_references}
+use Rattle.pfn_database.specs.Rows.{counted_references, uncounted}
 use Rattle.pfn_database.specs.declared.row.Row.{Row}
 use Rattle.pager_laws.proofs.InOkKept.{fit as its_fit, fits}
 use Rattle.pager_model.specs.Around.{entry_view, page_view, past_view, process_view, quiet}
@@ -39,6 +39,7 @@ use Rattle.pager_model.specs.Ring.{placed, slotted}
 use Rattle.pager_model.specs.Sets.{at_number, at_page}
 use Rattle.pager_model.specs.Sound.{FitsSlot, IsSwapped}
 use Rattle.pager_model.specs.Step.{after, IsLegal}
+use Rattle.pager_model.specs.Transfers.{reads_on, writes_on}
 use Rattle.pager_rules.proofs.Basics.{at_number_other, at_number_same}
 use Rattle.pager_rules.proofs.Lists.{count_written}
 use Rattle.pager_rules.proofs.Pages.{is_of_private, own_is}
@@ -53,12 +54,13 @@ use Rattle.state_parts.specs.declared.process_row.ProcessRow.{ProcessRow}
 use Rattle.page_holders.proofs.Holders.{and_apart}
 use Rattle.page_holders.proofs.EntryPages.{mapped_right}
 use Rattle.state_fits.specs.Changes.{page_slot, shared_in}
-use Rattle.state_fits.specs.Frames.{frame_row, row_by, slot_for}
+use Rattle.state_fits.specs.Frames.{frame_pins, frame_row, row_by, slot_for}
 use Rattle.state_fits.specs.Globals.{GlobalsFit}
 use Rattle.state_fits.specs.Parts.{Parts}
 use Rattle.state_fits.specs.PartsFit.{PartsFit}
 use Rattle.state_fits.specs.Processes.{ProcessesFit, process_row}
 use Rattle.state_fits.specs.Seats.{FlightsFit, SeatsFit}
+use Rattle.state_fits.proofs.FrameRows.{over_pins}
 use Rattle.state_fits.proofs.EnteredFrame.{IsPut, put_there}
 use Rattle.state_fits.proofs.FlightsMoved.{flights_landed_at, one_on_frame, seats_landed_at}
 use Rattle.state_fits.proofs.GlobalShares.{globals_shared}
@@ -154,13 +156,13 @@ module _ (config : Config) (past : List Entry) (a : Pager) (seat : Seat) (f : Pf
   abbrev near_row : ℕ → Row
   near_row = frame_row (at_number a.state f.0 state.Free) a.page a.modify a.valid a.ring rest
 
-  near_here : (r : Row) → r ≡ old_row f.0 → record r { state = state.Free; slot = 0; refs = counted_references r.shares 0; flights = 0 } ≡ near_row f.0
+  near_here : (r : Row) → r ≡ old_row f.0 → record r { state = state.Free; slot = 0; refs = counted_references r.shares 0 + uncounted r; flights = 0 } ≡ near_row f.0
   unfolding frame_row
   near_here r is = λ i. record {
     state = sym (at_number_same a.state f.0 state.Free) i;
     page = (is i).page;
     modify = (is i).modify;
-    refs = (ap (λ (z : Row). counted_references z.shares 0) is ∙ ap (counted_references (shares a.valid f.0)) (sym in_ok_on.none)) i;
+    refs = (ap (λ (z : Row). counted_references z.shares 0 + uncounted z) is ∙ (λ j. counted_references (shares a.valid f.0) (sym in_ok_on.none j) + over_pins (counted_references (shares a.valid f.0) (reads_on f.0 flights + writes_on f.0 flights)) (frame_pins a.valid a.ring f.0) j)) i;
     shares = (is i).shares;
     slot = (sym in_ok_on.slot ∙ ap (slot_for a.ring) (sym in_ok_on.holds)) i;
     flights = sym in_ok_on.none i;
@@ -168,10 +170,10 @@ module _ (config : Config) (past : List Entry) (a : Pager) (seat : Seat) (f : Pf
 
   near_there : (h : ℕ) → (f.0 ≡ h → ⊥) → near_row h ≡ old_row h
   unfolding frame_row
-  near_there h apart = λ i. row_by (at_number_other a.state f.0 state.Free h apart i) (a.page h) (a.modify h) (shares a.valid h) (in_ok_on.there h apart i) (slot_for a.ring (a.page h))
+  near_there h apart = λ i. row_by (at_number_other a.state f.0 state.Free h apart i) (a.page h) (a.modify h) (shares a.valid h) (in_ok_on.there h apart i) (slot_for a.ring (a.page h)) (frame_pins a.valid a.ring h)
 
   pub in_ok_near_parts : (g : Page) → legal.row.role ≡ role.Near g → (frames' : Frames)
-      → frames'.rows ≡ slice_set (parts.frames).rows f.0 (record (row_of parts.frames f.0) { state = state.Free; slot = 0; refs = counted_references (row_of parts.frames f.0).shares 0; flights = 0 })
+      → frames'.rows ≡ slice_set (parts.frames).rows f.0 (record (row_of parts.frames f.0) { state = state.Free; slot = 0; refs = counted_references (row_of parts.frames f.0).shares 0 + uncounted (row_of parts.frames f.0); flights = 0 })
       → frames'.free ≡ (parts.frames).free ++ f.0 ∷ [] → frames'.modified ≡ (parts.frames).modified
       → (n : ℕ) → n ≡ slice_index_or parts.busy seat.0 n
       → PartsFit config (e ∷ past) (after config past a e) (record parts {
@@ -205,7 +207,7 @@ module _ (config : Config) (past : List Entry) (a : Pager) (seat : Seat) (f : Pf
       → frames'.rows ≡ slice_set (parts.frames).rows f.0 (record (row_of parts.frames f.0) {
         state = state.Active;
         modify = is_first_read (Some g) (legal.row.flight).block;
-        refs = counted_references ((row_of parts.frames f.0).shares + 1) 0;
+        refs = counted_references ((row_of parts.frames f.0).shares + 1) 0 + uncounted (row_of parts.frames f.0);
         shares = (row_of parts.frames f.0).shares + 1;
         slot = page_slot g slot;
         flights = 0;
@@ -273,7 +275,7 @@ module _ (config : Config) (past : List Entry) (a : Pager) (seat : Seat) (f : Pf
       row_with o h = slice_set (parts.frames).rows f.0 (record (row_of parts.frames f.0) {
         state = state.Active;
         modify = is_first_read o x.block;
-        refs = counted_references ((row_of parts.frames f.0).shares + 1) 0;
+        refs = counted_references ((row_of parts.frames f.0).shares + 1) 0 + uncounted (row_of parts.frames f.0);
         shares = (row_of parts.frames f.0).shares + 1;
         slot = page_slot h slot;
         flights = 0;
@@ -339,7 +341,7 @@ module _ (config : Config) (past : List Entry) (a : Pager) (seat : Seat) (f : Pf
         → frames'.rows ≡ slice_set (parts.frames).rows f.0 (record (row_of parts.frames f.0) {
           state = state.Active;
           modify = true;
-          refs = counted_references ((row_of parts.frames f.0).shares + 1) 0;
+          refs = counted_references ((row_of parts.frames f.0).shares + 1) 0 + uncounted (row_of parts.frames f.0);
           shares = (row_of parts.frames f.0).shares + 1;
           slot = swap_slot (legal.row.flight).block;
           flights = 0;
@@ -413,7 +415,7 @@ module _ (config : Config) (past : List Entry) (a : Pager) (seat : Seat) (f : Pf
         row_with h = slice_set (parts.frames).rows f.0 (record (row_of parts.frames f.0) {
           state = state.Active;
           modify = true;
-          refs = counted_references ((row_of parts.frames f.0).shares + 1) 0;
+          refs = counted_references ((row_of parts.frames f.0).shares + 1) 0 + uncounted (row_of parts.frames f.0);
           shares = (row_of parts.frames f.0).shares + 1;
           slot = page_slot h n;
           flights = 0;

@@ -23,7 +23,7 @@ use Rattle.page_tables.specs.PageTables.{PageTables, entry_of as pte_in}
 use Rattle.page_file.specs.Blocks.{Blocks}
 use Rattle.global_pages.specs.GlobalPages.{GlobalPages}
 use Rattle.pfn_database.specs.Frames.{Frames, row_of}
-use Rattle.pfn_database.specs.Rows.{counted_references}
+use Rattle.pfn_database.specs.Rows.{counted_references, uncounted}
 use Rattle.pager_model.specs.Around.{PastView, past_view}
 use Rattle.pager_model.specs.Flights.{Flight, open_flights, reading}
 use Rattle.pager_model.specs.In.{IsFirstIn, IsInFault, IsInLying, charged_with}
@@ -103,7 +103,7 @@ fault_readable config past a p f b q address kept right legal = record {
 
 -- what the calls tell of the frame's row, of the page's entry and of its global page
 pub record IsReadBegun (config : Config) (parts : Parts) (f : ℕ) (x : Page) (pfns : Frames) (entries : PageTables) (globals : GlobalPages) : Type 0 where
-  pub rows : pfns.rows ≡ slice_set (parts.frames).rows f (record (row_of parts.frames f) { state = state.Reading; page = Some x; modify = false; refs = counted_references (row_of parts.frames f).shares 1; flights = 1 })
+  pub rows : pfns.rows ≡ slice_set (parts.frames).rows f (record (row_of parts.frames f) { state = state.Reading; page = Some x; modify = false; refs = counted_references (row_of parts.frames f).shares 1 + uncounted (row_of parts.frames f); flights = 1 })
   pub free : pfns.free ≡ without (parts.frames).free f
   pub modified : pfns.modified ≡ (parts.frames).modified
   pub procs : entries.procs ≡ (parts.tables).procs

@@ -77,7 +77,7 @@ listed pages g one = go (has_page pages g) refl
 -- of every landing of a read of this role, whose frame holds this page
 pub record CanLand (parts : Parts) (seat f : ℕ) (r : Role) (g : Page) : Type 0 where
   pub below : f < length (parts.frames).rows
-  pub row : row_of parts.frames f ≡ row_by state.Reading (Some g) false 0 1 0
+  pub row : row_of parts.frames f ≡ row_by state.Reading (Some g) false 0 1 0 0
   pub starts : f < length parts.starts
   pub roles : f < length parts.roles
   pub role : (o : Option Role) → o ≡ slice_index_or parts.roles f o → o ≡ Some r

@@ -14,7 +14,9 @@ pub mod EnteredParts
 pub mod EvictCan
 pub mod EvictParts
 pub mod FewShares
+pub mod FramePins
 pub mod FrameRows
+pub mod PinsLeft
 pub mod GlobalShares
 pub mod GoodEntries
 pub mod KnownEntries

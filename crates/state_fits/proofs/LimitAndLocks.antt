@@ -10,17 +10,19 @@ use Rattle.vm_types.specs.declared.names.Page.{Page}
 use Rattle.vm_types.specs.declared.names.Page.TheVariants.{Private, Shared}
 use Rattle.vm_journal.specs.declared.entry.Entry.{Entry}
 use Rattle.pager_model.specs.Flights.{open_flights}
-use Rattle.pager_model.specs.Lookups.{has_vpn}
+use Rattle.pager_model.specs.Lookups.{has_pin, has_vpn, pins_with}
 use Rattle.pager_model.specs.Pager.{Pager}
 use Rattle.pager_model.specs.Ring.{range_locked, relocked_slot}
 use Rattle.pager_model.specs.Served.{with_limit, with_ring}
 use Rattle.pager_model.specs.Sets.{at_number}
+use Rattle.pager_laws.proofs.TurnKept.{count_map}
 use Rattle.pager_rules.proofs.Basics.{at_number_other, at_number_same}
 use Rattle.state_parts.specs.declared.process_row.ProcessRow.{ProcessRow}
 use Rattle.state_fits.specs.Frames.{frame_row, or_zero, slot_for}
 use Rattle.state_fits.specs.Parts.{Parts}
 use Rattle.state_fits.specs.PartsFit.{PartsFit}
 use Rattle.state_fits.specs.Processes.{process_row}
+use Rattle.state_fits.proofs.FramePins.{pins_at, pins_same}
 use Rattle.state_fits.proofs.FrameRows.{row_stays}
 use Rattle.state_fits.proofs.PartsSet.{frames_same, process_read, processes_set}
 
@@ -32,6 +34,13 @@ mapped_at change v same (slot ∷ slots) = rw (same slot, mapped_at change v sam
 relocked_vpn : (lock : Bool) (address pages v : ℕ) (slot : Option Held) → has_vpn v (relocked_slot lock address pages slot) ≡ has_vpn v slot
 relocked_vpn lock address pages v None = refl
 relocked_vpn lock address pages v (Some held) = refl
+
+relocked_pin : (lock : Bool) (address pages v : ℕ) (o : Option Held) → has_pin v (relocked_slot lock address pages o) ≡ has_pin v o
+relocked_pin lock address pages v None = refl
+relocked_pin lock address pages v (Some held) = refl
+
+relocked_pins : (lock : Bool) (address pages v : ℕ) (ring : Ring) → pins_with (range_locked lock address pages ring) v ≡ pins_with ring v
+relocked_pins lock address pages v ring = count_map (has_pin v) (has_pin v) (relocked_slot lock address pages) (relocked_pin lock address pages v) ring.slots
 
 relocked_position : (lock : Bool) (address pages v : ℕ) (ring : Ring) → position (has_vpn v) (range_locked lock address pages ring).slots ≡ position (has_vpn v) ring.slots
 relocked_position lock address pages v ring = rw (mapped_at (relocked_slot lock address pages) v (relocked_vpn lock address pages v) ring.slots, length-map ring.slots (relocked_slot lock address pages)) refl
@@ -95,7 +104,7 @@ module _ (config : Config) (past : List Entry) (a : Pager) (p : ℕ) (there : p 
     relocked =
         record {
           frames = frames_same (frame_row a.state a.page a.modify a.valid a.ring (open_flights past)) (frame_row a.state a.page a.modify a.valid ring' (open_flights past)) config.frames a.free a.modified parts.frames fit.frames
-              (λ f. row_stays a.state a.page a.modify a.valid a.ring (open_flights past) a.state a.page a.modify a.valid ring' f refl refl refl refl (relocked_slots (a.page f)));
+              (λ f. row_stays a.state a.page a.modify a.valid a.ring (open_flights past) a.state a.page a.modify a.valid ring' f refl refl refl refl (relocked_slots (a.page f)) (pins_same a.valid a.ring ring' f (pins_at a.ring p (range_locked lock address pages (a.ring p)) (λ v. relocked_pins lock address pages v (a.ring p)))));
           flights = fit.flights;
           processes = processes_set row (process_row a.status ring' a.limit a.references a.faults a.collided) (length config.procs) parts.processes p _ fit.processes there
               (λ i. record {

@@ -11,7 +11,7 @@ use Rattle.vm_journal.specs.declared.entry.Entry.{Entry}
 use Rattle.vm_journal.specs.declared.entry.What.{What}
 use Rattle.vm_journal.specs.declared.entry.What.TheVariants as what
 use Rattle.pfn_database.specs.Frames.{Frames, row_of}
-use Rattle.pfn_database.specs.Rows.{counted_references}
+use Rattle.pfn_database.specs.Rows.{counted_references, uncounted}
 use Rattle.pfn_database.specs.declared.row.Row.{Row}
 use Rattle.state_parts.specs.ChargedTable.{ChargedTable, charged_at}
 use Rattle.state_parts.specs.SwapTable.{SwapTable, swapped_at}
@@ -50,7 +50,7 @@ module _ (parts : Parts) (seat f : ℕ) (d : BlockId) where
     pub rows : frames'.rows ≡ slice_set (parts.frames).rows f (record row {
       state = if row.shares == 0 then settled_to (failed || row.modify) else row.state;
       modify = failed || row.modify;
-      refs = counted_references row.shares 0;
+      refs = counted_references row.shares 0 + uncounted row;
       slot = if row.shares == 0 then 0 else row.slot;
       flights = 0;
     })

@@ -14,7 +14,7 @@ use Rattle.vm_journal.specs.declared.entry.Entry.{Entry}
 use Rattle.vm_journal.specs.declared.entry.What.TheVariants as what
 use Rattle.page_lists.specs.Lists.{without}
 use Rattle.pfn_database.specs.Frames.{Frames, row_of}
-use Rattle.pfn_database.specs.Rows.{counted_references, state_in_transfer}
+use Rattle.pfn_database.specs.Rows.{counted_references, uncounted, state_in_transfer}
 use Rattle.pfn_database.specs.declared.row.Row.{Row}
 use Rattle.state_parts.specs.ChargedTable.{ChargedTable, charged_at}
 use Rattle.pager_laws.proofs.OutOkKept.{shared_block}
@@ -94,7 +94,7 @@ module _ (parts : Parts) (start seat f : ℕ) (d : BlockId) where
 
   -- what the calls give
   pub record IsOutDone (frames' : Frames) (n : ℕ) (pages' : ChargedTable) : Type 0 where
-    pub rows : frames'.rows ≡ slice_set (parts.frames).rows f (record row { state = state_in_transfer row.state; modify = false; refs = counted_references row.shares 1; flights = 1 })
+    pub rows : frames'.rows ≡ slice_set (parts.frames).rows f (record row { state = state_in_transfer row.state; modify = false; refs = counted_references row.shares 1 + uncounted row; flights = 1 })
     pub free : frames'.free ≡ (parts.frames).free
     pub modified : frames'.modified ≡ without (parts.frames).modified f
     pub busy : n ≡ slice_index_or parts.busy seat n

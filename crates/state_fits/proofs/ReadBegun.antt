@@ -19,7 +19,7 @@ use Rattle.page_tables.specs.PageTables.{PageTables, entry_of as pte_in}
 use Rattle.global_pages.specs.GlobalPages.{GlobalPages}
 use Rattle.pte_forms.specs.declared.pte.Place.TheVariants as place
 use Rattle.pfn_database.specs.Frames.{Frames, row_of}
-use Rattle.pfn_database.specs.Rows.{counted_references}
+use Rattle.pfn_database.specs.Rows.{counted_references, uncounted}
 use Rattle.pfn_database.specs.declared.row.Row.{Row}
 use Rattle.pager_model.specs.Around.{past_view}
 use Rattle.pager_model.specs.Flights.{Flight, is_reading, open_flights}
@@ -38,9 +38,10 @@ use Rattle.page_holders.proofs.Holders.{IsFreeRow, free_is, holder_elsewhere, ho
 use Rattle.page_holders.proofs.SectionNumbers.{number_within, numbers_differ}
 use Rattle.page_holders.proofs.EntryPages.{mapped_there}
 use Rattle.state_fits.specs.Entries.{TablesFit, place_away, pte_at, pte_of, section_page_number}
-use Rattle.state_fits.specs.Frames.{FramesFit, frame_row, or_zero, row_by, slot_for}
+use Rattle.state_fits.specs.Frames.{FramesFit, frame_pins, frame_row, or_zero, row_by, slot_for}
 use Rattle.state_fits.specs.Globals.{GlobalsFit, shares_held}
 use Rattle.state_fits.specs.ReadBegins.{entry_held, held_in, with_place}
+use Rattle.state_fits.proofs.FrameRows.{over_pins}
 use Rattle.state_fits.proofs.ShownEntries.{pte_stays}
 use Rattle.state_fits.proofs.PartsSet.{frames_set, tables_set}
 use Rattle.state_fits.proofs.RingSlots.{absent}
@@ -94,13 +95,13 @@ module _ (config : Config) (past : List Entry) (a : Pager) (y : Flight) (x : Pag
   flights_there : (g : ℕ) → (f ≡ g → ⊥) → reads_on g (y ∷ flights) + writes_on g (y ∷ flights) ≡ reads_on g flights + writes_on g flights
   flights_there g apart = ap₂ (λ (m n : ℕ). m + n) (count_cons_no (is_read_on g) y flights (and_left _ _ (ne_eqb f g apart))) (count_cons_no (is_write_on g) y flights (and_left _ _ (ne_eqb f g apart)))
 
-  row_here : (row : Row) → row ≡ old_row f → record row { state = state.Reading; page = Some x; modify = false; refs = counted_references row.shares 1; flights = 1 } ≡ new_row f
+  row_here : (row : Row) → row ≡ old_row f → record row { state = state.Reading; page = Some x; modify = false; refs = counted_references row.shares 1 + uncounted row; flights = 1 } ≡ new_row f
   unfolding frame_row
   row_here row is = λ i. record {
     state = sym (at_number_same a.state f state.Reading) i;
     page = sym (at_number_same a.page f (Some x)) i;
     modify = sym free_row.modify i;
-    refs = (ap (λ (r : Row). counted_references r.shares 1) is ∙ ap (counted_references (shares a.valid f)) (sym one_flight)) i;
+    refs = (ap (λ (r : Row). counted_references r.shares 1 + uncounted r) is ∙ (λ j. counted_references (shares a.valid f) (sym one_flight j) + over_pins (counted_references (shares a.valid f) (reads_on f flights + writes_on f flights)) (frame_pins a.valid a.ring f) j)) i;
     shares = (is i).shares;
     slot = (ap (λ (r : Row). r.slot) is ∙ (ap (slot_for a.ring) empty ∙ (sym (slot_is x refl) ∙ ap (slot_for a.ring) (sym (at_number_same a.page f (Some x)))))) i;
     flights = sym one_flight i;
@@ -108,10 +109,10 @@ module _ (config : Config) (past : List Entry) (a : Pager) (y : Flight) (x : Pag
 
   row_there : (g : ℕ) → (f ≡ g → ⊥) → new_row g ≡ old_row g
   unfolding frame_row
-  row_there g apart = λ i. row_by (at_number_other a.state f state.Reading g apart i) (at_number_other a.page f (Some x) g apart i) (a.modify g) (shares a.valid g) (flights_there g apart i) (slot_for a.ring (at_number_other a.page f (Some x) g apart i))
+  row_there g apart = λ i. row_by (at_number_other a.state f state.Reading g apart i) (at_number_other a.page f (Some x) g apart i) (a.modify g) (shares a.valid g) (flights_there g apart i) (slot_for a.ring (at_number_other a.page f (Some x) g apart i)) (frame_pins a.valid a.ring g)
 
   pub begun_frames : (pfns pfns' : Frames) → FramesFit old_row config.frames a.free a.modified pfns
-      → pfns'.rows ≡ slice_set pfns.rows f (record (row_of pfns f) { state = state.Reading; page = Some x; modify = false; refs = counted_references (row_of pfns f).shares 1; flights = 1 })
+      → pfns'.rows ≡ slice_set pfns.rows f (record (row_of pfns f) { state = state.Reading; page = Some x; modify = false; refs = counted_references (row_of pfns f).shares 1 + uncounted (row_of pfns f); flights = 1 })
       → pfns'.free ≡ without pfns.free f → pfns'.modified ≡ pfns.modified → FramesFit new_row config.frames (without a.free f) a.modified pfns'
   begun_frames pfns pfns' fit rows free modified =
       frames_set old_row new_row config.frames a.free (without a.free f) a.modified a.modified pfns pfns' f _ fit free_row.within rows

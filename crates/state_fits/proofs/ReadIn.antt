@@ -13,7 +13,7 @@ use Rattle.page_tables.specs.PageTables.{PageTables, entry_of as pte_in}
 use Rattle.pte_forms.specs.declared.pte.Place.TheVariants as place
 use Rattle.pte_forms.specs.declared.pte.Pte.{Pte}
 use Rattle.pfn_database.specs.Frames.{Frames, row_of}
-use Rattle.pfn_database.specs.Rows.{counted_references}
+use Rattle.pfn_database.specs.Rows.{counted_references, uncounted}
 use Rattle.pfn_database.specs.declared.row.Row.{Row}
 use Rattle.pager_model.specs.Around.{PastView}
 use Rattle.pager_model.specs.Changes.{valid_at}
@@ -23,13 +23,16 @@ use Rattle.pager_model.specs.Lookups.{entries_at, is_entry, page_by, shares}
 use Rattle.pager_model.specs.Maps.{proc}
 use Rattle.pager_model.specs.Pager.{Pager, Valid}
 use Rattle.pager_model.specs.Sets.{at_number}
+use Rattle.pager_model.specs.Transfers.{reads_on, writes_on}
 use Rattle.pager_rules.proofs.Basics.{at_number_other, at_number_same, count_cons_no, count_cons_yes, find_cons_no, find_cons_yes, find_none_from_count, nat_eq_refl}
 use Rattle.pager_rules.proofs.Pages.{own_is}
 use Rattle.pager_rules.specs.Kept.{IsKept}
 use Rattle.page_holders.proofs.EntryPages.{mapped_there, own_frame}
 use Rattle.state_fits.specs.Changes.{page_slot}
 use Rattle.state_fits.specs.Entries.{TablesFit, pte_of}
-use Rattle.state_fits.specs.Frames.{FramesFit, frame_row, row_by, slot_for}
+use Rattle.state_fits.specs.Frames.{FramesFit, frame_pins, frame_row, row_by, slot_for}
+use Rattle.state_fits.proofs.FramePins.{pins_entered}
+use Rattle.state_fits.proofs.FrameRows.{over_pins}
 use Rattle.state_fits.proofs.EnteredFrame.{IsPut}
 use Rattle.state_fits.proofs.ShownEntries.{pte_stays}
 use Rattle.state_fits.proofs.KnownEntries.{placed_at, pte_known, pte_valid}
@@ -72,15 +75,19 @@ module _ (config : Config) (o : PastView) (a : Pager) (flights rest : List Fligh
   slot_there h apart = slot_stays a.ring p new slot None (fresh_slot v) put.empty put.slots (a.page h)
       (λ w holds. (refl, ne_eqb v w (λ same. apart (own_frame config o a p v f h at.page kept own at.holds (holds ∙ ap (λ (n : ℕ). Some (Private (proc p) n)) (sym same))))))
 
-  row_here : (row : Row) → row ≡ old_row f → record row { state = state.Active; modify = m; refs = counted_references (row.shares + 1) 0; shares = row.shares + 1; slot = page_slot at.page slot; flights = 0 } ≡ new_row f
+  pins_there : (h : ℕ) → frame_pins valid' ring' h ≡ frame_pins a.valid a.ring h
+  pins_there h = pins_entered a.valid a.ring p v f slot new put ((kept.entries p v).slots ∙ none) h
+
+  row_here : (row : Row) → row ≡ old_row f → record row { state = state.Active; modify = m; refs = counted_references (row.shares + 1) 0 + uncounted row; shares = row.shares + 1; slot = page_slot at.page slot; flights = 0 } ≡ new_row f
   unfolding frame_row
   row_here row is =
       let more : shares a.valid f + 1 ≡ shares valid' f = omega (arith, one_more) in
+      let over = over_pins (counted_references (shares a.valid f) (reads_on f flights + writes_on f flights)) (frame_pins a.valid a.ring f) ∙ sym (pins_there f) in
       λ i. record {
         state = sym (at_number_same a.state f state.Active) i;
         page = (is i).page;
         modify = sym (at_number_same a.modify f m) i;
-        refs = (ap (λ (r : Row). counted_references (r.shares + 1) 0) is ∙ (λ j. counted_references (more j) (sym at.none j))) i;
+        refs = (ap (λ (r : Row). counted_references (r.shares + 1) 0 + uncounted r) is ∙ (λ j. counted_references (more j) (sym at.none j) + over j)) i;
         shares = (ap (λ (r : Row). r.shares + 1) is ∙ more) i;
         slot = (sym (slot_is at.page refl) ∙ ap (slot_for ring') (sym at.holds)) i;
         flights = sym at.none i;
@@ -88,10 +95,10 @@ module _ (config : Config) (o : PastView) (a : Pager) (flights rest : List Fligh
 
   row_there : (h : ℕ) → (f ≡ h → ⊥) → new_row h ≡ old_row h
   unfolding frame_row
-  row_there h apart = λ i. row_by (at_number_other a.state f state.Active h apart i) (a.page h) (at_number_other a.modify f m h apart i) (others_share h apart i) (at.there h apart i) (slot_there h apart i)
+  row_there h apart = λ i. row_by (at_number_other a.state f state.Active h apart i) (a.page h) (at_number_other a.modify f m h apart i) (others_share h apart i) (at.there h apart i) (slot_there h apart i) (pins_there h i)
 
   pub read_in_frames : (pfns pfns' : Frames) → FramesFit old_row config.frames a.free a.modified pfns
-      → pfns'.rows ≡ slice_set pfns.rows f (record (row_of pfns f) { state = state.Active; modify = m; refs = counted_references ((row_of pfns f).shares + 1) 0; shares = (row_of pfns f).shares + 1; slot = page_slot at.page slot; flights = 0 })
+      → pfns'.rows ≡ slice_set pfns.rows f (record (row_of pfns f) { state = state.Active; modify = m; refs = counted_references ((row_of pfns f).shares + 1) 0 + uncounted (row_of pfns f); shares = (row_of pfns f).shares + 1; slot = page_slot at.page slot; flights = 0 })
       → pfns'.free ≡ pfns.free → pfns'.modified ≡ pfns.modified → FramesFit new_row config.frames a.free a.modified pfns'
   read_in_frames pfns pfns' fit rows free modified =
       frames_set old_row new_row config.frames a.free a.free a.modified a.modified pfns pfns' f _ fit at.within rows (free ∙ fit.free_list) (modified ∙ fit.modified_list) (row_here (row_of pfns f) (fit.rows f)) row_there

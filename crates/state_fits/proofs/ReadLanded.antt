@@ -17,6 +17,7 @@ use Rattle.pager_rules.proofs.Frames.{reading_frame}
 use Rattle.pager_rules.proofs.Quiet.{starts_once}
 use Rattle.pager_rules.specs.Kept.{IsKept}
 use Rattle.state_fits.specs.Frames.{FramesFit, frame_row, row_by, slot_for}
+use Rattle.state_fits.proofs.FramePins.{no_pins}
 use Rattle.state_fits.proofs.FlightsMoved.{flight_within}
 use Rattle.state_fits.proofs.UnsharedFrames.{no_slot}
 
@@ -59,7 +60,7 @@ landed_on config past a p f k x r kept lands reads =
 
 -- the row of the frame
 pub landing_row : (config : Config) (a : Pager) (flights rest : List Flight) (f n : ℕ) (free modified : List ℕ) (pfns : Frames) (at : IsLandedOn config a flights rest f)
-    → FramesFit (frame_row a.state a.page a.modify a.valid a.ring flights) n free modified pfns → row_of pfns f ≡ row_by state.Reading (Some at.page) false 0 1 0
+    → FramesFit (frame_row a.state a.page a.modify a.valid a.ring flights) n free modified pfns → row_of pfns f ≡ row_by state.Reading (Some at.page) false 0 1 0 0
 unfolding frame_row
 landing_row config a flights rest f n free modified pfns at fit =
-    fit.rows f ∙ (λ i. row_by (at.state i) (at.holds i) (at.modify i) (at.shares i) (at.one i) ((ap (slot_for a.ring) at.holds ∙ at.slot) i))
+    fit.rows f ∙ (λ i. row_by (at.state i) (at.holds i) (at.modify i) (at.shares i) (at.one i) ((ap (slot_for a.ring) at.holds ∙ at.slot) i) (no_pins a.valid a.ring f at.shares i))

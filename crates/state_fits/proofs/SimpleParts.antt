@@ -20,13 +20,14 @@ use Rattle.vm_journal.specs.declared.entry.Entry.{Entry}
 use Rattle.vm_journal.specs.declared.entry.What.TheVariants as what
 use Rattle.pager_model.specs.Denied.{IsDenial}
 use Rattle.pager_model.specs.Flights.{Flight, awaits_reuse, failed_flight, open_flights}
-use Rattle.pager_model.specs.Lookups.{has_vpn, shares}
+use Rattle.pager_model.specs.Lookups.{has_pin, has_vpn, pins_with, shares}
 use Rattle.pager_model.specs.Ring.{unlocked_slot}
 use Rattle.pager_model.specs.Transfers.{reads_on, writes_on}
 use Rattle.pager_model.specs.Pager.{Pager}
 use Rattle.pager_model.specs.Sets.{at_number}
 use Rattle.pager_model.specs.Step.{after, IsLegal}
 use Rattle.pager_model.specs.Turn.{turned_ring}
+use Rattle.pager_laws.proofs.TurnKept.{count_map}
 use Rattle.pager_rules.proofs.Basics.{at_number_other, at_number_same}
 use Rattle.pager_rules.proofs.Quiet.{no_failure}
 use Rattle.pager_rules.proofs.Turns.{no_reuse}
@@ -37,6 +38,7 @@ use Rattle.state_fits.specs.PartsFit.{PartsFit}
 use Rattle.state_fits.specs.Processes.{process_row}
 use Rattle.state_fits.specs.Frames.{frame_row, or_zero, row_by, slot_for}
 use Rattle.state_fits.specs.Spoken.{one_more}
+use Rattle.state_fits.proofs.FramePins.{pins_at, pins_same}
 use Rattle.state_fits.proofs.PartsSet.{frames_same, process_read, processes_set, spoken_read, spoken_set}
 
 -- no read failed last
@@ -50,6 +52,14 @@ unlocked_vpn v (Some held) = refl
 unlocked_at : (v : ℕ) (slots : List (Option Held)) → position_or_len (has_vpn v) (map unlocked_slot slots) ≡ position_or_len (has_vpn v) slots
 unlocked_at v [] = refl
 unlocked_at v (slot ∷ slots) = rw (unlocked_vpn v slot, unlocked_at v slots) refl
+
+unlocked_pin : (v : ℕ) (o : Option Held) → has_pin v (unlocked_slot o) ≡ has_pin v o
+unlocked_pin v None = refl
+unlocked_pin v (Some held) = refl
+
+turned_pins : (s : ProcStatus) (v : ℕ) (ring : Ring) → pins_with (turned_ring s ring) v ≡ pins_with ring v
+turned_pins status.Leaving v ring = count_map (has_pin v) (has_pin v) unlocked_slot (unlocked_pin v) ring.slots
+turned_pins other v ring = refl
 
 turned_position : (s : ProcStatus) (v : ℕ) (ring : Ring) → position (has_vpn v) (turned_ring s ring).slots ≡ position (has_vpn v) ring.slots
 turned_position status.Leaving v ring = rw (unlocked_at v ring.slots, length-map ring.slots unlocked_slot) refl
@@ -178,7 +188,8 @@ module _ (config : Config) (past : List Entry) (a : Pager) (seat : Seat) (parts 
 
   turned_row : (s : ProcStatus) (p : ℕ) (f : ℕ) → frame_row a.state a.page a.modify a.valid (at_number a.ring p (turned_ring s (a.ring p))) (open_flights past) f ≡ frame_row a.state a.page a.modify a.valid a.ring (open_flights past) f
   unfolding frame_row
-  turned_row s p f = ap (λ (slot : ℕ). row_by (a.state f) (a.page f) (a.modify f) (shares a.valid f) (reads_on f (open_flights past) + writes_on f (open_flights past)) slot) (turned_slot s p (a.page f))
+  turned_row s p f = λ i. row_by (a.state f) (a.page f) (a.modify f) (shares a.valid f) (reads_on f (open_flights past) + writes_on f (open_flights past)) (turned_slot s p (a.page f) i)
+      (pins_same a.valid a.ring (at_number a.ring p (turned_ring s (a.ring p))) f (pins_at a.ring p (turned_ring s (a.ring p)) (λ v. turned_pins s v (a.ring p))) i)
 
   pub turn_parts : (p : Proc) (s : ProcStatus) → IsLegal config past a (record { seat = seat; what = what.Turn p s }) → (x : ProcessRow) → x ≡ slice_index_or parts.processes p.0 x
       → PartsFit config (record { seat = seat; what = what.Turn p s } ∷ past) (after config past a (record { seat = seat; what = what.Turn p s }))

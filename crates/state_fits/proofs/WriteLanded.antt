@@ -9,7 +9,7 @@ use Rattle.vm_types.specs.declared.names.Page.{Page}
 use Rattle.vm_types.specs.declared.names.Page.TheVariants.{Private, Shared}
 use Rattle.vm_journal.specs.declared.entry.Entry.{Entry}
 use Rattle.pfn_database.specs.Frames.{Frames, row_of}
-use Rattle.pfn_database.specs.Rows.{IsOneOf, counted_references}
+use Rattle.pfn_database.specs.Rows.{IsOneOf, counted_references, uncounted}
 use Rattle.pfn_database.specs.declared.row.Row.{Row}
 use Rattle.pager_model.specs.Around.{FrameView, frame_view, page_view, past_view, process_view, entry_view}
 use Rattle.pager_model.specs.Changes.{pushed_if, settled_to}
@@ -25,7 +25,8 @@ use Rattle.pager_rules.proofs.Quiet.{starts_once}
 use Rattle.pager_rules.specs.Kept.{FitsDirection, FitsFlight, FitsFrame, FitsWrite, IsKept, views}
 use Rattle.page_holders.proofs.Holders.{holds_within}
 use Rattle.page_holders.proofs.ValidEntries.{valid_at_page}
-use Rattle.state_fits.specs.Frames.{FramesFit, frame_row, or_zero, row_by, slot_for}
+use Rattle.state_fits.specs.Frames.{FramesFit, frame_pins, frame_row, or_zero, row_by, slot_for}
+use Rattle.state_fits.proofs.FrameRows.{over_pins}
 use Rattle.state_fits.proofs.PartsSet.{frames_set}
 use Rattle.state_fits.proofs.RingSlots.{absent}
 
@@ -133,7 +134,7 @@ module _ (config : Config) (a : Pager) (flights rest : List Flight) (x : Flight)
   landed_row row = record row {
     state = if row.shares == 0 then settled_to (failed || row.modify) else row.state;
     modify = failed || row.modify;
-    refs = counted_references row.shares 0;
+    refs = counted_references row.shares 0 + uncounted row;
     slot = if row.shares == 0 then 0 else row.slot;
     flights = 0;
   }
@@ -148,7 +149,7 @@ module _ (config : Config) (a : Pager) (flights rest : List Flight) (x : Flight)
     state = (ap (λ (r : Row). (landed_row r).state) is ∙ sym here) i;
     page = (is i).page;
     modify = (ap (λ (r : Row). failed || r.modify) is ∙ sym mark) i;
-    refs = (ap (λ (r : Row). counted_references r.shares 0) is ∙ ap (counted_references (shares a.valid f)) (sym at.none)) i;
+    refs = (ap (λ (r : Row). counted_references r.shares 0 + uncounted r) is ∙ (λ j. counted_references (shares a.valid f) (sym at.none j) + over_pins (counted_references (shares a.valid f) (reads_on f flights + writes_on f flights)) (frame_pins a.valid a.ring f) j)) i;
     shares = (is i).shares;
     slot = (ap (λ (r : Row). (landed_row r).slot) is ∙ slot_is (nat_eq (shares a.valid f) 0) refl) i;
     flights = sym at.none i;
@@ -156,7 +157,7 @@ module _ (config : Config) (a : Pager) (flights rest : List Flight) (x : Flight)
 
   row_there : (h : ℕ) → (f ≡ h → ⊥) → new_row h ≡ old_row h
   unfolding frame_row
-  row_there h apart = λ i. row_by (there h apart i) (a.page h) (marks h apart i) (shares a.valid h) (at.there h apart i) (slot_for a.ring (a.page h))
+  row_there h apart = λ i. row_by (there h apart i) (a.page h) (marks h apart i) (shares a.valid h) (at.there h apart i) (slot_for a.ring (a.page h)) (frame_pins a.valid a.ring h)
 
   unshared_is : (row : Row) → row ≡ old_row f → (row.shares == 0) ≡ nat_eq (shares a.valid f) 0
   unfolding frame_row

@@ -24,7 +24,7 @@ use Rattle.page_tables.specs.PageTables.{PageTables, entry_of as pte_in}
 use Rattle.pte_forms.specs.declared.pte.Place.TheVariants as place
 use Rattle.pte_forms.specs.declared.pte.Pte.{Pte}
 use Rattle.pfn_database.specs.Frames.{Frames, row_of}
-use Rattle.pfn_database.specs.Rows.{counted_references}
+use Rattle.pfn_database.specs.Rows.{counted_references, uncounted}
 use Rattle.pfn_database.specs.declared.row.Row.{Row}
 use Rattle.pager_model.specs.Around.{past_view, process_view}
 use Rattle.pager_model.specs.Changes.{valid_at}
@@ -53,6 +53,7 @@ use Rattle.state_fits.specs.Pages.{HasNoPaged, PagesFit, charged_row}
 use Rattle.state_fits.specs.Parts.{Parts}
 use Rattle.state_fits.specs.PartsFit.{PartsFit}
 use Rattle.state_fits.specs.Processes.{ProcessesFit, process_row}
+use Rattle.state_fits.proofs.FramePins.{no_pins, pins_entered}
 use Rattle.state_fits.proofs.EnteredFrame.{IsPut, entered_here, entered_there, put_there}
 use Rattle.state_fits.proofs.ShownEntries.{code_kept, globals_same, pte_stays}
 use Rattle.state_fits.proofs.PartsSet.{frames_set, pages_set, processes_set, tables_set}
@@ -110,10 +111,10 @@ module _ (config : Config) (past : List Entry) (a : Pager) (seat : Seat) (addres
   head = free_is config past a f.0 kept (head_counts a.free f.0 legal.row.frame.head)
 
   -- what the frame's row is
-  pub zero_row : row_of parts.frames f.0 ≡ row_by state.Free None false 0 0 0
+  pub zero_row : row_of parts.frames f.0 ≡ row_by state.Free None false 0 0 0 0
   unfolding frame_row
   zero_row =
-      fit.frames.rows f.0 ∙ (λ i. row_by (head.state i) (legal.row.frame.empty i) (head.modify i) (head.shares i) (head.still i) (slot_for a.ring (legal.row.frame.empty i)))
+      fit.frames.rows f.0 ∙ (λ i. row_by (head.state i) (legal.row.frame.empty i) (head.modify i) (head.shares i) (head.still i) (slot_for a.ring (legal.row.frame.empty i)) (no_pins a.valid a.ring f.0 head.shares i))
 
   -- ---- the ring
   put : (slot : ℕ) → choose (a.ring p) (a.limit p) ≡ Empty slot → IsPut (a.ring p) (placed (a.ring p) (a.limit p) v) slot v
@@ -127,7 +128,7 @@ module _ (config : Config) (past : List Entry) (a : Pager) (seat : Seat) (addres
 
   -- ---- frames
   frames : (frames' : Frames) (slot : ℕ) → choose (a.ring p) (a.limit p) ≡ Empty slot
-      → frames'.rows ≡ slice_set parts.frames.rows f.0 (record (row_of parts.frames f.0) { state = state.Active; page = Some g; modify = true; refs = counted_references ((row_of parts.frames f.0).shares + 1) (row_of parts.frames f.0).flights; shares = (row_of parts.frames f.0).shares + 1; slot = slot })
+      → frames'.rows ≡ slice_set parts.frames.rows f.0 (record (row_of parts.frames f.0) { state = state.Active; page = Some g; modify = true; refs = counted_references ((row_of parts.frames f.0).shares + 1) (row_of parts.frames f.0).flights + uncounted (row_of parts.frames f.0); shares = (row_of parts.frames f.0).shares + 1; slot = slot })
       → frames'.free ≡ without parts.frames.free f.0 → frames'.modified ≡ without parts.frames.modified f.0
       → FramesFit (frame_row (at_number a.state f.0 state.Active) (at_number a.page f.0 (Some g)) (at_number a.modify f.0 true) (valid_at p v f.0 ∷ a.valid) ring' flights) config.frames (without a.free f.0) a.modified frames'
   frames frames' slot chosen rows free modified =
@@ -139,11 +140,13 @@ module _ (config : Config) (past : List Entry) (a : Pager) (seat : Seat) (addres
       (entered_here a.state (at_number a.state f.0 state.Active) a.page (at_number a.page f.0 (Some g)) a.modify (at_number a.modify f.0 true) a.valid a.ring ring' flights p v f.0
       (row_of parts.frames f.0) state.Active g true slot (fit.frames.rows f.0)
       (at_number_same a.state f.0 state.Active) (at_number_same a.page f.0 (Some g)) (at_number_same a.modify f.0 true)
-      (slot_put a.ring p v (placed (a.ring p) (a.limit p) v) slot (fresh_slot v) at.within no_slot (nat_eq_refl v) at.slots))
+      (slot_put a.ring p v (placed (a.ring p) (a.limit p) v) slot (fresh_slot v) at.within no_slot (nat_eq_refl v) at.slots)
+      (pins_entered a.valid a.ring p v f.0 slot (placed (a.ring p) (a.limit p) v) at no_slot f.0))
       (λ h apart. entered_there a.state (at_number a.state f.0 state.Active) a.page (at_number a.page f.0 (Some g)) a.modify (at_number a.modify f.0 true) a.valid a.ring ring' flights p v f.0
       h apart (at_number_other a.state f.0 state.Active h apart) (at_number_other a.page f.0 (Some g) h apart) (at_number_other a.modify f.0 true h apart)
       (slot_stays a.ring p (placed (a.ring p) (a.limit p) v) slot None (fresh_slot v) at.empty at.slots (a.page h)
-      (λ w holds. (refl, ne_eqb v w (λ same. unheld h (holds ∙ ap (λ (n : ℕ). Some (Private (proc p) n)) (sym same)))))))
+      (λ w holds. (refl, ne_eqb v w (λ same. unheld h (holds ∙ ap (λ (n : ℕ). Some (Private (proc p) n)) (sym same))))))
+      (pins_entered a.valid a.ring p v f.0 slot (placed (a.ring p) (a.limit p) v) at no_slot h))
 
   -- ---- the process
   abbrev row : ℕ → ProcessRow
@@ -231,7 +234,7 @@ module _ (config : Config) (past : List Entry) (a : Pager) (seat : Seat) (addres
       fit.globals
 
   pub zero_parts : (x : ProcessRow) → x ≡ slice_index_or parts.processes p x → (slot : ℕ) → choose (a.ring p) (a.limit p) ≡ Empty slot → (frames' : Frames)
-      → frames'.rows ≡ slice_set parts.frames.rows f.0 (record (row_of parts.frames f.0) { state = state.Active; page = Some g; modify = true; refs = counted_references ((row_of parts.frames f.0).shares + 1) (row_of parts.frames f.0).flights; shares = (row_of parts.frames f.0).shares + 1; slot = slot })
+      → frames'.rows ≡ slice_set parts.frames.rows f.0 (record (row_of parts.frames f.0) { state = state.Active; page = Some g; modify = true; refs = counted_references ((row_of parts.frames f.0).shares + 1) (row_of parts.frames f.0).flights + uncounted (row_of parts.frames f.0); shares = (row_of parts.frames f.0).shares + 1; slot = slot })
       → frames'.free ≡ without parts.frames.free f.0 → frames'.modified ≡ without parts.frames.modified f.0
       → (tables' : PageTables) (old : Pte) → tables'.procs ≡ (parts.tables).procs → ((q w : ℕ) → pte_in tables' q w ≡ changed_at (pte_in parts.tables) p v (Some (record { prot = old.prot; place = place.Valid false f })) q w) → pte_in parts.tables p v ≡ Some old
       → (pages' : ChargedTable) → pages'.procs ≡ (parts.pages).procs → ((q w : ℕ) → charged_at pages' q w ≡ changed_at (charged_at parts.pages) p v (Some (record { touched = false; lies = None; assigned = None })) q w)

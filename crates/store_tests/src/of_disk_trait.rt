@@ -1,7 +1,8 @@
 ghost use Rattle.std.specs.Prelude.{◌≡◌, ◌+◌, ◌^◌, ◌<◌, true, length, OnOk, OnErr, IsErrOf};
 ghost use Rattle.disk_trait.specs.Causes.{Rose};
 
-use disk_trait::{Block, Depot, FileDepot, MakeFault, MemoryDepot, NeverFails};
+use disk_trait::{Block, Depot, MakeFault, MemoryDepot, NeverFails};
+use file_depot::FileDepot;
 use std::fs;
 use std::test::Fail;
 use vm_types::{BlockId, Failed, Proc, SecId};

@@ -4,6 +4,8 @@
 #![tactic(auto)]
 
 #[cfg(test)]
+mod of_command_messages;
+#[cfg(test)]
 mod of_line_reader;
 #[cfg(test)]
 mod of_make_summary;

@@ -119,6 +119,6 @@ module _ {B : Type 0} {seen : B → BlockView} {tells : Tells} {config : Config}
           → frames'.rows ≡ slice_set fields.frames.rows f.0 (entered_row g modify held (row_of fields.frames f.0))
           → IsState seen tells config (e ∷ past) (spare - 1) (record store { frames = frames' }) left numbers
       back_closes paid taken modify marked held held_is rows =
-          closed before e legal paid (record store { frames = frames' }) left
+          closed before e (λ told. tt) legal paid (record store { frames = frames' }) left
           (by_status x.status refl taken (rows ∙ ap₂ (λ (m : Bool) (n : ℕ). slice_set fields.frames.rows f.0 (entered_row g m n (row_of fields.frames f.0))) marked held_is)) (refl, refl)
           (record { ids = before.places.ids; buffers = before.places.buffers; blocks = before.places.blocks; left = before.places.left; firsts = before.places.firsts })

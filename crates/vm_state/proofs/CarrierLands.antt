@@ -8,10 +8,11 @@ use Rattle.vm_types.specs.declared.names.Seat.{Seat}
 use Rattle.pager_model.specs.Flights.{awaits_reuse}
 use Rattle.pager_rules.proofs.Basics.{count_cons_no, count_cons_yes, each_of_two}
 use Rattle.frame_store.specs.LiftView.{LiftView}
-use Rattle.vm_state.specs.CarrierView.{CarrierView}
+use Rattle.lift_carriers.specs.CarrierView.{CarrierView}
 use Rattle.vm_state.specs.History.{History}
-use Rattle.vm_state.specs.LiftsLand.{CarrierMayLand, HasLanded, HaveOwnStarts, MayLand, counted, first_failed, landed_each, lift_failed}
-use Rattle.vm_state.specs.declared.landed.Landed.{Landed}
+use Rattle.lift_carriers.specs.Counted.{counted, first_failed, lift_failed}
+use Rattle.vm_state.specs.LiftsLand.{CarrierMayLand, HasLanded, HaveOwnStarts, MayLand, landed_each}
+use Rattle.lift_carriers.specs.declared.landed.Landed.{Landed}
 
 module _ {B : Type 0} where
   abbrev goods : List (LiftView B) → ℕ

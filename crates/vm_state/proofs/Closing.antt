@@ -1,5 +1,5 @@
 -- How each method closes: the parts stand for the state after the entry, and buffers and blocks have moved as it says.
-use Rattle.std.proofs.Common.{◌≡◌, ℕ, ◌+◌, ◌-◌, ◌≤◌, Bool, List, [], ◌∷◌, ◌++◌, length, reverse, sym, ap, ◌∙◌, subst, subst₂, arith}
+use Rattle.std.proofs.Common.{◌≡◌, ℕ, ◌+◌, ◌-◌, ◌≤◌, Bool, true, List, [], ◌∷◌, ◌++◌, length, reverse, sym, ap, ◌∙◌, subst, subst₂, arith}
 use Rattle.std.proofs.lemmas.List.{length-reverse, reverse-append}
 use Rattle.vm_types.specs.BlockView.{BlockView, Tells}
 use Rattle.vm_types.specs.declared.config.Config.{Config}
@@ -10,6 +10,7 @@ use Rattle.pager_model.specs.Flights.{open_flights}
 use Rattle.pager_model.specs.OfConfig.{IsOfConfig}
 use Rattle.pager_model.specs.Around.{past_view}
 use Rattle.pager_model.specs.Run.{pager_after}
+use Rattle.pager_model.specs.Spoken.{ShowsReply, flat_after}
 use Rattle.pager_model.specs.Step.{IsLegal}
 use Rattle.pager_laws.proofs.OfConfigKept.{run_right}
 use Rattle.pager_laws.proofs.RunsAreSound.{run_kept}
@@ -55,12 +56,12 @@ module _ {B : Type 0} {seen : B → BlockView} {tells : Tells} {config : Config}
     plain s = no_paged config before.formed before.version s.0
 
     -- the store as it was, or with other buffers and blocks
-    pub closed : (e : Entry) → IsLegal config past (pager_after config past) e → owed (e ∷ past) + 1 ≤ spare → (store' : StoreView B) (fields' : Parts)
+    pub closed : (e : Entry) → (tells.content ≡ true → ShowsReply config (flat_after config past) (e.seat).0 e.what) → IsLegal config past (pager_after config past) e → owed (e ∷ past) + 1 ≤ spare → (store' : StoreView B) (fields' : Parts)
         → PartsFit config (e ∷ past) (pager_after config (e ∷ past)) fields'
         → Moves tells.content tells.plan config past (pager_after config past) (e.seat).0 e.what (held_at store.buffers) (held_at store'.buffers) (home_in seen config store) (home_in seen config store')
         → IsStoreOf config (open_flights (e ∷ past)) store' numbers
         → IsState seen tells config (e ∷ past) (spare - 1) store' fields' numbers
-    closed e legal paid store' fields' fit moves places =
+    closed e shows legal paid store' fields' fit moves places =
         record {
           formed = before.formed;
           version = before.version;
@@ -71,4 +72,5 @@ module _ {B : Type 0} {seen : B → BlockView} {tells : Tells} {config : Config}
           bytes = content_stays tells.content tells.plan config past e (held_at store.buffers) (held_at store'.buffers) (home_in seen config store) (home_in seen config store')
               before.formed (before.run, legal) moves before.bytes;
           places = places;
+          right = λ told. (before.right told, shows told);
         }

@@ -164,13 +164,14 @@ module _ {B : Type 0} {seen : B → BlockView} {tells : Tells} {config : Config}
         → (frames' : Frames) → frames'.rows ≡ slice_set fields.frames.rows f.0 (record (row_of fields.frames f.0) { modify = m }) → frames'.free ≡ fields.frames.free → frames'.modified ≡ fields.frames.modified
         → (page : Page) → row.page ≡ Some page → (pages' : ChargedTable) → pages'.procs ≡ (fields.pages).procs → ((q w : ℕ) → charged_at pages' q w ≡ touched_rows page (charged_at fields.pages) q w)
         → (bytes bytes' : List ℕ) → held_at store.buffers f.0 ≡ Some bytes → bytes' ≡ bytes_after r.op bytes (offset_in_page r)
+        → (tells.content ≡ true → answer ≡ flat_reply config (flat_after config past) seat.0 r)
         → IsState seen tells config (record { seat = seat; what = what.Done r answer } ∷ past) (spare - 1) (record store { frames = frames'; buffers = slice_set store.buffers f.0 (Some bytes') })
         (record fields { frames = frames'; processes = slice_set fields.processes seat.0 (record x { references = x.references + 1 }); spoken = slice_set fields.spoken seat.0 (record { last = Some number; count = y.count + 1 }); pages = pages' }) numbers
-    done_closes paid x read y read_y number counted row row_is m m_is frames' rows free modified page page_is pages' procs touched bytes bytes' there bytes_is =
+    done_closes paid x read y read_y number counted row row_is m m_is frames' rows free modified page page_is pages' procs touched bytes bytes' there bytes_is shows =
         let m_row : m ≡ (if is_change r.op then true else (row_of fields.frames f.0).modify) = m_is ∙ ap (λ (z : Row). if is_change r.op then true else z.modify) row_is in
         let both : Some page ≡ Some at.page = sym page_is ∙ (ap (λ (z : Row). z.page) row_is ∙ page_held) in
         let it : page ≡ at.page = cc in
-        rw counted (closed before (record { seat = seat; what = what.Done r answer }) legal (omega (arith, paid)) (record store { frames = frames'; buffers = slice_set store.buffers f.0 (Some bytes') }) _
+        rw counted (closed before (record { seat = seat; what = what.Done r answer }) shows legal (omega (arith, paid)) (record store { frames = frames'; buffers = slice_set store.buffers f.0 (Some bytes') }) _
         (done_parts config past a seat r answer (kept before) legal fields before.parts frames'
         (rows ∙ (ap (λ (b : Bool). slice_set fields.frames.rows f.0 (record (row_of fields.frames f.0) { modify = b })) m_row
         ∙ ap (λ (n : ℕ). slice_set fields.frames.rows n (record (row_of fields.frames n) { modify = (if is_change r.op then true else (row_of fields.frames n).modify) })) same))

@@ -9,7 +9,7 @@ use Rattle.vm_types.specs.declared.names.Seat.{Seat}
 use Rattle.vm_journal.specs.declared.entry.Entry.{Entry}
 use Rattle.vm_journal.specs.declared.entry.What.TheVariants as what
 use Rattle.pfn_database.specs.Frames.{Frames, row_of}
-use Rattle.pfn_database.specs.Rows.{counted_references}
+use Rattle.pfn_database.specs.Rows.{counted_references, uncounted}
 use Rattle.pfn_database.specs.declared.row.Row.{Row}
 use Rattle.pager_model.specs.Fits.{bad}
 use Rattle.pager_model.specs.Flights.{open_flights, without_flight}
@@ -25,7 +25,7 @@ use Rattle.state_fits.proofs.InFailParts.{in_fail_on, in_fail_parts}
 use Rattle.state_fits.proofs.LandingCan.{CanLand, can_fail}
 use Rattle.state_fits.proofs.ReadLanded.{IsLandedOn}
 use Rattle.vm_state.specs.History.{owed}
-use Rattle.vm_state.specs.LiftsFit.{LiftFits, result_of}
+use Rattle.lift_carriers.specs.LiftsFit.{LiftFits, result_of}
 use Rattle.vm_state.specs.StateKept.{IsState}
 use Rattle.vm_state.proofs.Closing.{closed, kept}
 use Rattle.vm_state.proofs.ReadLands as land
@@ -63,7 +63,7 @@ module _ {B : Type 0} {seen : B → BlockView} {tells : Tells} {config : Config}
     -- with the names of the frame and of the transfer's start
     abbrev Closes : Option BlockId → ℕ → ℕ → Type 0
     Closes failed f k =
-        frames'.rows ≡ slice_set (fields.frames).rows f (record (row_of fields.frames f) { state = state.ReadError; refs = counted_references (row_of fields.frames f).shares 0; flights = 0 })
+        frames'.rows ≡ slice_set (fields.frames).rows f (record (row_of fields.frames f) { state = state.ReadError; refs = counted_references (row_of fields.frames f).shares 0 + uncounted (row_of fields.frames f); flights = 0 })
         → IsState seen tells config (record { seat = seat; what = what.InFail (record { 0 = f }) k c d } ∷ past) (spare - 1) store'
         (record fields { frames = store'.frames; starts = store'.flights; roles = slice_set fields.roles f None; busy = slice_set fields.busy seat.0 (n - 1); in_flight = fields.in_flight - 1; failed = failed }) numbers
 
@@ -74,7 +74,7 @@ module _ {B : Type 0} {seen : B → BlockView} {tells : Tells} {config : Config}
         (subst (λ (starts : List (Option ℕ)). IsState seen tells config (record { seat = seat; what = what.InFail (record { 0 = lift.frame }) lift.start c d } ∷ past) (spare - 1)
         (land.store_after before seat lift fits its.flight its.role its.lands its.reads on.within on.state frames')
         (record fields { frames = frames'; starts = slice_set starts lift.frame None; roles = slice_set fields.roles lift.frame None; busy = slice_set fields.busy seat.0 (n - 1); in_flight = fields.in_flight - 1; failed = Some its.flight.block }) numbers) same
-        (closed before (record { seat = seat; what = what.InFail (record { 0 = lift.frame }) lift.start c d }) legal paid (land.store_after before seat lift fits its.flight its.role its.lands its.reads on.within on.state frames') _
+        (closed before (record { seat = seat; what = what.InFail (record { 0 = lift.frame }) lift.start c d }) (λ told. tt) legal paid (land.store_after before seat lift fits its.flight its.role its.lands its.reads on.within on.state frames') _
         (in_fail_parts config past a seat (record { 0 = lift.frame }) lift.start c d (kept before) legal fields before.parts frames' rows free modified n read)
         (land.brings before seat lift fits its.flight its.role its.lands its.reads on.within on.state frames' (bad c d) (ap result_of ended) size)
         (land.places before seat lift fits its.flight its.role its.lands its.reads on.within on.state frames')))

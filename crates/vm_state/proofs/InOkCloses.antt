@@ -12,7 +12,7 @@ use Rattle.vm_journal.specs.declared.entry.Role.{Role}
 use Rattle.vm_journal.specs.declared.entry.Role.TheVariants as role
 use Rattle.vm_journal.specs.declared.entry.What.TheVariants as what
 use Rattle.pfn_database.specs.Frames.{Frames, row_of}
-use Rattle.pfn_database.specs.Rows.{counted_references}
+use Rattle.pfn_database.specs.Rows.{counted_references, uncounted}
 use Rattle.pfn_database.specs.declared.row.Row.{Row}
 use Rattle.pager_model.specs.Fits.{good}
 use Rattle.pager_model.specs.Flights.{Flight, open_flights, without_flight}
@@ -29,7 +29,7 @@ use Rattle.state_fits.proofs.InOkParts.{in_ok_on, in_ok_near_parts}
 use Rattle.state_fits.proofs.LandingCan.{CanLand, can_end}
 use Rattle.state_fits.proofs.ReadLanded.{IsLandedOn}
 use Rattle.vm_state.specs.History.{owed}
-use Rattle.vm_state.specs.LiftsFit.{LiftFits, result_of}
+use Rattle.lift_carriers.specs.LiftsFit.{LiftFits, result_of}
 use Rattle.vm_state.specs.ReadRoles.{IsReadAs}
 use Rattle.vm_state.specs.StateKept.{IsState}
 use Rattle.vm_state.proofs.Closing.{closed, kept, right}
@@ -74,7 +74,7 @@ module _ {B : Type 0} {seen : B → BlockView} {tells : Tells} {config : Config}
     -- NEAR, with the names of the frame and of the transfer's start
     abbrev ClosesNear : ℕ → ℕ → Type 0
     ClosesNear f k =
-        frames'.rows ≡ slice_set (fields.frames).rows f (record (row_of fields.frames f) { state = state.Free; slot = 0; refs = counted_references (row_of fields.frames f).shares 0; flights = 0 })
+        frames'.rows ≡ slice_set (fields.frames).rows f (record (row_of fields.frames f) { state = state.Free; slot = 0; refs = counted_references (row_of fields.frames f).shares 0 + uncounted (row_of fields.frames f); flights = 0 })
         → frames'.free ≡ (fields.frames).free ++ f ∷ []
         → IsState seen tells config (record { seat = seat; what = what.InOk (record { 0 = f }) k } ∷ past) (spare - 1) store'
         (record fields { frames = store'.frames; starts = store'.flights; roles = slice_set fields.roles f None; busy = slice_set fields.busy seat.0 (n - 1); in_flight = fields.in_flight - 1 }) numbers
@@ -86,7 +86,7 @@ module _ {B : Type 0} {seen : B → BlockView} {tells : Tells} {config : Config}
         (subst (λ (starts : List (Option ℕ)). IsState seen tells config (record { seat = seat; what = what.InOk (record { 0 = lift.frame }) lift.start } ∷ past) (spare - 1)
         (land.store_after before seat lift fits its.flight its.role its.lands its.reads on.within on.state frames')
         (record fields { frames = frames'; starts = slice_set starts lift.frame None; roles = slice_set fields.roles lift.frame None; busy = slice_set fields.busy seat.0 (n - 1); in_flight = fields.in_flight - 1 }) numbers) same
-        (closed before (record { seat = seat; what = what.InOk (record { 0 = lift.frame }) lift.start }) legal paid (land.store_after before seat lift fits its.flight its.role its.lands its.reads on.within on.state frames') _
+        (closed before (record { seat = seat; what = what.InOk (record { 0 = lift.frame }) lift.start }) (λ told. tt) legal paid (land.store_after before seat lift fits its.flight its.role its.lands its.reads on.within on.state frames') _
         (in_ok_near_parts config past a seat (record { 0 = lift.frame }) lift.start (kept before) (right before) legal fields before.parts g near frames' rows free modified n read)
         (land.brings before seat lift fits its.flight its.role its.lands its.reads on.within on.state frames' good (ap result_of ended) size)
         (land.places before seat lift fits its.flight its.role its.lands its.reads on.within on.state frames')))

@@ -17,7 +17,7 @@ use Rattle.frame_store.specs.declared.lift.Carried.{Carried}
 use Rattle.frame_store.specs.declared.lift.Carried.TheVariants.{Good}
 use Rattle.state_fits.specs.Parts.{Parts}
 use Rattle.vm_state.specs.Landings.{ended_as, landing_of}
-use Rattle.vm_state.specs.LiftsFit.{LiftFits}
+use Rattle.lift_carriers.specs.LiftsFit.{LiftFits}
 use Rattle.vm_state.specs.ReadRoles.{IsReadAs}
 use Rattle.vm_state.specs.StateKept.{IsState}
 use Rattle.vm_state.proofs.InOkCloses as ended

@@ -24,10 +24,10 @@ pub mod LandingRoles
 pub mod ReadsBegin
 pub mod WriteBegins
 pub mod OutCloses
-pub mod Carries
 pub mod LiftLandings
 pub mod CarrierLands
 pub mod PageShows
+pub mod WordShows
 pub mod ProcessShows
 pub mod FlightShows
 pub mod FlatShows

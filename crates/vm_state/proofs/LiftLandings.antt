@@ -36,7 +36,7 @@ use Rattle.frame_store.specs.declared.lift.Carried.TheVariants.{Good, Bad}
 use Rattle.page_holders.proofs.SectionNumbers.{number_within}
 use Rattle.vm_state.specs.History.{History, MayAdd, added, entry_by, owed, pager}
 use Rattle.vm_state.specs.Landings.{ended_as, landing_of}
-use Rattle.vm_state.specs.LiftsFit.{LiftFits, lift_seen, result_of}
+use Rattle.lift_carriers.specs.LiftsFit.{LiftFits, lift_seen, result_of}
 use Rattle.vm_state.specs.LiftsLand.{HasLanded, MayLand, added_each, reuse_after}
 use Rattle.vm_state.proofs.SeatFlights.{of_seats, parted}
 

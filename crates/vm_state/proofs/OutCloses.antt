@@ -65,7 +65,7 @@ module _ {B : Type 0} {seen : B → BlockView} {tells : Tells} {config : Config}
         (subst (λ (starts : List (Option ℕ)). IsState seen tells config (record { seat = seat; what = what.Out f b } ∷ past) (spare - 1)
         (begin.store_after before seat f b legal frames' (length past + 1))
         (record fields { frames = frames'; starts = slice_set starts f.0 (Some (length past + 1)); roles = slice_set fields.roles f.0 None; pages = pages'; file = block_taken b page (charged_at fields.pages) fields.file; busy = slice_set fields.busy seat.0 (n + 1); in_flight = fields.in_flight + 1 }) numbers) same
-        (closed before (record { seat = seat; what = what.Out f b }) legal paid (begin.store_after before seat f b legal frames' (length past + 1)) _
+        (closed before (record { seat = seat; what = what.Out f b }) (λ told. tt) legal paid (begin.store_after before seat f b legal frames' (length past + 1)) _
         (out_parts config past a seat f (kept before) (plain before) fields before.parts b legal frames' n pages' done)
         (refl, begin.block_away before seat f b legal frames' (length past + 1))
         (begin.places before seat f b legal frames' (length past + 1))))

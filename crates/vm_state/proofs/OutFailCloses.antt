@@ -22,7 +22,7 @@ use Rattle.state_fits.proofs.OutLandingCan.{CanEndWrite, can_end_write}
 use Rattle.state_fits.proofs.OutLandingParts.{IsLandingDone, landing_on, out_fail_parts}
 use Rattle.state_fits.proofs.WriteLanded.{IsWrittenOn}
 use Rattle.vm_state.specs.History.{owed}
-use Rattle.vm_state.specs.LiftsFit.{LiftFits, result_of}
+use Rattle.lift_carriers.specs.LiftsFit.{LiftFits, result_of}
 use Rattle.vm_state.specs.StateKept.{IsState}
 use Rattle.vm_state.proofs.Closing.{closed, kept, right}
 use Rattle.vm_state.proofs.WriteLands as land
@@ -64,7 +64,7 @@ module _ {B : Type 0} {seen : B → BlockView} {tells : Tells} {config : Config}
         (subst (λ (starts : List (Option ℕ)). IsState seen tells config (record { seat = seat; what = what.OutFail (record { 0 = lift.frame }) lift.start c d } ∷ past) (spare - 1)
         (land.store_after before seat lift fits its.flight its.lands its.writes on.within frames')
         (record fields { frames = frames'; starts = slice_set starts lift.frame None; roles = slice_set fields.roles lift.frame None; busy = slice_set fields.busy seat.0 (n - 1); in_flight = fields.in_flight - 1 }) numbers) same
-        (closed before (record { seat = seat; what = what.OutFail (record { 0 = lift.frame }) lift.start c d }) legal paid (land.store_after before seat lift fits its.flight its.lands its.writes on.within frames') _
+        (closed before (record { seat = seat; what = what.OutFail (record { 0 = lift.frame }) lift.start c d }) (λ told. tt) legal paid (land.store_after before seat lift fits its.flight its.lands its.writes on.within frames') _
         (out_fail_parts config past a seat (record { 0 = lift.frame }) lift.start (kept before) fields before.parts c d legal frames' n fields.pages fields.swaps done)
         (refl, land.brings before seat lift fits its.flight its.lands its.writes on.within frames' (bad c d) (ap result_of ended))
         (land.places before seat lift fits its.flight its.lands its.writes on.within frames')))

@@ -28,7 +28,7 @@ use Rattle.state_fits.proofs.WriteLanded.{IsWrittenOn}
 use Rattle.write_moves.specs.Moves.{MayLie}
 use Rattle.write_moves.proofs.MayMove.{may_lie}
 use Rattle.vm_state.specs.History.{owed}
-use Rattle.vm_state.specs.LiftsFit.{LiftFits, result_of}
+use Rattle.lift_carriers.specs.LiftsFit.{LiftFits, result_of}
 use Rattle.vm_state.specs.StateKept.{IsState}
 use Rattle.vm_state.proofs.Closing.{closed, kept, right}
 use Rattle.vm_state.proofs.WriteLands as land
@@ -86,7 +86,7 @@ module _ {B : Type 0} {seen : B → BlockView} {tells : Tells} {config : Config}
         (subst (λ (starts : List (Option ℕ)). IsState seen tells config (record { seat = seat; what = what.OutOk (record { 0 = lift.frame }) lift.start } ∷ past) (spare - 1)
         (land.store_after before seat lift fits its.flight its.lands its.writes on.within frames')
         (record fields { frames = frames'; starts = slice_set starts lift.frame None; roles = slice_set fields.roles lift.frame None; pages = pages'; swaps = swaps'; busy = slice_set fields.busy seat.0 (n - 1); in_flight = fields.in_flight - 1 }) numbers) same
-        (closed before (record { seat = seat; what = what.OutOk (record { 0 = lift.frame }) lift.start }) legal paid (land.store_after before seat lift fits its.flight its.lands its.writes on.within frames') _
+        (closed before (record { seat = seat; what = what.OutOk (record { 0 = lift.frame }) lift.start }) (λ told. tt) legal paid (land.store_after before seat lift fits its.flight its.lands its.writes on.within frames') _
         (out_ok_parts config past a seat (record { 0 = lift.frame }) lift.start (kept before) fields before.parts legal frames' n pages' swaps' done)
         (refl, land.brings before seat lift fits its.flight its.lands its.writes on.within frames' good (ap result_of ended))
         (land.places before seat lift fits its.flight its.lands its.writes on.within frames')))

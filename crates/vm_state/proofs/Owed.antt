@@ -39,7 +39,7 @@ failed_frame (entry ∷ past) e = of_what entry.what e
 
 module _ {B : Type 0} {seen : B → BlockView} {tells : Tells} {config : Config} {past : List Entry} {spare : ℕ} {store : StoreView B} {fields : Parts} {numbers : List ℕ}
     (before : IsState seen tells config past spare store fields numbers) where
-  waits : (b : Bool) → awaits_reuse past ≡ b → is_some fields.failed ≡ b
+  pub waits : (b : Bool) → awaits_reuse past ≡ b → is_some fields.failed ≡ b
   waits false e = ap is_some (before.parts.failed ∙ ap (λ (o : Option Flight). option_map (λ (x : Flight). x.block) o) (no_failure past e))
   waits true e =
       let at = failed_frame past e in

@@ -62,7 +62,7 @@ use Rattle.state_fits.proofs.InParts.{IsReadBegun, IsReadable, come_readable, fa
 use Rattle.state_fits.proofs.MappedPages.{page_shown}
 use Rattle.page_states.specs.ReadStarts.{ChargesFault, CountsFault, MayChargeFault, MayCountFault, page_read}
 use Rattle.vm_state.specs.History.{owed}
-use Rattle.vm_state.specs.LiftsFit.{LiftFits, lift_seen}
+use Rattle.lift_carriers.specs.LiftsFit.{LiftFits, lift_seen}
 use Rattle.vm_state.specs.StateKept.{IsState, IsStoreOf, home_in}
 use Rattle.vm_state.proofs.Closing.{closed, kept, right}
 
@@ -291,7 +291,7 @@ module _ {B : Type 0} {seen : B → BlockView} {tells : Tells} {config : Config}
             → IsState seen tells config (e ∷ past) (spare - 1) store_after (after_parts r (slice_set store.flights f.0 (Some (length past + 1)))) numbers
         closes_here same paid moved counts charges =
             subst (λ (starts : List (Option ℕ)). IsState seen tells config (e ∷ past) (spare - 1) store_after (after_parts r (slice_set starts f.0 (Some (length past + 1)))) numbers) same
-            (closed before e legal paid store_after _ (parts_by r legal page moved counts charges)
+            (closed before e (λ told. tt) legal paid store_after _ (parts_by r legal page moved counts charges)
             (list_puts_buffer store.buffers f.0 None frame_there, block_away) places)
 
         -- with the store that the call leaves

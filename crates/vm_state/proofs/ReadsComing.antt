@@ -18,7 +18,7 @@ use Rattle.page_tables.specs.PageTables.{PageTables, entry_of as pte_in}
 use Rattle.pte_forms.specs.declared.pte.Place.TheVariants as place
 use Rattle.pte_forms.specs.declared.pte.Pte.{Pte}
 use Rattle.pfn_database.specs.Frames.{Frames, row_of}
-use Rattle.pfn_database.specs.Rows.{counted_references}
+use Rattle.pfn_database.specs.Rows.{counted_references, uncounted}
 use Rattle.pager_laws.proofs.KeptIsSound.{has_from_count}
 use Rattle.pager_model.specs.Changes.{swap_slot}
 use Rattle.pager_model.specs.Fits.{good}
@@ -42,7 +42,7 @@ use Rattle.state_fits.proofs.InOkParts.{come_lies, in_ok_come_parts}
 use Rattle.state_fits.proofs.LandingCan.{CanComeIn, can_clear, can_come_in, can_put_in_slot, its_page}
 use Rattle.state_fits.proofs.LiesNowhere.{charged_there}
 use Rattle.vm_state.specs.History.{owed}
-use Rattle.vm_state.specs.LiftsFit.{LiftFits, result_of}
+use Rattle.lift_carriers.specs.LiftsFit.{LiftFits, result_of}
 use Rattle.vm_state.specs.ReadRoles.{IsReadAs}
 use Rattle.page_states.specs.RingSlots.{CanComeHome, HasComeHome}
 use Rattle.vm_state.specs.StateKept.{IsState}
@@ -124,7 +124,7 @@ module _ {B : Type 0} {seen : B → BlockView} {tells : Tells} {config : Config}
         frames'.rows ≡ slice_set (fields.frames).rows f.0 (record (row_of fields.frames f.0) {
           state = state.Active;
           modify = true;
-          refs = counted_references ((row_of fields.frames f.0).shares + 1) 0;
+          refs = counted_references ((row_of fields.frames f.0).shares + 1) 0 + uncounted (row_of fields.frames f.0);
           shares = (row_of fields.frames f.0).shares + 1;
           slot = held;
           flights = 0;
@@ -162,7 +162,7 @@ module _ {B : Type 0} {seen : B → BlockView} {tells : Tells} {config : Config}
           busy = slice_set fields.busy seat.0 (n - 1);
           in_flight = fields.in_flight - 1;
         }) numbers) same
-        (closed before (record { seat = seat; what = what.InOk (record { 0 = lift.frame }) lift.start }) legal paid (land.store_after before seat lift fits its.flight its.role its.lands its.reads on.within on.state frames') _
+        (closed before (record { seat = seat; what = what.InOk (record { 0 = lift.frame }) lift.start }) (λ told. tt) legal paid (land.store_after before seat lift fits its.flight its.role its.lands its.reads on.within on.state frames') _
         (in_ok_come_parts config past a seat (record { 0 = lift.frame }) lift.start (kept before) (right before) legal fields before.parts q address is_come y y_read
         frames' rows free modified old there tables' procs changed home.charged home.kept pages' home.pages_procs home.pages_changed swaps' home.swaps_procs
         (subst (λ (s : ℕ). (p w : ℕ) → swapped_at swaps' p w ≡ changed_at (swapped_at fields.swaps) q.0 s None p w) slot_is home.swaps_changed) n read)

@@ -129,5 +129,5 @@ module _ {B : Type 0} {seen : B → BlockView} {tells : Tells} {config : Config}
     pub reuse_closes : owed (e ∷ past) + 1 ≤ spare → Rests config fields.pages fields.sections fields.tables tables' page → globals' ≡ released_in config page fields.globals → Uncharges page fields.failed fields.pages pages' fields.file file'
         → IsState seen tells config (e ∷ past) (spare - 1) (record store { frames = frames' }) left numbers
     reuse_closes paid rest globals charge =
-        closed before e legal paid (record store { frames = frames' }) left (by_page page refl rest globals charge) (refl, refl)
+        closed before e (λ told. tt) legal paid (record store { frames = frames' }) left (by_page page refl rest globals charge) (refl, refl)
         (record { ids = before.places.ids; buffers = before.places.buffers; blocks = before.places.blocks; left = before.places.left; firsts = before.places.firsts })

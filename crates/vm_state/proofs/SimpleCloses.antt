@@ -57,7 +57,7 @@ module _ {B : Type 0} {seen : B → BlockView} {tells : Tells} {config : Config}
       → IsState seen tells config (record { seat = seat; what = what.Collide address f k } ∷ past) (spare - 1) store
       (record fields { processes = slice_set fields.processes seat.0 (record x { collided = Some k }) }) numbers
   collide_closes seat address f k legal paid x read =
-      closed before (record { seat = seat; what = what.Collide address f k }) legal paid store _
+      closed before (record { seat = seat; what = what.Collide address f k }) (λ told. tt) legal paid store _
       (collide_parts config past (pager_after config past) seat fields before.parts address f k legal x read) (refl, refl) before.places
 
   pub limit_closes : (seat : Seat) (n faulted : ℕ) → IsLegal config past (pager_after config past) (record { seat = seat; what = what.Limit n faulted }) → owed (record { seat = seat; what = what.Limit n faulted } ∷ past) + 1 ≤ spare
@@ -65,7 +65,7 @@ module _ {B : Type 0} {seen : B → BlockView} {tells : Tells} {config : Config}
       → IsState seen tells config (record { seat = seat; what = what.Limit n faulted } ∷ past) (spare - 1) store
       (record fields { processes = slice_set fields.processes seat.0 (record x { limit = n; references = 0; faults = 0 }) }) numbers
   limit_closes seat n faulted legal paid x read =
-      closed before (record { seat = seat; what = what.Limit n faulted }) legal paid store _
+      closed before (record { seat = seat; what = what.Limit n faulted }) (λ told. tt) legal paid store _
       (limit_parts config past (pager_after config past) seat fields before.parts n faulted legal x read) (refl, refl) before.places
 
   pub turn_closes : (seat : Seat) (p : Proc) (s : ProcStatus) → IsLegal config past (pager_after config past) (record { seat = seat; what = what.Turn p s }) → owed (record { seat = seat; what = what.Turn p s } ∷ past) + 1 ≤ spare
@@ -73,7 +73,7 @@ module _ {B : Type 0} {seen : B → BlockView} {tells : Tells} {config : Config}
       → IsState seen tells config (record { seat = seat; what = what.Turn p s } ∷ past) (spare - 1) store
       (record fields { processes = slice_set fields.processes p.0 (record x { status = s; ring = ring }) }) numbers
   turn_closes seat p s legal paid x read ring is =
-      rw is (closed before (record { seat = seat; what = what.Turn p s }) legal paid store _
+      rw is (closed before (record { seat = seat; what = what.Turn p s }) (λ told. tt) legal paid store _
       (turn_parts config past (pager_after config past) seat fields before.parts p s legal x read) (refl, refl) before.places)
 
   pub denied_closes : (seat : Seat) (r : Ref) (reason : Why) → IsLegal config past (pager_after config past) (record { seat = seat; what = what.Denied r reason }) → owed (record { seat = seat; what = what.Denied r reason } ∷ past) + 1 ≤ spare
@@ -81,7 +81,7 @@ module _ {B : Type 0} {seen : B → BlockView} {tells : Tells} {config : Config}
       → IsState seen tells config (record { seat = seat; what = what.Denied r reason } ∷ past) (spare - 1) store
       (record fields { processes = slice_set fields.processes seat.0 (record x { references = x.references + 1 }); spoken = slice_set fields.spoken seat.0 (record { last = Some number; count = y.count + 1 }) }) numbers
   denied_closes seat r reason legal paid x read y read_y number is =
-      rw is (closed before (record { seat = seat; what = what.Denied r reason }) legal paid store _
+      rw is (closed before (record { seat = seat; what = what.Denied r reason }) (λ told. tt) legal paid store _
       (denied_parts config past (pager_after config past) seat fields before.parts r reason legal x read y read_y) (refl, refl) before.places)
 
   -- ---- counts don't overflow

@@ -122,4 +122,5 @@ module _ {B : Type 0} (seen : B → BlockView) (tells : Tells) (config : Config)
             left = (let left = opened.left in omega (arith, left));
             firsts = have;
           };
+          right = λ told. tt;
         })

@@ -42,7 +42,7 @@ use Rattle.state_fits.specs.Seats.{flight_on, is_on_frame}
 use Rattle.state_fits.proofs.FlightsMoved.{on_frame_counts}
 use Rattle.state_fits.proofs.OutCan.{CanBeginWrite, can_begin_write}
 use Rattle.state_fits.proofs.OutParts.{listed_writable, swap_writable}
-use Rattle.vm_state.specs.LiftsFit.{LiftFits, lift_seen}
+use Rattle.lift_carriers.specs.LiftsFit.{LiftFits, lift_seen}
 use Rattle.vm_state.specs.StateKept.{IsState, IsStoreOf, home_in, is_writing}
 use Rattle.vm_state.proofs.Closing.{kept, right}
 use Rattle.vm_state.proofs.SeatFlights.{few_writes}

@@ -26,7 +26,7 @@ use Rattle.frame_store.specs.LiftView.{LiftView}
 use Rattle.frame_store.specs.StoreView.{StoreView, landed}
 use Rattle.frame_store.proofs.Blocks.{block_kept, block_set, number_within}
 use Rattle.state_fits.specs.Parts.{Parts}
-use Rattle.vm_state.specs.LiftsFit.{LiftFits, lift_seen, result_of}
+use Rattle.lift_carriers.specs.LiftsFit.{LiftFits, lift_seen, result_of}
 use Rattle.vm_state.specs.StateKept.{IsState, IsStoreOf, home_in, is_writing}
 use Rattle.vm_state.proofs.ReadLands.{none_there}
 

@@ -21,7 +21,7 @@ use Rattle.page_tables.specs.PageTables.{PageTables, IsEntry, entry_of as pte_in
 use Rattle.pte_forms.specs.declared.pte.Place.TheVariants as place
 use Rattle.pte_forms.specs.declared.pte.Pte.{Pte}
 use Rattle.pfn_database.specs.Frames.{Frames, row_of}
-use Rattle.pfn_database.specs.Rows.{counted_references}
+use Rattle.pfn_database.specs.Rows.{counted_references, uncounted}
 use Rattle.pager_model.specs.Flights.{open_flights}
 use Rattle.pager_model.specs.Lookups.{is}
 use Rattle.pager_model.specs.Maps.{Mapped, page_number, proc}
@@ -74,7 +74,7 @@ module _ {B : Type 0} {seen : B → BlockView} {tells : Tells} {config : Config}
   row_is x read = let is = read_process config past a seat fields before.parts seat.0 x legal.row.own.process read in (ap (λ (z : ProcessRow). z.ring) is, ap (λ (z : ProcessRow). z.limit) is)
 
   -- ---- the frame's row
-  pub frame_free : row_of fields.frames f.0 ≡ row_by state.Free None false 0 0 0
+  pub frame_free : row_of fields.frames f.0 ≡ row_by state.Free None false 0 0 0 0
   frame_free = zero_row config past a seat address f before.formed (kept before) (right before) (plain before) legal fields before.parts
 
   pub below : f.0 < length fields.frames.rows
@@ -119,7 +119,7 @@ module _ {B : Type 0} {seen : B → BlockView} {tells : Tells} {config : Config}
 
   pub zero_closes : fields.starts ≡ store.flights → owed (record { seat = seat; what = what.Zero address f } ∷ past) + 1 ≤ spare → (x : ProcessRow) → x ≡ slice_index_or fields.processes seat.0 x
       → (slot : ℕ) (ring : Ring) → choose x.ring x.limit ≡ Empty slot → ring ≡ placed x.ring x.limit v → (frames' : Frames)
-      → frames'.rows ≡ slice_set fields.frames.rows f.0 (record (row_of fields.frames f.0) { state = state.Active; page = Some (Private (proc seat.0) v); modify = true; refs = counted_references ((row_of fields.frames f.0).shares + 1) (row_of fields.frames f.0).flights; shares = (row_of fields.frames f.0).shares + 1; slot = slot })
+      → frames'.rows ≡ slice_set fields.frames.rows f.0 (record (row_of fields.frames f.0) { state = state.Active; page = Some (Private (proc seat.0) v); modify = true; refs = counted_references ((row_of fields.frames f.0).shares + 1) (row_of fields.frames f.0).flights + uncounted (row_of fields.frames f.0); shares = (row_of fields.frames f.0).shares + 1; slot = slot })
       → frames'.free ≡ without fields.frames.free f.0 → frames'.modified ≡ without fields.frames.modified f.0
       → (store' : StoreView B) → store' ≡ record store { frames = frames'; buffers = slice_set store.buffers f.0 (Some (replicate 512 0)) }
       → (tables' : PageTables) (old : Pte) → tables'.procs ≡ (fields.tables).procs → ((q w : ℕ) → pte_in tables' q w ≡ changed_at (pte_in fields.tables) seat.0 v (Some (record { prot = old.prot; place = place.Valid false f })) q w) → pte_in fields.tables seat.0 v ≡ Some old
@@ -132,7 +132,7 @@ module _ {B : Type 0} {seen : B → BlockView} {tells : Tells} {config : Config}
       rw (taken, store_is, file_is) (subst (λ (starts : List (Option ℕ)). IsState seen tells config (record { seat = seat; what = what.Zero address f } ∷ past) (spare - 1)
       (record store { frames = frames'; buffers = slice_set store.buffers f.0 (Some (replicate 512 0)) })
       (record fields { frames = frames'; starts = starts; processes = slice_set fields.processes seat.0 (record x { ring = placed x.ring x.limit v; faults = x.faults + 1 }); tables = tables'; pages = pages'; file = record fields.file { charged = fields.file.charged + 1 } }) numbers) same
-      (closed before (record { seat = seat; what = what.Zero address f }) legal paid (record store { frames = frames'; buffers = slice_set store.buffers f.0 (Some (replicate 512 0)) }) _
+      (closed before (record { seat = seat; what = what.Zero address f }) (λ told. tt) legal paid (record store { frames = frames'; buffers = slice_set store.buffers f.0 (Some (replicate 512 0)) }) _
       (zero_parts config past a seat address f before.formed (kept before) (right before) (plain before) legal fields before.parts x read slot
       ((λ i. choose (sym is.0 i) (sym is.1 i)) ∙ chosen) frames' rows free modified tables' old procs changed there pages' procs' changed')
       (list_puts_buffer store.buffers f.0 (Some (replicate 512 0)) (let count = before.places.buffers in let less = head.within in omega (arith, count, less)), refl)

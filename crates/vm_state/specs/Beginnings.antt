@@ -1,9 +1,9 @@
 -- The lifts of a carrier fit the journal. This project's own.
 use Rattle.std.specs.List.{AllByRecursion}
 use Rattle.vm_types.specs.BlockView.{BlockView, Tells}
-use Rattle.vm_state.specs.CarrierView.{CarrierView}
+use Rattle.lift_carriers.specs.CarrierView.{CarrierView}
 use Rattle.vm_state.specs.History.{History}
-use Rattle.vm_state.specs.LiftsFit.{LiftFits}
+use Rattle.lift_carriers.specs.LiftsFit.{LiftFits}
 
 -- the lifts of a carrier fit the journal
 abbrev pub LiftsFit : {B : Type 0} → (B → BlockView) → Tells → History → CarrierView B → Type 0

@@ -6,7 +6,7 @@ use Rattle.vm_types.specs.declared.names.Seat.{Seat}
 use Rattle.vm_journal.specs.declared.entry.What.{What}
 use Rattle.frame_store.specs.LiftView.{LiftView, begun}
 use Rattle.vm_state.specs.History.{History, entry_by}
-use Rattle.vm_state.specs.LiftsFit.{LiftFits}
+use Rattle.lift_carriers.specs.LiftsFit.{LiftFits}
 
 module _ {B : Type 0} (seen : B → BlockView) where
   -- it waits, has the number of the entry that began it and a buffer of the state's pool, and fits the journal after

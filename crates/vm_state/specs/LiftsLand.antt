@@ -1,5 +1,5 @@
--- What the landing of a carrier adds to the journal, when it may land, and what is counted of it. This project's own.
-use Rattle.std.specs.Prelude.{◌≡◌, ℕ, Bool, true, false, not, List, [], ◌∷◌, count_by, nat_eq}
+-- What the landing of a carrier adds to the journal, and when it may land. This project's own.
+use Rattle.std.specs.Prelude.{◌≡◌, ℕ, Bool, true, false, List, [], ◌∷◌, nat_eq}
 use Rattle.std.specs.List.{AllByRecursion}
 use Rattle.vm_types.specs.BlockView.{BlockView, Tells}
 use Rattle.vm_types.specs.declared.names.Page.{Page}
@@ -11,11 +11,10 @@ use Rattle.pager_model.specs.Given.{pfn}
 use Rattle.frame_store.specs.LiftView.{LiftView}
 use Rattle.frame_store.specs.declared.lift.Carried.{Carried}
 use Rattle.frame_store.specs.declared.lift.Carried.TheVariants.{Waiting, Bad}
-use Rattle.vm_state.specs.CarrierView.{CarrierView}
+use Rattle.lift_carriers.specs.CarrierView.{CarrierView}
 use Rattle.vm_state.specs.History.{History, added, entry_by}
 use Rattle.vm_state.specs.Landings.{landing_of}
-use Rattle.vm_state.specs.LiftsFit.{LiftFits}
-use Rattle.vm_state.specs.declared.landed.Landed.{Landed}
+use Rattle.lift_carriers.specs.LiftsFit.{LiftFits}
 
 -- a read that failed is followed by the reuse of its frame
 abbrev pub reuse_after : Bool → Carried → ℕ → Page → List What
@@ -60,18 +59,3 @@ module _ {B : Type 0} (seen : B → BlockView) (tells : Tells) where
     pub now : t ≡ added_each seat (landings_of lift) s
     pub calm : awaits_reuse t.past ≡ false
     pub others : (other : LiftView B) → nat_eq lift.start other.start ≡ false → MayLand s seat other → MayLand t seat other
-
--- how it went
-abbrev pub has_failed : Carried → Bool
-has_failed (Bad before after) = true
-has_failed other = false
-
-abbrev pub lift_failed : {B : Type 0} → LiftView B → Bool
-lift_failed lift = has_failed lift.result
-
-abbrev pub first_failed : {B : Type 0} → List (LiftView B) → Bool
-first_failed [] = false
-first_failed (lift ∷ lifts) = lift_failed lift
-
-abbrev pub counted : {B : Type 0} → List (LiftView B) → Landed
-counted {B} lifts = record { good = count_by (λ (lift : LiftView B). not (lift_failed lift)) lifts; bad = count_by lift_failed lifts; first_bad = first_failed lifts }

@@ -1,5 +1,5 @@
 -- What a state keeps. This project's own.
-use Rattle.std.specs.Prelude.{◌≡◌, ℕ, Bool, not, ◌+◌, ◌*◌, ◌^◌, ◌≤◌, ◌<◌, List, Option, Some, length, count_by, slice_get}
+use Rattle.std.specs.Prelude.{◌≡◌, ℕ, Bool, true, not, ◌+◌, ◌*◌, ◌^◌, ◌≤◌, ◌<◌, List, Option, Some, length, count_by, slice_get}
 use Rattle.std.specs.Option.{option_map}
 use Rattle.vm_types.specs.BlockView.{BlockView, Tells}
 use Rattle.vm_types.specs.Configuration.{IsWellFormed}
@@ -10,6 +10,7 @@ use Rattle.vm_journal.specs.declared.entry.Entry.{Entry}
 use Rattle.pager_model.specs.Content.{ContentFits}
 use Rattle.pager_model.specs.Flights.{Flight, is_reading, open_flights}
 use Rattle.pager_model.specs.Run.{IsRun, pager_after}
+use Rattle.pager_model.specs.Spoken.{IsRight}
 use Rattle.frame_store.specs.Blocks.{block_at, blocks_of, held_at}
 use Rattle.frame_store.specs.StoreView.{StoreView}
 use Rattle.state_fits.specs.Entries.{section_page_number}
@@ -36,7 +37,7 @@ module _ {B : Type 0} (seen : B → BlockView) where
   home_in config store b = option_map seen (block_at config store.blocks b)
 
   -- the configuration is of version 1; the entries are a run; the parts stand for the state that it leads to; buffers and blocks have the bytes that
-  -- they should; and what is due is paid for
+  -- they should; what is due is paid for; and if blocks tell their content each answered reference shows the flat reply
   pub record IsState (tells : Tells) (config : Config) (past : List Entry) (spare : ℕ) (store : StoreView B) (fields : Parts) (numbers : List ℕ) : Type 0 where
     pub formed : IsWellFormed config
     pub version : config.version ≡ version.One
@@ -46,3 +47,4 @@ module _ {B : Type 0} (seen : B → BlockView) where
     pub parts : PartsFit config past (pager_after config past) fields
     pub bytes : ContentFits tells.content tells.plan config past (pager_after config past) (held_at store.buffers) (home_in config store)
     pub places : IsStoreOf config (open_flights past) store numbers
+    pub right : tells.content ≡ true → IsRight config past

@@ -1,16 +1,16 @@
-ghost use Rattle.std.specs.Prelude.{◌≡◌, ◌+◌, ◌<◌, ◌||◌, [], true, false, if◌then◌else◌};
+ghost use Rattle.std.specs.Prelude.{◌≡◌, [], false};
 
-use crate::carrier::Carrier;
-use crate::landed::Landed;
 use crate::state::State;
 use disk_trait::Block;
 use frame_store::{Carried, Lift};
+use lift_carriers::{Carrier, Landed, one_more};
 use vm_types::Seat;
 
 impl<B: Block> State<B> {
     ghost use Rattle.frame_store.specs.declared.lift.Carried.{Carried};
     ghost use Rattle.pager_model.specs.Flights.{awaits_reuse};
-    ghost use Rattle.vm_state.specs.LiftsLand.{CarrierMayLand, HasLanded, MayLand, counted, landed_each, lift_failed};
+    ghost use Rattle.lift_carriers.specs.Counted.{counted, lift_failed};
+    ghost use Rattle.vm_state.specs.LiftsLand.{CarrierMayLand, HasLanded, MayLand, landed_each};
 
     /// The lifts of a carrier land, in their order, each failed read followed by the reuse of its frame;
     /// the carrier is empty afterwards. Doesn't allocate.
@@ -91,19 +91,5 @@ impl<B: Block> State<B> {
             return self.reuse(seat, f, page);
         }
         self.out_fail(seat, lift)
-    }
-}
-
-/// The numbers with one lift more, which may be the first one.
-fn one_more(landed: Landed, first: bool, failed: bool) -> Landed
-    requires { landed.good + landed.bad < 16 }
-    ensures good { result.good ≡ landed.good + (if failed then 0 else 1) }
-    ensures bad { result.bad ≡ landed.bad + (if failed then 1 else 0) }
-    ensures first { result.first_bad ≡ (if first then failed else landed.first_bad) }
-{
-    Landed {
-        good: landed.good + u32::from(!failed),
-        bad: landed.bad + u32::from(failed),
-        first_bad: if first { failed } else { landed.first_bad },
     }
 }

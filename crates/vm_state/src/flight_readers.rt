@@ -1,33 +1,15 @@
-ghost use Rattle.std.specs.Prelude.{◌≡◌, ◌<◌, length, find, count_by, nat_eq};
-ghost use Rattle.std.specs.List.{list_any};
+ghost use Rattle.std.specs.Prelude.{◌≡◌, ◌<◌, find, count_by, nat_eq};
 ghost use Rattle.std.specs.Option.{option_map};
 ghost use Rattle.vm_types.specs.Configuration.{IsBlock};
 ghost use Rattle.pager_model.specs.Flights.{open_flights};
 ghost use Rattle.pager_model.specs.Transfers.{has_come, is_on_block, is_read_on};
-ghost use Rattle.vm_state.specs.FlightReadings.{comes, read_by};
+ghost use Rattle.vm_state.specs.FlightReadings.{read_by};
 
 use crate::open_read::OpenRead;
 use crate::state::State;
 use disk_trait::Block;
-use vm_journal::Role;
+use page_states::any_comes;
 use vm_types::{BlockId, Pfn, Proc};
-
-/// Whether a read of this role brings back a page of the process.
-fn comes(p: Proc, role: Option<Role>) -> bool
-    ensures { result ≡ comes p.0 role }
-{
-    match role {
-        Some(Role::Come(q, _)) => q.0 == p.0,
-        _ => false,
-    }
-}
-
-/// Whether one of the reads with these roles brings back a page of the process.
-fn any_comes(roles: &[Option<Role>], p: Proc) -> bool
-    ensures { result ≡ list_any (comes p.0) roles.now }
-{
-    roles.iter().any(|role| comes(p, *role))
-}
 
 /// No reader allocates.
 impl<B: Block> State<B> {

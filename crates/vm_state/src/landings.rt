@@ -9,7 +9,7 @@ use vm_types::Seat;
 impl<B: Block> State<B> {
     ghost use Rattle.vm_state.specs.History.{MayAdd, added, entry_by};
     ghost use Rattle.vm_state.specs.Landings.{HasFailed, landing_of};
-    ghost use Rattle.vm_state.specs.LiftsFit.{LiftFits};
+    ghost use Rattle.lift_carriers.specs.LiftsFit.{LiftFits};
 
     /// A read lands well: the page is in its frame, and valid for the process that it was read for, if
     /// it was for one.

@@ -3,14 +3,15 @@
 
 mod answering;
 mod backs;
-mod carrier;
+mod base;
+mod calm;
 mod carriers_land;
 mod deletions;
 mod ends;
 mod evictions;
 mod faults;
 mod flight_readers;
-mod landed;
+mod kept;
 mod landings;
 mod open_read;
 mod page_readers;
@@ -28,10 +29,12 @@ mod serving;
 mod start;
 mod state;
 mod turns;
+mod words;
 mod writes;
 mod writes_begin;
 
-pub use carrier::Carrier;
-pub use landed::Landed;
+pub use base::StateBase;
+pub use kept::state_is_moved;
+pub use lift_carriers::{Carrier, Landed};
 pub use open_read::OpenRead;
 pub use state::State;

@@ -1,10 +1,10 @@
 ghost use Rattle.std.specs.Prelude.{◌≡◌, true};
 
-use crate::carrier::Carrier;
 use crate::state::State;
 use disk_trait::Block;
 use frame_moves::begin_read;
 use frame_store::Lift;
+use lift_carriers::Carrier;
 use page_moves::{global_number, hold_page};
 use page_states::{charge_fault, count_fault, read_page};
 use vm_journal::{Entry, Role, What};
@@ -14,10 +14,10 @@ impl<B: Block> State<B> {
     ghost use Rattle.vm_journal.specs.declared.entry.What.{What};
     ghost use Rattle.frame_store.specs.LiftView.{LiftView};
     ghost use Rattle.vm_state.specs.Beginnings.{LiftsFit};
-    ghost use Rattle.vm_state.specs.CarrierView.{CanTake, taking};
+    ghost use Rattle.lift_carriers.specs.CarrierView.{CanTake, taking};
     ghost use Rattle.vm_state.specs.History.{MayAdd, added, entry_by};
     ghost use Rattle.vm_state.specs.LiftsBegin.{HasBegun};
-    ghost use Rattle.vm_state.specs.LiftsFit.{LiftFits};
+    ghost use Rattle.lift_carriers.specs.LiftsFit.{LiftFits};
 
     /// A read of a block into a frame begins; the seat's carrier takes its lift. If the lifts of the
     /// carrier fit the journal, they still do.

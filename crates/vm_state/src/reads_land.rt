@@ -10,7 +10,7 @@ use vm_types::Seat;
 impl<B: Block> State<B> {
     ghost use Rattle.vm_journal.specs.declared.entry.What.{What};
     ghost use Rattle.vm_state.specs.History.{MayAdd, added, entry_by};
-    ghost use Rattle.vm_state.specs.LiftsFit.{LiftFits};
+    ghost use Rattle.lift_carriers.specs.LiftsFit.{LiftFits};
     ghost use Rattle.vm_state.specs.ReadRoles.{IsReadAs};
     ghost use Rattle.vm_journal.specs.declared.entry.Role.{Role};
     ghost use Rattle.vm_types.specs.declared.names.Page.{Page};

@@ -15,7 +15,7 @@ impl<B: Block> State<B> {
     ghost use Rattle.vm_journal.specs.declared.entry.What.{What};
     ghost use Rattle.vm_journal.specs.declared.entry.Role.{Role};
     ghost use Rattle.vm_state.specs.History.{MayAdd, added, entry_by};
-    ghost use Rattle.vm_state.specs.LiftsFit.{LiftFits};
+    ghost use Rattle.lift_carriers.specs.LiftsFit.{LiftFits};
     ghost use Rattle.vm_state.specs.ReadRoles.{IsReadAs};
 
     /// A read for a faulting page lands well: the page is valid for the process, in the slot that its

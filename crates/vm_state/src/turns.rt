@@ -1,12 +1,10 @@
 ghost use Rattle.std.specs.Prelude.{◌≡◌};
-ghost use Rattle.pager_model.specs.Turn.{turned_ring};
 
 use crate::state::State;
 use disk_trait::Block;
-use state_parts::unlock_all;
+use page_states::turn_ring;
 use vm_journal::{Entry, What};
 use vm_types::{Proc, ProcStatus, Seat};
-use working_set::Ring;
 
 impl<B: Block> State<B> {
     ghost use Rattle.vm_journal.specs.declared.entry.What.{What};
@@ -39,14 +37,5 @@ impl<B: Block> State<B> {
             seat,
             what: What::Turn { p, status },
         });
-    }
-}
-
-/// The ring of a process whose status turns.
-fn turn_ring(ring: &mut Ring, status: ProcStatus)
-    ensures { ring.new ≡ turned_ring status ring.old }
-{
-    if let ProcStatus::Leaving = status {
-        unlock_all(ring);
     }
 }

@@ -1,23 +1,18 @@
-ghost use Rattle.std.specs.Prelude.{◌≡◌, ℕ, false};
-ghost use Rattle.state_fits.specs.Writes.{page_landed, swaps_landed};
-ghost use Rattle.state_parts.specs.ChargedTable.{charged_at};
-ghost use Rattle.state_parts.specs.SwapTable.{swapped_at};
-ghost use Rattle.write_moves.specs.Moves.{MayLie};
+ghost use Rattle.std.specs.Prelude.{◌≡◌, false};
 
 use crate::state::State;
 use disk_trait::Block;
 use frame_moves::end_write;
 use frame_store::{Carried, Lift};
-use state_parts::{ChargedPages, SwapPages};
 use vm_journal::{Entry, What};
-use vm_types::{BlockId, Page, Seat};
-use write_moves::lie_in;
+use vm_types::Seat;
+use write_moves::lie_unless;
 
 impl<B: Block> State<B> {
     ghost use Rattle.vm_journal.specs.declared.entry.What.{What};
     ghost use Rattle.vm_state.specs.History.{MayAdd, added, entry_by};
     ghost use Rattle.vm_state.specs.Landings.{HasFailed, landing_of};
-    ghost use Rattle.vm_state.specs.LiftsFit.{LiftFits};
+    ghost use Rattle.lift_carriers.specs.LiftsFit.{LiftFits};
 
     /// A write has gone well.
     pub fn out_ok(&mut self, seat: Seat, lift: Lift<B>)
@@ -102,25 +97,5 @@ impl<B: Block> State<B> {
                 d: after,
             },
         });
-    }
-}
-
-/// A page whose write has landed lies in the block, unless it was modified meanwhile.
-fn lie_unless(
-    pages: &mut ChargedPages,
-    swaps: &mut SwapPages,
-    modify: bool,
-    page: Option<Page>,
-    block: BlockId,
-)
-    requires { MayLie pages.old swaps.old page block }
-    ensures rows { (q w : ℕ) → charged_at pages.new q w ≡ page_landed modify page block (charged_at pages.old) q w }
-    ensures procs { pages.new.procs ≡ pages.old.procs }
-    ensures swaps { (q m : ℕ) → swapped_at swaps.new q m
-        ≡ swaps_landed modify page block (charged_at pages.old) (swapped_at swaps.old) q m }
-    ensures swap_procs { swaps.new.procs ≡ swaps.old.procs }
-{
-    if !modify {
-        lie_in(pages, swaps, page, block);
     }
 }

@@ -1,10 +1,10 @@
 ghost use Rattle.std.specs.Prelude.{◌≡◌, false};
 
-use crate::carrier::Carrier;
 use crate::state::State;
 use disk_trait::Block;
 use frame_moves::begin_write;
 use frame_store::Lift;
+use lift_carriers::Carrier;
 use vm_journal::{Entry, What};
 use vm_types::{BlockId, Pfn, Seat};
 use write_moves::give_block;
@@ -13,10 +13,10 @@ impl<B: Block> State<B> {
     ghost use Rattle.frame_store.specs.LiftView.{LiftView};
     ghost use Rattle.vm_journal.specs.declared.entry.What.{What};
     ghost use Rattle.vm_state.specs.Beginnings.{LiftsFit};
-    ghost use Rattle.vm_state.specs.CarrierView.{CanTake, taking};
+    ghost use Rattle.lift_carriers.specs.CarrierView.{CanTake, taking};
     ghost use Rattle.vm_state.specs.History.{MayAdd, added, entry_by};
     ghost use Rattle.vm_state.specs.LiftsBegin.{HasBegun};
-    ghost use Rattle.vm_state.specs.LiftsFit.{LiftFits};
+    ghost use Rattle.lift_carriers.specs.LiftsFit.{LiftFits};
 
     /// A write of the page in a frame begins; the seat's carrier takes its lift. If the lifts of the
     /// carrier fit the journal, they still do.

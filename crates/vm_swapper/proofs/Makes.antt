@@ -10,7 +10,7 @@ use Rattle.pager_model.specs.Run.{IsRun}
 use Rattle.vm_types.specs.Configuration.{IsWellFormed}
 use Rattle.call_steps.specs.Lifted.{HasLifts}
 use Rattle.call_steps.specs.MayBegin.{MayBegin}
-use Rattle.vm_state.specs.CarrierView.{CarrierView}
+use Rattle.lift_carriers.specs.CarrierView.{CarrierView}
 use Rattle.vm_state.specs.History.{History, added, entry_by}
 use Rattle.vm_state.specs.LiftsLand.{added_each}
 use Rattle.vm_swapper.specs.Swaps.{MaySwap, Swaps, again_of, returned}

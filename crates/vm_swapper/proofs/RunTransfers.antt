@@ -13,7 +13,7 @@ use Rattle.pager_model.specs.Run.{IsRun}
 use Rattle.call_laws.specs.AreLegal.{AreLegal}
 use Rattle.call_steps.specs.Lifted.{HasBegunLifts, HasLifts, place_of, places_in}
 use Rattle.call_steps.specs.OneRead.{one_read}
-use Rattle.vm_state.specs.CarrierView.{CarrierView}
+use Rattle.lift_carriers.specs.CarrierView.{CarrierView}
 use Rattle.vm_state.specs.History.{History, owed, pager}
 use Rattle.vm_state.specs.LiftsLand.{added_each}
 use Rattle.vm_swapper.specs.Runs.{reads_from, writes_from}

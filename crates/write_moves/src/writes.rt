@@ -1,7 +1,7 @@
 ghost use Rattle.std.specs.Prelude.{◌≡◌, ℕ};
 ghost use Rattle.state_parts.specs.ChargedTable.{charged_at};
 ghost use Rattle.state_parts.specs.SwapTable.{swapped_at};
-ghost use Rattle.state_fits.specs.Writes.{block_given, block_taken, page_written, slot_emptied, slot_filled, swaps_written};
+ghost use Rattle.state_fits.specs.Writes.{block_given, block_taken, page_landed, page_written, slot_emptied, slot_filled, swaps_landed, swaps_written};
 ghost use Rattle.write_moves.specs.Moves.{MayEmpty, MayFill, MayGive, MayLie};
 
 use page_file::PageFile;
@@ -45,6 +45,26 @@ pub fn lie_in(pages: &mut ChargedPages, swaps: &mut SwapPages, page: Option<Page
         fill_slot(swaps, block, vpn);
         let lies = Some(block);
         pages.set(p, vpn, Some(ChargedPage { lies, ..row }));
+    }
+}
+
+/// A page whose write has landed lies in the block, unless it was modified meanwhile.
+pub fn lie_unless(
+    pages: &mut ChargedPages,
+    swaps: &mut SwapPages,
+    modify: bool,
+    page: Option<Page>,
+    block: BlockId,
+)
+    requires { MayLie pages.old swaps.old page block }
+    ensures rows { (q w : ℕ) → charged_at pages.new q w ≡ page_landed modify page block (charged_at pages.old) q w }
+    ensures procs { pages.new.procs ≡ pages.old.procs }
+    ensures swaps { (q m : ℕ) → swapped_at swaps.new q m
+        ≡ swaps_landed modify page block (charged_at pages.old) (swapped_at swaps.old) q m }
+    ensures swap_procs { swaps.new.procs ≡ swaps.old.procs }
+{
+    if !modify {
+        lie_in(pages, swaps, page, block);
     }
 }
 

@@ -47,3 +47,7 @@ returns-clause-wrong g c = λ no_four.
     let run = c.finish.ensures.run no_four in
     let told = c.run_words-told.ensures.wrong (λ four. no_four (run.0 ∙ four)) in
     (told.0, subst (λ status. IsWrong c.run_words-told.result.1 status told.0) (sym run.0) told.1, Appends-kept _ _ _ told.0 told.2 c.finish.ensures.bytes)
+
+pub returns-clause-line : goal.returns-clause-line
+returns-clause-line g c = λ one.
+    c.run_words-told.ensures.line (sym (c.finish.ensures.run (λ four. absurd (omega (arith, one, four)))).0 ∙ one)

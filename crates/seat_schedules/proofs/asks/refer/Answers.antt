@@ -1,4 +1,4 @@
-use Rattle.seat_schedules.proofs.OwnWork.{idle_seat}
+use Rattle.seat_laws.proofs.FreeSeats.{idle_seat}
 use Rattle.seat_schedules.proofs.ReferenceCalls.{reference_again, reference_answered, reference_carried, reference_more}
 use Rattle.seat_schedules.proofs.asks.refer.Goals as goal
 

@@ -1,5 +1,5 @@
 use Rattle.seat_schedules.proofs.OtherCalls.{service_worked}
-use Rattle.seat_schedules.proofs.OwnWork.{idle_seat}
+use Rattle.seat_laws.proofs.FreeSeats.{idle_seat}
 use Rattle.seat_schedules.proofs.asks.serve_next.Goals as goal
 
 pub serve-requires-clause-idle : goal.serve-requires-clause-idle

@@ -1,5 +1,5 @@
 use Rattle.vm_state.specs.History.{pager}
-use Rattle.seat_schedules.proofs.UnmetReferences.{shown_unmet}
+use Rattle.seat_laws.proofs.UnmetReferences.{shown_unmet}
 use Rattle.seat_schedules.proofs.refusing.is_unmet.Goals as goal
 
 pub returns-in-Some : goal.returns-in-Some

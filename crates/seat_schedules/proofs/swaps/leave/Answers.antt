@@ -1,6 +1,6 @@
 use Rattle.vm_swapper.specs.declared.swap.Swap.TheVariants.{Again, Carry, More, Settled}
 use Rattle.seat_schedules.proofs.OtherCalls.{leave_worked}
-use Rattle.seat_schedules.proofs.OwnWork.{may_begin}
+use Rattle.seat_laws.proofs.FreeSeats.{may_begin}
 use Rattle.seat_schedules.proofs.swaps.leave.Goals as goal
 
 pub leave_some-requires-clause-idle : goal.leave_some-requires-clause-idle

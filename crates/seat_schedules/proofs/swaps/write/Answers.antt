@@ -1,7 +1,7 @@
 use Rattle.modified_writer.specs.declared.begun.Begin.TheVariants.{Carry}
 use Rattle.pager_model.specs.WriteCluster.{reason_need}
 use Rattle.seat_schedules.proofs.OtherCalls.{write_worked}
-use Rattle.seat_schedules.proofs.OwnWork.{may_begin}
+use Rattle.seat_laws.proofs.FreeSeats.{may_begin}
 use Rattle.seat_schedules.proofs.swaps.write.Goals as goal
 
 pub begin-requires-clause-idle : goal.begin-requires-clause-idle

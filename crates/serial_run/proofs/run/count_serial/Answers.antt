@@ -9,7 +9,7 @@ pub returns-clause-counted : goal.returns-clause-counted
 returns-clause-counted g c = (
   map (given_back g.D.Block.Block.seen) c.finish-blocks.result.2.items,
   c.in_ok-retire_blocks.ensures.ok ∙ ap (λ (xs : List Retired). xs ++ map (given_back g.D.Block.Block.seen) c.finish-blocks.result.2.items) c.make_blocks.ensures.retired,
-  is_counted g.D.Block.Block.seen g.D.Block.Block.tells c.args.config c.run_state.new.state c.in_ok-ending.ending _ c.finish-blocks.result.2.items
-      (ap (λ (x : History). x.config) c.in_ok-ending.ensures.same ∙ ap (λ (x : History). x.config) c.in_ok-state.ensures) c.in_ok-ending.ensures.ended
-      c.entry_count-all.ensures (c.kinds-kinds.ensures (ap (λ (x : History). x.keeps) c.in_ok-ending.ensures.same ∙ ap (λ (x : History). x.keeps) c.in_ok-state.ensures)) refl c.finish-blocks.ensures.names c.finish-blocks.ensures.blocks,
+  is_counted g.D.Block.Block.seen g.D.Block.Block.tells c.args.config c.end_state.new.state c.in_ok-ending.ending _ c.finish-blocks.result.2.items
+      (ap (λ (x : History). x.config) c.in_ok-ending.ensures.same ∙ (ap (λ (x : History). x.config) c.in_ok-answer_requests.ensures.same ∙ ap (λ (x : History). x.config) c.in_ok-state.ensures)) c.in_ok-ending.ensures.ended
+      c.entry_count-all.ensures (c.kinds-kinds.ensures (ap (λ (x : History). x.keeps) c.in_ok-ending.ensures.same ∙ (ap (λ (x : History). x.keeps) c.in_ok-answer_requests.ensures.same ∙ ap (λ (x : History). x.keeps) c.in_ok-state.ensures))) refl c.finish-blocks.ensures.names c.finish-blocks.ensures.blocks,
 )

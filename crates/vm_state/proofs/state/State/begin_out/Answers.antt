@@ -1,8 +1,8 @@
 use Rattle.std.proofs.Common.{sym, subst}
 use Rattle.std.specs.List.{AllByRecursion}
 use Rattle.pager_rules.proofs.Basics.{each_weaker}
-use Rattle.vm_state.specs.CarrierView.{CarrierView}
-use Rattle.vm_state.specs.LiftsFit.{LiftFits}
+use Rattle.lift_carriers.specs.CarrierView.{CarrierView}
+use Rattle.lift_carriers.specs.LiftsFit.{LiftFits}
 use Rattle.vm_state.proofs.ReadLands.{fits_before}
 use Rattle.vm_state.proofs.ReadsBegin.{all_and_one}
 use Rattle.vm_state.proofs.state.State.begin_out.Goals as goal

@@ -78,7 +78,8 @@ invariant_of-self g c =
     _ (next_number _ c.len-number.result c.len-number.ensures.len) c.row-kept.result (rw (← c.frames.ensures) c.row-kept.ensures.row) c.marked.result c.marked.ensures
     c.mark.new.self (rw (← c.frames_mut.ensures.value) c.mark.ensures.rows) (rw (← c.frames_mut.ensures.value) c.mark.ensures.free) (rw (← c.frames_mut.ensures.value) c.mark.ensures.modified)
     c.unwrap.result c.unwrap.ensures c.touch.new.pages c.touch.ensures.procs c.touch.ensures.changed
-    c.bytes_mut.result.now c.apply-reply.new.page c.bytes_mut.ensures.bytes c.apply-reply.ensures.bytes)
+    c.bytes_mut.result.now c.apply-reply.new.page c.bytes_mut.ensures.bytes c.apply-reply.ensures.bytes
+    (λ told. close.done_right c.self.invariant c.args.seat c.args.r legal c.unwrap-f.result same c.bytes_mut.result.now c.bytes_mut.ensures.bytes c.apply-reply.ensures.reply told))
 
 pub returns-clause-right : goal.returns-clause-right
 returns-clause-right g c = λ told.

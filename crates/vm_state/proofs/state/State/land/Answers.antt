@@ -2,8 +2,9 @@ use Rattle.std.proofs.Common.{◌≡◌, false, List, length, reverse, refl, sym
 use Rattle.std.proofs.lemmas.List.{length-reverse}
 use Rattle.vm_types.specs.declared.names.Seat.{Seat}
 use Rattle.frame_store.specs.LiftView.{LiftView}
-use Rattle.vm_state.specs.CarrierView.{CarrierView}
-use Rattle.vm_state.specs.LiftsLand.{counted, landed_each}
+use Rattle.lift_carriers.specs.CarrierView.{CarrierView}
+use Rattle.lift_carriers.specs.Counted.{counted}
+use Rattle.vm_state.specs.LiftsLand.{landed_each}
 use Rattle.vm_state.proofs.CarrierLands.{AreLandedTo, all_counted, all_landed, last_is_first, may_land, none_landed, none_turned, nothing_left, one_landed, room, turned_back}
 use Rattle.vm_state.proofs.state.State.land.Goals as goal
 

@@ -7,7 +7,7 @@ use Rattle.state_parts.specs.declared.process_row.ProcessRow.{ProcessRow}
 use Rattle.page_states.specs.ReadStarts.{CountsFault}
 use Rattle.vm_state.specs.History.{History, entry_by}
 use Rattle.vm_state.specs.LiftsBegin.{HasBegun}
-use Rattle.vm_state.specs.LiftsFit.{LiftFits}
+use Rattle.lift_carriers.specs.LiftsFit.{LiftFits}
 use Rattle.vm_state.proofs.Closing.{may_before, newest_first, next_number, pushed}
 use Rattle.vm_state.proofs.ReadLands.{fits_before}
 use Rattle.vm_state.proofs.ReadsBegin as close

@@ -4,7 +4,7 @@ use Rattle.pfn_database.specs.declared.row.Row.{Row}
 use Rattle.vm_journal.specs.declared.entry.Entry.{Entry}
 use Rattle.vm_journal.specs.declared.entry.What.TheVariants as what
 use Rattle.vm_state.specs.History.{entry_by}
-use Rattle.vm_state.specs.LiftsFit.{LiftFits}
+use Rattle.lift_carriers.specs.LiftsFit.{LiftFits}
 use Rattle.vm_state.proofs.Closing.{may_before, newest_first, next_number, pushed}
 use Rattle.vm_state.proofs.ReadLands.{fits_before}
 use Rattle.vm_state.proofs.OutCloses as close

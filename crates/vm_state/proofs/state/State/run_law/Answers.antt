@@ -2,6 +2,7 @@ use Rattle.std.proofs.Common.{◌≡◌, ◌+◌, ◌≤◌, ◌^◌, length, su
 use Rattle.vm_types.specs.Configuration.{IsWellFormed}
 use Rattle.vm_types.specs.declared.config.Version.TheVariants as version
 use Rattle.pager_model.specs.Run.{IsRun}
+use Rattle.pager_model.specs.Spoken.{IsRight}
 use Rattle.vm_state.specs.History.{History, owed}
 use Rattle.vm_state.proofs.state.State.run_law.Goals as goal
 
@@ -19,3 +20,6 @@ returns-clause-short g c = subst (λ (s : History). length s.past + s.spare ≤ 
 
 pub returns-clause-paid : goal.returns-clause-paid
 returns-clause-paid g c = subst (λ (s : History). owed s.past ≤ s.spare) c.self.view_is c.self.invariant.paid
+
+pub returns-clause-right : goal.returns-clause-right
+returns-clause-right g c = λ told. subst (λ (s : History). IsRight s.config s.past) c.self.view_is (c.self.invariant.right told)

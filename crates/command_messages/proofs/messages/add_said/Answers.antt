@@ -1,0 +1,25 @@
+use Rattle.std.proofs.Common.{ℕ, List, ◌++◌, sym, ◌∙◌, ap, append_assoc}
+use Rattle.std.specs.Prelude.{codes}
+use Rattle.std.specs.List.{flat_map}
+use Rattle.command_messages.specs.LineFaults.{option_word, said_text}
+use Rattle.command_messages.specs.Shown.{shown}
+use Rattle.command_messages.specs.declared.faults.LineFault.{LineFault}
+use Rattle.command_messages.proofs.messages.add_said.Goals as goal
+
+pub returns-in-NoSuchCommand-clause-items : goal.returns-in-NoSuchCommand-clause-items
+returns-in-NoSuchCommand-clause-items c =
+    let before : List ℕ = c.args.out.now.items in
+    let text : List ℕ = c.args.text.now.items in
+    c.add_shown.ensures.items
+    ∙ ap (λ (bytes : List ℕ). c.push_word-in-NoSuchCommand.new.out.items ++ flat_map shown bytes) c.as_slice.ensures.value
+    ∙ ap (λ (front : List ℕ). front ++ flat_map shown text) c.push_word-in-NoSuchCommand.ensures.items
+    ∙ append_assoc before (codes "no such command: ") (flat_map shown text)
+    ∙ ap (λ (fault : LineFault). before ++ said_text fault text) (sym c.in-NoSuchCommand.is)
+
+pub returns-in-Missing-clause-items : goal.returns-in-Missing-clause-items
+returns-in-Missing-clause-items c =
+    let before : List ℕ = c.args.out.now.items in
+    c.push_word-in-Missing-2.ensures.items
+    ∙ ap (λ (front : List ℕ). front ++ codes " is missing") (c.push_word-in-Missing.ensures.items ∙ ap (λ (word : List ℕ). before ++ word) c.option_word.ensures.value)
+    ∙ append_assoc before (option_word c.in-Missing.option) (codes " is missing")
+    ∙ ap (λ (fault : LineFault). before ++ said_text fault c.args.text.now.items) (sym c.in-Missing.is)

@@ -1,0 +1,4 @@
+pub mod CarrierView
+pub mod LiftsFit
+pub mod Carrying
+pub mod Counted

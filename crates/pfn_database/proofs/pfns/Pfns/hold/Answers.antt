@@ -1,0 +1,45 @@
+use Rattle.std.proofs.Common.{◌<◌, ◌+◌, length, set, refl, sym, ◌∙◌, ap, arith, length-set}
+use Rattle.pfn_database.specs.declared.row.Row.{Row}
+use Rattle.pfn_database.specs.Rows.{bad_row, held}
+use Rattle.pfn_database.specs.Frames.{Frames, row_of}
+use Rattle.pfn_database.proofs.KeptRows.{length-rows_of, row-is, edited}
+use Rattle.pfn_database.proofs.Changes.{IsConsistent-same, IsRow-held}
+use Rattle.pfn_database.proofs.pfns.Pfns.hold.Goals as goal
+
+pub kept_at-kept-requires : goal.kept_at-kept-requires
+kept_at-kept-requires c =
+    let below = rw (← c.self.view_is) at c.requires.below in
+    let near : c.args.f.0 < length c.self.inside.kept.items = omega (arith, below, length-rows_of c.self.inside.kept.items c.self.inside.lists.cells c.self.invariant.cells) in
+    near
+
+pub index_mut-requires : goal.index_mut-requires
+index_mut-requires c =
+    let below = rw (← c.self.view_is) at c.requires.below in
+    let near : c.args.f.0 < length c.self.inside.kept.items = omega (arith, below, length-rows_of c.self.inside.kept.items c.self.inside.lists.cells c.self.invariant.cells) in
+    omega (arith, near, c.self.inside.kept.ok.0)
+
+pub overflow_add-kept : goal.overflow_add-kept
+overflow_add-kept c =
+    let some = rw (← c.self.view_is) at c.requires.room in
+    let row = row-is c.self.inside.kept.items c.self.inside.lists.cells c.self.invariant.cells c.args.f.0 c.kept_at-kept.result c.kept_at-kept.ensures in
+    omega (arith, some, ap (λ (r : Row). r.refs) row)
+
+pub invariant_of-self : goal.invariant_of-self
+invariant_of-self c =
+    let below = rw (← c.self.view_is) at c.requires.below in
+    let good = c.self.invariant.consistent.rows c.args.f.0 bad_row below in
+    let fits = rw (← c.self.view_is) at c.requires.room in
+    record {
+      consistent = rw (edited c.self.inside.kept.items c.self.inside.lists.cells c.self.invariant.cells c.args.f.0 c.kept_at-kept.result c.kept_at-kept.ensures (record { state = c.kept_at-kept.result.state; page = c.kept_at-kept.result.page; modify = c.kept_at-kept.result.modify; refs = c.kept_at-kept.result.refs + 1; flights = c.kept_at-kept.result.flights }) (λ (r : Row). held r) refl) (IsConsistent-same _ c.self.invariant.consistent c.args.f.0 below _ (IsRow-held _ good fits) refl refl);
+      frames = c.self.invariant.frames ∙ sym (length-set c.self.inside.kept.items c.args.f.0 _);
+      cells = c.self.invariant.cells ∙ sym (length-set c.self.inside.kept.items c.args.f.0 _);
+      short = rw length-set c.self.invariant.short;
+    }
+
+pub returns-clause-rows : goal.returns-clause-rows
+returns-clause-rows c =
+    edited c.self.inside.kept.items c.self.inside.lists.cells c.self.invariant.cells c.args.f.0 c.kept_at-kept.result c.kept_at-kept.ensures (record { state = c.kept_at-kept.result.state; page = c.kept_at-kept.result.page; modify = c.kept_at-kept.result.modify; refs = c.kept_at-kept.result.refs + 1; flights = c.kept_at-kept.result.flights }) (λ (r : Row). held r) refl ∙ ap (λ (frames : Frames). set frames.rows c.args.f.0 ((λ (r : Row). held r) (row_of frames c.args.f.0))) c.self.view_is
+
+pub returns-clause-consistent : goal.returns-clause-consistent
+returns-clause-consistent c =
+    (invariant_of-self c).consistent

@@ -1,0 +1,4 @@
+pub mod FreeSeat
+pub mod Lost
+pub mod Unmet
+pub mod Laws

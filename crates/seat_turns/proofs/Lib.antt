@@ -1,0 +1,11 @@
+pub mod Unspoken
+pub mod NoFaults
+pub mod BegunCarriers
+pub mod Worked
+pub mod Joined
+pub mod HasRoom
+pub mod LostWork
+pub mod Referring
+pub mod OpenWork
+pub mod Searches
+pub mod Resting

@@ -1,0 +1,36 @@
+use Rattle.std.proofs.Common.{inl, inr, None, refl, ap, sym, subst, arith}
+use Rattle.vm_types.specs.declared.config.Config.{Config}
+use Rattle.lift_carriers.specs.CarrierView.{CarrierView}
+use Rattle.vm_state.specs.History.{pager}
+use Rattle.call_steps.specs.MayBegin.{empty}
+use Rattle.seat_turns.specs.Steps.{HasTurned}
+use Rattle.seat_turns.specs.declared.turned.Turned.TheVariants.{Made, Rests}
+use Rattle.seat_turns.proofs.Resting.{swapped_lowest, swapped_none}
+use Rattle.seat_turns.proofs.Worked.{waits_turned, worked_turned}
+use Rattle.seat_turns.proofs.idle_work.swap_next.Goals as goal
+
+pub returns-in-Some-clause-rests : goal.returns-in-Some-clause-rests
+returns-in-Some-clause-rests g c = λ is.
+    swapped_lowest (c.args.state.now).config (c.args.state.now).past (pager c.args.state.now) c.in-Some.q c.in-Some.ensures.lowest (c.leave_lowest.ensures.rests is)
+
+pub returns-then-free_len-config-clause-turned : goal.returns-then-free_len-config-clause-turned
+returns-then-free_len-config-clause-turned g c =
+    waits_turned c.args.state.now c.args.state.now c.args.seat c.requires.free c.requires.running refl None Rests c.args.carrier.now c.requires.carrier tt refl tt
+
+pub returns-then-free_len-config-clause-rests : goal.returns-then-free_len-config-clause-rests
+returns-then-free_len-config-clause-rests g c = λ is.
+    swapped_none (c.args.state.now).config (c.args.state.now).past (pager c.args.state.now) c.in_default.ensures.lowest
+    (inl (let enough = c.if-free_len-config.true in let free = c.free_len.ensures in let limit = ap (λ (config : Config). config.params.freelim) c.config.ensures in omega (arith, enough, free, limit)))
+
+pub returns-then-turn_victim-clause-turned : goal.returns-then-turn_victim-clause-turned
+returns-then-turn_victim-clause-turned g c =
+    subst (λ (x : CarrierView g.row.B.Denot). HasTurned g.B.Block.seen g.B.Block.tells c.args.state.now c.turn_victim.new.state c.args.seat None Made x) (sym c.requires.carrier)
+    (worked_turned c.args.state.now c.turn_victim.new.state c.args.seat c.requires.free c.requires.running None (empty c.args.seat) c.turn_victim.ensures.worked)
+
+pub returns-else-turn_victim-clause-turned : goal.returns-else-turn_victim-clause-turned
+returns-else-turn_victim-clause-turned g c =
+    waits_turned c.args.state.now c.turn_victim.new.state c.args.seat c.requires.free c.requires.running (c.turn_victim.ensures.none c.if-turn_victim.false) None Rests c.args.carrier.now c.requires.carrier tt refl tt
+
+pub returns-else-turn_victim-clause-rests : goal.returns-else-turn_victim-clause-rests
+returns-else-turn_victim-clause-rests g c = λ is.
+    swapped_none (c.args.state.now).config (c.args.state.now).past (pager c.args.state.now) c.in_default.ensures.lowest (inr (c.turn_victim.ensures.nobody c.if-turn_victim.false))

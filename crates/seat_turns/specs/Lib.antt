@@ -1,0 +1,4 @@
+pub mod Steps
+pub mod Begun
+pub mod Rests
+pub mod Worked

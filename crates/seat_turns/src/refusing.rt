@@ -1,0 +1,50 @@
+ghost use Rattle.std.specs.Prelude.{◌≡◌, ◌<◌, ◌⊎◌, IsTrue, length, true};
+ghost use Rattle.vm_types.specs.declared.names.ProcStatus.TheVariants as status;
+ghost use Rattle.pager_model.specs.Served.{may_fail};
+ghost use Rattle.vm_state.specs.History.{pager};
+ghost use Rattle.seat_laws.specs.Unmet.{IsUnmet};
+
+use disk_trait::Block;
+use vm_state::State;
+use vm_types::{Proc, ProcStatus, Ref, Service};
+
+/// Whether a process with this status is in memory.
+fn is_resident(s: ProcStatus) -> bool
+    ensures { s ≡ status.Resident → IsTrue result }
+{
+    matches!(s, ProcStatus::Resident)
+}
+
+/// Whether a reference is still to be met: its process isn't resident, or its page is mapped, and has
+/// no valid entry.
+pub(crate) fn is_unmet<B: Block>(state: &State<B>, p: Proc, r: Ref) -> bool
+    requires { p.0 < length state.now.config.procs }
+    ensures { IsTrue result → IsUnmet state.now.config (pager state.now) p.0 r }
+{
+    if !is_resident(state.status(p)) {
+        return true;
+    }
+    match state.found(p, r.addr.0 / 512) {
+        Some(found) => !found.valid,
+        None => false,
+    }
+}
+
+/// Whether a service is one that may meet a failed transfer of a resident process.
+fn may_fail(s: Service) -> bool
+    ensures { result ≡ may_fail s }
+{
+    matches!(s, Service::Delete { .. } | Service::Purge { .. })
+}
+
+/// Whether a service may still be refused for a lost transfer: its process isn't resident, or it is one
+/// that waits for transfers.
+pub(crate) fn is_unserved<B: Block>(state: &State<B>, p: Proc, s: Service) -> bool
+    requires { p.0 < length state.now.config.procs }
+    ensures { result ≡ true → ((pager state.now).status p.0 ≡ status.Resident → ⊥) ⊎ (may_fail s ≡ true) }
+{
+    if !is_resident(state.status(p)) {
+        return true;
+    }
+    may_fail(s)
+}

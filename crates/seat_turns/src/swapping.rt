@@ -1,0 +1,146 @@
+ghost use Rattle.std.specs.Prelude.{◌≡◌, ◌<◌, None, false, length};
+ghost use Rattle.std.specs.Option.{option_map};
+ghost use Rattle.vm_types.specs.declared.names.ProcStatus.TheVariants as status;
+ghost use Rattle.pager_model.specs.Swap.{victim_gives};
+ghost use Rattle.vm_state.specs.History.{pager};
+ghost use Rattle.call_steps.specs.MayBegin.{empty};
+ghost use Rattle.vm_swapper.specs.Victims.{process_number};
+ghost use Rattle.seat_laws.specs.FreeSeat.{IsFreeSeat};
+ghost use Rattle.seat_turns.specs.Worked.{HasWorked};
+
+use crate::processes::{coming_process, lowest_leaving};
+use crate::working::{leave, write_for_room};
+use call_laws::turns_are_legal;
+use disk_trait::Block;
+use vm_state::{Carrier, State};
+use vm_swapper::{Swap, SwapWhy, come_some, victim};
+use vm_types::{Proc, ProcStatus, Seat};
+
+/// The process that is chosen to leave, but not this one, turns to leaving. Returns whether there is one.
+pub(crate) fn turn_victim<B: Block>(state: &mut State<B>, seat: Seat, but: Option<Proc>) -> bool
+    requires free { IsFreeSeat state.old seat }
+    ensures worked { HasWorked B.seen B.tells state.old state.new seat (empty seat) }
+    ensures none { result ≡ false → state.new ≡ state.old }
+    ensures nobody { result ≡ false → victim_gives state.old.config state.old.past (pager state.old) (option_map process_number but) ≡ None }
+{
+    state.run_law();
+    turns_are_legal();
+    match victim(state, but) {
+        Some(q) => {
+            state.turn(seat, q, ProcStatus::Leaving);
+            true
+        }
+        None => false,
+    }
+}
+
+/// Works for a frame that a process needs: pages are written, or another process leaves. Returns whether
+/// there was anything to do.
+pub(crate) fn find_frame<B: Block>(
+    state: &mut State<B>,
+    seat: Seat,
+    p: Proc,
+    carrier: &mut Carrier<B>,
+) -> bool
+    requires free { IsFreeSeat state.old seat }
+    requires carrier { carrier.old ≡ empty seat }
+    ensures worked { HasWorked B.seen B.tells state.old state.new seat carrier.new }
+    ensures none { result ≡ false → (state.new ≡ state.old) × (carrier.new ≡ carrier.old) }
+{
+    if state.modified_len() > 0 {
+        return write_for_room(state, seat, carrier);
+    }
+    match lowest_leaving(state, Some(p)) {
+        Some(q) => leave(state, seat, q, carrier),
+        None => turn_victim(state, seat, Some(p)),
+    }
+}
+
+/// A process that is gone turns to coming; one that is coming already turns to leaving first, unless a
+/// transfer of its seat or for it is open. Returns whether one was turned.
+fn turn_gone<B: Block>(state: &mut State<B>, seat: Seat, p: Proc) -> bool
+    requires free { IsFreeSeat state.old seat }
+    requires process { p.0 < length state.old.config.procs }
+    requires gone { (pager state.old).status p.0 ≡ status.Gone }
+    ensures worked { HasWorked B.seen B.tells state.old state.new seat (empty seat) }
+    ensures none { result ≡ false → state.new ≡ state.old }
+{
+    state.run_law();
+    turns_are_legal();
+    match coming_process(state) {
+        Some(q) => {
+            if state.busy(Seat(q.0)) {
+                return false;
+            }
+            if state.has_come(q) {
+                return false;
+            }
+            state.turn(seat, q, ProcStatus::Leaving);
+            true
+        }
+        None => {
+            state.turn(seat, p, ProcStatus::Coming);
+            true
+        }
+    }
+}
+
+/// Does what a process that comes waits for, if there is anything to do. Returns whether there is.
+fn come_again<B: Block>(
+    state: &mut State<B>,
+    seat: Seat,
+    p: Proc,
+    why: SwapWhy,
+    carrier: &mut Carrier<B>,
+) -> bool
+    requires free { IsFreeSeat state.old seat }
+    requires carrier { carrier.old ≡ empty seat }
+    ensures worked { HasWorked B.seen B.tells state.old state.new seat carrier.new }
+    ensures none { result ≡ false → (state.new ≡ state.old) × (carrier.new ≡ carrier.old) }
+{
+    match why {
+        SwapWhy::NoFrame => find_frame(state, seat, p, carrier),
+        SwapWhy::InFlight => false,
+        SwapWhy::ModifiedFull => false,
+    }
+}
+
+/// A process that is coming comes on. Returns whether it could, or a frame was worked for.
+fn come<B: Block>(state: &mut State<B>, seat: Seat, p: Proc, carrier: &mut Carrier<B>) -> bool
+    requires free { IsFreeSeat state.old seat }
+    requires process { p.0 < length state.old.config.procs }
+    requires coming { (pager state.old).status p.0 ≡ status.Coming }
+    requires carrier { carrier.old ≡ empty seat }
+    ensures worked { HasWorked B.seen B.tells state.old state.new seat carrier.new }
+    ensures none { result ≡ false → (state.new ≡ state.old) × (carrier.new ≡ carrier.old) }
+{
+    match come_some(state, seat, p, carrier) {
+        Swap::Carry => true,
+        Swap::More => true,
+        Swap::Settled => true,
+        Swap::Again(why) => come_again(state, seat, p, why, carrier),
+        Swap::Room => unreachable!(),
+    }
+}
+
+/// Works for a process of the configuration that isn't resident, so that it will be: by its status.
+/// Returns whether there was anything to do.
+pub(crate) fn bring_back<B: Block>(
+    state: &mut State<B>,
+    seat: Seat,
+    p: Proc,
+    carrier: &mut Carrier<B>,
+) -> bool
+    requires free { IsFreeSeat state.old seat }
+    requires process { p.0 < length state.old.config.procs }
+    requires carrier { carrier.old ≡ empty seat }
+    ensures worked { HasWorked B.seen B.tells state.old state.new seat carrier.new }
+    ensures none { result ≡ false → (state.new ≡ state.old) × (carrier.new ≡ carrier.old) }
+{
+    match state.status(p) {
+        ProcStatus::Resident => false,
+        ProcStatus::Leaving => leave(state, seat, p, carrier),
+        ProcStatus::Gone => turn_gone(state, seat, p),
+        ProcStatus::Coming => come(state, seat, p, carrier),
+    }
+}

@@ -1,0 +1,12 @@
+use vm_types::{Config, PoolName};
+
+/// What a state stands on, which no call of it changes.
+#[derive(Drop)]
+pub struct StateBase {
+    /// Its configuration.
+    pub config: Config,
+    /// The name of the pool that its buffers are of.
+    pub pool: PoolName,
+    /// Whether its entries are kept.
+    pub keeps: bool,
+}
