@@ -50,6 +50,13 @@
     return { log: text };
   };
 
+  // What `check` says beside status 8, as the number of the log's line and the words about it; null where a text
+  // says nothing of the kind. The words begin with the line itself.
+  Player.readVerdict = function (text) {
+    const found = /\blog line ([1-9]\d*)(?: is missing)?: (.*\S)/.exec(text);
+    return found ? { line: Number(found[1]), text: found[2] } : null;
+  };
+
   function requestText(record) {
     if (record.kind === "SERVED") {
       return `${record.service} ${record.words}`;

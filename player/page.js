@@ -7,6 +7,7 @@
   let timer = 0;
   let example = "";
   let opening = [];
+  let verdict = null;
 
   function element(id) {
     return document.getElementById(id);
@@ -119,6 +120,8 @@
     stop();
     run = opened;
     example = "";
+    verdict = null;
+    element("said").value = "";
     opening = foreign ? [`This trace isn't this log's: ${foreign}. What is shown may be wrong; choose ` +
       "the trace that the log was made from."] : [];
     Player.clearViews();
@@ -177,7 +180,14 @@
         `${requests[process.answered]}.` : "";
   }
 
+  // What `check` says, at the line of which it says it; at the last one, if that line is missing.
+  function showVerdict(line) {
+    const here = verdict && line === Math.min(verdict.line, run.length);
+    element("verdict").textContent = here ? `check says of line ${verdict.line}: ${verdict.text}` : "";
+  }
+
   function showWords(line) {
+    showVerdict(line);
     if (line === 0) {
       element("text").textContent = "Before the first line";
       element("what").textContent = "All processes are resident with empty working sets, and all " +
@@ -282,6 +292,17 @@
     findLine(Player.nextAbout(run, at, word), `about "${word}"`);
   }
 
+  function showSaid() {
+    const found = Player.readVerdict(element("said").value);
+    if (!found || found.line > run.length + 1) {
+      showTrouble([found ? `This log has no line ${found.line}. Its lines are 1 to ${run.length}.`
+        : "Paste what check writes to standard error: a line that begins with \"neqysbar: log line\"."]);
+      return;
+    }
+    verdict = found;
+    show(found.line);
+  }
+
   const MOVES = { first: () => 0, back: () => run.at - 1, forward: () => run.at + 1,
     last: () => run.length };
   const KEYS = { ArrowLeft: "back", ArrowRight: "forward", Home: "first", End: "last" };
@@ -369,7 +390,8 @@
       show(MOVES[id]());
     }));
     element("play").addEventListener("click", playOrStop);
-    [["line-form", goToLine], ["fault-form", findFault], ["about-form", findAbout]]
+    [["line-form", goToLine], ["fault-form", findFault], ["about-form", findAbout],
+      ["said-form", showSaid]]
       .forEach(([id, action]) => element(id).addEventListener("submit", (event) => {
         event.preventDefault();
         stop();

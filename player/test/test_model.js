@@ -276,7 +276,20 @@ function testReasons() {
     "when the list has more pages than HILIMIT, 128, and goes on until it has at most LOLIMIT, 32."), true);
 }
 
+// What `check` says of a line of the log.
+function testVerdicts() {
+  const said = "81 A ZERO 00000400 F1: the frame doesn't head the free list; F0 does";
+  same("a verdict", Player.readVerdict(`LOG FAULT 81\nSTATUS 8\nneqysbar: log line 81: ${said}\n`),
+    { line: 81, text: said });
+  same("a missing line", Player.readVerdict(
+    "neqysbar: log line 6 is missing: the log is right as far as it goes"),
+    { line: 6, text: "the log is right as far as it goes" });
+  same("no verdict", Player.readVerdict("LOG OK 4\nSTATUS 0\n"), null);
+  same("no line", Player.readVerdict("neqysbar: log line 0: x"), null);
+}
+
 testReports();
+testVerdicts();
 testReasons();
 testExamples();
 testKinds();

@@ -146,6 +146,12 @@ def test_swap(page):
     page.browser.run("document.getElementById('fault-process').value = 'B'")
     page.browser.click("#fault-form button")
     page.same("first fault of B", page.browser.text("#text"), "11 B ZERO 00000000 F5")
+    said = "43 A OUT F5 X:B/0: the block has an open transfer"
+    find(page, "#said", f"neqysbar: log line 43: {said}", "#said-form button")
+    page.same("the line of which check speaks", page.browser.text("#text"), "43 A OUT F5 X:B/0")
+    page.same("what check says", page.browser.text("#verdict"), f"check says of line 43: {said}")
+    page.go(44)
+    page.same("it says it of that line alone", page.browser.text("#verdict"), "")
 
 
 def find(page, field, word, button):

@@ -63,7 +63,7 @@ read_told answer told whole left final read same kept few says =
 
 verdict_wrong : (verdict : Result Verdict CheckFault) → IsWrong (wrong_in_log verdict) (verdict_status verdict) (verdict_text verdict)
 verdict_wrong (Ok (Legal n)) = (λ e. omega (arith, e), λ e. omega (arith, e))
-verdict_wrong (Ok (Fault n)) = (refl, refl)
+verdict_wrong (Ok (Fault n reason)) = (refl, refl)
 verdict_wrong (Err TooMany) = (refl, refl)
 verdict_wrong (Err ReadFault) = (λ e. omega (arith, e), λ e. omega (arith, e))
 verdict_wrong (Err NoMemory) = (λ e. omega (arith, e), λ e. omega (arith, e))
@@ -72,17 +72,23 @@ verdict_wrong (Err NoMemory) = (λ e. omega (arith, e), λ e. omega (arith, e))
 some_is : {A : Type 0} (o : Option A) (x : A) (P : A → Type 0) → o ≡ Some x → IfSome o P → P x
 some_is o x P is holds = subst (λ (p : Option _). IfSome p P) is holds
 
-pub log_text : (config : Config) (verdict : Result Verdict CheckFault) (input left : Option (List ℕ)) (kept : List ℕ) → IfSome input (λ text. HeadAnswers (Ok config) text left)
-    → KeepsFault verdict left kept → KeepsText (Ok verdict) input kept
-log_text config (Ok (Legal n)) input left kept head keeps = tt
-log_text config (Ok (Fault n)) None left kept head keeps = tt
-log_text config (Ok (Fault n)) (Some text) left kept head keeps =
-    record { config = config; log = head.0; head = head.1; is = some_is left head.0 (λ log. kept ≡ line_text n log) head.2 keeps }
-log_text config (Err fault) input left kept head keeps = tt
+pub log_text : (config : Config) (verdict : Result Verdict CheckFault) (input left later : Option (List ℕ)) (kept : List ℕ) → IfSome input (λ text. HeadAnswers (Ok config) text left)
+    → IfSome left (λ log. Judges config verdict log later) → KeepsFault verdict left kept → KeepsText (Ok verdict) input kept
+log_text config (Ok (Legal n)) input left later kept head judges keeps = tt
+log_text config (Ok (Fault n reason)) None left later kept head judges keeps = tt
+log_text config (Ok (Fault n reason)) (Some text) left later kept head judges keeps =
+    record {
+      config = config;
+      log = head.0;
+      head = head.1;
+      is = some_is left head.0 (λ log. kept ≡ line_text n log) head.2 keeps;
+      why = (some_is left head.0 (λ log. Judges config (Ok (Fault n reason)) log later) head.2 judges).1;
+    }
+log_text config (Err fault) input left later kept head judges keeps = tt
 
 own_text : (verdict : Result Verdict CheckFault) (input : Option (List ℕ)) (kept : List ℕ) → KeepsText (Ok verdict) input kept → IsWrongText (wrong_in_log verdict) input kept
 own_text (Ok (Legal n)) input kept keeps = tt
-own_text (Ok (Fault n)) input kept keeps = keeps
+own_text (Ok (Fault n reason)) input kept keeps = keeps
 own_text (Err TooMany) input kept keeps = tt
 own_text (Err ReadFault) input kept keeps = tt
 own_text (Err NoMemory) input kept keeps = tt
@@ -103,7 +109,8 @@ module _ {before after : SourceView} where
       → CheckTells before after (verdict_status verdict) (verdict_text verdict)
   verdict_tells (Ok (Legal n)) says counts =
       answered _ _ counts (legal n (if_some _ _ before.left (λ text r. (record { config = r.says.config; log = r.says.log; head = r.says.head; said = r.says.said.0 }, at_end r.read after.left r.says.said.1)) says))
-  verdict_tells (Ok (Fault n)) says counts = answered _ _ counts (at_fault n (if_some _ _ before.left (λ text r. r.says) says))
+  verdict_tells (Ok (Fault n reason)) says counts =
+      answered _ _ counts (at_fault n (if_some _ _ before.left (λ text r. record { config = r.says.config; log = r.says.log; head = r.says.head; said = r.says.said.0 }) says))
   verdict_tells (Err TooMany) says counts = answered _ _ counts (too_long (if_some _ _ before.left (λ text r. r.says) says))
   verdict_tells (Err ReadFault) says counts = unread counts (if_some _ _ before.left (λ text r. record { read = r.read; few = r.few; says = inr r.says }) says)
   verdict_tells (Err NoMemory) says counts = no_memory counts

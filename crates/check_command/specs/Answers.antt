@@ -20,10 +20,10 @@ abbrev pub Says : Answer → List ℕ → Option (List ℕ) → Type 0
 Says (Ok verdict) text left = HasLog (λ config log. Judges config verdict log left) text
 Says (Err fault) text left = HeadAnswers (Err fault) text left
 
--- of the faulty line of the trace or the log, if the text is known, the first bytes were kept
+-- of the faulty line of the trace or the log, if the text is known, the first bytes were kept, and of a log it is said why
 abbrev pub KeepsText : Answer → Option (List ℕ) → List ℕ → Type 0
 KeepsText (Ok (Ok (Legal n))) input kept = Unit {0}
-KeepsText (Ok (Ok (Fault n))) input kept = IfSome input (λ text. IsLogText n text kept)
+KeepsText (Ok (Ok (Fault n reason))) input kept = IfSome input (λ text. IsLogText n reason text kept)
 KeepsText (Ok (Err fault)) input kept = Unit {0}
 KeepsText (Err fault) input kept = IsTextOf fault input kept
 

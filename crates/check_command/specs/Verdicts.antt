@@ -13,14 +13,14 @@ use Rattle.check_command.specs.CheckText.{legal_line}
 
 abbrev pub verdict_status : Result Verdict CheckFault → ℕ
 verdict_status (Ok (Legal entries)) = 0
-verdict_status (Ok (Fault number)) = 8
+verdict_status (Ok (Fault number reason)) = 8
 verdict_status (Err TooMany) = 2
 verdict_status (Err ReadFault) = 3
 verdict_status (Err NoMemory) = 7
 
 abbrev pub verdict_text : Result Verdict CheckFault → List ℕ
 verdict_text (Ok (Legal entries)) = legal_line entries ++ status_line 0
-verdict_text (Ok (Fault number)) = log_fault_text number ++ status_line 8
+verdict_text (Ok (Fault number reason)) = log_fault_text number ++ status_line 8
 verdict_text (Err TooMany) = log_too_long_text ++ status_line 2
 verdict_text (Err ReadFault) = status_line 3
 verdict_text (Err NoMemory) = status_line 7
@@ -28,7 +28,7 @@ verdict_text (Err NoMemory) = status_line 7
 -- what is wrong by the verdict
 abbrev pub wrong_in_log : Result Verdict CheckFault → Option Wrong
 wrong_in_log (Ok (Legal entries)) = None
-wrong_in_log (Ok (Fault number)) = Some (LogLine number)
+wrong_in_log (Ok (Fault number reason)) = Some (LogLine number reason)
 wrong_in_log (Err TooMany) = Some LogTooLong
 wrong_in_log (Err ReadFault) = None
 wrong_in_log (Err NoMemory) = None

@@ -15,12 +15,12 @@ use program_ends::{Status, Wrong, end_fault, end_with, wrong_of};
 use std::alloc::Global;
 
 // Writes the verdict, or why there is none, and the status.
-fn end_verdict<K: Sink>(verdict: Result<Verdict, CheckFault>, sink: &mut K) -> Status
-    ensures { Ends (K.seen sink.old) (K.seen sink.new) (verdict_status verdict) (verdict_text verdict) result.0 }
+fn end_verdict<K: Sink>(verdict: &Result<Verdict, CheckFault>, sink: &mut K) -> Status
+    ensures { Ends (K.seen sink.old) (K.seen sink.new) (verdict_status verdict.now) (verdict_text verdict.now) result.0 }
 {
     match verdict {
-        Ok(Verdict::Legal(entries)) => end_legal(entries, sink),
-        Ok(Verdict::Fault(number)) => end_at_fault(number, sink),
+        Ok(Verdict::Legal(entries)) => end_legal(*entries, sink),
+        Ok(Verdict::Fault(number, _)) => end_at_fault(*number, sink),
         Err(CheckFault::TooMany) => end_too_long(sink),
         Err(CheckFault::ReadFault) => end_with(3, sink),
         Err(CheckFault::NoMemory) => end_with(7, sink),
@@ -28,12 +28,12 @@ fn end_verdict<K: Sink>(verdict: Result<Verdict, CheckFault>, sink: &mut K) -> S
 }
 
 // What is wrong with the log by its verdict.
-fn wrong_in_log(verdict: &Result<Verdict, CheckFault>) -> Option<Wrong>
-    ensures { result ≡ wrong_in_log verdict.now }
+fn wrong_in_log(verdict: Result<Verdict, CheckFault>) -> Option<Wrong>
+    ensures { result ≡ wrong_in_log verdict }
 {
     match verdict {
         Ok(Verdict::Legal(_)) => None,
-        Ok(Verdict::Fault(number)) => Some(Wrong::LogLine(*number)),
+        Ok(Verdict::Fault(number, reason)) => Some(Wrong::LogLine(number, reason)),
         Err(CheckFault::TooMany) => Some(Wrong::LogTooLong),
         Err(CheckFault::ReadFault) => None,
         Err(CheckFault::NoMemory) => None,
@@ -54,8 +54,8 @@ fn conclude<S: Source, K: Sink>(
 {
     match judge_source(alloc, source, kept) {
         Ok(verdict) => {
-            let wrong = wrong_in_log(&verdict);
-            (end_verdict(verdict, sink), wrong)
+            let status = end_verdict(&verdict, sink);
+            (status, wrong_in_log(verdict))
         }
         Err(fault) => (end_fault(fault, sink), wrong_of(fault)),
     }

@@ -7,10 +7,11 @@ use Rattle.outside_io.specs.Causes.{Rose}
 use Rattle.outside_io.specs.Views.{SinkView}
 use Rattle.trace_words.specs.declared.cause.Cause.{Cause}
 use Rattle.trace_words.specs.declared.cause.Cause.TheVariants.{LineTooLong, NotAscii, TooMany, UnknownWord, Misplaced, NoSuch, BadNumber, OutOfRange, Unaligned, Repeated}
+use Rattle.log_messages.specs.LogMessage.{log_message}
+use Rattle.log_messages.specs.Shown.{shown}
 use Rattle.program_ends.specs.declared.wrong.Wrong.{Wrong}
 use Rattle.program_ends.specs.declared.wrong.Wrong.TheVariants.{Line, Unfinished, LogTooLong, LogLine}
 use Rattle.command_messages.specs.LineFaults.{line_fault_text}
-use Rattle.command_messages.specs.Shown.{shown}
 use Rattle.command_messages.specs.declared.faults.LineFault.{LineFault}
 
 -- beside status 1
@@ -67,11 +68,6 @@ abbrev pub fault_message : ℕ → Cause → List ℕ → List ℕ
 fault_message number cause text =
     codes "neqysbar: line " ++ decimal number ++ codes ": " ++ reason_text number cause text ++ codes ": " ++ flat_map shown text ++ codes "\n"
 
--- beside a log that isn't legal: the number of its faulty line and its first bytes
-abbrev pub log_message : ℕ → List ℕ → List ℕ
-log_message number text =
-    codes "neqysbar: line " ++ decimal number ++ codes " of the log isn't a legal next line, or is missing: " ++ flat_map shown text ++ codes "\n"
-
 -- beside a log that goes on after as many lines as a log may have
 abbrev pub too_long_message : List ℕ
 too_long_message = codes "neqysbar: the log has more lines than a log may have\n"
@@ -85,7 +81,7 @@ abbrev pub wrong_message : Wrong → List ℕ → List ℕ
 wrong_message (Line number cause) text = fault_message number cause text
 wrong_message Unfinished text = unfinished_message
 wrong_message LogTooLong text = too_long_message
-wrong_message (LogLine number) text = log_message number text
+wrong_message (LogLine number reason) text = log_message number reason text
 
 -- beside status 1: what is wrong with the command line, if that is handed on, and usage
 abbrev pub usage_message : LineFault → List ℕ → List ℕ

@@ -1,19 +1,18 @@
 //! What is said beside the output.
 
-ghost use Rattle.std.specs.Prelude.{◌≡◌, ◌+◌, ◌*◌, ◌≤◌, ◌++◌, length, true, None};
-ghost use Rattle.std.specs.List.{flat_map};
+ghost use Rattle.std.specs.Prelude.{◌≡◌, ◌+◌, ◌≤◌, ◌++◌, length, true, None};
 ghost use Rattle.arrayvec.specs.ArrayVec.{array_vec_len};
 ghost use Rattle.command_messages.specs.LineFaults.{range_text, said_text, takes_text};
-ghost use Rattle.command_messages.specs.Messages.{IsSaid, begins, fault_message, first_reason, is_dump, is_log, is_marked, is_wide, line_message, log_message, message_of, reason_text, rule_text, status_message, usage_message, usage_text, wrong_message};
-ghost use Rattle.command_messages.specs.Shown.{shown};
+ghost use Rattle.command_messages.specs.Messages.{IsSaid, begins, fault_message, first_reason, is_dump, is_log, is_marked, is_wide, line_message, message_of, reason_text, rule_text, status_message, usage_message, usage_text, wrong_message};
 
 use crate::faults::{CommandName, LineFault, LineOption};
 use crate::line::option_word;
 use arrayvec::ArrayVec;
+use log_messages::{log_message, push_shown};
 use outside_io::{Sink, write_whole};
 use program_ends::Wrong;
 use trace_reader::Cause;
-use vm_text::{after, push_count, push_hex, push_word};
+use vm_text::{after, push_count, push_word};
 
 const USAGE: &[u8] =
     b"neqysbar 1.0.0\nusage: neqysbar serial < TRACE\n           reads a trace and runs it; writes each entry, a report, the pages left dirty and the status\n       neqysbar study --process X --frames K < TRACE\n           reads a trace; writes what the references of process X, A to P, cost with K page frames, 1 to 1024\n       neqysbar make --seed N --procs P --refs R\n           reads nothing; makes a trace from the seed N, 0 to 4294967295, with P processes, 1 to 16, and R\n           references, 1 to 100000, and runs it; writes how many entries of each kind the run has\n       neqysbar check < TRACE-AND-LOG\n           reads a trace, a line LOG and a log; writes whether the log is legal, or its first line that isn't\nexample: neqysbar study --process A --frames 8 < examples/swapping.trace\n";
@@ -99,33 +98,6 @@ fn reason_of(number: u32, cause: Cause, text: &[u8]) -> &'static [u8]
     }
 }
 
-// Adds a byte as it is shown.
-fn add_byte<const CAP: usize>(out: &mut ArrayVec<u8, CAP>, byte: u8)
-    requires { array_vec_len out.old + 4 ≤ CAP }
-    ensures items { out.new.items ≡ out.old.items ++ shown byte }
-    ensures len { array_vec_len out.new ≤ array_vec_len out.old + 4 }
-{
-    if (32..=126).contains(&byte) {
-        out.push(byte);
-    } else if byte == 9 {
-        out.push(b' ');
-    } else if byte != 13 {
-        push_word(out, b"\\x");
-        push_hex(out, u32::from(byte), 2);
-    }
-}
-
-// Adds the bytes as they are shown.
-fn add_shown<const CAP: usize>(out: &mut ArrayVec<u8, CAP>, bytes: &[u8])
-    requires { array_vec_len out.old + 4 * length bytes.now ≤ CAP }
-    ensures items { out.new.items ≡ out.old.items ++ flat_map shown bytes.now }
-    ensures len { array_vec_len out.new ≤ array_vec_len out.old + 4 * length bytes.now }
-{
-    for byte in bytes {
-        add_byte(out, *byte);
-    }
-}
-
 // The message about a faulty line with these first bytes.
 fn fault_message(number: u32, cause: Cause, text: &ArrayVec<u8, 80>) -> ArrayVec<u8, 512>
     ensures { result.items ≡ fault_message number cause text.now.items }
@@ -136,23 +108,7 @@ fn fault_message(number: u32, cause: Cause, text: &ArrayVec<u8, 80>) -> ArrayVec
     push_word(&mut out, b": ");
     push_word(&mut out, reason_of(number, cause, text.as_slice()));
     push_word(&mut out, b": ");
-    add_shown(&mut out, text.as_slice());
-    push_word(&mut out, b"\n");
-    out
-}
-
-// The message about a line of a log with these first bytes.
-fn log_message(number: u32, text: &ArrayVec<u8, 80>) -> ArrayVec<u8, 512>
-    ensures { result.items ≡ log_message number text.now.items }
-{
-    let mut out = ArrayVec::new();
-    push_word(&mut out, b"neqysbar: line ");
-    push_count(&mut out, number);
-    push_word(
-        &mut out,
-        b" of the log isn't a legal next line, or is missing: ",
-    );
-    add_shown(&mut out, text.as_slice());
+    push_shown(&mut out, text.as_slice());
     push_word(&mut out, b"\n");
     out
 }
@@ -198,7 +154,7 @@ fn add_said(out: &mut ArrayVec<u8, 1280>, fault: LineFault, text: &ArrayVec<u8, 
         LineFault::NoCommand => push_word(out, b"no command"),
         LineFault::NoSuchCommand => {
             push_word(out, b"no such command: ");
-            add_shown(out, text.as_slice());
+            push_shown(out, text.as_slice());
         }
         LineFault::Missing(option) => {
             push_word(out, option_word(option));
@@ -247,7 +203,7 @@ fn explain_wrong<M: Sink>(wrong: Wrong, text: &ArrayVec<u8, 80>, messages: &mut 
         }
         Wrong::Unfinished => say(UNFINISHED, messages),
         Wrong::LogTooLong => say(TOO_LONG, messages),
-        Wrong::LogLine(number) => say(log_message(number, text).as_slice(), messages),
+        Wrong::LogLine(number, why) => { say(log_message(number, &why, text).as_slice(), messages) }
     }
 }
 

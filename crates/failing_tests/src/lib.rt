@@ -1,9 +1,7 @@
-//! Tests of runs at their limits: what is said when a block, an end or a making fails, and the greatest
+//! Tests of runs at their limits: what is said when an end or a making fails, and the greatest
 //! sizes. The contracts are proved where the calls stand; the tests show what no clause says.
 #![tactic(auto)]
 
-#[cfg(test)]
-mod failing_blocks;
 #[cfg(test)]
 mod failing_ends;
 #[cfg(test)]

@@ -9,13 +9,17 @@ use Rattle.line_source.specs.HandedOut.{Gives, HandsOut, Takes}
 use Rattle.pager_model.specs.Text.{ended}
 use Rattle.log_model.specs.Log.{BeginsLegal, IsAtFault, IsTooLong, most_lines}
 use Rattle.log_laws.specs.Laws.{LegalLinesAreShort}
+use Rattle.log_reasons.specs.LineReasons.{IsWhy}
+use Rattle.log_reasons.specs.declared.line_reason.LineReason.{LineReason}
+use Rattle.log_reasons.specs.declared.line_reason.LineReason.TheVariants as why
 use Rattle.log_check.specs.declared.followed.Followed.{Followed}
 use Rattle.log_check.specs.declared.place.Place.{Place}
 use Rattle.log_check.specs.declared.verdict.Verdict.{Verdict}
 use Rattle.log_check.specs.Judged.{IsCutShort, Judges}
 use Rattle.log_check.specs.Leading.{Leads}
 use Rattle.log_check.specs.Reading.{HasRead, IsEndOf}
-use Rattle.log_check.proofs.Read.{longer_not_empty, not_empty, read_cut, read_end, read_fault, read_long, read_on, read_unended, takes_of}
+use Rattle.log_check.specs.Refusing.{FailsAt}
+use Rattle.log_check.proofs.Read.{fault_why, long_why, longer_not_empty, not_empty, read_cut, read_end, read_fault, read_long, read_on, read_unended, takes_of, unended_why}
 
 abbrev Took : Option (List ℕ) → Line → List ℕ → Option (List ℕ) → Type 0
 Took left line out later = IfSome left (λ bytes. Takes (Ok line) bytes out later)
@@ -44,13 +48,17 @@ module _ (text : List ℕ) (old : Followed) (place : Place) (count : ℕ) (left 
       (read_on text old.past place count left read old new next out taken.rest refl here taken.parts)
 
   -- it doesn't
-  pub told_fault : (line : Line) (b : Bool) (new : Followed) (slice : List ℕ) (o : Option Place) → count < most_lines → line ≡ Text b → b ≡ true → HandsOut line out → Took left line out later → slice ≡ out → o ≡ None → Leads old place slice new o → IsAtFault old.past.config text (count + 1)
-  told_fault line b new slice o few is told gives takes same none leads =
+  pub told_fault : (line : Line) (b : Bool) (new : Followed) (slice : List ℕ) (o : Option Place) (reason : LineReason) → count < most_lines → line ≡ Text b → b ≡ true → HandsOut line out → Took left line out later → slice ≡ out → o ≡ None → Leads old place slice new o
+      → FailsAt old.past place slice reason → IsAtFault old.past.config text (count + 1) × IsWhy old.past.config text (count + 1) reason
+  told_fault line b new slice o reason few is told gives takes same none leads fails =
       let a = a_text line b true is told in
       let taken = taken_line line (Text true) a takes in
       let given : HandsOut (Text true) out = given_line line (Text true) a gives in
-      let here : Leads old place out new None = led slice o None new same none leads in
-      read_fault text old.past place count left read out taken.rest few given.0 (λ after next. here read.stand after read.stands next) taken.parts
+      let here : Leads old place out new None = led slice o None new same none leads in (
+        read_fault text old.past place count left read out taken.rest few given.0 (λ after next. here read.stand after read.stands next) taken.parts,
+        fault_why text old.past place count left read reason out taken.rest (subst (λ (xs : List ℕ). FailsAt old.past place xs reason) same fails read.stand read.stands)
+            (taken.parts ∙ sym (append_assoc out (10 ∷ []) taken.rest)),
+      )
 
   -- memory ran out at it
   pub told_short : (line : Line) (b : Bool) → count < most_lines → line ≡ Text b → b ≡ true → HandsOut line out → Took left line out later → IsCutShort old.past.config text later
@@ -64,19 +72,21 @@ module _ (text : List ℕ) (old : Followed) (place : Place) (count : ℕ) (left 
       (taken.parts ∙ sym (append_assoc out (10 ∷ []) taken.rest)) taken.left_over
 
   -- the last line isn't ended
-  pub told_unended : (line : Line) (b : Bool) → count < most_lines → line ≡ Text b → b ≡ false → HandsOut line out → Took left line out later → IsAtFault old.past.config text (count + 1)
+  pub told_unended : (line : Line) (b : Bool) → count < most_lines → line ≡ Text b → b ≡ false → HandsOut line out → Took left line out later → IsAtFault old.past.config text (count + 1) × IsWhy old.past.config text (count + 1) why.NotEnded
   told_unended line b few is told gives takes =
       let a = a_text line b false is told in
       let taken = taken_line line (Text false) a takes in
       let given : HandsOut (Text false) out = given_line line (Text false) a gives in
-      read_unended text old.past place count left read out few given.0 given.2 taken.parts.0
+      (read_unended text old.past place count left read out few given.0 given.2 taken.parts.0, unended_why text old.past place count left read out given.0 given.2 taken.parts.0)
 
   -- the line is too long
-  pub told_long : (line : Line) → LegalLinesAreShort → IsWellFormed old.past.config → count < most_lines → line ≡ Long → HandsOut line out → Took left line out later → IsAtFault old.past.config text (count + 1)
+  pub told_long : (line : Line) → LegalLinesAreShort → IsWellFormed old.past.config → count < most_lines → line ≡ Long → HandsOut line out → Took left line out later → IsAtFault old.past.config text (count + 1) × IsWhy old.past.config text (count + 1) why.TooLong
   told_long line short formed few is gives takes =
       let taken = taken_line line Long is takes in
-      let given : HandsOut Long out = given_line line Long is gives in
-      read_long text old.past place count left read out taken.rest short formed few given.0 given.1 taken.parts
+      let given : HandsOut Long out = given_line line Long is gives in (
+        read_long text old.past place count left read out taken.rest short formed few given.0 given.1 taken.parts,
+        long_why text old.past place count left read out taken.rest given.0 given.1 taken.parts,
+      )
 
   -- the log ends
   pub told_end : (line : Line) (v : Verdict) → count ≤ most_lines → line ≡ End → Took left line out later → IsEndOf place count v → Judges old.past.config (Ok v) text later

@@ -1,7 +1,8 @@
 -- The first line of a text, and an entry's line.
-use Rattle.std.proofs.Common.{◌≡◌, ◌≢◌, ℕ, ◌<◌, ◌≤◌, List, [], ◌∷◌, ◌++◌, All, get_or, length, decimal, refl, sym, ap, ◌∙◌, append_assoc, arith}
+use Rattle.std.proofs.Common.{◌≡◌, ◌≢◌, ℕ, ◌<◌, ◌≤◌, List, [], ◌∷◌, ◌++◌, All, eqb, get_or, length, decimal, refl, sym, ap, ◌∙◌, append_assoc, arith, ne_eqb, slice_index_or}
 use Rattle.std.proofs.lemmas.Fmt.{decimal_nonempty}
 use Rattle.std.proofs.lemmas.List.{get_or_append_left}
+use Rattle.std.proofs.lemmas.List.Splits.{slice_split_none}
 use Rattle.vm_types.specs.Configuration.{IsWellFormed}
 use Rattle.vm_types.specs.declared.config.Config.{Config}
 use Rattle.vm_types.specs.declared.names.Page.{Page}
@@ -12,6 +13,8 @@ use Rattle.vm_journal.specs.declared.entry.Entry.{Entry}
 use Rattle.vm_journal.specs.HasLine.{IsEntryNumber}
 use Rattle.vm_journal.specs.Line.{entry_words}
 use Rattle.line_reader.proofs.OneToOne.{line_same}
+use Rattle.line_source.specs.LineText.{lines_of}
+use Rattle.line_source.proofs.Fronts.{line_first}
 use Rattle.pager_model.specs.Run.{pager_after}
 use Rattle.pager_model.specs.Text.{dirty_lines, dirty_pages, ended, status_line}
 use Rattle.log_model.specs.NextLine.{IsFirstLine}
@@ -58,3 +61,11 @@ pub no_ending : (config : Config) (past : List Entry) (number : ℕ) (e : Entry)
 no_ending config past number e line small its begins =
     let digit = entry_digit config number e (ending_after config past) line small its begins in
     omega (arith, ending_letter config past)
+
+-- ---- what stands before the first byte 10
+pub whole_first : (text : List ℕ) → All (λ b. b ≢ 10) text → text ≡ slice_index_or (lines_of text) 0 []
+whole_first text plain =
+    sym (ap (λ (lines : List (List ℕ)). slice_index_or lines 0 []) (slice_split_none (λ b. eqb b 10) text (λ k d within. ne_eqb _ _ (plain k d within))))
+
+pub cut_first : (text line back : List ℕ) → All (λ b. b ≢ 10) line → text ≡ line ++ 10 ∷ back → line ≡ slice_index_or (lines_of text) 0 []
+cut_first text line back plain is = sym (ap (λ (lines : List (List ℕ)). slice_index_or lines 0 []) (ap lines_of is ∙ line_first line back plain))

@@ -48,11 +48,11 @@ end_front text out (Ending n (b ∷ left)) lines v is front = subst (λ (w : Ver
 -- what was kept of it
 kept_of : (text out kept : List ℕ) (v : Verdict) → kept ≡ take 80 out → IsFrontOf text out v → KeepsFault (Ok v) (Some text) kept
 kept_of text out kept (Legal n) same front = tt
-kept_of text out kept (Fault n) same front = same ∙ front
+kept_of text out kept (Fault n reason) same front = same ∙ front
 
 none_kept : (v : Verdict) (kept : List ℕ) → KeepsFault (Ok v) None kept
 none_kept (Legal n) kept = tt
-none_kept (Fault n) kept = tt
+none_kept (Fault n reason) kept = tt
 
 pub next_kept : (told left later : Option (List ℕ)) (count : ℕ) (out kept : List ℕ) (step : Step) (v : Verdict) → IfSome told (λ text. IsBehind text count left)
     → ((text : List ℕ) → IsBehind text count left → IsFrontNext text count later out (Ok step)) → step ≡ Judged v → kept ≡ take 80 out → KeepsFault (Ok v) told kept

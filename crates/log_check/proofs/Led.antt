@@ -1,5 +1,5 @@
 -- What a line leads to, by the place behind the lines before it.
-use Rattle.std.proofs.Common.{◌≡◌, ◌≢◌, inl, inr, ℕ, ◌+◌, ◌<◌, ◌^◌, Bool, false, List, [], ◌∷◌, ◌++◌, All, Option, Some, None, length, refl, sym, ap, ◌∙◌, subst, arith}
+use Rattle.std.proofs.Common.{◌≡◌, ◌≢◌, inl, inr, ℕ, ◌+◌, ◌<◌, ◌^◌, List, [], ◌∷◌, ◌++◌, All, Option, Some, None, length, refl, sym, ap, ◌∙◌, subst, arith}
 use Rattle.std.specs.Option.{IsSome}
 use Rattle.std.proofs.lemmas.Bool.{false≢true}
 use Rattle.vm_types.specs.declared.config.Config.{Config}
@@ -18,8 +18,9 @@ use Rattle.serial_laws.specs.Between.{IsBetween}
 use Rattle.log_check.specs.declared.followed.Followed.{Followed}
 use Rattle.log_check.specs.declared.place.Place.{Place}
 use Rattle.log_check.specs.declared.place.Place.TheVariants.{Ending, Entries, Report, Rundown}
-use Rattle.log_check.specs.EntryLine.{IsItsLine}
-use Rattle.log_check.specs.Followed.{HasEntered, IsEntered, IsFollowed, MayEnter}
+use Rattle.log_reasons.specs.declared.line_reason.LineReason.{LineReason}
+use Rattle.log_check.specs.EntryLine.{IsItsLine, IsNoEntry}
+use Rattle.log_check.specs.Followed.{HasEntered, IsFollowed, MayEnter}
 use Rattle.log_check.specs.Leading.{EndingLeads, EndingTextLeads, HasStepped, IsReported, IsUnderway, Leads, ReportLeads, RundownLeads, StandsAt, TextLeads}
 use Rattle.log_check.proofs.FirstLines.{first_of, no_ending, no_report, one_entry}
 use Rattle.log_check.proofs.Silent.{silent_order, silent_shows, step_silent}
@@ -49,6 +50,11 @@ module _ (old : Followed) (followed : IsFollowed old) (line : List ℕ) (plain :
   none_here found count found_is count_is none e its =
       none e (subst (λ (k : Config). IsItsLine k (count + 1) line e) (sym found_is) (subst (λ (n : ℕ). IsItsLine config (n + 1) line e) (sym count_is) its))
 
+  -- why it is none of the next number
+  pub not_entry_here : (found : Config) (count : ℕ) (reason : LineReason) → found ≡ config → count ≡ length past → IsNoEntry found (count + 1) line reason → IsNoEntry config (length past + 1) line reason
+  not_entry_here found count reason found_is count_is none =
+      subst (λ (k : Config). IsNoEntry k (length past + 1) line reason) found_is (subst (λ (n : ℕ). IsNoEntry found (n + 1) line reason) count_is none)
+
   -- ---- behind entries
   pub entered_leads : (e : Entry) (new : Followed) → IsItsLine config (length past + 1) line e → HasEntered old e new → Leads old Entries line new (Some Entries)
   entered_leads e new its entered = record {
@@ -74,9 +80,6 @@ module _ (old : Followed) (followed : IsFollowed old) (line : List ℕ) (plain :
       by : IsNext config (in_entries past) line after → ⊥
       by (inl one) = refused (may_enter e one.0 its one.1)
       by (inr two) = no_report config past (length past + 1) e line small its (two.0, two.1.text.whole)
-
-  pub unentered_leads : (e : Entry) (new : Followed) (entered : Bool) → IsItsLine config (length past + 1) line e → IsEntered old e new entered → entered ≡ false → Leads old Entries line new None
-  unentered_leads e new entered its is false_is = refused_leads e new its (subst (λ (b : Bool). IsEntered old e new b) false_is is)
 
   unreported_leads : ((e : Entry) → IsItsLine config (length past + 1) line e → ⊥) → ReportLeads old.past line None → Leads old Entries line old None
   unreported_leads none not stand after at next = by (subst (λ (s : Stand). IsNext config s line after) at next)

@@ -7,5 +7,6 @@ mod Led
 mod Logs
 mod Numbered
 mod Read
+mod Refused
 mod Silent
 mod TextFronts

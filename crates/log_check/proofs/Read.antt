@@ -12,6 +12,9 @@ use Rattle.log_past.specs.Standing.{Passed}
 use Rattle.log_model.specs.Log.{BeginsLegal, HasNoNext, IsAtFault, most_lines, text_of}
 use Rattle.log_model.specs.NextLine.{IsFirstLine, IsNext}
 use Rattle.log_model.specs.Stand.{Stand, in_ending, in_entries, in_report, in_rundown}
+use Rattle.log_reasons.specs.LineReasons.{IsWhy, LeftFails, LineFails}
+use Rattle.log_reasons.specs.declared.line_reason.LineReason.{LineReason}
+use Rattle.log_reasons.specs.declared.line_reason.LineReason.TheVariants as why
 use Rattle.log_laws.specs.Laws.{LegalLinesAreShort}
 use Rattle.log_laws.proofs.Texts.{one_line, plain_line}
 use Rattle.log_check.specs.declared.followed.Followed.{Followed}
@@ -81,6 +84,19 @@ few_or_all count left few none (inr not) = inr (omega (arith, not, few), none)
 pub takes_of : {X : Type 0} (o : Option X) (x : X) (P : X → Type 0) → o ≡ Some x → IfSome o P → P x
 takes_of o x P is holds = subst (λ (p : Option _). IfSome p P) is holds
 
+-- a whole line isn't a legal next one
+left_fails : (config : Config) (stand : Stand) (left line rest : List ℕ) (reason : LineReason) → left ≡ ended line ++ rest → LineFails config stand line reason → LeftFails config stand left reason
+left_fails config stand left line rest (why.NotLegal reason) is fails = (line, rest, is, fails)
+left_fails config stand left line rest why.OutOfOrder is fails = (line, rest, is, fails)
+left_fails config stand left line rest (why.WrongReply right) is fails = (line, rest, is, fails)
+left_fails config stand left line rest why.NoEntry is fails = (line, rest, is, fails)
+left_fails config stand left line rest (why.NotNextNumber n) is fails = (line, rest, is, fails)
+left_fails config stand left line rest (why.NotInText right) is fails = (line, rest, is, fails)
+left_fails config stand left line rest why.NotOfRundown is fails = (line, rest, is, fails)
+left_fails config stand left line rest why.Ended is fails = absurd fails.2
+left_fails config stand left line rest why.NotEnded is fails = absurd fails.2
+left_fails config stand left line rest why.TooLong is fails = absurd fails.2
+
 module _ (text : List ℕ) (s : Passed) (place : Place) (count : ℕ) (left : Option (List ℕ)) (read : HasRead text s place count left) where
   abbrev config : Config
   config = s.config
@@ -97,6 +113,10 @@ module _ (text : List ℕ) (s : Passed) (place : Place) (count : ℕ) (left : Op
     unfinished = λ n is. some;
     none = none;
   }
+
+  -- and this is why
+  is_why : (reason : LineReason) → LeftFails config read.stand read.rest reason → IsWhy config text (count + 1) reason
+  is_why reason fails = record { count = count; stand = read.stand; left = read.rest; legal = read.legal; follows = refl; fails = fails }
 
   -- a line was taken, and leads on
   pub read_on : (old new : Followed) (next : Place) (out rest : List ℕ) → old.past ≡ s → LeadsTo old place out new next → read.rest ≡ out ++ 10 ∷ rest → HasRead text new.past next (count + 1) (Some rest)
@@ -118,12 +138,21 @@ module _ (text : List ℕ) (s : Passed) (place : Place) (count : ℕ) (left : Op
       at_fault few (not_empty read.rest out rest is)
       (λ line left after first next. not after (subst (λ (xs : List ℕ). IsNext config read.stand xs after) (one_first read.rest out rest line left plain is first) next))
 
+  pub fault_why : (reason : LineReason) (out rest : List ℕ) → LineFails config read.stand out reason → read.rest ≡ ended out ++ rest → IsWhy config text (count + 1) reason
+  fault_why reason out rest fails is = is_why reason (left_fails config read.stand read.rest out rest reason is fails)
+
   -- the last line isn't ended
+  pub unended_why : (out : List ℕ) → IsInLine out → out ≢ [] → read.rest ≡ out → IsWhy config text (count + 1) why.NotEnded
+  unended_why out plain some is = is_why why.NotEnded ((λ none. some (sym is ∙ none)), subst IsInLine (sym is) plain)
+
   pub read_unended : (out : List ℕ) → count < most_lines → IsInLine out → out ≢ [] → read.rest ≡ out → IsAtFault config text (count + 1)
   read_unended out few plain some is =
       at_fault few (λ none. some (sym is ∙ none)) (λ line left after first next. none_unended read.rest line left (subst IsInLine (sym is) plain) first)
 
   -- the line is too long
+  pub long_why : (out rest : List ℕ) → IsInLine out → length out ≡ 256 → read.rest ≡ out ++ rest → IsWhy config text (count + 1) why.TooLong
+  long_why out rest plain long is = is_why why.TooLong (out, rest, is, plain, omega (arith, long))
+
   pub read_long : (out rest : List ℕ) → LegalLinesAreShort → IsWellFormed config → count < most_lines → IsInLine out → length out ≡ 256 → read.rest ≡ out ++ rest → IsAtFault config text (count + 1)
   read_long out rest short formed few plain long is =
       at_fault few (longer_not_empty read.rest out rest long is)
@@ -133,7 +162,7 @@ module _ (text : List ℕ) (s : Passed) (place : Place) (count : ℕ) (left : Op
       no_line_in out rest line left (as_plain out plain) (omega (arith, most, long)) (sym is ∙ joined read.rest line left first))
 
   -- the log ends
-  unfinished_at : (p : Place) (v : Verdict) (t : Stand) → StandsAt s p t → IsEndOf p count v → ((n : ℕ) × (t ≡ in_ending n []) × (v ≡ Legal n)) ⊎ (((n : ℕ) → t ≡ in_ending n [] → ⊥) × (v ≡ Fault (count + 1)))
+  unfinished_at : (p : Place) (v : Verdict) (t : Stand) → StandsAt s p t → IsEndOf p count v → ((n : ℕ) × (t ≡ in_ending n []) × (v ≡ Legal n)) ⊎ (((n : ℕ) → t ≡ in_ending n [] → ⊥) × (v ≡ Fault (count + 1) why.Ended))
   unfinished_at Entries v t at is = inr (λ n ends. (let no : in_entries s.past ≡ in_ending n [] = sym at ∙ ends in cc), is)
   unfinished_at (Report left) v t at is = inr (λ n ends. (let no : in_report s.past left ≡ in_ending n [] = sym at.1 ∙ ends in cc), is)
   unfinished_at (Rundown u) v t at is = inr (λ n ends. (let no : in_rundown at.0 at.1 ≡ in_ending n [] = sym at.3 ∙ ends in cc), is)
@@ -146,22 +175,24 @@ module _ (text : List ℕ) (s : Passed) (place : Place) (count : ℕ) (left : Op
       empty : BeginsLegal config text count read.stand []
       empty = subst (λ (xs : List ℕ). BeginsLegal config text count read.stand xs) is read.legal
 
-      by : ((n : ℕ) × (read.stand ≡ in_ending n []) × (v ≡ Legal n)) ⊎ (((n : ℕ) → read.stand ≡ in_ending n [] → ⊥) × (v ≡ Fault (count + 1))) → Judges config (Ok v) text later
+      by : ((n : ℕ) × (read.stand ≡ in_ending n []) × (v ≡ Legal n)) ⊎ (((n : ℕ) → read.stand ≡ in_ending n [] → ⊥) × (v ≡ Fault (count + 1) why.Ended)) → Judges config (Ok v) text later
       by (inl whole) =
           subst (λ (w : Verdict). Judges config (Ok w) text later) (sym whole.2)
           (record { count = count; few = few; legal = subst (λ (t : Stand). BeginsLegal config text count t []) whole.1 empty }, none)
       by (inr cut) =
-          subst (λ (w : Verdict). Judges config (Ok w) text later) (sym cut.1)
-          (record {
-            count = count;
-            stand = read.stand;
-            left = [];
-            legal = empty;
-            follows = refl;
-            few = few_or_all count [] few refl (cases_lt count most_lines);
-            unfinished = λ n stands left. cut.0 n stands;
-            none = λ line left after first next. none_unended [] line left (All-nil _) first;
-          })
+          subst (λ (w : Verdict). Judges config (Ok w) text later) (sym cut.1) (
+            record {
+              count = count;
+              stand = read.stand;
+              left = [];
+              legal = empty;
+              follows = refl;
+              few = few_or_all count [] few refl (cases_lt count most_lines);
+              unfinished = λ n stands left. cut.0 n stands;
+              none = λ line left after first next. none_unended [] line left (All-nil _) first;
+            },
+            record { count = count; stand = read.stand; left = []; legal = empty; follows = refl; fails = refl },
+          )
 
   -- the lines can't be read further
   pub read_cut : (rest taken : List ℕ) (later : Option (List ℕ)) → count ≤ most_lines → IsPart taken → read.rest ≡ taken ++ rest → later ≡ Some rest → IsCutShort config text later

@@ -6,6 +6,7 @@ use Rattle.line_source.specs.LineText.{line_text}
 use Rattle.pager_model.specs.Text.{ended}
 use Rattle.log_model.specs.Log.{BeginsLegal, IsAtFault, IsLegalLog, IsTooLong, most_lines}
 use Rattle.log_model.specs.Stand.{Stand}
+use Rattle.log_reasons.specs.LineReasons.{IsWhy}
 use Rattle.log_check.specs.declared.check_fault.CheckFault.{CheckFault}
 use Rattle.log_check.specs.declared.check_fault.CheckFault.TheVariants.{NoMemory, ReadFault, TooMany}
 use Rattle.log_check.specs.declared.verdict.Verdict.{Verdict}
@@ -32,7 +33,7 @@ pub record IsCutShort (config : Config) (text : List ℕ) (left : Option (List �
 -- what the verdict says of the whole text, and of what is left of it
 abbrev pub Judges : Config → Result Verdict CheckFault → List ℕ → Option (List ℕ) → Type 0
 Judges config (Ok (Legal n)) text left = IsLegalLog config text n × (left ≡ Some [])
-Judges config (Ok (Fault n)) text left = IsAtFault config text n
+Judges config (Ok (Fault n reason)) text left = IsAtFault config text n × IsWhy config text n reason
 Judges config (Err TooMany) text left = IsTooLong config text
 Judges config (Err ReadFault) text left = IsCutShort config text left
 Judges config (Err NoMemory) text left = IsCutShort config text left
@@ -40,7 +41,7 @@ Judges config (Err NoMemory) text left = IsCutShort config text left
 -- of the line at which a log is at fault, if the log is known, the first bytes were kept; none, if it ends there
 abbrev pub KeepsFault : Result Verdict CheckFault → Option (List ℕ) → List ℕ → Type 0
 KeepsFault (Ok (Legal n)) log kept = Unit {0}
-KeepsFault (Ok (Fault n)) log kept = IfSome log (λ text. kept ≡ line_text n text)
+KeepsFault (Ok (Fault n reason)) log kept = IfSome log (λ text. kept ≡ line_text n text)
 KeepsFault (Err TooMany) log kept = Unit {0}
 KeepsFault (Err ReadFault) log kept = Unit {0}
 KeepsFault (Err NoMemory) log kept = Unit {0}

@@ -4,5 +4,7 @@ pub mod Followed
 pub mod Judged
 pub mod Leading
 pub mod Reading
+pub mod Refusing
 pub mod Replies
+pub mod Results
 pub mod Texts

@@ -4,6 +4,7 @@ use Rattle.line_source.specs.LineText.{line_text, lines_of}
 use Rattle.log_past.specs.Standing.{Passed}
 use Rattle.log_model.specs.Log.{BeginsLegal, most_lines}
 use Rattle.log_model.specs.Stand.{Stand}
+use Rattle.log_reasons.specs.declared.line_reason.LineReason.TheVariants as why
 use Rattle.log_check.specs.declared.check.Step.{Step}
 use Rattle.log_check.specs.declared.check.Step.TheVariants as step
 use Rattle.log_check.specs.declared.check_fault.CheckFault.{CheckFault}
@@ -47,7 +48,7 @@ pub record IsBehind (text : List ℕ) (count : ℕ) (left : Option (List ℕ)) :
 -- a verdict that the log is at fault is of the line that was handed out last
 abbrev pub IsFrontOf : List ℕ → List ℕ → Verdict → Type 0
 IsFrontOf text out (Legal n) = Unit {0}
-IsFrontOf text out (Fault n) = take 80 out ≡ line_text n text
+IsFrontOf text out (Fault n reason) = take 80 out ≡ line_text n text
 
 abbrev pub IsFrontNext : List ℕ → ℕ → Option (List ℕ) → List ℕ → Result Step CheckFault → Type 0
 IsFrontNext text count left out (Ok (step.On next)) = IsBehind text (count + 1) left
@@ -71,4 +72,4 @@ GoesOn old new count (step.Judged v) = Unit {0}
 -- what is said where the log ends at this place
 abbrev pub IsEndOf : Place → ℕ → Verdict → Type 0
 IsEndOf (Ending n []) lines v = v ≡ Legal n
-IsEndOf other lines v = v ≡ Fault (lines + 1)
+IsEndOf other lines v = v ≡ Fault (lines + 1) why.Ended

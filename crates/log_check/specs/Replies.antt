@@ -1,10 +1,12 @@
 -- Entries beside the flat machine. This project's own.
-use Rattle.std.specs.Prelude.{ℕ, Bool, true, false, ◌<◌, length}
+use Rattle.std.specs.Prelude.{◌≡◌, ℕ, Bool, true, false, ◌<◌, length}
 use Rattle.vm_types.specs.WellFormed.{IsWellFormedReference, IsWellFormedService}
 use Rattle.vm_types.specs.declared.config.Config.{Config}
+use Rattle.vm_types.specs.declared.reference.Ref.{Ref}
+use Rattle.vm_types.specs.declared.reply.Reply.{Reply}
 use Rattle.vm_journal.specs.declared.entry.What.{What}
 use Rattle.vm_journal.specs.declared.entry.What.TheVariants as what
-use Rattle.pager_model.specs.Flat.{FlatState}
+use Rattle.pager_model.specs.Flat.{FlatState, flat_reply}
 use Rattle.pager_model.specs.Spoken.{ShowsReply, flat_entry}
 use Rattle.flat_model.specs.FlatMachine.{IsFlat}
 use Rattle.flat_model.specs.declared.flat.Flat.{Flat}
@@ -26,3 +28,8 @@ abbrev pub ShowsAsFlat : Flat → Flat → ℕ → What → Bool → Type 0
 ShowsAsFlat old new p w true =
     (config : Config) (state : FlatState) → IsFlat config state old → IsOfProcess config p w → ShowsReply config state p w × IsFlat config (flat_entry config state p w) new
 ShowsAsFlat old new p w false = (config : Config) (state : FlatState) → IsFlat config state old → ShowsReply config state p w → ⊥
+
+-- an answered reference shows another reply than this one, the flat machine's
+abbrev pub IsRightReply : Flat → ℕ → What → Reply → Type 0
+IsRightReply old p w right =
+    (config : Config) (state : FlatState) → IsFlat config state old → (r : Ref) × (shown : Reply) × (w ≡ what.Done r shown) × (right ≡ flat_reply config state p r) × (shown ≡ right → ⊥)

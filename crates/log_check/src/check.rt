@@ -14,6 +14,7 @@ use crate::verdict::Verdict;
 use arrayvec::ArrayVec;
 use line_source::{Line, Lines, keep_front};
 use log_laws::legal_lines_are_short;
+use log_reasons::LineReason;
 use outside_io::Source;
 use std::alloc::Global;
 use vm_types::Config;
@@ -40,12 +41,12 @@ fn end_of(place: &Place, lines: u32) -> Verdict
             if left.is_empty() {
                 Verdict::Legal(*entries)
             } else {
-                Verdict::Fault(lines + 1)
+                Verdict::Fault(lines + 1, LineReason::Ended)
             }
         }
-        Place::Entries => Verdict::Fault(lines + 1),
-        Place::Report(_) => Verdict::Fault(lines + 1),
-        Place::Rundown(_) => Verdict::Fault(lines + 1),
+        Place::Entries => Verdict::Fault(lines + 1, LineReason::Ended),
+        Place::Report(_) => Verdict::Fault(lines + 1, LineReason::Ended),
+        Place::Rundown(_) => Verdict::Fault(lines + 1, LineReason::Ended),
     }
 }
 
@@ -71,14 +72,17 @@ fn take_next<S: Source>(
 {
     match lines.next(out) {
         Ok(Line::Text { ended: true }) => match take(alloc, followed, place, out.as_slice()) {
-            Ok(Some(next)) => Ok(Step::On(next)),
-            Ok(None) => Ok(Step::Judged(Verdict::Fault(count + 1))),
+            Ok(Ok(next)) => Ok(Step::On(next)),
+            Ok(Err(why)) => Ok(Step::Judged(Verdict::Fault(count + 1, why))),
             Err(_) => Err(CheckFault::NoMemory),
         },
-        Ok(Line::Text { ended: false }) => Ok(Step::Judged(Verdict::Fault(count + 1))),
+        Ok(Line::Text { ended: false }) => Ok(Step::Judged(Verdict::Fault(
+            count + 1,
+            LineReason::NotEnded,
+        ))),
         Ok(Line::Long) => {
             legal_lines_are_short();
-            Ok(Step::Judged(Verdict::Fault(count + 1)))
+            Ok(Step::Judged(Verdict::Fault(count + 1, LineReason::TooLong)))
         }
         Ok(Line::End) => Ok(Step::Judged(end_of(&place, count))),
         Err(_) => Err(CheckFault::ReadFault),
@@ -108,8 +112,8 @@ fn judge_last<S: Source>(
 }
 
 /// Whether the lines are a legal log of a configuration, up to the first that isn't a legal next one or
-/// to their end. The time for a line doesn't grow with the log, and of its lines none is kept but the first 80
-/// bytes of the one at which it is at fault, in `kept`.
+/// to their end, and why it isn't. The time for a line doesn't grow with the log, and of its lines none is kept but
+/// the first 80 bytes of the one at which it is at fault, in `kept`.
 ///
 /// # Errors
 /// `ReadFault` only if the source's count of failures rose; the lines taken before are legal. `NoMemory`

@@ -1,7 +1,11 @@
-ghost use Rattle.std.specs.Prelude.{◌≡◌, ◌↔◌, [], IsTrue};
+ghost use Rattle.std.specs.Prelude.{◌≡◌, ◌↔◌, [], IsTrue, slice_index_or};
+ghost use Rattle.line_source.specs.LineText.{line_text, lines_of};
 ghost use Rattle.log_check.specs.Texts.{Begins, IsTaken};
 
+use arrayvec::ArrayVec;
+use line_source::keep_front;
 use std::marker::Model;
+use vm_text::cut;
 
 /// A text that the next lines have to be. Contracts see what is left of it.
 #[derive(Debug, Drop)]
@@ -32,6 +36,16 @@ fn begins(text: &[u8], line: &[u8]) -> bool
     front == line && behind[0] == b'\n'
 }
 
+/// What stands before the first byte 10 of a text; all of it, if there is none.
+fn first_line(text: &[u8]) -> &[u8]
+    ensures { result.now ≡ slice_index_or (lines_of text.now) 0 [] }
+{
+    match cut(text, b'\n') {
+        None => text,
+        Some((line, _)) => line,
+    }
+}
+
 impl Expected {
     /// All of a text is left.
     pub(crate) fn new(text: Vec<u8>) -> Expected
@@ -58,5 +72,14 @@ impl Expected {
         } else {
             false
         }
+    }
+
+    /// The first 80 bytes of the next line, which stays.
+    pub(crate) fn next_line(&self) -> ArrayVec<u8, 80>
+        ensures { result.items ≡ line_text 1 self.now }
+    {
+        let mut kept = ArrayVec::new();
+        keep_front(&mut kept, first_line(&self.text[self.next..]));
+        kept
     }
 }

@@ -1,14 +1,16 @@
-ghost use Rattle.std.specs.Prelude.{◌≡◌, ◌+◌, ◌<◌, ◌^◌, [], IfOk, OnOk, length};
+ghost use Rattle.std.specs.Prelude.{◌≡◌, ◌+◌, ◌<◌, ◌^◌, [], IfOk, IfSome, OnOk, is_none, length};
 ghost use Rattle.vm_types.specs.Configuration.{IsWellFormed};
+ghost use Rattle.log_reasons.specs.LineReasons.{IsRefused};
 ghost use Rattle.log_pager.specs.Shown.{shown};
 ghost use Rattle.log_rows.specs.Follows.{Follows};
 
 use crate::changes::change;
-use crate::replies::shows_reply;
+use crate::replies::other_reply;
 use flat_model::Flat;
 use log_pager::LogPager;
 use log_past::LogPast;
-use log_rows::is_legal;
+use log_reasons::LineReason;
+use log_rows::fails;
 use std::alloc::Global;
 use vm_journal::Entry;
 use vm_types::{Config, NoMemory};
@@ -53,26 +55,27 @@ impl<'a> Followed<'a> {
     }
 
     /// Goes on with an entry, if it is a legal next one, keeps the order of its process's requests and
-    /// shows the flat machine's reply if it is a DONE, and says whether it is so. If it isn't, this is
-    /// not to be used again.
+    /// shows the flat machine's reply if it is a DONE; else it says why it isn't, and this is not to be used
+    /// again.
     ///
     /// # Errors
     /// `NoMemory` if out of memory; this is then not to be used again.
-    pub(crate) fn enter(&mut self, e: Entry) -> Result<bool, NoMemory>
+    pub(crate) fn enter(&mut self, e: Entry) -> Result<Option<LineReason>, NoMemory>
         requires followed { IsFollowed self.old }
         requires few { length self.old.past.past + 1 < 2 ^ 48 }
-        ensures { IfOk result (IsEntered self.old e self.new) }
+        ensures entered { IfOk result (λ o. IsEntered self.old e self.new (is_none o)) }
+        ensures refused { IfOk result (λ o. IfSome o (IsRefused self.old.past.config self.old.past.past e)) }
     {
-        if !is_legal(&self.past, &self.pager, e) {
-            return Ok(false);
+        if let Some(reason) = fails(&self.past, &self.pager, e) {
+            return Ok(Some(LineReason::NotLegal(reason)));
         }
         if !self.past.keeps_order(e) {
-            return Ok(false);
+            return Ok(Some(LineReason::OutOfOrder));
         }
-        if !shows_reply(&mut self.flat, e)? {
-            return Ok(false);
+        if let Some(right) = other_reply(&mut self.flat, e)? {
+            return Ok(Some(LineReason::WrongReply(right)));
         }
         self.add(e)?;
-        Ok(true)
+        Ok(None)
     }
 }

@@ -1,4 +1,5 @@
-ghost use Rattle.std.specs.Prelude.{◌↔◌, ◌<◌, ◌^◌, IfOk, IsTrue, length};
+ghost use Rattle.std.specs.Prelude.{◌≡◌, ◌⊎◌, ◌↔◌, ◌<◌, ◌^◌, IfErr, IfOk, IsTrue, length};
+ghost use Rattle.log_model.specs.Stand.{ending_after, report_after};
 ghost use Rattle.log_check.specs.Followed.{IsFollowed};
 ghost use Rattle.log_check.specs.Leading.{
   EndingLeads,
@@ -8,11 +9,15 @@ ghost use Rattle.log_check.specs.Leading.{
   ReportLeads,
   TextLeads,
 };
+ghost use Rattle.log_check.specs.Refusing.{IsNeither, IsNotIn};
+ghost use Rattle.log_check.specs.Results.{ok_of};
+ghost use Rattle.log_check.specs.Texts.{Begins};
 
 use crate::expected::Expected;
 use crate::followed::Followed;
 use crate::place::Place;
 use log_cleaning::Underway;
+use log_reasons::LineReason;
 use log_report::{ending_text, report_text};
 use std::alloc::Global;
 use vm_types::NoMemory;
@@ -38,7 +43,19 @@ fn may_report(followed: &Followed<'_>) -> bool
     past.is_answered() && past.is_landed() && !past.awaits_reuse()
 }
 
-/// Behind entries: where the line leads that begins the report; none if it doesn't.
+/// Why a line is none that may come, if it is no entry's for the first reason, and doesn't begin the text.
+fn not_in_text(known: LineReason, left: &Expected, line: &[u8]) -> LineReason
+    requires { Begins left.now line.now → ⊥ }
+    ensures { IsNeither known left.now line.now result }
+{
+    match known {
+        LineReason::NoEntry => LineReason::NotInText(left.next_line()),
+        other => other,
+    }
+}
+
+/// Behind entries: where the line leads that begins the report; if it doesn't, why it is none, and why it is no
+/// entry's is known.
 ///
 /// # Errors
 /// `NoMemory` if out of memory.
@@ -46,35 +63,39 @@ pub(crate) fn begin_report(
     alloc: Global,
     followed: &Followed<'_>,
     line: &[u8],
-) -> Result<Option<Place>, NoMemory>
+    known: LineReason,
+) -> Result<Result<Place, LineReason>, NoMemory>
     requires { IsFollowed followed.now }
-    ensures { IfOk result (λ o. ReportLeads followed.now.past line.now o) }
+    ensures leads { IfOk result (λ r. ReportLeads followed.now.past line.now (ok_of r)) }
+    ensures refused { IfOk result (λ r. IfErr r (IsNeither known (report_after followed.now.past.config followed.now.past.past) line.now)) }
 {
     if !may_report(followed) {
-        return Ok(None);
+        return Ok(Err(known));
     }
     let text = report_text(alloc, &followed.past, &followed.pager)?;
     let mut left = Expected::new(text);
     if left.take(line) {
-        Ok(Some(in_report(left)))
+        Ok(Ok(in_report(left)))
     } else {
-        Ok(None)
+        Ok(Err(not_in_text(known, &left, line)))
     }
 }
 
-/// In the report: where the line leads that is its next one; none if it isn't.
-pub(crate) fn go_on_report(left: Expected, line: &[u8]) -> Option<Place>
-    ensures { TextLeads left line.now result }
+/// In the report: where the line leads that is its next one; if it isn't, what that is.
+pub(crate) fn go_on_report(left: Expected, line: &[u8]) -> Result<Place, LineReason>
+    ensures leads { TextLeads left line.now (ok_of result) }
+    ensures refused { IfErr result (IsNotIn left line.now) }
 {
     let mut rest = left;
     if rest.take(line) {
-        Some(in_report(rest))
+        Ok(in_report(rest))
     } else {
-        None
+        Err(LineReason::NotInText(rest.next_line()))
     }
 }
 
-/// In the rundown: where the line leads that begins the ending; none if it doesn't.
+/// In the rundown: where the line leads that begins the ending; if it doesn't, why it is none, and why it is no
+/// entry's is known.
 ///
 /// # Errors
 /// `NoMemory` if out of memory.
@@ -83,31 +104,34 @@ pub(crate) fn begin_ending(
     followed: &Followed<'_>,
     underway: &Underway,
     line: &[u8],
-) -> Result<Option<Place>, NoMemory>
+    known: LineReason,
+) -> Result<Result<Place, LineReason>, NoMemory>
     requires followed { IsFollowed followed.now }
     requires few { length followed.now.past.past < 2 ^ 32 }
-    ensures { IfOk result (λ o. EndingLeads followed.now.past underway.now line.now o) }
+    ensures leads { IfOk result (λ r. EndingLeads followed.now.past underway.now line.now (ok_of r)) }
+    ensures refused { IfOk result (λ r. IfErr r (IsNeither known (ending_after followed.now.past.config followed.now.past.past) line.now)) }
 {
     if !underway.is_at_rest(&followed.past, &followed.pager) {
-        return Ok(None);
+        return Ok(Err(known));
     }
     let text = ending_text(alloc, &followed.past, &followed.pager)?;
     let mut left = Expected::new(text);
     if left.take(line) {
-        Ok(Some(Place::Ending(followed.past.count() as u32, left)))
+        Ok(Ok(Place::Ending(followed.past.count() as u32, left)))
     } else {
-        Ok(None)
+        Ok(Err(not_in_text(known, &left, line)))
     }
 }
 
-/// In the ending: where the line leads that is its next one; none if it isn't.
-pub(crate) fn go_on_ending(entries: u32, left: Expected, line: &[u8]) -> Option<Place>
-    ensures { EndingTextLeads entries left line.now result }
+/// In the ending: where the line leads that is its next one; if it isn't, what that is.
+pub(crate) fn go_on_ending(entries: u32, left: Expected, line: &[u8]) -> Result<Place, LineReason>
+    ensures leads { EndingTextLeads entries left line.now (ok_of result) }
+    ensures refused { IfErr result (IsNotIn left line.now) }
 {
     let mut rest = left;
     if rest.take(line) {
-        Some(Place::Ending(entries, rest))
+        Ok(Place::Ending(entries, rest))
     } else {
-        None
+        Err(LineReason::NotInText(rest.next_line()))
     }
 }

@@ -1,83 +1,98 @@
-ghost use Rattle.std.specs.Prelude.{◌+◌, ◌<◌, ◌^◌, ◌≢◌, All, IfOk, length};
+ghost use Rattle.std.specs.Prelude.{◌≡◌, ◌⊎◌, ◌+◌, ◌<◌, ◌^◌, ◌≢◌, All, IfErr, IfOk, length};
+ghost use Rattle.log_reasons.specs.LineReasons.{IsRefused};
 ghost use Rattle.log_check.specs.declared.place.Place.TheVariants.{Entries, Rundown};
 ghost use Rattle.log_check.specs.Followed.{IsFollowed};
 ghost use Rattle.log_check.specs.Leading.{Leads, RundownLeads};
+ghost use Rattle.log_check.specs.Refusing.{FailsAt, IsUnstepped};
+ghost use Rattle.log_check.specs.Results.{ok_of};
 
 use crate::entry_line::entry_of;
 use crate::followed::Followed;
 use crate::place::Place;
 use crate::texts::{begin_ending, begin_report, go_on_ending, go_on_report};
 use log_cleaning::Underway;
+use log_reasons::LineReason;
+use log_rows::fails;
 use std::alloc::Global;
 use vm_journal::Entry;
 use vm_types::NoMemory;
 
-/// Behind entries: where the next entry or the report's first line leads.
+/// Behind entries: where the next entry or the report's first line leads, or why the line is neither.
 fn take_entry(
     alloc: Global,
     followed: &mut Followed<'_>,
     line: &[u8],
-) -> Result<Option<Place>, NoMemory>
+) -> Result<Result<Place, LineReason>, NoMemory>
     requires followed { IsFollowed followed.old }
     requires few { length followed.old.past.past + 1 < 2 ^ 32 }
     requires line { All (λ b. b ≢ 10) line.now }
-    ensures { IfOk result (λ o. Leads followed.old Entries line.now followed.new o) }
+    ensures leads { IfOk result (λ r. Leads followed.old Entries line.now followed.new (ok_of r)) }
+    ensures refused { IfOk result (λ r. IfErr r (FailsAt followed.old.past Entries line.now)) }
 {
     let number = followed.past.count() + 1;
     match entry_of(followed.past.config(), number, line) {
-        Some(e) => {
-            if followed.enter(e)? {
-                Ok(Some(Place::Entries))
-            } else {
-                Ok(None)
-            }
-        }
-        None => begin_report(alloc, followed, line),
+        Ok(e) => match followed.enter(e)? {
+            None => Ok(Ok(Place::Entries)),
+            Some(why) => Ok(Err(why)),
+        },
+        Err(known) => begin_report(alloc, followed, line, known),
     }
 }
 
-/// In the rundown: where an entry leads.
+/// Why an entry isn't a next one that is no step of the rundown: for its own sake, if it isn't legal.
+fn unstepped(followed: &Followed<'_>, e: Entry) -> LineReason
+    requires { IsFollowed followed.now }
+    ensures { IsRefused followed.now.past.config followed.now.past.past e result ⊎ (result ≡ LineReason.NotOfRundown) }
+{
+    match fails(&followed.past, &followed.pager, e) {
+        None => LineReason::NotOfRundown,
+        Some(reason) => LineReason::NotLegal(reason),
+    }
+}
+
+/// In the rundown: where an entry leads, or why it isn't a next one.
 fn step_rundown(
     alloc: Global,
     followed: &mut Followed<'_>,
     underway: Underway,
     e: Entry,
-) -> Result<Option<Place>, NoMemory>
+) -> Result<Result<Place, LineReason>, NoMemory>
     requires followed { IsFollowed followed.old }
     requires few { length followed.old.past.past + 1 < 2 ^ 32 }
-    ensures { IfOk result (λ o. RundownLeads followed.old underway e followed.new o) }
+    ensures leads { IfOk result (λ r. RundownLeads followed.old underway e followed.new (ok_of r)) }
+    ensures refused { IfOk result (λ r. IfErr r (IsUnstepped followed.old.past underway e)) }
 {
     let mut next = underway;
     if !next.step(alloc, &followed.past, &followed.pager, e)? {
-        return Ok(None);
+        return Ok(Err(unstepped(followed, e)));
     }
-    if followed.enter(e)? {
-        Ok(Some(Place::Rundown(next)))
-    } else {
-        Ok(None)
+    match followed.enter(e)? {
+        None => Ok(Ok(Place::Rundown(next))),
+        Some(why) => Ok(Err(why)),
     }
 }
 
-/// In the rundown: where the next entry or the ending's first line leads.
+/// In the rundown: where the next entry or the ending's first line leads, or why the line is neither.
 fn take_rundown(
     alloc: Global,
     followed: &mut Followed<'_>,
     underway: Underway,
     line: &[u8],
-) -> Result<Option<Place>, NoMemory>
+) -> Result<Result<Place, LineReason>, NoMemory>
     requires followed { IsFollowed followed.old }
     requires few { length followed.old.past.past + 1 < 2 ^ 32 }
     requires line { All (λ b. b ≢ 10) line.now }
-    ensures { IfOk result (λ o. Leads followed.old (Rundown underway) line.now followed.new o) }
+    ensures leads { IfOk result (λ r. Leads followed.old (Rundown underway) line.now followed.new (ok_of r)) }
+    ensures refused { IfOk result (λ r. IfErr r (FailsAt followed.old.past (Rundown underway) line.now)) }
 {
     let number = followed.past.count() + 1;
     match entry_of(followed.past.config(), number, line) {
-        Some(e) => step_rundown(alloc, followed, underway, e),
-        None => begin_ending(alloc, followed, &underway, line),
+        Ok(e) => step_rundown(alloc, followed, underway, e),
+        Err(known) => begin_ending(alloc, followed, &underway, line, known),
     }
 }
 
-/// Where a line leads, which has no byte 10; none if it isn't a legal next one, and what follows the
+/// Where a line leads, which has no byte 10; if it isn't a legal next one, why it isn't, and what follows the
 /// entries is then not to be used again.
 ///
 /// # Errors
@@ -87,11 +102,12 @@ pub(crate) fn take(
     followed: &mut Followed<'_>,
     place: Place,
     line: &[u8],
-) -> Result<Option<Place>, NoMemory>
+) -> Result<Result<Place, LineReason>, NoMemory>
     requires followed { IsFollowed followed.old }
     requires few { length followed.old.past.past + 1 < 2 ^ 32 }
     requires line { All (λ b. b ≢ 10) line.now }
-    ensures { IfOk result (λ o. Leads followed.old place line.now followed.new o) }
+    ensures leads { IfOk result (λ r. Leads followed.old place line.now followed.new (ok_of r)) }
+    ensures refused { IfOk result (λ r. IfErr r (FailsAt followed.old.past place line.now)) }
 {
     match place {
         Place::Entries => take_entry(alloc, followed, line),

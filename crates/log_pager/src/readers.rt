@@ -59,6 +59,20 @@ impl LogPager {
         heads(&self.free, f)
     }
 
+    /// The frame that heads the free list, if one is on it.
+    pub fn free_head(&self) -> Option<u32>
+        ensures { result ≡ slice_get (shown self.now).pager.free 0 }
+    {
+        self.free.first().copied()
+    }
+
+    /// The frame that heads the modified list, if one is on it.
+    pub fn modified_head(&self) -> Option<u32>
+        ensures { result ≡ slice_get (shown self.now).pager.modified 0 }
+    {
+        self.modified.first().copied()
+    }
+
     /// Whether a frame heads the modified list.
     pub fn heads_modified(&self, f: Pfn) -> bool
         ensures { IsTrue result ↔ IsHead (shown self.now).pager.modified f.0 }

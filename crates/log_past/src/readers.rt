@@ -1,4 +1,4 @@
-ghost use Rattle.std.specs.Prelude.{◌≡◌, ◌↔◌, ◌+◌, ◌<◌, ◌∷◌, [], IsTrue, length, find, count_by};
+ghost use Rattle.std.specs.Prelude.{◌≡◌, ◌↔◌, ◌+◌, ◌<◌, ◌∷◌, [], IsTrue, is_some, length, find, count_by};
 ghost use Rattle.pager_model.specs.Carrier.{HasLost, carrying};
 ghost use Rattle.pager_model.specs.Counted.{last_count};
 ghost use Rattle.pager_model.specs.Flights.{awaits_reuse, failed_flight, is_busy, open_flights};
@@ -38,7 +38,8 @@ impl<'a> LogPast<'a> {
 
     /// The read whose failure is the newest entry.
     pub fn failed(&self) -> Option<Flight>
-        ensures { result ≡ failed_flight self.now.past }
+        ensures flight { result ≡ failed_flight self.now.past }
+        ensures waits { is_some result ≡ awaits_reuse self.now.past }
     {
         self.failed
     }

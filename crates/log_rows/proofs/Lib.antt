@@ -1,3 +1,5 @@
+pub mod Entries
+pub mod Arrivals
 pub mod FaultReads
 pub mod Flat
 pub mod Follows

@@ -1,11 +1,13 @@
-//! Whether a block is home: one of the configuration, and in no flight.
+//! Why a block isn't home: one of the configuration, and in no flight.
 
-ghost use Rattle.std.specs.Prelude.{◌≡◌, ◌↔◌, IsTrue};
+ghost use Rattle.std.specs.Prelude.{◌≡◌, ◌↔◌, IfSome, IsNone, IsTrue};
 ghost use Rattle.vm_types.specs.Configuration.{IsBlock, IsSectionPage};
 ghost use Rattle.pager_model.specs.Flights.{open_flights};
 ghost use Rattle.pager_model.specs.Transfers.{IsHome};
+ghost use Rattle.log_reasons.specs.ReadReasons.{HomeFails};
 
 use log_past::LogPast;
+use log_reasons::Reason;
 use log_tables::is_paged;
 use vm_types::{BlockId, Config, Page, Proc, SecId, Section};
 
@@ -42,9 +44,16 @@ fn is_block(config: &Config, block: BlockId) -> bool
     }
 }
 
-/// Whether the block is one of the configuration and in no flight.
-pub(crate) fn is_home(past: &LogPast<'_>, block: BlockId) -> bool
-    ensures { IsTrue result ↔ IsHome past.now.config block (open_flights past.now.past) }
+/// Why a block isn't one of the configuration, or is in flight.
+pub(crate) fn home_fails(past: &LogPast<'_>, block: BlockId) -> Option<Reason>
+    ensures legal { IsNone result ↔ IsHome past.now.config block (open_flights past.now.past) }
+    ensures said { IfSome result (HomeFails past.now.config past.now.past block) }
 {
-    is_block(past.config(), block) && past.is_still(block)
+    if !is_block(past.config(), block) {
+        return Some(Reason::NoSuchBlock);
+    }
+    if !past.is_still(block) {
+        return Some(Reason::BlockInFlight);
+    }
+    None
 }

@@ -1,5 +1,5 @@
-//! Whether an entry of a log is a legal next one: the row of its kind, decided from what the entries
-//! so far say and the pager's state after them.
+//! Why an entry of a log isn't a legal next one: the first condition of the rules of seats and of the row of
+//! its kind that doesn't hold, from what the entries so far say and the pager's state after them.
 #![tactic(auto)]
 
 mod blocks;
@@ -16,4 +16,4 @@ mod step;
 mod turns;
 mod writes;
 
-pub use step::is_legal;
+pub use step::fails;

@@ -1,21 +1,25 @@
-//! IN: a read begins.
+//! IN: why a read may not begin.
 
-ghost use Rattle.std.specs.Prelude.{◌≡◌, ◌↔◌, ◌⊎◌, ◌+◌, ◌<◌, ℕ, Some, IsTrue, length};
+ghost use Rattle.std.specs.Prelude.{◌≡◌, ◌↔◌, ◌⊎◌, ◌+◌, ◌<◌, ℕ, true, Some, IfSome, IsNone, IsTrue, length};
 ghost use Rattle.vm_types.specs.Ring.{filled};
-ghost use Rattle.pager_model.specs.Flights.{open_flights};
+ghost use Rattle.vm_types.specs.declared.names.Page.{Page as AnyPage};
+ghost use Rattle.pager_model.specs.Carrier.{carrying};
+ghost use Rattle.pager_model.specs.Flights.{Flight as OpenFlight, is_busy, open_flights};
 ghost use Rattle.pager_model.specs.In.{IsFirstIn, IsIn, IsInCome, IsInFault, IsInLying, IsInNear, is_fault_or_near, is_kin};
 ghost use Rattle.pager_model.specs.Lookups.{page_by, section_at};
 ghost use Rattle.pager_model.specs.Maps.{page_number};
 ghost use Rattle.pager_model.specs.Own.{IsEmptyHead, IsOwn};
 ghost use Rattle.pager_model.specs.Transfers.{IsHome};
 ghost use Rattle.log_past.specs.Directions.{direction_of};
+ghost use Rattle.log_reasons.specs.ReadReasons.{ComePageFails, FaultPageFails, FromFails, InComeFails, InFails, InFaultFails, InNearFails, LyingFails, LyingPageFails, MayReadFails, NearFails};
 ghost use Rattle.log_pager.specs.Shown.{shown};
 
-use crate::blocks::is_home;
+use crate::blocks::home_fails;
 use log_pager::LogPager;
 use log_past::{Direction, LogPast};
+use log_reasons::Reason;
 use log_tables::Behind;
-use service_rows::{is_below_limit, is_empty_head, is_own, is_private};
+use service_rows::{empty_head_fails, is_private, own_fails, room_fails};
 use vm_journal::Role;
 use vm_types::{Addr, BlockId, Origin, Page, Pfn, Proc, ProcStatus, Seat};
 
@@ -60,21 +64,55 @@ fn is_from(
     pager.lies(page) == Some(block) || is_first_in(past, pager, p, v, block, page)
 }
 
-/// Whether a resident process with room below its limit may have a block that is home read into a
-/// frame.
-fn may_read(past: &LogPast<'_>, pager: &LogPager, p: Proc, f: Pfn, block: BlockId) -> bool
+/// Why a resident process with room below its limit may not have the block read into a frame.
+fn may_read_fails(
+    past: &LogPast<'_>,
+    pager: &LogPager,
+    p: Proc,
+    f: Pfn,
+    block: BlockId,
+) -> Option<Reason>
     requires { (shown pager.now).processes ≡ length past.now.config.procs }
-    ensures { IsTrue result ↔ (IsOwn past.now.config (shown pager.now).pager p.0 × IsHome past.now.config block (open_flights past.now.past)
+    ensures legal { IsNone result ↔ (IsOwn past.now.config (shown pager.now).pager p.0 × IsHome past.now.config block (open_flights past.now.past)
         × IsEmptyHead (shown pager.now).pager f.0 × (filled ((shown pager.now).pager.ring p.0).slots < (shown pager.now).pager.limit p.0)) }
+    ensures said { IfSome result (MayReadFails past.now.config past.now.past (shown pager.now).pager p.0 f.0 block) }
 {
-    is_own(past.config(), pager, p)
-        && is_home(past, block)
-        && is_empty_head(pager, f)
-        && is_below_limit(pager, p)
+    if let Some(reason) = own_fails(past.config(), pager, p) {
+        return Some(reason);
+    }
+    if let Some(reason) = home_fails(past, block) {
+        return Some(reason);
+    }
+    if let Some(reason) = empty_head_fails(pager, f) {
+        return Some(reason);
+    }
+    room_fails(pager, p)
 }
 
-/// Whether a read of this page for a fault may begin.
-fn is_fault_read(
+/// Why a page isn't out, or is read neither from the block in which it lies nor for the first time.
+fn from_fails(
+    past: &LogPast<'_>,
+    pager: &LogPager,
+    p: Proc,
+    v: u32,
+    block: BlockId,
+    page: Page,
+) -> Option<Reason>
+    ensures legal { IsNone result ↔ (((g : ℕ) → (shown pager.now).pager.page g ≡ Some page → ⊥)
+        × (((shown pager.now).pager.lies page ≡ Some block) ⊎ IsFirstIn past.now.config (shown pager.now).pager p.0 v block page)) }
+    ensures said { IfSome result (FromFails past.now.config (shown pager.now).pager p.0 v block page) }
+{
+    if !pager.is_out(page) {
+        return Some(Reason::PageInMemory);
+    }
+    if !is_from(past, pager, p, v, block, page) {
+        return Some(Reason::LiesElsewhere(pager.lies(page)));
+    }
+    None
+}
+
+/// Why a read of this page for a fault may not begin.
+fn fault_page_fails(
     past: &LogPast<'_>,
     pager: &LogPager,
     seat: Seat,
@@ -83,19 +121,23 @@ fn is_fault_read(
     q: Proc,
     a: Addr,
     page: Page,
-) -> bool
+) -> Option<Reason>
     requires { (shown pager.now).processes ≡ length past.now.config.procs }
-    ensures { IsTrue result ↔ ((q.0 ≡ seat.0)
+    ensures legal { IsNone result ↔ ((q.0 ≡ seat.0)
         × (IsOwn past.now.config (shown pager.now).pager seat.0 × IsHome past.now.config block (open_flights past.now.past)
         × IsEmptyHead (shown pager.now).pager f.0 × (filled ((shown pager.now).pager.ring seat.0).slots < (shown pager.now).pager.limit seat.0))
         × ((g : ℕ) → (shown pager.now).pager.page g ≡ Some page → ⊥)
         × (((shown pager.now).pager.lies page ≡ Some block) ⊎ IsFirstIn past.now.config (shown pager.now).pager seat.0 (page_number a.0) block page)) }
+    ensures said { IfSome result (FaultPageFails past.now.config past.now.past (shown pager.now).pager seat.0 f.0 block q.0 a.0 page) }
 {
     let p = Proc(seat.0);
-    q.0 == seat.0
-        && may_read(past, pager, p, f, block)
-        && pager.is_out(page)
-        && is_from(past, pager, p, a.0 / 512, block, page)
+    if q.0 != seat.0 {
+        return Some(Reason::NotOwnProcess);
+    }
+    if let Some(reason) = may_read_fails(past, pager, p, f, block) {
+        return Some(reason);
+    }
+    from_fails(past, pager, p, a.0 / 512, block, page)
 }
 
 /// The page that a process has at a page number.
@@ -105,8 +147,8 @@ fn page_of(past: &LogPast<'_>, pager: &LogPager, p: Proc, v: u32) -> Option<Page
     pager.page_of(past.config(), p, v)
 }
 
-/// Whether a read for a fault may begin.
-fn is_in_fault(
+/// Why a read for a fault may not begin.
+fn in_fault_fails(
     past: &LogPast<'_>,
     pager: &LogPager,
     seat: Seat,
@@ -114,24 +156,50 @@ fn is_in_fault(
     block: BlockId,
     q: Proc,
     a: Addr,
-) -> bool
+) -> Option<Reason>
     requires { (shown pager.now).processes ≡ length past.now.config.procs }
-    ensures { IsTrue result ↔ IsInFault past.now.config past.now.past (shown pager.now).pager seat.0 f.0 block q.0 a.0 }
+    ensures legal { IsNone result ↔ IsInFault past.now.config past.now.past (shown pager.now).pager seat.0 f.0 block q.0 a.0 }
+    ensures said { IfSome result (InFaultFails past.now.config past.now.past (shown pager.now).pager seat.0 f.0 block q.0 a.0) }
 {
     match page_of(past, pager, Proc(seat.0), a.0 / 512) {
-        None => false,
-        Some(page) => is_fault_read(past, pager, seat, f, block, q, a, page),
+        None => Some(Reason::NotMapped),
+        Some(page) => fault_page_fails(past, pager, seat, f, block, q, a, page),
     }
 }
 
-/// Whether a read of a page that is out and lies in the block may begin.
-fn is_in_lying(past: &LogPast<'_>, pager: &LogPager, f: Pfn, block: BlockId, page: Page) -> bool
-    ensures { IsTrue result ↔ IsInLying past.now.config past.now.past (shown pager.now).pager f.0 block page }
+/// Why a page isn't out, or doesn't lie in the block.
+fn lying_page_fails(pager: &LogPager, block: BlockId, page: Page) -> Option<Reason>
+    ensures legal { IsNone result ↔ (((g : ℕ) → (shown pager.now).pager.page g ≡ Some page → ⊥) × ((shown pager.now).pager.lies page ≡ Some block)) }
+    ensures said { IfSome result (LyingPageFails (shown pager.now).pager block page) }
 {
-    is_home(past, block)
-        && is_empty_head(pager, f)
-        && pager.is_out(page)
-        && pager.lies(page) == Some(block)
+    if !pager.is_out(page) {
+        return Some(Reason::PageInMemory);
+    }
+    let lies = pager.lies(page);
+    if lies != Some(block) {
+        return Some(Reason::LiesElsewhere(lies));
+    }
+    None
+}
+
+/// Why a read of a page from the block may not begin.
+fn lying_fails(
+    past: &LogPast<'_>,
+    pager: &LogPager,
+    f: Pfn,
+    block: BlockId,
+    page: Page,
+) -> Option<Reason>
+    ensures legal { IsNone result ↔ IsInLying past.now.config past.now.past (shown pager.now).pager f.0 block page }
+    ensures said { IfSome result (LyingFails past.now.config past.now.past (shown pager.now).pager f.0 block page) }
+{
+    if let Some(reason) = home_fails(past, block) {
+        return Some(reason);
+    }
+    if let Some(reason) = empty_head_fails(pager, f) {
+        return Some(reason);
+    }
+    lying_page_fails(pager, block, page)
 }
 
 /// Whether the way is that of a read for a fault, or of a neighbour.
@@ -156,30 +224,55 @@ fn is_kin(one: Page, other: Page) -> bool
     }
 }
 
-/// Whether a read of a neighbour may begin.
-fn is_in_near(
+/// Whether the frame holds a page of the same kin.
+fn holds_kin(pager: &LogPager, f: Pfn, page: Page) -> bool
+    ensures { IsTrue result ↔ ((before : AnyPage) × ((shown pager.now).pager.page f.0 ≡ Some before) × (is_kin before page ≡ true)) }
+{
+    match pager.page(f) {
+        None => false,
+        Some(before) => is_kin(before, page),
+    }
+}
+
+/// Why a page isn't a neighbour of the seat's last flight: that is no open read for a fault or a
+/// neighbour, or of no page of its kin.
+fn near_fails(past: &LogPast<'_>, pager: &LogPager, seat: Seat, page: Page) -> Option<Reason>
+    requires { seat.0 < length past.now.config.procs + 2 }
+    ensures legal { IsNone result ↔ ((last : OpenFlight) × ((carrying seat.0 past.now.past).last ≡ Some last) × (is_busy seat.0 (open_flights past.now.past) ≡ true) × (is_fault_or_near last.direction ≡ true)
+        × ((before : AnyPage) × ((shown pager.now).pager.page last.frame ≡ Some before) × (is_kin before page ≡ true))) }
+    ensures said { IfSome result (NearFails past.now.past (shown pager.now).pager seat.0 page) }
+{
+    match past.carrying(seat).last() {
+        None => Some(Reason::NoReadToFollow),
+        Some(last) => {
+            if !past.is_busy(seat) || !is_fault_or_near(last.direction()) {
+                return Some(Reason::NoReadToFollow);
+            }
+            if !holds_kin(pager, last.frame(), page) {
+                return Some(Reason::NotKin);
+            }
+            None
+        }
+    }
+}
+
+/// Why a read of a neighbour may not begin.
+fn in_near_fails(
     past: &LogPast<'_>,
     pager: &LogPager,
     seat: Seat,
     f: Pfn,
     block: BlockId,
     page: Page,
-) -> bool
+) -> Option<Reason>
     requires { seat.0 < length past.now.config.procs + 2 }
-    ensures { IsTrue result ↔ IsInNear past.now.config past.now.past (shown pager.now).pager seat.0 f.0 block page }
+    ensures legal { IsNone result ↔ IsInNear past.now.config past.now.past (shown pager.now).pager seat.0 f.0 block page }
+    ensures said { IfSome result (InNearFails past.now.config past.now.past (shown pager.now).pager seat.0 f.0 block page) }
 {
-    match past.carrying(seat).last() {
-        None => false,
-        Some(last) => match pager.page(last.frame()) {
-            None => false,
-            Some(before) => {
-                past.is_busy(seat)
-                    && is_fault_or_near(last.direction())
-                    && is_kin(before, page)
-                    && is_in_lying(past, pager, f, block, page)
-            }
-        },
+    if let Some(reason) = near_fails(past, pager, seat, page) {
+        return Some(reason);
     }
+    lying_fails(past, pager, f, block, page)
 }
 
 /// Whether the block is a swap block of the process.
@@ -192,43 +285,64 @@ fn is_swap_block(block: BlockId, p: Proc) -> bool
     }
 }
 
-/// Whether a read for a page of a coming process may begin.
-fn is_in_come(
+/// Why a read for this page of a coming process may not begin.
+fn come_page_fails(
+    past: &LogPast<'_>,
+    pager: &LogPager,
+    f: Pfn,
+    block: BlockId,
+    q: Proc,
+    page: Page,
+) -> Option<Reason>
+    ensures legal { IsNone result ↔ (((shown pager.now).pager.status q.0 ≡ ProcStatus.Coming) × ((n : ℕ) × (block ≡ BlockId.Swap q n))
+        × IsInLying past.now.config past.now.past (shown pager.now).pager f.0 block page) }
+    ensures said { IfSome result (ComePageFails past.now.config past.now.past (shown pager.now).pager f.0 block q page) }
+{
+    let status = pager.status(q);
+    if status != ProcStatus::Coming {
+        return Some(Reason::InOtherStatus(status));
+    }
+    if !is_swap_block(block, q) {
+        return Some(Reason::NotItsSwapBlock);
+    }
+    lying_fails(past, pager, f, block, page)
+}
+
+/// Why a read for a page of a coming process may not begin.
+fn in_come_fails(
     past: &LogPast<'_>,
     pager: &LogPager,
     f: Pfn,
     block: BlockId,
     q: Proc,
     a: Addr,
-) -> bool
-    ensures { IsTrue result ↔ IsInCome past.now.config past.now.past (shown pager.now).pager f.0 block q a.0 }
+) -> Option<Reason>
+    ensures legal { IsNone result ↔ IsInCome past.now.config past.now.past (shown pager.now).pager f.0 block q a.0 }
+    ensures said { IfSome result (InComeFails past.now.config past.now.past (shown pager.now).pager f.0 block q a.0) }
 {
-    match pager.page_of(past.config(), q, a.0 / 512) {
-        None => false,
-        Some(page) => {
-            pager.status(q) == ProcStatus::Coming
-                && is_swap_block(block, q)
-                && is_in_lying(past, pager, f, block, page)
-        }
+    match page_of(past, pager, q, a.0 / 512) {
+        None => Some(Reason::NotMapped),
+        Some(page) => come_page_fails(past, pager, f, block, q, page),
     }
 }
 
-/// Whether a read may begin.
-pub(crate) fn is_in(
+/// Why a read may not begin.
+pub(crate) fn in_fails(
     past: &LogPast<'_>,
     pager: &LogPager,
     seat: Seat,
     f: Pfn,
     block: BlockId,
     role: Role,
-) -> bool
+) -> Option<Reason>
     requires processes { (shown pager.now).processes ≡ length past.now.config.procs }
     requires seat { seat.0 < length past.now.config.procs + 2 }
-    ensures { IsTrue result ↔ IsIn role past.now.config past.now.past (shown pager.now).pager seat.0 f.0 block }
+    ensures legal { IsNone result ↔ IsIn role past.now.config past.now.past (shown pager.now).pager seat.0 f.0 block }
+    ensures said { IfSome result (InFails role past.now.config past.now.past (shown pager.now).pager seat.0 f.0 block) }
 {
     match role {
-        Role::Fault(q, a) => is_in_fault(past, pager, seat, f, block, q, a),
-        Role::Near(page) => is_in_near(past, pager, seat, f, block, page),
-        Role::Come(q, a) => is_in_come(past, pager, f, block, q, a),
+        Role::Fault(q, a) => in_fault_fails(past, pager, seat, f, block, q, a),
+        Role::Near(page) => in_near_fails(past, pager, seat, f, block, page),
+        Role::Come(q, a) => in_come_fails(past, pager, f, block, q, a),
     }
 }

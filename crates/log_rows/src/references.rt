@@ -1,20 +1,22 @@
-//! DONE and DENIED: a reference is answered, or refused.
+//! DONE and DENIED: why a reference isn't answered, or isn't refused.
 
-ghost use Rattle.std.specs.Prelude.{◌≡◌, ◌↔◌, ◌⊎◌, ◌+◌, ◌*◌, ◌<◌, Some, IsTrue, length};
+ghost use Rattle.std.specs.Prelude.{◌≡◌, ◌↔◌, ◌⊎◌, ◌+◌, ◌*◌, ◌<◌, false, Some, IfSome, IsNone, IsTrue, length};
 ghost use Rattle.vm_types.specs.declared.names.Page.{Page as AnyPage};
 ghost use Rattle.vm_types.specs.declared.names.Addr.{Addr as AnyAddress};
 ghost use Rattle.vm_types.specs.declared.names.Proc.{Proc as AnyProc};
 ghost use Rattle.log_past.specs.Directions.{direction_of};
-ghost use Rattle.pager_model.specs.Carrier.{carrying};
+ghost use Rattle.pager_model.specs.Carrier.{HasLost, carrying};
 ghost use Rattle.pager_model.specs.Denied.{IsDenial, IsDenied, IsDeniedFault, IsFlatWhy};
 ghost use Rattle.pager_model.specs.Done.{Allows, IsDone};
 ghost use Rattle.pager_model.specs.Flat.{flat_refusal};
 ghost use Rattle.pager_model.specs.Flights.{Flight as OpenFlight, reading};
-ghost use Rattle.pager_model.specs.Lookups.{entries_at, entry_of, page_by};
+ghost use Rattle.pager_model.specs.Lookups.{entries_at, entry_of, is_pending, page_by};
 ghost use Rattle.pager_model.specs.Maps.{Mapped, page_number};
 ghost use Rattle.pager_model.specs.OfConfig.{MapsRight};
 ghost use Rattle.pager_model.specs.Pager.{Valid};
 ghost use Rattle.pager_model.specs.Spoken.{flat_after};
+ghost use Rattle.log_reasons.specs.DeniedReasons.{DeniedFails, DeniedFaultFails, FlatDeniedFails, LostFails, LostForFails, RefusedFails, RoleForFails, WaitsForFails, WayForFails};
+ghost use Rattle.log_reasons.specs.ProcessReasons.{AnsweredFails, DoneFails};
 ghost use Rattle.log_pager.specs.Shown.{shown};
 ghost use Rattle.log_rows.specs.Follows.{FollowsFlat};
 
@@ -22,8 +24,9 @@ use crate::processes::is_pending;
 use crate::refusals::{is_allowed, refusal};
 use log_pager::LogPager;
 use log_past::{Direction, LogPast};
+use log_reasons::Reason;
 use log_tables::Behind;
-use service_rows::is_own;
+use service_rows::own_fails;
 use vm_journal::Role;
 use vm_types::{Addr, Config, Proc, ProcStatus, Ref, Seat, Why};
 
@@ -48,17 +51,42 @@ fn is_valid(pager: &LogPager, p: Proc, v: u32) -> bool
     }
 }
 
-/// Whether a reference is answered.
-pub(crate) fn is_done(config: &Config, pager: &LogPager, seat: Seat, r: Ref) -> bool
+/// Why a reference of a resident process isn't answered.
+fn answered_fails(config: &Config, pager: &LogPager, p: Proc, r: Ref) -> Option<Reason>
     requires { MapsRight config.now (shown pager.now).pager.map }
-    ensures { IsTrue result ↔ IsDone config.now (shown pager.now).pager seat.0 r }
+    ensures legal { IsNone result ↔ ((is_pending config.now ((shown pager.now).pager.references p.0) ≡ false) × Allows ((shown pager.now).pager.map p.0 (page_number (r.addr).0)) r
+        × ((e : Valid) × (entry_of (shown pager.now).pager.valid p.0 (page_number (r.addr).0) ≡ Some e))) }
+    ensures said { IfSome result (AnsweredFails config.now (shown pager.now).pager p.0 r) }
+{
+    let v = r.addr.0 / 512;
+    let references = pager.references(p);
+    if is_pending(config, references) {
+        return Some(Reason::AdjustmentIsPending(references));
+    }
+    let behind = pager.mapping(p, v);
+    if behind.is_none() {
+        return Some(Reason::NotMapped);
+    }
+    if !allows(behind, r) {
+        return Some(Reason::NotAllowed);
+    }
+    if !is_valid(pager, p, v) {
+        return Some(Reason::PageNotValid);
+    }
+    None
+}
+
+/// Why a reference is not answered.
+pub(crate) fn done_fails(config: &Config, pager: &LogPager, seat: Seat, r: Ref) -> Option<Reason>
+    requires { MapsRight config.now (shown pager.now).pager.map }
+    ensures legal { IsNone result ↔ IsDone config.now (shown pager.now).pager seat.0 r }
+    ensures said { IfSome result (DoneFails config.now (shown pager.now).pager seat.0 r) }
 {
     let p = Proc(seat.0);
-    let v = r.addr.0 / 512;
-    is_own(config, pager, p)
-        && !is_pending(config, pager.references(p))
-        && allows(pager.mapping(p, v), r)
-        && is_valid(pager, p, v)
+    if let Some(reason) = own_fails(config, pager, p) {
+        return Some(reason);
+    }
+    answered_fails(config, pager, p, r)
 }
 
 /// Why the flat machine after these entries refuses a reference, if it does.
@@ -69,27 +97,42 @@ fn flat_refusal_of(past: &LogPast<'_>, pager: &LogPager, p: Proc, r: Ref) -> Opt
     refusal(past.config(), pager, p, r)
 }
 
-/// Whether the reason is one of the flat machine's.
-fn is_flat(why: Why) -> bool
-    ensures { IsTrue result ↔ IsFlatWhy why }
+/// Why a reference isn't refused with the flat machine's words.
+fn refused_fails(past: &LogPast<'_>, pager: &LogPager, p: Proc, r: Ref, why: Why) -> Option<Reason>
+    requires { FollowsFlat past.now.config past.now.past (shown pager.now).pager }
+    ensures legal { IsNone result ↔ ((is_pending past.now.config ((shown pager.now).pager.references p.0) ≡ false)
+        × (flat_refusal past.now.config (flat_after past.now.config past.now.past) p.0 r ≡ Some why)) }
+    ensures said { IfSome result (RefusedFails past.now.config past.now.past (shown pager.now).pager p.0 r why) }
 {
-    match why {
-        Why::DiskFault => false,
-        Why::Unmapped | Why::Protected | Why::PageFileFull => true,
+    let references = pager.references(p);
+    if is_pending(past.config(), references) {
+        return Some(Reason::AdjustmentIsPending(references));
     }
+    let right = flat_refusal_of(past, pager, p, r);
+    if right != Some(why) {
+        return Some(Reason::RefusedOtherwise(right));
+    }
+    None
 }
 
-/// Whether a reference is refused for the flat machine's reason.
-fn is_denied(past: &LogPast<'_>, pager: &LogPager, seat: Seat, r: Ref, why: Why) -> bool
-    requires { FollowsFlat past.now.config past.now.past (shown pager.now).pager }
-    ensures { IsTrue result ↔ IsDenied past.now.config past.now.past (shown pager.now).pager seat.0 r why }
+/// Why a reference isn't refused for the flat machine's reason.
+fn flat_denied_fails(
+    past: &LogPast<'_>,
+    pager: &LogPager,
+    seat: Seat,
+    r: Ref,
+    why: Why,
+) -> Option<Reason>
+    requires flat { FollowsFlat past.now.config past.now.past (shown pager.now).pager }
+    requires why { IsFlatWhy why }
+    ensures legal { IsNone result ↔ IsDenied past.now.config past.now.past (shown pager.now).pager seat.0 r why }
+    ensures said { IfSome result (FlatDeniedFails past.now.config past.now.past (shown pager.now).pager seat.0 r why) }
 {
-    let config = past.config();
     let p = Proc(seat.0);
-    is_own(config, pager, p)
-        && is_flat(why)
-        && !is_pending(config, pager.references(p))
-        && flat_refusal_of(past, pager, p, r) == Some(why)
+    if let Some(reason) = own_fails(past.config(), pager, p) {
+        return Some(reason);
+    }
+    refused_fails(past, pager, p, r, why)
 }
 
 /// Whether an address is the first one of the page of another.
@@ -99,74 +142,112 @@ fn is_page_of(at: Addr, a: Addr) -> bool
     at.0 == a.0 / 512 * 512
 }
 
-/// Whether the role, if it is that of a read for a fault, is of the page of this address.
-fn is_role_for(role: Role, a: Addr) -> bool
-    ensures { IsTrue result ↔ ((q : AnyProc) (at : AnyAddress) → role ≡ Role.Fault q at → at.0 ≡ page_number a.0 * 512) }
+/// Why the role, which is that of a read for a fault, isn't of the page of this address.
+fn role_for_fails(role: Role, a: Addr) -> Option<Reason>
+    ensures legal { IsNone result ↔ ((q : AnyProc) (at : AnyAddress) → role ≡ Role.Fault q at → at.0 ≡ page_number a.0 * 512) }
+    ensures said { IfSome result (RoleForFails role a.0) }
 {
     match role {
-        Role::Fault(_, at) => is_page_of(at, a),
-        Role::Near(_) => true,
-        Role::Come(_, _) => true,
+        Role::Fault(_, at) => {
+            if !is_page_of(at, a) {
+                return Some(Reason::LostOtherPage(at));
+            }
+            None
+        }
+        Role::Near(_) => None,
+        Role::Come(_, _) => None,
     }
 }
 
-/// Whether the way, if it is that of a read for a fault, is of the page of this address.
-fn is_for(direction: Direction, a: Addr) -> bool
-    ensures { IsTrue result ↔ ((q : AnyProc) (at : AnyAddress) → direction_of direction ≡ reading (Role.Fault q at) → at.0 ≡ page_number a.0 * 512) }
+/// Why the way, which is that of a read for a fault, isn't of the page of this address.
+fn way_for_fails(direction: Direction, a: Addr) -> Option<Reason>
+    ensures legal { IsNone result ↔ ((q : AnyProc) (at : AnyAddress) → direction_of direction ≡ reading (Role.Fault q at) → at.0 ≡ page_number a.0 * 512) }
+    ensures said { IfSome result (WayForFails (direction_of direction) a.0) }
 {
     match direction {
-        Direction::Reading(role) => is_role_for(role, a),
-        Direction::Writing => true,
+        Direction::Reading(role) => role_for_fails(role, a),
+        Direction::Writing => None,
     }
 }
 
-/// Whether the first read of a seat's last carrier, if that is for a fault, was for the page of
-/// this address.
-fn is_named(past: &LogPast<'_>, seat: Seat, a: Addr) -> bool
+/// Why the first read of a seat's last carrier, which was for a fault, wasn't for the page of this address.
+fn lost_for_fails(past: &LogPast<'_>, seat: Seat, a: Addr) -> Option<Reason>
     requires { seat.0 < length past.now.config.procs + 2 }
-    ensures { IsTrue result ↔ ((x : OpenFlight) (q : AnyProc) (at : AnyAddress) → (carrying seat.0 past.now.past).first ≡ Some x
+    ensures legal { IsNone result ↔ ((x : OpenFlight) (q : AnyProc) (at : AnyAddress) → (carrying seat.0 past.now.past).first ≡ Some x
         → x.direction ≡ reading (Role.Fault q at) → at.0 ≡ page_number a.0 * 512) }
+    ensures said { IfSome result (LostForFails past.now.past seat.0 a.0) }
 {
     match past.carrying(seat).first() {
-        None => true,
-        Some(x) => is_for(x.direction(), a),
+        None => None,
+        Some(x) => way_for_fails(x.direction(), a),
     }
 }
 
-/// Whether a page of a process is mapped and not valid.
-fn is_missing(config: &Config, pager: &LogPager, p: Proc, v: u32) -> bool
-    ensures { IsTrue result ↔ ((g : AnyPage) × (page_by config.now (shown pager.now).pager.map p.0 v ≡ Some g) × (entries_at (shown pager.now).pager.valid p.0 v ≡ 0)) }
+/// Why a process's last carrier isn't lost.
+fn lost_fails(past: &LogPast<'_>, seat: Seat) -> Option<Reason>
+    ensures legal { IsNone result ↔ ((seat.0 < length past.now.config.procs) × HasLost past.now.past seat.0) }
+    ensures said { IfSome result (LostFails past.now.config past.now.past seat.0) }
 {
+    let processes = past.config().procs.items().len();
+    if processes <= seat.0 as usize {
+        return Some(Reason::NoSuchProcess(processes));
+    }
+    if !past.has_lost(seat) {
+        return Some(Reason::CarrierNotLost);
+    }
+    None
+}
+
+/// Why a resident process doesn't wait for the page: it isn't mapped, or is valid.
+fn waits_for_fails(config: &Config, pager: &LogPager, p: Proc, v: u32) -> Option<Reason>
+    ensures legal { IsNone result ↔ (((shown pager.now).pager.status p.0 ≡ ProcStatus.Resident → ⊥)
+        ⊎ ((g : AnyPage) × (page_by config.now (shown pager.now).pager.map p.0 v ≡ Some g) × (entries_at (shown pager.now).pager.valid p.0 v ≡ 0))) }
+    ensures said { IfSome result (WaitsForFails config.now (shown pager.now).pager p.0 v) }
+{
+    if pager.status(p) != ProcStatus::Resident {
+        return None;
+    }
     match pager.page_of(config, p, v) {
-        None => false,
-        Some(_) => pager.entries(p, v) == 0,
+        None => Some(Reason::NotMapped),
+        Some(_) => {
+            if pager.entries(p, v) != 0 {
+                return Some(Reason::PageIsValid);
+            }
+            None
+        }
     }
 }
 
-/// Whether a process isn't resident, or the page of the address is mapped and not valid.
-fn is_waiting(config: &Config, pager: &LogPager, p: Proc, a: Addr) -> bool
-    ensures { IsTrue result ↔ (((shown pager.now).pager.status p.0 ≡ ProcStatus.Resident → ⊥)
-        ⊎ ((g : AnyPage) × (page_by config.now (shown pager.now).pager.map p.0 (page_number a.0) ≡ Some g) × (entries_at (shown pager.now).pager.valid p.0 (page_number a.0) ≡ 0))) }
+/// Why a reference isn't refused for a lost carrier.
+fn denied_fault_fails(past: &LogPast<'_>, pager: &LogPager, seat: Seat, r: Ref) -> Option<Reason>
+    ensures legal { IsNone result ↔ IsDeniedFault past.now.config past.now.past (shown pager.now).pager seat.0 r Why.DiskFault }
+    ensures said { IfSome result (DeniedFaultFails past.now.config past.now.past (shown pager.now).pager seat.0 r) }
 {
-    pager.status(p) != ProcStatus::Resident || is_missing(config, pager, p, a.0 / 512)
+    if let Some(reason) = lost_fails(past, seat) {
+        return Some(reason);
+    }
+    if let Some(reason) = lost_for_fails(past, seat, r.addr) {
+        return Some(reason);
+    }
+    waits_for_fails(past.config(), pager, Proc(seat.0), r.addr.0 / 512)
 }
 
-/// Whether a reference is refused for a lost carrier.
-fn is_denied_fault(past: &LogPast<'_>, pager: &LogPager, seat: Seat, r: Ref, why: Why) -> bool
-    ensures { IsTrue result ↔ IsDeniedFault past.now.config past.now.past (shown pager.now).pager seat.0 r why }
-{
-    let config = past.config();
-    (seat.0 as usize) < config.procs.items().len()
-        && why == Why::DiskFault
-        && past.has_lost(seat)
-        && is_named(past, seat, r.addr)
-        && is_waiting(config, pager, Proc(seat.0), r.addr)
-}
-
-/// Whether a reference is refused.
-pub(crate) fn is_denial(past: &LogPast<'_>, pager: &LogPager, seat: Seat, r: Ref, why: Why) -> bool
+/// Why a reference isn't refused.
+pub(crate) fn denied_fails(
+    past: &LogPast<'_>,
+    pager: &LogPager,
+    seat: Seat,
+    r: Ref,
+    why: Why,
+) -> Option<Reason>
     requires { FollowsFlat past.now.config past.now.past (shown pager.now).pager }
-    ensures { IsTrue result ↔ IsDenial past.now.config past.now.past (shown pager.now).pager seat.0 r why }
+    ensures legal { IsNone result ↔ IsDenial past.now.config past.now.past (shown pager.now).pager seat.0 r why }
+    ensures said { IfSome result (DeniedFails why past.now.config past.now.past (shown pager.now).pager seat.0 r) }
 {
-    is_denied(past, pager, seat, r, why) || is_denied_fault(past, pager, seat, r, why)
+    match why {
+        Why::DiskFault => denied_fault_fails(past, pager, seat, r),
+        Why::Unmapped => flat_denied_fails(past, pager, seat, r, Why::Unmapped),
+        Why::Protected => flat_denied_fails(past, pager, seat, r, Why::Protected),
+        Why::PageFileFull => flat_denied_fails(past, pager, seat, r, Why::PageFileFull),
+    }
 }

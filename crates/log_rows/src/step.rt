@@ -1,57 +1,60 @@
-//! Whether an entry is a legal next one.
+//! Why an entry isn't a legal next one.
 
-ghost use Rattle.std.specs.Prelude.{◌≡◌, ◌↔◌, ◌+◌, ◌<◌, ◌≤◌, IsTrue, length};
+ghost use Rattle.std.specs.Prelude.{◌≡◌, ◌↔◌, ◌+◌, ◌<◌, ◌≤◌, IfSome, IsNone, IsTrue, length};
 ghost use Rattle.vm_journal.specs.HasLine.{HasLine, WhatHasLine};
 ghost use Rattle.pager_model.specs.Order.{IsInOrder};
 ghost use Rattle.pager_model.specs.Step.{IsLegal, IsLegalWhat};
+ghost use Rattle.log_reasons.specs.EntryReasons.{EntryFails, WhatFails};
 ghost use Rattle.log_pager.specs.Shown.{shown};
 ghost use Rattle.log_rows.specs.Follows.{Follows, FollowsFlat};
 
-use crate::collide::is_collide;
-use crate::evictions::is_evict;
-use crate::landings::{is_in_fail, is_in_ok, is_out_fail, is_out_ok};
+use crate::collide::collide_fails;
+use crate::evictions::evict_fails;
+use crate::landings::{in_fail_fails, in_ok_fails, out_fail_fails, out_ok_fails};
 use crate::line::has_line;
-use crate::pages::{is_back, is_reuse, is_zero};
-use crate::processes::{is_limit, is_turn};
-use crate::reads::is_in;
-use crate::references::{is_denial, is_done};
-use crate::turns::is_in_turn;
-use crate::writes::is_out;
+use crate::pages::{back_fails, reuse_fails, zero_fails};
+use crate::processes::{limit_fails, turn_fails};
+use crate::reads::in_fails;
+use crate::references::{denied_fails, done_fails};
+use crate::turns::in_turn_fails;
+use crate::writes::out_fails;
 use log_pager::LogPager;
 use log_past::LogPast;
+use log_reasons::Reason;
 use pager_laws::{flat_machine_follows, runs_are_of_configuration};
-use service_rows::is_served;
+use service_rows::served_fails;
 use vm_journal::{Entry, What};
 use vm_types::Seat;
 
-/// Whether an entry of its kind that has a line is legal by its row.
-fn is_legal_what(past: &LogPast<'_>, pager: &LogPager, seat: Seat, what: What) -> bool
+/// Why an entry of its kind that has a line isn't legal by its row.
+fn what_fails(past: &LogPast<'_>, pager: &LogPager, seat: Seat, what: What) -> Option<Reason>
     requires line { WhatHasLine (length past.now.config.procs) past.now.config.sections what }
     requires seat { seat.0 < length past.now.config.procs + 2 }
     requires processes { (shown pager.now).processes ≡ length past.now.config.procs }
     requires frames { (shown pager.now).frames ≤ 16384 }
     requires flat { FollowsFlat past.now.config past.now.past (shown pager.now).pager }
     requires order { IsInOrder past.now.config past.now.past }
-    ensures { IsTrue result ↔ IsLegalWhat past.now.config past.now.past (shown pager.now).pager seat.0 what }
+    ensures legal { IsNone result ↔ IsLegalWhat past.now.config past.now.past (shown pager.now).pager seat.0 what }
+    ensures said { IfSome result (WhatFails past.now.config past.now.past (shown pager.now).pager seat.0 what) }
 {
     let config = past.config();
     match what {
-        What::Done { r, reply: _ } => is_done(config, pager, seat, r),
-        What::Denied { r, why } => is_denial(past, pager, seat, r, why),
-        What::Served { s, answer } => is_served(past, pager, seat, s, answer),
-        What::Reuse { f, page } => is_reuse(past, pager, seat, f, page),
-        What::Zero { a, f } => is_zero(config, pager, seat, a, f),
-        What::Back { p, a, f, from } => is_back(config, pager, seat, p, a, f, from),
-        What::Collide { a, f, k } => is_collide(past, pager, seat, a, f, k),
-        What::In { f, block, role } => is_in(past, pager, seat, f, block, role),
-        What::InOk { f, k } => is_in_ok(past, seat, f, k),
-        What::InFail { f, k, c, d } => is_in_fail(past, seat, f, k, c, d),
-        What::Out { f, block } => is_out(past, pager, f, block),
-        What::OutOk { f, k } => is_out_ok(past, seat, f, k),
-        What::OutFail { f, k, c, d } => is_out_fail(past, seat, f, k, c, d),
-        What::Evict { p, a, f, why, to } => is_evict(past, pager, seat, p, a, f, why, to),
-        What::Limit { n, faults } => is_limit(config, pager, seat, n, faults),
-        What::Turn { p, status } => is_turn(past, pager, p, status),
+        What::Done { r, reply: _ } => done_fails(config, pager, seat, r),
+        What::Denied { r, why } => denied_fails(past, pager, seat, r, why),
+        What::Served { s, answer } => served_fails(past, pager, seat, s, answer),
+        What::Reuse { f, page } => reuse_fails(past, pager, seat, f, page),
+        What::Zero { a, f } => zero_fails(config, pager, seat, a, f),
+        What::Back { p, a, f, from } => back_fails(config, pager, seat, p, a, f, from),
+        What::Collide { a, f, k } => collide_fails(past, pager, seat, a, f, k),
+        What::In { f, block, role } => in_fails(past, pager, seat, f, block, role),
+        What::InOk { f, k } => in_ok_fails(past, seat, f, k),
+        What::InFail { f, k, c, d } => in_fail_fails(past, seat, f, k, c, d),
+        What::Out { f, block } => out_fails(past, pager, f, block),
+        What::OutOk { f, k } => out_ok_fails(past, seat, f, k),
+        What::OutFail { f, k, c, d } => out_fail_fails(past, seat, f, k, c, d),
+        What::Evict { p, a, f, why, to } => evict_fails(past, pager, seat, p, a, f, why, to),
+        What::Limit { n, faults } => limit_fails(config, pager, seat, n, faults),
+        What::Turn { p, status } => turn_fails(past, pager, p, status),
     }
 }
 
@@ -63,16 +66,20 @@ fn has_line_after(past: &LogPast<'_>, e: Entry) -> bool
     has_line(past.config(), e)
 }
 
-/// Whether an entry is a legal next one after those so far, which led to this state of the pager.
-/// Doesn't allocate.
-pub fn is_legal(past: &LogPast<'_>, pager: &LogPager, e: Entry) -> bool
+/// Why an entry isn't a legal next one after those so far, which led to this state of the pager: the
+/// first condition of it that doesn't hold, if there is one. Doesn't allocate.
+pub fn fails(past: &LogPast<'_>, pager: &LogPager, e: Entry) -> Option<Reason>
     requires { Follows past.now.config past.now.past (shown pager.now) }
-    ensures { IsTrue result ↔ IsLegal past.now.config past.now.past (shown pager.now).pager e }
+    ensures legal { IsNone result ↔ IsLegal past.now.config past.now.past (shown pager.now).pager e }
+    ensures said { IfSome result (EntryFails past.now.config past.now.past (shown pager.now).pager e) }
 {
     if !has_line_after(past, e) {
-        return false;
+        return Some(Reason::OutOfBounds);
     }
     flat_machine_follows();
     runs_are_of_configuration();
-    is_in_turn(past, e) && is_legal_what(past, pager, e.seat, e.what)
+    if let Some(reason) = in_turn_fails(past, e) {
+        return Some(reason);
+    }
+    what_fails(past, pager, e.seat, e.what)
 }

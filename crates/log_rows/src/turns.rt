@@ -1,11 +1,13 @@
-//! Whose turn it is: the three rules of seats.
+//! Why an entry isn't in turn: the three rules of seats.
 
-ghost use Rattle.std.specs.Prelude.{◌≡◌, ◌↔◌, ◌+◌, ◌<◌, Some, IsTrue, length, nat_eq};
+ghost use Rattle.std.specs.Prelude.{◌≡◌, ◌↔◌, ◌⊎◌, ◌+◌, ◌<◌, true, Some, IfSome, IsNone, length, nat_eq};
 ghost use Rattle.pager_model.specs.Carrier.{carrying};
-ghost use Rattle.pager_model.specs.Flights.{Flight as OpenFlight, begun_by, reading, writing};
+ghost use Rattle.pager_model.specs.Flights.{Flight as OpenFlight, awaits_reuse, begun_by, failed_flight, is_busy, open_flights, reading, writing};
 ghost use Rattle.pager_model.specs.InTurn.{InTurn, MayJoin, is_flight_work, is_next_block, is_reuse_of};
+ghost use Rattle.log_reasons.specs.SeatReasons.{FlightWorkFails, InTurnFails, JoinsFail, MayJoinFails, ReuseNextFails};
 
 use log_past::{Carrying, Flight, LogPast};
+use log_reasons::Reason;
 use vm_journal::{Entry, Role, What};
 use vm_types::{BlockId, Config, Seat};
 
@@ -68,59 +70,112 @@ fn is_reuse_of(what: What, seat: Seat, failed: Option<Flight>) -> bool
     }
 }
 
-/// Whether a read or a write of a block may join a seat's carrier.
-fn may_join_read(config: &Config, c: Carrying, block: BlockId, role: Role) -> bool
-    ensures { (x : OpenFlight) → x.block ≡ block → x.direction ≡ reading role → (IsTrue result ↔ MayJoin config.now c x) }
+/// Why a read of a block may not join a seat's carrier.
+fn read_joins_fail(config: &Config, c: Carrying, block: BlockId, role: Role) -> Option<Reason>
+    ensures legal { (x : OpenFlight) → x.block ≡ block → x.direction ≡ reading role → (IsNone result ↔ MayJoin config.now c x) }
+    ensures said { (x : OpenFlight) → x.block ≡ block → x.direction ≡ reading role → IfSome result (MayJoinFails config.now c x) }
 {
+    if c.landed() != 0 {
+        return Some(Reason::CarrierHasLanded(c.landed()));
+    }
     let Some(last) = c.last() else {
-        return false;
+        return Some(Reason::CarrierGoesOtherWay);
     };
-    let is_fault = match role {
-        Role::Fault(_, _) => true,
-        Role::Near(_) | Role::Come(_, _) => false,
-    };
-    c.landed() == 0
-        && last.direction().is_reading()
-        && is_next_block(last.block(), block)
-        && c.begun() < u64::from(config.params.pfc)
-        && !is_fault
+    if !last.direction().is_reading() {
+        return Some(Reason::CarrierGoesOtherWay);
+    }
+    if !is_next_block(last.block(), block) {
+        return Some(Reason::NotNextBlock(last.block()));
+    }
+    if u64::from(config.params.pfc) <= c.begun() {
+        return Some(Reason::ClusterIsFull(config.params.pfc));
+    }
+    match role {
+        Role::Fault(_, _) => Some(Reason::FaultIsNotFirst),
+        Role::Near(_) | Role::Come(_, _) => None,
+    }
 }
 
-/// Whether a write to a block may join a seat's carrier.
-fn may_join_write(config: &Config, c: Carrying, block: BlockId) -> bool
-    ensures { (x : OpenFlight) → x.block ≡ block → x.direction ≡ writing → (IsTrue result ↔ MayJoin config.now c x) }
+/// Why a write to a block may not join a seat's carrier.
+fn write_joins_fail(config: &Config, c: Carrying, block: BlockId) -> Option<Reason>
+    ensures legal { (x : OpenFlight) → x.block ≡ block → x.direction ≡ writing → (IsNone result ↔ MayJoin config.now c x) }
+    ensures said { (x : OpenFlight) → x.block ≡ block → x.direction ≡ writing → IfSome result (MayJoinFails config.now c x) }
 {
+    if c.landed() != 0 {
+        return Some(Reason::CarrierHasLanded(c.landed()));
+    }
     let Some(last) = c.last() else {
-        return false;
+        return Some(Reason::CarrierGoesOtherWay);
     };
-    c.landed() == 0
-        && !last.direction().is_reading()
-        && is_next_block(last.block(), block)
-        && c.begun() < u64::from(config.params.wrtcluster)
+    if last.direction().is_reading() {
+        return Some(Reason::CarrierGoesOtherWay);
+    }
+    if !is_next_block(last.block(), block) {
+        return Some(Reason::NotNextBlock(last.block()));
+    }
+    if u64::from(config.params.wrtcluster) <= c.begun() {
+        return Some(Reason::ClusterIsFull(config.params.wrtcluster));
+    }
+    None
 }
 
-/// Whether the flight that the entry begins, if it begins one, may join its seat's carrier.
-fn joins(past: &LogPast<'_>, e: Entry) -> bool
-    requires { (e.seat).0 < length past.now.config.procs + 2 }
-    ensures { IsTrue result ↔ ((x : OpenFlight) → begun_by (length past.now.past + 1) (e.seat).0 e.what ≡ Some x → MayJoin past.now.config (carrying (e.seat).0 past.now.past) x) }
+/// Why the flight that the entry begins, if it begins one, may not join its seat's carrier.
+fn joins_fail(past: &LogPast<'_>, e: Entry) -> Option<Reason>
+    requires seat { (e.seat).0 < length past.now.config.procs + 2 }
+    requires busy { is_busy (e.seat).0 (open_flights past.now.past) ≡ true }
+    ensures legal { IsNone result ↔ ((x : OpenFlight) → begun_by (length past.now.past + 1) (e.seat).0 e.what ≡ Some x → MayJoin past.now.config (carrying (e.seat).0 past.now.past) x) }
+    ensures said { IfSome result (JoinsFail past.now.config past.now.past e) }
 {
     match e.what {
         What::In { f: _, block, role } => {
-            may_join_read(past.config(), past.carrying(e.seat), block, role)
+            read_joins_fail(past.config(), past.carrying(e.seat), block, role)
         }
-        What::Out { f: _, block } => may_join_write(past.config(), past.carrying(e.seat), block),
-        _ => true,
+        What::Out { f: _, block } => write_joins_fail(past.config(), past.carrying(e.seat), block),
+        _ => None,
     }
 }
 
-/// Whether the entry is in turn by the rules of seats.
-pub(crate) fn is_in_turn(past: &LogPast<'_>, e: Entry) -> bool
-    requires { (e.seat).0 < length past.now.config.procs + 2 }
-    ensures { IsTrue result ↔ InTurn past.now.config past.now.past e }
+/// Why the entry isn't the reuse that a failed read asks for, if the newest entry is one.
+fn reuse_next_fails(past: &LogPast<'_>, e: Entry) -> Option<Reason>
+    ensures legal { IsNone result ↔ (awaits_reuse past.now.past ≡ true → is_reuse_of e.what (e.seat).0 (failed_flight past.now.past) ≡ true) }
+    ensures said { IfSome result (ReuseNextFails past.now.past e) }
 {
-    let is_reuse = is_reuse_of(e.what, e.seat, past.failed());
-    if past.awaits_reuse() && !is_reuse {
-        return false;
+    let failed = past.failed();
+    match failed {
+        None => None,
+        Some(x) => {
+            if !is_reuse_of(e.what, e.seat, failed) {
+                return Some(Reason::ReuseComesNext(x.seat(), x.frame()));
+            }
+            None
+        }
     }
-    !past.is_busy(e.seat) || is_flight_work(e.what) && joins(past, e)
+}
+
+/// Why a seat with an open flight may not make the entry.
+fn busy_fails(past: &LogPast<'_>, e: Entry) -> Option<Reason>
+    requires { (e.seat).0 < length past.now.config.procs + 2 }
+    ensures legal { IsNone result ↔ ((is_busy (e.seat).0 (open_flights past.now.past) ≡ true → is_flight_work e.what ≡ true)
+        × ((x : OpenFlight) → begun_by (length past.now.past + 1) (e.seat).0 e.what ≡ Some x → is_busy (e.seat).0 (open_flights past.now.past) ≡ true → MayJoin past.now.config (carrying (e.seat).0 past.now.past) x)) }
+    ensures said { IfSome result (λ r. FlightWorkFails past.now.past e r ⊎ JoinsFail past.now.config past.now.past e r) }
+{
+    if !past.is_busy(e.seat) {
+        return None;
+    }
+    if !is_flight_work(e.what) {
+        return Some(Reason::SeatHasOpenTransfer);
+    }
+    joins_fail(past, e)
+}
+
+/// Why the entry isn't in turn by the rules of seats.
+pub(crate) fn in_turn_fails(past: &LogPast<'_>, e: Entry) -> Option<Reason>
+    requires { (e.seat).0 < length past.now.config.procs + 2 }
+    ensures legal { IsNone result ↔ InTurn past.now.config past.now.past e }
+    ensures said { IfSome result (InTurnFails past.now.config past.now.past e) }
+{
+    if let Some(reason) = reuse_next_fails(past, e) {
+        return Some(reason);
+    }
+    busy_fails(past, e)
 }

@@ -1,17 +1,53 @@
 //! What `check` says of logs, and of input that has none.
 
-use crate::clusters::{WRITTEN_TOGETHER, WRITTEN_TOGETHER_TEXT};
-use crate::several_processes::{SHARED_PAGE, SHARED_PAGE_TEXT};
-use crate::swapping::{OUT_AND_IN_AGAIN, OUT_AND_IN_AGAIN_TEXT};
+use crate::clusters::{NEIGHBOURS, NEIGHBOURS_TEXT, WRITTEN_TOGETHER, WRITTEN_TOGETHER_TEXT};
+use crate::failing_blocks::{DIRTY_PAGE, DIRTY_PAGE_TEXT};
+use crate::sections::{LAST_PAGES, LAST_PAGES_TEXT};
+use crate::services::{GROWING_LIMIT, GROWING_LIMIT_TEXT, LOCKS, LOCKS_TEXT};
+use crate::several_processes::{COPIES, COPIES_TEXT, SHARED_PAGE, SHARED_PAGE_TEXT};
+use crate::swapping::{LEFT_OVER, LEFT_OVER_TEXT, OUT_AND_IN_AGAIN, OUT_AND_IN_AGAIN_TEXT};
 use program_runs::{FIRST_RUN, FIRST_RUN_TEXT, outcome};
 use replay_cli::Status;
 use std::alloc::Global;
 use std::test::Fail;
 use vm_types::NoMemory;
 
+// Both processes refer to a page whose block's first read fails: the second process meets that read, the first
+// one's reference is refused, and the second reads the page again.
+pub(super) const COLLISION: &str = "VMTRACE 1\n\
+FRAMES 8\n\
+PAGEFILE 4\n\
+SECTION LIB SHARED 1\n\
+PROCESS A 2 2 2 0\n\
+PROCESS B 2 2 2 0\n\
+MAPSEC A 00000000 1 LIB 0 UR\n\
+MAPSEC B 00000000 1 LIB 0 UR\n\
+FAIL S:LIB/0 1\n\
+BODY\n\
+A R1 00000000\n\
+B R1 00000000\n\
+END\n";
+
+pub(super) const COLLISION_TEXT: &str = "1 A IN F0 S:LIB/0 FAULT A/00000000\n\
+2 B COLLIDE 00000000 F0 1\n\
+3 A INFAIL F0 1 0 1\n\
+4 A REUSE F0 LIB/0\n\
+5 A DENIED R1 00000000 DISKFAULT\n\
+6 B IN F0 S:LIB/0 FAULT B/00000000\n\
+7 B INOK F0 6\n\
+8 B DONE R1 00000000 00\n\
+PFN AT 8\n\
+FREE 7 MODIFIED 0 BAD 0 RELEASE 0 READERROR 0 WRITING 0 READING 0 ACTIVE 1\n\
+FRAME 0 ACTIVE LIB/0 MODIFY 0 REFS 1 SHARES 1\n\
+PAGEFILE 4 CHARGED 0 ASSIGNED 0\n\
+PROCESS A RESIDENT COUNT 0 LIMIT 2\n\
+PROCESS B RESIDENT COUNT 1 LIMIT 2\n\
+9 MPW EVICT B 00000000 F0 RUNDOWN FREE\n\
+STATUS 0\n";
+
 // How a log differs from the one that a run writes.
 #[derive(Clone, Copy)]
-enum Change {
+pub(super) enum Change {
     // This stands in the place of the line of this number.
     Line(usize, &'static str),
     // So many lines stand, and this behind them.
@@ -36,7 +72,12 @@ fn parted(log: &[u8], lines: usize) -> (&[u8], &[u8]) {
 }
 
 // The trace, the line LOG, and the log with its change.
-fn input(alloc: Global, trace: &str, log: &str, change: Change) -> Result<Vec<u8>, NoMemory> {
+pub(super) fn input(
+    alloc: Global,
+    trace: &str,
+    log: &str,
+    change: Change,
+) -> Result<Vec<u8>, NoMemory> {
     let log = log.as_bytes();
     let mut text = Vec::from_slice(alloc, trace.as_bytes())?;
     text.extend_from_slice(b"LOG\n")?;
@@ -165,6 +206,29 @@ fn ends_a_check_early(rt: HostRuntime) -> Result<(), Fail> {
         let told = outcome(alloc, words, &text, read_fails, write_fails, &[], &[])?;
         assert_eq!(rt; told.0, Status(status));
         assert_eq!(rt; told.1.as_slice(), written);
+    }
+    Ok(())
+}
+
+// Logs with entries of all sixteen kinds, of failing blocks, services, an adjusted limit, a copied page and a page
+// of the stack.
+#[test]
+fn judges_whole_logs(rt: HostRuntime) -> Result<(), Fail> {
+    let table: [(&str, &str, &str); 8] = [
+        (COLLISION, COLLISION_TEXT, "LOG OK 9\nSTATUS 0\n"),
+        (DIRTY_PAGE, DIRTY_PAGE_TEXT, "LOG OK 16\nSTATUS 0\n"),
+        (GROWING_LIMIT, GROWING_LIMIT_TEXT, "LOG OK 19\nSTATUS 0\n"),
+        (LOCKS, LOCKS_TEXT, "LOG OK 13\nSTATUS 0\n"),
+        (COPIES, COPIES_TEXT, "LOG OK 6\nSTATUS 0\n"),
+        (LAST_PAGES, LAST_PAGES_TEXT, "LOG OK 5\nSTATUS 0\n"),
+        (LEFT_OVER, LEFT_OVER_TEXT, "LOG OK 62\nSTATUS 0\n"),
+        (NEIGHBOURS, NEIGHBOURS_TEXT, "LOG OK 13\nSTATUS 0\n"),
+    ];
+    for (trace, log, written) in table {
+        let text = input(rt.alloc(), trace, log, WHOLE)?;
+        let told = outcome(rt.alloc(), &["check"], &text, &[], &[], &[], &[])?;
+        assert_eq!(rt; told.0, Status(0));
+        assert_eq!(rt; told.1.as_slice(), written.as_bytes());
     }
     Ok(())
 }

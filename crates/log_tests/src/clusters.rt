@@ -64,7 +64,7 @@ STATUS 0\n";
 
 // A page is read with the one after it, which is found on the free list later. The page before
 // them is read by itself, for the next ones are in frames.
-const NEIGHBOURS: &str = "VMTRACE 1\n\
+pub(super) const NEIGHBOURS: &str = "VMTRACE 1\n\
 FRAMES 8\n\
 PAGEFILE 4\n\
 SECTION LIB SHARED 3\n\
@@ -76,7 +76,7 @@ A R1 00000400\n\
 A R1 00000000\n\
 END\n";
 
-const NEIGHBOURS_TEXT: &str = "1 A IN F0 S:LIB/1 FAULT A/00000200\n\
+pub(super) const NEIGHBOURS_TEXT: &str = "1 A IN F0 S:LIB/1 FAULT A/00000200\n\
 2 A IN F1 S:LIB/2 NEAR LIB/2\n\
 3 A INOK F0 1\n\
 4 A INOK F1 2\n\
@@ -100,7 +100,7 @@ STATUS 0\n";
 
 // The modified list may have one page alone, so it is written before another page is evicted to
 // it.
-const WAITING_FOR_A_WRITE: &str = "VMTRACE 1\n\
+pub(super) const WAITING_FOR_A_WRITE: &str = "VMTRACE 1\n\
 FRAMES 8\n\
 PAGEFILE 4\n\
 PARAM HILIMIT 1\n\
@@ -115,7 +115,7 @@ A W1 00000400 03\n\
 A W1 00000600 04\n\
 END\n";
 
-const WAITING_FOR_A_WRITE_TEXT: &str = "1 A ZERO 00000000 F0\n\
+pub(super) const WAITING_FOR_A_WRITE_TEXT: &str = "1 A ZERO 00000000 F0\n\
 2 A DONE W1 00000000 01\n\
 3 A ZERO 00000200 F1\n\
 4 A DONE W1 00000200 02\n\
@@ -138,7 +138,7 @@ PROCESS A RESIDENT COUNT 2 LIMIT 2\n\
 STATUS 0\n";
 
 // A cluster of at most two pages.
-const TWO_AT_MOST: &str = "VMTRACE 1\n\
+pub(super) const TWO_AT_MOST: &str = "VMTRACE 1\n\
 FRAMES 8\n\
 PAGEFILE 4\n\
 PARAM PFC 2\n\
@@ -149,7 +149,7 @@ BODY\n\
 A R1 00000000\n\
 END\n";
 
-const TWO_AT_MOST_TEXT: &str = "1 A IN F0 S:LIB/0 FAULT A/00000000\n\
+pub(super) const TWO_AT_MOST_TEXT: &str = "1 A IN F0 S:LIB/0 FAULT A/00000000\n\
 2 A IN F1 S:LIB/1 NEAR LIB/1\n\
 3 A INOK F0 1\n\
 4 A INOK F1 2\n\

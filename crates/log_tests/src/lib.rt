@@ -9,6 +9,8 @@ mod checks;
 #[cfg(test)]
 mod clusters;
 #[cfg(test)]
+mod failing_blocks;
+#[cfg(test)]
 mod replacement;
 #[cfg(test)]
 mod sections;
@@ -20,3 +22,5 @@ mod several_processes;
 mod swapping;
 #[cfg(test)]
 mod texts;
+#[cfg(test)]
+mod wrong_lines;

@@ -29,7 +29,7 @@ PROCESS A RESIDENT COUNT 1 LIMIT 4\n\
 STATUS 0\n";
 
 // The last two pages of the region that grows downwards; the byte below them isn't mapped.
-const LAST_PAGES: &str = "VMTRACE 1\n\
+pub(super) const LAST_PAGES: &str = "VMTRACE 1\n\
 FRAMES 8\n\
 PAGEFILE 4\n\
 PROCESS A 4 4 4 0\n\
@@ -40,7 +40,7 @@ A R1 7FFFFBFF\n\
 A R1 7FFFFFFF\n\
 END\n";
 
-const LAST_PAGES_TEXT: &str = "1 A ZERO 7FFFFC00 F0\n\
+pub(super) const LAST_PAGES_TEXT: &str = "1 A ZERO 7FFFFC00 F0\n\
 2 A DONE R1 7FFFFC00 00\n\
 3 A DENIED R1 7FFFFBFF UNMAPPED\n\
 4 A ZERO 7FFFFE00 F1\n\

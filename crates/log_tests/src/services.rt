@@ -5,7 +5,7 @@ use std::test::Fail;
 
 // With a page file of one block a second page may be touched once the first is deleted. The first
 // is created again, and is refused until the second one is deleted.
-const DELETIONS: &str = "VMTRACE 1\n\
+pub(super) const DELETIONS: &str = "VMTRACE 1\n\
 FRAMES 8\n\
 PAGEFILE 1\n\
 PROCESS A 4 4 4 0\n\
@@ -20,7 +20,7 @@ A DELTVA 00000200 1\n\
 A R1 00000000\n\
 END\n";
 
-const DELETIONS_TEXT: &str = "1 A ZERO 00000000 F0\n\
+pub(super) const DELETIONS_TEXT: &str = "1 A ZERO 00000000 F0\n\
 2 A DONE W1 00000000 07\n\
 3 A EVICT A 00000000 F0 DELETE MODIFIED\n\
 4 A SERVED DELTVA 00000000 1 OK\n\
@@ -41,7 +41,7 @@ STATUS 0\n";
 
 // The limit is looked at after every four references. Two faults leave it as it is. Three raise it
 // by one, to the quota and not beyond, for few frames are free.
-const GROWING_LIMIT: &str = "VMTRACE 1\n\
+pub(super) const GROWING_LIMIT: &str = "VMTRACE 1\n\
 FRAMES 8\n\
 PAGEFILE 8\n\
 PARAM AWSTIME 4\n\
@@ -63,7 +63,7 @@ A R1 00000800\n\
 A R1 00000800\n\
 END\n";
 
-const GROWING_LIMIT_TEXT: &str = "1 A ZERO 00000000 F0\n\
+pub(super) const GROWING_LIMIT_TEXT: &str = "1 A ZERO 00000000 F0\n\
 2 A DONE R1 00000000 00\n\
 3 A DONE R1 00000000 00\n\
 4 A ZERO 00000200 F1\n\
@@ -95,7 +95,7 @@ STATUS 0\n";
 
 // One page may be locked, and a second may not. The limit stays above the locks. A purge leaves
 // the locked page. Then it is unlocked, and its code keeps a write out.
-const LOCKS: &str = "VMTRACE 1\n\
+pub(super) const LOCKS: &str = "VMTRACE 1\n\
 FRAMES 8\n\
 PAGEFILE 4\n\
 PROCESS A 4 4 4 1\n\
@@ -113,7 +113,7 @@ A SETPRT 00000000 1 UR\n\
 A W1 00000000 01\n\
 END\n";
 
-const LOCKS_TEXT: &str = "1 A ZERO 00000000 F0\n\
+pub(super) const LOCKS_TEXT: &str = "1 A ZERO 00000000 F0\n\
 2 A DONE R1 00000000 00\n\
 3 A ZERO 00000200 F1\n\
 4 A DONE R1 00000200 00\n\

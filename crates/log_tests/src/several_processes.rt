@@ -9,7 +9,7 @@ use vm_types::{BlockId, SecId};
 
 // One process writes its page of a copy on reference section. The other reads the section's byte
 // from the block, and has a page of its own.
-const COPIES: &str = "VMTRACE 1\n\
+pub(super) const COPIES: &str = "VMTRACE 1\n\
 FRAMES 8\n\
 PAGEFILE 4\n\
 SECTION IMG CRF 1\n\
@@ -23,7 +23,7 @@ A W1 00000000 22\n\
 B R1 00000000\n\
 END\n";
 
-const COPIES_TEXT: &str = "1 A IN F0 S:IMG/0 FAULT A/00000000\n\
+pub(super) const COPIES_TEXT: &str = "1 A IN F0 S:IMG/0 FAULT A/00000000\n\
 2 A INOK F0 1\n\
 3 A DONE W1 00000000 22\n\
 4 B IN F1 S:IMG/0 FAULT B/00000000\n\

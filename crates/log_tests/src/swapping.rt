@@ -103,7 +103,7 @@ STATUS 0\n";
 
 // The same with a first write to one swap block that fails: that page stays when the others are
 // evicted, and is written again.
-const LEFT_OVER: &str = "VMTRACE 1\n\
+pub(super) const LEFT_OVER: &str = "VMTRACE 1\n\
 FRAMES 8\n\
 PAGEFILE 16\n\
 PROCESS A 6 6 6 0\n\
@@ -124,7 +124,7 @@ B W1 00000600 04\n\
 A R1 00000400\n\
 END\n";
 
-const LEFT_OVER_TEXT: &str = "1 A ZERO 00000000 F0\n\
+pub(super) const LEFT_OVER_TEXT: &str = "1 A ZERO 00000000 F0\n\
 2 A DONE W1 00000000 01\n\
 3 A ZERO 00000200 F1\n\
 4 A DONE W1 00000200 02\n\

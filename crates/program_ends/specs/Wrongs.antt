@@ -7,6 +7,8 @@ use Rattle.trace_reader.specs.declared.fault.TraceFault.{TraceFault}
 use Rattle.trace_reader.specs.declared.fault.TraceFault.TheVariants as fault
 use Rattle.line_source.specs.LineText.{line_text}
 use Rattle.pager_model.specs.Text.{ended, status_line}
+use Rattle.log_reasons.specs.LineReasons.{IsWhy}
+use Rattle.log_reasons.specs.declared.line_reason.LineReason.{LineReason}
 use Rattle.program_ends.specs.FaultText.{fault_text, unfinished_text}
 use Rattle.program_ends.specs.declared.wrong.Wrong.{Wrong}
 use Rattle.program_ends.specs.declared.wrong.Wrong.TheVariants.{Line, Unfinished, LogTooLong, LogLine}
@@ -23,13 +25,13 @@ abbrev pub wrong_status : Wrong → ℕ
 wrong_status (Line number cause) = 2
 wrong_status Unfinished = 2
 wrong_status LogTooLong = 2
-wrong_status (LogLine number) = 8
+wrong_status (LogLine number reason) = 8
 
 abbrev pub wrong_text : Wrong → List ℕ
 wrong_text (Line number cause) = fault_text number cause ++ status_line 2
 wrong_text Unfinished = unfinished_text ++ status_line 2
 wrong_text LogTooLong = log_too_long_text ++ status_line 2
-wrong_text (LogLine number) = log_fault_text number ++ status_line 8
+wrong_text (LogLine number reason) = log_fault_text number ++ status_line 8
 
 -- the status and the text say that this is wrong; if nothing is wrong, the status is that of no such input
 abbrev pub IsWrong : Option Wrong → ℕ → List ℕ → Type 0
@@ -48,17 +50,19 @@ wrong_of fault.Unfinished = Some Unfinished
 wrong_of fault.ReadFault = None
 wrong_of fault.NoMemory = None
 
--- the first bytes of a line of the log that stands behind a trace
-pub record IsLogText (number : ℕ) (text kept : List ℕ) : Type 0 where
+-- the first bytes of the line of this number of the log that stands behind a trace, and why it isn't a legal next one
+pub record IsLogText (number : ℕ) (reason : LineReason) (text kept : List ℕ) : Type 0 where
   pub config : Config
   pub log : List ℕ
   pub head : head_of text ≡ Configured config log
   pub is : kept ≡ line_text number log
+  pub why : IsWhy config log number reason
 
--- of the faulty line of the trace or the log that the input had, if that is known, the first bytes were kept
+-- of the faulty line of the trace or the log that the input had, if that is known, the first bytes were kept, and of
+-- a log it is said why
 abbrev pub IsWrongText : Option Wrong → Option (List ℕ) → List ℕ → Type 0
 IsWrongText None input kept = Unit {0}
 IsWrongText (Some (Line number cause)) input kept = IfSome input (λ text. kept ≡ line_text number text)
 IsWrongText (Some Unfinished) input kept = Unit {0}
 IsWrongText (Some LogTooLong) input kept = Unit {0}
-IsWrongText (Some (LogLine number)) input kept = IfSome input (λ text. IsLogText number text kept)
+IsWrongText (Some (LogLine number reason)) input kept = IfSome input (λ text. IsLogText number reason text kept)

@@ -108,7 +108,7 @@ fn explains(rt: HostRuntime) -> Result<(), Fail> {
             &[name, b"check"],
             b"VMTRACE 1\nFRAMES 8\nPAGEFILE 4\nPROCESS A 4 4 4 0\nBODY\nEND\nLOG\nPFN AT 0\nFREE 7\n",
             8,
-            b"neqysbar: line 2 of the log isn't a legal next line, or is missing: FREE 7\n",
+            b"neqysbar: log line 2: FREE 7: the line that comes here is FREE 8 MODIFIED 0 BAD 0 RELEASE 0 READERROR 0 WRITING 0 READING 0 ACTIVE 0\n",
         ),
     ];
     for (words, trace, status, message) in table {

@@ -1,3 +1,2 @@
 pub mod MappedRanges
-pub mod Only
 pub mod Places

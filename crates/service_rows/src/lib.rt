@@ -1,6 +1,6 @@
-//! Whether an entry of a log that answers a service is a legal next one: the row of its kind, decided from
-//! what the entries so far say and the pager's state after them; and what other rows ask besides of a
-//! process, a frame or a page.
+//! Why an entry of a log that answers a service isn't a legal next one, if it isn't: the row of its kind,
+//! decided from what the entries so far say and the pager's state after them; and what other rows ask
+//! besides of a process, a frame or a page.
 #![tactic(auto)]
 
 mod limits;
@@ -9,5 +9,5 @@ mod own;
 mod ranges;
 mod services;
 
-pub use own::{is_below_limit, is_empty_head, is_own, is_private, spec_of};
-pub use services::is_served;
+pub use own::{empty_head_fails, is_private, own_fails, room_fails, spec_of};
+pub use services::served_fails;

@@ -1,34 +1,46 @@
-//! Whether a process's working set limit may be set.
+//! Why a process's working set limit may not be set.
 
-ghost use Rattle.std.specs.Prelude.{◌≡◌, ◌↔◌, ◌⊎◌, ◌+◌, ◌<◌, ◌≤◌, Some, IsTrue, slice_get};
+ghost use Rattle.std.specs.Prelude.{◌≡◌, ◌↔◌, ◌⊎◌, ◌+◌, ◌<◌, ◌≤◌, Some, IfSome, IsNone, length, slice_get};
 ghost use Rattle.vm_types.specs.declared.config.ProcSpec.{ProcSpec as AnySpec};
+ghost use Rattle.log_reasons.specs.ServedReasons.{BadLimitFails, LimitFails};
 
 use crate::own::spec_of;
+use log_reasons::Reason;
 use vm_types::{Config, Proc, ProcSpec};
 
-/// Whether a process with these limits may have its limit set to so many pages.
-fn is_within(spec: ProcSpec, n: u32) -> bool
-    ensures { IsTrue result ↔ ((spec.locks + 2 ≤ n) × (n ≤ spec.extent)) }
+/// The least limit of a process with these limits.
+fn least_of(spec: ProcSpec) -> u64
+    ensures { result ≡ spec.locks + 2 }
 {
-    u64::from(spec.locks) + 2 <= u64::from(n) && n <= spec.extent
+    u64::from(spec.locks) + 2
 }
 
-/// Whether the limit may be set to so many pages.
-pub(crate) fn is_adjusted(config: &Config, p: Proc, n: u32) -> bool
-    ensures { IsTrue result ↔ ((spec : AnySpec) → slice_get config.now.procs p.0 ≡ Some spec → (spec.locks + 2 ≤ n) × (n ≤ spec.extent)) }
+/// Why the limit may not be set to so many pages.
+pub(crate) fn limit_fails(config: &Config, p: Proc, n: u32) -> Option<Reason>
+    ensures legal { IsNone result ↔ ((spec : AnySpec) → slice_get config.now.procs p.0 ≡ Some spec → (spec.locks + 2 ≤ n) × (n ≤ spec.extent)) }
+    ensures said { IfSome result (LimitFails config.now p.0 n) }
 {
-    match spec_of(config, p) {
-        None => true,
-        Some(spec) => is_within(spec, n),
+    let spec = spec_of(config, p)?;
+    let least = least_of(spec);
+    if u64::from(n) < least || spec.extent < n {
+        return Some(Reason::LimitOutOfBounds(least, spec.extent));
     }
+    None
 }
 
-/// Whether the process is there, and its limit may not be set to so many pages.
-pub(crate) fn is_refused_limit(config: &Config, p: Proc, n: u32) -> bool
-    ensures { IsTrue result ↔ ((spec : AnySpec) × (slice_get config.now.procs p.0 ≡ Some spec) × ((n < spec.locks + 2) ⊎ (spec.extent < n))) }
+/// Why it isn't so that the process is there, and its limit may not be set to so many pages.
+pub(crate) fn bad_limit_fails(config: &Config, p: Proc, n: u32) -> Option<Reason>
+    ensures legal { IsNone result ↔ ((spec : AnySpec) × (slice_get config.now.procs p.0 ≡ Some spec) × ((n < spec.locks + 2) ⊎ (spec.extent < n))) }
+    ensures said { IfSome result (BadLimitFails config.now p.0 n) }
 {
     match spec_of(config, p) {
-        None => false,
-        Some(spec) => u64::from(n) < u64::from(spec.locks) + 2 || spec.extent < n,
+        None => Some(Reason::NoSuchProcess(config.procs.items().len())),
+        Some(spec) => {
+            let least = least_of(spec);
+            if u64::from(n) < least || spec.extent < n {
+                return None;
+            }
+            Some(Reason::LimitWithinBounds(least, spec.extent))
+        }
     }
 }

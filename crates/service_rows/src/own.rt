@@ -1,34 +1,58 @@
 //! What is common to the rows of a resident process's own entries.
 
-ghost use Rattle.std.specs.Prelude.{◌≡◌, ◌↔◌, ◌<◌, IsTrue, length, slice_get};
+ghost use Rattle.std.specs.Prelude.{◌≡◌, ◌↔◌, ◌<◌, IfSome, IsNone, length, slice_get};
 ghost use Rattle.vm_types.specs.Ring.{filled};
 ghost use Rattle.pager_model.specs.Maps.{is_private};
 ghost use Rattle.pager_model.specs.Own.{IsEmptyHead, IsOwn};
+ghost use Rattle.log_reasons.specs.OwnReasons.{EmptyHeadFails, OwnFails, RoomFails};
 ghost use Rattle.log_pager.specs.Shown.{shown};
 
 use log_pager::LogPager;
+use log_reasons::Reason;
 use vm_types::{Config, Page, Pfn, Proc, ProcSpec, ProcStatus};
 
-/// Whether there is such a process, and it is resident.
-pub fn is_own(config: &Config, pager: &LogPager, p: Proc) -> bool
-    ensures { IsTrue result ↔ IsOwn config.now (shown pager.now).pager p.0 }
+/// Why a process isn't there, or isn't resident.
+pub fn own_fails(config: &Config, pager: &LogPager, p: Proc) -> Option<Reason>
+    ensures legal { IsNone result ↔ IsOwn config.now (shown pager.now).pager p.0 }
+    ensures said { IfSome result (OwnFails config.now (shown pager.now).pager p.0) }
 {
-    (p.0 as usize) < config.procs.items().len() && pager.status(p) == ProcStatus::Resident
+    let processes = config.procs.items().len();
+    if processes <= p.0 as usize {
+        return Some(Reason::NoSuchProcess(processes));
+    }
+    let status = pager.status(p);
+    if status != ProcStatus::Resident {
+        return Some(Reason::NotResident(status));
+    }
+    None
 }
 
-/// Whether a frame heads the free list and is empty.
-pub fn is_empty_head(pager: &LogPager, f: Pfn) -> bool
-    ensures { IsTrue result ↔ IsEmptyHead (shown pager.now).pager f.0 }
+/// Why a frame doesn't head the free list, or isn't empty.
+pub fn empty_head_fails(pager: &LogPager, f: Pfn) -> Option<Reason>
+    ensures legal { IsNone result ↔ IsEmptyHead (shown pager.now).pager f.0 }
+    ensures said { IfSome result (EmptyHeadFails (shown pager.now).pager f.0) }
 {
-    pager.heads_free(f) && pager.page(f).is_none()
+    if !pager.heads_free(f) {
+        return Some(Reason::NotAtFreeHead(pager.free_head()));
+    }
+    match pager.page(f) {
+        Some(page) => Some(Reason::FrameNotEmpty(page)),
+        None => None,
+    }
 }
 
-/// Whether a process has fewer pages in its working set than its limit.
-pub fn is_below_limit(pager: &LogPager, p: Proc) -> bool
+/// Why a process has no room below its limit.
+pub fn room_fails(pager: &LogPager, p: Proc) -> Option<Reason>
     requires { p.0 < (shown pager.now).processes }
-    ensures { IsTrue result ↔ (filled ((shown pager.now).pager.ring p.0).slots < (shown pager.now).pager.limit p.0) }
+    ensures legal { IsNone result ↔ (filled ((shown pager.now).pager.ring p.0).slots < (shown pager.now).pager.limit p.0) }
+    ensures said { IfSome result (RoomFails (shown pager.now).pager p.0) }
 {
-    pager.ring(p).filled() < pager.limit_of(p)
+    let count = pager.ring(p).filled();
+    let limit = pager.limit_of(p);
+    if limit <= count {
+        return Some(Reason::CountAtLimit(count, limit));
+    }
+    None
 }
 
 /// Whether the page is a process's own.

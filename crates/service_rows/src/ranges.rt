@@ -1,6 +1,6 @@
 //! The pages of a range, one by one.
 
-ghost use Rattle.std.specs.Prelude.{◌≡◌, ◌↔◌, ◌+◌, ◌≤◌, ℕ, true, false, None, Some, IsTrue};
+ghost use Rattle.std.specs.Prelude.{◌≡◌, ◌↔◌, ◌+◌, ◌≤◌, ℕ, true, false, None, Some, IfSome, IsNone, IsTrue};
 ghost use Rattle.vm_types.specs.WellFormed.{IsRange};
 ghost use Rattle.vm_types.specs.declared.names.Page.{Page as AnyPage};
 ghost use Rattle.pager_model.specs.FlatService.{in_range};
@@ -9,10 +9,12 @@ ghost use Rattle.pager_model.specs.Lookups.{entries_at, page_by};
 ghost use Rattle.pager_model.specs.Maps.{proc};
 ghost use Rattle.pager_model.specs.Served.{AreMapped, IsInUse, IsUnmapped};
 ghost use Rattle.pager_model.specs.Transfers.{reads_on, writes_on};
+ghost use Rattle.log_reasons.specs.ServedReasons.{InUseFails, MappedFails, SomeUnmappedFails, UnmappedFails};
 ghost use Rattle.log_pager.specs.Shown.{shown};
 
 use log_pager::LogPager;
 use log_past::LogPast;
+use log_reasons::Reason;
 use vm_types::{Addr, Config, Page, Pfn, Proc};
 
 /// Whether a page of a process is mapped.
@@ -37,50 +39,106 @@ fn is_unmapped_at(config: &Config, pager: &LogPager, p: Proc, v: u32) -> bool
     }
 }
 
-/// Whether some page of a range isn't mapped.
-pub(crate) fn is_unmapped(config: &Config, pager: &LogPager, p: Proc, at: Addr, pages: u32) -> bool
+/// The first page of a range that isn't mapped.
+fn first_unmapped(config: &Config, pager: &LogPager, p: Proc, at: Addr, pages: u32) -> Option<u32>
     requires { IsRange at.0 pages }
-    ensures { IsTrue result ↔ IsUnmapped config.now (shown pager.now).pager p.0 at.0 pages }
+    ensures found { IfSome result (λ v. (in_range at.0 pages v ≡ true) × (page_by config.now (shown pager.now).pager.map p.0 v ≡ None)) }
+    ensures none { IsNone result → AreMapped config.now (shown pager.now).pager p.0 at.0 pages }
 {
     let first = at.0 / 512;
     for n in 0..pages {
         if is_unmapped_at(config, pager, p, first + n) {
-            return true;
+            return Some(first + n);
         }
     }
-    false
+    None
 }
 
-/// Whether some page of a range is mapped.
-pub(crate) fn is_in_use(config: &Config, pager: &LogPager, p: Proc, at: Addr, pages: u32) -> bool
+/// The first page of a range that is mapped.
+fn first_mapped(config: &Config, pager: &LogPager, p: Proc, at: Addr, pages: u32) -> Option<u32>
     requires { IsRange at.0 pages }
-    ensures { IsTrue result ↔ IsInUse config.now (shown pager.now).pager p.0 at.0 pages }
+    ensures found { IfSome result (λ v. (in_range at.0 pages v ≡ true) × ((g : AnyPage) × (page_by config.now (shown pager.now).pager.map p.0 v ≡ Some g))) }
+    ensures none { IsNone result → IsInUse config.now (shown pager.now).pager p.0 at.0 pages → ⊥ }
 {
     let first = at.0 / 512;
     for n in 0..pages {
         if is_mapped(config, pager, p, first + n) {
-            return true;
+            return Some(first + n);
         }
     }
-    false
+    None
 }
 
-/// Whether each page of a range is mapped.
-#[tactic(auto, using(crate::proofs::MappedRanges::none_unmapped, crate::proofs::MappedRanges::mapped_not))]
-pub(crate) fn are_mapped(config: &Config, pager: &LogPager, p: Proc, at: Addr, pages: u32) -> bool
+/// Why not each page of a range is mapped.
+pub(crate) fn mapped_fails(
+    config: &Config,
+    pager: &LogPager,
+    p: Proc,
+    at: Addr,
+    pages: u32,
+) -> Option<Reason>
     requires { IsRange at.0 pages }
-    ensures { IsTrue result ↔ AreMapped config.now (shown pager.now).pager p.0 at.0 pages }
+    ensures legal { IsNone result ↔ AreMapped config.now (shown pager.now).pager p.0 at.0 pages }
+    ensures said { IfSome result (MappedFails config.now (shown pager.now).pager p.0 at.0 pages) }
 {
-    !is_unmapped(config, pager, p, at, pages)
+    match first_unmapped(config, pager, p, at, pages) {
+        Some(v) => Some(Reason::RangePageUnmapped(v)),
+        None => None,
+    }
 }
 
-/// Whether no page of a range is mapped.
-#[tactic(auto, using(crate::proofs::MappedRanges::none_in_use, crate::proofs::MappedRanges::unmapped_not))]
-pub(crate) fn are_unmapped(config: &Config, pager: &LogPager, p: Proc, at: Addr, pages: u32) -> bool
+/// Why no page of a range isn't mapped.
+pub(crate) fn some_unmapped_fails(
+    config: &Config,
+    pager: &LogPager,
+    p: Proc,
+    at: Addr,
+    pages: u32,
+) -> Option<Reason>
     requires { IsRange at.0 pages }
-    ensures { IsTrue result ↔ ((v : ℕ) → in_range at.0 pages v ≡ true → (shown pager.now).pager.map p.0 v ≡ None) }
+    ensures legal { IsNone result ↔ IsUnmapped config.now (shown pager.now).pager p.0 at.0 pages }
+    ensures said { IfSome result (SomeUnmappedFails config.now (shown pager.now).pager p.0 at.0 pages) }
 {
-    !is_in_use(config, pager, p, at, pages)
+    match first_unmapped(config, pager, p, at, pages) {
+        Some(_) => None,
+        None => Some(Reason::RangeIsMapped),
+    }
+}
+
+/// Why some page of a range is mapped.
+pub(crate) fn unmapped_fails(
+    config: &Config,
+    pager: &LogPager,
+    p: Proc,
+    at: Addr,
+    pages: u32,
+) -> Option<Reason>
+    requires { IsRange at.0 pages }
+    ensures legal { IsNone result ↔ ((v : ℕ) → in_range at.0 pages v ≡ true → (shown pager.now).pager.map p.0 v ≡ None) }
+    ensures said { IfSome result (UnmappedFails config.now (shown pager.now).pager p.0 at.0 pages) }
+{
+    match first_mapped(config, pager, p, at, pages) {
+        Some(v) => Some(Reason::RangePageMapped(v)),
+        None => None,
+    }
+}
+
+/// Why no page of a range is mapped.
+pub(crate) fn in_use_fails(
+    config: &Config,
+    pager: &LogPager,
+    p: Proc,
+    at: Addr,
+    pages: u32,
+) -> Option<Reason>
+    requires { IsRange at.0 pages }
+    ensures legal { IsNone result ↔ IsInUse config.now (shown pager.now).pager p.0 at.0 pages }
+    ensures said { IfSome result (InUseFails config.now (shown pager.now).pager p.0 at.0 pages) }
+{
+    match first_mapped(config, pager, p, at, pages) {
+        Some(_) => None,
+        None => Some(Reason::RangeNotInUse),
+    }
 }
 
 /// Whether a process has a valid entry for a page.

@@ -1,33 +1,54 @@
 //! SERVED: a service is answered.
 
-ghost use Rattle.std.specs.Prelude.{◌≡◌, ◌↔◌, ◌<◌, ◌≤◌, IsTrue, length};
+ghost use Rattle.std.specs.Prelude.{◌≡◌, ◌↔◌, ◌⊎◌, ◌<◌, ◌≤◌, IfSome, IsNone, IsTrue, length};
 ghost use Rattle.vm_types.specs.WellFormed.{IsRange, IsServiceOf, IsWellFormedService};
 ghost use Rattle.pager_model.specs.Served.{IsDelete, IsServed, IsServedFault, IsService, may_fail};
+ghost use Rattle.pager_model.specs.Own.{IsOwn};
+ghost use Rattle.log_reasons.specs.OwnReasons.{OwnFails};
+ghost use Rattle.log_reasons.specs.ServedReasons.{DeleteFails, ServedFails, ServedFaultFails, ServiceFails, VersionFails};
 ghost use Rattle.log_pager.specs.Shown.{shown};
 
-use crate::limits::{is_adjusted, is_refused_limit};
+use crate::limits::{bad_limit_fails, limit_fails};
 use crate::locking::{
-    is_locking, is_over_locking, is_over_pinning, is_pinning, is_purged, is_unlocking, is_unpinning,
+    locking_fails, over_locking_fails, over_pinning_fails, pinning_fails, purge_fails,
+    unlocking_fails, unpinning_fails,
 };
-use crate::own::is_own;
-use crate::ranges::{are_mapped, are_unmapped, is_in_use, is_unmapped, none_flies, none_is_valid};
+use crate::own::own_fails;
+use crate::ranges::{
+    in_use_fails, mapped_fails, none_flies, none_is_valid, some_unmapped_fails, unmapped_fails,
+};
 use log_pager::LogPager;
 use log_past::LogPast;
+use log_reasons::Reason;
 use vm_types::{Addr, Answer, Proc, ProcStatus, Seat, Service, Version};
 
-/// Whether a range may be deleted.
-fn is_delete(past: &LogPast<'_>, pager: &LogPager, p: Proc, at: Addr, pages: u32) -> bool
+/// Why a range may not be deleted.
+fn delete_fails(
+    past: &LogPast<'_>,
+    pager: &LogPager,
+    p: Proc,
+    at: Addr,
+    pages: u32,
+) -> Option<Reason>
     requires range { IsRange at.0 pages }
     requires frames { (shown pager.now).frames ≤ 16384 }
-    ensures { IsTrue result ↔ IsDelete past.now.config past.now.past (shown pager.now).pager p.0 at.0 pages }
+    ensures legal { IsNone result ↔ IsDelete past.now.config past.now.past (shown pager.now).pager p.0 at.0 pages }
+    ensures said { IfSome result (DeleteFails past.now.config past.now.past (shown pager.now).pager p.0 at.0 pages) }
 {
-    are_mapped(past.config(), pager, p, at, pages)
-        && none_is_valid(pager, p, at, pages)
-        && none_flies(past, pager, p, at, pages)
+    if let Some(reason) = mapped_fails(past.config(), pager, p, at, pages) {
+        return Some(reason);
+    }
+    if !none_is_valid(pager, p, at, pages) {
+        return Some(Reason::RangePageValid);
+    }
+    if !none_flies(past, pager, p, at, pages) {
+        return Some(Reason::RangePageInFlight);
+    }
+    None
 }
 
-/// Whether a creation of pages is answered so.
-fn is_created(
+/// Why a creation of pages isn't answered so.
+fn created_fails(
     past: &LogPast<'_>,
     pager: &LogPager,
     p: Proc,
@@ -35,39 +56,41 @@ fn is_created(
     pages: u32,
     _prot: u8,
     answer: Answer,
-) -> bool
+) -> Option<Reason>
     requires { IsRange at.0 pages }
-    ensures { IsTrue result ↔ IsService past.now.config past.now.past (shown pager.now).pager p.0 (Service.Create at pages _prot) answer }
+    ensures legal { IsNone result ↔ IsService past.now.config past.now.past (shown pager.now).pager p.0 (Service.Create at pages _prot) answer }
+    ensures said { IfSome result (ServiceFails past.now.config past.now.past (shown pager.now).pager p.0 (Service.Create at pages _prot) answer) }
 {
     match answer {
-        Answer::Good => are_unmapped(past.config(), pager, p, at, pages),
-        Answer::InUse => is_in_use(past.config(), pager, p, at, pages),
-        _ => false,
+        Answer::Good => unmapped_fails(past.config(), pager, p, at, pages),
+        Answer::InUse => in_use_fails(past.config(), pager, p, at, pages),
+        _ => Some(Reason::NoSuchAnswer),
     }
 }
 
-/// Whether a deletion of pages is answered so.
-fn is_deleted(
+/// Why a deletion of pages isn't answered so.
+fn deleted_fails(
     past: &LogPast<'_>,
     pager: &LogPager,
     p: Proc,
     at: Addr,
     pages: u32,
     answer: Answer,
-) -> bool
+) -> Option<Reason>
     requires range { IsRange at.0 pages }
     requires frames { (shown pager.now).frames ≤ 16384 }
-    ensures { IsTrue result ↔ IsService past.now.config past.now.past (shown pager.now).pager p.0 (Service.Delete at pages) answer }
+    ensures legal { IsNone result ↔ IsService past.now.config past.now.past (shown pager.now).pager p.0 (Service.Delete at pages) answer }
+    ensures said { IfSome result (ServiceFails past.now.config past.now.past (shown pager.now).pager p.0 (Service.Delete at pages) answer) }
 {
     match answer {
-        Answer::Good => is_delete(past, pager, p, at, pages),
-        Answer::Unmapped => is_unmapped(past.config(), pager, p, at, pages),
-        _ => false,
+        Answer::Good => delete_fails(past, pager, p, at, pages),
+        Answer::Unmapped => some_unmapped_fails(past.config(), pager, p, at, pages),
+        _ => Some(Reason::NoSuchAnswer),
     }
 }
 
-/// Whether a change of protection is answered so.
-fn is_protected(
+/// Why a change of protection isn't answered so.
+fn protected_fails(
     past: &LogPast<'_>,
     pager: &LogPager,
     p: Proc,
@@ -75,147 +98,169 @@ fn is_protected(
     pages: u32,
     _prot: u8,
     answer: Answer,
-) -> bool
+) -> Option<Reason>
     requires { IsRange at.0 pages }
-    ensures { IsTrue result ↔ IsService past.now.config past.now.past (shown pager.now).pager p.0 (Service.Protect at pages _prot) answer }
+    ensures legal { IsNone result ↔ IsService past.now.config past.now.past (shown pager.now).pager p.0 (Service.Protect at pages _prot) answer }
+    ensures said { IfSome result (ServiceFails past.now.config past.now.past (shown pager.now).pager p.0 (Service.Protect at pages _prot) answer) }
 {
     match answer {
-        Answer::Good => are_mapped(past.config(), pager, p, at, pages),
-        Answer::Unmapped => is_unmapped(past.config(), pager, p, at, pages),
-        _ => false,
+        Answer::Good => mapped_fails(past.config(), pager, p, at, pages),
+        Answer::Unmapped => some_unmapped_fails(past.config(), pager, p, at, pages),
+        _ => Some(Reason::NoSuchAnswer),
     }
 }
 
-/// Whether a locking of pages is answered so.
-fn is_locked(
+/// Why a locking of pages isn't answered so.
+fn locked_fails(
     past: &LogPast<'_>,
     pager: &LogPager,
     p: Proc,
     at: Addr,
     pages: u32,
     answer: Answer,
-) -> bool
+) -> Option<Reason>
     requires range { IsRange at.0 pages }
     requires process { p.0 < (shown pager.now).processes }
-    ensures { IsTrue result ↔ IsService past.now.config past.now.past (shown pager.now).pager p.0 (Service.Lock at pages) answer }
+    ensures legal { IsNone result ↔ IsService past.now.config past.now.past (shown pager.now).pager p.0 (Service.Lock at pages) answer }
+    ensures said { IfSome result (ServiceFails past.now.config past.now.past (shown pager.now).pager p.0 (Service.Lock at pages) answer) }
 {
     match answer {
-        Answer::Count(n) => is_locking(past.config(), pager, p, at, pages, n),
-        Answer::Unmapped => is_unmapped(past.config(), pager, p, at, pages),
-        Answer::LockLimit => is_over_locking(past.config(), pager, p, at, pages),
-        _ => false,
+        Answer::Count(n) => locking_fails(past.config(), pager, p, at, pages, n),
+        Answer::Unmapped => some_unmapped_fails(past.config(), pager, p, at, pages),
+        Answer::LockLimit => over_locking_fails(past.config(), pager, p, at, pages),
+        _ => Some(Reason::NoSuchAnswer),
     }
 }
 
-/// Whether an unlocking of pages is answered so.
-fn is_unlocked(
+/// Why an unlocking of pages isn't answered so.
+fn unlocked_fails(
     past: &LogPast<'_>,
     pager: &LogPager,
     p: Proc,
     at: Addr,
     pages: u32,
     answer: Answer,
-) -> bool
+) -> Option<Reason>
     requires range { IsRange at.0 pages }
     requires process { p.0 < (shown pager.now).processes }
-    ensures { IsTrue result ↔ IsService past.now.config past.now.past (shown pager.now).pager p.0 (Service.Unlock at pages) answer }
+    ensures legal { IsNone result ↔ IsService past.now.config past.now.past (shown pager.now).pager p.0 (Service.Unlock at pages) answer }
+    ensures said { IfSome result (ServiceFails past.now.config past.now.past (shown pager.now).pager p.0 (Service.Unlock at pages) answer) }
 {
     match answer {
-        Answer::Count(n) => is_unlocking(past.config(), pager, p, at, pages, n),
-        Answer::Unmapped => is_unmapped(past.config(), pager, p, at, pages),
-        _ => false,
+        Answer::Count(n) => unlocking_fails(past.config(), pager, p, at, pages, n),
+        Answer::Unmapped => some_unmapped_fails(past.config(), pager, p, at, pages),
+        _ => Some(Reason::NoSuchAnswer),
     }
 }
 
-/// Whether a pinning of pages is answered so.
-fn is_pinned(
+/// Why a pinning of pages isn't answered so.
+fn pinned_fails(
     past: &LogPast<'_>,
     pager: &LogPager,
     p: Proc,
     at: Addr,
     pages: u32,
     answer: Answer,
-) -> bool
+) -> Option<Reason>
     requires range { IsRange at.0 pages }
     requires process { p.0 < (shown pager.now).processes }
-    ensures { IsTrue result ↔ IsService past.now.config past.now.past (shown pager.now).pager p.0 (Service.Pin at pages) answer }
+    ensures legal { IsNone result ↔ IsService past.now.config past.now.past (shown pager.now).pager p.0 (Service.Pin at pages) answer }
+    ensures said { IfSome result (ServiceFails past.now.config past.now.past (shown pager.now).pager p.0 (Service.Pin at pages) answer) }
 {
     match answer {
-        Answer::Count(n) => is_pinning(past.config(), pager, p, at, pages, n),
-        Answer::Unmapped => is_unmapped(past.config(), pager, p, at, pages),
-        Answer::LockLimit => is_over_pinning(past.config(), pager, p, at, pages),
-        _ => false,
+        Answer::Count(n) => pinning_fails(past.config(), pager, p, at, pages, n),
+        Answer::Unmapped => some_unmapped_fails(past.config(), pager, p, at, pages),
+        Answer::LockLimit => over_pinning_fails(past.config(), pager, p, at, pages),
+        _ => Some(Reason::NoSuchAnswer),
     }
 }
 
-/// Whether an unpinning of pages is answered so.
-fn is_unpinned(
+/// Why an unpinning of pages isn't answered so.
+fn unpinned_fails(
     past: &LogPast<'_>,
     pager: &LogPager,
     p: Proc,
     at: Addr,
     pages: u32,
     answer: Answer,
-) -> bool
+) -> Option<Reason>
     requires range { IsRange at.0 pages }
     requires process { p.0 < (shown pager.now).processes }
-    ensures { IsTrue result ↔ IsService past.now.config past.now.past (shown pager.now).pager p.0 (Service.Unpin at pages) answer }
+    ensures legal { IsNone result ↔ IsService past.now.config past.now.past (shown pager.now).pager p.0 (Service.Unpin at pages) answer }
+    ensures said { IfSome result (ServiceFails past.now.config past.now.past (shown pager.now).pager p.0 (Service.Unpin at pages) answer) }
 {
     match answer {
-        Answer::Count(n) => is_unpinning(past.config(), pager, p, at, pages, n),
-        Answer::Unmapped => is_unmapped(past.config(), pager, p, at, pages),
-        _ => false,
+        Answer::Count(n) => unpinning_fails(past.config(), pager, p, at, pages, n),
+        Answer::Unmapped => some_unmapped_fails(past.config(), pager, p, at, pages),
+        _ => Some(Reason::NoSuchAnswer),
     }
 }
 
-/// Whether a purge of pages is answered so.
-fn is_purge(
+/// Why a purge of pages isn't answered so.
+fn purged_fails(
     _past: &LogPast<'_>,
     pager: &LogPager,
     p: Proc,
     at: Addr,
     pages: u32,
     answer: Answer,
-) -> bool
+) -> Option<Reason>
     requires { p.0 < (shown pager.now).processes }
-    ensures { IsTrue result ↔ IsService _past.now.config _past.now.past (shown pager.now).pager p.0 (Service.Purge at pages) answer }
+    ensures legal { IsNone result ↔ IsService _past.now.config _past.now.past (shown pager.now).pager p.0 (Service.Purge at pages) answer }
+    ensures said { IfSome result (ServiceFails _past.now.config _past.now.past (shown pager.now).pager p.0 (Service.Purge at pages) answer) }
 {
     match answer {
-        Answer::Good => is_purged(pager.ring(p), at, pages),
-        _ => false,
+        Answer::Good => purge_fails(pager, p, at, pages),
+        _ => Some(Reason::NoSuchAnswer),
     }
 }
 
-/// Whether an adjustment of a limit is answered so.
-fn is_limited(past: &LogPast<'_>, _pager: &LogPager, p: Proc, limit: u32, answer: Answer) -> bool
-    ensures { IsTrue result ↔ IsService past.now.config past.now.past (shown _pager.now).pager p.0 (Service.Adjust limit) answer }
+/// Why an adjustment of a limit isn't answered so.
+fn limited_fails(
+    past: &LogPast<'_>,
+    _pager: &LogPager,
+    p: Proc,
+    limit: u32,
+    answer: Answer,
+) -> Option<Reason>
+    ensures legal { IsNone result ↔ IsService past.now.config past.now.past (shown _pager.now).pager p.0 (Service.Adjust limit) answer }
+    ensures said { IfSome result (ServiceFails past.now.config past.now.past (shown _pager.now).pager p.0 (Service.Adjust limit) answer) }
 {
     match answer {
-        Answer::Good => is_adjusted(past.config(), p, limit),
-        Answer::BadLimit => is_refused_limit(past.config(), p, limit),
-        _ => false,
+        Answer::Good => limit_fails(past.config(), p, limit),
+        Answer::BadLimit => bad_limit_fails(past.config(), p, limit),
+        _ => Some(Reason::NoSuchAnswer),
     }
 }
 
-/// Whether a process's service is answered so, if not by a failure.
-fn is_service(past: &LogPast<'_>, pager: &LogPager, p: Proc, s: Service, answer: Answer) -> bool
+/// Why a process's service isn't answered so, if not by a failure.
+fn service_fails(
+    past: &LogPast<'_>,
+    pager: &LogPager,
+    p: Proc,
+    s: Service,
+    answer: Answer,
+) -> Option<Reason>
     requires formed { IsWellFormedService s }
     requires process { p.0 < (shown pager.now).processes }
     requires frames { (shown pager.now).frames ≤ 16384 }
-    ensures { IsTrue result ↔ IsService past.now.config past.now.past (shown pager.now).pager p.0 s answer }
+    ensures legal { IsNone result ↔ IsService past.now.config past.now.past (shown pager.now).pager p.0 s answer }
+    ensures said { IfSome result (ServiceFails past.now.config past.now.past (shown pager.now).pager p.0 s answer) }
 {
     match s {
-        Service::Create { at, pages, prot } => is_created(past, pager, p, at, pages, prot, answer),
-        Service::Delete { at, pages } => is_deleted(past, pager, p, at, pages, answer),
+        Service::Create { at, pages, prot } => created_fails(
+            past, pager, p, at, pages, prot, answer,
+        ),
+        Service::Delete { at, pages } => deleted_fails(past, pager, p, at, pages, answer),
         Service::Protect { at, pages, prot } => {
-            is_protected(past, pager, p, at, pages, prot, answer)
+            protected_fails(past, pager, p, at, pages, prot, answer)
         }
-        Service::Lock { at, pages } => is_locked(past, pager, p, at, pages, answer),
-        Service::Unlock { at, pages } => is_unlocked(past, pager, p, at, pages, answer),
-        Service::Purge { at, pages } => is_purge(past, pager, p, at, pages, answer),
-        Service::Pin { at, pages } => is_pinned(past, pager, p, at, pages, answer),
-        Service::Unpin { at, pages } => is_unpinned(past, pager, p, at, pages, answer),
-        Service::Adjust { limit } => is_limited(past, pager, p, limit, answer),
+        Service::Lock { at, pages } => locked_fails(past, pager, p, at, pages, answer),
+        Service::Unlock { at, pages } => unlocked_fails(past, pager, p, at, pages, answer),
+        Service::Purge { at, pages } => purged_fails(past, pager, p, at, pages, answer),
+        Service::Pin { at, pages } => pinned_fails(past, pager, p, at, pages, answer),
+        Service::Unpin { at, pages } => unpinned_fails(past, pager, p, at, pages, answer),
+        Service::Adjust { limit } => limited_fails(past, pager, p, limit, answer),
     }
 }
 
@@ -248,36 +293,72 @@ fn may_fail(s: Service) -> bool
     }
 }
 
-/// Whether a service is refused for a lost carrier.
-fn is_served_fault(past: &LogPast<'_>, pager: &LogPager, seat: Seat, s: Service) -> bool
-    ensures { IsTrue result ↔ IsServedFault past.now.config past.now.past (shown pager.now).pager seat.0 s }
+/// Why a service isn't refused for a lost carrier.
+fn served_fault_fails(
+    past: &LogPast<'_>,
+    pager: &LogPager,
+    seat: Seat,
+    s: Service,
+) -> Option<Reason>
+    ensures legal { IsNone result ↔ IsServedFault past.now.config past.now.past (shown pager.now).pager seat.0 s }
+    ensures said { IfSome result (ServedFaultFails past.now.config past.now.past (shown pager.now).pager seat.0 s) }
 {
-    (seat.0 as usize) < past.config().procs.items().len()
-        && past.has_lost(seat)
-        && (pager.status(Proc(seat.0)) != ProcStatus::Resident || may_fail(s))
-        && is_of_version(past.config().version, s)
+    let processes = past.config().procs.items().len();
+    if processes <= seat.0 as usize {
+        return Some(Reason::NoSuchProcess(processes));
+    }
+    if !past.has_lost(seat) {
+        return Some(Reason::CarrierNotLost);
+    }
+    if pager.status(Proc(seat.0)) == ProcStatus::Resident && !may_fail(s) {
+        return Some(Reason::MayNotFail);
+    }
+    if !is_of_version(past.config().version, s) {
+        return Some(Reason::NotOfVersion);
+    }
+    None
 }
 
-/// Whether a service is answered so. Doesn't allocate.
-pub fn is_served(
+/// Why a service of a resident process isn't answered so, if not by a failure.
+fn own_service_fails(
+    past: &LogPast<'_>,
+    pager: &LogPager,
+    p: Proc,
+    s: Service,
+    answer: Answer,
+) -> Option<Reason>
+    requires formed { IsWellFormedService s }
+    requires processes { (shown pager.now).processes ≡ length past.now.config.procs }
+    requires frames { (shown pager.now).frames ≤ 16384 }
+    ensures legal { IsNone result ↔ (IsOwn past.now.config (shown pager.now).pager p.0 × IsService past.now.config past.now.past (shown pager.now).pager p.0 s answer × IsServiceOf past.now.config.version s) }
+    ensures said { IfSome result (λ r. OwnFails past.now.config (shown pager.now).pager p.0 r
+        ⊎ (VersionFails past.now.config s r ⊎ ServiceFails past.now.config past.now.past (shown pager.now).pager p.0 s answer r)) }
+{
+    if let Some(reason) = own_fails(past.config(), pager, p) {
+        return Some(reason);
+    }
+    if !is_of_version(past.config().version, s) {
+        return Some(Reason::NotOfVersion);
+    }
+    service_fails(past, pager, p, s, answer)
+}
+
+/// Why a service isn't answered so, if it isn't. Doesn't allocate.
+pub fn served_fails(
     past: &LogPast<'_>,
     pager: &LogPager,
     seat: Seat,
     s: Service,
     answer: Answer,
-) -> bool
+) -> Option<Reason>
     requires formed { IsWellFormedService s }
     requires processes { (shown pager.now).processes ≡ length past.now.config.procs }
     requires frames { (shown pager.now).frames ≤ 16384 }
-    ensures { IsTrue result ↔ IsServed past.now.config past.now.past (shown pager.now).pager seat.0 s answer }
+    ensures legal { IsNone result ↔ IsServed past.now.config past.now.past (shown pager.now).pager seat.0 s answer }
+    ensures said { IfSome result (ServedFails past.now.config past.now.past (shown pager.now).pager seat.0 s answer) }
 {
-    let p = Proc(seat.0);
     match answer {
-        Answer::DiskFault => is_served_fault(past, pager, seat, s),
-        _ => {
-            is_own(past.config(), pager, p)
-                && is_service(past, pager, p, s, answer)
-                && is_of_version(past.config().version, s)
-        }
+        Answer::DiskFault => served_fault_fails(past, pager, seat, s),
+        _ => own_service_fails(past, pager, Proc(seat.0), s, answer),
     }
 }

@@ -12,5 +12,5 @@ returns-in-Ok-clause-faults g c = log_counts c.check_log.result _ _ _ c.in-Ok.en
 
 pub returns-in-Ok-clause-kept : goal.returns-in-Ok-clause-kept
 returns-in-Ok-clause-kept g c =
-    log_text c.in-Ok.config c.check_log.result (bytes_left g.S.Source.seen c.args.lines.now) (bytes_left g.S.Source.seen c.read_head.new.lines) c.check_log.new.kept.items
-    c.in-Ok.ensures.text c.check_log.ensures.kept
+    log_text c.in-Ok.config c.check_log.result (bytes_left g.S.Source.seen c.args.lines.now) (bytes_left g.S.Source.seen c.read_head.new.lines) (bytes_left g.S.Source.seen c.check_log.new.lines) c.check_log.new.kept.items
+    c.in-Ok.ensures.text c.check_log.ensures.text c.check_log.ensures.kept

@@ -2,7 +2,7 @@ use Rattle.std.proofs.Common.{ℕ, List, ◌++◌, sym, ◌∙◌, ap, append_as
 use Rattle.std.specs.Prelude.{codes}
 use Rattle.std.specs.List.{flat_map}
 use Rattle.command_messages.specs.LineFaults.{option_word, said_text}
-use Rattle.command_messages.specs.Shown.{shown}
+use Rattle.log_messages.specs.Shown.{shown}
 use Rattle.command_messages.specs.declared.faults.LineFault.{LineFault}
 use Rattle.command_messages.proofs.messages.add_said.Goals as goal
 
@@ -10,7 +10,7 @@ pub returns-in-NoSuchCommand-clause-items : goal.returns-in-NoSuchCommand-clause
 returns-in-NoSuchCommand-clause-items c =
     let before : List ℕ = c.args.out.now.items in
     let text : List ℕ = c.args.text.now.items in
-    c.add_shown.ensures.items
+    c.push_shown.ensures.items
     ∙ ap (λ (bytes : List ℕ). c.push_word-in-NoSuchCommand.new.out.items ++ flat_map shown bytes) c.as_slice.ensures.value
     ∙ ap (λ (front : List ℕ). front ++ flat_map shown text) c.push_word-in-NoSuchCommand.ensures.items
     ∙ append_assoc before (codes "no such command: ") (flat_map shown text)

@@ -1,16 +1,38 @@
-use Rattle.std.proofs.Common.{Bool, refl, subst}
+use Rattle.std.proofs.Common.{Option, refl, subst}
+use Rattle.std.specs.Prelude.{IfSome}
+use Rattle.std.specs.Option.{is_none}
+use Rattle.vm_types.specs.declared.reply.Reply.{Reply}
 use Rattle.pager_model.specs.Pager.{Pager}
+use Rattle.pager_model.specs.Spoken.{flat_after}
 use Rattle.pager_model.specs.Step.{IsLegal}
+use Rattle.log_reasons.specs.EntryReasons.{EntryFails}
 use Rattle.log_check.specs.Followed.{MayEnter, MayStep}
-use Rattle.log_check.specs.Replies.{ShowsAsFlat}
+use Rattle.log_check.specs.Replies.{IsRightReply, ShowsAsFlat}
 use Rattle.log_check.proofs.Entered.{entered, of_process}
 use Rattle.log_check.proofs.followed.Followed.enter.Goals as goal
 
-pub returns : goal.returns
-returns c =
+pub returns-clause-entered : goal.returns-clause-entered
+returns-clause-entered c =
     let old = c.args.self.now in
-    let legal : MayStep old c.args.e = subst (λ (a : Pager). IsLegal old.past.config old.past.past a c.args.e) c.requires.followed.follows.pager (c.is_legal.ensures.0 c.if-not-is_legal.false) in
-    let shows = subst (λ (b : Bool). ShowsAsFlat old.flat c.shows_reply.new.flat (c.args.e.seat).0 c.args.e.what b) c.if-not-branch.false c.in_ok-shows_reply.ensures in
+    let legal : MayStep old c.args.e = subst (λ (a : Pager). IsLegal old.past.config old.past.past a c.args.e) c.requires.followed.follows.pager (c.in_default.ensures.legal.0 refl) in
+    let shows = subst (λ (o : Option Reply). ShowsAsFlat old.flat c.other_reply.new.flat (c.args.e.seat).0 c.args.e.what (is_none o)) c.in_default-2.is c.in_ok-right.ensures.shows in
     let shown = shows old.past.config _ c.requires.followed.flat (of_process old.past.config old.past.past (c.args.e.seat).0 c.args.e.what legal.row) in
     let may : MayEnter old c.args.e = record { legal = legal; in_order = (c.keeps_order.ensures c.requires.followed.follows.in_order).0 c.if-not-keeps_order.false; right = shown.0 } in
-    entered old (record { past = old.past; pager = old.pager; flat = c.shows_reply.new.flat }) c.args.e c.add.new.self c.requires.followed refl refl may shown.1 c.in_ok-add.ensures
+    entered old (record { past = old.past; pager = old.pager; flat = c.other_reply.new.flat }) c.args.e c.add.new.self c.requires.followed refl refl may shown.1 c.in_ok-add.ensures
+
+pub returns-in-Some-clause-refused : goal.returns-in-Some-clause-refused
+returns-in-Some-clause-refused c =
+    let old = c.args.self.now in
+    subst (λ (a : Pager). EntryFails old.past.config old.past.past a c.args.e c.in-Some.reason) c.requires.followed.follows.pager c.in-Some.ensures.said
+
+pub returns-in-Some-2-clause-refused : goal.returns-in-Some-2-clause-refused
+returns-in-Some-2-clause-refused c =
+    let old = c.args.self.now in
+    (subst (λ (o : Option Reply). IfSome o (IsRightReply old.flat (c.args.e.seat).0 c.args.e.what)) c.in-Some-2.is c.in_ok-right.ensures.right)
+    old.past.config (flat_after old.past.config old.past.past) c.requires.followed.flat
+
+pub returns-in-Some-2-clause-entered : goal.returns-in-Some-2-clause-entered
+returns-in-Some-2-clause-entered c =
+    let old = c.args.self.now in
+    let shows = subst (λ (o : Option Reply). ShowsAsFlat old.flat c.other_reply.new.flat (c.args.e.seat).0 c.args.e.what (is_none o)) c.in-Some-2.is c.in_ok-right.ensures.shows in
+    λ may. shows old.past.config (flat_after old.past.config old.past.past) c.requires.followed.flat may.right

@@ -1,0 +1,10 @@
+use Rattle.std.proofs.Common.{◌≡◌, ◌+◌, ◌*◌, ◌≤◌, ◌++◌, length, take}
+use Rattle.std.specs.List.{flat_map}
+use Rattle.log_messages.specs.Shown.{shown}
+use Rattle.log_messages.proofs.shown.push_shown.Given as goal
+
+abbrev pub invariant-loop-byte : goal.invariant-loop-byte
+invariant-loop-byte g l = record {
+  items : l.out.items ≡ l.fn.out.items ++ flat_map shown (take l.byte-index l.bytes);
+  room : length l.out.items ≤ length l.fn.out.items + 4 * l.byte-index;
+}

@@ -1,0 +1,12 @@
+pub mod OwnReasons
+pub mod ServedReasons
+pub mod RowReasons
+pub mod LandingReasons
+pub mod ProcessReasons
+pub mod EvictReasons
+pub mod ReadReasons
+pub mod WriteReasons
+pub mod DeniedReasons
+pub mod SeatReasons
+pub mod EntryReasons
+pub mod LineReasons
