@@ -14,7 +14,7 @@ use Rattle.pager_rules.proofs.Basics.{nat_eq_refl}
 use Rattle.lift_carriers.specs.CarrierView.{CarrierView}
 use Rattle.vm_state.specs.History.{History, added, entry_by}
 use Rattle.vm_state.specs.LiftsLand.{added_each}
-use Rattle.call_steps.specs.Lifted.{HasBegunLifts, HasLifts, place_of, places_in}
+use Rattle.call_begins.specs.Lifted.{HasBegunLifts, HasLifts, place_of, places_in}
 use Rattle.carried_landings.specs.SeatFlights.{flight_place, of_others}
 use Rattle.carried_landings.proofs.Reversed.{reverse_cons}
 

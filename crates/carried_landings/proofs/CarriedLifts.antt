@@ -7,7 +7,7 @@ use Rattle.frame_store.specs.LiftView.{CarriedAs, LiftView}
 use Rattle.frame_store.specs.declared.lift.Carried.{Carried}
 use Rattle.frame_store.specs.declared.lift.Carried.TheVariants.{Waiting}
 use Rattle.lift_carriers.specs.Carrying.{AreCarried, HasCarried}
-use Rattle.call_steps.specs.Lifted.{place_of}
+use Rattle.call_begins.specs.Lifted.{place_of}
 
 module _ {B : Type 0} (seen : B → BlockView) (tells : Tells) where
   abbrev Are : List (LiftView B) → List (LiftView B) → Type 0

@@ -15,7 +15,7 @@ use Rattle.lift_carriers.specs.LiftsFit.{LiftFits}
 use Rattle.vm_state.specs.Based.{base_of}
 use Rattle.vm_state.specs.History.{History}
 use Rattle.vm_state.specs.declared.base.StateBase.{StateBase}
-use Rattle.call_steps.specs.Lifted.{HasBegunLifts, IsBegun, place_of}
+use Rattle.call_begins.specs.Lifted.{HasBegunLifts, IsBegun, place_of}
 use Rattle.carried_landings.specs.Outside.{AllWait, AreOut, IsOut}
 use Rattle.carried_landings.specs.SeatFlights.{flight_place}
 use Rattle.carried_landings.proofs.CarriedLifts.{same_places}

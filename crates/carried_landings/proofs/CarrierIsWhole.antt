@@ -21,7 +21,7 @@ use Rattle.frame_store.specs.declared.lift.Carried.TheVariants.{Waiting}
 use Rattle.lift_carriers.specs.CarrierView.{CarrierView}
 use Rattle.vm_state.specs.History.{History}
 use Rattle.vm_state.specs.LiftsLand.{CarrierMayLand, HaveOwnStarts, MayLand}
-use Rattle.call_steps.specs.Lifted.{place_of}
+use Rattle.call_begins.specs.Lifted.{place_of}
 use Rattle.carried_landings.specs.SeatFlights.{flight_place}
 use Rattle.carried_landings.proofs.LandingsAgree.{Fits, open_here}
 use Rattle.carried_landings.proofs.Reversed.{count_reverse, count_zero}

@@ -13,7 +13,7 @@ use Rattle.frame_store.specs.declared.lift.Carried.{Carried}
 use Rattle.frame_store.specs.declared.lift.Carried.TheVariants.{Waiting, Good, Bad}
 use Rattle.vm_state.specs.History.{History, added, entry_by, owed}
 use Rattle.vm_state.specs.LiftsLand.{added_each, landed_each, landings_of, reuse_after}
-use Rattle.call_steps.specs.Lifted.{place_of}
+use Rattle.call_begins.specs.Lifted.{place_of}
 use Rattle.carried_landings.specs.SeatFlights.{flight_place}
 
 paid_each : (seat : Seat) (ws : List What) (s : History) → length ws ≤ s.spare → ((added_each seat ws s).spare + length ws ≡ s.spare) × (length (added_each seat ws s).past ≡ length s.past + length ws)

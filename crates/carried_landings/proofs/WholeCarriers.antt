@@ -16,7 +16,7 @@ use Rattle.lift_carriers.specs.declared.landed.Landed.{Landed}
 use Rattle.vm_state.specs.Based.{base_of}
 use Rattle.vm_state.specs.History.{History, owed}
 use Rattle.vm_state.specs.LiftsLand.{CarrierMayLand, landed_each}
-use Rattle.call_steps.specs.Lifted.{place_of}
+use Rattle.call_begins.specs.Lifted.{place_of}
 use Rattle.carried_landings.specs.HaveLanded.{HaveLanded}
 use Rattle.carried_landings.specs.Outside.{AreOut, IsOut, NoneWaits}
 use Rattle.carried_landings.specs.SeatFlights.{flight_place, of_others}

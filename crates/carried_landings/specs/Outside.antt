@@ -10,7 +10,7 @@ use Rattle.frame_store.specs.declared.lift.Carried.TheVariants.{Waiting}
 use Rattle.lift_carriers.specs.CarrierView.{CarrierView}
 use Rattle.lift_carriers.specs.LiftsFit.{LiftFits}
 use Rattle.vm_state.specs.declared.base.StateBase.{StateBase}
-use Rattle.call_steps.specs.Lifted.{place_of}
+use Rattle.call_begins.specs.Lifted.{place_of}
 use Rattle.carried_landings.specs.SeatFlights.{flight_place}
 
 -- each of the lifts is still to be carried, or none is

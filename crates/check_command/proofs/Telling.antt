@@ -4,12 +4,12 @@ use Rattle.std.specs.Prelude.{◌⊎◌, IfSome}
 use Rattle.vm_types.specs.declared.config.Config.{Config}
 use Rattle.outside_io.specs.Causes.{Rose}
 use Rattle.outside_io.specs.Views.{SinkView, SourceView}
-use Rattle.trace_words.specs.declared.cause.Cause.{Cause}
+use Rattle.trace_lines.specs.declared.breach.Breach.{Breach}
 use Rattle.trace_reader.specs.Head.{Head, Configured, Faulty, head_of}
 use Rattle.trace_reader.specs.Head as head
 use Rattle.log_model.specs.Log.{IsTooLong}
-use Rattle.program_ends.specs.Concludes.{Concludes}
-use Rattle.program_ends.proofs.Concluding.{its_status, unfailed_status}
+use Rattle.command_ends.specs.Concludes.{Concludes}
+use Rattle.command_ends.proofs.Concluding.{its_status, unfailed_status}
 use Rattle.check_command.specs.CheckText.{HasLog, IsCheckAnswer, legal, at_fault, too_long}
 use Rattle.check_command.specs.CheckTells.{CheckTells, HasCheckInput, answered, faulty, unfinished, unread, no_memory}
 
@@ -34,7 +34,7 @@ IsNeverTold n = (0 ≡ n → ⊥) × (8 ≡ n → ⊥) × (2 ≡ n → ⊥) × (
 module _ {before after : SourceView} where
   never : (n : ℕ) → IsNeverTold n → (status : ℕ) (text : List ℕ) → CheckTells before after status text → status ≡ n → ⊥
   never n none status text (answered own told quiet says) e = other own n none.0 none.1 none.2 (answer_status own told says) e
-  never n none status text (faulty line cause quiet says) e = none.2 e
+  never n none status text (faulty line breach quiet says) e = none.2 e
   never n none status text (unfinished quiet says) e = none.2 e
   never n none status text (unread rose says) e = none.3 e
   never n none status text (no_memory quiet) e = none.4 e
@@ -51,7 +51,7 @@ module _ {before after : SourceView} where
   -- with status 3 a read failed
   pub told_read : (status : ℕ) (text : List ℕ) → CheckTells before after status text → status ≡ 3 → Rose before.failures after.failures
   told_read status text (answered own told quiet says) e = absurd (other own 3 (λ f. omega (arith, f)) (λ f. omega (arith, f)) (λ f. omega (arith, f)) (answer_status own told says) e)
-  told_read status text (faulty line cause quiet says) e = absurd (omega (arith, e))
+  told_read status text (faulty line breach quiet says) e = absurd (omega (arith, e))
   told_read status text (unfinished quiet says) e = absurd (omega (arith, e))
   told_read status text (unread rose says) e = rose
   told_read status text (no_memory quiet) e = absurd (omega (arith, e))
@@ -60,8 +60,8 @@ module _ {before after : SourceView} where
 said : {left : SourceView} (P : List ℕ → Type 0) (i : HasCheckInput left) → IfSome left.left P → P i.text
 said P i says = subst (λ l. IfSome l P) i.known says
 
-no_fault : (config : Config) (log : List ℕ) (n : ℕ) (cause : Cause) (h : Head) → h ≡ Configured config log → h ≡ Faulty n cause → ⊥
-no_fault config log n cause h a b = cc
+no_fault : (config : Config) (log : List ℕ) (n : ℕ) (breach : Breach) (h : Head) → h ≡ Configured config log → h ≡ Faulty n breach → ⊥
+no_fault config log n breach h a b = cc
 
 not_short : (config : Config) (log : List ℕ) (h : Head) → h ≡ Configured config log → h ≡ head.Unfinished → ⊥
 not_short config log h a b = cc
@@ -80,7 +80,7 @@ pub told_complete : {before after : SourceView} (status : ℕ) (text : List ℕ)
 told_complete status text (answered own told quiet (legal n says)) i unfailed = inl refl
 told_complete status text (answered own told quiet (at_fault n says)) i unfailed = inr (inl refl)
 told_complete status text (answered own told quiet (too_long says)) i unfailed = absurd (not_long i (said _ i says))
-told_complete status text (faulty n cause quiet says) i unfailed = absurd (no_fault i.config i.log n cause (head_of i.text) i.head (said _ i says))
+told_complete status text (faulty n breach quiet says) i unfailed = absurd (no_fault i.config i.log n breach (head_of i.text) i.head (said _ i says))
 told_complete status text (unfinished quiet says) i unfailed = absurd (not_short i.config i.log (head_of i.text) i.head (said _ i says).0)
 told_complete status text (unread rose says) i unfailed = absurd (unfailed rose)
 told_complete status text (no_memory quiet) i unfailed = inr (inr refl)

@@ -1,11 +1,12 @@
 -- What the answer to a trace and a log tells, by what its source has left.
-use Rattle.std.proofs.Common.{◌≡◌, ℕ, ◌≤◌, List, [], ◌∷◌, ◌++◌, length, take, Option, Some, None, Result, Ok, Err, refl, sym, subst, inl, inr, arith}
+use Rattle.std.proofs.Common.{◌≡◌, ℕ, ◌≤◌, List, [], ◌∷◌, ◌++◌, length, take, Option, Some, None, Result, Ok, Err, refl, sym, ap, subst, inl, inr, arith}
 use Rattle.std.proofs.lemmas.List.{length-drop, length-take}
 use Rattle.std.specs.Prelude.{IfSome}
 use Rattle.std.specs.Io.KnownBytes.{prepend_known}
 use Rattle.vm_types.specs.declared.config.Config.{Config}
 use Rattle.outside_io.specs.Views.{SinkView, SourceView}
 use Rattle.line_source.specs.BytesLeft.{pending}
+use Rattle.trace_reader.specs.Head.{head_of}
 use Rattle.trace_reader.specs.HeadAnswer.{HeadAnswers}
 use Rattle.trace_reader.specs.declared.fault.TraceFault.{TraceFault}
 use Rattle.trace_reader.specs.declared.fault.TraceFault.TheVariants as fault
@@ -14,12 +15,12 @@ use Rattle.log_check.specs.declared.verdict.Verdict.{Verdict}
 use Rattle.log_check.specs.declared.verdict.Verdict.TheVariants.{Legal, Fault}
 use Rattle.log_check.specs.declared.check_fault.CheckFault.{CheckFault}
 use Rattle.log_check.specs.declared.check_fault.CheckFault.TheVariants.{NoMemory, ReadFault, TooMany}
-use Rattle.program_ends.specs.Concludes.{Concludes}
-use Rattle.program_ends.specs.Ends.{Ends}
-use Rattle.program_ends.specs.FaultText.{fault_status, fault_told}
-use Rattle.program_ends.specs.Wrongs.{IsWrong, IsWrongText, TellsWrong, wrong_of}
-use Rattle.program_ends.specs.declared.wrong.Wrong.{Wrong}
-use Rattle.program_ends.proofs.Wronging.{fault_wrong}
+use Rattle.command_ends.specs.Concludes.{Concludes}
+use Rattle.command_ends.specs.Ends.{Ends}
+use Rattle.command_ends.specs.FaultText.{fault_status, fault_told}
+use Rattle.command_ends.specs.Wrongs.{IsWrong, IsWrongText, TellsWrong, wrong_of}
+use Rattle.command_ends.specs.declared.wrong.Wrong.{Wrong}
+use Rattle.command_ends.proofs.Wronging.{fault_wrong}
 use Rattle.line_source.specs.LineText.{line_text}
 use Rattle.log_check.specs.Judged.{KeepsFault}
 use Rattle.check_command.specs.Answers.{Answer, CountsBy, IsRead, KeepsText, Says}
@@ -100,7 +101,8 @@ verdict_text_kept verdict wrong input kept is keeps = subst (λ w. IsWrongText w
 module _ {before after : SourceView} where
   head_tells : (f : TraceFault) → IfSome before.left (λ text. IsRead (Says (Err f) text) after.left) → CountsBy (Err f) before.failures after.failures
       → CheckTells before after (fault_status f) (fault_told f)
-  head_tells (fault.Line n cause) means counts = faulty n cause counts (if_some _ _ before.left (λ text r. r.says) means)
+  head_tells (fault.Line n breach) means counts = faulty n breach counts (if_some _ _ before.left (λ text r. r.says) means)
+  head_tells fault.Empty means counts = unfinished counts (if_some _ _ before.left (λ text r. (ap head_of r.says.0, at_end r.read after.left r.says.1)) means)
   head_tells fault.Unfinished means counts = unfinished counts (if_some _ _ before.left (λ text r. (r.says.0, at_end r.read after.left r.says.1)) means)
   head_tells fault.ReadFault means counts = unread counts (if_some _ _ before.left (λ text r. record { read = r.read; few = r.few; says = inl r.says }) means)
   head_tells fault.NoMemory means counts = no_memory counts

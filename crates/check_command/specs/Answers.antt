@@ -9,7 +9,7 @@ use Rattle.log_check.specs.declared.check_fault.CheckFault.{CheckFault}
 use Rattle.log_check.specs.declared.verdict.Verdict.{Verdict}
 use Rattle.log_check.specs.declared.verdict.Verdict.TheVariants.{Fault, Legal}
 use Rattle.trace_reader.specs.LineText.{IsTextOf}
-use Rattle.program_ends.specs.Wrongs.{IsLogText}
+use Rattle.command_ends.specs.Wrongs.{IsLogText}
 use Rattle.check_command.specs.CheckText.{HasLog}
 
 -- a verdict on the log or none, or what is wrong with the trace before it

@@ -3,14 +3,14 @@ use Rattle.std.specs.Prelude.{◌≡◌, ◌⊎◌, ℕ, List, [], ◌++◌, Opt
 use Rattle.vm_types.specs.declared.config.Config.{Config}
 use Rattle.outside_io.specs.Causes.{Rose}
 use Rattle.outside_io.specs.Views.{SourceView}
-use Rattle.trace_words.specs.declared.cause.Cause.{Cause}
+use Rattle.trace_lines.specs.declared.breach.Breach.{Breach}
 use Rattle.trace_reader.specs.Head.{Configured, Faulty, head_of}
 use Rattle.trace_reader.specs.Head as head
 use Rattle.trace_reader.specs.HeadAnswer.{IsCutShort as IsHeadCut}
 use Rattle.log_model.specs.Log.{IsTooLong}
 use Rattle.log_check.specs.Judged.{IsCutShort as IsLogCut}
 use Rattle.pager_model.specs.Text.{status_line}
-use Rattle.program_ends.specs.FaultText.{fault_text, unfinished_text}
+use Rattle.command_ends.specs.FaultText.{fault_text, unfinished_text}
 use Rattle.check_command.specs.Answers.{IsRead}
 use Rattle.check_command.specs.CheckText.{HasLog, IsCheckAnswer}
 
@@ -23,8 +23,8 @@ IsFaultless text left = IsHeadCut text left ⊎ HasLog (λ config log. IsLogCut 
 pub data CheckTells (before after : SourceView) : ℕ → List ℕ → Type 0 where
   answered : (status : ℕ) (text : List ℕ) → after.failures ≡ before.failures → IsCheckAnswer before after status text
       → CheckTells before after status text
-  faulty : (n : ℕ) (cause : Cause) → after.failures ≡ before.failures → IfSome before.left (λ text. head_of text ≡ Faulty n cause)
-      → CheckTells before after 2 (fault_text n cause ++ status_line 2)
+  faulty : (n : ℕ) (breach : Breach) → after.failures ≡ before.failures → IfSome before.left (λ text. head_of text ≡ Faulty n breach)
+      → CheckTells before after 2 (fault_text n breach.cause ++ status_line 2)
   unfinished : after.failures ≡ before.failures → IfSome before.left (λ text. (head_of text ≡ head.Unfinished) × (after.left ≡ Some []))
       → CheckTells before after 2 (unfinished_text ++ status_line 2)
   unread : Rose before.failures after.failures → IfSome before.left (λ text. IsRead (IsFaultless text) after.left)

@@ -5,7 +5,7 @@ use Rattle.vm_types.specs.declared.config.Config.{Config}
 use Rattle.outside_io.specs.Views.{SourceView}
 use Rattle.pager_model.specs.Text.{ended, status_line}
 use Rattle.trace_reader.specs.Head.{Configured, head_of}
-use Rattle.program_ends.specs.Wrongs.{log_fault_text, log_too_long_text}
+use Rattle.command_ends.specs.Wrongs.{log_fault_text, log_too_long_text}
 use Rattle.log_model.specs.Log.{IsAtFault, IsLegalLog, IsTooLong}
 
 -- the line before the status of a legal log

@@ -6,9 +6,9 @@ use Rattle.log_check.specs.declared.verdict.Verdict.{Verdict}
 use Rattle.log_check.specs.declared.verdict.Verdict.TheVariants.{Legal, Fault}
 use Rattle.log_check.specs.declared.check_fault.CheckFault.{CheckFault}
 use Rattle.log_check.specs.declared.check_fault.CheckFault.TheVariants.{NoMemory, ReadFault, TooMany}
-use Rattle.program_ends.specs.Wrongs.{log_fault_text, log_too_long_text}
-use Rattle.program_ends.specs.declared.wrong.Wrong.{Wrong}
-use Rattle.program_ends.specs.declared.wrong.Wrong.TheVariants.{LogTooLong, LogLine}
+use Rattle.command_ends.specs.Wrongs.{log_fault_text, log_too_long_text}
+use Rattle.command_ends.specs.declared.wrong.Wrong.{Wrong}
+use Rattle.command_ends.specs.declared.wrong.Wrong.TheVariants.{LogTooLong, LogLine}
 use Rattle.check_command.specs.CheckText.{legal_line}
 
 abbrev pub verdict_status : Result Verdict CheckFault → ℕ

@@ -1,17 +1,17 @@
 ghost use Rattle.std.specs.Prelude.{◌≡◌, ◌≢◌, ◌⊎◌, ◌≤◌};
 ghost use Rattle.outside_io.specs.Causes.{Rose};
-ghost use Rattle.program_ends.specs.Concludes.{Concludes, HasTold, WasCut};
-ghost use Rattle.program_ends.specs.Ends.{Ends};
-ghost use Rattle.program_ends.specs.Wrongs.{IsWrongText, TellsWrong};
+ghost use Rattle.command_ends.specs.Concludes.{Concludes, HasTold, WasCut};
+ghost use Rattle.command_ends.specs.Ends.{Ends};
+ghost use Rattle.command_ends.specs.Wrongs.{IsWrongText, TellsWrong};
 ghost use Rattle.check_command.specs.CheckTells.{CheckTells, HasCheckInput};
 ghost use Rattle.check_command.specs.Verdicts.{verdict_status, verdict_text, wrong_in_log};
 
 use crate::ending::{end_at_fault, end_legal, end_too_long};
 use crate::judging::judge_source;
 use arrayvec::ArrayVec;
+use command_ends::{Status, Wrong, end_fault, end_with, wrong_of};
 use log_check::{CheckFault, Verdict};
 use outside_io::{Sink, Source};
-use program_ends::{Status, Wrong, end_fault, end_with, wrong_of};
 use std::alloc::Global;
 
 // Writes the verdict, or why there is none, and the status.

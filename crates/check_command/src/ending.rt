@@ -3,13 +3,13 @@
 ghost use Rattle.std.specs.Prelude.{◌≡◌, ◌≢◌, ◌≤◌, ◌++◌};
 ghost use Rattle.arrayvec.specs.ArrayVec.{array_vec_len};
 ghost use Rattle.pager_model.specs.Text.{ended, status_line};
-ghost use Rattle.program_ends.specs.Ends.{Ends};
+ghost use Rattle.command_ends.specs.Ends.{Ends};
 ghost use Rattle.check_command.specs.CheckText.{legal_line};
-ghost use Rattle.program_ends.specs.Wrongs.{log_fault_text, log_too_long_text};
+ghost use Rattle.command_ends.specs.Wrongs.{log_fault_text, log_too_long_text};
 
 use arrayvec::ArrayVec;
+use command_ends::{Status, end_with, push_counted, write_line};
 use outside_io::Sink;
-use program_ends::{Status, end_with, push_counted, write_line};
 use vm_text::push_word;
 
 // Writes the line and a status other than 4.

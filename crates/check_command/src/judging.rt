@@ -23,7 +23,7 @@ fn judge_lines<S: Source>(
     ensures faults_later { (S.seen lines.old.source.now).failures ≤ (S.seen lines.new.source.now).failures }
     ensures same_reference { lines.new.source.ghost_name ≡ lines.old.source.ghost_name }
 {
-    match read_head(lines, alloc, kept) {
+    match read_head(alloc, lines, kept) {
         Ok(config) => Ok(check_log(alloc, &config, lines, kept)),
         Err(fault) => Err(fault),
     }

@@ -2,7 +2,7 @@
 use Rattle.std.proofs.Common.{◌≡◌, ◌≢◌, ℕ, List, [], ◌∷◌, ◌++◌, refl, sym, ◌∙◌, ap}
 use Rattle.std.specs.Prelude.{Bool, true, false, ◌&&◌, ◌==◌}
 use Rattle.std.proofs.lemmas.Bool.{eq-eqb, eqb-true}
-use Rattle.command_messages.specs.Messages.{begins}
+use Rattle.command_messages.specs.Reasons.{begins}
 
 pub begins_with : (front rest : List ℕ) → true ≡ begins front (front ++ rest)
 begins_with [] rest = refl

@@ -1,2 +1,4 @@
 pub mod LineFaults
+pub mod Reasons
+pub mod Marks
 pub mod Messages

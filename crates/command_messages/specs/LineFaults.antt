@@ -7,7 +7,7 @@ use Rattle.study_command.specs.CommandLine.{frames_named, if_right, process_name
 use Rattle.trace_words.specs.Number.{decimal_within}
 use Rattle.log_messages.specs.Shown.{shown}
 use Rattle.command_messages.specs.declared.faults.CommandName.{CommandName}
-use Rattle.command_messages.specs.declared.faults.CommandName.TheVariants.{Serial, Study, Make, Check}
+use Rattle.command_messages.specs.declared.faults.CommandName.TheVariants.{Serial, Study, Make, Check, Dump, Show}
 use Rattle.command_messages.specs.declared.faults.LineOption.{LineOption}
 use Rattle.command_messages.specs.declared.faults.LineOption.TheVariants.{Process, Frames, Seed, Procs, Refs}
 use Rattle.command_messages.specs.declared.faults.LineFault.{LineFault}
@@ -19,6 +19,8 @@ command_word Serial = codes "serial"
 command_word Study = codes "study"
 command_word Make = codes "make"
 command_word Check = codes "check"
+command_word Dump = codes "dump"
+command_word Show = codes "show"
 
 -- an option's word
 abbrev pub option_word : LineOption → List ℕ
@@ -94,6 +96,8 @@ takes_text Serial = codes "serial takes its trace from standard input: serial < 
 takes_text Study = codes "study takes --process X and --frames K, each once, and no other word"
 takes_text Make = codes "make takes --seed N, --procs P and --refs R, each once, and no other word"
 takes_text Check = codes "check takes its trace and its log from standard input: check < FILE"
+takes_text Dump = codes "dump takes its trace from standard input and writes bytes: dump < TRACE > FILE"
+takes_text Show = codes "show takes its dump from standard input: show < FILE"
 
 -- what is wrong, in words, with the bytes that are quoted
 abbrev pub said_text : LineFault → List ℕ → List ℕ

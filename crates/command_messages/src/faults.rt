@@ -11,6 +11,10 @@ pub enum CommandName {
     Make,
     /// Reads a trace and a log and judges the log.
     Check,
+    /// Reads a trace, runs it, and writes the dump at the report's place.
+    Dump,
+    /// Reads a dump and writes its text.
+    Show,
 }
 
 /// An option of a command.

@@ -4,7 +4,9 @@
 
 mod faults;
 mod line;
+mod marks;
 mod messages;
+mod reasons;
 
 pub use faults::{CommandName, LineFault, LineOption};
 pub use line::{line_fault, quoted_fault};

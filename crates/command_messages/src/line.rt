@@ -179,6 +179,10 @@ pub fn line_fault(words: &[&str]) -> LineFault
         LineFault::Other(CommandName::Serial)
     } else if is(first, b"check") {
         LineFault::Other(CommandName::Check)
+    } else if is(first, b"dump") {
+        LineFault::Other(CommandName::Dump)
+    } else if is(first, b"show") {
+        LineFault::Other(CommandName::Show)
     } else if is(first, b"study") {
         study_fault(rest)
     } else if is(first, b"make") {

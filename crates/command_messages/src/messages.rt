@@ -3,113 +3,59 @@
 ghost use Rattle.std.specs.Prelude.{◌≡◌, ◌+◌, ◌≤◌, ◌++◌, length, true, None};
 ghost use Rattle.arrayvec.specs.ArrayVec.{array_vec_len};
 ghost use Rattle.command_messages.specs.LineFaults.{range_text, said_text, takes_text};
-ghost use Rattle.command_messages.specs.Messages.{IsSaid, begins, fault_message, first_reason, is_dump, is_log, is_marked, is_wide, line_message, message_of, reason_text, rule_text, status_message, usage_message, usage_text, wrong_message};
+ghost use Rattle.command_messages.specs.Messages.{IsSaid, dump_message, fault_message, line_message, message_of, status_message, usage_message, usage_text, wrong_message};
 
 use crate::faults::{CommandName, LineFault, LineOption};
 use crate::line::option_word;
+use crate::marks::push_mark;
+use crate::reasons::push_reason;
 use arrayvec::ArrayVec;
+use command_ends::Wrong;
 use log_messages::{log_message, push_shown};
 use outside_io::{Sink, write_whole};
-use program_ends::Wrong;
-use trace_reader::Cause;
-use vm_text::{after, push_count, push_word};
+use trace_reader::Breach;
+use vm_text::{push_count, push_decimal, push_word};
 
 const USAGE: &[u8] =
-    b"neqysbar 1.0.0\nusage: neqysbar serial < TRACE\n           reads a trace and runs it; writes each entry, a report, the pages left dirty and the status\n       neqysbar study --process X --frames K < TRACE\n           reads a trace; writes what the references of process X, A to P, cost with K page frames, 1 to 1024\n       neqysbar make --seed N --procs P --refs R\n           reads nothing; makes a trace from the seed N, 0 to 4294967295, with P processes, 1 to 16, and R\n           references, 1 to 100000, and runs it; writes how many entries of each kind the run has\n       neqysbar check < TRACE-AND-LOG\n           reads a trace, a line LOG and a log; writes whether the log is legal, or its first line that isn't\nexample: neqysbar study --process A --frames 8 < examples/swapping.trace\n";
+    b"neqysbar 1.0.0\nusage: neqysbar serial < TRACE\n           reads a trace and runs it; writes each entry, a report, the pages left dirty and the status\n       neqysbar study --process X --frames K < TRACE\n           reads a trace; writes what the references of process X, A to P, cost with K page frames, 1 to 1024\n       neqysbar make --seed N --procs P --refs R\n           reads nothing; makes a trace from the seed N, 0 to 4294967295, with P processes, 1 to 16, and R\n           references, 1 to 100000, and runs it; writes how many entries of each kind the run has\n       neqysbar check < TRACE-AND-LOG\n           reads a trace, a line LOG and a log; writes whether the log is legal, or its first line that isn't\n       neqysbar dump < TRACE > FILE\n           reads a trace and runs it up to the report; writes the dump of the page database there, in bytes\n       neqysbar show < FILE\n           reads a dump; writes what it holds, and each count in it that a recount doesn't give\nexample: neqysbar study --process A --frames 8 < examples/swapping.trace\n";
+
+const EMPTY: &[u8] = b"neqysbar: the input is empty\n";
+
+const UNDECLARED: &[u8] =
+    b"neqysbar: the trace doesn't declare the process that --process names, so it has no references\n";
 
 const UNFINISHED: &[u8] =
     b"neqysbar: the trace ends before its line END, or before the line LOG that check reads\n";
 
 const TOO_LONG: &[u8] = b"neqysbar: the log has more lines than a log may have\n";
 
-// The rule that a line breaks, in words.
-fn rule_of(cause: Cause) -> &'static [u8]
-    ensures value { result.now ≡ rule_text cause }
-    ensures short { length result.now ≤ 100 }
-{
-    match cause {
-        Cause::LineTooLong => b"the line has more than 255 bytes",
-        Cause::NotAscii =>
-            b"the line has a byte that is neither a blank, a tab nor a printable character",
-        Cause::TooMany =>
-            b"there are more lines, sections, section pages, processes or requests than a trace may have",
-        Cause::UnknownWord => b"a word is none of those that may stand in its place",
-        Cause::Misplaced => b"the line doesn't belong here, or has too many or too few words",
-        Cause::NoSuch => b"a process, section or block is named that no earlier line declares",
-        Cause::BadNumber => b"a word stands in the place of a number and is none",
-        Cause::OutOfRange => b"a number is out of its range, or doesn't fit the other numbers",
-        Cause::Unaligned =>
-            b"an address isn't a multiple of the page size or of the width of the reference",
-        Cause::Repeated => b"what the line declares was declared before",
-    }
-}
-
-// Whether the text begins with these bytes.
-fn begins(front: &[u8], text: &[u8]) -> bool
-    ensures { result ≡ begins front.now text.now }
-{
-    match after(text, front) {
-        Some(_) => true,
-        None => false,
-    }
-}
-
-// Whether a byte order mark of UTF-16 stands in front, of either order.
-fn is_wide(text: &[u8]) -> bool
-    ensures { result ≡ is_wide text.now }
-{
-    begins(b"\xFE\xFF", text) || begins(b"\xFF\xFE", text)
-}
-
-// Whether it begins as a log does, with an entry or with the report.
-fn is_log(text: &[u8]) -> bool
-    ensures { result ≡ is_log text.now }
-{
-    begins(b"1 ", text) || begins(b"PFN AT ", text)
-}
-
-// Why a first line is at fault.
-fn first_reason(cause: Cause, text: &[u8]) -> &'static [u8]
-    ensures value { result.now ≡ first_reason cause text.now }
-    ensures short { length result.now ≤ 100 }
-{
-    if begins(b"\xEF\xBB\xBF", text) {
-        b"a byte order mark stands in front of the trace, which is plain ASCII"
-    } else if is_wide(text) {
-        b"the input begins as UTF-16 does, and a trace is plain ASCII"
-    } else if is_log(text) {
-        b"the input begins as a log does, and a trace begins with VMTRACE 1"
-    } else if begins(b"VMSDUMP", text) {
-        b"the input begins as a dump does, and a trace begins with VMTRACE 1"
-    } else {
-        rule_of(cause)
-    }
-}
-
-// Why a line of this number is at fault.
-fn reason_of(number: u32, cause: Cause, text: &[u8]) -> &'static [u8]
-    ensures value { result.now ≡ reason_text number cause text.now }
-    ensures short { length result.now ≤ 100 }
-{
-    if number == 1 {
-        first_reason(cause, text)
-    } else {
-        rule_of(cause)
-    }
-}
-
 // The message about a faulty line with these first bytes.
-fn fault_message(number: u32, cause: Cause, text: &ArrayVec<u8, 80>) -> ArrayVec<u8, 512>
-    ensures { result.items ≡ fault_message number cause text.now.items }
+fn fault_message(number: u32, breach: Breach, text: &ArrayVec<u8, 80>) -> ArrayVec<u8, 640>
+    ensures { result.items ≡ fault_message number breach text.now.items }
 {
     let mut out = ArrayVec::new();
     push_word(&mut out, b"neqysbar: line ");
     push_count(&mut out, number);
     push_word(&mut out, b": ");
-    push_word(&mut out, reason_of(number, cause, text.as_slice()));
-    push_word(&mut out, b": ");
+    push_reason(&mut out, number, breach, text.as_slice());
+    push_word(&mut out, b"\n    ");
     push_shown(&mut out, text.as_slice());
     push_word(&mut out, b"\n");
+    push_mark(&mut out, breach.word, text.as_slice());
+    out
+}
+
+// The message about bytes that are no dump, of which so many begin one.
+fn dump_message(bytes: u64) -> ArrayVec<u8, 512>
+    ensures { result.items ≡ dump_message bytes }
+{
+    let mut out = ArrayVec::new();
+    push_word(&mut out, b"neqysbar: the first ");
+    push_decimal(&mut out, bytes);
+    push_word(
+        &mut out,
+        b" bytes begin a dump; the next one is wrong, or is missing\n",
+    );
     out
 }
 
@@ -140,11 +86,14 @@ fn taken_by(command: CommandName) -> &'static [u8]
             b"make takes --seed N, --procs P and --refs R, each once, and no other word",
         CommandName::Check =>
             b"check takes its trace and its log from standard input: check < FILE",
+        CommandName::Dump =>
+            b"dump takes its trace from standard input and writes bytes: dump < TRACE > FILE",
+        CommandName::Show => b"show takes its dump from standard input: show < FILE",
     }
 }
 
 // Adds what is wrong with a command line.
-fn add_said(out: &mut ArrayVec<u8, 1280>, fault: LineFault, text: &ArrayVec<u8, 80>)
+fn add_said(out: &mut ArrayVec<u8, 1536>, fault: LineFault, text: &ArrayVec<u8, 80>)
     requires { array_vec_len out.old ≤ 10 }
     ensures items { out.new.items ≡ out.old.items ++ said_text fault text.now.items }
     ensures len { array_vec_len out.new ≤ array_vec_len out.old + 370 }
@@ -170,7 +119,7 @@ fn add_said(out: &mut ArrayVec<u8, 1280>, fault: LineFault, text: &ArrayVec<u8, 
 }
 
 // The message about a command line.
-fn usage_message(fault: LineFault, text: &ArrayVec<u8, 80>) -> ArrayVec<u8, 1280>
+fn usage_message(fault: LineFault, text: &ArrayVec<u8, 80>) -> ArrayVec<u8, 1536>
     ensures { result.items ≡ usage_message fault text.now.items }
 {
     let mut out = ArrayVec::new();
@@ -198,12 +147,15 @@ fn explain_wrong<M: Sink>(wrong: Wrong, text: &ArrayVec<u8, 80>, messages: &mut 
     ensures { IsSaid (M.seen messages.old) (M.seen messages.new) (wrong_message wrong text.now.items) }
 {
     match wrong {
-        Wrong::Line(number, cause) => {
-            say(fault_message(number, cause, text).as_slice(), messages)
+        Wrong::Line(number, breach) => {
+            say(fault_message(number, breach, text).as_slice(), messages)
         }
+        Wrong::Empty => say(EMPTY, messages),
         Wrong::Unfinished => say(UNFINISHED, messages),
         Wrong::LogTooLong => say(TOO_LONG, messages),
         Wrong::LogLine(number, why) => { say(log_message(number, &why, text).as_slice(), messages) }
+        Wrong::DumpByte(bytes) => say(dump_message(bytes).as_slice(), messages),
+        Wrong::Undeclared(_) => say(UNDECLARED, messages),
     }
 }
 
@@ -251,9 +203,11 @@ fn explain_status<M: Sink>(
 }
 
 /// Writes the message that goes with a status: for an input that is wrong the number of the faulty line, why it
-/// is at fault and its first bytes, or that the trace is unfinished, or that a log is too long, or the
-/// number of the line at which a log isn't legal and its first bytes; else what is wrong with the command line
-/// and usage beside 1, what failed beside 3, 4, 6 and 7, and nothing beside others. Doesn't allocate.
+/// is at fault and its first bytes, with a mark below the word that is wrong, or that the input is empty, or
+/// that the trace is unfinished or lacks the process that was asked for, or that a log is too long, or the
+/// number of the line at which a log isn't legal and its first bytes, or after how many bytes an input is no
+/// dump; else what is wrong with the command line and usage beside 1, what failed beside 3, 4, 6 and 7, and
+/// nothing beside others. Doesn't allocate.
 pub fn explain<M: Sink>(
     status: u8,
     wrong: Option<Wrong>,
@@ -265,7 +219,7 @@ pub fn explain<M: Sink>(
 {
     match wrong {
         Some(wrong) => {
-            if status == 4 {
+            if status == 4 || status == 7 {
                 say(status_message(status), messages)
             } else {
                 explain_wrong(wrong, text, messages)

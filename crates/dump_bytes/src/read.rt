@@ -23,7 +23,7 @@ const ROOM: usize = 786_793;
 /// byte, or the input ends after n bytes, and these begin some dump and aren't a whole one.
 /// `ReadFault` only if the source's count of failures rose; the bytes read begin some dump then.
 /// `NoMemory` if memory ran out; nothing was read then.
-pub fn read_dump<S: Source>(source: &mut S, alloc: Global) -> Result<Dump, DumpFault>
+pub fn read_dump<S: Source>(alloc: Global, source: &mut S) -> Result<Dump, DumpFault>
     ensures bounds { IfOk result (λ dump. IsDump (dumped dump)) }
     ensures text { IfSome (S.seen source.old).left (λ text. Answers result text (S.seen source.new).left) }
     ensures known { IsSome (S.seen source.old).left → IsSome (S.seen source.new).left }

@@ -9,9 +9,9 @@ ghost use Rattle.dump_lines.specs.WrongLines.{wrong_line, wrong_lines};
 
 use crate::counts::Counts;
 use arrayvec::ArrayVec;
+use command_ends::{push_counted, write_line};
 use dump_bytes::FrameRec;
 use outside_io::{Sink, WriteFault};
-use program_ends::{push_counted, write_line};
 use vm_text::{push_frame, push_word};
 use vm_types::Pfn;
 

@@ -10,9 +10,9 @@ ghost use Rattle.dump_lines.specs.Printable.{HasPage, IsPrintableFrame};
 
 use crate::codes::state_of;
 use arrayvec::ArrayVec;
+use command_ends::{push_counted, write_line};
 use dump_bytes::FrameRec;
 use outside_io::{Sink, WriteFault};
-use program_ends::{push_counted, write_line};
 use vm_text::{push_count, push_mark, push_place, push_state, push_word};
 use vm_types::{Addr, Page};
 

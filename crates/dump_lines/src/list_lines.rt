@@ -6,8 +6,8 @@ ghost use Rattle.outside_io.specs.Writes.{Writes};
 ghost use Rattle.dump_lines.specs.ListLines.{list_line, list_lines, on_line};
 
 use arrayvec::ArrayVec;
+use command_ends::{push_counted, write_line};
 use outside_io::{Sink, WriteFault};
-use program_ends::{push_counted, write_line};
 use vm_text::{push_frame, push_word};
 use vm_types::Pfn;
 

@@ -10,9 +10,9 @@ ghost use Rattle.dump_lines.specs.ProcessLines.{filled_in, marked, one_process, 
 
 use crate::codes::status_of;
 use arrayvec::ArrayVec;
+use command_ends::{push_counted, write_line};
 use dump_bytes::{ProcRec, SlotRec};
 use outside_io::{Sink, WriteFault};
-use program_ends::{push_counted, write_line};
 use vm_text::{push_place, push_process, push_status, push_word};
 use vm_types::{Addr, Proc};
 

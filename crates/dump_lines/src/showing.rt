@@ -2,7 +2,7 @@
 
 ghost use Rattle.std.specs.Prelude.{◌≡◌, ◌++◌};
 ghost use Rattle.outside_io.specs.Writes.{Writes};
-ghost use Rattle.program_ends.specs.Ends.{Ends};
+ghost use Rattle.command_ends.specs.Ends.{Ends};
 ghost use Rattle.dump_bytes.specs.Bounds.{IsDump};
 ghost use Rattle.dump_bytes.specs.Dumped.{dumped};
 ghost use Rattle.dump_lines.specs.Counts.{recount_of};
@@ -14,9 +14,9 @@ use crate::frames::print_frames;
 use crate::list_lines::print_list;
 use crate::processes::print_processes;
 use arrayvec::ArrayVec;
+use command_ends::{Status, end_with, push_counted, write_line};
 use dump_bytes::Dump;
 use outside_io::{Sink, WriteFault};
-use program_ends::{Status, end_with, push_counted, write_line};
 
 fn print_head<K: Sink>(dump: &Dump, sink: &mut K) -> Result<(), WriteFault>
     requires { IsDump (dumped dump.now) }

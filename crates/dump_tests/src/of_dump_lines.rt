@@ -1,7 +1,7 @@
 use crate::one_page::{ONE_PAGE, changed, read};
+use command_ends::Status;
 use dump_lines::{recount, show};
 use outside_io::MemorySink;
-use program_ends::Status;
 use std::alloc::Global;
 use std::test::Fail;
 

@@ -1,10 +1,10 @@
 ghost use Rattle.std.specs.Prelude.{◌<◌, ◌^◌};
 
 use crate::one_page::read;
+use command_ends::Status;
 use dump_bytes::write_dump;
 use dump_lines::{recount, show};
 use outside_io::MemorySink;
-use program_ends::Status;
 use std::alloc::{AllocError, Global};
 use std::test::Fail;
 

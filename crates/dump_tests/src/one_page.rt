@@ -42,7 +42,7 @@ pub fn read(
     ensures { IfOk result (λ answer. IfOk answer (λ dump. IsDump (dumped dump))) }
 {
     let mut source = MemorySource::new(bytes, fails.to_vec(alloc)?);
-    Ok(read_dump(&mut source, alloc))
+    Ok(read_dump(alloc, &mut source))
 }
 
 /// The same dump with another byte at one place.

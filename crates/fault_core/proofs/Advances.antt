@@ -9,9 +9,9 @@ use Rattle.call_laws.proofs.AdvanceLegal.{advance_legal}
 use Rattle.vm_state.specs.History.{History, owed, pager}
 use Rattle.fault_core.specs.Cases.{at_first}
 use Rattle.fault_core.specs.Gives.{MayGive}
-use Rattle.call_steps.specs.ReadySeat.{IsReadySeat}
+use Rattle.call_begins.specs.ReadySeat.{IsReadySeat}
 use Rattle.fault_core.proofs.Branches.{first_absent}
-use Rattle.call_steps.proofs.ReadySeats.{ready_of}
+use Rattle.call_begins.proofs.ReadySeats.{ready_of}
 
 pub may_advance : (s : History) (seat : Seat) (r : Ref) → IsReadySeat s seat → IsWellFormedReference r → owed s.past + 64 ≤ s.spare → MayGive s seat (at_first s seat r)
 may_advance s seat r ready formed room = record {

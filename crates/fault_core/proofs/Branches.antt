@@ -22,9 +22,9 @@ use Rattle.pager_model.specs.Spoken.{flat_after}
 use Rattle.vm_state.specs.FlightReadings.{read_by}
 use Rattle.vm_state.specs.PageReadings.{found_with}
 use Rattle.vm_state.specs.ProcessReadings.{adjusted_for, pending_in}
-use Rattle.page_states.specs.declared.found.Found.{Found}
+use Rattle.page_readers.specs.declared.found.Found.{Found}
 use Rattle.vm_state.specs.declared.open_read.OpenRead.{OpenRead}
-use Rattle.call_steps.proofs.Branches.{if_false, if_true, item_there}
+use Rattle.call_begins.proofs.Branches.{if_false, if_true, item_there}
 
 -- ---- the adjustment
 limit_at : (config : Config) (a : Pager) (p n k : ℕ) (o : Option ProcSpec) → Some (n, k) ≡ adjusted_for config a p o → limit_given config a p o ≡ given (what.Limit n k ∷ []) next_more

@@ -23,10 +23,10 @@ use Rattle.call_laws.specs.AreLegal.{AreLegal}
 use Rattle.lift_carriers.specs.CarrierView.{CarrierView}
 use Rattle.vm_state.specs.History.{History, owed, pager}
 use Rattle.vm_state.specs.LiftsLand.{added_each}
-use Rattle.call_steps.proofs.ReadsLeft.{IsReading, may_one, next_read, read_all}
-use Rattle.call_steps.specs.Lifted.{HasBegunLifts, place_of, places_in}
-use Rattle.call_steps.specs.MayBegin.{empty}
-use Rattle.call_steps.specs.OneRead.{one_read}
+use Rattle.call_begins.proofs.ReadsLeft.{IsReading, may_one, next_read, read_all}
+use Rattle.call_begins.specs.Lifted.{HasBegunLifts, place_of, places_in}
+use Rattle.call_begins.specs.MayBegin.{empty}
+use Rattle.call_begins.specs.OneRead.{one_read}
 use Rattle.fault_core.specs.Cases.{at_frame, vpn_of}
 use Rattle.fault_core.specs.Gives.{Gives, MayGive}
 use Rattle.fault_core.specs.declared.next.Next.TheVariants.{Carry}

@@ -36,23 +36,23 @@ use Rattle.vm_state.specs.History.{History, MayAdd, MayAnswer, added, entry_by, 
 use Rattle.vm_state.specs.PageReadings.{IsKnown}
 use Rattle.lift_carriers.specs.CarrierView.{CarrierView}
 use Rattle.vm_state.specs.Readings.{row_at}
-use Rattle.page_states.specs.Shown.{frame_number}
-use Rattle.page_states.specs.declared.found.Backing.{Backing}
+use Rattle.page_readers.specs.Shown.{frame_number}
+use Rattle.page_readers.specs.declared.found.Backing.{Backing}
 use Rattle.call_laws.specs.AreLegal.{AreLegal}
 use Rattle.call_laws.proofs.ReadsLegal.{first_private, lying_block, section_block}
 use Rattle.call_laws.proofs.WaitsLegal.{kept, right}
 use Rattle.vm_state.specs.LiftsLand.{added_each}
-use Rattle.call_steps.proofs.Rows.{row_state}
-use Rattle.call_steps.proofs.Steps.{paid_after, paid_first}
+use Rattle.call_begins.proofs.Rows.{row_state}
+use Rattle.call_begins.proofs.Steps.{paid_after, paid_first}
 use Rattle.fault_core.specs.Cases.{at_frame, at_held, vpn_of}
 use Rattle.fault_core.specs.Gives.{Gives, MayGive}
-use Rattle.call_steps.specs.ReadySeat.{IsReadySeat}
-use Rattle.call_steps.proofs.Heads.{behind_reuse, none_there, reuse_alone}
+use Rattle.call_begins.specs.ReadySeat.{IsReadySeat}
+use Rattle.call_begins.proofs.Heads.{behind_reuse, none_there, reuse_alone}
 use Rattle.fault_core.specs.SoughtPage.{IsSought, first_block}
 use Rattle.fault_core.specs.declared.next.Next.TheVariants.{Answered}
 use Rattle.fault_core.specs.declared.sought.Sought.{Sought}
 use Rattle.fault_core.proofs.Branches.{frame_none, uncharged_is}
-use Rattle.call_steps.proofs.ReadySeats.{frame_some, ready_of}
+use Rattle.call_begins.proofs.ReadySeats.{frame_some, ready_of}
 use Rattle.fault_core.proofs.KnownPages.{known_page}
 use Rattle.fault_core.proofs.Steps.{answered_then, may_answer_then, may_as}
 

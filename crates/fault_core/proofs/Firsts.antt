@@ -22,13 +22,13 @@ use Rattle.vm_state.specs.FlightReadings.{read_by}
 use Rattle.vm_state.specs.History.{History, MayAdd, MayAnswer, entry_by, owed, pager}
 use Rattle.vm_state.specs.PageReadings.{IsGranted, found_in}
 use Rattle.vm_state.specs.ProcessReadings.{pending_in}
-use Rattle.page_states.specs.declared.found.Found.{Found}
+use Rattle.page_readers.specs.declared.found.Found.{Found}
 use Rattle.vm_state.specs.declared.open_read.OpenRead.{OpenRead}
-use Rattle.call_steps.proofs.Branches.{if_false, if_true}
-use Rattle.call_steps.proofs.Steps.{paid_first}
+use Rattle.call_begins.proofs.Branches.{if_false, if_true}
+use Rattle.call_begins.proofs.Steps.{paid_first}
 use Rattle.fault_core.specs.Cases.{IsReplacedFirst, at_entry, at_fault, at_first, at_frame, at_held, at_map, at_out, at_read, at_refusal, at_replace, at_room, vpn_of}
 use Rattle.fault_core.specs.Gives.{MayGive}
-use Rattle.call_steps.specs.ReadySeat.{IsReadySeat}
+use Rattle.call_begins.specs.ReadySeat.{IsReadySeat}
 use Rattle.fault_core.proofs.Branches.{entry_missing, entry_some, first_pending, first_settled, found_page, found_valid, out_busy, out_still, read_none, read_other, read_own, room_charging, room_full}
 use Rattle.fault_core.proofs.Steps.{may_as}
 

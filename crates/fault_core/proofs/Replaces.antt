@@ -18,16 +18,16 @@ use Rattle.pager_model.specs.Pager.{Pager, Valid}
 use Rattle.page_holders.proofs.ValidEntries.{IsValidAt, valid_at_page}
 use Rattle.vm_state.specs.History.{History, MayAdd, entry_by, pager}
 use Rattle.vm_state.specs.ProcessReadings.{slot_by, slot_in, slot_with}
-use Rattle.page_states.specs.declared.found.Slot.{Slot}
+use Rattle.page_readers.specs.declared.found.Slot.{Slot}
 use Rattle.call_laws.proofs.WaitsLegal.{kept, mapped_small}
-use Rattle.call_steps.proofs.Branches.{if_false, if_true}
-use Rattle.call_steps.proofs.Steps.{paid_first}
+use Rattle.call_begins.proofs.Branches.{if_false, if_true}
+use Rattle.call_begins.proofs.Steps.{paid_first}
 use Rattle.fault_core.specs.Cases.{at_replace}
 use Rattle.fault_core.specs.Gives.{MayGive}
-use Rattle.call_steps.specs.ReadySeat.{IsReadySeat}
-use Rattle.call_steps.proofs.Slots.{IsSlotOf, seen_none, slot_entry}
+use Rattle.call_begins.specs.ReadySeat.{IsReadySeat}
+use Rattle.call_begins.proofs.Slots.{IsSlotOf, seen_none, slot_entry}
 use Rattle.fault_core.proofs.Steps.{may_as}
-use Rattle.call_steps.proofs.ReadySeats.{ready_of}
+use Rattle.call_begins.proofs.ReadySeats.{ready_of}
 
 seen_some : (config : Config) (past : List Entry) (a : Pager) (p : ℕ) (x : Slot) (e : Valid) (g : Page) (o : Option Held) → entry_of a.valid p x.vpn ≡ Some e → a.page e.frame ≡ Some g → Some x ≡ slot_with a.valid p o
     → replace_seen config past a p (seen_in a p o) ≡ cond (is_stopped config past a (x.frame).0) (gives_again again_modified_full) (given (eviction past a p x.vpn (x.frame).0 evict.Replace ∷ []) next_more)

@@ -22,7 +22,7 @@ use Rattle.lift_carriers.specs.CarrierView.{CarrierView}
 use Rattle.vm_state.specs.History.{History, MayAnswer, added, entry_by, owed}
 use Rattle.vm_state.specs.LiftsLand.{added_each}
 use Rattle.fault_core.specs.Gives.{Gives, MayGive, again_of, returned}
-use Rattle.call_steps.proofs.Steps.{paid_first}
+use Rattle.call_begins.proofs.Steps.{paid_first}
 use Rattle.fault_core.specs.declared.next.Next.{Next}
 use Rattle.fault_core.specs.declared.next.Next.TheVariants.{Again, Answered, More, Room}
 

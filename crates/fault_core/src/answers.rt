@@ -1,17 +1,17 @@
 ghost use Rattle.std.specs.Prelude.{◌≡◌, Some};
 ghost use Rattle.vm_types.specs.WellFormed.{IsWellFormedReference};
-ghost use Rattle.call_steps.specs.MayBegin.{empty};
+ghost use Rattle.call_begins.specs.MayBegin.{empty};
 ghost use Rattle.vm_state.specs.History.{pager};
 ghost use Rattle.vm_state.specs.PageReadings.{IsGranted, found_in};
 ghost use Rattle.fault_core.specs.Cases.{at_entry, at_refusal, vpn_of};
 ghost use Rattle.fault_core.specs.Gives.{Gives, MayGive};
-ghost use Rattle.call_steps.specs.ReadySeat.{IsReadySeat};
+ghost use Rattle.call_begins.specs.ReadySeat.{IsReadySeat};
 
 use crate::faults::{mapped, replaces_first};
 use crate::next::Next;
 use crate::waits::replace;
 use disk_trait::Block;
-use page_states::Found;
+use page_readers::Found;
 use vm_state::{Carrier, State};
 use vm_types::{Proc, Ref, Reply, Seat};
 

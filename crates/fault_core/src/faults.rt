@@ -6,11 +6,11 @@ ghost use Rattle.pager_model.specs.Lookups.{section_of};
 ghost use Rattle.pager_model.specs.Maps.{is_paged};
 ghost use Rattle.vm_state.specs.History.{pager};
 ghost use Rattle.vm_state.specs.PageReadings.{found_in};
-ghost use Rattle.call_steps.specs.MayBegin.{empty};
+ghost use Rattle.call_begins.specs.MayBegin.{empty};
 ghost use Rattle.fault_core.specs.Cases.{IsReplacedFirst, at_fault, at_map, at_room, vpn_of};
 ghost use Rattle.fault_core.specs.SoughtPage.{IsSought};
 ghost use Rattle.fault_core.specs.Gives.{Gives, MayGive};
-ghost use Rattle.call_steps.specs.ReadySeat.{IsReadySeat};
+ghost use Rattle.call_begins.specs.ReadySeat.{IsReadySeat};
 
 use crate::fetches::held;
 use crate::next::{AgainWhy, Next};
@@ -18,7 +18,7 @@ use crate::sought::Sought;
 use crate::waits::{read, replace};
 use disk_trait::Block;
 use page_moves::is_paged;
-use page_states::Found;
+use page_readers::Found;
 use vm_state::{Carrier, State};
 use vm_types::{BlockId, Config, Origin, Page, Proc, Ref, Seat};
 

@@ -5,10 +5,10 @@ ghost use Rattle.vm_journal.specs.declared.entry.What.{What};
 ghost use Rattle.pager_model.specs.Advance.{advance_gives};
 ghost use Rattle.pager_model.specs.Lookups.{is_resident};
 ghost use Rattle.vm_state.specs.History.{MayAdd, added, entry_by, owed, pager};
-ghost use Rattle.call_steps.specs.MayBegin.{empty};
+ghost use Rattle.call_begins.specs.MayBegin.{empty};
 ghost use Rattle.fault_core.specs.Cases.{at_first};
 ghost use Rattle.fault_core.specs.Gives.{Gives, MayGive};
-ghost use Rattle.call_steps.specs.ReadySeat.{IsIdleSeat, IsReadySeat};
+ghost use Rattle.call_begins.specs.ReadySeat.{IsIdleSeat, IsReadySeat};
 ghost use Rattle.fault_core.specs.declared.next.Next.{Next};
 
 use crate::answers::answer;

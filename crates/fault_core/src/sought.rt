@@ -1,4 +1,4 @@
-use page_states::Backing;
+use page_readers::Backing;
 use vm_types::{BlockId, Page};
 
 /// A page that a process refers to: the section block behind it, if there is one, and where it is.

@@ -2,6 +2,7 @@ pub mod Places
 pub mod Rows
 pub mod Blocks
 pub mod Counts
+mod AllBack
 mod Listed
 mod Changed
 mod Kept

@@ -1,6 +1,6 @@
 //! The buffer of a frame.
 
-ghost use Rattle.std.specs.Prelude.{◌≡◌, ◌+◌, ◌<◌, Some, None, IsSome, IfSome, length, replicate};
+ghost use Rattle.std.specs.Prelude.{◌≡◌, ◌+◌, ◌<◌, ◌≤◌, Some, None, IsSome, IfSome, length, replicate};
 ghost use Rattle.std.specs.Option.{option_map};
 ghost use Rattle.std.specs.Borrow.{sem};
 ghost use Rattle.frame_store.specs.Place.{bytes_in, with_bytes};
@@ -89,6 +89,21 @@ impl Frame {
         ensures buffer { self.old ≡ Some result }
     {
         buffer(mem::replace(&mut self.place, Place::Out))
+    }
+
+    /// Puts the buffer back into its pool, if it isn't out.
+    pub(crate) fn put_back(self, pool: &mut Pool)
+        requires some { IsSome self }
+        requires pool { IfSome self (λ b. b.pool ≡ pool.old.name) }
+        ensures name { pool.new.name ≡ pool.old.name }
+        ensures left { pool.new.left ≡ pool.old.left + 1 }
+        ensures within { pool.new.left ≤ pool.new.name.size }
+    {
+        match self.place {
+            Place::Buffer(buf) => pool.put(buf),
+            Place::Spare(spare) => pool.put_spare(spare),
+            Place::Out => unreachable!(),
+        }
     }
 
     /// A buffer of the pool with the same bytes, if it isn't out.

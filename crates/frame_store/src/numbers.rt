@@ -16,6 +16,26 @@ pub(crate) struct Numbers {
 }
 
 impl Numbers {
+    /// The numbers of a configuration's blocks, and how many blocks it has.
+    fn counted(alloc: Global, config: &Config) -> Result<(Numbers, u32), NoMemory>
+        requires { IsWellFormed config.now }
+        ensures numbers { IfOk result (λ r. AreNumbers (number_by r.0.sections.items r.0.file r.0.swaps.items) (blocks_of config.now)) }
+        ensures listed { IfOk result (λ r.
+            listed_by r.0.sections.items r.0.file r.0.swaps.items (length (blocks_of config.now)) ≡ blocks_of config.now) }
+        ensures count { IfOk result (λ r. r.1 ≡ length (blocks_of config.now)) }
+    {
+        let pages = block_counts(alloc, config.sections.items())?;
+        let slots = extents(alloc, config.procs.items())?;
+        let (sections, file) = firsts(alloc, 0, &pages)?;
+        let (swaps, count) = firsts(alloc, file + config.pagefile, &slots)?;
+        let numbers = Numbers {
+            sections,
+            file,
+            swaps,
+        };
+        Ok((numbers, count))
+    }
+
     /// The numbers of a configuration's blocks.
     pub(crate) fn new(alloc: Global, config: &Config) -> Result<Numbers, NoMemory>
         requires { IsWellFormed config.now }
@@ -23,15 +43,8 @@ impl Numbers {
         ensures listed { IfOk result (λ n.
             listed_by n.sections.items n.file n.swaps.items (length (blocks_of config.now)) ≡ blocks_of config.now) }
     {
-        let pages = block_counts(alloc, config.sections.items())?;
-        let slots = extents(alloc, config.procs.items())?;
-        let (sections, file) = firsts(alloc, 0, &pages)?;
-        let (swaps, _) = firsts(alloc, file + config.pagefile, &slots)?;
-        Ok(Numbers {
-            sections,
-            file,
-            swaps,
-        })
+        let (numbers, _) = Numbers::counted(alloc, config)?;
+        Ok(numbers)
     }
 
     /// The number of a block.
@@ -91,10 +104,7 @@ pub fn block_count(alloc: Global, config: &Config) -> Result<usize, NoMemory>
     requires { IsWellFormed config.now }
     ensures { IfOk result (λ n. n ≡ length (blocks_of config.now)) }
 {
-    let pages = block_counts(alloc, config.sections.items())?;
-    let slots = extents(alloc, config.procs.items())?;
-    let (_, file) = firsts(alloc, 0, &pages)?;
-    let (_, count) = firsts(alloc, file + config.pagefile, &slots)?;
+    let (_, count) = Numbers::counted(alloc, config)?;
     Ok(count as usize)
 }
 

@@ -1,6 +1,7 @@
-ghost use Rattle.std.specs.Prelude.{◌≡◌, ◌+◌, ◌-◌, ◌*◌, ◌<◌, ◌≤◌, ◌^◌, true, false, if◌then◌else◌, length, replicate, Some, None, IsSome, IfSome, IfOk, All, map, is_some, slice_get, slice_set};
+ghost use Rattle.std.specs.Prelude.{◌≡◌, ◌+◌, ◌-◌, ◌*◌, ◌<◌, ◌≤◌, ◌^◌, true, false, if◌then◌else◌, length, replicate, Option, Some, None, IsSome, IfSome, IfOk, All, map, is_some, slice_get, slice_set};
 ghost use Rattle.std.specs.Borrow.{sem};
 ghost use Rattle.vm_types.specs.declared.names.BlockId.{BlockId};
+ghost use Rattle.page_pool.specs.Pool.{Buffer};
 
 use crate::frame::Frame;
 use crate::home::Home;
@@ -63,6 +64,7 @@ impl<B: Block> Store<B> {
         requires formed { IsWellFormed config.now }
         requires blocks { map (λ (p : BlockId × B). p.0) blocks.items ≡ blocks_of config.now }
         ensures left { IfOk result (λ s. s.left ≡ 16 * (length config.now.procs + 2)) }
+        ensures size { IfOk result (λ s. s.pool.size ≡ config.now.frames + 16 * (length config.now.procs + 2)) }
         ensures frames { IfOk result (λ s. s.frames ≡ opening config.now.frames config.now.bad) }
         ensures buffers { IfOk result (λ s. s.buffers ≡ replicate config.now.frames (Some (replicate 512 0))) }
         ensures ids { IfOk result (λ s. s.ids ≡ blocks_of config.now) }
@@ -235,15 +237,36 @@ impl<B: Block> Store<B> {
         self.flights[frame.0 as usize] = None;
     }
 
-    /// Gives all blocks back, each with its name, in their order, once none is out.
+    /// Gives all blocks back, each with its name, in their order, once none is out. All buffers are in,
+    /// and the pool is closed. Doesn't allocate.
     pub fn into_blocks(self) -> Vec<(BlockId, B)>
-        requires { All IsSome self.blocks }
+        requires buffers { All IsSome self.buffers }
+        requires left { self.pool.size ≤ self.left + length self.buffers }
+        requires blocks { All IsSome self.blocks }
         ensures ids { map (λ (p : BlockId × B). p.0) result.items ≡ self.ids }
         ensures blocks { map (λ (p : BlockId × B). Some p.1) result.items ≡ self.blocks }
     {
-        let Store { home, .. } = self;
+        let Store {
+            home,
+            pool,
+            buffers,
+            ..
+        } = self;
+        close_pool(pool, buffers);
         home.into_blocks()
     }
+}
+
+/// Puts the buffers of all frames back into their pool, and closes it.
+fn close_pool(mut pool: Pool, mut buffers: Vec<Frame>)
+    requires some { All IsSome buffers.items }
+    requires pool { All (λ (buf : Option Buffer). IfSome buf (λ b. b.pool ≡ pool.name)) buffers.items }
+    requires left { pool.name.size ≤ pool.left + length buffers.items }
+{
+    for _ in 0..buffers.len() {
+        buffers.pop().unwrap().put_back(&mut pool);
+    }
+    pool.close();
 }
 
 /// Puts a buffer into its place after a read, else back into its pool.

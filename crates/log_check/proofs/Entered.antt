@@ -17,8 +17,8 @@ use Rattle.pager_model.specs.Step.{IsLegalWhat}
 use Rattle.flat_model.specs.FlatMachine.{IsFlat}
 use Rattle.flat_model.specs.declared.flat.Flat.{Flat}
 use Rattle.log_pager.specs.Shown.{Shown, shown}
-use Rattle.log_past.specs.Standing.{FailsOpen, Passed}
-use Rattle.log_rows.specs.Follows.{Follows}
+use Rattle.log_history.specs.Standing.{FailsOpen, Passed}
+use Rattle.log_steps.specs.Follows.{Follows}
 use Rattle.log_check.specs.declared.followed.Followed.{Followed}
 use Rattle.log_check.specs.Followed.{HasEntered, IsAdded, IsFollowed, MayEnter}
 use Rattle.log_check.specs.Replies.{CanAnswer, IsOfProcess}

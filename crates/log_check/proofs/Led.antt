@@ -9,11 +9,11 @@ use Rattle.pager_model.specs.Run.{IsRun, pager_after}
 use Rattle.pager_model.specs.Serial.{IsRundown}
 use Rattle.pager_model.specs.Spoken.{flat_after}
 use Rattle.pager_model.specs.Step.{IsLegal}
-use Rattle.log_past.specs.Standing.{Passed}
+use Rattle.log_history.specs.Standing.{Passed}
 use Rattle.log_model.specs.NextLine.{IsLineOf, IsNext, IsNextEntry, IsNextRundown}
 use Rattle.log_model.specs.Stand.{Stand, ending_after, in_ending, in_entries, in_report, in_rundown, reported}
-use Rattle.log_rundown.proofs.Stepwise.{ending, next_step}
-use Rattle.log_rundown.specs.Underway.{IsAtRest, Underway, step, step_from}
+use Rattle.log_laws.proofs.Stepwise.{ending, next_step}
+use Rattle.log_laws.specs.Underway.{IsAtRest, Underway, step, step_from}
 use Rattle.serial_laws.specs.Between.{IsBetween}
 use Rattle.log_check.specs.declared.followed.Followed.{Followed}
 use Rattle.log_check.specs.declared.place.Place.{Place}

@@ -6,13 +6,13 @@ use Rattle.vm_types.specs.declared.config.Config.{Config}
 use Rattle.vm_journal.specs.declared.entry.Entry.{Entry}
 use Rattle.line_source.specs.LineText.{line_text}
 use Rattle.pager_model.specs.Run.{IsRun}
-use Rattle.log_past.specs.Standing.{Passed}
+use Rattle.log_history.specs.Standing.{Passed}
 use Rattle.log_model.specs.Stand.{Stand, ending_after, in_rundown, report_after}
 use Rattle.log_reasons.specs.LineReasons.{IsItsLine, IsRefused, LineFails, entries_of, text_next}
 use Rattle.log_reasons.specs.declared.line_reason.LineReason.{LineReason}
 use Rattle.log_reasons.specs.declared.line_reason.LineReason.TheVariants as why
-use Rattle.log_rundown.proofs.Stepwise.{next_step}
-use Rattle.log_rundown.specs.Underway.{Underway, step}
+use Rattle.log_laws.proofs.Stepwise.{next_step}
+use Rattle.log_laws.specs.Underway.{Underway, step}
 use Rattle.log_check.specs.declared.followed.Followed.{Followed}
 use Rattle.log_check.specs.declared.place.Place.TheVariants.{Ending, Entries, Report, Rundown}
 use Rattle.log_check.specs.EntryLine.{IsNoEntry}

@@ -6,10 +6,10 @@ use Rattle.pager_model.specs.Cleaning.{evicting}
 use Rattle.pager_model.specs.Flights.{awaits_reuse, open_flights}
 use Rattle.pager_model.specs.Order.{IsAnswered}
 use Rattle.pager_model.specs.Text.{ended}
-use Rattle.log_past.specs.Standing.{Passed}
+use Rattle.log_history.specs.Standing.{Passed}
 use Rattle.log_model.specs.NextLine.{IsNext}
 use Rattle.log_model.specs.Stand.{Stand, ending_after, in_ending, in_entries, in_report, in_rundown, report_after}
-use Rattle.log_rundown.specs.Underway.{IsAtRest, Underway, between_moves, step, underway_after}
+use Rattle.log_laws.specs.Underway.{IsAtRest, Underway, between_moves, step, underway_after}
 use Rattle.serial_laws.specs.Between.{IsBetween}
 use Rattle.log_check.specs.declared.followed.Followed.{Followed}
 use Rattle.log_check.specs.declared.place.Place.{Place}

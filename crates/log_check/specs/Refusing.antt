@@ -2,9 +2,9 @@
 use Rattle.std.specs.Prelude.{◌≡◌, ◌⊎◌, ℕ, List, None}
 use Rattle.vm_journal.specs.declared.entry.Entry.{Entry}
 use Rattle.line_source.specs.LineText.{line_text}
-use Rattle.log_past.specs.Standing.{Passed}
+use Rattle.log_history.specs.Standing.{Passed}
 use Rattle.log_model.specs.Stand.{Stand}
-use Rattle.log_rundown.specs.Underway.{Underway, step}
+use Rattle.log_laws.specs.Underway.{Underway, step}
 use Rattle.log_reasons.specs.LineReasons.{IsRefused, LineFails}
 use Rattle.log_reasons.specs.declared.line_reason.LineReason.{LineReason}
 use Rattle.log_reasons.specs.declared.line_reason.LineReason.TheVariants as why

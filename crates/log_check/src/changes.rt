@@ -7,13 +7,13 @@ ghost use Rattle.pager_model.specs.Step.{after_what};
 ghost use Rattle.log_pager.specs.Shown.{shown, with_pager};
 ghost use Rattle.log_check.specs.Changing.{CanChange, is_own};
 
+use log_history::{Direction, LogHistory};
 use log_pager::LogPager;
-use log_past::{Direction, LogPast};
 use vm_journal::What;
 use vm_types::{NoMemory, Page, Pfn, Proc, Seat};
 
 /// The read that began in the entry of this number lands well.
-fn read_lands(pager: &mut LogPager, past: &LogPast<'_>, f: Pfn, k: u64) -> Result<(), NoMemory>
+fn read_lands(pager: &mut LogPager, past: &LogHistory<'_>, f: Pfn, k: u64) -> Result<(), NoMemory>
     requires { CanChange past.now.config (shown pager.old) (open_flights past.now.past) 0 (InOk f k) }
     ensures { OnOk result (shown pager.new ≡ with_pager (shown pager.old)
         (after_what past.now.config past.now.past (shown pager.old).pager 0 (InOk f k))) }
@@ -28,7 +28,7 @@ fn read_lands(pager: &mut LogPager, past: &LogPast<'_>, f: Pfn, k: u64) -> Resul
 }
 
 /// The write that began in the entry of this number lands well.
-fn write_lands(pager: &mut LogPager, past: &LogPast<'_>, f: Pfn, k: u64) -> Result<(), NoMemory>
+fn write_lands(pager: &mut LogPager, past: &LogHistory<'_>, f: Pfn, k: u64) -> Result<(), NoMemory>
     requires { CanChange past.now.config (shown pager.old) (open_flights past.now.past) 0 (OutOk f k) }
     ensures { OnOk result (shown pager.new ≡ with_pager (shown pager.old)
         (after_what past.now.config past.now.past (shown pager.old).pager 0 (OutOk f k))) }
@@ -42,7 +42,7 @@ fn write_lands(pager: &mut LogPager, past: &LogPast<'_>, f: Pfn, k: u64) -> Resu
 /// The write that began in the entry of this number, which is open, lands badly.
 fn write_fails(
     pager: &mut LogPager,
-    past: &LogPast<'_>,
+    past: &LogHistory<'_>,
     f: Pfn,
     k: u64,
     c: u64,
@@ -59,7 +59,7 @@ fn write_fails(
 }
 
 /// A frame gives up a page.
-fn reuse(pager: &mut LogPager, past: &LogPast<'_>, f: Pfn, page: Page) -> Result<(), NoMemory>
+fn reuse(pager: &mut LogPager, past: &LogHistory<'_>, f: Pfn, page: Page) -> Result<(), NoMemory>
     requires { CanChange past.now.config (shown pager.old) (open_flights past.now.past) 0 (Reuse f page) }
     ensures { OnOk result (shown pager.new ≡ with_pager (shown pager.old)
         (after_what past.now.config past.now.past (shown pager.old).pager 0 (Reuse f page))) }
@@ -73,7 +73,7 @@ fn reuse(pager: &mut LogPager, past: &LogPast<'_>, f: Pfn, page: Page) -> Result
 /// An entry of a process's seat about the process itself.
 fn change_own(
     pager: &mut LogPager,
-    past: &LogPast<'_>,
+    past: &LogHistory<'_>,
     own: Proc,
     what: What,
 ) -> Result<(), NoMemory>
@@ -104,7 +104,7 @@ fn change_own(
 /// `NoMemory` if out of memory; the state is then not to be used again.
 pub(crate) fn change(
     pager: &mut LogPager,
-    past: &LogPast<'_>,
+    past: &LogHistory<'_>,
     seat: Seat,
     what: What,
 ) -> Result<(), NoMemory>

@@ -2,15 +2,15 @@ ghost use Rattle.std.specs.Prelude.{◌≡◌, ◌+◌, ◌<◌, ◌^◌, [], If
 ghost use Rattle.vm_types.specs.Configuration.{IsWellFormed};
 ghost use Rattle.log_reasons.specs.LineReasons.{IsRefused};
 ghost use Rattle.log_pager.specs.Shown.{shown};
-ghost use Rattle.log_rows.specs.Follows.{Follows};
+ghost use Rattle.log_steps.specs.Follows.{Follows};
 
 use crate::changes::change;
 use crate::replies::other_reply;
 use flat_model::Flat;
+use log_history::LogHistory;
 use log_pager::LogPager;
-use log_past::LogPast;
 use log_reasons::LineReason;
-use log_rows::fails;
+use log_steps::fails;
 use std::alloc::Global;
 use vm_journal::Entry;
 use vm_types::{Config, NoMemory};
@@ -19,7 +19,7 @@ use vm_types::{Config, NoMemory};
 /// them, and the flat machine after them.
 #[derive(Drop)]
 pub(crate) struct Followed<'a> {
-    pub(crate) past: LogPast<'a>,
+    pub(crate) past: LogHistory<'a>,
     pub(crate) pager: LogPager,
     pub(crate) flat: Flat,
 }
@@ -36,7 +36,7 @@ impl<'a> Followed<'a> {
         ensures followed { IfOk result IsFollowed }
         ensures past { IfOk result (λ f. f.past ≡ record { config = config.now; past = [] }) }
     {
-        let past = LogPast::new(alloc, config)?;
+        let past = LogHistory::new(alloc, config)?;
         let pager = LogPager::new(alloc, config)?;
         let flat = Flat::new(alloc, config)?;
         Ok(Followed { past, pager, flat })

@@ -1,5 +1,5 @@
 use crate::expected::Expected;
-use log_cleaning::Underway;
+use log_rundown::Underway;
 
 /// Where in a log the next line stands.
 #[derive(Drop)]

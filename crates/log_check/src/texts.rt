@@ -16,9 +16,9 @@ ghost use Rattle.log_check.specs.Texts.{Begins};
 use crate::expected::Expected;
 use crate::followed::Followed;
 use crate::place::Place;
-use log_cleaning::Underway;
 use log_reasons::LineReason;
 use log_report::{ending_text, report_text};
+use log_rundown::Underway;
 use std::alloc::Global;
 use vm_types::NoMemory;
 

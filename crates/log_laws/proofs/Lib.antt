@@ -12,3 +12,10 @@ pub mod Widths
 pub mod EntryWidths
 pub mod ShortTexts
 pub mod ShortLines
+pub mod Made
+pub mod Plans
+pub mod Grown
+pub mod Writing
+pub mod Stepped
+pub mod Finished
+pub mod Stepwise

@@ -1,2 +1,4 @@
 pub mod Verdict
 pub mod Laws
+pub mod Underway
+pub mod RundownLaws

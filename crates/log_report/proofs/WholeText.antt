@@ -2,7 +2,7 @@
 use Rattle.std.proofs.Common.{◌≡◌, inl, inr, ℕ, List, [], Option, Some, subst}
 use Rattle.std.specs.Io.KnownBytes.{Appends}
 use Rattle.outside_io.specs.Views.{SinkView}
-use Rattle.program_ends.specs.Ends.{Ends}
+use Rattle.command_ends.specs.Ends.{Ends}
 
 pub whole_taken : (before after : Option (List ℕ)) (text result : List ℕ) → before ≡ Some [] → after ≡ Some result → Appends before after text → result ≡ text
 whole_taken before after text result empty told appends =

@@ -1,7 +1,7 @@
 ghost use Rattle.std.specs.Prelude.{◌≡◌, ◌++◌, All, IfOk, nat_eq};
 ghost use Rattle.vm_text.specs.Named.{IsPrintablePage};
 ghost use Rattle.pager_model.specs.Text.{dirty_lines, status_line};
-ghost use Rattle.program_ends.specs.Ends.{Ends};
+ghost use Rattle.command_ends.specs.Ends.{Ends};
 ghost use Rattle.log_model.specs.Stand.{ending_after};
 ghost use Rattle.log_pager.specs.Shown.{shown};
 ghost use Rattle.log_report.specs.EndStatus.{end_status};
@@ -9,10 +9,10 @@ ghost use Rattle.log_report.specs.ShownRun.{ShowsRun};
 
 use crate::dirty::dirty_pages;
 use crate::text_sink::TextSink;
+use command_ends::{Status, end_with};
+use log_history::LogHistory;
 use log_pager::LogPager;
-use log_past::LogPast;
 use outside_io::Sink;
-use program_ends::{Status, end_with};
 use report_lines::print_dirty;
 use std::alloc::Global;
 use vm_types::{NoMemory, Page, Section};
@@ -48,7 +48,11 @@ fn is_cut(status: Status) -> bool
 ///
 /// # Errors
 /// `NoMemory` if out of memory.
-pub fn ending_text(alloc: Global, past: &LogPast<'_>, pager: &LogPager) -> Result<Vec<u8>, NoMemory>
+pub fn ending_text(
+    alloc: Global,
+    past: &LogHistory<'_>,
+    pager: &LogPager,
+) -> Result<Vec<u8>, NoMemory>
     requires { ShowsRun past.now.config past.now.past (shown pager.now) }
     ensures { IfOk result (λ text. text.items ≡ ending_after past.now.config past.now.past) }
 {

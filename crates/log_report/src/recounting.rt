@@ -7,8 +7,8 @@ ghost use Rattle.report_lines.specs.Rows.{frame_view, process_view};
 ghost use Rattle.log_pager.specs.Shown.{shown};
 ghost use Rattle.log_report.specs.ShownRun.{ShowsRun};
 
+use log_history::LogHistory;
 use log_pager::LogPager;
-use log_past::LogPast;
 use report_lines::{FrameRow, ProcessRow, Report, count_states};
 use std::alloc::Global;
 use vm_types::{Listed, NoMemory, Pfn, Proc};
@@ -36,7 +36,7 @@ fn refs(shares: u32, flights: u32, pins: u32) -> u32
 }
 
 /// A frame as the report has it.
-fn frame_row(past: &LogPast<'_>, pager: &LogPager, f: Pfn) -> FrameRow
+fn frame_row(past: &LogHistory<'_>, pager: &LogPager, f: Pfn) -> FrameRow
     requires { ShowsRun past.now.config past.now.past (shown pager.now) }
     ensures { frame_view result ≡ frame_row past.now.past (shown pager.now).pager f.0 }
 {
@@ -55,7 +55,7 @@ fn frame_row(past: &LogPast<'_>, pager: &LogPager, f: Pfn) -> FrameRow
 /// The frames by number.
 fn frame_rows(
     alloc: Global,
-    past: &LogPast<'_>,
+    past: &LogHistory<'_>,
     pager: &LogPager,
 ) -> Result<Listed<FrameRow>, NoMemory>
     requires { ShowsRun past.now.config past.now.past (shown pager.now) }
@@ -98,7 +98,7 @@ fn process_rows(alloc: Global, pager: &LogPager, count: u32) -> Result<Listed<Pr
 /// `NoMemory` if out of memory.
 pub(crate) fn recount(
     alloc: Global,
-    past: &LogPast<'_>,
+    past: &LogHistory<'_>,
     pager: &LogPager,
 ) -> Result<Report, NoMemory>
     requires { ShowsRun past.now.config past.now.past (shown pager.now) }

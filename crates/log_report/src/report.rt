@@ -5,8 +5,8 @@ ghost use Rattle.log_report.specs.ShownRun.{ShowsRun};
 
 use crate::recounting::recount;
 use crate::text_sink::TextSink;
+use log_history::LogHistory;
 use log_pager::LogPager;
-use log_past::LogPast;
 use report_lines::print;
 use std::alloc::Global;
 use vm_types::NoMemory;
@@ -15,7 +15,11 @@ use vm_types::NoMemory;
 ///
 /// # Errors
 /// `NoMemory` if out of memory.
-pub fn report_text(alloc: Global, past: &LogPast<'_>, pager: &LogPager) -> Result<Vec<u8>, NoMemory>
+pub fn report_text(
+    alloc: Global,
+    past: &LogHistory<'_>,
+    pager: &LogPager,
+) -> Result<Vec<u8>, NoMemory>
     requires { ShowsRun past.now.config past.now.past (shown pager.now) }
     ensures { IfOk result (λ text. text.items ≡ report_after past.now.config past.now.past) }
 {

@@ -1,7 +1,6 @@
-pub mod Made
-pub mod Plans
-pub mod Grown
-pub mod Writing
-pub mod Stepped
-pub mod Finished
-pub mod Stepwise
+mod Choices
+mod Clusters
+mod FreeBlocks
+mod Leads
+mod Ranges
+mod SharedPlaces

@@ -1,2 +1,6 @@
-pub mod Underway
-pub mod Laws
+pub mod Chosen
+pub mod NextWrite
+pub mod Places
+pub mod Standing
+pub mod Steps
+pub mod Written

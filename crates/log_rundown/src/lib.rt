@@ -1,7 +1,24 @@
-//! Laws on the rundown of a log: its entries are read one by one, each judged by where the entries before it
-//! stand. No code.
+//! Where a log stands in the rundown, which follows its report: each entry is judged by where the entries
+//! before it stand.
 #![tactic(auto)]
 
-mod laws;
+mod blocks;
+mod choice;
+mod cleaning;
+mod cluster;
+mod eviction;
+mod expected;
+mod landings;
+mod listed;
+mod moves;
+mod onward;
+mod outs;
+mod places;
+mod seen;
+mod standing;
+mod steps;
+mod stops;
+mod underway;
+mod write;
 
-pub use laws::{endings_are_at_rest, rundowns_are_stepwise};
+pub use underway::Underway;

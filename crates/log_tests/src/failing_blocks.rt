@@ -6,52 +6,7 @@ use replay_cli::Status;
 use std::alloc::Global;
 use std::test::Fail;
 use vm_types::{BlockId, NoMemory, SecId};
-
-// Both rounds of the last writes fail, so the shared page is told to be dirty.
-pub(super) const DIRTY_PAGE: &str = "VMTRACE 1\n\
-FRAMES 8\n\
-PAGEFILE 4\n\
-SECTION LIB SHARED 1\n\
-PROCESS A 2 2 2 0\n\
-PROCESS B 2 2 2 0\n\
-MAPSEC A 00000000 1 LIB 0 UW\n\
-MAPSEC B 00000000 1 LIB 0 UW\n\
-MAPZERO A 00000200 2 UW\n\
-FAIL S:LIB/0 2 3\n\
-BODY\n\
-A W1 00000000 05\n\
-B R1 00000000\n\
-A R1 00000200\n\
-A R1 00000400\n\
-B R1 00000000\n\
-END\n";
-
-pub(super) const DIRTY_PAGE_TEXT: &str = "1 A IN F0 S:LIB/0 FAULT A/00000000\n\
-2 A INOK F0 1\n\
-3 A DONE W1 00000000 05\n\
-4 B BACK B 00000000 F0 ACTIVE\n\
-5 B DONE R1 00000000 05\n\
-6 A ZERO 00000200 F1\n\
-7 A DONE R1 00000200 00\n\
-8 A EVICT A 00000000 F0 REPLACE ACTIVE\n\
-9 A ZERO 00000400 F2\n\
-10 A DONE R1 00000400 00\n\
-11 B DONE R1 00000000 05\n\
-PFN AT 11\n\
-FREE 5 MODIFIED 0 BAD 0 RELEASE 0 READERROR 0 WRITING 0 READING 0 ACTIVE 3\n\
-FRAME 0 ACTIVE LIB/0 MODIFY 1 REFS 1 SHARES 1\n\
-FRAME 1 ACTIVE A/00000200 MODIFY 1 REFS 1 SHARES 1\n\
-FRAME 2 ACTIVE A/00000400 MODIFY 1 REFS 1 SHARES 1\n\
-PAGEFILE 4 CHARGED 2 ASSIGNED 0\n\
-PROCESS A RESIDENT COUNT 2 LIMIT 2\n\
-PROCESS B RESIDENT COUNT 1 LIMIT 2\n\
-12 MPW EVICT B 00000000 F0 RUNDOWN MODIFIED\n\
-13 MPW OUT F0 S:LIB/0\n\
-14 MPW OUTFAIL F0 13 0 1\n\
-15 MPW OUT F0 S:LIB/0\n\
-16 MPW OUTFAIL F0 15 1 2\n\
-DIRTY LIB/0\n\
-STATUS 5\n";
+use worked_runs::{DIRTY_PAGE, DIRTY_PAGE_TEXT};
 
 // Two processes with a shared section of two pages, a copied one and pages of zeros: eight pages
 // in five frames, so pages are read and written in clusters and both processes leave and come

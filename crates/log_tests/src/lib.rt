@@ -1,13 +1,11 @@
-//! Tests of logs: the exact text of runs that were worked out by hand, and what `check` says of such logs
-//! and of others. The contracts are proved where the calls stand; no clause says these texts.
+//! Tests of runs and dumps: the exact text of runs that were worked out by hand, and of their dumps. The contracts
+//! are proved where the calls stand; no clause says these texts.
 #![tactic(auto)]
 
 #[cfg(test)]
-mod check_ends;
-#[cfg(test)]
-mod checks;
-#[cfg(test)]
 mod clusters;
+#[cfg(test)]
+mod dumps;
 #[cfg(test)]
 mod failing_blocks;
 #[cfg(test)]
@@ -22,5 +20,3 @@ mod several_processes;
 mod swapping;
 #[cfg(test)]
 mod texts;
-#[cfg(test)]
-mod wrong_lines;

@@ -8,8 +8,8 @@ ghost use Rattle.make_summary.specs.MakeText.{answered_line, entries_line, made_
 use crate::counts::{Counts, counts_in};
 use crate::make::Make;
 use arrayvec::ArrayVec;
+use command_ends::write_line;
 use outside_io::{Sink, WriteFault};
-use program_ends::write_line;
 use vm_text::{push_decimal, push_word};
 
 /// Adds a word of at most 140 bytes together with those before it, and a number in decimal digits.

@@ -11,9 +11,9 @@ use Rattle.call_laws.proofs.WritesLegal.{begin_legal}
 use Rattle.lift_carriers.specs.CarrierView.{CarrierView}
 use Rattle.vm_state.specs.History.{History, pager}
 use Rattle.vm_state.specs.LiftsLand.{added_each}
-use Rattle.call_steps.specs.Lifted.{HasLifts}
-use Rattle.call_steps.specs.MayBegin.{MayBegin}
-use Rattle.call_steps.proofs.Branches.{if_false, if_true}
+use Rattle.call_begins.specs.Lifted.{HasLifts}
+use Rattle.call_begins.specs.MayBegin.{MayBegin}
+use Rattle.call_begins.proofs.Branches.{if_false, if_true}
 use Rattle.modified_writer.specs.Begins.{Begins}
 use Rattle.modified_writer.specs.Cluster.{cluster_writes}
 use Rattle.modified_writer.specs.declared.begun.Begin.TheVariants.{Carry, Nothing}

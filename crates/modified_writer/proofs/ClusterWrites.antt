@@ -23,8 +23,8 @@ use Rattle.call_laws.specs.AreLegal.{AreLegal}
 use Rattle.lift_carriers.specs.CarrierView.{CarrierView}
 use Rattle.vm_state.specs.History.{History, MayAdd, added, entry_by, owed, pager}
 use Rattle.vm_state.specs.LiftsLand.{added_each}
-use Rattle.call_steps.specs.Lifted.{HasBegunLifts, HasLifts, place_of, places_in}
-use Rattle.call_steps.specs.MayBegin.{empty}
+use Rattle.call_begins.specs.Lifted.{HasBegunLifts, HasLifts, place_of, places_in}
+use Rattle.call_begins.specs.MayBegin.{empty}
 use Rattle.modified_writer.specs.Cluster.{cluster_writes}
 use Rattle.modified_writer.specs.NextWrite.{next_write}
 use Rattle.modified_writer.proofs.ListedPages.{no_swap, none_behind, tail_without}

@@ -34,7 +34,7 @@ use Rattle.page_holders.proofs.Holders.{good_within}
 use Rattle.vm_state.specs.History.{History, pager}
 use Rattle.vm_state.specs.PageReadings.{IsKnown}
 use Rattle.vm_state.specs.Readings.{row_at}
-use Rattle.call_steps.proofs.Rows.{row_page}
+use Rattle.call_begins.proofs.Rows.{row_page}
 
 -- a block that is fixed stays the same
 fixed : (last : Option BlockId) (b c : BlockId) → if_next last b ≡ Some c → b ≡ c

@@ -9,7 +9,7 @@ use Rattle.pager_model.specs.WriteCluster.{BeginIs, Reason as GivenReason, begin
 use Rattle.lift_carriers.specs.CarrierView.{CarrierView}
 use Rattle.vm_state.specs.History.{History}
 use Rattle.vm_state.specs.LiftsLand.{added_each}
-use Rattle.call_steps.specs.Lifted.{HasLifts}
+use Rattle.call_begins.specs.Lifted.{HasLifts}
 use Rattle.modified_writer.specs.declared.begun.Begin.{Begin}
 use Rattle.modified_writer.specs.declared.begun.Begin.TheVariants.{Carry, Nothing}
 use Rattle.modified_writer.specs.declared.reason.Reason.{Reason}

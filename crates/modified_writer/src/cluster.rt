@@ -2,15 +2,15 @@ ghost use Rattle.std.specs.Prelude.{◌≡◌, ◌+◌, ◌≤◌, Some};
 ghost use Rattle.vm_types.specs.Configuration.{IsBlock, IsWellFormed};
 ghost use Rattle.vm_types.specs.declared.names.BlockId.{BlockId};
 ghost use Rattle.call_laws.specs.AreLegal.{AreLegal};
-ghost use Rattle.call_steps.specs.Lifted.{HasLifts};
-ghost use Rattle.call_steps.specs.MayBegin.{empty};
+ghost use Rattle.call_begins.specs.Lifted.{HasLifts};
+ghost use Rattle.call_begins.specs.MayBegin.{empty};
 ghost use Rattle.vm_state.specs.History.{owed, pager};
 ghost use Rattle.vm_state.specs.LiftsLand.{added_each};
 ghost use Rattle.modified_writer.specs.Cluster.{cluster_writes};
 ghost use Rattle.modified_writer.specs.NextWrite.{next_write};
 
 use crate::blocks::block_out;
-use call_steps::write_one;
+use call_begins::write_one;
 use disk_trait::Block;
 use page_lists::ListName;
 use vm_state::{Carrier, State};

@@ -7,8 +7,8 @@ ghost use Rattle.neqysbar_c.specs.Call.{HasRun, filled};
 ghost use Rattle.neqysbar_c.specs.Words.{words_of};
 
 use crate::words::words_in;
+use command_ends::Status;
 use program_call::run_bytes;
-use program_ends::Status;
 use std::alloc::Global;
 use vm_types::NoMemory;
 

@@ -5,7 +5,7 @@ use Rattle.vm_types.specs.declared.names.Page.TheVariants.{Private, Shared}
 use Rattle.global_pages.specs.GlobalPages.{GlobalPages, IsGlobalPage}
 use Rattle.page_file.specs.Blocks.{Blocks}
 use Rattle.page_tables.specs.PageTables.{IsMapped, PageTables}
-use Rattle.state_parts.specs.ChargedTable.{ChargedTable, HasPage, charged_at}
+use Rattle.state_parts.specs.ChargedTable.{ChargedTable, HasPlace, kept_at}
 
 -- by the numbers of the sections' first pages; a private page has none
 abbrev pub number_by : List ℕ → Page → ℕ
@@ -21,5 +21,5 @@ MayHold tables globals f number (Private p v) = IsMapped tables p.0 v × (f < 2 
 MayHold tables globals f number (Shared s i) = IsGlobalPage globals number
 
 abbrev pub MayCharge : ChargedTable → Blocks → Page → Type 0
-MayCharge pages file (Private p v) = HasPage pages p.0 v × (charged_at pages p.0 v ≡ None → file.charged < length file.owners)
+MayCharge pages file (Private p v) = HasPlace pages (Private p v) × (kept_at pages (Private p v) ≡ None → file.charged < length file.owners)
 MayCharge pages file (Shared s i) = Unit {0}

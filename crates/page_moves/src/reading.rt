@@ -6,7 +6,7 @@ ghost use Rattle.pager_model.specs.Changes.{swap_slot};
 ghost use Rattle.pager_model.specs.Maps.{is_paged, page_behind};
 ghost use Rattle.section_table.specs.SectionTable.{behind_of};
 ghost use Rattle.pager_model.specs.InOk.{is_first_read};
-ghost use Rattle.state_parts.specs.ChargedTable.{charged_at};
+ghost use Rattle.state_parts.specs.ChargedTable.{IsTableSet, kept_at};
 ghost use Rattle.state_fits.specs.ReadBegins.{charged_in, charged_now, entry_held, file_charged, held_at, one_charge};
 ghost use Rattle.page_moves.specs.Moves.{HasNumber, MayCharge, MayHold, number_by};
 
@@ -100,17 +100,18 @@ const FRESH: ChargedPage = ChargedPage {
     assigned: None,
 };
 
-/// Charges a private page that isn't charged yet, and a block of the page file for it.
+/// Charges a private page that isn't charged yet, and a block of the page file for it. A page of a section
+/// in the page file is charged when it gets its first frame.
+#[tactic(auto, using(state_fits::proofs::PartsSet::table_same))]
 pub fn charge_page(pages: &mut ChargedPages, file: &mut PageFile, page: Page)
     requires { MayCharge pages.old file.old page }
-    ensures rows { (q w : ℕ) → charged_at pages.new q w ≡ charged_in page (charged_at pages.old) q w }
-    ensures procs { pages.new.procs ≡ pages.old.procs }
-    ensures file { file.new ≡ file_charged page (charged_at pages.old) file.old }
+    ensures rows { IsTableSet pages.old pages.new page (charged_in page (kept_at pages.old page)) }
+    ensures file { file.new ≡ file_charged page (kept_at pages.old page) file.old }
 {
-    if let Page::Private(p, vpn) = page {
-        if pages.at(p, vpn).is_none() {
+    if let Page::Private(..) = page {
+        if pages.at(page).is_none() {
             file.charge().unwrap();
-            pages.set(p, vpn, Some(FRESH));
+            pages.set(page, Some(FRESH));
         }
     }
 }

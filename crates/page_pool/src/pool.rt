@@ -115,9 +115,21 @@ impl Pool {
         self.free.push_reserved(number);
     }
 
+    /// Takes a buffer of this pool back that was never written. Doesn't allocate.
+    pub fn put_spare(&mut self, buf: SpareBuf)
+        requires { buf ≡ self.old.name }
+        ensures name { self.new.name ≡ self.old.name }
+        ensures left { self.new.left ≡ self.old.left + 1 }
+        ensures within { self.new.left ≤ self.new.name.size }
+    {
+        let SpareBuf { spare } = buf;
+        let number = self.region.put_spare(spare);
+        self.free.push_reserved(number);
+    }
+
     /// Gives back the memory of a pool to which all buffers are back.
     pub fn close(self)
-        requires { self.left ≡ self.name.size }
+        requires { self.name.size ≤ self.left }
     {
         let Pool {
             region,

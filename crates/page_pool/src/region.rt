@@ -91,6 +91,18 @@ impl Region {
         number
     }
 
+    /// Takes a part of this region back that was never written, and returns its number.
+    pub(crate) fn put_spare(&mut self, spare: Spare) -> u32
+        requires { (spare.name ≡ self.old.name) × (spare.size ≡ self.old.size) }
+        ensures numbers { self.new.numbers ≡ self.old.numbers ++ spare.number ∷ [] }
+        ensures number { result ≡ spare.number }
+        ensures within { length self.new.numbers ≤ self.new.size }
+        ensures same { (self.new.start ≡ self.old.start) × (self.new.size ≡ self.old.size) × (self.new.name ≡ self.old.name) }
+    {
+        let Spare { at: _, number } = spare;
+        number
+    }
+
     /// Gives the region back, all parts of which are in.
     pub(crate) fn free<A: Allocator>(self, deed: Deed<A>, alloc: &A)
         requires all { length self.numbers ≡ self.size }

@@ -37,3 +37,4 @@ pub mod ServedKept
 pub mod StepKept
 pub mod TurnKept
 pub mod ZeroKept
+pub mod RunLines

@@ -1,6 +1,6 @@
 -- SERVED Lock, Unlock, Pin and Unpin: the ring of a resident process, but for its marks.
 use Rattle.pager_rules.proofs.Quiet.{none_failed}
-use Rattle.std.proofs.Common.{◌≡◌, ◌⊎◌, ℕ, zero, suc, ◌≤◌, Bool, true, false, cond, List, [], ◌||◌, ◌∷◌, Option, Some, None, length, map, slice_get, refl, sym, ap, ◌∙◌, subst, inl, inr, arith}
+use Rattle.std.proofs.Common.{◌≡◌, ◌⊎◌, ℕ, ◌≤◌, Bool, true, false, cond, List, ◌||◌, Option, Some, None, length, map, nat_eq, slice_get, refl, sym, ap, ◌∙◌, subst, inl, inr, arith}
 use Rattle.std.proofs.lemmas.Bool.{cases_eq}
 use Rattle.std.proofs.lemmas.List.{length-map}
 use Rattle.vm_types.specs.Configuration.{pins_of}
@@ -12,7 +12,7 @@ use Rattle.vm_types.specs.declared.config.ProcSpec.{ProcSpec}
 use Rattle.vm_types.specs.declared.config.Version.{Version}
 use Rattle.vm_types.specs.declared.config.Version.TheVariants as version
 use Rattle.vm_journal.specs.declared.entry.Entry.{Entry}
-use Rattle.pager_laws.proofs.TurnKept.{count_map}
+use Rattle.pager_laws.proofs.TurnKept.{count_fewer, count_map, fits_map}
 use Rattle.pager_model.specs.Around.{entry_view, process_view, quiet}
 use Rattle.pager_model.specs.FlatService.{in_range}
 use Rattle.pager_model.specs.Flights.{is_busy, open_flights}
@@ -21,9 +21,8 @@ use Rattle.pager_model.specs.Own.{IsOwn}
 use Rattle.pager_model.specs.Pager.{Pager}
 use Rattle.pager_model.specs.Ring.{range_locked, range_pinned, relocked_slot, repinned_slot}
 use Rattle.pager_model.specs.Served.{with_ring}
-use Rattle.pager_model.specs.Sets.{at_number}
 use Rattle.pager_model.specs.Sound.{FitsSlot}
-use Rattle.pager_rules.proofs.Basics.{at_number_other, at_number_same, count_cons}
+use Rattle.pager_rules.proofs.Basics.{at_number_other, at_number_same}
 use Rattle.pager_rules.proofs.Pages.{swapped_move}
 use Rattle.pager_rules.proofs.Transfers.{alike, transfers_idle}
 use Rattle.pager_rules.proofs.Views.{frames_move}
@@ -37,49 +36,33 @@ pub record HasSameSlots (old new : Ring) : Type 0 where
   pub hand : new.hand ≡ old.hand
   pub slot : (p n : ℕ) (g : Page) → FitsSlot p (slot_of (slice_get old.slots n)) g → FitsSlot p (slot_of (slice_get new.slots n)) g
 
-fits_repinned : (pin : Bool) (address pages p n : ℕ) (g : Page) (xs : List (Option Held)) → FitsSlot p (slot_of (slice_get xs n)) g → FitsSlot p (slot_of (slice_get (map (repinned_slot pin address pages) xs) n)) g
-fits_repinned pin address pages p n g [] fits = fits
-fits_repinned pin address pages p zero g (None ∷ xs) fits = fits
-fits_repinned pin address pages p zero (Private q v) (Some held ∷ xs) fits = fits
-fits_repinned pin address pages p zero (Shared s i) (Some held ∷ xs) fits = fits
-fits_repinned pin address pages p (suc n) g (x ∷ xs) fits = fits_repinned pin address pages p n g xs fits
+-- a change of the marks of a slot keeps the page in it
+record IsMarking (f : Option Held → Option Held) : Type 0 where
+  none : f None ≡ None
+  some : (held : Held) → (new : Held) × (f (Some held) ≡ Some new) × (new.vpn ≡ held.vpn)
 
-fits_relocked : (lock : Bool) (address pages p n : ℕ) (g : Page) (xs : List (Option Held)) → FitsSlot p (slot_of (slice_get xs n)) g → FitsSlot p (slot_of (slice_get (map (relocked_slot lock address pages) xs) n)) g
-fits_relocked lock address pages p n g [] fits = fits
-fits_relocked lock address pages p zero g (None ∷ xs) fits = fits
-fits_relocked lock address pages p zero (Private q v) (Some held ∷ xs) fits = fits
-fits_relocked lock address pages p zero (Shared s i) (Some held ∷ xs) fits = fits
-fits_relocked lock address pages p (suc n) g (x ∷ xs) fits = fits_relocked lock address pages p n g xs fits
+locking : (lock : Bool) (address pages : ℕ) → IsMarking (relocked_slot lock address pages)
+locking lock address pages = record { none = refl; some = λ held. (record held { locked = cond (in_range address pages held.vpn) lock held.locked }, refl, refl) }
 
-same_slots : (lock : Bool) (address pages : ℕ) (ring : Ring) → HasSameSlots ring (range_locked lock address pages ring)
-same_slots lock address pages ring = record {
+pinning : (pin : Bool) (address pages : ℕ) → IsMarking (repinned_slot pin address pages)
+pinning pin address pages = record { none = refl; some = λ held. (record held { pinned = cond (in_range address pages held.vpn) pin held.pinned }, refl, refl) }
+
+marked : (f : Option Held → Option Held) → IsMarking f → (ring : Ring) → HasSameSlots ring (record { slots = map f ring.slots; hand = ring.hand })
+marked f marking ring = record {
   vpns = λ w. count_map (has_vpn w) (has_vpn w) f (vpn w) ring.slots;
   slots = length-map ring.slots f;
   hand = refl;
-  slot = λ p n g fits. fits_relocked lock address pages p n g ring.slots fits;
+  slot = λ p n g fits. fits_map f p n g (still p g) ring.slots fits;
 }
   where
-    f : Option Held → Option Held
-    f = relocked_slot lock address pages
+    vpn : (w : ℕ) (o : Option Held) → has_vpn w (f o) ≡ has_vpn w o
+    vpn w None = ap (has_vpn w) marking.none
+    vpn w (Some held) = let new = marking.some held in ap (has_vpn w) new.1 ∙ ap (λ (v : ℕ). nat_eq v w) new.2
 
-    vpn : (w : ℕ) (o : Option Held) → has_vpn w (relocked_slot lock address pages o) ≡ has_vpn w o
-    vpn w None = refl
-    vpn w (Some held) = refl
-
-same_pages : (pin : Bool) (address pages : ℕ) (ring : Ring) → HasSameSlots ring (range_pinned pin address pages ring)
-same_pages pin address pages ring = record {
-  vpns = λ w. count_map (has_vpn w) (has_vpn w) f (vpn w) ring.slots;
-  slots = length-map ring.slots f;
-  hand = refl;
-  slot = λ p n g fits. fits_repinned pin address pages p n g ring.slots fits;
-}
-  where
-    f : Option Held → Option Held
-    f = repinned_slot pin address pages
-
-    vpn : (w : ℕ) (o : Option Held) → has_vpn w (repinned_slot pin address pages o) ≡ has_vpn w o
-    vpn w None = refl
-    vpn w (Some held) = refl
+    still : (p : ℕ) (g : Page) (o : Option Held) → FitsSlot p o g → FitsSlot p (f o) g
+    still p g None fits = subst (λ (o : Option Held). FitsSlot p o g) (sym marking.none) fits
+    still p (Private q v) (Some held) fits = let new = marking.some held in subst (λ (o : Option Held). FitsSlot p o (Private q v)) (sym new.1) (fits.0, new.2 ∙ fits.1)
+    still p (Shared s i) (Some held) fits = absurd fits
 
 -- unlocking fixes no more, and neither locking nor unlocking pins
 one_less : (b c d : Bool) → cond {A = ℕ} (cond b false c || d) 1 0 ≤ cond {A = ℕ} (c || d) 1 0
@@ -95,32 +78,29 @@ one_loose true false false = omega arith
 one_loose false c d = omega arith
 
 unlocked_less : (address pages : ℕ) (xs : List (Option Held)) → fixed (map (relocked_slot false address pages) xs) ≤ fixed xs
-unlocked_less address pages [] = omega arith
-unlocked_less address pages (x ∷ xs) = go x (unlocked_less address pages xs)
+unlocked_less address pages xs = count_fewer is_fixed_slot (relocked_slot false address pages) one xs
   where
-    go : (o : Option Held) → fixed (map (relocked_slot false address pages) xs) ≤ fixed xs → fixed (relocked_slot false address pages o ∷ map (relocked_slot false address pages) xs) ≤ fixed (o ∷ xs)
-    go None rest = omega (arith, count_cons is_fixed_slot None (map (relocked_slot false address pages) xs), count_cons is_fixed_slot None xs)
-    go (Some held) rest = omega (arith, one_less (in_range address pages held.vpn) held.locked held.pinned, count_cons is_fixed_slot (relocked_slot false address pages (Some held)) (map (relocked_slot false address pages) xs), count_cons is_fixed_slot (Some held) xs)
+    one : (o : Option Held) → cond {A = ℕ} (is_fixed_slot (relocked_slot false address pages o)) 1 0 ≤ cond {A = ℕ} (is_fixed_slot o) 1 0
+    one None = omega arith
+    one (Some held) = one_less (in_range address pages held.vpn) held.locked held.pinned
 
 unpinned_less : (address pages : ℕ) (xs : List (Option Held)) → fixed (map (repinned_slot false address pages) xs) ≤ fixed xs
-unpinned_less address pages [] = omega arith
-unpinned_less address pages (x ∷ xs) = go x (unpinned_less address pages xs)
+unpinned_less address pages xs = count_fewer is_fixed_slot (repinned_slot false address pages) one xs
   where
-    go : (o : Option Held) → fixed (map (repinned_slot false address pages) xs) ≤ fixed xs → fixed (repinned_slot false address pages o ∷ map (repinned_slot false address pages) xs) ≤ fixed (o ∷ xs)
-    go None rest = omega (arith, count_cons is_fixed_slot None (map (repinned_slot false address pages) xs), count_cons is_fixed_slot None xs)
-    go (Some held) rest = omega (arith, one_loose (in_range address pages held.vpn) held.locked held.pinned, count_cons is_fixed_slot (repinned_slot false address pages (Some held)) (map (repinned_slot false address pages) xs), count_cons is_fixed_slot (Some held) xs)
+    one : (o : Option Held) → cond {A = ℕ} (is_fixed_slot (repinned_slot false address pages o)) 1 0 ≤ cond {A = ℕ} (is_fixed_slot o) 1 0
+    one None = omega arith
+    one (Some held) = one_loose (in_range address pages held.vpn) held.locked held.pinned
 
 pins_left : (address pages : ℕ) (xs : List (Option Held)) → pinned (map (repinned_slot false address pages) xs) ≤ pinned xs
-pins_left address pages [] = omega arith
-pins_left address pages (x ∷ xs) = go x (pins_left address pages xs)
+pins_left address pages xs = count_fewer is_pinned_slot (repinned_slot false address pages) one xs
   where
-    one : (b d : Bool) → cond {A = ℕ} (cond b false d) 1 0 ≤ cond {A = ℕ} d 1 0
-    one true d = omega arith
-    one false d = omega arith
+    less : (b d : Bool) → cond {A = ℕ} (cond b false d) 1 0 ≤ cond {A = ℕ} d 1 0
+    less true d = omega arith
+    less false d = omega arith
 
-    go : (o : Option Held) → pinned (map (repinned_slot false address pages) xs) ≤ pinned xs → pinned (repinned_slot false address pages o ∷ map (repinned_slot false address pages) xs) ≤ pinned (o ∷ xs)
-    go None rest = omega (arith, count_cons is_pinned_slot None (map (repinned_slot false address pages) xs), count_cons is_pinned_slot None xs)
-    go (Some held) rest = omega (arith, one (in_range address pages held.vpn) held.pinned, count_cons is_pinned_slot (repinned_slot false address pages (Some held)) (map (repinned_slot false address pages) xs), count_cons is_pinned_slot (Some held) xs)
+    one : (o : Option Held) → cond {A = ℕ} (is_pinned_slot (repinned_slot false address pages o)) 1 0 ≤ cond {A = ℕ} (is_pinned_slot o) 1 0
+    one None = omega arith
+    one (Some held) = less (in_range address pages held.vpn) held.pinned
 
 pins_same : (lock : Bool) (address pages : ℕ) (xs : List (Option Held)) → pinned (map (relocked_slot lock address pages) xs) ≡ pinned xs
 pins_same lock address pages xs = count_map is_pinned_slot is_pinned_slot (relocked_slot lock address pages) same xs
@@ -185,13 +165,13 @@ ring_relocked config past a p new kept own idle same locks pins =
 pub locked_range : (config : Config) (past : List Entry) (a : Pager) (p address pages : ℕ) → IsKept config (quiet (open_flights past)) a → IsOwn config a p → is_busy p (open_flights past) ≡ false
     → ((spec : ProcSpec) → slice_get config.procs p ≡ Some spec → fixed (range_locked true address pages (a.ring p)).slots ≤ spec.locks)
     → IsKept config (quiet (open_flights past)) (with_ring a p (range_locked true address pages (a.ring p)))
-locked_range config past a p address pages kept own idle locks = ring_relocked config past a p (range_locked true address pages (a.ring p)) kept own idle (same_slots true address pages (a.ring p)) locks
+locked_range config past a p address pages kept own idle locks = ring_relocked config past a p (range_locked true address pages (a.ring p)) kept own idle (marked (relocked_slot true address pages) (locking true address pages) (a.ring p)) locks
     (λ spec found. subst (λ (n : ℕ). n ≤ pins_of config.version spec) (sym (pins_same true address pages (a.ring p).slots)) ((kept.processes p).bounds spec found).pins)
 
 pub unlocked_range : (config : Config) (past : List Entry) (a : Pager) (p address pages : ℕ) → IsKept config (quiet (open_flights past)) a → IsOwn config a p → is_busy p (open_flights past) ≡ false
     → IsKept config (quiet (open_flights past)) (with_ring a p (range_locked false address pages (a.ring p)))
 unlocked_range config past a p address pages kept own idle =
-    ring_relocked config past a p (range_locked false address pages (a.ring p)) kept own idle (same_slots false address pages (a.ring p))
+    ring_relocked config past a p (range_locked false address pages (a.ring p)) kept own idle (marked (relocked_slot false address pages) (locking false address pages) (a.ring p))
     (λ spec found. omega (arith, unlocked_less address pages (a.ring p).slots, ((kept.processes p).bounds spec found).locks))
     (λ spec found. subst (λ (n : ℕ). n ≤ pins_of config.version spec) (sym (pins_same false address pages (a.ring p).slots)) ((kept.processes p).bounds spec found).pins)
 
@@ -199,12 +179,12 @@ pub pinned_range : (config : Config) (past : List Entry) (a : Pager) (p address 
     → ((spec : ProcSpec) → slice_get config.procs p ≡ Some spec → fixed (range_pinned true address pages (a.ring p)).slots ≤ spec.locks)
     → IsKept config (quiet (open_flights past)) (with_ring a p (range_pinned true address pages (a.ring p)))
 pinned_range config past a p address pages two kept own idle locks =
-    ring_relocked config past a p (range_pinned true address pages (a.ring p)) kept own idle (same_pages true address pages (a.ring p)) locks
+    ring_relocked config past a p (range_pinned true address pages (a.ring p)) kept own idle (marked (repinned_slot true address pages) (pinning true address pages) (a.ring p)) locks
     (λ spec found. subst (λ (v : Version). pinned (range_pinned true address pages (a.ring p)).slots ≤ pins_of v spec) (sym two) (omega (arith, pinned_few (range_pinned true address pages (a.ring p)).slots, locks spec found)))
 
 pub unpinned_range : (config : Config) (past : List Entry) (a : Pager) (p address pages : ℕ) → IsKept config (quiet (open_flights past)) a → IsOwn config a p → is_busy p (open_flights past) ≡ false
     → IsKept config (quiet (open_flights past)) (with_ring a p (range_pinned false address pages (a.ring p)))
 unpinned_range config past a p address pages kept own idle =
-    ring_relocked config past a p (range_pinned false address pages (a.ring p)) kept own idle (same_pages false address pages (a.ring p))
+    ring_relocked config past a p (range_pinned false address pages (a.ring p)) kept own idle (marked (repinned_slot false address pages) (pinning false address pages) (a.ring p))
     (λ spec found. omega (arith, unpinned_less address pages (a.ring p).slots, ((kept.processes p).bounds spec found).locks))
     (λ spec found. omega (arith, pins_left address pages (a.ring p).slots, ((kept.processes p).bounds spec found).pins))

@@ -2,6 +2,7 @@
 use Rattle.pager_rules.proofs.Quiet.{none_failed}
 use Rattle.std.proofs.Common.{◌≡◌, ◌⊎◌, ℕ, zero, suc, ◌+◌, ◌<◌, ◌≤◌, Bool, true, false, cond, List, [], ◌||◌, ◌∷◌, Option, Some, None, length, map, nat_eq, count_by, slice_get, refl, sym, ap, ap₂, ◌∙◌, subst, subst₂, inl, inr, arith}
 use Rattle.std.proofs.lemmas.Bool.{cases_eq, eqb-true, eq-eqb, and_from}
+use Rattle.std.proofs.lemmas.List.{length-map}
 use Rattle.vm_types.specs.Configuration.{pins_of}
 use Rattle.vm_types.specs.Ring.{Ring, Held, fixed, is_fixed_slot, is_pinned_slot, is_unpinned_slot, pinned, unpinned}
 use Rattle.vm_types.specs.declared.names.Page.{Page}
@@ -27,7 +28,7 @@ use Rattle.pager_model.specs.Transfers.{is_come}
 use Rattle.pager_model.specs.Turn.{IsTurn, IsTurned, after_turn, turned_ring}
 use Rattle.pager_rules.proofs.Basics.{at_number_other, at_number_same, count_cons, count_none, nat_eq_refl, states_equal}
 use Rattle.pager_rules.proofs.Frames.{at_state}
-use Rattle.pager_rules.proofs.Lists.{all_found, all_step, count_found, count_written, found_one, found_passes}
+use Rattle.pager_rules.proofs.Lists.{all_found, all_step, count_found, found_one, found_passes}
 use Rattle.pager_rules.proofs.Pages.{is_of_private, own_is, own_process}
 use Rattle.pager_rules.proofs.Transfers.{IsFar, flight_far}
 use Rattle.pager_rules.proofs.Views.{frames_move}
@@ -49,29 +50,17 @@ pub count_map : (t u : Option Held → Bool) (f : Option Held → Option Held) �
 count_map t u f same [] = refl
 count_map t u f same (x ∷ xs) = count_cons u (f x) (map f xs) ∙ (ap₂ (λ (b : Bool) (n : ℕ). cond b 1 0 + n) (same x) (count_map t u f same xs) ∙ sym (count_cons t x xs))
 
-fewer_fixed : (xs : List (Option Held)) → fixed (map unlocked_slot xs) ≤ fixed xs
-fewer_fixed [] = omega arith
-fewer_fixed (x ∷ xs) = go x (fewer_fixed xs)
-  where
-    one : (b c : Bool) → cond {A = ℕ} c 1 0 ≤ cond {A = ℕ} (b || c) 1 0
-    one true true = omega arith
-    one true false = omega arith
-    one false c = omega arith
+-- no more slots pass a test where none passes it anew
+pub count_fewer : (t : Option Held → Bool) (f : Option Held → Option Held) → ((o : Option Held) → cond {A = ℕ} (t (f o)) 1 0 ≤ cond {A = ℕ} (t o) 1 0) → (xs : List (Option Held)) → count_by t (map f xs) ≤ count_by t xs
+count_fewer t f fewer [] = omega arith
+count_fewer t f fewer (x ∷ xs) = omega (arith, fewer x, count_fewer t f fewer xs, count_cons t (f x) (map f xs), count_cons t x xs)
 
-    go : (o : Option Held) → fixed (map unlocked_slot xs) ≤ fixed xs → fixed (unlocked_slot o ∷ map unlocked_slot xs) ≤ fixed (o ∷ xs)
-    go None rest = omega (arith, count_cons is_fixed_slot None (map unlocked_slot xs), count_cons is_fixed_slot None xs)
-    go (Some held) rest = omega (arith, one held.locked held.pinned, count_cons is_fixed_slot (unlocked_slot (Some held)) (map unlocked_slot xs), count_cons is_fixed_slot (Some held) xs)
-
-fits_unlocked : (p n : ℕ) (g : Page) (xs : List (Option Held)) → FitsSlot p (slot_of (slice_get xs n)) g → FitsSlot p (slot_of (slice_get (map unlocked_slot xs) n)) g
-fits_unlocked p n g [] fits = fits
-fits_unlocked p zero g (None ∷ xs) fits = fits
-fits_unlocked p zero (Private q v) (Some held ∷ xs) fits = fits
-fits_unlocked p zero (Shared s i) (Some held ∷ xs) fits = fits
-fits_unlocked p (suc n) g (x ∷ xs) fits = fits_unlocked p n g xs fits
-
-length_map : (xs : List (Option Held)) → length (map unlocked_slot xs) ≡ length xs
-length_map [] = refl
-length_map (x ∷ xs) = ap suc (length_map xs)
+-- a slot fits a page still where each one that fits it does
+pub fits_map : (f : Option Held → Option Held) (p n : ℕ) (g : Page) → ((o : Option Held) → FitsSlot p o g → FitsSlot p (f o) g) → (xs : List (Option Held)) → FitsSlot p (slot_of (slice_get xs n)) g
+    → FitsSlot p (slot_of (slice_get (map f xs) n)) g
+fits_map f p n g one [] fits = fits
+fits_map f p zero g one (x ∷ xs) fits = one x fits
+fits_map f p (suc n) g one (x ∷ xs) fits = fits_map f p n g one xs fits
 
 relocked : (s : ProcStatus) (ring : Ring) → IsRelocked ring (turned_ring s ring)
 relocked status.Leaving ring = record {
@@ -79,12 +68,26 @@ relocked status.Leaving ring = record {
   pins = λ w. count_map (has_pin w) (has_pin w) unlocked_slot (pin w) ring.slots;
   pinned = count_map is_pinned_slot is_pinned_slot unlocked_slot pins ring.slots;
   unpinned = count_map is_unpinned_slot is_unpinned_slot unlocked_slot stays ring.slots;
-  locks = fewer_fixed ring.slots;
-  slots = length_map ring.slots;
+  locks = count_fewer is_fixed_slot unlocked_slot fewer ring.slots;
+  slots = length-map ring.slots unlocked_slot;
   hand = refl;
-  slot = λ p n g fits. fits_unlocked p n g ring.slots fits;
+  slot = λ p n g fits. fits_map unlocked_slot p n g (still p g) ring.slots fits;
 }
   where
+    fewer_by : (b c : Bool) → cond {A = ℕ} c 1 0 ≤ cond {A = ℕ} (b || c) 1 0
+    fewer_by true true = omega arith
+    fewer_by true false = omega arith
+    fewer_by false c = omega arith
+
+    fewer : (o : Option Held) → cond {A = ℕ} (is_fixed_slot (unlocked_slot o)) 1 0 ≤ cond {A = ℕ} (is_fixed_slot o) 1 0
+    fewer None = omega arith
+    fewer (Some held) = fewer_by held.locked held.pinned
+
+    still : (p : ℕ) (g : Page) (o : Option Held) → FitsSlot p o g → FitsSlot p (unlocked_slot o) g
+    still p g None fits = fits
+    still p (Private q v) (Some held) fits = fits
+    still p (Shared s i) (Some held) fits = fits
+
     vpn : (w : ℕ) (o : Option Held) → has_vpn w (unlocked_slot o) ≡ has_vpn w o
     vpn w None = refl
     vpn w (Some held) = refl

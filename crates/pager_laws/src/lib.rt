@@ -3,8 +3,10 @@
 #![tactic(auto)]
 
 mod laws;
+mod lines;
 
 pub use laws::{
     carriers_balance, counts_are_few, flat_machine_follows, flights_are_open,
     runs_are_of_configuration, runs_are_sound, serial_is_in_order, steps_keep_soundness,
 };
+pub use lines::runs_have_lines;

@@ -8,11 +8,11 @@ mod configs;
 #[cfg(test)]
 mod of_flat_model;
 #[cfg(test)]
-mod of_frame_moves;
+mod of_frame_changes;
 #[cfg(test)]
 mod of_global_pages;
 #[cfg(test)]
-mod of_log_past;
+mod of_log_history;
 #[cfg(test)]
 mod of_page_file;
 #[cfg(test)]

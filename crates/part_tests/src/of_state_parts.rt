@@ -4,7 +4,7 @@ use state_parts::{
 };
 use std::test::Fail;
 use vm_journal::EvictWhy;
-use vm_types::{Addr, BlockId, Proc};
+use vm_types::{Addr, BlockId, Page, Proc};
 use working_set::{Choice, Ring};
 
 /// A charged page that wasn't touched, with this block of the page file.
@@ -18,13 +18,13 @@ fn charged(block: u32) -> Option<ChargedPage> {
 
 #[test]
 fn keeps_pages_of_sixteen_processes(rt: HostRuntime) -> Result<(), Fail> {
-    let mut pages = ChargedPages::new(rt.alloc(), 16)?;
+    let mut pages = ChargedPages::new(rt.alloc(), 16, &[])?;
     let mut swaps = SwapPages::new(rt.alloc(), 16)?;
-    pages.set(Proc(0), 0, charged(1));
-    pages.set(Proc(14), 0x3f_ffff, charged(2));
-    pages.set(Proc(15), 0, charged(3));
-    pages.set(Proc(15), 0x3f_ffff, charged(4));
-    pages.set(Proc(15), 0, None);
+    pages.set(Page::Private(Proc(0), 0), charged(1));
+    pages.set(Page::Private(Proc(14), 0x3f_ffff), charged(2));
+    pages.set(Page::Private(Proc(15), 0), charged(3));
+    pages.set(Page::Private(Proc(15), 0x3f_ffff), charged(4));
+    pages.set(Page::Private(Proc(15), 0), None);
     let expected = [
         (0, 0, Some(1)),
         (0, 1, None),
@@ -35,7 +35,7 @@ fn keeps_pages_of_sixteen_processes(rt: HostRuntime) -> Result<(), Fail> {
         (16, 0, None),
     ];
     for (p, page, block) in expected {
-        let kept = pages.at(Proc(p), page);
+        let kept = pages.at(Page::Private(Proc(p), page));
         assert_eq!(rt; kept.and_then(|kept| kept.assigned), block);
     }
     swaps.set(Proc(0), 1023, Some(5));

@@ -22,7 +22,7 @@ use Rattle.page_holders.proofs.EntryPages.{mapped_right}
 use Rattle.page_holders.proofs.ValidEntries.{valid_at_page}
 use Rattle.state_fits.proofs.FewShares.{few_shares}
 use Rattle.vm_state.specs.ProcessReadings.{slot_by, slot_in, slot_with}
-use Rattle.page_states.specs.declared.found.Slot.{Slot}
+use Rattle.page_readers.specs.declared.found.Slot.{Slot}
 use Rattle.pfn_report.specs.Counts.{AreCounts, is_named, is_slot_for, passed, shares_below}
 use Rattle.pfn_report.proofs.SlotShares.{all_below, fewer_below, more_below, slots_share}
 

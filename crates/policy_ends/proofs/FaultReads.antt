@@ -28,7 +28,7 @@ use Rattle.pager_rules.proofs.Quiet.{starts_once}
 use Rattle.call_laws.proofs.FreeTurn.{same_number}
 use Rattle.serial_laws.proofs.Carriers.{IsBegun, begun_first, begun_made, is_beginning}
 use Rattle.serial_laws.proofs.Known.{landed_from}
-use Rattle.policy_laws.proofs.Counting.{each_is}
+use Rattle.serial_laws.proofs.Counting.{each_is}
 use Rattle.policy_ends.proofs.ReadSteps.{is_transfer, landing_transfers}
 
 -- ---- an entry stays valid while transfers begin and land

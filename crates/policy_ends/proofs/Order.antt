@@ -5,7 +5,7 @@ use Rattle.std.proofs.lemmas.Bool.{cases_lt, false≢true}
 use Rattle.std.proofs.lemmas.List.Sums.{sum_by-cons}
 use Rattle.std.proofs.lemmas.Option.{none-some, same_Some}
 use Rattle.pager_rules.proofs.Basics.{count_cons, count_cons_no, count_cons_yes}
-use Rattle.policy_laws.proofs.Counting.{sum_less}
+use Rattle.serial_laws.proofs.Counting.{sum_less}
 use Rattle.policy_ends.specs.Rank.{IsLower}
 
 -- an earlier number doesn't rise

@@ -34,7 +34,7 @@ use Rattle.pager_rules.proofs.Lists.{all_filter, all_found, count_filter_le, fou
 use Rattle.pager_rules.proofs.Pages.{is_of_private, private_is_paged}
 use Rattle.pager_rules.specs.Kept.{FitsDirection, FitsFlight, FitsRead, IsKept, views}
 use Rattle.pager_laws.proofs.RunsAreSound.{run_kept}
-use Rattle.policy_laws.proofs.Counting.{each_is}
+use Rattle.serial_laws.proofs.Counting.{each_is}
 use Rattle.policy_ends.specs.Rank.{lies_in_swap, swapped_out}
 use Rattle.policy_ends.proofs.Order.{fewer_pass, less_pass}
 use Rattle.policy_ends.proofs.WriteCarriers.{run_landed}

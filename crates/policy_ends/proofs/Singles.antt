@@ -28,7 +28,7 @@ use Rattle.pager_rules.specs.Kept.{IsKept}
 use Rattle.pager_laws.proofs.EvictKept.{in_its_slot}
 use Rattle.pager_laws.proofs.OpeningKept.{in_range}
 use Rattle.pager_laws.proofs.RunsAreSound.{run_kept}
-use Rattle.policy_laws.proofs.Counting.{each_is, sum_same}
+use Rattle.serial_laws.proofs.Counting.{each_is, sum_same}
 use Rattle.vm_types.specs.Configuration.{IsWellFormed}
 use Rattle.policy_ends.specs.Rank.{IsLower, absence, filled_slots, numbers_for, presence, presence_of_others, processes_of}
 use Rattle.policy_ends.proofs.Numbers.{AreLower, lower_absence, lower_filled, lower_others, lower_pending}

@@ -29,7 +29,7 @@ use Rattle.pager_rules.proofs.Lists.{all_step}
 use Rattle.pager_rules.specs.Kept.{IsKept, one_if}
 use Rattle.pager_laws.proofs.OpeningKept.{in_range}
 use Rattle.pager_laws.proofs.RunsAreSound.{run_kept}
-use Rattle.policy_laws.proofs.Counting.{each_is, pairs_same, sum_less, sum_ones}
+use Rattle.serial_laws.proofs.Counting.{each_is, pairs_same, sum_less, sum_ones}
 use Rattle.policy_ends.specs.Rank.{absence, filled_slots, is_met, is_unsaved, left_to_come, lies_in_swap, phase, presence, presence_of_others, process_at_hand, processes_of, rank, swapped_out, unmet, unmet_of}
 use Rattle.policy_ends.proofs.Order.{fewer_pass}
 use Rattle.policy_ends.proofs.WriteSteps.{count_most}

@@ -9,9 +9,9 @@ use Rattle.std.proofs.lemmas.List.{take_all}
 use Rattle.vm_types.specs.Moved.{Moved, moved}
 use Rattle.outside_io.specs.Views.{SourceView, SinkView}
 use Rattle.pager_model.specs.Text.{status_line}
-use Rattle.program_ends.specs.Ends.{Ends}
-use Rattle.program_ends.specs.Wrongs.{IsWrong}
-use Rattle.program_ends.proofs.Wronging.{seven_right}
+use Rattle.command_ends.specs.Ends.{Ends}
+use Rattle.command_ends.specs.Wrongs.{IsWrong}
+use Rattle.command_ends.proofs.Wronging.{seven_right}
 use Rattle.replay_cli.specs.Commands.{Told}
 use Rattle.disk_trait.specs.DepotView.{DepotView}
 use Rattle.program_call.specs.ProgramTells.{ProgramTells, ran, no_words}

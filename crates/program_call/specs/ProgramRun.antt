@@ -3,7 +3,7 @@ use Rattle.std.specs.Prelude.{◌≡◌, ◌≢◌, ℕ, List, []}
 use Rattle.std.specs.declared.option.Option.{Option}
 use Rattle.vm_types.specs.Moved.{Moved}
 use Rattle.outside_io.specs.Views.{SinkView, SourceView}
-use Rattle.program_ends.specs.Concludes.{HasTold}
+use Rattle.command_ends.specs.Concludes.{HasTold}
 use Rattle.disk_trait.specs.DepotView.{DepotView}
 use Rattle.program_call.specs.ProgramTells.{IsPartly, ProgramTells}
 

@@ -7,8 +7,8 @@ ghost use Rattle.replay_cli.specs.declared.words.Command.{Command};
 ghost use Rattle.program_call.specs.ProgramTells.{bytes_view, memory_view};
 
 use crate::sure_depot::SureDepot;
+use command_ends::Status;
 use outside_io::{Sink, Source};
-use program_ends::Status;
 use replay_cli::run_one;
 use std::alloc::Global;
 use vm_types::{Failed, NoMemory};

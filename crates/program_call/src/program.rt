@@ -2,9 +2,9 @@ ghost use Rattle.std.specs.Prelude.{◌≡◌, ◌≢◌, ◌⊎◌, ◌≤◌, 
 ghost use Rattle.std.specs.Io.KnownBytes.{Keeps};
 ghost use Rattle.outside_io.specs.Causes.{Rose};
 ghost use Rattle.vm_types.specs.Moved.{moved};
-ghost use Rattle.program_ends.specs.Concludes.{HasTold, WasCut};
-ghost use Rattle.program_ends.specs.Wrongs.{IsWrong, IsWrongText};
-ghost use Rattle.program_ends.specs.declared.wrong.Wrong.{Wrong};
+ghost use Rattle.command_ends.specs.Concludes.{HasTold, WasCut};
+ghost use Rattle.command_ends.specs.Wrongs.{IsWrong, IsWrongText};
+ghost use Rattle.command_ends.specs.declared.wrong.Wrong.{Wrong};
 ghost use Rattle.std.specs.declared.option.Option.{Option};
 ghost use Rattle.command_messages.specs.LineFaults.{Holds, Quotes};
 ghost use Rattle.command_messages.specs.Messages.{IsSaid, message_of};
@@ -17,10 +17,10 @@ ghost use Rattle.program_call.specs.ProgramTells.{ProgramTells};
 use crate::arguments::Arguments;
 use crate::words::{copied_words, texts_of};
 use arrayvec::ArrayVec;
+use command_ends::{Status, Wrong, end_with};
 use command_messages::{LineFault, explain, quoted_fault};
 use disk_trait::Depot;
 use outside_io::{Sink, Source};
-use program_ends::{Status, Wrong, end_with};
 use replay_cli::run_and_tell;
 use std::alloc::Global;
 

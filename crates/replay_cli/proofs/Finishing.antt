@@ -11,7 +11,7 @@ use Rattle.pager_model.specs.Text.{run_text}
 use Rattle.pager_laws.specs.Laws.{RunsAreSound}
 use Rattle.vm_types.specs.Moved.{moved}
 use Rattle.pager_model.specs.Serial.{IsSerial}
-use Rattle.program_ends.specs.Concludes.{IsOutcome}
+use Rattle.command_ends.specs.Concludes.{IsOutcome}
 use Rattle.run_text.specs.Parts.{run_status}
 use Rattle.run_text.specs.Reported.{AreParts, IsReported}
 use Rattle.serial_run.specs.Ended.{IsFinished}

@@ -1,8 +1,10 @@
 mod Overs
 pub mod Finishing
 pub mod Serving
+pub mod Dumping
 pub mod Making
 pub mod MakeOptions
 pub mod Obeying
 mod Served
 pub mod Asking
+mod ShownDumps

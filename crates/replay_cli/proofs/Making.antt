@@ -10,9 +10,9 @@ use Rattle.outside_io.specs.Views.{SinkView}
 use Rattle.pager_model.specs.Serial.{IsSerial}
 use Rattle.pager_model.specs.Text.{status_line}
 use Rattle.pager_laws.specs.Laws.{RunsAreSound}
-use Rattle.program_ends.specs.Concludes.{Concludes, EndsAnswered}
-use Rattle.program_ends.specs.Wrongs.{TellsWrong}
-use Rattle.program_ends.proofs.Wronging.{outcome_right, seven_right}
+use Rattle.command_ends.specs.Concludes.{Concludes, EndsAnswered}
+use Rattle.command_ends.specs.Wrongs.{TellsWrong}
+use Rattle.command_ends.proofs.Wronging.{outcome_right, seven_right}
 use Rattle.run_text.specs.Parts.{run_status}
 use Rattle.serial_run.specs.Ended.{IsCounted}
 use Rattle.serial_run.specs.declared.finished.Counted.{Counted}

@@ -1,5 +1,5 @@
 -- What follows from what the program tells.
-use Rattle.std.proofs.Common.{◌≡◌, ◌≢◌, ℕ, List, ◌∷◌, ◌++◌, refl, sym, ◌∙◌, subst, arith, inl, inr}
+use Rattle.std.proofs.Common.{◌≡◌, ◌≢◌, ℕ, List, [], ◌∷◌, ◌++◌, codes, refl, sym, ◌∙◌, subst, arith, inl, inr}
 use Rattle.std.specs.Prelude.{◌⊎◌}
 use Rattle.vm_types.specs.declared.config.Config.{Config}
 use Rattle.disk_trait.specs.DepotView.{DepotView}
@@ -9,19 +9,23 @@ use Rattle.outside_io.specs.Views.{SinkView, SourceView}
 use Rattle.pager_model.specs.Run.{pager_after}
 use Rattle.pager_model.specs.Text.{dirty_pages}
 use Rattle.trace_maker.specs.Made.{made_config}
-use Rattle.program_ends.specs.Concludes.{Concludes}
-use Rattle.program_ends.specs.Tells.{IsTrace, Tells, answered, faulty, unfinished, unread, no_memory}
-use Rattle.program_ends.proofs.Concluding.{its_status, unfailed_status}
-use Rattle.program_ends.proofs.Telling as telling
+use Rattle.command_ends.specs.Concludes.{Concludes}
+use Rattle.command_ends.specs.Tells.{IsTrace, Tells, answered, faulty, unfinished, unread, no_memory}
+use Rattle.command_ends.proofs.Concluding.{its_status, unfailed_status}
+use Rattle.command_ends.proofs.Telling as telling
 use Rattle.check_command.specs.CheckTells.{CheckTells, HasCheckInput}
 use Rattle.check_command.proofs.Telling as checking
 use Rattle.study_command.specs.StudyText.{IsStudyAnswer}
 use Rattle.replay_cli.specs.Commands.{Asks, HasInput, HasOptionWords, IsDone, Obeys, Told, usage, unread_options, obeyed}
 use Rattle.replay_cli.specs.MakeAnswer.{IsMakeAnswer, MakeTells, made as counted, no_memory as memory_out}
 use Rattle.make_summary.specs.declared.make.Make.{Make}
+use Rattle.show_command.specs.ShowTells.{HasDump, ShowTells}
+use Rattle.show_command.proofs.Showing as showing
+use Rattle.replay_cli.specs.DumpAnswer.{IsDumpAnswer}
 use Rattle.replay_cli.specs.Headline.{IsSerialAnswer}
 use Rattle.replay_cli.specs.declared.words.Command.{Command}
-use Rattle.replay_cli.specs.declared.words.Command.TheVariants.{Serial, Study, Make as MakeCommand, Check}
+use Rattle.replay_cli.specs.declared.words.Command.TheVariants.{Serial, Study, Make as MakeCommand, Check, Dump, Show}
+use Rattle.replay_cli.proofs.Asking.{head_apart, shorter}
 use Rattle.replay_cli.proofs.Finishing.{run_ends}
 
 -- a status of an answer: 0 or 5, or the depot failed and it is 6
@@ -42,21 +46,36 @@ make_ending make depot depot' status text (inl run) =
     inl (subst (λ n. (n ≡ 0) ⊎ (n ≡ 5)) (sym run.ending) (run_ends (dirty_pages config (pager_after config (run.rest ++ run.past)))))
 make_ending make depot depot' status text (inr none) = inr (none.ending, none.failed)
 
--- words that begin with two bytes
-apart : {words xs ys : List (List ℕ)} {x y : List ℕ} (a b : ℕ) → (a ≡ b → ⊥) → words ≡ (a ∷ x) ∷ xs → words ≡ (b ∷ y) ∷ ys → ⊥
-apart p q differ one two = differ (first (sym one ∙ two)) where
-  first : {a b : ℕ} {x y : List ℕ} {xs ys : List (List ℕ)} → (a ∷ x) ∷ xs ≡ (b ∷ y) ∷ ys → a ≡ b
+dump_ending : (depot depot' : DepotView) (config : Config) (status : ℕ) (text : List ℕ) → IsDumpAnswer (moved depot depot') config status text → HasEnding depot depot' status
+dump_ending depot depot' config status text (inl run) = inl (inl run.ending)
+dump_ending depot depot' config status text (inr none) = inr (none.ending, none.failed)
+
+-- without a failure of the depot it is 0
+dump_zero : (depot depot' : DepotView) (config : Config) (status : ℕ) (text : List ℕ) → (Rose depot.failures depot'.failures → ⊥) → IsDumpAnswer (moved depot depot') config status text → status ≡ 0
+dump_zero depot depot' config status text made (inl run) = run.ending
+dump_zero depot depot' config status text made (inr none) = absurd (made none.failed)
+
+-- the word with which the words of a command begin
+abbrev pub name_of : Command → List ℕ
+name_of Serial = codes "serial"
+name_of (Study s) = codes "study"
+name_of (MakeCommand m) = codes "make"
+name_of Check = codes "check"
+name_of Dump = codes "dump"
+name_of Show = codes "show"
+
+begins_with : (words : List (List ℕ)) (command : Command) → Asks words command → (rest : List (List ℕ)) × (words ≡ name_of command ∷ rest)
+begins_with words Serial asks = ([], asks)
+begins_with words (Study s) asks = (asks.0, asks.1)
+begins_with words (MakeCommand m) asks = (asks.0, asks.1)
+begins_with words Check asks = ([], asks)
+begins_with words Dump asks = ([], asks)
+begins_with words Show asks = ([], asks)
+
+pub same_name : (words : List (List ℕ)) (one two : Command) → Asks words one → Asks words two → name_of one ≡ name_of two
+same_name words one two a b = first (sym (begins_with words one a).1 ∙ (begins_with words two b).1) where
+  first : {x y : List ℕ} {xs ys : List (List ℕ)} → x ∷ xs ≡ y ∷ ys → x ≡ y
   first e = cc
-
--- `check` and `make` begin with another byte than each other and than `serial` and `study`
-no_make : {words xs ys : List (List ℕ)} {x y : List ℕ} → words ≡ (115 ∷ x) ∷ xs → words ≡ (109 ∷ y) ∷ ys → ⊥
-no_make = apart 115 109 (λ e. omega (arith, e))
-
-no_check : {words xs ys : List (List ℕ)} {x y : List ℕ} → words ≡ (115 ∷ x) ∷ xs → words ≡ (99 ∷ y) ∷ ys → ⊥
-no_check = apart 115 99 (λ e. omega (arith, e))
-
-make_or_check : {words xs ys : List (List ℕ)} {x y : List ℕ} → words ≡ (109 ∷ x) ∷ xs → words ≡ (99 ∷ y) ∷ ys → ⊥
-make_or_check = apart 109 99 (λ e. omega (arith, e))
 
 -- of commands for which the same words ask the input of the first is that of the second, and what is done of the
 -- second is done of the first
@@ -64,23 +83,46 @@ record AreSame (before : SourceView) (one two : Command) : Type 0 where
   input : HasInput one before → HasInput two before
   done : (status : ℕ) → IsDone two status → IsDone one status
 
+same_by : (before : SourceView) (one two : Command) → name_of one ≡ name_of two → AreSame before one two
+same_by before Serial Serial e = record { input = λ i. i; done = λ status d. d }
+same_by before Serial (Study t) e = absurd (shorter e (λ n. omega (arith, n)))
+same_by before Serial (MakeCommand n) e = absurd (shorter e (λ n. omega (arith, n)))
+same_by before Serial Check e = absurd (shorter e (λ n. omega (arith, n)))
+same_by before Serial Dump e = absurd (shorter e (λ n. omega (arith, n)))
+same_by before Serial Show e = absurd (shorter e (λ n. omega (arith, n)))
+same_by before (Study s) Serial e = absurd (shorter e (λ n. omega (arith, n)))
+same_by before (Study s) (Study t) e = record { input = λ i. i; done = λ status d. d }
+same_by before (Study s) (MakeCommand n) e = absurd (shorter e (λ n. omega (arith, n)))
+same_by before (Study s) Check e = absurd (head_apart 115 99 e (λ n. omega (arith, n)))
+same_by before (Study s) Dump e = absurd (shorter e (λ n. omega (arith, n)))
+same_by before (Study s) Show e = absurd (shorter e (λ n. omega (arith, n)))
+same_by before (MakeCommand m) Serial e = absurd (shorter e (λ n. omega (arith, n)))
+same_by before (MakeCommand m) (Study t) e = absurd (shorter e (λ n. omega (arith, n)))
+same_by before (MakeCommand m) (MakeCommand n) e = record { input = λ i. i; done = λ status d. d }
+same_by before (MakeCommand m) Check e = absurd (shorter e (λ n. omega (arith, n)))
+same_by before (MakeCommand m) Dump e = absurd (head_apart 109 100 e (λ n. omega (arith, n)))
+same_by before (MakeCommand m) Show e = absurd (head_apart 109 115 e (λ n. omega (arith, n)))
+same_by before Check Serial e = absurd (shorter e (λ n. omega (arith, n)))
+same_by before Check (Study t) e = absurd (head_apart 99 115 e (λ n. omega (arith, n)))
+same_by before Check (MakeCommand n) e = absurd (shorter e (λ n. omega (arith, n)))
+same_by before Check Check e = record { input = λ i. i; done = λ status d. d }
+same_by before Check Dump e = absurd (shorter e (λ n. omega (arith, n)))
+same_by before Check Show e = absurd (shorter e (λ n. omega (arith, n)))
+same_by before Dump Serial e = absurd (shorter e (λ n. omega (arith, n)))
+same_by before Dump (Study t) e = absurd (shorter e (λ n. omega (arith, n)))
+same_by before Dump (MakeCommand n) e = absurd (head_apart 100 109 e (λ n. omega (arith, n)))
+same_by before Dump Check e = absurd (shorter e (λ n. omega (arith, n)))
+same_by before Dump Dump e = record { input = λ i. i; done = λ status d. d }
+same_by before Dump Show e = absurd (head_apart 100 115 e (λ n. omega (arith, n)))
+same_by before Show Serial e = absurd (shorter e (λ n. omega (arith, n)))
+same_by before Show (Study t) e = absurd (shorter e (λ n. omega (arith, n)))
+same_by before Show (MakeCommand n) e = absurd (head_apart 115 109 e (λ n. omega (arith, n)))
+same_by before Show Check e = absurd (shorter e (λ n. omega (arith, n)))
+same_by before Show Dump e = absurd (head_apart 115 100 e (λ n. omega (arith, n)))
+same_by before Show Show e = record { input = λ i. i; done = λ status d. d }
+
 same : (words : List (List ℕ)) (before : SourceView) (one two : Command) → Asks words one → Asks words two → AreSame before one two
-same words before Serial Serial a b = record { input = λ i. i; done = λ status d. d }
-same words before Serial (Study s) a b = record { input = λ i. i; done = λ status d. d }
-same words before Serial (MakeCommand m) a b = absurd (no_make a b.1)
-same words before Serial Check a b = absurd (no_check a b)
-same words before (Study s) Serial a b = record { input = λ i. i; done = λ status d. d }
-same words before (Study s) (Study t) a b = record { input = λ i. i; done = λ status d. d }
-same words before (Study s) (MakeCommand m) a b = absurd (no_make a.1 b.1)
-same words before (Study s) Check a b = absurd (no_check a.1 b)
-same words before (MakeCommand m) Serial a b = absurd (no_make b a.1)
-same words before (MakeCommand m) (Study s) a b = absurd (no_make b.1 a.1)
-same words before (MakeCommand m) (MakeCommand n) a b = record { input = λ i. i; done = λ status d. d }
-same words before (MakeCommand m) Check a b = absurd (make_or_check a.1 b)
-same words before Check Serial a b = absurd (no_check b a)
-same words before Check (Study s) a b = absurd (no_check b.1 a)
-same words before Check (MakeCommand m) a b = absurd (make_or_check b.1 a)
-same words before Check Check a b = record { input = λ i. i; done = λ status d. d }
+same words before one two a b = same_by before one two (same_name words one two a b)
 
 -- what holds of the status with which a command's text goes
 record Holds (Input : Type 0) (Done : ℕ → Type 0) (before after : SourceView) (depot depot' : DepotView) (status : ℕ) : Type 0 where
@@ -112,7 +154,7 @@ module _ (depot depot' : DepotView) {before after : SourceView} (answer : Config
     (ending : (config : Config) (status : ℕ) (text : List ℕ) → answer config status text → HasEnding depot depot' status) where
   told_made : (status : ℕ) (text : List ℕ) → Tells answer before after status text → status ≡ 6 → Rose depot.failures depot'.failures
   told_made status text (answered config own t outcome quiet reads right) e = six depot depot' status (ending config status text right) e
-  told_made status text (faulty n cause quiet shown) e = absurd (omega arith)
+  told_made status text (faulty n breach quiet shown) e = absurd (omega arith)
   told_made status text (unfinished quiet short) e = absurd (omega arith)
   told_made status text (unread rose faultless) e = absurd (omega arith)
   told_made status text (no_memory quiet) e = absurd (omega arith)
@@ -155,12 +197,32 @@ module _ {before after : SourceView} {depot depot' : DepotView} where
     complete = λ input unfailed failed. checking.told_complete status text told input unfailed;
   }
 
+  told_by_show : (status : ℕ) (text : List ℕ) → ShowTells before after status text → Holds (HasDump before) (IsDone Show) before after depot depot' status
+  told_by_show status text told = record {
+    not_four = showing.not_four status text told;
+    not_one = showing.not_one status text told;
+    read = showing.told_read status text told;
+    made = λ e. absurd (showing.not_six status text told e);
+    complete = λ input unfailed failed. showing.told_whole status text told input unfailed;
+  }
+
+  told_by_dump : (status : ℕ) (text : List ℕ) → Tells (IsDumpAnswer (moved depot depot')) before after status text → Holds (IsTrace before) (IsDone Dump) before after depot depot' status
+  told_by_dump status text told = record {
+    not_four = telling.not_four status text told;
+    not_one = telling.not_one status text told;
+    read = telling.told_read status text told;
+    made = told_made depot depot' (IsDumpAnswer (moved depot depot')) (dump_ending depot depot') status text told;
+    complete = λ trace unfailed made. telling.told_answered (λ m. m ≡ 0) (λ config n t outcome right. dump_zero depot depot' config n t made right) status text told trace unfailed;
+  }
+
   obeys_holds : (command : Command) (status : ℕ) (text : List ℕ) → Obeys command (moved before after) (moved depot depot') status text
       → Holds (HasInput command before) (IsDone command) before after depot depot' status
   obeys_holds Serial status text obeys = tells_holds depot depot' (IsSerialAnswer (moved depot depot')) (serial_ending depot depot') status text obeys.tells
   obeys_holds (Study study) status text obeys = tells_holds depot depot' (IsStudyAnswer study) (λ config n t answer. study_ending depot depot' n answer.0) status text obeys.0
   obeys_holds (MakeCommand make) status text obeys = told_by_make make status text obeys.0
   obeys_holds Check status text obeys = told_by_check status text obeys.0
+  obeys_holds Dump status text obeys = told_by_dump status text obeys.tells
+  obeys_holds Show status text obeys = told_by_show status text obeys.0
 
 -- each command may end for want of memory
 memory_ends : (command : Command) → IsDone command 7
@@ -168,6 +230,8 @@ memory_ends Serial = inr (inr refl)
 memory_ends (Study study) = inr (inr refl)
 memory_ends (MakeCommand make) = inr (inr refl)
 memory_ends Check = inr (inr refl)
+memory_ends Dump = inr refl
+memory_ends Show = inr refl
 
 -- no text goes with status 4
 pub not_four : {words : List (List ℕ)} {before after : SourceView} {depot depot' : DepotView} (status : ℕ) (text : List ℕ) → Told words (moved before after) (moved depot depot') status text → status ≢ 4

@@ -5,13 +5,13 @@ use Rattle.vm_types.specs.declared.config.Config.{Config}
 use Rattle.vm_types.specs.Moved.{Moved}
 use Rattle.outside_io.specs.Views.{SinkView, SourceView}
 use Rattle.pager_model.specs.Serial.{IsSerial}
-use Rattle.program_ends.specs.Concludes.{HasTold}
-use Rattle.program_ends.specs.Tells.{Reads, Tells, answered, faulty, unfinished, unread, no_memory}
+use Rattle.command_ends.specs.Concludes.{HasTold}
+use Rattle.command_ends.specs.Tells.{Reads, Tells, answered, faulty, unfinished, unread, no_memory}
 use Rattle.replay_cli.specs.Commands.{Asks, Obeys, Told, usage, unread_options, obeyed}
 use Rattle.disk_trait.specs.DepotView.{DepotView}
 use Rattle.replay_cli.specs.Headline.{IsFinishedRun, IsSerialAnswer, IsServed}
 use Rattle.replay_cli.specs.declared.words.Command.{Command}
-use Rattle.replay_cli.specs.declared.words.Command.TheVariants.{Serial, Study, Make, Check}
+use Rattle.replay_cli.specs.declared.words.Command.TheVariants.{Serial, Study, Make, Check, Dump, Show}
 
 abbrev IsFinal : ℕ → Type 0
 IsFinal status = (status ≡ 0) ⊎ (status ≡ 5)
@@ -47,7 +47,7 @@ module _ {source : Moved SourceView} {depot : Moved DepotView} where
 
   tells_run : (status : ℕ) (text : List ℕ) → Tells (IsSerialAnswer depot) source.before source.after status text → IsFinal status → HasRun source depot status text
   tells_run status text (answered config own t outcome quiet reads right) ends = answer_runs config status text ends reads right
-  tells_run status text (faulty n cause quiet shown) ends = absurd (not_both 2 2 ends refl (λ e. omega (arith, e)) (λ e. omega (arith, e)))
+  tells_run status text (faulty n breach quiet shown) ends = absurd (not_both 2 2 ends refl (λ e. omega (arith, e)) (λ e. omega (arith, e)))
   tells_run status text (unfinished quiet short) ends = absurd (not_both 2 2 ends refl (λ e. omega (arith, e)) (λ e. omega (arith, e)))
   tells_run status text (unread rose faultless) ends = absurd (not_both 3 3 ends refl (λ e. omega (arith, e)) (λ e. omega (arith, e)))
   tells_run status text (no_memory quiet) ends = absurd (not_both 7 7 ends refl (λ e. omega (arith, e)) (λ e. omega (arith, e)))
@@ -59,6 +59,8 @@ module _ {source : Moved SourceView} {depot : Moved DepotView} where
   obeys_run words (Study study) status text is asks obeys ends = absurd (apart is asks.1 six_or_five)
   obeys_run words (Make make) status text is asks obeys ends = absurd (apart is asks.1 six_or_four)
   obeys_run words Check status text is asks obeys ends = absurd (apart is asks six_or_five)
+  obeys_run words Dump status text is asks obeys ends = absurd (apart is asks six_or_four)
+  obeys_run words Show status text is asks obeys ends = absurd (apart is asks six_or_four)
 
   told_run : (words : List (List ℕ)) (status : ℕ) (text : List ℕ) → words ≡ codes "serial" ∷ [] → Told words source depot status text → IsFinal status → HasRun source depot status text
   told_run words status text is (usage other same kept) ends = absurd (not_both 1 1 ends refl (λ e. omega (arith, e)) (λ e. omega (arith, e)))

@@ -9,18 +9,18 @@ use Rattle.outside_io.specs.Views.{SinkView, SourceView}
 use Rattle.trace_reader.specs.Answer.{Answers, FaultsBy}
 use Rattle.trace_reader.specs.declared.fault.TraceFault.{TraceFault}
 use Rattle.pager_model.specs.Text.{status_line}
-use Rattle.program_ends.specs.Concludes.{Concludes, EndsAnswered, IsOutcome}
-use Rattle.program_ends.specs.Ends.{Ends}
-use Rattle.program_ends.specs.FaultText.{fault_status, fault_told}
-use Rattle.program_ends.specs.Tells.{answered, no_memory}
-use Rattle.program_ends.specs.Wrongs.{TellsWrong, wrong_of}
-use Rattle.program_ends.specs.declared.wrong.Wrong.{Wrong}
-use Rattle.program_ends.proofs.Telling.{fault_tells}
-use Rattle.program_ends.proofs.Wronging.{fault_wrong, outcome_right, seven_right}
+use Rattle.command_ends.specs.Concludes.{Concludes, EndsAnswered, IsOutcome}
+use Rattle.command_ends.specs.Ends.{Ends}
+use Rattle.command_ends.specs.FaultText.{fault_status, fault_told}
+use Rattle.command_ends.specs.Tells.{answered, no_memory}
+use Rattle.command_ends.specs.Wrongs.{TellsWrong, wrong_of}
+use Rattle.command_ends.specs.declared.wrong.Wrong.{Wrong}
+use Rattle.command_ends.proofs.Telling.{fault_tells}
+use Rattle.command_ends.proofs.Wronging.{fault_wrong, outcome_right, seven_right}
 use Rattle.replay_cli.specs.Headline.{IsSerialAnswer, SerialTells}
 
 -- an outcome isn't that of input that is no trace or can't be read
-not_early : (status : ℕ) → IsOutcome status → (status ≡ 2) ⊎ (status ≡ 3) → ⊥
+pub not_early : (status : ℕ) → IsOutcome status → (status ≡ 2) ⊎ (status ≡ 3) → ⊥
 not_early status outcome early =
     elim outcome [
       | inl zero ↦ elim early [ inl two ↦ omega (arith, zero, two) | inr three ↦ omega (arith, zero, three) ]

@@ -1,9 +1,9 @@
 -- What a call of the program does, by what is seen of its ends before and after. Source: this project's own.
-use Rattle.std.specs.Prelude.{◌≡◌, ◌≢◌, ◌⊎◌, ℕ, ◌≤◌, List, [], ◌∷◌, codes, is_some, map}
+use Rattle.std.specs.Prelude.{◌≡◌, ◌≢◌, ◌⊎◌, ℕ, ◌≤◌, List, [], ◌∷◌, codes, is_some}
 use Rattle.outside_io.specs.Causes.{Rose}
 use Rattle.vm_types.specs.Moved.{Moved}
 use Rattle.outside_io.specs.Views.{SinkView, SourceView}
-use Rattle.program_ends.specs.Concludes.{HasTold, WasCut}
+use Rattle.command_ends.specs.Concludes.{HasTold, WasCut}
 use Rattle.replay_cli.specs.Commands.{Asks, HasInput, HasOptionWords, IsDone, Told}
 use Rattle.disk_trait.specs.DepotView.{DepotView}
 use Rattle.replay_cli.specs.Headline.{IsServed}

@@ -1,31 +1,45 @@
 -- The command lines, and what each command answers. A further command is a case more of each.
 -- Source: this project's own.
-use Rattle.std.specs.Prelude.{◌≡◌, ◌⊎◌, ℕ, ◌≤◌, List, [], ◌∷◌, codes, map}
+use Rattle.std.specs.Prelude.{◌≡◌, ◌⊎◌, ℕ, ◌≤◌, List, [], ◌∷◌, codes, map, None, Some}
 use Rattle.std.specs.Borrow.{Bor}
+use Rattle.std.specs.declared.option.Option.{Option}
 use Rattle.vm_types.specs.Moved.{Moved}
 use Rattle.disk_trait.specs.DepotView.{DepotView}
 use Rattle.outside_io.specs.Views.{SourceView}
 use Rattle.pager_model.specs.Text.{status_line}
 use Rattle.check_command.specs.CheckTells.{CheckTells, HasCheckInput}
-use Rattle.program_ends.specs.Tells.{IsTrace, Tells}
+use Rattle.command_ends.specs.Tells.{IsTrace, Tells}
 use Rattle.study_command.specs.CommandLine.{AsksFor}
 use Rattle.study_command.specs.StudyText.{IsStudyAnswer}
+use Rattle.show_command.specs.ShowTells.{HasDump, ShowTells}
+use Rattle.replay_cli.specs.DumpAnswer.{DumpTells}
 use Rattle.replay_cli.specs.Headline.{SerialTells}
 use Rattle.replay_cli.specs.MakeAnswer.{MakeTells}
 use Rattle.replay_cli.specs.MakeLine.{AsksToMake, IsMakeable}
 use Rattle.replay_cli.specs.declared.words.Command.{Command}
-use Rattle.replay_cli.specs.declared.words.Command.TheVariants.{Serial, Study, Make, Check}
+use Rattle.replay_cli.specs.declared.words.Command.TheVariants.{Serial, Study, Make, Check, Dump, Show}
 
 -- the words as texts
 abbrev pub texts : List (Bor (List ℕ)) → List (List ℕ)
 texts words = map (λ word. word.now) words
 
--- the words ask for the command: `serial` or `check` alone, or `study` or `make` and its options
+-- the word of a command that has no options
+abbrev pub plain_word : Command → Option (List ℕ)
+plain_word Serial = Some (codes "serial")
+plain_word (Study study) = None
+plain_word (Make make) = None
+plain_word Check = Some (codes "check")
+plain_word Dump = Some (codes "dump")
+plain_word Show = Some (codes "show")
+
+-- the words ask for the command: the word of one that has no options alone, or `study` or `make` and its options
 abbrev pub Asks : List (List ℕ) → Command → Type 0
 Asks words Serial = words ≡ codes "serial" ∷ []
 Asks words (Study study) = (options : List (List ℕ)) × (words ≡ codes "study" ∷ options) × AsksFor options study
 Asks words (Make make) = (options : List (List ℕ)) × (words ≡ codes "make" ∷ options) × AsksToMake options make
 Asks words Check = words ≡ codes "check" ∷ []
+Asks words Dump = words ≡ codes "dump" ∷ []
+Asks words Show = words ≡ codes "show" ∷ []
 
 -- the words begin with a command that has options
 abbrev pub HasOptionWords : List (List ℕ) → Type 0
@@ -37,13 +51,17 @@ IsBounded Serial = Unit {0}
 IsBounded (Study study) = (1 ≤ study.frames) × (study.frames ≤ 1024)
 IsBounded (Make make) = IsMakeable make
 IsBounded Check = Unit {0}
+IsBounded Dump = Unit {0}
+IsBounded Show = Unit {0}
 
--- what the command reads is known: a trace, a trace and a log that isn't too long, or nothing
+-- what the command reads is known: a trace, a trace and a log that isn't too long, a dump, or nothing
 abbrev pub HasInput : Command → SourceView → Type 0
 HasInput Serial before = IsTrace before
 HasInput (Study study) before = IsTrace before
 HasInput (Make make) before = Unit {0}
 HasInput Check before = HasCheckInput before
+HasInput Dump before = IsTrace before
+HasInput Show before = HasDump before
 
 -- its status if it has its input and nothing fails: 0, or 5 with pages left dirty, or 8 with a line of the log that
 -- isn't legal; or 7
@@ -52,14 +70,18 @@ IsDone Serial status = (status ≡ 0) ⊎ ((status ≡ 5) ⊎ (status ≡ 7))
 IsDone (Study study) status = (status ≡ 0) ⊎ ((status ≡ 5) ⊎ (status ≡ 7))
 IsDone (Make make) status = (status ≡ 0) ⊎ ((status ≡ 5) ⊎ (status ≡ 7))
 IsDone Check status = (status ≡ 0) ⊎ ((status ≡ 8) ⊎ (status ≡ 7))
+IsDone Dump status = (status ≡ 0) ⊎ (status ≡ 7)
+IsDone Show status = (status ≡ 0) ⊎ (status ≡ 7)
 
--- what the command tells with a status, by what is seen of the source and of the depot before and after; a study
--- and a check make no block, and `make` reads nothing
+-- what the command tells with a status, by what is seen of the source and of the depot before and after; a study,
+-- a check and a dump that is shown make no block, and `make` reads nothing
 abbrev pub Obeys : Command → Moved SourceView → Moved DepotView → ℕ → List ℕ → Type 0
 Obeys Serial source depot status text = SerialTells source depot status text
 Obeys (Study study) source depot status text = Tells (IsStudyAnswer study) source.before source.after status text × (depot.after ≡ depot.before)
 Obeys (Make make) source depot status text = MakeTells make depot status text × (source.after ≡ source.before)
 Obeys Check source depot status text = CheckTells source.before source.after status text × (depot.after ≡ depot.before)
+Obeys Dump source depot status text = DumpTells source depot status text
+Obeys Show source depot status text = ShowTells source.before source.after status text × (depot.after ≡ depot.before)
 
 -- the text that goes with a status, each with its cause: by the words, and by what is seen of the
 -- source and of the depot before and after

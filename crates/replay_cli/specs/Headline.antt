@@ -17,7 +17,7 @@ use Rattle.pager_model.specs.Spoken.{IsRight}
 use Rattle.pager_model.specs.Text.{dirty_pages, run_text, status_line}
 use Rattle.pager_model.specs.WrittenBack.{AreWrittenBack}
 use Rattle.pager_laws.specs.Laws.{IsSoundThroughout}
-use Rattle.program_ends.specs.Tells.{Tells}
+use Rattle.command_ends.specs.Tells.{Tells}
 use Rattle.serial_run.specs.FewRefusals.{HasFewRefusals, faults_of, refusals}
 use Rattle.trace_reader.specs.Meaning.{Configuration, trace_of}
 

@@ -7,7 +7,7 @@ use Rattle.disk_trait.specs.DepotView.{DepotView}
 use Rattle.pager_model.specs.Serial.{IsSerial}
 use Rattle.pager_model.specs.Text.{status_line}
 use Rattle.trace_maker.specs.Made.{made_config}
-use Rattle.program_ends.specs.Concludes.{IsOutcome}
+use Rattle.command_ends.specs.Concludes.{IsOutcome}
 use Rattle.replay_cli.specs.Headline.{HasNoBlocks, IsRunOver, status_of}
 use Rattle.make_summary.specs.MakeText.{make_lines}
 use Rattle.make_summary.specs.declared.make.Make.{Make}

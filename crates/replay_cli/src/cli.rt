@@ -4,22 +4,24 @@ ghost use Rattle.std.specs.Prelude.{◌≡◌, ◌≤◌, ◌≢◌};
 ghost use Rattle.vm_types.specs.Moved.{moved};
 ghost use Rattle.vm_types.specs.Configuration.{IsWellFormed};
 ghost use Rattle.vm_types.specs.declared.config.Version.{Version};
-ghost use Rattle.program_ends.specs.Concludes.{Concludes, EndsAnswered, HasTold};
-ghost use Rattle.program_ends.specs.Wrongs.{IsWrong, IsWrongText, TellsWrong};
+ghost use Rattle.command_ends.specs.Concludes.{Concludes, EndsAnswered, HasTold};
+ghost use Rattle.command_ends.specs.Wrongs.{IsWrong, IsWrongText, TellsWrong};
 ghost use Rattle.replay_cli.specs.CommandRun.{IsCommandRun};
 ghost use Rattle.replay_cli.specs.Commands.{Told, texts};
 ghost use Rattle.replay_cli.specs.Headline.{IsSerialAnswer, SerialTells};
 
+use crate::dump_run::dump;
 use crate::make_run::run_made;
 use crate::words::{Command, command_of};
 use arrayvec::ArrayVec;
 use check_command::check;
+use command_ends::{Status, Wrong, end_fault, end_with, wrong_of};
 use disk_trait::Depot;
 use outside_io::{Sink, Source};
 use pager_laws::runs_are_sound;
-use program_ends::{Status, Wrong, end_fault, end_with, wrong_of};
 use run_text::print_run;
 use serial_run::{RunFault, run_serial};
+use show_command::show_dump;
 use std::alloc::Global;
 use study_command::study_trace;
 use trace_reader::read_trace;
@@ -70,7 +72,7 @@ fn serial<S: Source, K: Sink, D: Depot>(
     ensures faults_later { (S.seen source.old).failures ≤ (S.seen source.new).failures }
     ensures depot_later { (D.seen depot.old).failures ≤ (D.seen depot.new).failures }
 {
-    match read_trace(source, alloc, kept) {
+    match read_trace(alloc, source, kept) {
         Ok(config) => (run_config(alloc, config, sink, depot), None),
         Err(fault) => (end_fault(fault, sink), wrong_of(fault)),
     }
@@ -99,12 +101,14 @@ fn conclude<S: Source, K: Sink, D: Depot>(
         Ok(Some(Command::Study(study))) => study_trace(alloc, study, source, sink, kept),
         Ok(Some(Command::Make(make))) => (run_made(alloc, make, sink, depot), None),
         Ok(Some(Command::Check)) => check(alloc, source, sink, kept),
+        Ok(Some(Command::Dump)) => dump(alloc, source, sink, depot, kept),
+        Ok(Some(Command::Show)) => show_dump(alloc, source, sink),
     }
 }
 
 /// As `run_one`, and answers besides what is wrong with the input, if anything is: the first faulty line of
 /// a trace with the first rule that it breaks, that a trace is unfinished, the first line of a log that isn't
-/// legal, or that a log is too long. The first 80 bytes of a faulty line of a trace are kept in `kept`.
+/// legal, that a log is too long, or after how many bytes an input is no dump. The first 80 bytes of a faulty line of a trace are kept in `kept`.
 pub fn run_and_tell<S: Source, K: Sink, D: Depot>(
     alloc: Global,
     words: &[&str],
@@ -132,9 +136,12 @@ pub fn run_and_tell<S: Source, K: Sink, D: Depot>(
 /// and writes what the references of the process cost with so many frames. `make`, with `--seed`,
 /// `--procs` and `--refs`, reads nothing, makes a trace and runs it as `serial` does, and writes how
 /// many entries of each kind the run has. `check` reads a trace and behind a line `LOG` a log, runs
-/// nothing, and writes whether the log is legal, or which of its lines is the first that isn't. Each
+/// nothing, and writes whether the log is legal, or which of its lines is the first that isn't. `dump`
+/// reads a trace, answers its requests as `serial` does, gives the blocks back to the depot, and writes the
+/// bytes of a dump of the state after the last request, without a status line. `show` reads a dump, runs
+/// nothing, and writes what it holds, and each of its counts that a recount doesn't give. But for a dump each
 /// write of a whole text is of whole lines. The status is 0 if the command did that, 1 if the words are no command
-/// line, 2 if the input is no trace or a log is too long, 3 only if a read failed, 4 only if a write failed
+/// line, 2 if the input is no trace or no dump, or a log is too long, 3 only if a read failed, 4 only if a write failed
 /// or took nothing, 5 if shared pages are left dirty, 6 only if the depot failed to make a block, 7 if
 /// memory ran out, 8 if a line of a log isn't legal.
 pub fn run_one<S: Source, K: Sink, D: Depot>(

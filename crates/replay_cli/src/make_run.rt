@@ -4,19 +4,19 @@ ghost use Rattle.std.specs.Prelude.{◌≡◌, ◌≤◌, ◌++◌, List, length
 ghost use Rattle.vm_journal.specs.declared.entry.Entry.{Entry};
 ghost use Rattle.pager_model.specs.Text.{status_line};
 ghost use Rattle.vm_types.specs.Moved.{moved};
-ghost use Rattle.program_ends.specs.Concludes.{EndsAnswered};
-ghost use Rattle.program_ends.specs.Ends.{Ends};
+ghost use Rattle.command_ends.specs.Concludes.{EndsAnswered};
+ghost use Rattle.command_ends.specs.Ends.{Ends};
 ghost use Rattle.run_text.specs.Parts.{run_status};
 ghost use Rattle.run_record.specs.Tallies.{tallies_of};
 ghost use Rattle.make_summary.specs.MakeText.{make_lines};
 ghost use Rattle.replay_cli.specs.MakeAnswer.{IsMakeAnswer};
 ghost use Rattle.replay_cli.specs.MakeLine.{IsMakeable};
 
+use command_ends::{Status, end_with};
 use disk_trait::Depot;
 use make_summary::{Make, print_summary};
 use outside_io::Sink;
 use pager_laws::runs_are_sound;
-use program_ends::{Status, end_with};
 use serial_run::{Counted, RunFault, count_serial};
 use std::alloc::Global;
 use trace_maker::make_trace;

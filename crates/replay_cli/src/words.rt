@@ -1,5 +1,5 @@
-ghost use Rattle.std.specs.Prelude.{◌≡◌, IfOk, IfSome, IfNone, OnErr, map};
-ghost use Rattle.replay_cli.specs.Commands.{Asks, HasOptionWords, IsBounded};
+ghost use Rattle.std.specs.Prelude.{◌≡◌, IfOk, IfSome, IfNone, OnErr, Some, map};
+ghost use Rattle.replay_cli.specs.Commands.{Asks, HasOptionWords, IsBounded, plain_word};
 ghost use Rattle.replay_cli.specs.declared.words.Command.{Command};
 
 use crate::make_words::make_of;
@@ -20,10 +20,33 @@ pub enum Command {
     Make(Make),
     /// Read a trace and a log behind it, run nothing, and say whether the log is legal.
     Check,
+    /// Read a trace, answer its requests in order, and write the dump of the state after them.
+    Dump,
+    /// Read a dump, run nothing, and write what it holds and what is wrong in it.
+    Show,
 }
 
-/// The command for which the words ask: the one word `serial` or `check`, or `study` and its two options,
-/// or `make` and its three. None if they are no command line. Fails only if the first word is `study` or
+/// The command of this name, if it takes no options.
+fn plain_command(name: &[u8]) -> Option<Command>
+    ensures some { IfSome result (λ command. plain_word command ≡ Some name.now) }
+    ensures none { IfNone result ((command : Command) → plain_word command ≡ Some name.now → ⊥) }
+    ensures bounded { IfSome result IsBounded }
+{
+    if is(name, b"serial") {
+        Some(Command::Serial)
+    } else if is(name, b"check") {
+        Some(Command::Check)
+    } else if is(name, b"dump") {
+        Some(Command::Dump)
+    } else if is(name, b"show") {
+        Some(Command::Show)
+    } else {
+        None
+    }
+}
+
+/// The command for which the words ask: the one word `serial`, `check`, `dump` or `show`, or `study` and
+/// its two options, or `make` and its three. None if they are no command line. Fails only if the first word is `study` or
 /// `make` and memory runs out.
 pub fn command_of<'a>(alloc: Global, words: &'a [&'a str]) -> Result<Option<Command>, NoMemory>
     ensures some { IfOk result (λ found. IfSome found (Asks (map (λ word. word.now) words.now))) }
@@ -34,16 +57,9 @@ pub fn command_of<'a>(alloc: Global, words: &'a [&'a str]) -> Result<Option<Comm
     let Some((first, rest)) = first_word(words) else {
         return Ok(None);
     };
-    if is(first, b"serial") {
+    if let Some(command) = plain_command(first) {
         return if rest.is_empty() {
-            Ok(Some(Command::Serial))
-        } else {
-            Ok(None)
-        };
-    }
-    if is(first, b"check") {
-        return if rest.is_empty() {
-            Ok(Some(Command::Check))
+            Ok(Some(command))
         } else {
             Ok(None)
         };

@@ -5,8 +5,8 @@ ghost use Rattle.outside_io.specs.Writes.{Writes};
 ghost use Rattle.pager_model.specs.Text.{dirty_lines, ended};
 
 use arrayvec::ArrayVec;
+use command_ends::write_line;
 use outside_io::{Sink, WriteFault};
-use program_ends::write_line;
 use vm_text::{push_page, push_word};
 use vm_types::{Page, Section};
 

@@ -8,8 +8,8 @@ ghost use Rattle.report_lines.specs.Rows.{frame_view, process_view};
 
 use crate::report::{FrameRow, ProcessRow, Report};
 use arrayvec::ArrayVec;
+use command_ends::{push_counted, write_line};
 use outside_io::{Sink, WriteFault};
-use program_ends::{push_counted, write_line};
 use vm_text::{
     push_decimal, push_mark, push_page, push_process, push_state, push_status, push_word,
 };

@@ -7,7 +7,7 @@ use Rattle.vm_types.specs.declared.config.Section.{Section}
 use Rattle.vm_types.specs.declared.names.Page.{Page}
 use Rattle.vm_journal.specs.HasLine.{HasLine}
 use Rattle.vm_journal.specs.declared.entry.Entry.{Entry}
-use Rattle.line_laws.proofs.RunLines.{run_lines}
+use Rattle.pager_laws.proofs.RunLines.{run_lines}
 use Rattle.pager_model.specs.Report.{Report, report_of}
 use Rattle.pager_model.specs.Run.{IsRun, pager_after}
 use Rattle.pager_model.specs.Text.{dirty_lines, dirty_pages, entry_lines, report_text, run_text, status_line}

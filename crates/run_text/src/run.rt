@@ -5,13 +5,13 @@ ghost use Rattle.vm_journal.specs.declared.entry.Entry.{Entry};
 ghost use Rattle.outside_io.specs.Writes.{Writes};
 ghost use Rattle.pager_model.specs.Text.{run_text, status_line};
 ghost use Rattle.report_lines.specs.Printable.{IsPrintable};
-ghost use Rattle.program_ends.specs.Ends.{Ends};
+ghost use Rattle.command_ends.specs.Ends.{Ends};
 ghost use Rattle.run_text.specs.Parts.{parts_text, run_status};
 ghost use Rattle.run_text.specs.Reported.{AreParts, IsReported};
 
 use crate::entry_lines::print_entries;
+use command_ends::{Status, end_with};
 use outside_io::{Sink, WriteFault};
-use program_ends::{Status, end_with};
 use report_lines::{Report, print, print_dirty};
 use vm_journal::Entry;
 use vm_types::{Config, Page, Section};

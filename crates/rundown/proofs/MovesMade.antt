@@ -7,7 +7,7 @@ use Rattle.pager_model.specs.Order.{IsAnswered}
 use Rattle.pager_model.specs.Rundown.{Place as PlaceIs, cleaning_move, later_move, place_move, rounds_move, shared_place}
 use Rattle.serial_laws.specs.Between.{IsBetween}
 use Rattle.vm_state.specs.History.{History, pager}
-use Rattle.move_steps.specs.Moved.{IsSameBut, MovesTo}
+use Rattle.serial_steps.specs.Moved.{IsSameBut, MovesTo}
 use Rattle.rundown.specs.Cleans.{CanClean, Cleans, move_at}
 use Rattle.rundown.specs.Places.{IsThere}
 use Rattle.rundown.specs.declared.places.Place.{Place}

@@ -21,15 +21,15 @@ use Rattle.pager_model.specs.Step.{IsLegal}
 use Rattle.pager_model.specs.Swap.{is_shared_seen}
 use Rattle.call_laws.proofs.FreeTurn.{free_turn, page_starts, same_number}
 use Rattle.call_laws.proofs.WaitsLegal.{IsSeen, is_seen, waits_not}
-use Rattle.call_steps.proofs.Branches.{if_false, if_true}
-use Rattle.call_steps.proofs.Steps.{paid_first}
+use Rattle.call_begins.proofs.Branches.{if_false, if_true}
+use Rattle.call_begins.proofs.Steps.{paid_first}
 use Rattle.serial_laws.specs.Between.{IsBetween}
 use Rattle.serial_laws.proofs.Turns.{free_seat}
 use Rattle.vm_state.specs.History.{History, MayAdd, added, entry_by, pager}
 use Rattle.vm_swapper.specs.SeenSlots.{IsPlaced, seen_as}
 use Rattle.vm_swapper.specs.declared.seen.Seen.{Seen}
-use Rattle.move_steps.specs.Moved.{IsMoved}
-use Rattle.move_steps.proofs.Moving.{makes_move}
+use Rattle.serial_steps.specs.Moved.{IsMoved}
+use Rattle.serial_steps.proofs.Moving.{makes_move}
 use Rattle.rundown.specs.Cleans.{CanClean, HasWritten, move_at, writer_seat}
 use Rattle.rundown.specs.Places.{IsThere, place_as}
 use Rattle.rundown.specs.declared.places.Place.{Place}

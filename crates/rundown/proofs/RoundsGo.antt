@@ -4,9 +4,9 @@ use Rattle.std.proofs.lemmas.Bool.{le-ltb, lt-ltb}
 use Rattle.pager_model.specs.Cleaning.{rounds}
 use Rattle.pager_model.specs.Moves.{Control as ControlIs, Move, cleaning, control, goes, rests}
 use Rattle.pager_model.specs.Rundown.{is_shared_listed, next_round, round_move, rounds_move, written_for_need}
-use Rattle.call_steps.proofs.Branches.{if_false, if_true}
+use Rattle.call_begins.proofs.Branches.{if_false, if_true}
 use Rattle.vm_state.specs.History.{History, pager}
-use Rattle.move_steps.specs.Moved.{IsMoved, IsResting}
+use Rattle.serial_steps.specs.Moved.{IsMoved, IsResting}
 use Rattle.rundown.specs.Cleans.{HasWritten}
 
 abbrev pub in_round : ℕ → ℕ → ControlIs

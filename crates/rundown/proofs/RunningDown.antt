@@ -13,11 +13,11 @@ use Rattle.pager_model.specs.Spoken.{IsRight}
 use Rattle.serial_laws.specs.Between.{IsBetween}
 use Rattle.serial_laws.proofs.Kept.{moves_between, moves_longer}
 use Rattle.serial_laws.proofs.Rundowns.{cleaning_fits}
-use Rattle.call_steps.specs.MayBegin.{empty}
+use Rattle.call_begins.specs.MayBegin.{empty}
 use Rattle.lift_carriers.specs.CarrierView.{CarrierView}
 use Rattle.vm_state.specs.History.{History}
-use Rattle.move_steps.specs.Moved.{IsMoved, IsResting, IsSameBut}
-use Rattle.move_steps.proofs.Moving.{same_then}
+use Rattle.serial_steps.specs.Moved.{IsMoved, IsResting, IsSameBut}
+use Rattle.serial_steps.proofs.Moving.{same_then}
 use Rattle.rundown.specs.Cleans.{writer_seat}
 use Rattle.rundown.proofs.Fronts.{IsFront, front_then, move_front, no_front}
 use Rattle.rundown.proofs.MovesMade.{spare_only}

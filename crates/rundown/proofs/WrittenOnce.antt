@@ -13,8 +13,8 @@ use Rattle.pager_model.specs.Moves.{carries}
 use Rattle.pager_model.specs.Pager.{Pager}
 use Rattle.pager_model.specs.Rundown.{written_for_need}
 use Rattle.pager_model.specs.WriteCluster.{BeginIs, begin_carry, begin_gives, begin_nothing, block_out, is_enough, reason_need, writes_from, writes_taken}
-use Rattle.call_steps.specs.Lifted.{HasBegunLifts, HasLifts, place_of, places_in}
-use Rattle.call_steps.specs.MayBegin.{MayBegin, empty}
+use Rattle.call_begins.specs.Lifted.{HasBegunLifts, HasLifts, place_of, places_in}
+use Rattle.call_begins.specs.MayBegin.{MayBegin, empty}
 use Rattle.carried_landings.specs.HaveLanded.{HaveLanded}
 use Rattle.carried_landings.specs.SeatFlights.{flight_place}
 use Rattle.carried_landings.specs.declared.carrier_landed.CarrierLanded.{CarrierLanded}
@@ -22,12 +22,12 @@ use Rattle.modified_writer.specs.Begins.{Begins}
 use Rattle.modified_writer.specs.declared.begun.Begin.{Begin}
 use Rattle.lift_carriers.specs.CarrierView.{CarrierView}
 use Rattle.vm_state.specs.History.{History, owed, pager}
-use Rattle.move_steps.specs.CarriedOn.{IsLoaded}
-use Rattle.move_steps.specs.Moved.{IsMoved, IsSameBut, IsSteady}
-use Rattle.move_steps.proofs.CarriersLand.{goes_there}
-use Rattle.move_steps.proofs.Entries.{starts_mute}
-use Rattle.move_steps.proofs.Moving.{carries_move, loaded}
-use Rattle.move_steps.proofs.WrittenClusters.{begin_starts, begun_lifts}
+use Rattle.serial_steps.specs.CarriedOn.{IsLoaded}
+use Rattle.serial_steps.specs.Moved.{IsMoved, IsSameBut, IsSteady}
+use Rattle.serial_steps.proofs.CarriersLand.{goes_there}
+use Rattle.serial_steps.proofs.Entries.{starts_mute}
+use Rattle.serial_steps.proofs.Moving.{carries_move, loaded}
+use Rattle.serial_steps.proofs.WrittenClusters.{begin_starts, begun_lifts}
 use Rattle.rundown.specs.Cleans.{HasLanded, HasWritten, writer_seat}
 
 -- ---- between two moves nothing is owed, and the writer's seat may begin

@@ -6,8 +6,8 @@ use Rattle.pager_model.specs.Moves.{After, Control as ControlIs, Move, carries, 
 use Rattle.pager_model.specs.Order.{IsAnswered}
 use Rattle.pager_model.specs.Rundown.{Place as PlaceIs, clean_move, writer_of, written_for_need}
 use Rattle.vm_state.specs.History.{History, pager}
-use Rattle.move_steps.specs.CarriedOn.{IsCarriedOn}
-use Rattle.move_steps.specs.Moved.{IsMoved, IsSteady}
+use Rattle.serial_steps.specs.CarriedOn.{IsCarriedOn}
+use Rattle.serial_steps.specs.Moved.{IsMoved, IsSteady}
 
 -- the modified page writer's seat
 abbrev pub writer_seat : History → Seat

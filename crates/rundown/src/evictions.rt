@@ -1,6 +1,6 @@
 ghost use Rattle.std.specs.Prelude.{◌≡◌};
 ghost use Rattle.std.specs.Option.{option_map};
-ghost use Rattle.call_steps.specs.MayBegin.{empty};
+ghost use Rattle.call_begins.specs.MayBegin.{empty};
 ghost use Rattle.rundown.specs.Cleanings.{control_at};
 ghost use Rattle.rundown.specs.Cleans.{CanClean, Cleans, writer_seat};
 ghost use Rattle.rundown.specs.Places.{IsThere, place_as};
@@ -9,7 +9,7 @@ use crate::cleaning::Cleaning;
 use crate::clusters::write_one_cluster;
 use crate::places::Place;
 use crate::seats::writer;
-use call_steps::{goes_to, is_stopped};
+use call_begins::{goes_to, is_stopped};
 use disk_trait::Block;
 use vm_journal::EvictWhy;
 use vm_state::{Carrier, State};

@@ -2,8 +2,8 @@ ghost use Rattle.std.specs.Prelude.{◌≡◌};
 ghost use Rattle.std.specs.Option.{option_map};
 ghost use Rattle.pager_model.specs.Rundown.{round_move, rounds_move};
 ghost use Rattle.vm_state.specs.History.{pager};
-ghost use Rattle.call_steps.specs.MayBegin.{empty};
-ghost use Rattle.move_steps.specs.Moved.{IsMoved, IsSteady, MovesTo};
+ghost use Rattle.call_begins.specs.MayBegin.{empty};
+ghost use Rattle.serial_steps.specs.Moved.{IsMoved, IsSteady, MovesTo};
 ghost use Rattle.rundown.specs.Cleanings.{control_at};
 ghost use Rattle.rundown.specs.Cleans.{writer_seat};
 

@@ -5,9 +5,9 @@ ghost use Rattle.pager_model.specs.Serial.{IsRundown};
 ghost use Rattle.pager_model.specs.Spoken.{IsRight};
 ghost use Rattle.pager_model.specs.Text.{dirty_pages};
 ghost use Rattle.vm_state.specs.History.{pager};
-ghost use Rattle.call_steps.specs.MayBegin.{empty};
+ghost use Rattle.call_begins.specs.MayBegin.{empty};
 ghost use Rattle.serial_laws.specs.Between.{IsBetween};
-ghost use Rattle.move_steps.specs.Moved.{IsSameBut};
+ghost use Rattle.serial_steps.specs.Moved.{IsSameBut};
 ghost use Rattle.rundown.specs.Cleans.{writer_seat};
 
 use crate::cleaning::Cleaning;

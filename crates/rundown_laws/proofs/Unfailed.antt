@@ -10,7 +10,7 @@ use Rattle.pager_model.specs.Flights.{Direction, Flight, reading, writing}
 use Rattle.pager_model.specs.Given.{by_seat, made_by, pfn}
 use Rattle.pager_model.specs.Landings.{Outcome, all_bad, landed_by, landing, reuse_of, went_badly, went_well}
 use Rattle.pager_model.specs.Run.{pager_after}
-use Rattle.policy_laws.specs.Refused.{is_failure}
+use Rattle.serial_laws.specs.Refused.{is_failure}
 use Rattle.pager_rules.proofs.Basics.{count_cons, count_cons_yes}
 use Rattle.rundown_laws.specs.Clean.{failures}
 

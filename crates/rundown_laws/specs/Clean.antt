@@ -5,7 +5,7 @@ use Rattle.pager_model.specs.Cleaning.{Cleaning, evicting, rounds}
 use Rattle.pager_model.specs.Moves.{Control, cleaning, control}
 use Rattle.pager_model.specs.Pager.{Pager}
 use Rattle.pager_model.specs.Rundown.{is_shared_at, is_shared_listed}
-use Rattle.policy_laws.specs.Refused.{is_failure}
+use Rattle.serial_laws.specs.Refused.{is_failure}
 
 -- how many transfers of these entries failed
 abbrev pub failures : List Entry → ℕ

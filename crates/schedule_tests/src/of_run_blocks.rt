@@ -20,7 +20,7 @@ fn small(alloc: Global) -> Result<Config, Fail>
     ensures { IfOk result IsWellFormed }
 {
     let mut source = MemorySource::new(SMALL.to_vec(alloc)?, Vec::new(alloc));
-    match read_trace(&mut source, alloc, &mut ArrayVec::new()) {
+    match read_trace(alloc, &mut source, &mut ArrayVec::new()) {
         Ok(config) => Ok(config),
         Err(_) => Err(Fail::from("a trace")),
     }

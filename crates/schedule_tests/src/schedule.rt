@@ -27,7 +27,7 @@ fn config_of(alloc: Global, trace: &[u8]) -> Result<Config, Fail>
     ensures version { IfOk result (λ config. config.version ≡ Version.One) }
 {
     let mut source = MemorySource::new(Vec::from_slice(alloc, trace)?, Vec::new(alloc));
-    match read_trace(&mut source, alloc, &mut ArrayVec::new()) {
+    match read_trace(alloc, &mut source, &mut ArrayVec::new()) {
         Ok(config) => Ok(config),
         Err(_) => Err(Fail::from("a trace")),
     }

@@ -17,13 +17,13 @@ use Rattle.pager_model.specs.Transfers.{is_by}
 use Rattle.pager_rules.proofs.Basics.{count_none}
 use Rattle.vm_state.specs.History.{History}
 use Rattle.vm_state.specs.LiftsLand.{added_each}
-use Rattle.call_steps.specs.Lifted.{place_of}
-use Rattle.call_steps.specs.MayBegin.{MayBegin}
-use Rattle.call_steps.specs.ReadySeat.{IsIdleSeat}
+use Rattle.call_begins.specs.Lifted.{place_of}
+use Rattle.call_begins.specs.MayBegin.{MayBegin}
+use Rattle.call_begins.specs.ReadySeat.{IsIdleSeat}
 use Rattle.carried_landings.specs.SeatFlights.{flight_place}
 use Rattle.carried_landings.proofs.SeatLandings.{none_by, others_idle}
-use Rattle.move_steps.proofs.Entries.{each_past, each_same}
-use Rattle.move_steps.proofs.Shapes.{AreQuiet, EndsIn, IsQuiet, IsServedOnce}
+use Rattle.serial_steps.proofs.Entries.{each_past, each_same}
+use Rattle.serial_steps.proofs.Shapes.{AreQuiet, EndsIn, IsQuiet, IsServedOnce}
 use Rattle.seat_laws.specs.FreeSeat.{IsFreeSeat}
 
 -- ---- a seat without open transfers

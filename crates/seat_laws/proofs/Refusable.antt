@@ -16,7 +16,7 @@ use Rattle.pager_model.specs.Maps.{page_number}
 use Rattle.pager_model.specs.Run.{pager_after}
 use Rattle.pager_model.specs.Step.{IsLegal}
 use Rattle.pager_model.specs.Transfers.{is_fault}
-use Rattle.policy_laws.proofs.LostCarriers.{lost_when_failed}
+use Rattle.serial_laws.proofs.LostCarriers.{lost_when_failed}
 use Rattle.call_laws.specs.Ready.{IsFree}
 use Rattle.call_laws.proofs.FreeTurn.{free_turn}
 use Rattle.serial_laws.proofs.Landed.{landed_first}

@@ -18,10 +18,10 @@ use Rattle.pager_model.specs.Pager.{Pager}
 use Rattle.pager_model.specs.Run.{IsRun, pager_after}
 use Rattle.pager_model.specs.Step.{IsLegal}
 use Rattle.call_laws.specs.Ready.{IsFree}
-use Rattle.page_states.specs.declared.found.Found.{Found}
+use Rattle.page_readers.specs.declared.found.Found.{Found}
 use Rattle.vm_state.specs.History.{History}
 use Rattle.vm_state.specs.PageReadings.{found_in}
-use Rattle.call_steps.specs.MayBegin.{MayBegin}
+use Rattle.call_begins.specs.MayBegin.{MayBegin}
 use Rattle.seat_laws.specs.FreeSeat.{IsFreeSeat}
 use Rattle.seat_laws.specs.Lost.{IsLost, IsReadFor}
 use Rattle.seat_laws.specs.Unmet.{IsUnmet}

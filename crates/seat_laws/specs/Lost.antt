@@ -10,7 +10,7 @@ use Rattle.pager_model.specs.Flights.{Flight, reading}
 use Rattle.pager_model.specs.Given.{page_address}
 use Rattle.pager_model.specs.Landings.{carrier_of}
 use Rattle.pager_model.specs.Maps.{page_number, proc}
-use Rattle.policy_laws.specs.Lost.{CarriesAll}
+use Rattle.serial_laws.specs.Lost.{CarriesAll}
 
 -- none of them has landed, and the first one is of the reference's own page
 pub record IsReadFor (past : List Entry) (seat : ℕ) (r : Ref) : Type 0 where

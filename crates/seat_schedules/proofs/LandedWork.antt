@@ -11,8 +11,8 @@ use Rattle.vm_journal.specs.declared.entry.What.TheVariants as what
 use Rattle.frame_store.specs.LiftView.{LiftView}
 use Rattle.pager_model.specs.Flights.{awaits_reuse, is_busy, open_flights}
 use Rattle.pager_model.specs.Landings.{carrier_of}
-use Rattle.call_steps.proofs.Steps.{paid_after}
-use Rattle.call_steps.specs.Lifted.{HasBegunLifts, place_of}
+use Rattle.call_begins.proofs.Steps.{paid_after}
+use Rattle.call_begins.specs.Lifted.{HasBegunLifts, place_of}
 use Rattle.carried_landings.specs.HaveLanded.{HaveLanded}
 use Rattle.carried_landings.specs.SeatFlights.{flight_place}
 use Rattle.carried_landings.specs.declared.carrier_landed.CarrierLanded.{CarrierLanded}
@@ -62,7 +62,7 @@ module _ {B : Type 0} {seen : B → BlockView} {tells : Tells} (s : History) (se
           at_work = record {
             lifts = record {
               own = ap (λ (c : CarrierView B). c.seat) emptied ∙ old.lifts.own;
-              begun = subst (λ (lifts : List (LiftView B)). Rattle.std.specs.List.AllByRecursion (Rattle.call_steps.specs.Lifted.IsBegun seen tells t seat) lifts) (sym none_lifted) tt;
+              begun = subst (λ (lifts : List (LiftView B)). Rattle.std.specs.List.AllByRecursion (Rattle.call_begins.specs.Lifted.IsBegun seen tells t seat) lifts) (sym none_lifted) tt;
             };
             whole = ap (map flight_place) none_open ∙ ap (map place_of) (sym none_lifted);
             formed = formed;

@@ -13,7 +13,7 @@ use Rattle.vm_journal.specs.Line.{line_text}
 use Rattle.vm_journal.specs.declared.entry.Entry.{Entry}
 use Rattle.pager_model.specs.Run.{IsRun}
 use Rattle.pager_model.specs.Text.{ended, entry_lines}
-use Rattle.line_laws.specs.Laws.{RunsHaveLines}
+use Rattle.pager_laws.specs.LineLaws.{RunsHaveLines}
 use Rattle.seat_schedules.proofs.LinesOfRuns.{all_turned, are_names}
 
 -- the text so far and the lines that are left are all lines, and so with one line more

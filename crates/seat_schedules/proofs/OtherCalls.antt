@@ -15,11 +15,11 @@ use Rattle.pager_model.specs.Serve.{ServeIs, serve_again, serve_answered, serve_
 use Rattle.pager_model.specs.Swap.{SwapIs, leave_gives, swap_again, swap_carry, swap_more, swap_settled, victim_gives}
 use Rattle.pager_model.specs.WriteCluster.{Reason, begin_gives}
 use Rattle.call_laws.specs.Laws.{VictimIsTurned}
-use Rattle.call_steps.proofs.Steps.{paid_after}
+use Rattle.call_begins.proofs.Steps.{paid_after}
 use Rattle.modified_writer.specs.Begins.{Begins}
 use Rattle.modified_writer.specs.declared.begun.Begin.{Begin}
-use Rattle.move_steps.proofs.Shapes.{AreStarts, ServeShape, SwapShape, leave_shape, serve_shape}
-use Rattle.move_steps.proofs.WrittenClusters.{begin_starts, begun_lifts}
+use Rattle.serial_steps.proofs.Shapes.{AreStarts, ServeShape, SwapShape, leave_shape, serve_shape}
+use Rattle.serial_steps.proofs.WrittenClusters.{begin_starts, begun_lifts}
 use Rattle.vm_services.specs.Serves.{Serves}
 use Rattle.vm_services.specs.declared.next.ServeNext.{ServeNext}
 use Rattle.lift_carriers.specs.CarrierView.{CarrierView}

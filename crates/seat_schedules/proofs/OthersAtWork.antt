@@ -18,7 +18,7 @@ use Rattle.content_laws.proofs.LiftsStay.{lifts_stay}
 use Rattle.pager_rules.proofs.Basics.{each_weaker}
 use Rattle.vm_state.specs.History.{History}
 use Rattle.lift_carriers.specs.LiftsFit.{LiftFits, lift_seen}
-use Rattle.call_steps.specs.Lifted.{IsBegun}
+use Rattle.call_begins.specs.Lifted.{IsBegun}
 use Rattle.carried_landings.specs.SeatFlights.{flight_place}
 use Rattle.carried_landings.proofs.CarrierIsWhole.{AreFlightsOf, whole_flights}
 use Rattle.carried_landings.proofs.SeatLandings.{carrier_by}

@@ -12,11 +12,11 @@ use Rattle.pager_model.specs.Landings.{carrier_of}
 use Rattle.pager_model.specs.Transfers.{is_by}
 use Rattle.vm_state.specs.History.{History}
 use Rattle.vm_state.specs.LiftsLand.{added_each}
-use Rattle.call_steps.specs.Lifted.{HasLifts, place_of, places_in}
+use Rattle.call_begins.specs.Lifted.{HasLifts, place_of, places_in}
 use Rattle.carried_landings.specs.SeatFlights.{flight_place}
 use Rattle.carried_landings.proofs.BegunFlights.{carrier_made}
-use Rattle.move_steps.proofs.Entries.{starts_calm, starts_land_none}
-use Rattle.move_steps.proofs.Shapes.{AreStarts}
+use Rattle.serial_steps.proofs.Entries.{starts_calm, starts_land_none}
+use Rattle.serial_steps.proofs.Shapes.{AreStarts}
 use Rattle.seat_laws.specs.FreeSeat.{IsFreeSeat}
 use Rattle.seat_laws.proofs.FreeSeats.{AreStill, nothing_mapped, past_is, same_is, still_made}
 use Rattle.seat_schedules.specs.AtWork.{HasWorked, IsAtWork, IsFor, idle}

@@ -11,8 +11,8 @@ use Rattle.pager_model.specs.Flights.{awaits_reuse}
 use Rattle.pager_model.specs.Given.{made_by}
 use Rattle.pager_model.specs.Landings.{carrier_of}
 use Rattle.vm_state.specs.History.{History}
-use Rattle.call_steps.specs.Lifted.{HasBegunLifts, place_of}
-use Rattle.call_steps.specs.MayBegin.{empty}
+use Rattle.call_begins.specs.Lifted.{HasBegunLifts, place_of}
+use Rattle.call_begins.specs.MayBegin.{empty}
 use Rattle.carried_landings.specs.SeatFlights.{flight_place}
 use Rattle.seat_laws.specs.Lost.{IsLost, IsReadFor}
 use Rattle.seat_schedules.specs.declared.worker.Worker.{Worker}

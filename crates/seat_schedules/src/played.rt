@@ -18,7 +18,7 @@ use crate::schedule::play;
 use crate::went::Went;
 use crate::worker::all_workers;
 use disk_trait::{Block, Depot, MakeFault};
-use line_laws::runs_have_lines;
+use pager_laws::runs_have_lines;
 use pfn_database::Row;
 use run_blocks::make_blocks;
 use std::alloc::Global;

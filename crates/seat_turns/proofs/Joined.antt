@@ -17,7 +17,7 @@ use Rattle.pager_model.specs.Landings.{Outcome, all_bad, carrier_of, first_bad, 
 use Rattle.pager_model.specs.Run.{pager_after}
 use Rattle.lift_carriers.specs.CarrierView.{CarrierView}
 use Rattle.vm_state.specs.History.{History, owed}
-use Rattle.call_steps.specs.MayBegin.{empty}
+use Rattle.call_begins.specs.MayBegin.{empty}
 use Rattle.carried_landings.specs.HaveLanded.{HaveLanded}
 use Rattle.carried_landings.specs.declared.carrier_landed.CarrierLanded.{CarrierLanded}
 use Rattle.seat_laws.specs.FreeSeat.{IsFreeSeat}

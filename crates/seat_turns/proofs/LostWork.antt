@@ -25,14 +25,14 @@ use Rattle.pager_model.specs.Landings.{all_bad, carrier_of, first_bad, landed_by
 use Rattle.pager_model.specs.Maps.{page_number}
 use Rattle.pager_model.specs.Served.{may_fail}
 use Rattle.pager_model.specs.Transfers.{is_fault}
-use Rattle.policy_laws.proofs.LostCarriers.{lost_when_failed}
+use Rattle.serial_laws.proofs.LostCarriers.{lost_when_failed}
 use Rattle.serial_laws.proofs.Landed.{landed_first}
 use Rattle.call_laws.specs.Ready.{IsFree}
 use Rattle.call_laws.proofs.FreeTurn.{free_turn}
 use Rattle.lift_carriers.specs.CarrierView.{CarrierView}
 use Rattle.vm_state.specs.History.{History, MayAdd, added, entry_by, pager}
-use Rattle.call_steps.proofs.Steps.{paid_after}
-use Rattle.call_steps.specs.MayBegin.{empty}
+use Rattle.call_begins.proofs.Steps.{paid_after}
+use Rattle.call_begins.specs.MayBegin.{empty}
 use Rattle.seat_laws.specs.FreeSeat.{IsFreeSeat}
 use Rattle.seat_laws.specs.Lost.{IsLost}
 use Rattle.seat_laws.specs.Unmet.{IsUnmet}

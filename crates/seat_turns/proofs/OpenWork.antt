@@ -25,8 +25,8 @@ use Rattle.call_laws.proofs.FreeTurn.{free_turn}
 use Rattle.lift_carriers.specs.CarrierView.{CarrierView}
 use Rattle.vm_state.specs.History.{History, MayAdd, added, entry_by, pager}
 use Rattle.vm_state.specs.LiftsLand.{added_each}
-use Rattle.call_steps.proofs.Steps.{paid_after}
-use Rattle.call_steps.specs.MayBegin.{empty}
+use Rattle.call_begins.proofs.Steps.{paid_after}
+use Rattle.call_begins.specs.MayBegin.{empty}
 use Rattle.modified_writer.specs.Begins.{Begins, begin_of}
 use Rattle.modified_writer.specs.declared.begun.Begin.{Begin}
 use Rattle.modified_writer.specs.declared.begun.Begin.TheVariants.{Nothing}
@@ -35,8 +35,8 @@ use Rattle.vm_swapper.specs.Victims.{process_number}
 use Rattle.vm_swapper.specs.declared.swap.Swap.{Swap}
 use Rattle.vm_swapper.specs.declared.swap.Swap.TheVariants.{Again, Carry, More, Room, Settled}
 use Rattle.vm_swapper.specs.declared.swap.SwapWhy.{SwapWhy}
-use Rattle.move_steps.proofs.Shapes.{AreQuiet, AreStarts, BeginShape, SwapShape, begin_shape}
-use Rattle.move_steps.proofs.WrittenClusters.{begin_starts, begun_lifts}
+use Rattle.serial_steps.proofs.Shapes.{AreQuiet, AreStarts, BeginShape, SwapShape, begin_shape}
+use Rattle.serial_steps.proofs.WrittenClusters.{begin_starts, begun_lifts}
 use Rattle.seat_laws.specs.FreeSeat.{IsFreeSeat}
 use Rattle.seat_laws.proofs.FreeSeats.{none_are_still, not_busy, quiet_are_still}
 use Rattle.seat_turns.specs.Begun.{CarriesFor, IsBegunFor, IsNoFault}

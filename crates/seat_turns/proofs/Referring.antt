@@ -17,16 +17,16 @@ use Rattle.pager_model.specs.Serve.{GivenServe, ServeIs, serve_again, serve_answ
 use Rattle.lift_carriers.specs.CarrierView.{CarrierView}
 use Rattle.vm_state.specs.History.{History, pager}
 use Rattle.vm_state.specs.LiftsLand.{added_each}
-use Rattle.call_steps.specs.MayBegin.{empty}
+use Rattle.call_begins.specs.MayBegin.{empty}
 use Rattle.fault_core.specs.Gives.{Gives, last_reply, returned}
 use Rattle.fault_core.specs.declared.next.AgainWhy.{AgainWhy}
 use Rattle.fault_core.specs.declared.next.Next.TheVariants.{Again, Answered, Carry, More}
 use Rattle.vm_services.specs.Serves.{Serves, last_answer, returned as served_as}
 use Rattle.vm_services.specs.declared.next.ServeNext.TheVariants as serve_next
 use Rattle.vm_services.specs.declared.next.ServeWhy.{ServeWhy}
-use Rattle.move_steps.proofs.Entries.{starts_mute}
-use Rattle.move_steps.proofs.Mute.{mute_same}
-use Rattle.move_steps.proofs.Shapes.{AreQuiet, AreStarts, EndsIn, IsServedOnce, NextShape, ServeShape, advance_shape, serve_shape}
+use Rattle.serial_steps.proofs.Entries.{starts_mute}
+use Rattle.serial_steps.proofs.Mute.{mute_same}
+use Rattle.serial_steps.proofs.Shapes.{AreQuiet, AreStarts, EndsIn, IsServedOnce, NextShape, ServeShape, advance_shape, serve_shape}
 use Rattle.seat_laws.specs.FreeSeat.{IsFreeSeat}
 use Rattle.seat_laws.specs.Lost.{IsReadFor}
 use Rattle.seat_laws.proofs.FreeSeats.{AreStill, ended_are_still, not_busy, past_is, quiet_are_still, served_are_still, shown_are_still}

@@ -12,14 +12,14 @@ use Rattle.lift_carriers.specs.CarrierView.{CarrierView}
 use Rattle.vm_state.specs.Based.{base_of}
 use Rattle.vm_state.specs.History.{History}
 use Rattle.vm_state.specs.LiftsLand.{added_each}
-use Rattle.call_steps.specs.Lifted.{HasBegunLifts, HasLifts, place_of, places_in}
-use Rattle.call_steps.specs.MayBegin.{empty}
+use Rattle.call_begins.specs.Lifted.{HasBegunLifts, HasLifts, place_of, places_in}
+use Rattle.call_begins.specs.MayBegin.{empty}
 use Rattle.carried_landings.specs.Outside.{AllWait, AreOut}
 use Rattle.carried_landings.specs.SeatFlights.{flight_place}
 use Rattle.carried_landings.proofs.BegunFlights.{carrier_made}
 use Rattle.carried_landings.proofs.CarriedOut.{begun_out, begun_wait}
-use Rattle.move_steps.proofs.Entries.{starts_calm, starts_land_none}
-use Rattle.move_steps.proofs.Shapes.{AreStarts}
+use Rattle.serial_steps.proofs.Entries.{starts_calm, starts_land_none}
+use Rattle.serial_steps.proofs.Shapes.{AreStarts}
 use Rattle.seat_laws.specs.FreeSeat.{IsFreeSeat}
 use Rattle.seat_laws.proofs.FreeSeats.{AreStill, not_busy, nothing_mapped, past_is, same_is, still_made}
 use Rattle.seat_turns.specs.Begun.{CarriesFor, IsNoFault}

@@ -9,7 +9,7 @@ use Rattle.pager_model.specs.Given.{page_address}
 use Rattle.pager_model.specs.Landings.{carrier_of}
 use Rattle.pager_model.specs.Maps.{page_number, proc}
 use Rattle.pager_model.specs.Transfers.{is_fault}
-use Rattle.policy_laws.specs.Lost.{CarriesAll}
+use Rattle.serial_laws.specs.Lost.{CarriesAll}
 
 -- they are one carrier of which none has landed, the seat hasn't spoken since they began, and the first one is such
 pub record CarriesFor (past : List Entry) (seat : ℕ) (Is : Direction → Type 0) : Type 0 where

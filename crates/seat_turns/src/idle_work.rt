@@ -4,7 +4,7 @@ ghost use Rattle.pager_model.specs.Flights.{awaits_reuse};
 ghost use Rattle.pager_model.specs.Swap.{leave_gives, swap_again, swap_in_flight};
 ghost use Rattle.vm_state.specs.Based.{base_of};
 ghost use Rattle.vm_state.specs.History.{pager};
-ghost use Rattle.call_steps.specs.MayBegin.{empty};
+ghost use Rattle.call_begins.specs.MayBegin.{empty};
 ghost use Rattle.vm_swapper.specs.declared.swap.SwapWhy.{SwapWhy};
 ghost use Rattle.carried_landings.specs.Outside.{AreOut, NoneWaits};
 ghost use Rattle.seat_laws.specs.FreeSeat.{IsFreeSeat};

@@ -1,7 +1,7 @@
 ghost use Rattle.std.specs.Prelude.{◌≡◌, true, false, []};
 ghost use Rattle.pager_model.specs.Flights.{awaits_reuse};
 ghost use Rattle.vm_state.specs.Based.{base_of};
-ghost use Rattle.call_steps.specs.MayBegin.{empty};
+ghost use Rattle.call_begins.specs.MayBegin.{empty};
 ghost use Rattle.carried_landings.specs.Outside.{AreOut, NoneWaits};
 ghost use Rattle.seat_turns.specs.Worked.{HasLandedOut, WasLost};
 

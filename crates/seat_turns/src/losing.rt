@@ -2,7 +2,7 @@ ghost use Rattle.std.specs.Prelude.{◌≡◌, ◌<◌, [], Some, false, length}
 ghost use Rattle.vm_types.specs.WellFormed.{IsServiceOf, IsWellFormedReference, IsWellFormedService};
 ghost use Rattle.vm_types.specs.declared.service.Request.{Request};
 ghost use Rattle.pager_model.specs.Carrier.{HasLost};
-ghost use Rattle.call_steps.specs.MayBegin.{empty};
+ghost use Rattle.call_begins.specs.MayBegin.{empty};
 ghost use Rattle.seat_laws.specs.FreeSeat.{IsFreeSeat};
 ghost use Rattle.seat_laws.specs.Lost.{IsLost};
 ghost use Rattle.seat_turns.specs.Begun.{IsBegunFor};

@@ -3,7 +3,7 @@ ghost use Rattle.std.specs.Option.{option_map};
 ghost use Rattle.vm_types.specs.declared.names.ProcStatus.TheVariants as status;
 ghost use Rattle.pager_model.specs.Swap.{victim_gives};
 ghost use Rattle.vm_state.specs.History.{pager};
-ghost use Rattle.call_steps.specs.MayBegin.{empty};
+ghost use Rattle.call_begins.specs.MayBegin.{empty};
 ghost use Rattle.vm_swapper.specs.Victims.{process_number};
 ghost use Rattle.seat_laws.specs.FreeSeat.{IsFreeSeat};
 ghost use Rattle.seat_turns.specs.Worked.{HasWorked};

@@ -12,7 +12,7 @@ use Rattle.pager_model.specs.Flights.{Flight, begun_by, is_busy, open_flights, r
 use Rattle.pager_model.specs.Given.{by_seat, made_by}
 use Rattle.pager_model.specs.Landings.{carrier_of}
 use Rattle.pager_rules.proofs.Basics.{nat_eq_refl}
-use Rattle.policy_laws.specs.Lost.{CarriesAll}
+use Rattle.serial_laws.specs.Lost.{CarriesAll}
 
 -- entries with which a carrier is begun
 abbrev pub is_beginning : What → Bool

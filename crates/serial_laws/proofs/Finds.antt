@@ -22,8 +22,8 @@ use Rattle.pager_model.specs.Transfers.{has_come}
 use Rattle.pager_rules.proofs.Basics.{at_number_same, find_none_from_count}
 use Rattle.pager_rules.proofs.Lists.{found_passes}
 use Rattle.pager_laws.proofs.OpeningKept.{in_range}
-use Rattle.policy_laws.specs.Alone.{IsAlone}
-use Rattle.policy_laws.proofs.AloneInMemory.{alone_finds_a_page}
+use Rattle.serial_laws.specs.Alone.{IsAlone}
+use Rattle.serial_laws.proofs.AloneInMemory.{alone_finds_a_page}
 use Rattle.call_laws.proofs.ServeLegal.{unfound}
 use Rattle.call_laws.proofs.TurnsLegal.{victim_legal}
 use Rattle.serial_laws.specs.Between.{IsBetween}

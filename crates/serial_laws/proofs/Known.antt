@@ -22,7 +22,7 @@ use Rattle.pager_model.specs.Moves.{After, Control, Move, carries, goes, makes, 
 use Rattle.pager_model.specs.Policy.{next_task}
 use Rattle.pager_model.specs.Run.{pager_after}
 use Rattle.pager_model.specs.Step.{IsLegal}
-use Rattle.policy_laws.specs.Lost.{CarriesAll}
+use Rattle.serial_laws.specs.Lost.{CarriesAll}
 use Rattle.serial_laws.specs.Controlled.{AreTouched, IsControlled, MayBeRefused}
 
 -- entries that begin and land no flight

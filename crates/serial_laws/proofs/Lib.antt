@@ -21,6 +21,10 @@ pub mod Fetches
 pub mod AdvanceMoves
 pub mod Rundowns
 pub mod Walks
-pub mod Refusals
+pub mod LegalRefusals
 pub mod Betweens
 pub mod Kept
+pub mod Counting
+pub mod AloneInMemory
+pub mod LostCarriers
+pub mod RefusedOnce

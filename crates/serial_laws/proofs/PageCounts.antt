@@ -19,7 +19,7 @@ use Rattle.pager_rules.proofs.Lists.{all_step}
 use Rattle.pager_rules.proofs.TouchedPages.{same_page_equiv}
 use Rattle.pager_rules.specs.Kept.{IsKept}
 use Rattle.page_holders.proofs.FewAssigned.{one_unassigned}
-use Rattle.policy_laws.proofs.Counting.{each_is, once_in_range, pairs_same, sum_less, sum_ones}
+use Rattle.serial_laws.proofs.Counting.{each_is, once_in_range, pairs_same, sum_less, sum_ones}
 
 turned_count : (g : Page) (pages : List Page) → count_by (λ (h : Page). same_page h g) pages ≡ count_page pages g
 turned_count g pages = λ i. count_by (λ (h : Page). same_page_equiv.symm h g i) pages

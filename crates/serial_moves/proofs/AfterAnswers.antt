@@ -14,7 +14,7 @@ use Rattle.pager_model.specs.Policy.{asking_move, ends_part, finding_move, freei
 use Rattle.pager_model.specs.Rundown.{writer_of}
 use Rattle.pager_model.specs.WriteCluster.{BeginIs, begin_carry, begin_gives, begin_nothing, reason_high}
 use Rattle.pager_model.specs.Flights.{is_busy}
-use Rattle.call_steps.specs.MayBegin.{MayBegin, empty}
+use Rattle.call_begins.specs.MayBegin.{MayBegin, empty}
 use Rattle.serial_laws.specs.Controlled.{IsLeft}
 use Rattle.serial_laws.proofs.Walks.{task_formed}
 use Rattle.modified_writer.specs.Begins.{Begins, begin_of}
@@ -22,12 +22,12 @@ use Rattle.modified_writer.specs.declared.begun.Begin.TheVariants.{Carry, Nothin
 use Rattle.lift_carriers.specs.CarrierView.{CarrierView}
 use Rattle.vm_state.specs.History.{History, owed, pager}
 use Rattle.vm_state.specs.LiftsLand.{added_each}
-use Rattle.move_steps.specs.CarriedOn.{IsCarriedOn, IsLoaded, MayRefuse, after_saving}
-use Rattle.move_steps.specs.Moved.{IsMoveHere, IsMoved, IsResting, IsSteady}
-use Rattle.move_steps.proofs.Entries.{starts_mute}
-use Rattle.move_steps.proofs.Moving.{carries_move, loaded, may_refuse}
-use Rattle.move_steps.proofs.Shapes.{BeginShape, begin_shape}
-use Rattle.move_steps.proofs.WrittenClusters.{begin_starts, begun_lifts}
+use Rattle.serial_steps.specs.CarriedOn.{IsCarriedOn, IsLoaded, MayRefuse, after_saving}
+use Rattle.serial_steps.specs.Moved.{IsMoveHere, IsMoved, IsResting, IsSteady}
+use Rattle.serial_steps.proofs.Entries.{starts_mute}
+use Rattle.serial_steps.proofs.Moving.{carries_move, loaded, may_refuse}
+use Rattle.serial_steps.proofs.Shapes.{BeginShape, begin_shape}
+use Rattle.serial_steps.proofs.WrittenClusters.{begin_starts, begun_lifts}
 use Rattle.serial_moves.specs.Controls.{ComesTo, Moves, number_of}
 use Rattle.serial_moves.specs.declared.control.AfterAnswer.{AfterAnswer}
 use Rattle.serial_moves.specs.declared.control.Control.{Control}

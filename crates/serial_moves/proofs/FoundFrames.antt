@@ -17,12 +17,12 @@ use Rattle.pager_model.specs.Policy.{Ends as EndsIs, finding_move, leaving_other
 use Rattle.pager_model.specs.Swap.{victim_gives}
 use Rattle.pager_rules.proofs.Basics.{find_cons_yes}
 use Rattle.pager_rules.proofs.Lists.{found_passes}
-use Rattle.call_steps.proofs.Steps.{paid_after}
+use Rattle.call_begins.proofs.Steps.{paid_after}
 use Rattle.serial_laws.proofs.Finds.{found_in_range}
 use Rattle.serial_laws.proofs.Kept.{turns_legal}
 use Rattle.vm_state.specs.History.{History, MayAdd, added, entry_by, pager}
-use Rattle.move_steps.specs.Moved.{IsMoveHere, IsMoved, IsSteady}
-use Rattle.move_steps.proofs.Moving.{makes_move}
+use Rattle.serial_steps.specs.Moved.{IsMoveHere, IsMoved, IsSteady}
+use Rattle.serial_steps.proofs.Moving.{makes_move}
 use Rattle.serial_moves.specs.Controls.{number_of}
 use Rattle.serial_moves.specs.Finders.{finding_by, found_move, is_other_leaving}
 use Rattle.serial_moves.specs.declared.finding.Finder.{Finder}

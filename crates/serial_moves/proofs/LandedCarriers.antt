@@ -9,17 +9,17 @@ use Rattle.pager_model.specs.Flights.{open_flights}
 use Rattle.pager_model.specs.Landings.{carrier_of}
 use Rattle.pager_model.specs.Policy.{unless_all_failed, unless_first_failed}
 use Rattle.pager_model.specs.Run.{IsRun}
-use Rattle.call_steps.specs.Lifted.{HasBegunLifts, place_of}
-use Rattle.call_steps.specs.MayBegin.{empty}
+use Rattle.call_begins.specs.Lifted.{HasBegunLifts, place_of}
+use Rattle.call_begins.specs.MayBegin.{empty}
 use Rattle.carried_landings.specs.HaveLanded.{HaveLanded}
 use Rattle.carried_landings.specs.SeatFlights.{flight_place, of_others}
 use Rattle.carried_landings.specs.declared.carrier_landed.CarrierLanded.{CarrierLanded}
 use Rattle.serial_laws.specs.Laws.{IsRefusedLegally}
 use Rattle.lift_carriers.specs.CarrierView.{CarrierView}
 use Rattle.vm_state.specs.History.{History}
-use Rattle.move_steps.specs.CarriedOn.{IsCarriedOn, IsLoaded, IsRefusedThere, MayRefuse}
-use Rattle.move_steps.specs.Moved.{IsSameBut}
-use Rattle.move_steps.proofs.CarriersLand.{all_of_part, all_of_request, first_too, goes_there, legal_there, not_all, not_first, refused_on}
+use Rattle.serial_steps.specs.CarriedOn.{IsCarriedOn, IsLoaded, IsRefusedThere, MayRefuse}
+use Rattle.serial_steps.specs.Moved.{IsSameBut}
+use Rattle.serial_steps.proofs.CarriersLand.{all_of_part, all_of_request, first_too, goes_there, legal_there, not_all, not_first, refused_on}
 use Rattle.serial_moves.specs.Controls.{control_in, ends_in}
 use Rattle.serial_moves.specs.declared.control.Control.{Control}
 use Rattle.serial_moves.specs.declared.control.Ends.{Ends}

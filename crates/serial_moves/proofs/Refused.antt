@@ -21,12 +21,12 @@ use Rattle.pager_model.specs.Run.{pager_after}
 use Rattle.pager_model.specs.Serial.{IsRefused, refusal_of}
 use Rattle.pager_model.specs.Spoken.{IsRight, ShowsReply, flat_after}
 use Rattle.pager_model.specs.Step.{IsLegal}
-use Rattle.call_steps.proofs.Steps.{paid_after}
+use Rattle.call_begins.proofs.Steps.{paid_after}
 use Rattle.serial_laws.specs.Laws.{IsRefusedLegally}
 use Rattle.vm_state.specs.History.{History, MayAdd, added, entry_by, owed, pager}
-use Rattle.move_steps.specs.CarriedOn.{IsRefusedThere}
-use Rattle.move_steps.specs.Moved.{IsSameBut}
-use Rattle.move_steps.proofs.Moving.{same_then}
+use Rattle.serial_steps.specs.CarriedOn.{IsRefusedThere}
+use Rattle.serial_steps.specs.Moved.{IsSameBut}
+use Rattle.serial_steps.proofs.Moving.{same_then}
 
 -- ---- the refusal, by the kind of the request
 pub refuses_reference : (task : Task) (r : Ref) → task.request ≡ request.Reference r → refusal_of task ≡ what.Denied r why.DiskFault

@@ -6,11 +6,11 @@ use Rattle.vm_types.specs.declared.names.Seat.{Seat}
 use Rattle.vm_journal.specs.declared.entry.What.{What}
 use Rattle.pager_model.specs.Flights.{is_busy}
 use Rattle.pager_model.specs.Moves.{Control as ControlIs, Move, rests}
-use Rattle.call_steps.specs.MayBegin.{MayBegin}
-use Rattle.call_steps.specs.ReadySeat.{IsIdleSeat}
+use Rattle.call_begins.specs.MayBegin.{MayBegin}
+use Rattle.call_begins.specs.ReadySeat.{IsIdleSeat}
 use Rattle.vm_state.specs.History.{History, owed}
 use Rattle.vm_state.specs.LiftsLand.{added_each}
-use Rattle.move_steps.specs.Moved.{IsMoveHere, IsMoved, IsResting, IsSameBut, IsSteady}
+use Rattle.serial_steps.specs.Moved.{IsMoveHere, IsMoved, IsResting, IsSameBut, IsSteady}
 use Rattle.serial_moves.specs.Controls.{Moves}
 use Rattle.serial_moves.specs.declared.control.Control.{Control}
 

@@ -4,12 +4,12 @@ ghost use Rattle.pager_model.specs.Moves.{asking, control, freeing};
 ghost use Rattle.pager_model.specs.Policy.{asking_move, ends_part, freeing_move, is_freeing, is_saving, saving_move, swapper_of};
 ghost use Rattle.vm_state.specs.History.{pager};
 ghost use Rattle.serial_laws.specs.Controlled.{IsLeft};
-ghost use Rattle.call_steps.specs.MayBegin.{empty};
+ghost use Rattle.call_begins.specs.MayBegin.{empty};
 ghost use Rattle.serial_moves.specs.Carriers.{AreIdle};
-ghost use Rattle.move_steps.specs.CarriedOn.{IsCarriedOn, IsLoaded, MayRefuse, after_saving};
+ghost use Rattle.serial_steps.specs.CarriedOn.{IsCarriedOn, IsLoaded, MayRefuse, after_saving};
 ghost use Rattle.serial_moves.specs.Controls.{ComesTo, Moves, control_in, number_of};
 ghost use Rattle.serial_moves.specs.Finders.{IsFinder, found_move};
-ghost use Rattle.move_steps.specs.Moved.{IsMoveHere, IsSteady};
+ghost use Rattle.serial_steps.specs.Moved.{IsMoveHere, IsSteady};
 
 use crate::carrying::carry_on;
 use crate::control::{AfterAnswer, Control, Doing, Ends};

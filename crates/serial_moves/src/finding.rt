@@ -4,10 +4,10 @@ ghost use Rattle.pager_model.specs.Lookups.{is_leaving};
 ghost use Rattle.pager_model.specs.Moves.{Doing as DoingIs, Move};
 ghost use Rattle.pager_model.specs.Policy.{Ends as EndsIs, finding_move, leaving_other};
 ghost use Rattle.vm_state.specs.History.{pager};
-ghost use Rattle.call_steps.specs.MayBegin.{empty};
+ghost use Rattle.call_begins.specs.MayBegin.{empty};
 ghost use Rattle.serial_moves.specs.Controls.{Moves, doing_in, ends_in, number_of};
 ghost use Rattle.serial_moves.specs.Finders.{IsFinder, finding_by, found_move, is_other_leaving};
-ghost use Rattle.move_steps.specs.Moved.{IsMoveHere, IsSteady};
+ghost use Rattle.serial_steps.specs.Moved.{IsMoveHere, IsSteady};
 
 use crate::carrying::write_for_room;
 use crate::control::{Control, Doing, Ends};

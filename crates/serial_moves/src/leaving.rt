@@ -2,9 +2,9 @@ ghost use Rattle.std.specs.Prelude.{◌≡◌, ◌+◌, ◌<◌, IfOk, length};
 ghost use Rattle.vm_types.specs.declared.names.ProcStatus.TheVariants as status;
 ghost use Rattle.pager_model.specs.Policy.{leave_move};
 ghost use Rattle.vm_state.specs.History.{pager};
-ghost use Rattle.call_steps.specs.MayBegin.{empty};
+ghost use Rattle.call_begins.specs.MayBegin.{empty};
 ghost use Rattle.serial_moves.specs.Controls.{Moves, doing_in, ends_in};
-ghost use Rattle.move_steps.specs.Moved.{IsMoveHere, IsSteady};
+ghost use Rattle.serial_steps.specs.Moved.{IsMoveHere, IsSteady};
 
 use crate::carrying::{carry_on, write_for_room};
 use crate::control::{Control, Doing, Ends};

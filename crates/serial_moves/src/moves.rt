@@ -4,12 +4,12 @@ ghost use Rattle.serial_laws.specs.Between.{IsBetween};
 ghost use Rattle.serial_laws.specs.Controlled.{IsControlled};
 ghost use Rattle.serial_moves.specs.Carriers.{AreIdle};
 ghost use Rattle.serial_moves.specs.Controls.{ComesTo, Moves, control_in};
-ghost use Rattle.move_steps.specs.Moved.{IsSteady};
+ghost use Rattle.serial_steps.specs.Moved.{IsSteady};
 
 use crate::answers::{ask_next, free, save};
 use crate::control::{AfterAnswer, Control, Doing};
 use disk_trait::Block;
-use move_steps::prepare;
+use serial_steps::prepare;
 use vm_state::{Carrier, State};
 use vm_types::NoMemory;
 

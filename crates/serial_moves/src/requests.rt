@@ -7,9 +7,9 @@ ghost use Rattle.vm_types.specs.declared.service.Request.{Request};
 ghost use Rattle.pager_model.specs.Lookups.{is_coming, is_resident};
 ghost use Rattle.pager_model.specs.Policy.{asked_move, coming_process, gone_move, resident_move};
 ghost use Rattle.vm_state.specs.History.{pager};
-ghost use Rattle.call_steps.specs.MayBegin.{empty};
+ghost use Rattle.call_begins.specs.MayBegin.{empty};
 ghost use Rattle.serial_moves.specs.Controls.{Moves, number_of};
-ghost use Rattle.move_steps.specs.Moved.{IsMoveHere, IsSteady};
+ghost use Rattle.serial_steps.specs.Moved.{IsMoveHere, IsSteady};
 ghost use Rattle.serial_laws.specs.Controlled.{IsLeft};
 ghost use Rattle.serial_moves.specs.Requests.{IsResidentReference, come_move, finding_for};
 

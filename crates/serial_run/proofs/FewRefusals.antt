@@ -34,8 +34,8 @@ use Rattle.pager_rules.proofs.Lists.{all_found}
 use Rattle.pager_rules.proofs.Put.{blocks_equal}
 use Rattle.pager_laws.proofs.FlightsBegun.{flight_blocks}
 use Rattle.pager_laws.proofs.KeptIsSound.{same_block_refl}
-use Rattle.policy_laws.specs.Refused.{is_disk_refusal, is_failure, is_own}
-use Rattle.policy_laws.proofs.RefusedOnce.{failures_refuse_once}
+use Rattle.serial_laws.specs.Refused.{is_disk_refusal, is_failure, is_own}
+use Rattle.serial_laws.proofs.RefusedOnce.{failures_refuse_once}
 use Rattle.serial_run.specs.FewRefusals.{HasFewRefusals, failures, faults_of, is_process_failure, process_failures, refusals}
 
 abbrev one_if : Bool → ℕ

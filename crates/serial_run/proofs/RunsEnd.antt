@@ -14,7 +14,7 @@ use Rattle.pager_laws.proofs.SerialInOrder.{serial_answered}
 use Rattle.report_lines.specs.Printable.{IsPrintable}
 use Rattle.rundown_laws.proofs.CleanRuns.{no_failure_no_dirt}
 use Rattle.serial_laws.specs.Between.{IsBetween}
-use Rattle.move_steps.specs.Moved.{IsSameBut}
+use Rattle.serial_steps.specs.Moved.{IsSameBut}
 use Rattle.vm_state.specs.History.{History}
 use Rattle.serial_run.specs.AtReport.{IsAtReport, IsReached}
 use Rattle.serial_run.specs.Ended.{HasEnded}

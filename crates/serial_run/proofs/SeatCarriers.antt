@@ -2,7 +2,7 @@
 use Rattle.std.proofs.Common.{◌≡◌, ℕ, ◌+◌, ◌<◌, Bool, true, false, List, [], ◌∷◌, ◌++◌, Some, length, nat_eq, slice_get, length-append, refl, sym, ap, ◌∙◌, subst, arith}
 use Rattle.std.proofs.lemmas.Bool.{eqb-true, eq-eqb, false≢true}
 use Rattle.frame_store.proofs.Rows.{get_left, get_right}
-use Rattle.call_steps.specs.MayBegin.{empty}
+use Rattle.call_begins.specs.MayBegin.{empty}
 use Rattle.lift_carriers.specs.CarrierView.{CarrierView}
 
 -- those of the seats below this one, each without lifts

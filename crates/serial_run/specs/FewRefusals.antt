@@ -3,7 +3,7 @@ use Rattle.std.specs.Prelude.{ℕ, ◌≤◌, ◌&&◌, Bool, List, count_by, le
 use Rattle.vm_types.specs.BlockView.{Retired}
 use Rattle.vm_types.specs.declared.config.Config.{Config}
 use Rattle.vm_journal.specs.declared.entry.Entry.{Entry}
-use Rattle.policy_laws.specs.Refused.{is_disk_refusal, is_failure}
+use Rattle.serial_laws.specs.Refused.{is_disk_refusal, is_failure}
 
 -- how many requests were refused for a failed transfer
 abbrev pub refusals : List Entry → ℕ

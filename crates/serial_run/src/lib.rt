@@ -5,9 +5,11 @@
 mod body;
 mod carriers;
 mod finished;
+mod giving_back;
 mod run;
 mod to_report;
 
 pub use finished::{Counted, Finished, RunFault};
+pub use giving_back::give_back;
 pub use run::{count_serial, run_serial};
 pub use to_report::run_to_report;

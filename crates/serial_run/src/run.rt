@@ -3,7 +3,7 @@ ghost use Rattle.disk_trait.specs.Causes.{Rose};
 ghost use Rattle.vm_types.specs.BlockView.{Retired};
 ghost use Rattle.vm_types.specs.Configuration.{IsWellFormed};
 ghost use Rattle.vm_types.specs.declared.config.Version.{Version};
-ghost use Rattle.move_steps.specs.Moved.{IsSameBut};
+ghost use Rattle.serial_steps.specs.Moved.{IsSameBut};
 ghost use Rattle.serial_run.specs.AtReport.{IsAtReport};
 ghost use Rattle.serial_run.specs.Ended.{HasEnded, IsCounted, IsFinished};
 ghost use Rattle.serial_run.specs.declared.finished.RunFault.{RunFault};

@@ -4,7 +4,7 @@ ghost use Rattle.std.specs.Prelude.{◌≡◌, ◌≤◌, [], true, IfOk, IsErrO
 ghost use Rattle.disk_trait.specs.Causes.{Rose};
 ghost use Rattle.vm_types.specs.Configuration.{IsWellFormed};
 ghost use Rattle.vm_types.specs.declared.config.Version.{Version};
-ghost use Rattle.move_steps.specs.Moved.{IsSameBut};
+ghost use Rattle.serial_steps.specs.Moved.{IsSameBut};
 ghost use Rattle.serial_run.specs.AtReport.{IsAtReport, IsReached};
 ghost use Rattle.serial_run.specs.declared.finished.RunFault.{RunFault};
 

@@ -1,10 +1,8 @@
 -- BACK: what its calls require.
 use Rattle.std.proofs.Common.{◌≡◌, inl, inr, ℕ, ◌<◌, ◌≤◌, true, List, Some, None, length, slice_index_or, refl, sym, ap, ◌∙◌, subst, arith}
-use Rattle.std.specs.Prelude.{IsSome}
 use Rattle.std.proofs.lemmas.Bool.{false≢true}
 use Rattle.std.proofs.lemmas.Option.{get_or_from_slice_get}
 use Rattle.vm_types.specs.Configuration.{IsWellFormed}
-use Rattle.vm_types.specs.PagePlaces.{region_place}
 use Rattle.vm_types.specs.Ring.{filled}
 use Rattle.vm_types.specs.declared.config.Config.{Config}
 use Rattle.vm_types.specs.declared.names.Addr.{Addr}
@@ -22,7 +20,7 @@ use Rattle.vm_journal.specs.declared.entry.What.TheVariants as what
 use Rattle.pfn_database.specs.Frames.{row_of}
 use Rattle.pfn_database.specs.Rows.{FitsSlot}
 use Rattle.pfn_database.specs.declared.row.Row.{Row}
-use Rattle.state_parts.specs.ChargedTable.{charged_at}
+use Rattle.state_parts.specs.ChargedTable.{kept_at}
 use Rattle.state_parts.specs.declared.charged_page.ChargedPage.{ChargedPage}
 use Rattle.state_parts.specs.declared.process_row.ProcessRow.{ProcessRow}
 use Rattle.working_set.specs.Slots.{IsEmptySlot}
@@ -39,15 +37,14 @@ use Rattle.pager_model.specs.Sets.{has_page}
 use Rattle.pager_model.specs.Sound.{IsSwapped}
 use Rattle.pager_model.specs.Step.{IsLegal}
 use Rattle.pager_rules.specs.Kept.{IsKept}
-use Rattle.page_holders.proofs.RingBounds.{bounded, placed}
-use Rattle.page_holders.proofs.EntryPages.{mapped_right}
+use Rattle.page_holders.proofs.RingBounds.{bounded}
 use Rattle.state_fits.specs.Parts.{Parts}
 use Rattle.state_fits.specs.PartsFit.{PartsFit}
 use Rattle.state_fits.specs.Processes.{process_row}
 use Rattle.state_fits.proofs.BackParts.{empty, is_coming, is_resident, lay, page_own, page_there, process}
 use Rattle.state_fits.proofs.EnterCan.{CanEnter, can_enter}
 use Rattle.state_fits.proofs.FrameRows.{row_read}
-use Rattle.state_fits.proofs.LiesNowhere.{charged_there}
+use Rattle.state_fits.proofs.ChargedRows.{charged_is}
 use Rattle.state_fits.proofs.PartsSet.{process_read}
 
 pub record CanBack (config : Config) (p v f : ℕ) (parts : Parts) : Type 0 where
@@ -63,10 +60,9 @@ pub record CanBackResident (n : ℕ) (x : ProcessRow) : Type 0 where
 
 -- of a coming one
 pub record CanBackComing (p v f : ℕ) (parts : Parts) (x : ProcessRow) : Type 0 where
-  pub procs : (p < parts.pages.procs) × (p < parts.swaps.procs)
-  pub place : IsSome (region_place v)
+  pub procs : p < parts.swaps.procs
   pub charged : ChargedPage
-  pub kept : charged_at parts.pages p v ≡ Some charged
+  pub kept : kept_at parts.pages (Private (proc p) v) ≡ Some charged
   pub slot : ℕ
   pub lies : charged.lies ≡ Some (block.Swap (proc p) slot)
   pub few : slot < 1024
@@ -124,13 +120,11 @@ module _ (config : Config) (past : List Entry) (a : Pager) (seat : Seat) (q : Pr
       let is = known_row x read in
       let bounds = bounded config (past_view past) a formed before q.0 there in
       let within = swap.within in
-      let found = mapped_right config a q.0 v its.0 right its.1 in
       let row = row_read a.state a.page a.modify a.valid a.ring (open_flights past) config.frames a.free a.modified parts.frames f.0 fit.frames in
       record {
-        procs = (omega (arith, there, fit.pages.procs), omega (arith, there, fit.swaps.procs));
-        place = placed v (found.3).page;
+        procs = omega (arith, there, fit.swaps.procs);
         charged = record { touched = has_page a.touched (Private q v); lies = a.lies (Private q v); assigned = block_of a.assigned (Private q v) };
-        kept = fit.pages.each q.0 v ∙ charged_there a.charged a.touched a.lies a.assigned q.0 v (has_from_count a.charged (Private q v) is_charged);
+        kept = fit.pages.each (Private q v) ∙ charged_is a.charged a.touched a.lies a.assigned (Private q v) (has_from_count a.charged (Private q v) is_charged);
         slot = back.slot;
         lies = lay config past a seat q address f from parts before right legal fit back;
         few = omega (arith, within, bounds.1.slots, bounds.2);

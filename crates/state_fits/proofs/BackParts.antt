@@ -1,5 +1,5 @@
 -- BACK: the parts afterwards, of a resident and of a coming process.
-use Rattle.std.proofs.Common.{◌≡◌, inl, inr, ℕ, ◌+◌, ◌<◌, Bool, true, false, cond, ◌&&◌, List, ◌∷◌, Option, Some, None, length, nat_eq, slice_get, slice_set, slice_index_or, refl, sym, ap, ap₂, ◌∙◌, subst, subst₂, arith}
+use Rattle.std.proofs.Common.{◌≡◌, inl, inr, ℕ, ◌+◌, ◌<◌, Bool, true, false, cond, List, ◌∷◌, Option, Some, None, length, slice_get, slice_set, slice_index_or, refl, sym, ap, ap₂, ◌∙◌, subst, subst₂, arith}
 use Rattle.std.specs.Option.{option_map}
 use Rattle.std.proofs.lemmas.Bool.{eq-eqb}
 use Rattle.std.proofs.lemmas.Option.{none-some, slice_get-get_or}
@@ -30,7 +30,7 @@ use Rattle.pfn_database.specs.Frames.{Frames, row_of}
 use Rattle.pfn_database.specs.declared.row.Row.{Row}
 use Rattle.pte_forms.specs.declared.pte.Place.TheVariants as place
 use Rattle.pte_forms.specs.declared.pte.Pte.{Pte}
-use Rattle.state_parts.specs.ChargedTable.{ChargedTable, charged_at}
+use Rattle.state_parts.specs.ChargedTable.{ChargedTable, IsTableSet, kept_at}
 use Rattle.state_parts.specs.SwapTable.{SwapTable, swapped_at}
 use Rattle.state_parts.specs.declared.charged_page.ChargedPage.{ChargedPage}
 use Rattle.state_parts.specs.declared.process_row.ProcessRow.{ProcessRow}
@@ -224,8 +224,8 @@ module _ (config : Config) (past : List Entry) (a : Pager) (seat : Seat) (q : Pr
     lies_here : lies' (Private (proc q.0) v) ≡ None
     lies_here = lies_at (Private (proc q.0) v) ∙ ap (λ (b : Bool). cond b None (a.lies (Private (proc q.0) v))) (same_page_refl (Private (proc q.0) v))
 
-    lies_there : (r w : ℕ) → (nat_eq q.0 r && nat_eq v w) ≡ false → lies' (Private (proc r) w) ≡ a.lies (Private (proc r) w)
-    lies_there r w apart = lies_at (Private (proc r) w) ∙ ap (λ (b : Bool). cond b None (a.lies (Private (proc r) w))) apart
+    lies_there : (h : Page) → same_page (Private (proc q.0) v) h ≡ false → lies' h ≡ a.lies h
+    lies_there h apart = lies_at h ∙ ap (λ (b : Bool). cond b None (a.lies h)) apart
 
     unlisted : without a.modified f.0 ≡ a.modified
     unlisted = without-absent a.modified f.0 (at_state (frame_view config (quiet (open_flights past)) a f.0) state.Free (back.state ∙ back.free) (kept.frames f.0)).on_modified
@@ -234,23 +234,22 @@ module _ (config : Config) (past : List Entry) (a : Pager) (seat : Seat) (q : Pr
     not_shared table = globals_entered config (quiet (open_flights past)) a q.0 v f.0 back.slot (Private (proc q.0) v) home kept (back.mapped ∙ ap Some page_own) (back.holds ∙ ap Some page_own) back.not_valid put table right.held
 
   -- what is kept of the page says where it lay
-  lay_there : (c : ChargedPage) (r : Proc) (n : ℕ) → charged_at parts.pages q.0 v ≡ Some c → c.lies ≡ Some (block.Swap r n) → (back : IsBackComing config a q.0 address.0 f.0 from) → n ≡ back.slot
+  lay_there : (c : ChargedPage) (r : Proc) (n : ℕ) → kept_at parts.pages (Private q v) ≡ Some c → c.lies ≡ Some (block.Swap r n) → (back : IsBackComing config a q.0 address.0 f.0 from) → n ≡ back.slot
   lay_there c r n read lies back =
-      let known = charged_lies a.charged a.touched a.lies a.assigned q.0 v c (sym (fit.pages.each q.0 v) ∙ read) in
+      let known = charged_lies a.charged a.touched a.lies a.assigned (Private q v) c (sym (fit.pages.each (Private q v)) ∙ read) in
       ap block_slot (sym lies ∙ (known ∙ lay back))
 
   pub back_coming_parts : (x : ProcessRow) (g : Page) (c : ChargedPage) (r : Proc) (n : ℕ) (pte : Pte) (frames' : Frames) (tables' : PageTables) (pages' : ChargedTable) (swaps' : SwapTable)
       → x ≡ slice_index_or parts.processes q.0 x → x.status ≡ status.Coming
       → (row_of parts.frames f.0).page ≡ Some g
-      → charged_at parts.pages q.0 v ≡ Some c → c.lies ≡ Some (block.Swap r n)
+      → kept_at parts.pages (Private q v) ≡ Some c → c.lies ≡ Some (block.Swap r n)
       → entry_of parts.tables q.0 v ≡ Some pte
       → frames'.rows ≡ slice_set parts.frames.rows f.0 (entered_row g true n (row_of parts.frames f.0))
       → frames'.free ≡ without parts.frames.free f.0
       → frames'.modified ≡ without parts.frames.modified f.0
       → tables'.procs ≡ parts.tables.procs
       → ((s w : ℕ) → entry_of tables' s w ≡ changed_at (entry_of parts.tables) q.0 v (Some (record pte { place = place.Valid false (pfn f.0) })) s w)
-      → pages'.procs ≡ parts.pages.procs
-      → ((s w : ℕ) → charged_at pages' s w ≡ changed_at (charged_at parts.pages) q.0 v (Some (record c { lies = None })) s w)
+      → IsTableSet parts.pages pages' (Private q v) (Some (record c { lies = None }))
       → swaps'.procs ≡ parts.swaps.procs
       → ((s m : ℕ) → swapped_at swaps' s m ≡ changed_at (swapped_at parts.swaps) q.0 n None s m)
       → PartsFit config (e ∷ past) (after config past a e) (record parts {
@@ -260,7 +259,7 @@ module _ (config : Config) (past : List Entry) (a : Pager) (seat : Seat) (q : Pr
         pages = pages';
         swaps = swaps';
       })
-  back_coming_parts x g c r n pte frames' tables' pages' swaps' read comes page charged lies entry rows free modified procs changed pages_procs pages_changed swaps_procs swaps_changed =
+  back_coming_parts x g c r n pte frames' tables' pages' swaps' read comes page charged lies entry rows free modified procs changed pages_changed swaps_procs swaps_changed =
       subst (λ (s : ProcStatus). PartsFit config (e ∷ past) (after_any_back a s q.0 address.0 f.0) (record parts {
         frames = frames';
         processes = slice_set parts.processes q.0 (record x { ring = slotted x.ring n v });
@@ -278,9 +277,9 @@ module _ (config : Config) (past : List Entry) (a : Pager) (seat : Seat) (q : Pr
             ∙ ap (λ (k : Ring). record (row_of_process q.0) { ring = k }) (sym (at_number_same a.ring q.0 (home back))))
             (λ s apart. ap (λ (k : Ring). record (row_of_process s) { ring = k }) (at_number_other a.ring q.0 (home back) s apart));
         spoken = record { count = fit.spoken.count; each = fit.spoken.each };
-        tables = tables_entered config (quiet (open_flights past)) a q.0 v f.0 back.slot (Private (proc q.0) v) (home back) kept own held back.not_valid (put back) (lies' back) parts.tables tables' pte (lies_there back) fit.tables entry procs changed;
+        tables = tables_entered config (quiet (open_flights past)) a q.0 v f.0 back.slot (Private (proc q.0) v) (home back) kept own held back.not_valid (put back) (lies' back) parts.tables tables' pte (λ r w apart. lies_there back (Private (proc r) w) apart) fit.tables entry procs changed;
         sections = fit.sections;
-        pages = pages_nowhere a.lies (lies' back) q.0 v (lies_here back) (lies_there back) a.charged a.touched a.assigned (length config.procs) parts.pages pages' c fit.pages charged pages_procs pages_changed;
+        pages = pages_nowhere a.lies (lies' back) q.0 v (lies_here back) (lies_there back) a.charged a.touched a.assigned config parts.pages pages' c fit.pages charged pages_changed;
         globals = not_shared back parts.globals fit.globals;
         file = fit.file;
         swaps = swaps_cleared a.lies (lies' back) q.0 v (lies_here back) (lies_there back) back.slot (length config.procs) parts.swaps swaps' fit.swaps (lay back) swaps_procs

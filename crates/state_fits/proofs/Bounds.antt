@@ -7,11 +7,17 @@ use Rattle.vm_types.specs.Configuration.{IsProcess, IsWellFormed, all_pins}
 use Rattle.vm_types.specs.PagePlaces.{region_place}
 use Rattle.vm_types.specs.declared.config.Config.{Config}
 use Rattle.vm_types.specs.declared.config.ProcSpec.{ProcSpec}
+use Rattle.vm_types.specs.declared.names.Page.{Page}
+use Rattle.vm_types.specs.declared.names.Page.TheVariants.{Private, Shared}
 use Rattle.pager_model.specs.Around.{PastView}
-use Rattle.pager_model.specs.OfConfig.{IsMappable}
+use Rattle.pager_model.specs.Maps.{is_paged}
+use Rattle.pager_model.specs.OfConfig.{IsMappable, IsPageOf}
 use Rattle.pager_model.specs.Pager.{Pager}
 use Rattle.pager_rules.specs.Kept.{IsKept}
+use Rattle.state_parts.specs.ChargedTable.{ChargedTable, HasPlace}
 use Rattle.state_parts.specs.SwapTable.{HasSlot, SwapTable}
+use Rattle.state_parts.specs.declared.charged_page.ChargedPage.{ChargedPage}
+use Rattle.state_fits.specs.Pages.{PagesFit}
 use Rattle.state_fits.specs.Swaps.{SwapsFit}
 
 pub place_there : (v : ℕ) → IsMappable v → IsSome (region_place v)
@@ -24,6 +30,11 @@ place_there v (inr high) = go (nat_lt v 4096)
     go : (b : Bool) → is_some (cond b (Some v) (cond (nat_le (2 ^ 22 - 1024) v && nat_lt v (2 ^ 22)) (Some (v - (2 ^ 22 - 1024) + 4096)) None)) ≡ true
     go true = refl
     go false = rw inside refl
+
+-- so a page that may be charged has a place in the table
+pub kept_place : (config : Config) (row : Page → Option ChargedPage) (table : ChargedTable) → PagesFit config row table → (g : Page) → IsPageOf config g → is_paged config g ≡ true → HasPlace table g
+kept_place config row table fit (Private p v) of paged = record { proc = (let procs = fit.procs in let there = of.0 in omega (arith, procs, there)); page = place_there v of.1 }
+kept_place config row table fit (Shared s i) of paged = fit.places s.0 i of.0 paged
 
 pub slot_there : (config : Config) (o : PastView) (a : Pager) (swaps : SwapTable) (p n : ℕ) → IsWellFormed config → IsKept config o a → SwapsFit a.lies (length config.procs) swaps → n < length (a.ring p).slots → HasSlot swaps p n
 slot_there config o a swaps p n formed kept fit within = go (slice_get config.procs p) refl

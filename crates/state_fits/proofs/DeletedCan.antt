@@ -29,7 +29,7 @@ use Rattle.pager_model.specs.Served.{IsDelete}
 use Rattle.pager_model.specs.Sets.{has_page}
 use Rattle.pager_rules.proofs.Frames.{at_state}
 use Rattle.pager_rules.specs.Kept.{FitsFrame, IsKept}
-use Rattle.state_parts.specs.ChargedTable.{charged_at}
+use Rattle.state_parts.specs.ChargedTable.{kept_at}
 use Rattle.state_parts.specs.declared.charged_page.ChargedPage.{ChargedPage}
 use Rattle.page_holders.proofs.Holders.{holder_holds, holds_within}
 use Rattle.state_fits.specs.Forgetting.{frame_in_transition, released_block}
@@ -38,7 +38,8 @@ use Rattle.state_fits.specs.Parts.{Parts}
 use Rattle.state_fits.specs.PartsFit.{PartsFit}
 use Rattle.state_fits.proofs.BlockFreed.{assigned_there, length_without, released_charged}
 use Rattle.state_fits.proofs.DeletedParts.{idle, in_transition, kept_deleting, map_is, mapped, one_more}
-use Rattle.state_fits.proofs.ForgottenParts.{file_after, row_some}
+use Rattle.state_fits.proofs.ChargedRows.{row_some}
+use Rattle.state_fits.proofs.ForgottenParts.{file_after}
 use Rattle.state_fits.proofs.FrameRows.{row_read}
 use Rattle.state_fits.proofs.ServedCan.{mapped_behind, mapped_entry}
 use Rattle.state_fits.proofs.UnchargedPage.{assigned_fit}
@@ -97,12 +98,14 @@ module _ (config : Config) (past : List Entry) (a : Pager) (p address pages : �
         ap (λ (r : Row). r.flights) row ∙ rests.still f holds,
       )
 
-  module _ (row : ChargedPage) (found : charged_at parts.pages p v ≡ Some row) where
-    row_found : charged_row b.charged b.touched b.lies b.assigned p v ≡ Some row
-    row_found = sym (fit.pages.each p v) ∙ found
+  module _ (row : ChargedPage) (found : kept_at parts.pages (Private (proc p) v) ≡ Some row) where
+    row_found : charged_row b.charged b.touched b.lies b.assigned g ≡ Some row
+    row_found = sym (fit.pages.each g) ∙ found
 
     row_is : (has_page b.charged g ≡ true) × (block_of b.assigned g ≡ row.assigned)
-    row_is = row_some b.charged b.touched b.lies b.assigned p v row row_found
+    row_is =
+        let its = row_some b.charged b.touched b.lies b.assigned g row row_found in
+        (its.0, ap (λ (r : ChargedPage). r.assigned) (sym its.1))
 
     abbrev c : Pager
     c = forgotten config b g

@@ -37,7 +37,7 @@ use Rattle.pager_rules.proofs.Basics.{find_none_from_count, pages_equal}
 use Rattle.pager_rules.proofs.Lists.{filter_all}
 use Rattle.pager_rules.proofs.Pages.{own_is}
 use Rattle.pager_rules.specs.Kept.{IsKept}
-use Rattle.state_parts.specs.ChargedTable.{ChargedTable, charged_at}
+use Rattle.state_parts.specs.ChargedTable.{ChargedTable, IsTableSet, kept_at}
 use Rattle.page_holders.proofs.Holders.{holder_none, no_block_lies}
 use Rattle.page_holders.proofs.ValidEntries.{mapping_of}
 use Rattle.state_fits.specs.Entries.{origin_of, own_place, place_away, pte_at, pte_of, resting_place}
@@ -294,14 +294,14 @@ module _ (config : Config) (past : List Entry) (a : Pager) (p address pages : �
     pub deleted_step : (parts : Parts) → PartsFit config past (after_delete config a p address i) parts → (pte : Pte) → pte_in parts.tables p v ≡ Some pte
         → (tables' : PageTables) → tables'.procs ≡ (parts.tables).procs → ((q w : ℕ) → pte_in tables' q w ≡ changed_at (pte_in parts.tables) p v None q w)
         → (sections' : SectionTable) → sections'.procs ≡ (parts.sections).procs → sections'.parts ≡ (parts.sections).parts → ((q w : ℕ) → behind_of sections' q w ≡ changed_at (behind_of parts.sections) p v None q w)
-        → (pages' : ChargedTable) → pages'.procs ≡ (parts.pages).procs → ((q w : ℕ) → charged_at pages' q w ≡ changed_at (charged_at parts.pages) p v None q w)
+        → (pages' : ChargedTable) → IsTableSet parts.pages pages' (Private (proc p) v) None
         → PartsFit config past (after_delete config a p address (i + 1))
-        (record parts { frames = emptied_frame (frame_in_transition pte.place) parts.frames; tables = tables'; sections = sections'; pages = pages'; file = uncharged_page (charged_at parts.pages p v) parts.file })
-    deleted_step parts fit pte there tables' procs changed sections' procs_s kinds behind pages' procs_p charged =
+        (record parts { frames = emptied_frame (frame_in_transition pte.place) parts.frames; tables = tables'; sections = sections'; pages = pages'; file = uncharged_page (kept_at parts.pages (Private (proc p) v)) parts.file })
+    deleted_step parts fit pte there tables' procs changed sections' procs_s kinds behind pages' charged =
         let unmapped = unmapped_parts config past (deleting i) p v parts fit tables' procs changed sections' procs_s kinds behind in
         let done = forgotten_parts config past (deleting i) p v kept_i idle resident (changed_at (deleting i).map p v None) (changed_here (deleting i).map p v None)
-        (record parts { tables = tables'; sections = sections' }) unmapped pages' procs_p charged in
-        subst (λ (o : Option ℕ). PartsFit config past (deleting (i + 1)) (record parts { frames = emptied_frame o parts.frames; tables = tables'; sections = sections'; pages = pages'; file = uncharged_page (charged_at parts.pages p v) parts.file }))
+        (record parts { tables = tables'; sections = sections' }) unmapped pages' charged in
+        subst (λ (o : Option ℕ). PartsFit config past (deleting (i + 1)) (record parts { frames = emptied_frame o parts.frames; tables = tables'; sections = sections'; pages = pages'; file = uncharged_page (kept_at parts.pages (Private (proc p) v)) parts.file }))
         (sym (in_transition parts fit pte there))
-        (subst (λ (b : Pager). PartsFit config past b (record parts { frames = emptied_frame (holder config (left i).page g) parts.frames; tables = tables'; sections = sections'; pages = pages'; file = uncharged_page (charged_at parts.pages p v) parts.file }))
+        (subst (λ (b : Pager). PartsFit config past b (record parts { frames = emptied_frame (holder config (left i).page g) parts.frames; tables = tables'; sections = sections'; pages = pages'; file = uncharged_page (kept_at parts.pages (Private (proc p) v)) parts.file }))
         next done)

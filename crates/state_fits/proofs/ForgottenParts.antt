@@ -1,14 +1,12 @@
 -- A process's own page is forgotten: the parts after it, in a state in which the page isn't mapped any more.
-use Rattle.std.proofs.Common.{◌≡◌, ℕ, ◌+◌, ◌≤◌, Bool, true, false, cond, not, List, [], ◌∷◌, Option, Some, None, filter, length, nat_eq, refl, sym, ap, ◌∙◌, subst, arith}
-use Rattle.std.specs.Prelude.{◌&&◌, ◌||◌, if◌then◌else◌}
+use Rattle.std.proofs.Common.{◌≡◌, ℕ, ◌+◌, ◌≤◌, Bool, true, false, cond, not, List, [], ◌∷◌, Option, Some, None, filter, length, refl, sym, ap, ◌∙◌, subst, arith}
+use Rattle.std.specs.Prelude.{◌||◌}
 use Rattle.std.specs.List.{list_any}
 use Rattle.std.specs.Option.{option_map}
-use Rattle.std.proofs.lemmas.Bool.{and_from, eqb-true, eq-eqb, false≢true}
+use Rattle.std.proofs.lemmas.Bool.{eqb-true, false≢true}
 use Rattle.std.proofs.lemmas.Option.{none-some}
-use Rattle.vm_types.specs.PagePlaces.{changed_at}
 use Rattle.vm_types.specs.Same.{same_page}
 use Rattle.vm_types.specs.declared.config.Config.{Config}
-use Rattle.vm_types.specs.declared.names.BlockId.{BlockId}
 use Rattle.vm_types.specs.declared.names.BlockId.TheVariants as block
 use Rattle.vm_types.specs.declared.names.FrameState.TheVariants as state
 use Rattle.vm_types.specs.declared.names.Page.{Page}
@@ -26,17 +24,17 @@ use Rattle.pager_model.specs.Around.{quiet}
 use Rattle.pager_model.specs.Changes.{without_assigned, without_page}
 use Rattle.pager_model.specs.Flights.{Flight, open_flights}
 use Rattle.pager_model.specs.Forget.{forgotten, headed, holder, holds_page, put_at, unlisted}
-use Rattle.pager_model.specs.Lookups.{block_of, count_page, is_assigned_to, page_at, page_by, shares}
+use Rattle.pager_model.specs.Lookups.{count_page, is_assigned_to, page_at, page_by, shares}
 use Rattle.pager_model.specs.Maps.{Map, is_private, proc}
 use Rattle.pager_model.specs.Pager.{Assigned, Pager}
-use Rattle.pager_model.specs.Sets.{at_number, at_page, has_page}
+use Rattle.pager_model.specs.Sets.{at_number, at_page}
 use Rattle.pager_model.specs.Transfers.{reads_on, writes_on}
-use Rattle.pager_rules.proofs.Basics.{at_number_other, at_number_same, count_none, pages_equal}
+use Rattle.pager_rules.proofs.Basics.{at_number_other, at_number_same, count_none, pages_equal, same_from_equal}
 use Rattle.pager_rules.proofs.Lists.{filter_all}
 use Rattle.pager_rules.proofs.Pages.{own_is}
 use Rattle.pager_rules.proofs.Put.{lies_other, page_apart}
 use Rattle.pager_rules.specs.Kept.{IsKept}
-use Rattle.state_parts.specs.ChargedTable.{ChargedTable, charged_at}
+use Rattle.state_parts.specs.ChargedTable.{ChargedTable, IsTableSet, kept_at}
 use Rattle.state_parts.specs.SwapTable.{SwapTable, swapped_at}
 use Rattle.state_parts.specs.declared.charged_page.ChargedPage.{ChargedPage}
 use Rattle.page_holders.proofs.Holders.{holder_elsewhere, holder_holds, holds_within, none_listed}
@@ -53,6 +51,7 @@ use Rattle.state_fits.proofs.FramePins.{no_pins}
 use Rattle.state_fits.proofs.BlockFreed.{length_without, released}
 use Rattle.state_fits.proofs.FrameRows.{row_stays}
 use Rattle.state_fits.proofs.ShownEntries.{globals_same, pte_stays}
+use Rattle.state_fits.proofs.ChargedRows.{row_none, row_some, uncharged_is}
 use Rattle.state_fits.proofs.PartsSet.{frames_set, pages_set, tables_same}
 
 -- ---- lists without what passes q
@@ -74,27 +73,6 @@ owner_of (Shared s i) = 0
 abbrev number_of : Page → ℕ
 number_of (Private p v) = v
 number_of (Shared s i) = 0
-
--- ---- what is kept of a charged page
-abbrev charged_with : Bool → Bool → Option BlockId → Option ℕ → Option ChargedPage
-charged_with charged touched lies assigned = if charged then Some (record { touched = touched; lies = lies; assigned = assigned }) else None
-
-row_none : (charged touched : List Page) (lies : Page → Option BlockId) (assigned : List Assigned) (p v : ℕ) → charged_row charged touched lies assigned p v ≡ None → has_page charged (Private (proc p) v) ≡ false
-unfolding charged_row
-row_none charged touched lies assigned p v is = go (has_page charged (Private (proc p) v)) is
-  where
-    go : (c : Bool) → charged_with c (has_page touched (Private (proc p) v)) (lies (Private (proc p) v)) (block_of assigned (Private (proc p) v)) ≡ None → c ≡ false
-    go false none = refl
-    go true some = absurd (none-some _ (sym some))
-
-pub row_some : (charged touched : List Page) (lies : Page → Option BlockId) (assigned : List Assigned) (p v : ℕ) (row : ChargedPage) → charged_row charged touched lies assigned p v ≡ Some row
-    → (has_page charged (Private (proc p) v) ≡ true) × (block_of assigned (Private (proc p) v) ≡ row.assigned)
-unfolding charged_row
-row_some charged touched lies assigned p v row is = go (has_page charged (Private (proc p) v)) is
-  where
-    go : (c : Bool) → charged_with c (has_page touched (Private (proc p) v)) (lies (Private (proc p) v)) (block_of assigned (Private (proc p) v)) ≡ Some row → (c ≡ true) × (block_of assigned (Private (proc p) v) ≡ row.assigned)
-    go false none = absurd (none-some row none)
-    go true some = let same : record { touched = has_page touched (Private (proc p) v); lies = lies (Private (proc p) v); assigned = block_of assigned (Private (proc p) v) } ≡ row = cc in (refl, ap (λ (r : ChargedPage). r.assigned) same)
 
 module _ (config : Config) (past : List Entry) (a : Pager) (p v : ℕ) (kept : IsKept config (quiet (open_flights past)) a) where
   abbrev g : Page
@@ -146,32 +124,30 @@ module _ (config : Config) (past : List Entry) (a : Pager) (p v : ℕ) (kept : I
       (λ h mapped private. let apart = unmapped map gone q w h mapped private in (held o is h apart, lies_other a.lies g h None (page_apart h g apart)))
 
   -- ---- what is kept of charged pages
-  abbrev row' : ℕ → ℕ → Option ChargedPage
+  abbrev row' : Page → Option ChargedPage
   row' = charged_row (without_page a.charged g) (without_page a.touched g) (at_page a.lies g None) (without_assigned a.assigned g)
 
-  row_here : None ≡ row' p v
-  unfolding charged_row
-  row_here = sym (ap (λ (b : Bool). charged_with b (has_page (without_page a.touched g) g) (at_page a.lies g None g) (block_of (without_assigned a.assigned g) g)) (none_listed (without_page a.charged g) g (dropped_own (same_page g) a.charged)))
+  row_here : None ≡ row' g
+  row_here = sym (uncharged_is (without_page a.charged g) (without_page a.touched g) (at_page a.lies g None) (without_assigned a.assigned g) g (none_listed (without_page a.charged g) g (dropped_own (same_page g) a.charged)))
 
-  row_there : (q w : ℕ) → (nat_eq p q && nat_eq v w) ≡ false → row' q w ≡ charged_row a.charged a.touched a.lies a.assigned q w
+  row_there : (h : Page) → same_page g h ≡ false → row' h ≡ charged_row a.charged a.touched a.lies a.assigned h
   unfolding charged_row
-  row_there q w apart =
-      let h : Page = Private (proc q) w in
-      let other : h ≡ g → ⊥ = λ same. false≢true (sym apart ∙ and_from _ _ (eq-eqb p q (sym (ap owner_of same))) (eq-eqb v w (sym (ap number_of same)))) in
+  row_there h apart =
+      let other : h ≡ g → ⊥ = λ same. false≢true (sym apart ∙ same_from_equal g h (sym same)) in
       let charged = any_left (same_page h) (same_page g) (far h other) a.charged in
       let touched = any_left (same_page h) (same_page g) (far h other) a.touched in
       let lies = lies_other a.lies g h None (page_apart h g other) in
       let assigned = ap (option_map (λ (x : Assigned). x.block)) (dropped_find (is_assigned_to h) (is_assigned_to g) (λ x. far h other x.page) a.assigned) in
-      λ i. charged_with (charged i) (touched i) (lies i) (assigned i)
+      λ i. cond (charged i) (Some (record { touched = touched i; lies = lies i; assigned = assigned i })) None
 
   -- ---- the page file
   charged_once : count_page a.charged g ≤ 1
   charged_once = (kept.pages g).charged
 
-  pub file_after : (o : Option ChargedPage) → charged_row a.charged a.touched a.lies a.assigned p v ≡ o → (n : ℕ) (blocks : Blocks) → FileFits (length a.charged) (length a.assigned) (owner_in a.assigned) n blocks
+  pub file_after : (o : Option ChargedPage) → charged_row a.charged a.touched a.lies a.assigned g ≡ o → (n : ℕ) (blocks : Blocks) → FileFits (length a.charged) (length a.assigned) (owner_in a.assigned) n blocks
       → FileFits (length (without_page a.charged g)) (length (without_assigned a.assigned g)) (owner_in (without_assigned a.assigned g)) n (uncharged_page o blocks)
   file_after None none n blocks fit =
-      let few = count_none (same_page g) a.charged (row_none a.charged a.touched a.lies a.assigned p v none) in
+      let few = count_none (same_page g) a.charged (row_none a.charged a.touched a.lies a.assigned g none) in
       let unassigned = (kept.pages g).blocks in
       let same = filter_all (same_page g) a.charged few in
       let also = filter_all (is_assigned_to g) a.assigned (omega (arith, unassigned, few)) in
@@ -182,9 +158,9 @@ module _ (config : Config) (past : List Entry) (a : Pager) (p v : ℕ) (kept : I
         owners = λ b. fit.owners b ∙ ap (λ (xs : List Assigned). owner_in xs b) (sym also);
       }
   file_after (Some row) some n blocks fit =
-      let is = row_some a.charged a.touched a.lies a.assigned p v row some in
+      let is = row_some a.charged a.touched a.lies a.assigned g row some in
       let few = (kept.pages g).blocks in
-      let freed = released a.assigned g (omega (arith, few, charged_once)) (λ b. (kept.blocks (block.PageFile b)).owners) (length a.charged) n blocks row.assigned is.1 fit in
+      let freed = released a.assigned g (omega (arith, few, charged_once)) (λ b. (kept.blocks (block.PageFile b)).owners) (length a.charged) n blocks row.assigned (ap (λ (r : ChargedPage). r.assigned) (sym is.1)) fit in
       let counted = length_without (same_page g) a.charged in
       let one = count_from_has a.charged g is.0 in
       let charges = fit.charges in
@@ -214,10 +190,10 @@ module _ (config : Config) (past : List Entry) (a : Pager) (p v : ℕ) (kept : I
   globals o is table fit = globals_same config a.page (put_at a.page o None) a.valid a.valid table (λ s i. held o is (Shared s i) (λ same. false≢true (ap is_private same))) (λ s i h also. refl) fit
 
   pub forgotten_parts : IsIdlePage a.page a.valid flights g → a.status p ≡ status.Resident → (map : Map) → map p v ≡ None → (parts : Parts) → PartsFit config past (record a { map = map }) parts
-      → (pages' : ChargedTable) → pages'.procs ≡ (parts.pages).procs → ((q w : ℕ) → charged_at pages' q w ≡ changed_at (charged_at parts.pages) p v None q w)
+      → (pages' : ChargedTable) → IsTableSet parts.pages pages' g None
       → PartsFit config past (forgotten config (record a { map = map }) g)
-      (record parts { frames = emptied_frame (holder config a.page g) parts.frames; pages = pages'; file = uncharged_page (charged_at parts.pages p v) parts.file })
-  forgotten_parts idle resident map gone parts fit pages' procs changed =
+      (record parts { frames = emptied_frame (holder config a.page g) parts.frames; pages = pages'; file = uncharged_page (kept_at parts.pages g) parts.file })
+  forgotten_parts idle resident map gone parts fit pages' changed =
       record {
         frames = frames idle (holder config a.page g) refl parts.frames fit.frames;
         flights = fit.flights;
@@ -225,9 +201,9 @@ module _ (config : Config) (past : List Entry) (a : Pager) (p v : ℕ) (kept : I
         spoken = fit.spoken;
         tables = tables_same (pte_of config map a.valid a.page a.lies) (pte_of config map a.valid (put_at a.page (holder config a.page g) None) (at_page a.lies g None)) (length config.procs) parts.tables fit.tables (entries (holder config a.page g) refl map gone);
         sections = fit.sections;
-        pages = pages_set (charged_row a.charged a.touched a.lies a.assigned) row' (length config.procs) parts.pages pages' p v None fit.pages procs changed row_here row_there;
+        pages = pages_set config (charged_row a.charged a.touched a.lies a.assigned) row' parts.pages pages' g None fit.pages changed row_here row_there;
         globals = globals (holder config a.page g) refl parts.globals fit.globals;
-        file = file_after (charged_at parts.pages p v) (sym (fit.pages.each p v)) config.pagefile parts.file fit.file;
+        file = file_after (kept_at parts.pages g) (sym (fit.pages.each g)) config.pagefile parts.file fit.file;
         swaps = swaps resident (length config.procs) parts.swaps fit.swaps;
         seats = fit.seats;
         failed = fit.failed;

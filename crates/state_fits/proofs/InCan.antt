@@ -38,7 +38,7 @@ use Rattle.pager_model.specs.Step.{IsLegal}
 use Rattle.pager_rules.proofs.Basics.{find_none_from_count}
 use Rattle.pager_rules.proofs.Put.{no_entry}
 use Rattle.pager_rules.specs.Kept.{IsKept}
-use Rattle.state_parts.specs.ChargedTable.{HasPage, charged_at}
+use Rattle.state_parts.specs.ChargedTable.{HasPage, kept_at}
 use Rattle.state_parts.specs.declared.process_row.ProcessRow.{ProcessRow}
 use Rattle.page_holders.proofs.SectionNumbers.{number_within}
 use Rattle.page_holders.proofs.EntryPages.{mapped_right}
@@ -145,7 +145,7 @@ module _ (config : Config) (past : List Entry) (a : Pager) (seat : Seat) (f : Pf
 pub record CanFault (config : Config) (a : Pager) (parts : Parts) (q : Proc) (x : Page) : Type 0 where
   pub process : q.0 < length parts.processes
   pub faults : (y : ProcessRow) → y ≡ slice_index_or parts.processes q.0 y → y.faults ≡ a.faults q.0
-  pub room : (p : Proc) (v : ℕ) → x ≡ Private p v → charged_at parts.pages p.0 v ≡ None → (parts.file).charged < length (parts.file).owners
+  pub room : (p : Proc) (v : ℕ) → x ≡ Private p v → kept_at parts.pages (Private p v) ≡ None → (parts.file).charged < length (parts.file).owners
   pub page : (p : Proc) (v : ℕ) → x ≡ Private p v → HasPage parts.pages p.0 v
 
 module _ (config : Config) (past : List Entry) (a : Pager) (seat : Seat) (f : Pfn) (d : BlockId) (q : Proc) (address : Addr) (formed : IsWellFormed config) (kept : IsKept config (past_view past) a) (right : IsOfConfig config a)
@@ -154,7 +154,7 @@ module _ (config : Config) (past : List Entry) (a : Pager) (seat : Seat) (f : Pf
   fault_there = subst (λ (p : ℕ). p < length config.procs) (sym legal.row.self) legal.row.own.process
 
   -- the first read of the page, since it wasn't charged
-  first_room : (p : Proc) (v : ℕ) → legal.row.page ≡ Private p v → charged_at parts.pages p.0 v ≡ None → length a.charged < config.pagefile
+  first_room : (p : Proc) (v : ℕ) → legal.row.page ≡ Private p v → kept_at parts.pages (Private p v) ≡ None → length a.charged < config.pagefile
   first_room p v is none = by legal.row.from (charges config past a kept parts fit p v)
     where
       by : (a.lies legal.row.page ≡ Some d) ⊎ IsFirstIn config a seat.0 (page_number address.0) d legal.row.page → IsChargedNow a parts p v ⊎ WasCharged a parts p v → length a.charged < config.pagefile

@@ -1,9 +1,9 @@
 -- INOK: a read lands well, of role FAULT, NEAR or COME.
-use Rattle.std.proofs.Common.{◌≡◌, inl, inr, ℕ, ◌<◌, ◌+◌, ◌-◌, Bool, true, false, cond, List, [], ◌∷◌, ◌++◌, Option, Some, None, length, nat_eq, count_by, slice_get, slice_set, slice_index_or, refl, sym, ap, ap₂, ◌∙◌, subst, subst₂, arith}
-use Rattle.std.specs.Prelude.{◌&&◌}
+use Rattle.std.proofs.Common.{◌≡◌, inl, inr, ℕ, ◌<◌, ◌+◌, ◌-◌, Bool, true, false, cond, List, [], ◌∷◌, ◌++◌, Option, Some, None, length, count_by, slice_get, slice_set, slice_index_or, refl, sym, ap, ap₂, ◌∙◌, subst, subst₂, arith}
 use Rattle.std.proofs.lemmas.Bool.{eq-eqb, false≢true}
 use Rattle.std.proofs.lemmas.Option.{none-some, slice_get-get_or}
 use Rattle.vm_types.specs.PagePlaces.{changed_at}
+use Rattle.vm_types.specs.Same.{same_page}
 use Rattle.vm_types.specs.Ring.{Held, Ring, choose}
 use Rattle.vm_types.specs.declared.ring_choice.Choice.TheVariants.{Empty}
 use Rattle.vm_types.specs.declared.config.Config.{Config}
@@ -47,11 +47,10 @@ use Rattle.pager_rules.proofs.Put.{lies_other, lies_same}
 use Rattle.pager_rules.proofs.Quiet.{starts_once}
 use Rattle.pager_rules.proofs.Turns.{calm, no_reuse}
 use Rattle.pager_rules.specs.Kept.{FitsRead, FitsRole, IsKept}
-use Rattle.state_parts.specs.ChargedTable.{ChargedTable, charged_at}
+use Rattle.state_parts.specs.ChargedTable.{ChargedTable, IsTableSet, kept_at}
 use Rattle.state_parts.specs.SwapTable.{SwapTable, swapped_at}
 use Rattle.state_parts.specs.declared.charged_page.ChargedPage.{ChargedPage}
 use Rattle.state_parts.specs.declared.process_row.ProcessRow.{ProcessRow}
-use Rattle.page_holders.proofs.Holders.{and_apart}
 use Rattle.page_holders.proofs.EntryPages.{mapped_right}
 use Rattle.state_fits.specs.Changes.{page_slot, shared_in}
 use Rattle.state_fits.specs.Frames.{frame_pins, frame_row, row_by, slot_for}
@@ -65,6 +64,7 @@ use Rattle.state_fits.proofs.EnteredFrame.{IsPut, put_there}
 use Rattle.state_fits.proofs.FlightsMoved.{flights_landed_at, one_on_frame, seats_landed_at}
 use Rattle.state_fits.proofs.GlobalShares.{globals_shared}
 use Rattle.state_fits.proofs.LiesNowhere.{pages_nowhere, swaps_cleared}
+use Rattle.state_fits.proofs.OnePlace.{apart_back}
 use Rattle.state_fits.proofs.PartsSet.{frames_set, process_read, processes_set}
 use Rattle.state_fits.proofs.ReadIn.{one_more, others_share, read_in_frames, read_in_tables}
 use Rattle.state_fits.proofs.ReadLanded.{IsLandedOn, landed_on}
@@ -349,8 +349,8 @@ module _ (config : Config) (past : List Entry) (a : Pager) (seat : Seat) (f : Pf
         → frames'.free ≡ (parts.frames).free → frames'.modified ≡ (parts.frames).modified
         → (pte : Pte) → pte_in parts.tables q.0 (page_number address.0) ≡ Some pte
         → (tables' : PageTables) → tables'.procs ≡ (parts.tables).procs → ((p w : ℕ) → pte_in tables' p w ≡ changed_at (pte_in parts.tables) q.0 (page_number address.0) (Some (record pte { place = place.Valid false f })) p w)
-        → (c : ChargedPage) → charged_at parts.pages q.0 (page_number address.0) ≡ Some c
-        → (pages' : ChargedTable) → pages'.procs ≡ (parts.pages).procs → ((p w : ℕ) → charged_at pages' p w ≡ changed_at (charged_at parts.pages) q.0 (page_number address.0) (Some (record c { lies = None })) p w)
+        → (c : ChargedPage) → kept_at parts.pages (Private q (page_number address.0)) ≡ Some c
+        → (pages' : ChargedTable) → IsTableSet parts.pages pages' (Private q (page_number address.0)) (Some (record c { lies = None }))
         → (swaps' : SwapTable) → swaps'.procs ≡ (parts.swaps).procs → ((p m : ℕ) → swapped_at swaps' p m ≡ changed_at (swapped_at parts.swaps) q.0 (swap_slot (legal.row.flight).block) None p m)
         → (b : ℕ) → b ≡ slice_index_or parts.busy seat.0 b
         → PartsFit config (e ∷ past) (after config past a e) (record parts {
@@ -364,7 +364,7 @@ module _ (config : Config) (past : List Entry) (a : Pager) (seat : Seat) (f : Pf
           busy = slice_set parts.busy seat.0 (b - 1);
           in_flight = parts.in_flight - 1;
         })
-    in_ok_come_parts y read frames' rows free modified pte pte_read tables' procs changed c kept_of pages' pages_procs pages_changed swaps' swaps_procs swaps_changed b read_b =
+    in_ok_come_parts y read frames' rows free modified pte pte_read tables' procs changed c kept_of pages' pages_changed swaps' swaps_procs swaps_changed b read_b =
         by_direction _ (reading (role.Come q address)) reads (subst (λ (o : Option Page). PartsFit config (e ∷ past) (put_back o) (record parts {
           frames = frames';
           starts = slice_set parts.starts f.0 None;
@@ -381,9 +381,9 @@ module _ (config : Config) (past : List Entry) (a : Pager) (seat : Seat) (f : Pf
           processes = processes q.0 new y (slotted y.ring n v) come_there y_is (ap (λ (z : ProcessRow). slotted z.ring n v) y_is);
           spoken = fit.spoken;
           tables = read_in_tables config (past_view past) a flights rest f.0 q.0 v new n true kept in_ok_on come_own come_put (at_page a.lies g None)
-              (λ p w apart h h_is. ap (at_page a.lies g None) h_is ∙ (away p w apart ∙ ap a.lies (sym h_is))) (length config.procs) parts.tables tables' pte fit.tables pte_read procs changed;
+              (λ p w apart h h_is. ap (at_page a.lies g None) h_is ∙ (away (Private (proc p) w) apart ∙ ap a.lies (sym h_is))) (length config.procs) parts.tables tables' pte fit.tables pte_read procs changed;
           sections = fit.sections;
-          pages = pages_nowhere a.lies (at_page a.lies g None) q.0 v (lies_same a.lies g None) away a.charged a.touched a.assigned (length config.procs) parts.pages pages' c fit.pages kept_of pages_procs pages_changed;
+          pages = pages_nowhere a.lies (at_page a.lies g None) q.0 v (lies_same a.lies g None) away a.charged a.touched a.assigned config parts.pages pages' c fit.pages kept_of pages_changed;
           globals = subst (λ (h : Page). GlobalsFit config a.page (valid_at q.0 v f.0 ∷ a.valid) (shared_in config h parts.globals)) come_page
               (globals_shared config (past_view past) a (valid_at q.0 v f.0 ∷ a.valid) f.0 in_ok_on.page parts.globals kept right.held in_ok_on.holds
               (others_share config (past_view past) a flights rest f.0 q.0 v new n true kept in_ok_on come_own come_put) (one_more config (past_view past) a flights rest f.0 q.0 v new n true kept in_ok_on come_own come_put) fit.globals);
@@ -399,8 +399,8 @@ module _ (config : Config) (past : List Entry) (a : Pager) (seat : Seat) (f : Pf
         y_is : y ≡ row q.0
         y_is = process_read row (length config.procs) parts.processes q.0 y fit.processes come_there read
 
-        away : (p w : ℕ) → (nat_eq q.0 p && nat_eq v w) ≡ false → at_page a.lies g None (Private (proc p) w) ≡ a.lies (Private (proc p) w)
-        away p w apart = lies_other a.lies g (Private (proc p) w) None (and_apart q.0 p v w apart)
+        away : (h : Page) → same_page g h ≡ false → at_page a.lies g None h ≡ a.lies h
+        away h apart = lies_other a.lies g h None (apart_back g h apart)
 
         put_back : Option Page → Pager
         put_back o = record a {

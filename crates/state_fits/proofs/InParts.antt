@@ -1,6 +1,5 @@
 -- IN: a read begins, of role FAULT, NEAR or COME.
 use Rattle.std.proofs.Common.{◌≡◌, ◌⊎◌, inl, inr, ℕ, ◌<◌, ◌+◌, Bool, true, false, cond, List, ◌∷◌, Option, Some, None, length, nat_eq, slice_set, slice_index_or, refl, sym, ap, ◌∙◌, subst, subst₂, arith}
-use Rattle.std.specs.Prelude.{◌&&◌, ◌||◌, if◌then◌else◌}
 use Rattle.std.proofs.lemmas.Bool.{eqb-true, eqb-false, false≢true}
 use Rattle.vm_types.specs.Configuration.{IsBlock, IsSectionPage, IsWellFormed}
 use Rattle.vm_types.specs.declared.config.Config.{Config}
@@ -27,31 +26,31 @@ use Rattle.pfn_database.specs.Rows.{counted_references, uncounted}
 use Rattle.pager_model.specs.Around.{PastView, past_view}
 use Rattle.pager_model.specs.Flights.{Flight, open_flights, reading}
 use Rattle.pager_model.specs.In.{IsFirstIn, IsInFault, IsInLying, charged_with}
-use Rattle.pager_model.specs.Lookups.{IsHead, block_of, count_page, own_page, page_by}
-use Rattle.pager_model.specs.Maps.{is_paged, is_private, page_number, proc}
+use Rattle.pager_model.specs.Lookups.{IsHead, count_page, own_page, page_by}
+use Rattle.pager_model.specs.Maps.{is_paged, is_private, page_number}
 use Rattle.pager_model.specs.OfConfig.{IsOfConfig}
 use Rattle.pager_model.specs.Pager.{Pager}
 use Rattle.pager_model.specs.Sets.{at_number, has_page}
 use Rattle.pager_model.specs.Step.{after, IsLegal}
-use Rattle.pager_rules.proofs.Basics.{at_number_other, at_number_same, count_none, has_page_first}
+use Rattle.pager_rules.proofs.Basics.{at_number_other, at_number_same, count_none}
 use Rattle.pager_rules.proofs.Pages.{own_is, private_is_paged}
-use Rattle.pager_rules.proofs.Put.{no_block}
 use Rattle.pager_rules.proofs.Turns.{no_reuse}
 use Rattle.pager_rules.specs.Kept.{IsKept}
 use Rattle.pager_laws.proofs.OfConfigKept.{charged_right}
 use Rattle.pager_laws.proofs.StepKept.{step_kept}
-use Rattle.state_parts.specs.ChargedTable.{ChargedTable, charged_at}
+use Rattle.state_parts.specs.ChargedTable.{ChargedTable, IsTableSet, kept_at}
 use Rattle.state_parts.specs.declared.charged_page.ChargedPage.{ChargedPage}
 use Rattle.state_parts.specs.declared.process_row.ProcessRow.{ProcessRow}
-use Rattle.page_holders.proofs.Holders.{and_apart, holder_there, no_block_lies, none_listed}
+use Rattle.page_holders.proofs.Holders.{holder_there, none_listed}
 use Rattle.state_fits.specs.File.{FileFits, owner_in}
 use Rattle.state_fits.specs.Pages.{PagesFit, charged_row}
 use Rattle.state_fits.specs.Parts.{Parts}
 use Rattle.state_fits.specs.PartsFit.{PartsFit}
 use Rattle.state_fits.specs.Processes.{ProcessesFit, process_row}
 use Rattle.state_fits.specs.ReadBegins.{charged_in, charged_now, entry_held, file_charged, held_in, one_charge}
+use Rattle.state_fits.proofs.ChargedRows.{charged_is, row_beside, row_fresh, uncharged_is}
 use Rattle.state_fits.proofs.FlightsMoved.{flights_begun, seats_begun}
-use Rattle.state_fits.proofs.PartsSet.{pages_set, processes_set, process_read}
+use Rattle.state_fits.proofs.PartsSet.{pages_kept, pages_set, processes_set, process_read}
 use Rattle.state_fits.proofs.ReadBegun.{begun_frames, begun_globals, begun_tables, free_row}
 use Rattle.state_fits.proofs.SimpleParts.{none_failed}
 
@@ -127,7 +126,7 @@ module _ (config : Config) (past : List Entry) (a : Pager) (seat : Seat) (f : Pf
   read_parts : (x : Page) (faults : ℕ → ℕ) (charged : List Page) → IsReadable config a f.0 x → IsKept config (past_view (e ∷ past)) (b x faults charged)
       → (frames' : Frames) (tables' : PageTables) (globals' : GlobalPages) → IsReadBegun config parts f.0 x frames' tables' globals'
       → (processes' : List ProcessRow) → ProcessesFit (process_row a.status a.ring a.limit a.references faults a.collided) (length config.procs) processes'
-      → (pages' : ChargedTable) → PagesFit (charged_row charged a.touched a.lies a.assigned) (length config.procs) pages'
+      → (pages' : ChargedTable) → PagesFit config (charged_row charged a.touched a.lies a.assigned) pages'
       → (file' : Blocks) → FileFits (length charged) (length a.assigned) (owner_in a.assigned) config.pagefile file'
       → (n : ℕ) → n ≡ slice_index_or parts.busy seat.0 n
       → PartsFit config (e ∷ past) (b x faults charged) (record parts {
@@ -163,34 +162,19 @@ module _ (config : Config) (past : List Entry) (a : Pager) (seat : Seat) (f : Pf
 -- ---- FAULT: whether the page is charged now
 -- the page wasn't charged before, and is now; or what is charged stays
 abbrev pub IsChargedNow : Pager → Parts → Proc → ℕ → Type 0
-IsChargedNow a parts p v = (charged_with a.charged (Some (Private p v)) ≡ Private p v ∷ a.charged) × (charged_at parts.pages p.0 v ≡ None)
-    × (charged_row (Private p v ∷ a.charged) a.touched a.lies a.assigned p.0 v ≡ Some (charged_now None)) × (count_page a.charged (Private p v) ≡ 0)
+IsChargedNow a parts p v = (charged_with a.charged (Some (Private p v)) ≡ Private p v ∷ a.charged) × (kept_at parts.pages (Private p v) ≡ None)
+    × (charged_row (Private p v ∷ a.charged) a.touched a.lies a.assigned (Private p v) ≡ Some (charged_now None)) × (count_page a.charged (Private p v) ≡ 0)
 
 abbrev pub WasCharged : Pager → Parts → Proc → ℕ → Type 0
-WasCharged a parts p v = (charged_with a.charged (Some (Private p v)) ≡ a.charged) × ((row : ChargedPage) × (charged_at parts.pages p.0 v ≡ Some row))
+WasCharged a parts p v = (charged_with a.charged (Some (Private p v)) ≡ a.charged) × ((row : ChargedPage) × (kept_at parts.pages (Private p v) ≡ Some row))
 
 module _ (config : Config) (past : List Entry) (a : Pager) (kept : IsKept config (past_view past) a) (parts : Parts) (fit : PartsFit config past a parts) where
+  abbrev old_rows : Page → Option ChargedPage
+  old_rows = charged_row a.charged a.touched a.lies a.assigned
+
   module _ (p : Proc) (v : ℕ) where
     abbrev g : Page
     g = Private p v
-
-    uncharged : count_page a.charged g ≡ 0 → charged_row a.charged a.touched a.lies a.assigned p.0 v ≡ None
-    unfolding charged_row
-    uncharged none = ap (λ (c : Bool). if c then Some (record { touched = has_page a.touched g; lies = a.lies g; assigned = block_of a.assigned g }) else None) (none_listed a.charged g none)
-
-    fresh : count_page a.charged g ≡ 0 → charged_row (g ∷ a.charged) a.touched a.lies a.assigned p.0 v ≡ Some (charged_now None)
-    unfolding charged_row
-    fresh none =
-        let fits = kept.pages g in
-        let untouched = none_listed a.touched g (omega (arith, fits.touched, none)) in
-        let unassigned = no_block a.assigned g (omega (arith, fits.blocks, none)) in
-        let nowhere = no_block_lies (a.lies g) (λ b lies. let one = fits.lying b refl lies in absurd (omega (arith, one, none))) in
-        ap (λ (c : Bool). if c then Some (record { touched = has_page a.touched g; lies = a.lies g; assigned = block_of a.assigned g }) else None) (has_page_first a.charged g)
-        ∙ (λ i. Some (record { touched = untouched i; lies = nowhere i; assigned = unassigned i }))
-
-    there_is : has_page a.charged g ≡ true → charged_row a.charged a.touched a.lies a.assigned p.0 v ≡ Some (record { touched = has_page a.touched g; lies = a.lies g; assigned = block_of a.assigned g })
-    unfolding charged_row
-    there_is has = ap (λ (c : Bool). if c then Some (record { touched = has_page a.touched g; lies = a.lies g; assigned = block_of a.assigned g }) else None) has
 
     pub charges : IsChargedNow a parts p v ⊎ WasCharged a parts p v
     charges = go (nat_eq (count_page a.charged g) 0) refl (has_page a.charged g) refl
@@ -199,39 +183,31 @@ module _ (config : Config) (past : List Entry) (a : Pager) (kept : IsKept config
         with_it c is = ap (λ (t : Bool). cond t (g ∷ a.charged) a.charged) is
 
         go : (c : Bool) → nat_eq (count_page a.charged g) 0 ≡ c → (h : Bool) → has_page a.charged g ≡ h → IsChargedNow a parts p v ⊎ WasCharged a parts p v
-        go true is h has = let none = eqb-true _ _ is in inl (with_it true is, fit.pages.each p.0 v ∙ uncharged none, fresh none, none)
-        go false is true has = inr (with_it false is, (_, fit.pages.each p.0 v ∙ there_is has))
+        go true is h has = let none = eqb-true _ _ is in inl (with_it true is, fit.pages.each g ∙ uncharged_is a.charged a.touched a.lies a.assigned g (none_listed a.charged g none), row_fresh config (past_view past) a g kept refl none, none)
+        go false is true has = inr (with_it false is, (_, fit.pages.each g ∙ charged_is a.charged a.touched a.lies a.assigned g has))
         go false is false has = absurd (eqb-false _ _ is (count_none _ a.charged has))
 
-    row_there : (q w : ℕ) → (nat_eq p.0 q && nat_eq v w) ≡ false → charged_row (g ∷ a.charged) a.touched a.lies a.assigned q w ≡ charged_row a.charged a.touched a.lies a.assigned q w
-    unfolding charged_row
-    row_there q w apart =
-        ap (λ (c : Bool). if (c || has_page a.charged (Private (proc q) w)) then Some (record { touched = has_page a.touched (Private (proc q) w); lies = a.lies (Private (proc q) w); assigned = block_of a.assigned (Private (proc q) w) }) else None)
-        (and_apart p.0 q v w apart)
-
-  fault_pages : (x : Page) (pages' : ChargedTable) → pages'.procs ≡ (parts.pages).procs → ((q w : ℕ) → charged_at pages' q w ≡ charged_in x (charged_at parts.pages) q w)
-      → PagesFit (charged_row (charged_with a.charged (Some x)) a.touched a.lies a.assigned) (length config.procs) pages'
-  fault_pages (Shared s i) pages' procs changed = record { procs = procs ∙ fit.pages.procs; each = λ q w. changed q w ∙ fit.pages.each q w }
-  fault_pages (Private p v) pages' procs changed = by (charges p v)
+  fault_pages : (x : Page) (pages' : ChargedTable) → IsTableSet parts.pages pages' x (charged_in x (kept_at parts.pages x)) → PagesFit config (charged_row (charged_with a.charged (Some x)) a.touched a.lies a.assigned) pages'
+  fault_pages (Shared s i) pages' changed = pages_kept config old_rows parts.pages pages' (Shared s i) (kept_at parts.pages (Shared s i)) fit.pages changed (fit.pages.each (Shared s i))
+  fault_pages (Private p v) pages' changed = by (charges p v)
     where
-      by : IsChargedNow a parts p v ⊎ WasCharged a parts p v → PagesFit (charged_row (charged_with a.charged (Some (Private p v))) a.touched a.lies a.assigned) (length config.procs) pages'
+      by : IsChargedNow a parts p v ⊎ WasCharged a parts p v → PagesFit config (charged_row (charged_with a.charged (Some (Private p v))) a.touched a.lies a.assigned) pages'
       by (inl (now, none, row, zero)) =
-          subst (λ (list : List Page). PagesFit (charged_row list a.touched a.lies a.assigned) (length config.procs) pages') (sym now)
-          (pages_set (charged_row a.charged a.touched a.lies a.assigned) (charged_row (Private p v ∷ a.charged) a.touched a.lies a.assigned) (length config.procs) parts.pages pages' p.0 v _ fit.pages procs changed
-          (ap (λ (o : Option ChargedPage). Some (charged_now o)) none ∙ sym row) (row_there p v))
+          subst (λ (list : List Page). PagesFit config (charged_row list a.touched a.lies a.assigned) pages') (sym now)
+          (pages_set config old_rows (charged_row (Private p v ∷ a.charged) a.touched a.lies a.assigned) parts.pages pages' (Private p v) _ fit.pages changed
+          (ap (λ (o : Option ChargedPage). Some (charged_now o)) none ∙ sym row) (row_beside a.charged a.touched a.lies a.assigned (Private p v)))
       by (inr (was, (row, is))) =
-          subst (λ (list : List Page). PagesFit (charged_row list a.touched a.lies a.assigned) (length config.procs) pages') (sym was)
-          (pages_set (charged_row a.charged a.touched a.lies a.assigned) (charged_row a.charged a.touched a.lies a.assigned) (length config.procs) parts.pages pages' p.0 v _ fit.pages procs changed
-          (ap (λ (o : Option ChargedPage). Some (charged_now o)) is ∙ (sym is ∙ fit.pages.each p.0 v)) (λ q w apart. refl))
+          subst (λ (list : List Page). PagesFit config (charged_row list a.touched a.lies a.assigned) pages') (sym was)
+          (pages_kept config old_rows parts.pages pages' (Private p v) _ fit.pages changed (ap (λ (o : Option ChargedPage). Some (charged_now o)) is ∙ (sym is ∙ fit.pages.each (Private p v))))
 
-  fault_file : (x : Page) → FileFits (length (charged_with a.charged (Some x))) (length a.assigned) (owner_in a.assigned) config.pagefile (file_charged x (charged_at parts.pages) parts.file)
+  fault_file : (x : Page) → FileFits (length (charged_with a.charged (Some x))) (length a.assigned) (owner_in a.assigned) config.pagefile (file_charged x (kept_at parts.pages x) parts.file)
   fault_file (Shared s i) = fit.file
   fault_file (Private p v) = by (charges p v)
     where
       Fits : List Page → Option ChargedPage → Type 0
       Fits list o = FileFits (length list) (length a.assigned) (owner_in a.assigned) config.pagefile (one_charge o parts.file)
 
-      by : IsChargedNow a parts p v ⊎ WasCharged a parts p v → Fits (charged_with a.charged (Some (Private p v))) (charged_at parts.pages p.0 v)
+      by : IsChargedNow a parts p v ⊎ WasCharged a parts p v → Fits (charged_with a.charged (Some (Private p v))) (kept_at parts.pages (Private p v))
       by (inl (now, none, row, zero)) =
           subst₂ Fits (sym now) (sym none)
           (record { count = fit.file.count; charges = let is = fit.file.charges in omega (arith, is); blocks = fit.file.blocks; owners = fit.file.owners })
@@ -279,8 +255,8 @@ module _ (config : Config) (past : List Entry) (a : Pager) (seat : Seat) (f : Pf
   pub in_fault_parts : (x : Page) → page_by config a.map q.0 (page_number address.0) ≡ Some x
       → (frames' : Frames) (tables' : PageTables) (globals' : GlobalPages) → IsReadBegun config parts f.0 x frames' tables' globals'
       → (y : ProcessRow) → y ≡ slice_index_or parts.processes q.0 y
-      → (pages' : ChargedTable) → pages'.procs ≡ (parts.pages).procs → ((p w : ℕ) → charged_at pages' p w ≡ charged_in x (charged_at parts.pages) p w)
-      → (file' : Blocks) → file' ≡ file_charged x (charged_at parts.pages) parts.file
+      → (pages' : ChargedTable) → IsTableSet parts.pages pages' x (charged_in x (kept_at parts.pages x))
+      → (file' : Blocks) → file' ≡ file_charged x (kept_at parts.pages x) parts.file
       → (n : ℕ) → n ≡ slice_index_or parts.busy seat.0 n
       → PartsFit config (entry ∷ past) (after config past a entry) (record parts {
         frames = frames';
@@ -294,7 +270,7 @@ module _ (config : Config) (past : List Entry) (a : Pager) (seat : Seat) (f : Pf
         busy = slice_set parts.busy seat.0 (n + 1);
         in_flight = parts.in_flight + 1;
       })
-  in_fault_parts x own frames' tables' globals' moved y read pages' procs changed file' file_is n read_n =
+  in_fault_parts x own frames' tables' globals' moved y read pages' changed file' file_is n read_n =
       let faults = at_number a.faults q.0 (a.faults q.0 + 1) in
       subst (λ (o : Option Page). PartsFit config (entry ∷ past) (put o) (record parts {
         frames = frames';
@@ -311,7 +287,7 @@ module _ (config : Config) (past : List Entry) (a : Pager) (seat : Seat) (f : Pf
       (read_parts config past a seat f d (role.Fault q address) formed kept right legal parts fit x faults (charged_with a.charged (Some x)) (fault_readable_as x own)
       (subst (λ (o : Option Page). IsKept config (past_view (entry ∷ past)) (put o)) own (step_kept config past a entry formed kept legal))
       frames' tables' globals' moved _ (fault_processes y read)
-      pages' (fault_pages config past a kept parts fit x pages' procs changed)
+      pages' (fault_pages config past a kept parts fit x pages' changed)
       file' (rw file_is (fault_file config past a kept parts fit x)) n read_n)
     where
       put : Option Page → Pager

@@ -41,7 +41,7 @@ use Rattle.pager_model.specs.Transfers.{flights_of}
 use Rattle.pager_rules.proofs.Basics.{count_none, find_none_from_count}
 use Rattle.pager_rules.proofs.Quiet.{starts_once}
 use Rattle.pager_rules.specs.Kept.{IsKept}
-use Rattle.state_parts.specs.ChargedTable.{HasPage, charged_at}
+use Rattle.state_parts.specs.ChargedTable.{kept_at}
 use Rattle.state_parts.specs.SwapTable.{HasSlot}
 use Rattle.state_parts.specs.declared.process_row.ProcessRow.{ProcessRow}
 use Rattle.page_holders.proofs.Holders.{holder_there}
@@ -56,11 +56,10 @@ use Rattle.state_fits.specs.Processes.{process_row}
 use Rattle.state_fits.specs.Seats.{role_by, role_on}
 use Rattle.state_fits.proofs.FlightsMoved.{flight_is, one_on_frame, seat_has, seat_read, seat_few}
 use Rattle.state_fits.proofs.GoodEntries.{good_valid}
-use Rattle.state_fits.proofs.InCan.{has_place}
 use Rattle.state_fits.proofs.InFailParts.{in_fail_on}
 use Rattle.state_fits.proofs.InOkParts.{come_empty, come_lies, come_own, come_page, come_swap, come_there, facts, in_ok_on}
 use Rattle.state_fits.proofs.KnownEntries.{placed_entry, pte_known}
-use Rattle.state_fits.proofs.LiesNowhere.{charged_there}
+use Rattle.state_fits.proofs.ChargedRows.{charged_is}
 use Rattle.state_fits.proofs.OnePlace.{read_is}
 use Rattle.state_fits.proofs.PartsSet.{process_read}
 use Rattle.state_fits.proofs.ReadLanded.{IsLandedOn, landing_row}
@@ -119,7 +118,6 @@ pub record CanComeIn (config : Config) (parts : Parts) (q v f : ℕ) (g : Page) 
   pub entry : (pte : Pte) → pte_in parts.tables q v ≡ Some pte → IsEntry (record pte { place = place.Valid false (pfn f) })
   pub global : (s : SecId) (i : ℕ) → g ≡ Shared s i → section_page_number config s.0 i < length (parts.globals).frames
   pub few : (s : SecId) (i : ℕ) → g ≡ Shared s i → count_of parts.globals (section_page_number config s.0 i) ≡ 0
-  pub place : HasPage parts.pages q v
 
 module _ (config : Config) (past : List Entry) (a : Pager) (seat : Seat) (f : Pfn) (k : ℕ) (formed : IsWellFormed config) (kept : IsKept config (past_view past) a) (right : IsOfConfig config a)
     (legal : IsLegal config past a (record { seat = seat; what = what.InOk f k })) (parts : Parts) (fit : PartsFit config past a parts) where
@@ -142,7 +140,6 @@ module _ (config : Config) (past : List Entry) (a : Pager) (seat : Seat) (f : Pf
         few = λ s i is.
             let holds = on.holds ∙ ap Some is in
             fit.globals.shared s i (right.held f.0 (Shared s i) holds).0 ∙ (ap (shares_held a.valid) (holder_there config (past_view past) a (Shared s i) f.0 kept holds) ∙ on.shares);
-        place = record { proc = omega (arith, its.3.process, fit.pages.procs); page = has_place v its.3.page };
       }
 
   abbrev row : ℕ → ProcessRow
@@ -201,8 +198,8 @@ module _ (config : Config) (past : List Entry) (a : Pager) (seat : Seat) (f : Pf
             omega (arith, within, bounded.slots, process.most)
 
     -- what is kept of the page
-    pub come_charged : IsSome (charged_at parts.pages q.0 (page_number address.0))
+    pub come_charged : IsSome (kept_at parts.pages (Private q (page_number address.0)))
     come_charged =
         let lies = ap a.lies (sym its_page) ∙ come_lies config past a seat f k kept right legal parts fit q address is in
         let one = (kept.pages (Private (proc q.0) (page_number address.0))).lying _ refl lies in
-        ap is_some (fit.pages.each q.0 (page_number address.0) ∙ charged_there a.charged a.touched a.lies a.assigned q.0 (page_number address.0) (listed a.charged (Private (proc q.0) (page_number address.0)) one))
+        ap is_some (fit.pages.each (Private q (page_number address.0)) ∙ charged_is a.charged a.touched a.lies a.assigned (Private q (page_number address.0)) (listed a.charged (Private (proc q.0) (page_number address.0)) one))

@@ -40,6 +40,7 @@ pub mod OutCan
 pub mod OutLandingCan
 pub mod OutLandingParts
 pub mod OutParts
+pub mod HeldGlobals
 pub mod ReadBegun
 pub mod ReadIn
 pub mod ReadLanded

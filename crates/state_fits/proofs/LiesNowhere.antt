@@ -4,43 +4,32 @@ use Rattle.std.specs.Prelude.{◌&&◌}
 use Rattle.std.proofs.lemmas.Bool.{and_from, and_parts, eq-eqb, eqb-true, false≢true}
 use Rattle.std.proofs.lemmas.Option.{none-some}
 use Rattle.vm_types.specs.PagePlaces.{changed_at}
+use Rattle.vm_types.specs.Same.{same_page}
+use Rattle.vm_types.specs.declared.config.Config.{Config}
 use Rattle.vm_types.specs.declared.names.BlockId.{BlockId}
 use Rattle.vm_types.specs.declared.names.BlockId.TheVariants as block
 use Rattle.vm_types.specs.declared.names.Page.{Page}
 use Rattle.vm_types.specs.declared.names.Page.TheVariants.{Private}
-use Rattle.state_parts.specs.ChargedTable.{ChargedTable, charged_at}
+use Rattle.state_parts.specs.ChargedTable.{ChargedTable, IsTableSet, kept_at}
 use Rattle.state_parts.specs.SwapTable.{SwapTable, swapped_at}
 use Rattle.state_parts.specs.declared.charged_page.ChargedPage.{ChargedPage}
-use Rattle.pager_model.specs.Lookups.{block_of}
 use Rattle.pager_model.specs.Maps.{proc}
 use Rattle.pager_model.specs.Pager.{Assigned}
-use Rattle.pager_model.specs.Sets.{has_page}
 use Rattle.state_fits.specs.Pages.{PagesFit, charged_row}
 use Rattle.state_fits.specs.Swaps.{SwapsFit}
-use Rattle.state_fits.proofs.PartsSet.{changed_there, pages_set}
+use Rattle.state_fits.proofs.ChargedRows.{pages_changed, row_some}
+use Rattle.state_fits.proofs.PartsSet.{changed_there}
 
 abbrev swap_slot : Option BlockId → ℕ
 swap_slot (Some (block.Swap p n)) = n
 swap_slot other = 0
 
 -- what is kept of a page says where it lies
-pub charged_lies : (charged touched : List Page) (lies : Page → Option BlockId) (assigned : List Assigned) (p v : ℕ) (c : ChargedPage) → charged_row charged touched lies assigned p v ≡ Some c → c.lies ≡ lies (Private (proc p) v)
-unfolding charged_row
-charged_lies charged touched lies assigned p v c is = go (has_page charged (Private (proc p) v)) is
-  where
-    go : (b : Bool) → cond b (Some (record { touched = has_page touched (Private (proc p) v); lies = lies (Private (proc p) v); assigned = block_of assigned (Private (proc p) v) })) None ≡ Some c → c.lies ≡ lies (Private (proc p) v)
-    go false none = absurd (none-some c none)
-    go true some =
-        let same : c ≡ record { touched = has_page touched (Private (proc p) v); lies = lies (Private (proc p) v); assigned = block_of assigned (Private (proc p) v) } = cc in
-        λ i. (same i).lies
-
-pub charged_there : (charged touched : List Page) (lies : Page → Option BlockId) (assigned : List Assigned) (p v : ℕ) → has_page charged (Private (proc p) v) ≡ true
-    → charged_row charged touched lies assigned p v ≡ Some (record { touched = has_page touched (Private (proc p) v); lies = lies (Private (proc p) v); assigned = block_of assigned (Private (proc p) v) })
-unfolding charged_row
-charged_there charged touched lies assigned p v is = rw is refl
+pub charged_lies : (charged touched : List Page) (lies : Page → Option BlockId) (assigned : List Assigned) (g : Page) (c : ChargedPage) → charged_row charged touched lies assigned g ≡ Some c → c.lies ≡ lies g
+charged_lies charged touched lies assigned g c is = let same = (row_some charged touched lies assigned g c is).1 in λ i. (same i).lies
 
 module _ (lies lies' : Page → Option BlockId) (p v : ℕ) (here : lies' (Private (proc p) v) ≡ None)
-    (there : (q w : ℕ) → (nat_eq p q && nat_eq v w) ≡ false → lies' (Private (proc q) w) ≡ lies (Private (proc q) w)) where
+    (there : (h : Page) → same_page (Private (proc p) v) h ≡ false → lies' h ≡ lies h) where
   -- a page that lies in a swap block isn't this one
   other_page : (q w : ℕ) (b : BlockId) → lies' (Private (proc q) w) ≡ Some b → (nat_eq p q && nat_eq v w) ≡ false
   other_page q w b is = go (nat_eq p q && nat_eq v w) refl
@@ -62,7 +51,7 @@ module _ (lies lies' : Page → Option BlockId) (p v : ℕ) (here : lies' (Priva
     where
       lying : (q m w : ℕ) → swapped_at new q m ≡ Some w → (c : Bool) → (nat_eq p q && nat_eq n m) ≡ c → lies' (Private (proc q) w) ≡ Some (block.Swap (proc q) m)
       lying q m w is true e = absurd (none-some w (sym (changed q m ∙ ap (λ (c : Bool). cond c None (swapped_at old q m)) e) ∙ is))
-      lying q m w is false e = there q w (apart (nat_eq p q && nat_eq v w) refl) ∙ before
+      lying q m w is false e = there (Private (proc q) w) (apart (nat_eq p q && nat_eq v w) refl) ∙ before
         where
           before : lies (Private (proc q) w) ≡ Some (block.Swap (proc q) m)
           before = fit.lying q m w (sym (changed q m ∙ changed_there (swapped_at old) p n q m None e) ∙ is)
@@ -82,7 +71,7 @@ module _ (lies lies' : Page → Option BlockId) (p v : ℕ) (here : lies' (Priva
           far = other_page q w (block.Swap (proc q) m) is
 
           before : swapped_at old q m ≡ Some w
-          before = fit.found q m w (sym (there q w far) ∙ is)
+          before = fit.found q m w (sym (there (Private (proc q) w) far) ∙ is)
 
           by : (c : Bool) → (nat_eq p q && nat_eq n m) ≡ c → swapped_at new q m ≡ Some w
           by false d = changed q m ∙ (changed_there (swapped_at old) p n q m None d ∙ before)
@@ -93,24 +82,12 @@ module _ (lies lies' : Page → Option BlockId) (p v : ℕ) (here : lies' (Priva
               absurd (false≢true (sym far ∙ and_from _ _ parts.0 (eq-eqb v w same)))
 
   module _ (charged touched : List Page) (assigned : List Assigned) where
-    row_nowhere : (c : ChargedPage) → charged_row charged touched lies assigned p v ≡ Some c → ◌≡◌ {A = Option ChargedPage} (Some (record c { lies = None })) (charged_row charged touched lies' assigned p v)
-    unfolding charged_row
-    row_nowhere c is = go (has_page charged (Private (proc p) v)) is
-      where
-        go : (b : Bool)
-            → cond b (Some (record { touched = has_page touched (Private (proc p) v); lies = lies (Private (proc p) v); assigned = block_of assigned (Private (proc p) v) })) None ≡ Some c
-            → ◌≡◌ {A = Option ChargedPage} (Some (record c { lies = None })) (cond b (Some (record { touched = has_page touched (Private (proc p) v); lies = lies' (Private (proc p) v); assigned = block_of assigned (Private (proc p) v) })) None)
-        go false none = absurd (none-some c none)
-        go true some =
-            let same : c ≡ record { touched = has_page touched (Private (proc p) v); lies = lies (Private (proc p) v); assigned = block_of assigned (Private (proc p) v) } = cc in
-            λ i. Some (record { touched = (same i).touched; lies = sym here i; assigned = (same i).assigned })
+    abbrev g : Page
+    g = Private (proc p) v
 
-    row_elsewhere : (q w : ℕ) → (nat_eq p q && nat_eq v w) ≡ false → charged_row charged touched lies' assigned q w ≡ charged_row charged touched lies assigned q w
-    unfolding charged_row
-    row_elsewhere q w apart = rw (there q w apart) refl
-
-    pub pages_nowhere : (n : ℕ) (old new : ChargedTable) (c : ChargedPage) → PagesFit (charged_row charged touched lies assigned) n old → charged_at old p v ≡ Some c → new.procs ≡ old.procs
-        → ((q w : ℕ) → charged_at new q w ≡ changed_at (charged_at old) p v (Some (record c { lies = None })) q w) → PagesFit (charged_row charged touched lies' assigned) n new
-    pages_nowhere n old new c fit read procs changed =
-        pages_set (charged_row charged touched lies assigned) (charged_row charged touched lies' assigned) n old new p v (Some (record c { lies = None })) fit procs changed
-        (row_nowhere c (sym (fit.each p v) ∙ read)) row_elsewhere
+    pub pages_nowhere : (config : Config) (old new : ChargedTable) (c : ChargedPage) → PagesFit config (charged_row charged touched lies assigned) old → kept_at old g ≡ Some c
+        → IsTableSet old new g (Some (record c { lies = None })) → PagesFit config (charged_row charged touched lies' assigned) new
+    pages_nowhere config old new c fit read changed =
+        let is = row_some charged touched lies assigned g c (sym (fit.each g) ∙ read) in
+        pages_changed charged touched lies assigned g is.0 lies' assigned (λ h apart. (there h apart, refl)) config old new (record c { lies = None }) fit changed
+        (λ i. record { touched = (is.1 i).touched; lies = sym here i; assigned = (is.1 i).assigned })

@@ -6,6 +6,10 @@ use Rattle.std.proofs.lemmas.Bool.{eqb-true, eqb-false, eq-eqb, and_parts, and_f
 use Rattle.std.proofs.lemmas.Grind.{common_steps}
 use Rattle.std.proofs.lemmas.List.{get_or-set_same}
 use Rattle.std.proofs.lemmas.Option.{gets, slice_get-get_or, slice_get_read}
+use Rattle.vm_types.specs.Same.{same_page}
+use Rattle.vm_types.specs.declared.names.Page.{Page}
+use Rattle.pager_rules.proofs.Basics.{pages_equal, same_from_equal}
+use Rattle.pager_rules.proofs.Put.{page_apart}
 
 pub at_each : (P : ℕ → Type 0) (f : ℕ) → P f → ((g : ℕ) → (f ≡ g → ⊥) → P g) → (g : ℕ) → P g
 at_each P f here there g = go (nat_eq f g) refl
@@ -22,6 +26,17 @@ at_page_each P p v here there q w = go (nat_eq p q && nat_eq v w) refl
         let parts = and_parts (nat_eq p q) (nat_eq v w) e in
         subst (λ r. P r w) (eqb-true p q parts.0) (subst (P p) (eqb-true v w parts.1) here)
     go false e = there q w e
+
+-- at a page and at each other one
+pub at_page_or : (P : Page → Type 0) (g : Page) → P g → ((h : Page) → same_page g h ≡ false → P h) → (h : Page) → P h
+at_page_or P g here there h = go (same_page g h) refl
+  where
+    go : (b : Bool) → same_page g h ≡ b → P h
+    go true e = subst P (pages_equal g h e) here
+    go false e = there h e
+
+pub apart_back : (g h : Page) → same_page g h ≡ false → same_page h g ≡ false
+apart_back g h apart = page_apart h g (λ same. false≢true (sym apart ∙ same_from_equal g h (sym same)))
 
 pub not_same : (p q v w : ℕ) → (nat_eq p q && nat_eq v w) ≡ false → (p ≡ q) × (v ≡ w) → ⊥
 not_same p q v w e same = false≢true (sym e ∙ and_from _ _ (eq-eqb p q same.0) (eq-eqb v w same.1))

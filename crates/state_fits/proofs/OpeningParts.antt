@@ -122,9 +122,9 @@ behind_opened config p v = go (find (covers p v) config.maps)
     go None = refl
     go (Some m) = refl
 
-uncharged : (config : Config) (p v : ℕ) → charged_row [] [] (first_block config) [] p v ≡ None
+uncharged : (config : Config) (g : Page) → charged_row [] [] (first_block config) [] g ≡ None
 unfolding charged_row
-uncharged config p v = refl
+uncharged config g = refl
 
 item_in : {X : Type 0} (n i : ℕ) (x : X) → slice_index_or (replicate n x) i x ≡ x
 item_in n i x = go (cases_lt i n)
@@ -149,7 +149,7 @@ opening_parts config parts are =
       spoken = rw are.spoken (record { count = length-replicate (length config.procs) unspoken; each = λ p below. replicated (length config.procs) p unspoken below });
       tables = record { procs = are.table_procs; each = λ p v. are.entries p v ∙ sym (table_opened config p v) };
       sections = record { procs = are.section_procs; kinds = are.kinds; each = λ p v. are.behind p v ∙ behind_opened config p v };
-      pages = record { procs = are.page_procs; each = λ p v. are.pages p v ∙ sym (uncharged config p v) };
+      pages = record { procs = are.page_procs; places = are.page_places; each = λ g. are.pages g ∙ sym (uncharged config g) };
       globals = rw are.globals (record {
         count = length-replicate (sum_by section_pages config.sections) None;
         counts = length-replicate (sum_by section_pages config.sections) 0;

@@ -1,6 +1,5 @@
 -- OUT: what its calls require.
-use Rattle.std.proofs.Common.{◌≡◌, ℕ, ◌+◌, ◌<◌, ◌≤◌, false, List, [], ◌∷◌, Some, None, length, slice_index_or, count_by, refl, sym, ap, ◌∙◌, subst, inl, inr, arith}
-use Rattle.std.specs.Prelude.{IsSome, is_some}
+use Rattle.std.proofs.Common.{◌≡◌, ℕ, ◌+◌, ◌<◌, ◌≤◌, true, List, [], ◌∷◌, Some, None, length, slice_index_or, count_by, sym, ap, ◌∙◌, subst, inl, inr, arith}
 use Rattle.std.specs.Option.{option_map}
 use Rattle.std.proofs.lemmas.Bool.{true≢false}
 use Rattle.std.proofs.lemmas.Option.{none-some}
@@ -10,9 +9,7 @@ use Rattle.vm_types.specs.declared.names.BlockId.{BlockId}
 use Rattle.vm_types.specs.declared.names.BlockId.TheVariants as block
 use Rattle.vm_types.specs.declared.names.FrameState.TheVariants as state
 use Rattle.vm_types.specs.declared.names.Page.{Page}
-use Rattle.vm_types.specs.declared.names.Page.TheVariants.{Private}
 use Rattle.vm_types.specs.declared.names.Pfn.{Pfn}
-use Rattle.vm_types.specs.declared.names.Proc.{Proc}
 use Rattle.vm_types.specs.declared.names.Seat.{Seat}
 use Rattle.vm_journal.specs.declared.entry.Entry.{Entry}
 use Rattle.vm_journal.specs.declared.entry.What.TheVariants as what
@@ -20,18 +17,19 @@ use Rattle.page_file.specs.Blocks.{IsFreeBlock, assigned_blocks}
 use Rattle.pfn_database.specs.Frames.{row_of}
 use Rattle.pfn_database.specs.Rows.{IsOneOf}
 use Rattle.pfn_database.specs.declared.row.Row.{Row}
-use Rattle.state_parts.specs.ChargedTable.{HasPage, charged_at}
+use Rattle.state_parts.specs.ChargedTable.{kept_at}
 use Rattle.state_parts.specs.declared.charged_page.ChargedPage.{ChargedPage}
 use Rattle.pager_model.specs.Around.{frame_view, past_view}
 use Rattle.pager_model.specs.Flights.{open_flights}
-use Rattle.pager_model.specs.Lookups.{block_of, is_owner}
-use Rattle.pager_model.specs.Maps.{is_paged, is_private}
+use Rattle.pager_model.specs.Lookups.{block_of, count_page, is_owner}
+use Rattle.pager_model.specs.Maps.{is_paged}
 use Rattle.pager_model.specs.OfConfig.{IsOfConfig}
 use Rattle.pager_model.specs.Out.{IsAnyOut, IsOutBlock}
 use Rattle.pager_model.specs.Pager.{Assigned, Pager}
 use Rattle.pager_model.specs.Sets.{has_page}
 use Rattle.pager_model.specs.Step.{IsLegal}
 use Rattle.pager_model.specs.Transfers.{reads_on, writes_on}
+use Rattle.pager_laws.proofs.KeptIsSound.{count_from_has}
 use Rattle.pager_rules.proofs.Basics.{find_none_from_count}
 use Rattle.pager_rules.proofs.Frames.{modified_frame}
 use Rattle.pager_rules.proofs.Put.{head_counts, no_blocks}
@@ -41,8 +39,7 @@ use Rattle.state_fits.specs.File.{has_block}
 use Rattle.state_fits.specs.Frames.{frame_row}
 use Rattle.state_fits.specs.Parts.{Parts}
 use Rattle.state_fits.specs.PartsFit.{PartsFit}
-use Rattle.state_fits.proofs.Bounds.{place_there}
-use Rattle.state_fits.proofs.ChargedRows.{charged_is, counted_page}
+use Rattle.state_fits.proofs.ChargedRows.{row_some}
 use Rattle.state_fits.proofs.FlightsMoved.{flights_few, seat_few, seat_read}
 use Rattle.state_fits.proofs.OutParts.{listed_writable, row_page, swap_active, swap_writable}
 
@@ -57,12 +54,10 @@ pub record CanBeginWrite (parts : Parts) (seat f : ℕ) : Type 0 where
   pub busy : (n : ℕ) → n ≡ slice_index_or parts.busy seat n → n ≤ 16384
   pub in_flight : parts.in_flight ≤ 16384
 
--- of the page, if it is private, and of the page file block that it has or is given
-pub record CanGiveBlock (parts : Parts) (d : BlockId) (p : Proc) (v b : ℕ) : Type 0 where
-  pub page : HasPage parts.pages p.0 v
-  pub charged : IsSome (charged_at parts.pages p.0 v)
-  pub free : (row : ChargedPage) → charged_at parts.pages p.0 v ≡ Some row → row.assigned ≡ None → IsFreeBlock parts.file b
-  pub room : (row : ChargedPage) → charged_at parts.pages p.0 v ≡ Some row → row.assigned ≡ None → assigned_blocks parts.file < (parts.file).charged
+-- of the page, if it is charged, and of the page file block that it is given
+pub record CanGiveBlock (parts : Parts) (g : Page) (b : ℕ) : Type 0 where
+  pub free : (row : ChargedPage) → kept_at parts.pages g ≡ Some row → row.assigned ≡ None → IsFreeBlock parts.file b
+  pub room : (row : ChargedPage) → kept_at parts.pages g ≡ Some row → row.assigned ≡ None → assigned_blocks parts.file < (parts.file).charged
 
 module _ (config : Config) (past : List Entry) (a : Pager) (seat : Seat) (f : Pfn) (d : BlockId) (formed : IsWellFormed config) (kept : IsKept config (past_view past) a) (right : IsOfConfig config a)
     (legal : IsLegal config past a (record { seat = seat; what = what.Out f d })) (parts : Parts) (fit : PartsFit config past a parts) where
@@ -108,42 +103,40 @@ module _ (config : Config) (past : List Entry) (a : Pager) (seat : Seat) (f : Pf
         in_flight = omega (arith, fit.seats.total, few_flights);
       }
 
-  module _ (p : Proc) (v b : ℕ) (page : (row_of parts.frames f.0).page ≡ Some (Private p v)) (goes : d ≡ block.PageFile b) where
-    holds : a.page f.0 ≡ Some (Private p v)
+  module _ (g : Page) (b : ℕ) (page : (row_of parts.frames f.0).page ≡ Some g) (goes : d ≡ block.PageFile b) where
+    holds : a.page f.0 ≡ Some g
     holds = sym (row_page config past a seat f kept parts fit) ∙ page
 
-    charged : charged_at parts.pages p.0 v ≡ Some (record { touched = has_page a.touched (Private p v); lies = a.lies (Private p v); assigned = block_of a.assigned (Private p v) })
-    charged = fit.pages.each p.0 v ∙ charged_is a.charged a.touched a.lies a.assigned p.0 v (counted_page a.charged (Private p v) (kept.held_charged f.0 (Private p v) refl holds))
+    module _ (row : ChargedPage) (read : kept_at parts.pages g ≡ Some row) (none : row.assigned ≡ None) where
+      its : (has_page a.charged g ≡ true) × (row ≡ record { touched = has_page a.touched g; lies = a.lies g; assigned = block_of a.assigned g })
+      its = row_some a.charged a.touched a.lies a.assigned g row (sym (fit.pages.each g) ∙ read)
 
-    no_block_of : (row : ChargedPage) → charged_at parts.pages p.0 v ≡ Some row → row.assigned ≡ None → block_of a.assigned (Private p v) ≡ None
-    no_block_of row read none =
-        let same : row ≡ record { touched = has_page a.touched (Private p v); lies = a.lies (Private p v); assigned = block_of a.assigned (Private p v) } = let both = sym read ∙ charged in cc in
-        sym (ap (λ (r : ChargedPage). r.assigned) same) ∙ none
+      unassigned : block_of a.assigned g ≡ None
+      unassigned = sym (ap (λ (r : ChargedPage). r.assigned) its.1) ∙ none
 
-    free_block : (x : Page) → x ≡ Private p v → block_of a.assigned (Private p v) ≡ None → IsOutBlock config a d x → IsFreeBlock parts.file b
-    free_block x is none (inl section) = absurd (let private : is_paged config (Private p v) ≡ false = ap (is_paged config) (sym is) ∙ section.0 in true≢false private)
-    free_block x is none (inr (inl had)) = absurd (none-some had.0 (sym none ∙ (ap (block_of a.assigned) (sym is) ∙ had.2)))
-    free_block x is none (inr (inr free)) =
-        let same : free.0 ≡ b = let e = sym free.3 ∙ goes in cc in
-        let below : b < config.pagefile = subst (λ (n : ℕ). n < config.pagefile) same free.4 in
-        let unowned : count_by (is_owner (block.PageFile b)) a.assigned ≡ 0 = subst (λ (n : ℕ). count_by (is_owner (block.PageFile n)) a.assigned ≡ 0) same free.5 in
-        record {
-          exists = omega (arith, below, fit.file.count);
-          free = fit.file.owners b ∙ ap (option_map (λ (x : Assigned). x.page)) (find_none_from_count (has_block b) a.assigned unowned);
-        }
+      some : 0 < count_page a.charged g
+      some = count_from_has a.charged g its.0
 
-    free_for : IsAnyOut config past a f.0 d → block_of a.assigned (Private p v) ≡ None → IsFreeBlock parts.file b
-    free_for (inl out) none = free_block out.page (let held = sym out.holds ∙ holds in cc) none out.block
-    free_for (inr out) none = absurd (let e = sym out.block ∙ goes in cc)
+      free_block : (x : Page) → x ≡ g → IsOutBlock config a d x → IsFreeBlock parts.file b
+      free_block x is (inl section) = absurd (true≢false (sym ((kept.pages g).paged some) ∙ (ap (is_paged config) (sym is) ∙ section.0)))
+      free_block x is (inr (inl had)) = absurd (none-some had.0 (sym unassigned ∙ (ap (block_of a.assigned) (sym is) ∙ had.2)))
+      free_block x is (inr (inr free)) =
+          let same : free.0 ≡ b = let e = sym free.3 ∙ goes in cc in
+          let below : b < config.pagefile = subst (λ (n : ℕ). n < config.pagefile) same free.4 in
+          let unowned : count_by (is_owner (block.PageFile b)) a.assigned ≡ 0 = subst (λ (n : ℕ). count_by (is_owner (block.PageFile n)) a.assigned ≡ 0) same free.5 in
+          record {
+            exists = omega (arith, below, fit.file.count);
+            free = fit.file.owners b ∙ ap (option_map (λ (x : Assigned). x.page)) (find_none_from_count (has_block b) a.assigned unowned);
+          }
 
-    pub can_give_block : CanGiveBlock parts d p v b
-    can_give_block =
-        let of = right.held f.0 (Private p v) holds in
-        record {
-          page = record { proc = omega (arith, of.0, fit.pages.procs); page = place_there v of.1 };
-          charged = ap is_some charged;
-          free = λ row read none. free_for legal.row (no_block_of row read none);
-          room = λ row read none.
-              let fewer = one_unassigned config (past_view past) a (Private p v) kept (kept.held_charged f.0 (Private p v) refl holds) (no_blocks a.assigned (Private p v) (no_block_of row read none)) in
-              omega (arith, fewer, fit.file.blocks, fit.file.charges);
-        }
+      free_for : IsAnyOut config past a f.0 d → IsFreeBlock parts.file b
+      free_for (inl out) = free_block out.page (let held = sym out.holds ∙ holds in cc) out.block
+      free_for (inr out) = absurd (let e = sym out.block ∙ goes in cc)
+
+      room_for : assigned_blocks parts.file < (parts.file).charged
+      room_for =
+          let fewer = one_unassigned config (past_view past) a g kept some (no_blocks a.assigned g unassigned) in
+          omega (arith, fewer, fit.file.blocks, fit.file.charges)
+
+    pub can_give_block : CanGiveBlock parts g b
+    can_give_block = record { free = λ row read none. free_for row read none legal.row; room = λ row read none. room_for row read none }

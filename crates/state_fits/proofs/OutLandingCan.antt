@@ -1,6 +1,5 @@
 -- OUTOK and OUTFAIL: what their calls require.
-use Rattle.std.proofs.Common.{◌≡◌, ℕ, ◌+◌, ◌<◌, List, [], ◌∷◌, Some, length, slice_index_or, refl, sym, ap, ◌∙◌, subst, inl, inr, arith}
-use Rattle.std.specs.Prelude.{IsSome, is_some}
+use Rattle.std.proofs.Common.{◌≡◌, ℕ, ◌+◌, ◌<◌, List, [], ◌∷◌, Some, length, slice_index_or, sym, ap, ◌∙◌, subst, inl, inr, arith}
 use Rattle.std.proofs.lemmas.Bool.{true≢false}
 use Rattle.std.proofs.lemmas.Option.{slice_get_within}
 use Rattle.vm_types.specs.Configuration.{IsWellFormed}
@@ -17,26 +16,24 @@ use Rattle.vm_journal.specs.declared.entry.Entry.{Entry}
 use Rattle.pfn_database.specs.Frames.{row_of}
 use Rattle.pfn_database.specs.Rows.{IsOneOf}
 use Rattle.pfn_database.specs.declared.row.Row.{Row}
-use Rattle.state_parts.specs.ChargedTable.{HasPage, charged_at}
+use Rattle.state_parts.specs.ChargedTable.{kept_at}
 use Rattle.state_parts.specs.SwapTable.{HasSlot}
 use Rattle.state_parts.specs.declared.charged_page.ChargedPage.{ChargedPage}
 use Rattle.pager_model.specs.Around.{page_view, past_view, process_view}
 use Rattle.pager_model.specs.Flights.{Flight, open_flights, without_flight, writing}
 use Rattle.pager_model.specs.InOk.{IsLanding}
-use Rattle.pager_model.specs.Lookups.{block_of}
 use Rattle.pager_model.specs.Maps.{proc}
 use Rattle.pager_model.specs.OfConfig.{IsOfConfig}
 use Rattle.pager_model.specs.Pager.{Pager}
-use Rattle.pager_model.specs.Sets.{has_page}
 use Rattle.pager_model.specs.Transfers.{flights_of, reads_on, writes_on}
 use Rattle.pager_rules.proofs.Quiet.{starts_once}
 use Rattle.pager_rules.specs.Kept.{FitsWrite, IsKept}
 use Rattle.state_fits.specs.Frames.{frame_row}
 use Rattle.state_fits.specs.Parts.{Parts}
 use Rattle.state_fits.specs.PartsFit.{PartsFit}
-use Rattle.state_fits.proofs.Bounds.{place_there, slot_there}
-use Rattle.state_fits.proofs.ChargedRows.{charged_is, counted_page}
+use Rattle.state_fits.proofs.Bounds.{slot_there}
 use Rattle.state_fits.proofs.FlightsMoved.{seat_few, seat_has, seat_read}
+use Rattle.state_fits.proofs.LiesNowhere.{charged_lies}
 use Rattle.state_fits.proofs.OutLandingParts.{landing_on}
 use Rattle.state_fits.proofs.WriteLanded.{IsWrittenOn}
 
@@ -51,11 +48,9 @@ pub record CanEndWrite (parts : Parts) (seat f : ℕ) : Type 0 where
   pub busy : (n : ℕ) → n ≡ slice_index_or parts.busy seat n → 0 < n
   pub in_flight : 0 < parts.in_flight
 
--- of the page, if it is private, and of the swap block that it lay in, and the one that it was written to
+-- of a private page: of the swap block that it lay in, and the one that it was written to
 pub record CanLieIn (parts : Parts) (d : BlockId) (p : Proc) (v : ℕ) : Type 0 where
-  pub page : HasPage parts.pages p.0 v
-  pub charged : IsSome (charged_at parts.pages p.0 v)
-  pub old_slot : (row : ChargedPage) (q : Proc) (n : ℕ) → charged_at parts.pages p.0 v ≡ Some row → row.lies ≡ Some (block.Swap q n) → HasSlot parts.swaps q.0 n
+  pub old_slot : (row : ChargedPage) (q : Proc) (n : ℕ) → kept_at parts.pages (Private p v) ≡ Some row → row.lies ≡ Some (block.Swap q n) → HasSlot parts.swaps q.0 n
   pub new_slot : (q : Proc) (n : ℕ) → d ≡ block.Swap q n → HasSlot parts.swaps q.0 n
 
 module _ (config : Config) (past : List Entry) (a : Pager) (seat : Seat) (f : Pfn) (k : ℕ) (x : Flight) (formed : IsWellFormed config) (kept : IsKept config (past_view past) a) (right : IsOfConfig config a)
@@ -97,9 +92,6 @@ module _ (config : Config) (past : List Entry) (a : Pager) (seat : Seat) (f : Pf
     holds : a.page f.0 ≡ Some (Private p v)
     holds = sym row_page ∙ page
 
-    charged : charged_at parts.pages p.0 v ≡ Some (record { touched = has_page a.touched (Private p v); lies = a.lies (Private p v); assigned = block_of a.assigned (Private p v) })
-    charged = fit.pages.each p.0 v ∙ charged_is a.charged a.touched a.lies a.assigned p.0 v (counted_page a.charged (Private p v) (kept.held_charged f.0 (Private p v) refl holds))
-
     written_slot : (q : Proc) (n : ℕ) → x.block ≡ block.Swap q n → FitsWrite x (Private p v) (page_view config a (Private p v)) (process_view config a) → HasSlot parts.swaps q.0 n
     written_slot q n goes (inl section) = absurd (true≢false section.0)
     written_slot q n goes (inr (inl file)) = absurd (let e = sym file.2 ∙ goes in cc)
@@ -112,13 +104,10 @@ module _ (config : Config) (past : List Entry) (a : Pager) (seat : Seat) (f : Pf
 
     pub can_lie_in : CanLieIn parts x.block p v
     can_lie_in =
-        let of = right.held f.0 (Private p v) holds in
         let page_is : on.page ≡ Private p v = let held = sym on.holds ∙ holds in cc in
         record {
-          page = record { proc = omega (arith, of.0, fit.pages.procs); page = place_there v of.1 };
-          charged = ap is_some charged;
           old_slot = λ row q n read lies.
-              let same : row ≡ record { touched = has_page a.touched (Private p v); lies = a.lies (Private p v); assigned = block_of a.assigned (Private p v) } = let both = sym read ∙ charged in cc in
-              slot_there config (past_view past) a parts.swaps q.0 n formed kept fit.swaps (kept.swapped (Private p v) q.0 n (sym (ap (λ (r : ChargedPage). r.lies) same) ∙ lies)).within;
+              let there = charged_lies a.charged a.touched a.lies a.assigned (Private p v) row (sym (fit.pages.each (Private p v)) ∙ read) in
+              slot_there config (past_view past) a parts.swaps q.0 n formed kept fit.swaps (kept.swapped (Private p v) q.0 n (sym there ∙ lies)).within;
           new_slot = λ q n goes. written_slot q n goes (subst (λ (g : Page). FitsWrite x g (page_view config a g) (process_view config a)) page_is on.fits);
         }

@@ -16,9 +16,9 @@ use Rattle.page_lists.specs.Lists.{without}
 use Rattle.pfn_database.specs.Frames.{Frames, row_of}
 use Rattle.pfn_database.specs.Rows.{counted_references, uncounted, state_in_transfer}
 use Rattle.pfn_database.specs.declared.row.Row.{Row}
-use Rattle.state_parts.specs.ChargedTable.{ChargedTable, charged_at}
+use Rattle.state_parts.specs.ChargedTable.{ChargedTable, IsTableSet, kept_at}
 use Rattle.pager_laws.proofs.OutOkKept.{shared_block}
-use Rattle.pager_model.specs.Around.{frame_view, page_view, past_view}
+use Rattle.pager_model.specs.Around.{frame_view, past_view}
 use Rattle.pager_model.specs.Flights.{Flight, awaits_reuse, open_flights, writing}
 use Rattle.pager_model.specs.Lookups.{is, is_entry}
 use Rattle.pager_model.specs.Out.{IsAnyOut, IsOut, IsOutBlock, IsOutSwap, after_any_out, assigned_with}
@@ -35,13 +35,13 @@ use Rattle.pager_rules.specs.Kept.{IsKept, one_if}
 use Rattle.page_holders.proofs.Holders.{holds_within, without_absent}
 use Rattle.state_fits.specs.File.{FileFits, owner_in}
 use Rattle.state_fits.specs.Frames.{frame_row}
-use Rattle.state_fits.specs.Pages.{HasNoPaged, PagesFit, charged_row}
+use Rattle.state_fits.specs.Pages.{PagesFit, charged_row}
 use Rattle.state_fits.specs.Parts.{Parts}
 use Rattle.state_fits.specs.PartsFit.{PartsFit}
-use Rattle.state_fits.specs.Writes.{block_given, block_taken}
-use Rattle.state_fits.proofs.ChargedRows.{pages_alike}
+use Rattle.state_fits.specs.Writes.{block_taken, given_row}
 use Rattle.state_fits.proofs.FlightsMoved.{flights_begun, seats_begun}
 use Rattle.state_fits.proofs.GivenBlocks.{given_block}
+use Rattle.state_fits.proofs.PartsSet.{pages_kept}
 use Rattle.state_fits.proofs.SimpleParts.{none_failed}
 use Rattle.state_fits.proofs.WriteBegun.{write_begun}
 
@@ -88,7 +88,7 @@ swap_writable config past a f d kept legal =
       lists = without_absent a.modified f ((kept.frames f).on_modified ∙ ap (λ (s : FrameState). one_if (is state.Modified s)) was);
     }
 
-module _ (parts : Parts) (start seat f : ℕ) (d : BlockId) where
+module _ (parts : Parts) (start seat f : ℕ) (d : BlockId) (g : Page) where
   abbrev row : Row
   row = row_of parts.frames f
 
@@ -98,8 +98,8 @@ module _ (parts : Parts) (start seat f : ℕ) (d : BlockId) where
     pub free : frames'.free ≡ (parts.frames).free
     pub modified : frames'.modified ≡ without (parts.frames).modified f
     pub busy : n ≡ slice_index_or parts.busy seat n
-    pub procs : pages'.procs ≡ (parts.pages).procs
-    pub pages : (q w : ℕ) → charged_at pages' q w ≡ block_given d row.page (charged_at parts.pages) q w
+    pub page : row.page ≡ Some g
+    pub pages : IsTableSet parts.pages pages' g (given_row d (kept_at parts.pages g))
 
   abbrev parts_out : Frames → ℕ → ChargedTable → Parts
   parts_out frames' n pages' = record parts {
@@ -107,7 +107,7 @@ module _ (parts : Parts) (start seat f : ℕ) (d : BlockId) where
     starts = slice_set parts.starts f (Some start);
     roles = slice_set parts.roles f None;
     pages = pages';
-    file = block_taken d row.page (charged_at parts.pages) parts.file;
+    file = block_taken d g (kept_at parts.pages g) parts.file;
     busy = slice_set parts.busy seat (n + 1);
     in_flight = parts.in_flight + 1;
   }
@@ -117,16 +117,16 @@ module _ (config : Config) (past : List Entry) (a : Pager) (seat : Seat) (f : Pf
   unfolding frame_row
   row_page = ap (λ (r : Row). r.page) (fit.frames.rows f.0)
 
-module _ (config : Config) (past : List Entry) (a : Pager) (seat : Seat) (f : Pfn) (kept : IsKept config (past_view past) a) (plain : HasNoPaged config) (parts : Parts) (fit : PartsFit config past a parts) where
+module _ (config : Config) (past : List Entry) (a : Pager) (seat : Seat) (f : Pfn) (kept : IsKept config (past_view past) a) (parts : Parts) (fit : PartsFit config past a parts) where
   abbrev entry : BlockId → Entry
   entry d = record { seat = seat; what = what.Out f d }
 
-  begun_parts : (d : BlockId) (frames' : Frames) (n : ℕ) (pages' : ChargedTable) → IsOutDone parts (length past + 1) seat.0 f.0 d frames' n pages' → awaits_reuse past ≡ false → seat.0 < length config.procs + 2
+  begun_parts : (d : BlockId) (g : Page) (frames' : Frames) (n : ℕ) (pages' : ChargedTable) → IsOutDone parts (length past + 1) seat.0 f.0 d g frames' n pages' → awaits_reuse past ≡ false → seat.0 < length config.procs + 2
       → (x : Page) (state_of : ℕ → FrameState) (modified : List ℕ) (more : List Assigned) → IsWritable config a (open_flights past) f.0 x state_of modified
-      → PagesFit (charged_row a.charged a.touched a.lies more) (length config.procs) pages'
-      → FileFits (length a.charged) (length more) (owner_in more) config.pagefile (block_taken d (row_of parts.frames f.0).page (charged_at parts.pages) parts.file)
-      → PartsFit config (entry d ∷ past) (record a { state = state_of; modify = at_number a.modify f.0 false; modified = modified; assigned = more }) (parts_out parts (length past + 1) seat.0 f.0 d frames' n pages')
-  begun_parts d frames' n pages' done calm there x state_of modified more writable pages file =
+      → PagesFit config (charged_row a.charged a.touched a.lies more) pages'
+      → FileFits (length a.charged) (length more) (owner_in more) config.pagefile (block_taken d g (kept_at parts.pages g) parts.file)
+      → PartsFit config (entry d ∷ past) (record a { state = state_of; modify = at_number a.modify f.0 false; modified = modified; assigned = more }) (parts_out parts (length past + 1) seat.0 f.0 d g frames' n pages')
+  begun_parts d g frames' n pages' done calm there x state_of modified more writable pages file =
       let begun : Flight = record { start = length past + 1; seat = seat.0; frame = f.0; block = d; direction = writing } in
       record {
         frames = write_begun a.state state_of a.page a.modify a.valid a.ring (open_flights past) (length past + 1) seat.0 f.0 d writable.still writable.here writable.there
@@ -144,28 +144,31 @@ module _ (config : Config) (past : List Entry) (a : Pager) (seat : Seat) (f : Pf
         failed = none_failed past parts calm fit.failed;
       }
 
+  -- the page that the frame holds
+  held_page : (d : BlockId) (g : Page) (frames' : Frames) (n : ℕ) (pages' : ChargedTable) → IsOutDone parts (length past + 1) seat.0 f.0 d g frames' n pages' → a.page f.0 ≡ Some g
+  held_page d g frames' n pages' done = sym (row_page config past a seat f kept parts fit) ∙ done.page
+
   -- of the modified list's head
-  listed_parts : (d : BlockId) (frames' : Frames) (n : ℕ) (pages' : ChargedTable) → IsOutDone parts (length past + 1) seat.0 f.0 d frames' n pages' → awaits_reuse past ≡ false → seat.0 < length config.procs + 2 → IsOut config past a f.0 d
-      → PartsFit config (entry d ∷ past) (record a { state = at_number a.state f.0 state.Writing; modify = at_number a.modify f.0 false; modified = without a.modified f.0; assigned = assigned_with a.assigned (a.page f.0) d }) (parts_out parts (length past + 1) seat.0 f.0 d frames' n pages')
-  listed_parts d frames' n pages' done calm there legal =
-      let page : (row_of parts.frames f.0).page ≡ Some legal.page = row_page config past a seat f kept parts fit ∙ legal.holds in
-      let given = given_block config (past_view past) a f.0 kept plain (length config.procs) parts.pages fit.pages parts.file fit.file d legal.page pages' legal.holds legal.block
-      (done.procs, λ q w. done.pages q w ∙ ap (λ (o : Option Page). block_given d o (charged_at parts.pages) q w) page) in
-      begun_parts d frames' n pages' done calm there legal.page (at_number a.state f.0 state.Writing) (without a.modified f.0) (assigned_with a.assigned (a.page f.0) d) (listed_writable config past a f.0 d kept legal)
-      (subst (λ (o : Option Page). PagesFit (charged_row a.charged a.touched a.lies (assigned_with a.assigned o d)) (length config.procs) pages') (sym legal.holds) given.0)
-      (subst (λ (o : Option Page). FileFits (length a.charged) (length (assigned_with a.assigned o d)) (owner_in (assigned_with a.assigned o d)) config.pagefile (block_taken d (row_of parts.frames f.0).page (charged_at parts.pages) parts.file)) (sym legal.holds)
-      (subst (λ (o : Option Page). FileFits (length a.charged) (length (assigned_with a.assigned (Some legal.page) d)) (owner_in (assigned_with a.assigned (Some legal.page) d)) config.pagefile (block_taken d o (charged_at parts.pages) parts.file)) (sym page) given.1))
+  listed_parts : (d : BlockId) (g : Page) (frames' : Frames) (n : ℕ) (pages' : ChargedTable) → IsOutDone parts (length past + 1) seat.0 f.0 d g frames' n pages' → awaits_reuse past ≡ false → seat.0 < length config.procs + 2 → IsOut config past a f.0 d
+      → PartsFit config (entry d ∷ past) (record a { state = at_number a.state f.0 state.Writing; modify = at_number a.modify f.0 false; modified = without a.modified f.0; assigned = assigned_with a.assigned (a.page f.0) d }) (parts_out parts (length past + 1) seat.0 f.0 d g frames' n pages')
+  listed_parts d g frames' n pages' done calm there legal =
+      let holds = held_page d g frames' n pages' done in
+      let page : legal.page ≡ g = let other = legal.holds in cc in
+      let given = given_block config (past_view past) a f.0 kept parts.pages fit.pages parts.file fit.file d g pages' holds (subst (IsOutBlock config a d) page legal.block) done.pages in
+      begun_parts d g frames' n pages' done calm there legal.page (at_number a.state f.0 state.Writing) (without a.modified f.0) (assigned_with a.assigned (a.page f.0) d) (listed_writable config past a f.0 d kept legal)
+      (subst (λ (o : Option Page). PagesFit config (charged_row a.charged a.touched a.lies (assigned_with a.assigned o d)) pages') (sym holds) given.0)
+      (subst (λ (o : Option Page). FileFits (length a.charged) (length (assigned_with a.assigned o d)) (owner_in (assigned_with a.assigned o d)) config.pagefile (block_taken d g (kept_at parts.pages g) parts.file)) (sym holds) given.1)
 
   -- of a leaving process's page
-  swap_parts : (q : Proc) (i : ℕ) (frames' : Frames) (n : ℕ) (pages' : ChargedTable) → IsOutDone parts (length past + 1) seat.0 f.0 (block.Swap q i) frames' n pages' → awaits_reuse past ≡ false → seat.0 < length config.procs + 2 → IsOutSwap config past a f.0 (block.Swap q i)
-      → PartsFit config (entry (block.Swap q i) ∷ past) (record a { modify = at_number a.modify f.0 false }) (parts_out parts (length past + 1) seat.0 f.0 (block.Swap q i) frames' n pages')
-  swap_parts q i frames' n pages' done calm there legal =
-      begun_parts (block.Swap q i) frames' n pages' done calm there legal.page a.state a.modified a.assigned (swap_writable config past a f.0 (block.Swap q i) kept legal)
-      (pages_alike (charged_row a.charged a.touched a.lies a.assigned) (length config.procs) parts.pages pages' fit.pages done.procs done.pages) fit.file
+  swap_parts : (q : Proc) (i : ℕ) (g : Page) (frames' : Frames) (n : ℕ) (pages' : ChargedTable) → IsOutDone parts (length past + 1) seat.0 f.0 (block.Swap q i) g frames' n pages' → awaits_reuse past ≡ false → seat.0 < length config.procs + 2 → IsOutSwap config past a f.0 (block.Swap q i)
+      → PartsFit config (entry (block.Swap q i) ∷ past) (record a { modify = at_number a.modify f.0 false }) (parts_out parts (length past + 1) seat.0 f.0 (block.Swap q i) g frames' n pages')
+  swap_parts q i g frames' n pages' done calm there legal =
+      begun_parts (block.Swap q i) g frames' n pages' done calm there legal.page a.state a.modified a.assigned (swap_writable config past a f.0 (block.Swap q i) kept legal)
+      (pages_kept config (charged_row a.charged a.touched a.lies a.assigned) parts.pages pages' g (kept_at parts.pages g) fit.pages done.pages (fit.pages.each g)) fit.file
 
-  pub out_parts : (d : BlockId) → IsLegal config past a (entry d) → (frames' : Frames) (n : ℕ) (pages' : ChargedTable) → IsOutDone parts (length past + 1) seat.0 f.0 d frames' n pages'
-      → PartsFit config (entry d ∷ past) (after config past a (entry d)) (parts_out parts (length past + 1) seat.0 f.0 d frames' n pages')
-  out_parts d legal frames' n pages' done = go d legal done legal.row
+  pub out_parts : (d : BlockId) (g : Page) → IsLegal config past a (entry d) → (frames' : Frames) (n : ℕ) (pages' : ChargedTable) → IsOutDone parts (length past + 1) seat.0 f.0 d g frames' n pages'
+      → PartsFit config (entry d ∷ past) (after config past a (entry d)) (parts_out parts (length past + 1) seat.0 f.0 d g frames' n pages')
+  out_parts d g legal frames' n pages' done = go d legal done legal.row
     where
       there : (d : BlockId) → IsLegal config past a (entry d) → seat.0 < length config.procs + 2
       there d legal = let few = legal.line.seat in omega (arith, few)
@@ -173,9 +176,9 @@ module _ (config : Config) (past : List Entry) (a : Pager) (seat : Seat) (f : Pf
       calm : (d : BlockId) → IsLegal config past a (entry d) → awaits_reuse past ≡ false
       calm d legal = no_reuse config past (entry d) legal.in_turn refl
 
-      go : (d : BlockId) → IsLegal config past a (entry d) → IsOutDone parts (length past + 1) seat.0 f.0 d frames' n pages' → IsAnyOut config past a f.0 d → PartsFit config (entry d ∷ past) (after_any_out a f.0 d) (parts_out parts (length past + 1) seat.0 f.0 d frames' n pages')
-      go (block.Section s i) legal done (inl out) = listed_parts (block.Section s i) frames' n pages' done (calm (block.Section s i) legal) (there (block.Section s i) legal) out
-      go (block.PageFile b) legal done (inl out) = listed_parts (block.PageFile b) frames' n pages' done (calm (block.PageFile b) legal) (there (block.PageFile b) legal) out
+      go : (d : BlockId) → IsLegal config past a (entry d) → IsOutDone parts (length past + 1) seat.0 f.0 d g frames' n pages' → IsAnyOut config past a f.0 d → PartsFit config (entry d ∷ past) (after_any_out a f.0 d) (parts_out parts (length past + 1) seat.0 f.0 d g frames' n pages')
+      go (block.Section s i) legal done (inl out) = listed_parts (block.Section s i) g frames' n pages' done (calm (block.Section s i) legal) (there (block.Section s i) legal) out
+      go (block.PageFile b) legal done (inl out) = listed_parts (block.PageFile b) g frames' n pages' done (calm (block.PageFile b) legal) (there (block.PageFile b) legal) out
       go (block.Swap q i) legal done (inl out) = absurd (no_swap out.block)
         where
           no_swap : IsOutBlock config a (block.Swap q i) out.page → ⊥
@@ -184,4 +187,4 @@ module _ (config : Config) (past : List Entry) (a : Pager) (seat : Seat) (f : Pf
           no_swap (inr (inr free)) = let e = free.3 in cc
       go (block.Section s i) legal done (inr out) = absurd (let e = out.block in cc)
       go (block.PageFile b) legal done (inr out) = absurd (let e = out.block in cc)
-      go (block.Swap q i) legal done (inr out) = swap_parts q i frames' n pages' done (calm (block.Swap q i) legal) (there (block.Swap q i) legal) out
+      go (block.Swap q i) legal done (inr out) = swap_parts q i g frames' n pages' done (calm (block.Swap q i) legal) (there (block.Swap q i) legal) out

@@ -1,16 +1,21 @@
 -- Each part after a change at one place. No kind of entry is named here.
-use Rattle.std.proofs.Common.{◌≡◌, ℕ, ◌<◌, ◌+◌, Bool, true, false, List, ◌∷◌, Option, length, nat_eq, slice_set, slice_index_or, refl, sym, ap, ◌∙◌, arith, length-set}
+use Rattle.std.proofs.Common.{◌≡◌, ℕ, ◌<◌, ◌+◌, Bool, true, false, cond, List, ◌∷◌, Option, length, nat_eq, slice_set, slice_index_or, refl, sym, ap, ◌∙◌, arith, length-set}
 use Rattle.std.specs.Prelude.{◌&&◌}
 use Rattle.std.proofs.lemmas.Bool.{eq-eqb, ne_eqb}
 use Rattle.std.proofs.lemmas.List.{get_or-set_same, get_or-set_other}
 use Rattle.vm_types.specs.PagePlaces.{changed_at}
+use Rattle.vm_types.specs.Same.{same_page}
+use Rattle.vm_types.specs.declared.config.Config.{Config}
+use Rattle.vm_types.specs.declared.names.Page.{Page}
 use Rattle.vm_journal.specs.declared.entry.Entry.{Entry}
 use Rattle.pte_forms.specs.declared.pte.Pte.{Pte}
 use Rattle.page_tables.specs.PageTables.{PageTables, entry_of}
 use Rattle.pfn_database.specs.declared.row.Row.{Row}
 use Rattle.pfn_database.specs.Frames.{Frames, row_of}
 use Rattle.pfn_database.specs.Rows.{bad_row}
-use Rattle.state_parts.specs.ChargedTable.{ChargedTable, charged_at}
+use Rattle.pager_model.specs.Sets.{at_page}
+use Rattle.pager_rules.proofs.Basics.{same_page_refl}
+use Rattle.state_parts.specs.ChargedTable.{ChargedTable, IsTableSet, kept_at}
 use Rattle.state_parts.specs.declared.charged_page.ChargedPage.{ChargedPage}
 use Rattle.state_parts.specs.declared.process_row.ProcessRow.{ProcessRow}
 use Rattle.state_parts.specs.declared.spoken_row.SpokenRow.{SpokenRow}
@@ -19,7 +24,7 @@ use Rattle.state_fits.specs.Frames.{FramesFit}
 use Rattle.state_fits.specs.Pages.{PagesFit}
 use Rattle.state_fits.specs.Processes.{ProcessesFit}
 use Rattle.state_fits.specs.Spoken.{SpokenFit, one_more, spoken_by}
-use Rattle.state_fits.proofs.OnePlace.{at_each, at_page_each, each_set, read_is}
+use Rattle.state_fits.proofs.OnePlace.{at_each, at_page_each, at_page_or, each_set, read_is}
 
 pub frames_set : (row row' : ℕ → Row) (n : ℕ) (free free' modified modified' : List ℕ) (old new : Frames) (f : ℕ) (r : Row)
     → FramesFit row n free modified old → f < n → new.rows ≡ slice_set old.rows f r → new.free ≡ free' → new.modified ≡ modified'
@@ -85,16 +90,35 @@ pub tables_same : (pte pte' : ℕ → ℕ → Option Pte) (n : ℕ) (tables : Pa
 tables_same pte pte' n tables fit same = record { procs = fit.procs; each = λ p v. fit.each p v ∙ sym (same p v) }
 
 -- one page's row is set
-pub pages_set : (row row' : ℕ → ℕ → Option ChargedPage) (n : ℕ) (old new : ChargedTable) (p v : ℕ) (x : Option ChargedPage)
-    → PagesFit row n old → new.procs ≡ old.procs → ((q w : ℕ) → charged_at new q w ≡ changed_at (charged_at old) p v x q w)
-    → x ≡ row' p v → ((q w : ℕ) → (nat_eq p q && nat_eq v w) ≡ false → row' q w ≡ row q w) → PagesFit row' n new
-pages_set row row' n old new p v x fit procs changed here there =
+page_here : (f : Page → Option ChargedPage) (g : Page) (x : Option ChargedPage) → at_page f g x g ≡ x
+page_here f g x = ap (λ (b : Bool). cond b x (f g)) (same_page_refl g)
+
+page_there : (f : Page → Option ChargedPage) (g h : Page) (x : Option ChargedPage) → same_page g h ≡ false → at_page f g x h ≡ f h
+page_there f g h x apart = ap (λ (b : Bool). cond b x (f h)) apart
+
+pub pages_set : (config : Config) (row row' : Page → Option ChargedPage) (old new : ChargedTable) (g : Page) (x : Option ChargedPage)
+    → PagesFit config row old → IsTableSet old new g x → x ≡ row' g → ((h : Page) → same_page g h ≡ false → row' h ≡ row h) → PagesFit config row' new
+pages_set config row row' old new g x fit changed here there =
     record {
-      procs = procs ∙ fit.procs;
-      each = at_page_each (λ q w. charged_at new q w ≡ row' q w) p v
-          (changed p v ∙ (changed_here (charged_at old) p v x ∙ here))
-          (λ q w apart. changed q w ∙ (changed_there (charged_at old) p v q w x apart ∙ (fit.each q w ∙ sym (there q w apart))));
+      procs = changed.procs ∙ fit.procs;
+      places = λ s i real paged. let within = fit.places s i real paged in let same = changed.places s in omega (arith, within, same);
+      each = at_page_or (λ h. kept_at new h ≡ row' h) g
+          (changed.each g ∙ (page_here (kept_at old) g x ∙ here))
+          (λ h apart. changed.each h ∙ (page_there (kept_at old) g h x apart ∙ (fit.each h ∙ sym (there h apart))));
     }
 
-pub pages_same : (row row' : ℕ → ℕ → Option ChargedPage) (n : ℕ) (table : ChargedTable) → PagesFit row n table → ((p v : ℕ) → row' p v ≡ row p v) → PagesFit row' n table
-pages_same row row' n table fit same = record { procs = fit.procs; each = λ p v. fit.each p v ∙ sym (same p v) }
+-- the row that the page had
+pub pages_kept : (config : Config) (row : Page → Option ChargedPage) (old new : ChargedTable) (g : Page) (x : Option ChargedPage)
+    → PagesFit config row old → IsTableSet old new g x → x ≡ row g → PagesFit config row new
+pages_kept config row old new g x fit changed same = pages_set config row row old new g x fit changed same (λ h apart. refl)
+
+-- a table is as one in which a page got the row that it has
+pub table_same : (table : ChargedTable) (g : Page) (x : Option ChargedPage) → x ≡ kept_at table g → IsTableSet table table g x
+table_same table g x same =
+    record {
+      procs = refl;
+      places = λ s. refl;
+      each = at_page_or (λ h. kept_at table h ≡ at_page (kept_at table) g x h) g
+          (sym same ∙ sym (page_here (kept_at table) g x))
+          (λ h apart. sym (page_there (kept_at table) g h x apart));
+    }

@@ -1,9 +1,8 @@
 -- A read begins into an empty frame: the frame's row, the page's entry, its global page, and all parts.
-use Rattle.std.proofs.Common.{◌≡◌, ◌⊎◌, inl, inr, ℕ, ◌+◌, Bool, true, false, not, List, ◌∷◌, Option, Some, None, slice_set, slice_index, slice_index_or, refl, sym, ap, ap₂, ◌∙◌, subst, arith, length-set}
+use Rattle.std.proofs.Common.{◌≡◌, ℕ, ◌+◌, Bool, true, false, not, List, ◌∷◌, Option, Some, None, slice_set, refl, sym, ap, ap₂, ◌∙◌, subst, arith}
 use Rattle.std.specs.Prelude.{◌&&◌}
 use Rattle.std.specs.Option.{option_map}
-use Rattle.std.proofs.lemmas.Bool.{cases_eq, and_from, and_left, ne_eqb}
-use Rattle.std.proofs.lemmas.List.{get_or-set_same, get_or-set_other}
+use Rattle.std.proofs.lemmas.Bool.{and_from, and_left, ne_eqb}
 use Rattle.vm_types.specs.Configuration.{IsSectionPage}
 use Rattle.vm_types.specs.Same.{same_page}
 use Rattle.vm_types.specs.declared.config.Config.{Config}
@@ -23,7 +22,7 @@ use Rattle.pfn_database.specs.Rows.{counted_references, uncounted}
 use Rattle.pfn_database.specs.declared.row.Row.{Row}
 use Rattle.pager_model.specs.Around.{past_view}
 use Rattle.pager_model.specs.Flights.{Flight, is_reading, open_flights}
-use Rattle.pager_model.specs.Forget.{holder, holds_page}
+use Rattle.pager_model.specs.Forget.{holder}
 use Rattle.pager_model.specs.Given.{pfn}
 use Rattle.pager_model.specs.Lookups.{IsHead, entries_at, entry_of as valid_of, has_vpn, own_page, shares}
 use Rattle.pager_model.specs.Maps.{Map, Mapped, is_private, page_behind, proc}
@@ -32,19 +31,19 @@ use Rattle.pager_model.specs.Sets.{at_number}
 use Rattle.pager_model.specs.Transfers.{is_read_on, is_write_on, reads_on, writes_on}
 use Rattle.pager_rules.proofs.Basics.{at_number_other, at_number_same, count_cons_no, count_cons_yes, find_none_from_count, nat_eq_refl}
 use Rattle.pager_rules.proofs.Pages.{own_is}
-use Rattle.pager_rules.proofs.Put.{head_counts, no_entry, page_apart}
+use Rattle.pager_rules.proofs.Put.{head_counts, no_entry}
 use Rattle.pager_rules.specs.Kept.{IsKept}
-use Rattle.page_holders.proofs.Holders.{IsFreeRow, free_is, holder_elsewhere, holder_none}
-use Rattle.page_holders.proofs.SectionNumbers.{number_within, numbers_differ}
+use Rattle.page_holders.proofs.Holders.{IsFreeRow, free_is}
 use Rattle.page_holders.proofs.EntryPages.{mapped_there}
-use Rattle.state_fits.specs.Entries.{TablesFit, place_away, pte_at, pte_of, section_page_number}
+use Rattle.state_fits.specs.Entries.{TablesFit, place_away, pte_at, pte_of}
 use Rattle.state_fits.specs.Frames.{FramesFit, frame_pins, frame_row, or_zero, row_by, slot_for}
-use Rattle.state_fits.specs.Globals.{GlobalsFit, shares_held}
+use Rattle.state_fits.specs.Globals.{GlobalsFit}
 use Rattle.state_fits.specs.ReadBegins.{entry_held, held_in, with_place}
 use Rattle.state_fits.proofs.FrameRows.{over_pins}
 use Rattle.state_fits.proofs.ShownEntries.{pte_stays}
 use Rattle.state_fits.proofs.PartsSet.{frames_set, tables_set}
 use Rattle.state_fits.proofs.RingSlots.{absent}
+use Rattle.state_fits.proofs.HeldGlobals.{globals_held, holder_stays}
 
 -- the entry of a mapped page that isn't valid
 pub pte_away : (config : Config) (map : Map) (valid : List Valid) (page : ℕ → Option Page) (lies : Page → Option BlockId) (p v : ℕ) (m : Mapped) (g : Page) → map p v ≡ Some m → page_behind config p v m.origin ≡ g → valid_of valid p v ≡ None
@@ -119,12 +118,9 @@ module _ (config : Config) (past : List Entry) (a : Pager) (y : Flight) (x : Pag
       (free ∙ ap (λ (xs : List ℕ). without xs f) fit.free_list) (modified ∙ fit.modified_list) (row_here (row_of pfns f) (fit.rows f)) row_there
 
   -- ---- the page's entry
-  holder_stays : (h : Page) → same_page x h ≡ false → holder config page' h ≡ holder config a.page h
-  holder_stays h apart = holder_elsewhere config a.page f (Some x) h (ap (holds_page h) empty) apart
-
   entry_there : (q w : ℕ) → same_page x (Private (proc q) w) ≡ false → pte_of config a.map a.valid page' a.lies q w ≡ pte_of config a.map a.valid a.page a.lies q w
   entry_there q w apart = pte_stays config a.map a.valid a.valid a.page page' a.lies a.lies q w refl
-      (λ h mapped private. (holder_stays h (ap (same_page x) (own_is config a.map q w h mapped private) ∙ apart), refl))
+      (λ h mapped private. (holder_stays config a f x empty out h (ap (same_page x) (own_is config a.map q w h mapped private) ∙ apart), refl))
 
   pub begun_tables : (held : holder config page' x ≡ Some f) (n : ℕ) (table table' : PageTables) → TablesFit (pte_of config a.map a.valid a.page a.lies) n table → table'.procs ≡ table.procs
       → ((q w : ℕ) → pte_in table' q w ≡ entry_held x f (pte_in table) q w) → TablesFit (pte_of config a.map a.valid page' a.lies) n table'
@@ -146,51 +142,4 @@ module _ (config : Config) (past : List Entry) (a : Pager) (y : Flight) (x : Pag
   -- ---- its global page
   pub begun_globals : (held : holder config page' x ≡ Some f) (section : (s : SecId) (i : ℕ) → x ≡ Shared s i → IsSectionPage config.sections s.0 i) (table : GlobalPages)
       → GlobalsFit config a.page a.valid table → GlobalsFit config page' a.valid (held_in config x f table)
-  begun_globals held section table fit = by x refl
-    where
-      by : (g : Page) → x ≡ g → GlobalsFit config page' a.valid (held_in config g f table)
-      by (Private p v) is = record {
-        count = fit.count;
-        counts = fit.counts;
-        frames = λ t j there. fit.frames t j there ∙ ap (option_map pfn) (sym (holder_stays (Shared t j) (ap (λ (g : Page). same_page g (Shared t j)) is)));
-        shared = λ t j there. fit.shared t j there ∙ ap (shares_held a.valid) (sym (holder_stays (Shared t j) (ap (λ (g : Page). same_page g (Shared t j)) is)));
-      }
-      by (Shared s i) is = record {
-        count = length-set table.frames n (Some (pfn f)) ∙ fit.count;
-        counts = fit.counts;
-        frames = λ t j there. frame t j there (cases_eq n (section_page_number config t.0 j));
-        shared = λ t j there. shared t j there (cases_eq n (section_page_number config t.0 j));
-      }
-        where
-          n : ℕ
-          n = section_page_number config s.0 i
-
-          same : (t : SecId) (j : ℕ) → IsSectionPage config.sections t.0 j → n ≡ section_page_number config t.0 j → x ≡ Shared t j
-          same t j there e =
-              let parts = numbers_differ config s.0 t.0 i j (section s i is) there e in
-              is ∙ (λ k. Shared (record { 0 = parts.0 k }) (parts.1 k))
-
-          other : (t : SecId) (j : ℕ) → (n ≡ section_page_number config t.0 j → ⊥) → same_page x (Shared t j) ≡ false
-          other t j apart = page_apart x (Shared t j) (λ e. apart (ap numbered (sym is ∙ e)))
-            where
-              numbered : Page → ℕ
-              numbered (Private p v) = 0
-              numbered (Shared u k) = section_page_number config u.0 k
-
-          frame : (t : SecId) (j : ℕ) → IsSectionPage config.sections t.0 j → (n ≡ section_page_number config t.0 j) ⊎ (n ≡ section_page_number config t.0 j → ⊥)
-              → slice_index_or (slice_set table.frames n (Some (pfn f))) (section_page_number config t.0 j) None ≡ option_map pfn (holder config page' (Shared t j))
-          frame t j there (inl e) =
-              ap (λ (m : ℕ). slice_index_or (slice_set table.frames n (Some (pfn f))) m None) (sym e)
-              ∙ (get_or-set_same table.frames n (Some (pfn f)) None (let within = number_within config s.0 i (section s i is) in omega (arith, within, fit.count))
-              ∙ ap (option_map pfn) (sym (subst (λ (g : Page). holder config page' g ≡ Some f) (same t j there e) held)))
-          frame t j there (inr apart) =
-              get_or-set_other table.frames n (section_page_number config t.0 j) (Some (pfn f)) None (λ e. apart (sym e))
-              ∙ (fit.frames t j there ∙ ap (option_map pfn) (sym (holder_stays (Shared t j) (other t j apart))))
-
-          shared : (t : SecId) (j : ℕ) → IsSectionPage config.sections t.0 j → (n ≡ section_page_number config t.0 j) ⊎ (n ≡ section_page_number config t.0 j → ⊥)
-              → slice_index table.counts (section_page_number config t.0 j) ≡ shares_held a.valid (holder config page' (Shared t j))
-          shared t j there (inl e) =
-              fit.shared t j there
-              ∙ (ap (shares_held a.valid) (subst (λ (g : Page). holder config a.page g ≡ None) (same t j there e) (holder_none config a.page x out))
-              ∙ (sym free_row.shares ∙ ap (shares_held a.valid) (sym (subst (λ (g : Page). holder config page' g ≡ Some f) (same t j there e) held))))
-          shared t j there (inr apart) = fit.shared t j there ∙ ap (shares_held a.valid) (sym (holder_stays (Shared t j) (other t j apart)))
+  begun_globals held section table fit = globals_held config a f x empty out free_row.shares held section table fit

@@ -30,7 +30,7 @@ use Rattle.pfn_database.specs.Rows.{IsOneOf}
 use Rattle.pfn_database.specs.declared.row.Row.{Row}
 use Rattle.pte_forms.specs.declared.pte.Pte.{Pte}
 use Rattle.section_table.specs.SectionTable.{behind_of}
-use Rattle.state_parts.specs.ChargedTable.{charged_at}
+use Rattle.state_parts.specs.ChargedTable.{kept_at}
 use Rattle.state_parts.specs.declared.charged_page.ChargedPage.{ChargedPage}
 use Rattle.pager_laws.proofs.KeptIsSound.{has_from_count}
 use Rattle.pager_laws.proofs.ReuseKept.{no_due, uncharged_own}
@@ -38,7 +38,7 @@ use Rattle.pager_model.specs.Around.{page_view, past_view}
 use Rattle.pager_model.specs.Changes.{is_section_block, without_page}
 use Rattle.pager_model.specs.Flights.{Flight, failed_flight, open_flights}
 use Rattle.pager_model.specs.Lookups.{block_of, count_page, entry_of as valid_of, is, is_assigned_to}
-use Rattle.pager_model.specs.Maps.{Mapped, is_private}
+use Rattle.pager_model.specs.Maps.{Mapped, is_private, proc}
 use Rattle.pager_model.specs.OfConfig.{IsOfConfig, IsOrigin}
 use Rattle.pager_model.specs.Pager.{Assigned, Pager}
 use Rattle.pager_model.specs.Reuse.{IsReuse}
@@ -57,10 +57,10 @@ use Rattle.state_fits.specs.Changes.{is_failed_first}
 use Rattle.state_fits.specs.Entries.{resting_place, section_page_number}
 use Rattle.state_fits.specs.Parts.{Parts}
 use Rattle.state_fits.specs.PartsFit.{PartsFit}
+use Rattle.state_fits.proofs.ChargedRows.{charged_is}
 use Rattle.state_fits.proofs.FrameRows.{row_read}
 use Rattle.state_fits.proofs.GoodEntries.{good_resting}
 use Rattle.state_fits.proofs.KnownEntries.{placed_entry, pte_known}
-use Rattle.state_fits.proofs.LiesNowhere.{charged_there}
 use Rattle.state_fits.proofs.ReuseParts.{holds, lies_is, one_charge, own, resting, still}
 use Rattle.state_fits.proofs.UnchargedPage.{assigned_fit, fewer_charged, other_count}
 
@@ -72,9 +72,9 @@ pub record CanReuse (f : ℕ) (parts : Parts) : Type 0 where
 -- a private page
 pub record CanRest (config : Config) (p v : ℕ) (parts : Parts) : Type 0 where
   pub mapped : IsMapped parts.tables p v
-  pub charged : IsSome (charged_at parts.pages p v)
+  pub charged : IsSome (kept_at parts.pages (Private (proc p) v))
   pub behind : IsSome (behind_of parts.sections p v)
-  pub entry : (c : ChargedPage) (b : Origin) (pte : Pte) → charged_at parts.pages p v ≡ Some c → behind_of parts.sections p v ≡ Some b → entry_of parts.tables p v ≡ Some pte → IsEntry (record pte { place = resting_place config b c.lies })
+  pub entry : (c : ChargedPage) (b : Origin) (pte : Pte) → kept_at parts.pages (Private (proc p) v) ≡ Some c → behind_of parts.sections p v ≡ Some b → entry_of parts.tables p v ≡ Some pte → IsEntry (record pte { place = resting_place config b c.lies })
   pub proc : p < parts.pages.procs
   pub place : IsSome (region_place v)
 
@@ -121,7 +121,7 @@ module _ (config : Config) (past : List Entry) (a : Pager) (seat : Seat) (f : Pf
       let has = has_from_count a.charged (Private p v) (let same = ap (count_page a.charged) is in omega (arith, one, same)) in
       record {
         mapped = subst IsSome (sym known) refl;
-        charged = subst IsSome (sym (fit.pages.each p.0 v ∙ charged_there a.charged a.touched a.lies a.assigned p.0 v has)) refl;
+        charged = subst IsSome (sym (fit.pages.each (Private p v) ∙ charged_is a.charged a.touched a.lies a.assigned (Private p v) has)) refl;
         behind = subst IsSome (sym behind_is) refl;
         entry = λ c b pte kept behind was. placed_entry pte (found.0).prot _ (resting_place config b c.lies) (sym was ∙ known)
             (let origin_is : (found.0).origin ≡ b = let same = sym behind_is ∙ behind in cc in

@@ -21,7 +21,7 @@ use Rattle.pfn_database.specs.Frames.{Frames}
 use Rattle.pfn_database.specs.Rows.{empty_row}
 use Rattle.pte_forms.specs.declared.pte.Pte.{Pte}
 use Rattle.section_table.specs.SectionTable.{behind_of}
-use Rattle.state_parts.specs.ChargedTable.{ChargedTable, charged_at}
+use Rattle.state_parts.specs.ChargedTable.{ChargedTable, IsTableSet, kept_at}
 use Rattle.state_parts.specs.declared.charged_page.ChargedPage.{ChargedPage}
 use Rattle.pager_laws.proofs.ReuseKept.{IsIdle}
 use Rattle.pager_model.specs.Around.{frame_view, past_view}
@@ -110,7 +110,7 @@ module _ (config : Config) (past : List Entry) (a : Pager) (seat : Seat) (f : Pf
 
   whole : (charged : List Page) (frames' : Frames) (tables' : PageTables) (pages' : ChargedTable) (globals' : GlobalPages) (file' : Blocks) → charged_reused (failed_flight past) g a.charged ≡ charged → IsEmptied frames'
       → TablesFit (pte_of config a.map a.valid page' a.lies) (length config.procs) tables'
-      → PagesFit (charged_row charged a.touched a.lies a.assigned) (length config.procs) pages'
+      → PagesFit config (charged_row charged a.touched a.lies a.assigned) pages'
       → GlobalsFit config page' a.valid globals'
       → FileFits (length charged) (length a.assigned) (owner_in a.assigned) config.pagefile file'
       → PartsFit config (e ∷ past) (after config past a e) (record parts { frames = frames'; tables = tables'; pages = pages'; globals = globals'; file = file'; failed = None })
@@ -156,10 +156,10 @@ module _ (config : Config) (past : List Entry) (a : Pager) (seat : Seat) (f : Pf
     globals_same : GlobalsFit config page' a.valid parts.globals
     globals_same = subst (λ (h : Page). GlobalsFit config page' a.valid (released_in config h parts.globals)) private globals_left
 
-    pub lies_is : (c : ChargedPage) → charged_at parts.pages p.0 v ≡ Some c → c.lies ≡ a.lies g
-    lies_is c read = charged_lies a.charged a.touched a.lies a.assigned p.0 v c (sym (fit.pages.each p.0 v) ∙ read) ∙ ap a.lies (sym private)
+    pub lies_is : (c : ChargedPage) → kept_at parts.pages (Private p v) ≡ Some c → c.lies ≡ a.lies g
+    lies_is c read = charged_lies a.charged a.touched a.lies a.assigned (Private p v) c (sym (fit.pages.each (Private p v)) ∙ read) ∙ ap a.lies (sym private)
 
-    rested : (c : ChargedPage) (b : Origin) (pte : Pte) (tables' : PageTables) → charged_at parts.pages p.0 v ≡ Some c → behind_of parts.sections p.0 v ≡ Some b → entry_of parts.tables p.0 v ≡ Some pte → tables'.procs ≡ parts.tables.procs
+    rested : (c : ChargedPage) (b : Origin) (pte : Pte) (tables' : PageTables) → kept_at parts.pages (Private p v) ≡ Some c → behind_of parts.sections p.0 v ≡ Some b → entry_of parts.tables p.0 v ≡ Some pte → tables'.procs ≡ parts.tables.procs
         → ((q w : ℕ) → entry_of tables' q w ≡ changed_at (entry_of parts.tables) p.0 v (Some (record pte { place = resting_place config b c.lies })) q w)
         → TablesFit (pte_of config a.map a.valid page' a.lies) (length config.procs) tables'
     rested c b pte tables' kept behind entry procs changed =
@@ -167,19 +167,19 @@ module _ (config : Config) (past : List Entry) (a : Pager) (seat : Seat) (f : Pf
         (λ q w. changed q w ∙ ap (λ (o : Option BlockId). changed_at (entry_of parts.tables) p.0 v (Some (record pte { place = resting_place config b o })) q w) (lies_is c kept))
 
     pub reuse_private_parts : (c : ChargedPage) (b : Origin) (pte : Pte) (frames' : Frames) (tables' : PageTables) → is_failed_first parts.failed g ≡ false → IsEmptied frames'
-        → charged_at parts.pages p.0 v ≡ Some c → behind_of parts.sections p.0 v ≡ Some b → entry_of parts.tables p.0 v ≡ Some pte → tables'.procs ≡ parts.tables.procs
+        → kept_at parts.pages (Private p v) ≡ Some c → behind_of parts.sections p.0 v ≡ Some b → entry_of parts.tables p.0 v ≡ Some pte → tables'.procs ≡ parts.tables.procs
         → ((q w : ℕ) → entry_of tables' q w ≡ changed_at (entry_of parts.tables) p.0 v (Some (record pte { place = resting_place config b c.lies })) q w)
         → PartsFit config (e ∷ past) (after config past a e) (record parts { frames = frames'; tables = tables'; failed = None })
     reuse_private_parts c b pte frames' tables' other emptied kept behind entry procs changed =
         whole a.charged frames' tables' parts.pages parts.globals parts.file (charged_is false other) emptied (rested c b pte tables' kept behind entry procs changed) fit.pages globals_same fit.file
 
     pub reuse_uncharged_parts : (c : ChargedPage) (b : Origin) (pte : Pte) (frames' : Frames) (tables' : PageTables) (pages' : ChargedTable) → is_failed_first parts.failed g ≡ true → IsEmptied frames'
-        → charged_at parts.pages p.0 v ≡ Some c → behind_of parts.sections p.0 v ≡ Some b → entry_of parts.tables p.0 v ≡ Some pte → tables'.procs ≡ parts.tables.procs
+        → kept_at parts.pages (Private p v) ≡ Some c → behind_of parts.sections p.0 v ≡ Some b → entry_of parts.tables p.0 v ≡ Some pte → tables'.procs ≡ parts.tables.procs
         → ((q w : ℕ) → entry_of tables' q w ≡ changed_at (entry_of parts.tables) p.0 v (Some (record pte { place = resting_place config b c.lies })) q w)
-        → pages'.procs ≡ parts.pages.procs → ((q w : ℕ) → charged_at pages' q w ≡ changed_at (charged_at parts.pages) p.0 v None q w)
+        → IsTableSet parts.pages pages' (Private p v) None
         → PartsFit config (e ∷ past) (after config past a e) (record parts { frames = frames'; tables = tables'; pages = pages'; file = record parts.file { charged = parts.file.charged - 1 }; failed = None })
-    reuse_uncharged_parts c b pte frames' tables' pages' first emptied kept behind entry procs changed pages_procs pages_changed =
+    reuse_uncharged_parts c b pte frames' tables' pages' first emptied kept behind entry procs changed pages_changed =
         whole (without_page a.charged g) frames' tables' pages' parts.globals (record parts.file { charged = parts.file.charged - 1 }) (charged_is true first) emptied (rested c b pte tables' kept behind entry procs changed)
-        (subst (λ (h : Page). PagesFit (charged_row (without_page a.charged h) a.touched a.lies a.assigned) (length config.procs) pages') (sym private)
-        (pages_uncharged a.charged a.touched a.lies a.assigned p.0 v (length config.procs) parts.pages pages' fit.pages pages_procs pages_changed))
+        (subst (λ (h : Page). PagesFit config (charged_row (without_page a.charged h) a.touched a.lies a.assigned) pages') (sym private)
+        (pages_uncharged a.charged a.touched a.lies a.assigned (Private p v) config parts.pages pages' fit.pages pages_changed))
         globals_same (file_uncharged a.charged g (length a.assigned) (owner_in a.assigned) config.pagefile parts.file one_charge fit.file)

@@ -1,28 +1,25 @@
 -- A page is charged no more: what is kept of charged pages, and the page file.
-use Rattle.std.proofs.Common.{◌≡◌, ℕ, ◌+◌, ◌-◌, ◌≤◌, Bool, true, false, not, List, [], ◌∷◌, Option, None, length, nat_eq, count_by, refl, sym, ◌∙◌, subst, arith}
-use Rattle.std.specs.Prelude.{◌&&◌}
+use Rattle.std.proofs.Common.{◌≡◌, ℕ, ◌+◌, ◌-◌, ◌≤◌, Bool, true, false, cond, not, List, [], ◌∷◌, Option, Some, None, length, count_by, refl, sym, ap, ◌∙◌, subst, arith}
 use Rattle.std.proofs.lemmas.Bool.{false≢true}
 use Rattle.std.proofs.lemmas.List.Filters.{length-filter_both}
 use Rattle.std.proofs.lemmas.List.Sums.{length-filter}
-use Rattle.vm_types.specs.PagePlaces.{changed_at}
 use Rattle.vm_types.specs.Same.{same_page}
+use Rattle.vm_types.specs.declared.config.Config.{Config}
 use Rattle.vm_types.specs.declared.names.BlockId.{BlockId}
 use Rattle.vm_types.specs.declared.names.Page.{Page}
-use Rattle.vm_types.specs.declared.names.Page.TheVariants.{Private}
 use Rattle.page_file.specs.Blocks.{Blocks}
-use Rattle.state_parts.specs.ChargedTable.{ChargedTable, charged_at}
-use Rattle.state_parts.specs.declared.charged_page.ChargedPage.{ChargedPage}
+use Rattle.state_parts.specs.ChargedTable.{ChargedTable, IsTableSet}
 use Rattle.pager_laws.proofs.KeptIsSound.{count_from_has, has_from_count, has_none, none_from_has}
 use Rattle.pager_laws.proofs.ReuseKept.{uncharged_other, uncharged_own}
 use Rattle.pager_model.specs.Changes.{without_page}
-use Rattle.pager_model.specs.Lookups.{count_page, is_assigned_to}
-use Rattle.pager_model.specs.Maps.{proc}
+use Rattle.pager_model.specs.Lookups.{block_of, count_page, is_assigned_to}
 use Rattle.pager_model.specs.Pager.{Assigned}
 use Rattle.pager_model.specs.Sets.{has_page}
 use Rattle.pager_rules.proofs.Basics.{count_cons, count_cons_yes, pages_equal, same_from_equal, same_page_refl}
 use Rattle.pager_rules.proofs.Put.{page_apart}
 use Rattle.state_fits.specs.File.{FileFits}
 use Rattle.state_fits.specs.Pages.{PagesFit, charged_row}
+use Rattle.state_fits.proofs.ChargedRows.{uncharged_is}
 use Rattle.state_fits.proofs.PartsSet.{pages_set}
 
 -- ---- counts
@@ -64,23 +61,18 @@ has_same charged charged' h same = go (has_page charged h) refl
     go true is = has_from_count charged' h (let some = count_from_has charged h is in omega (arith, some, same)) ∙ sym is
     go false is = has_none charged' h (same ∙ none_from_has charged h is) ∙ sym is
 
-module _ (charged touched : List Page) (lies : Page → Option BlockId) (assigned : List Assigned) (p v : ℕ) where
-  abbrev g : Page
-  g = Private (proc p) v
-
-  row_none : ◌≡◌ {A = Option ChargedPage} None (charged_row (without_page charged g) touched lies assigned p v)
+module _ (charged touched : List Page) (lies : Page → Option BlockId) (assigned : List Assigned) (g : Page) where
+  row_other : (h : Page) → same_page g h ≡ false → charged_row (without_page charged g) touched lies assigned h ≡ charged_row charged touched lies assigned h
   unfolding charged_row
-  row_none = rw (has_none (without_page charged g) g (uncharged_own charged g)) refl
+  row_other h apart =
+      ap (λ (b : Bool). cond b (Some (record { touched = has_page touched h; lies = lies h; assigned = block_of assigned h })) None)
+      (has_same charged (without_page charged g) h (other_count charged g h (λ equal. false≢true (sym apart ∙ same_from_equal g h equal))))
 
-  row_other : (q w : ℕ) → (nat_eq p q && nat_eq v w) ≡ false → charged_row (without_page charged g) touched lies assigned q w ≡ charged_row charged touched lies assigned q w
-  unfolding charged_row
-  row_other q w apart =
-      rw (has_same charged (without_page charged g) (Private (proc q) w) (other_count charged g (Private (proc q) w) (λ equal. false≢true (sym apart ∙ same_from_equal g (Private (proc q) w) equal)))) refl
-
-  pub pages_uncharged : (n : ℕ) (old new : ChargedTable) → PagesFit (charged_row charged touched lies assigned) n old → new.procs ≡ old.procs
-      → ((q w : ℕ) → charged_at new q w ≡ changed_at (charged_at old) p v None q w) → PagesFit (charged_row (without_page charged g) touched lies assigned) n new
-  pages_uncharged n old new fit procs changed =
-      pages_set (charged_row charged touched lies assigned) (charged_row (without_page charged g) touched lies assigned) n old new p v None fit procs changed row_none row_other
+  pub pages_uncharged : (config : Config) (old new : ChargedTable) → PagesFit config (charged_row charged touched lies assigned) old → IsTableSet old new g None
+      → PagesFit config (charged_row (without_page charged g) touched lies assigned) new
+  pages_uncharged config old new fit changed =
+      pages_set config (charged_row charged touched lies assigned) (charged_row (without_page charged g) touched lies assigned) old new g None fit changed
+      (sym (uncharged_is (without_page charged g) touched lies assigned g (has_none (without_page charged g) g (uncharged_own charged g)))) row_other
 
 pub file_uncharged : (charged : List Page) (g : Page) (assigned : ℕ) (owner : ℕ → Option Page) (n : ℕ) (file : Blocks) → count_page charged g ≡ 1 → FileFits (length charged) assigned owner n file
     → FileFits (length (without_page charged g)) assigned owner n (record file { charged = file.charged - 1 })

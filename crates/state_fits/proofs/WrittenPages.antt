@@ -15,9 +15,8 @@ use Rattle.vm_types.specs.declared.names.BlockId.TheVariants as block
 use Rattle.vm_types.specs.declared.names.Page.{Page}
 use Rattle.vm_types.specs.declared.names.Page.TheVariants.{Private, Shared}
 use Rattle.vm_types.specs.declared.names.Proc.{Proc}
-use Rattle.vm_types.specs.declared.names.SecId.{SecId}
 use Rattle.page_tables.specs.PageTables.{PageTables}
-use Rattle.state_parts.specs.ChargedTable.{ChargedTable, charged_at}
+use Rattle.state_parts.specs.ChargedTable.{ChargedTable, IsTableSet, kept_at}
 use Rattle.state_parts.specs.SwapTable.{SwapTable, swapped_at}
 use Rattle.state_parts.specs.declared.charged_page.ChargedPage.{ChargedPage}
 use Rattle.pager_laws.proofs.OutOkKept.{one_in_slot}
@@ -37,9 +36,10 @@ use Rattle.page_holders.proofs.Holders.{and_apart, holder_there}
 use Rattle.state_fits.specs.Entries.{TablesFit, place_away, pte_at, pte_by, pte_of}
 use Rattle.state_fits.specs.Pages.{PagesFit, charged_row}
 use Rattle.state_fits.specs.Swaps.{SwapsFit}
-use Rattle.state_fits.specs.Writes.{lies_by, lying_in, page_landed, page_written, slot_emptied, slot_filled, swaps_landed, swaps_written}
-use Rattle.state_fits.proofs.ChargedRows.{charged_is, counted_page, pages_alike, pages_changed}
-use Rattle.state_fits.proofs.PartsSet.{pages_same, tables_same}
+use Rattle.state_fits.specs.Writes.{landed_row, lying_in, slot_emptied, slot_filled, swaps_landed, swaps_written}
+use Rattle.state_fits.proofs.ChargedRows.{charged_is, counted_page, pages_changed, row_lies, uncharged_is}
+use Rattle.state_fits.proofs.OnePlace.{apart_back}
+use Rattle.state_fits.proofs.PartsSet.{pages_kept, pages_set, tables_same}
 use Rattle.state_fits.proofs.SwapBlocks.{AreLying, swaps_emptied, swaps_filled, swaps_from, swaps_same}
 
 -- ---- page table entries
@@ -67,11 +67,6 @@ unfolding pte_of
 pte_held config map valid page lies lies' p v held = at_held config p v (holder config page) lies lies' (entry_of valid p v) (map p v) held
 
 module _ (config : Config) (o : PastView) (a : Pager) (f : ℕ) (kept : IsKept config o a) where
-  -- where a shared page lies shows in no row
-  shared_row : (s : SecId) (i : ℕ) (b : Option BlockId) (p v : ℕ) → charged_row a.charged a.touched (at_page a.lies (Shared s i) b) a.assigned p v ≡ charged_row a.charged a.touched a.lies a.assigned p v
-  unfolding charged_row
-  shared_row s i b p v = refl
-
   pub tables_written : (g : Page) (d : BlockId) → a.page f ≡ Some g → (n : ℕ) (tables : PageTables) → TablesFit (pte_of config a.map a.valid a.page a.lies) n tables → TablesFit (pte_of config a.map a.valid a.page (at_page a.lies g (Some d))) n tables
   tables_written g d holds n tables fit =
       tables_same (pte_of config a.map a.valid a.page a.lies) (pte_of config a.map a.valid a.page (at_page a.lies g (Some d))) n tables fit
@@ -92,21 +87,9 @@ module _ (config : Config) (o : PastView) (a : Pager) (f : ℕ) (kept : IsKept c
     there : (x : Option BlockId) (q w : ℕ) → (nat_eq p.0 q && nat_eq v w) ≡ false → at_page a.lies g x (Private (proc q) w) ≡ a.lies (Private (proc q) w)
     there x q w apart = lies_other a.lies g (Private (proc q) w) x (and_apart p.0 q v w apart)
 
-    charged : has_page a.charged g ≡ true
-    charged = counted_page a.charged g (kept.held_charged f g refl holds)
-
-    abbrev row : ChargedPage
-    row = record { touched = has_page a.touched g; lies = a.lies g; assigned = block_of a.assigned g }
-
-    module _ (n : ℕ) (table : ChargedTable) (fit : PagesFit (charged_row a.charged a.touched a.lies a.assigned) n table) where
-      read : charged_at table p.0 v ≡ Some row
-      read = fit.each p.0 v ∙ charged_is a.charged a.touched a.lies a.assigned p.0 v charged
-
-      private_pages : (new : ChargedTable) → new.procs ≡ table.procs → ((q w : ℕ) → charged_at new q w ≡ page_written (Some g) d (charged_at table) q w) → PagesFit (charged_row a.charged a.touched lies' a.assigned) n new
-      private_pages new procs written =
-          pages_changed a.charged a.touched a.lies a.assigned p.0 v charged lies' a.assigned (λ q w apart. (there (Some d) q w apart, refl)) n table new (record row { lies = Some d }) fit procs
-          (λ q w. written q w ∙ ap (λ (c : Option ChargedPage). changed_at (charged_at table) p.0 v (option_map (lying_in d) c) q w) read)
-          (λ i. record { touched = row.touched; lies = sym (lies_same a.lies g (Some d)) i; assigned = row.assigned })
+    module _ (table : ChargedTable) (fit : PagesFit config (charged_row a.charged a.touched a.lies a.assigned) table) where
+      read : kept_at table g ≡ Some (record { touched = has_page a.touched g; lies = a.lies g; assigned = block_of a.assigned g })
+      read = fit.each g ∙ charged_is a.charged a.touched a.lies a.assigned g (counted_page a.charged g (kept.held_charged f g refl holds))
 
       -- ---- the swap blocks
       module _ (x : Flight) (goes : x.block ≡ d) (fits : FitsWrite x g (page_view config a g) (process_view config a)) (slots : ℕ) (swaps : SwapTable) (lying : SwapsFit a.lies slots swaps) where
@@ -176,32 +159,44 @@ module _ (config : Config) (o : PastView) (a : Pager) (f : ℕ) (kept : IsKept c
             (swaps_filled nowhere lies' p.0 v moved t are m not_there (lies_same a.lies g (Some d) ∙ ap Some (is ∙ ap (λ (r : ℕ). block.Swap (proc r) m) (sym own)))
             (λ w lies. (alone q m is).1 w (lies ∙ ap (λ (r : ℕ). Some (block.Swap (proc r) m)) own)))
 
-        private_swaps : (new : SwapTable) → new.procs ≡ swaps.procs → ((q m : ℕ) → swapped_at new q m ≡ swaps_written (Some g) d (charged_at table) (swapped_at swaps) q m) → SwapsFit lies' slots new
+        private_swaps : (new : SwapTable) → new.procs ≡ swaps.procs → ((q m : ℕ) → swapped_at new q m ≡ swaps_written g d (kept_at table g) (swapped_at swaps) q m) → SwapsFit lies' slots new
         private_swaps new procs written =
             swaps_from a.lies lies' (slot_filled d v (slot_emptied (a.lies g) (swapped_at swaps))) slots swaps new lying (filled (slot_emptied (a.lies g) (swapped_at swaps)) (emptied (a.lies g) refl) d refl) procs
-            (λ q m. written q m ∙ ap (λ (c : Option ChargedPage). slot_filled d v (slot_emptied (lies_by c) (swapped_at swaps)) q m) read)
+            (λ q m. written q m ∙ ap (λ (c : Option ChargedPage). swaps_written g d c (swapped_at swaps) q m) read)
 
   -- ---- a page that was modified meanwhile lies where it lay
-  module _ (g : Page) (holds : a.page f ≡ Some g) (x : Flight) (fits : FitsWrite x g (page_view config a g) (process_view config a)) (n slots : ℕ) (table new : ChargedTable) (swaps swaps' : SwapTable)
-      (fit : PagesFit (charged_row a.charged a.touched a.lies a.assigned) n table) (lying : SwapsFit a.lies slots swaps) (procs : new.procs ≡ table.procs) (same : swaps'.procs ≡ swaps.procs) where
-    pub landed_pages : (m : Bool) → ((q w : ℕ) → charged_at new q w ≡ page_landed m (Some g) x.block (charged_at table) q w) → PagesFit (charged_row a.charged a.touched (lies_at a.lies m (Some g) x.block) a.assigned) n new
-    landed_pages true written = pages_alike (charged_row a.charged a.touched a.lies a.assigned) n table new fit procs written
-    landed_pages false written = by g holds written
-      where
-        by : (h : Page) → a.page f ≡ Some h → ((q w : ℕ) → charged_at new q w ≡ page_written (Some h) x.block (charged_at table) q w) → PagesFit (charged_row a.charged a.touched (at_page a.lies h (Some x.block)) a.assigned) n new
-        by (Private p v) holds written = private_pages p v x.block holds n table fit new procs written
-        by (Shared s i) holds written = pages_same (charged_row a.charged a.touched a.lies a.assigned) (charged_row a.charged a.touched (at_page a.lies (Shared s i) (Some x.block)) a.assigned) n new
-            (pages_alike (charged_row a.charged a.touched a.lies a.assigned) n table new fit procs written) (shared_row s i (Some x.block))
+  module _ (g : Page) (holds : a.page f ≡ Some g) (x : Flight) (fits : FitsWrite x g (page_view config a g) (process_view config a)) (slots : ℕ) (table : ChargedTable) (swaps : SwapTable)
+      (fit : PagesFit config (charged_row a.charged a.touched a.lies a.assigned) table) (lying : SwapsFit a.lies slots swaps) where
+    -- by whether the page is charged
+    written_pages : (new : ChargedTable) → IsTableSet table new g (option_map (lying_in x.block) (kept_at table g)) → (b : Bool) → has_page a.charged g ≡ b → PagesFit config (charged_row a.charged a.touched (at_page a.lies g (Some x.block)) a.assigned) new
+    written_pages new written true is =
+        pages_changed a.charged a.touched a.lies a.assigned g is (at_page a.lies g (Some x.block)) a.assigned (λ h apart. (lies_other a.lies g h (Some x.block) (apart_back g h apart), refl)) config table new
+        (record { touched = has_page a.touched g; lies = Some x.block; assigned = block_of a.assigned g }) fit
+        (subst (λ (c : Option ChargedPage). IsTableSet table new g (option_map (lying_in x.block) c)) (fit.each g ∙ charged_is a.charged a.touched a.lies a.assigned g is) written)
+        (λ i. record { touched = has_page a.touched g; lies = sym (lies_same a.lies g (Some x.block)) i; assigned = block_of a.assigned g })
+    written_pages new written false is =
+        pages_set config (charged_row a.charged a.touched a.lies a.assigned) (charged_row a.charged a.touched (at_page a.lies g (Some x.block)) a.assigned) table new g (option_map (lying_in x.block) (kept_at table g)) fit written
+        (ap (option_map (lying_in x.block)) (fit.each g ∙ uncharged_is a.charged a.touched a.lies a.assigned g is) ∙ sym (uncharged_is a.charged a.touched (at_page a.lies g (Some x.block)) a.assigned g is))
+        (λ h apart. row_lies a.charged a.touched a.lies (at_page a.lies g (Some x.block)) a.assigned h (lies_other a.lies g h (Some x.block) (apart_back g h apart)))
 
-    pub landed_swaps : (m : Bool) → ((q n : ℕ) → swapped_at swaps' q n ≡ swaps_landed m (Some g) x.block (charged_at table) (swapped_at swaps) q n) → SwapsFit (lies_at a.lies m (Some g) x.block) slots swaps'
-    landed_swaps true written = swaps_from a.lies a.lies (swapped_at swaps) slots swaps swaps' lying (record { lying = lying.lying; found = lying.found }) same written
-    landed_swaps false written = by g holds fits written
+    pub landed_pages : (m : Bool) (new : ChargedTable) → IsTableSet table new g (landed_row m x.block (kept_at table g)) → PagesFit config (charged_row a.charged a.touched (lies_at a.lies m (Some g) x.block) a.assigned) new
+    landed_pages true new written = pages_kept config (charged_row a.charged a.touched a.lies a.assigned) table new g (kept_at table g) fit written (fit.each g)
+    landed_pages false new written = written_pages new written (has_page a.charged g) refl
+
+    pub landed_swaps : (m : Bool) (new : SwapTable) → new.procs ≡ swaps.procs → ((q n : ℕ) → swapped_at new q n ≡ swaps_landed m g x.block (kept_at table g) (swapped_at swaps) q n) → SwapsFit (lies_at a.lies m (Some g) x.block) slots new
+    landed_swaps true new same written = swaps_from a.lies a.lies (swapped_at swaps) slots swaps new lying (record { lying = lying.lying; found = lying.found }) same written
+    landed_swaps false new same written = by g holds fits written
       where
-        by : (h : Page) → a.page f ≡ Some h → FitsWrite x h (page_view config a h) (process_view config a) → ((q n : ℕ) → swapped_at swaps' q n ≡ swaps_written (Some h) x.block (charged_at table) (swapped_at swaps) q n)
-            → SwapsFit (at_page a.lies h (Some x.block)) slots swaps'
-        by (Private p v) holds fits written = private_swaps p v x.block holds n table fit x refl fits slots swaps lying swaps' same written
+        by : (h : Page) → a.page f ≡ Some h → FitsWrite x h (page_view config a h) (process_view config a) → ((q n : ℕ) → swapped_at new q n ≡ swaps_written h x.block (kept_at table h) (swapped_at swaps) q n)
+            → SwapsFit (at_page a.lies h (Some x.block)) slots new
+        by (Private p v) holds fits written = private_swaps p v x.block holds table fit x refl fits slots swaps lying new same written
         by (Shared s i) holds fits written =
-            swaps_from a.lies (at_page a.lies (Shared s i) (Some x.block)) (swapped_at swaps) slots swaps swaps' lying (record { lying = lying.lying; found = lying.found }) same written
+            swaps_from a.lies (at_page a.lies (Shared s i) (Some x.block)) (swapped_at swaps) slots swaps new lying (record { lying = lying.lying; found = lying.found }) same
+            (λ q n. written q n ∙ unmoved (kept_at table (Shared s i)) q n)
+          where
+            unmoved : (c : Option ChargedPage) (q n : ℕ) → swaps_written (Shared s i) x.block c (swapped_at swaps) q n ≡ swapped_at swaps q n
+            unmoved None q n = refl
+            unmoved (Some row) q n = refl
 
     pub landed_tables : (m : Bool) (tables : PageTables) → TablesFit (pte_of config a.map a.valid a.page a.lies) slots tables → TablesFit (pte_of config a.map a.valid a.page (lies_at a.lies m (Some g) x.block)) slots tables
     landed_tables true tables old = old

@@ -5,13 +5,14 @@ use Rattle.vm_types.specs.Behind.{first_behind}
 use Rattle.vm_types.specs.Configuration.{section_pages}
 use Rattle.vm_types.specs.declared.config.Config.{Config}
 use Rattle.vm_types.specs.declared.config.ProcSpec.{ProcSpec}
+use Rattle.vm_types.specs.declared.names.Page.{Page}
 use Rattle.vm_types.specs.declared.names.ProcStatus.TheVariants as status
 use Rattle.pte_forms.specs.declared.pte.Pte.{Pte}
 use Rattle.page_tables.specs.PageTables.{entry_of}
 use Rattle.pfn_database.specs.Frames.{opening as opening_frames}
 use Rattle.section_table.specs.SectionTable.{behind_of, part_of}
 use Rattle.pager_model.specs.Maps.{Mapped, first_map, page_behind}
-use Rattle.state_parts.specs.ChargedTable.{charged_at}
+use Rattle.state_parts.specs.ChargedTable.{HasPagedPlaces, kept_at}
 use Rattle.state_parts.specs.SwapTable.{swapped_at}
 use Rattle.state_parts.specs.declared.process_row.ProcessRow.{ProcessRow}
 use Rattle.state_parts.specs.declared.spoken_row.SpokenRow.{SpokenRow}
@@ -41,7 +42,8 @@ pub record AreFirst (config : Config) (parts : Parts) : Type 0 where
   pub kinds : (parts.sections).parts ≡ map part_of config.sections
   pub behind : (p v : ℕ) → behind_of parts.sections p v ≡ first_behind config p v
   pub page_procs : (parts.pages).procs ≡ length config.procs
-  pub pages : (p v : ℕ) → charged_at parts.pages p v ≡ None
+  pub page_places : HasPagedPlaces config.sections parts.pages
+  pub pages : (g : Page) → kept_at parts.pages g ≡ None
   pub globals : parts.globals ≡ record { frames = replicate (sum_by section_pages config.sections) None; counts = replicate (sum_by section_pages config.sections) 0 }
   pub file : parts.file ≡ record { charged = 0; owners = replicate config.pagefile None }
   pub swap_procs : (parts.swaps).procs ≡ length config.procs

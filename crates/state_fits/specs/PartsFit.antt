@@ -24,7 +24,7 @@ pub record PartsFit (config : Config) (past : List Entry) (a : Pager) (parts : P
   pub spoken : SpokenFit (λ p. spoken_by p past) (length config.procs) parts.spoken
   pub tables : TablesFit (pte_of config a.map a.valid a.page a.lies) (length config.procs) parts.tables
   pub sections : SectionsFit config (origin_of a.map) parts.sections
-  pub pages : PagesFit (charged_row a.charged a.touched a.lies a.assigned) (length config.procs) parts.pages
+  pub pages : PagesFit config (charged_row a.charged a.touched a.lies a.assigned) parts.pages
   pub globals : GlobalsFit config a.page a.valid parts.globals
   pub file : FileFits (length a.charged) (length a.assigned) (owner_in a.assigned) config.pagefile parts.file
   pub swaps : SwapsFit a.lies (length config.procs) parts.swaps

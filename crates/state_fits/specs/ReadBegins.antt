@@ -41,15 +41,16 @@ abbrev pub charged_now : Option ChargedPage → ChargedPage
 charged_now None = record { touched = false; lies = None; assigned = None }
 charged_now (Some row) = row
 
-abbrev pub charged_in : Page → (ℕ → ℕ → Option ChargedPage) → ℕ → ℕ → Option ChargedPage
-charged_in (Private p v) row q w = changed_at row p.0 v (Some (charged_now (row p.0 v))) q w
-charged_in (Shared s i) row q w = row q w
+-- of a page for which a fault reads
+abbrev pub charged_in : Page → Option ChargedPage → Option ChargedPage
+charged_in (Private p v) row = Some (charged_now row)
+charged_in (Shared s i) row = row
 
 -- one block more is charged, if the page wasn't charged before
 abbrev pub one_charge : Option ChargedPage → Blocks → Blocks
 one_charge None file = record file { charged = file.charged + 1 }
 one_charge (Some row) file = file
 
-abbrev pub file_charged : Page → (ℕ → ℕ → Option ChargedPage) → Blocks → Blocks
-file_charged (Private p v) row file = one_charge (row p.0 v) file
+abbrev pub file_charged : Page → Option ChargedPage → Blocks → Blocks
+file_charged (Private p v) row file = one_charge row file
 file_charged (Shared s i) row file = file

@@ -139,8 +139,8 @@ config_formed bad sections procs maps fails body pb ps pp pm pf pt =
 
 -- ---- the store
 pub opened : (n : ℕ) (bytes : List ℕ) (s : StoreView MemoryBlock) (blocks : List (BlockId × MemoryBlock)) → n ≡ 4096 → s.buffers ≡ replicate n (Some bytes)
-    → s.blocks ≡ map (λ (p : BlockId × MemoryBlock). Some p.1) blocks → All (λ (p : BlockId × MemoryBlock). reads_of p.1 + writes_of p.1 ≤ 0) blocks → 0 < s.left → IsReady 0 s
-opened n bytes s blocks many buffers are unused left =
+    → s.blocks ≡ map (λ (p : BlockId × MemoryBlock). Some p.1) blocks → All (λ (p : BlockId × MemoryBlock). reads_of p.1 + writes_of p.1 ≤ 0) blocks → 0 < s.left → s.pool.size ≤ s.left + 4096 → IsReady 0 s
+opened n bytes s blocks many buffers are unused left full =
     record {
       many = ap length buffers ∙ (length-replicate n (Some bytes) ∙ many);
       buffers = All-same IsSome s.buffers _ buffers (All-replicate IsSome n (Some bytes) refl);
@@ -148,4 +148,5 @@ opened n bytes s blocks many buffers are unused left =
       few = All-same (λ (o : Option MemoryBlock). IfSome o (λ b. reads_of b + writes_of b ≤ 0)) s.blocks _ are
           (All-map (λ (o : Option MemoryBlock). IfSome o (λ b. reads_of b + writes_of b ≤ 0)) (λ (p : BlockId × MemoryBlock). Some p.1) blocks unused);
       left = left;
+      full = full;
     }

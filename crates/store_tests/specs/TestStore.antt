@@ -21,10 +21,11 @@ in_row (block.Section s i) number = block.Section s number
 in_row (block.PageFile i) number = block.PageFile number
 in_row (block.Swap p i) number = block.Swap p number
 
--- all is at home, and no block was called more often
+-- all is at home, the pool's buffers that aren't frames' are in it, and no block was called more often
 pub record IsReady (calls : ℕ) (s : StoreView MemoryBlock) : Type 0 where
   pub many : length s.buffers ≡ 4096
   pub buffers : All IsSome s.buffers
   pub blocks : All IsSome s.blocks
   pub few : All (λ o. IfSome o (λ b. reads_of b + writes_of b ≤ calls)) s.blocks
   pub left : 0 < s.left
+  pub full : s.pool.size ≤ s.left + 4096

@@ -1,3 +1,4 @@
 pub mod Asking
 pub mod Printed
 pub mod Answering
+pub mod Undeclaring

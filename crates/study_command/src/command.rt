@@ -1,22 +1,23 @@
 ghost use Rattle.std.specs.Prelude.{◌≡◌, ◌≢◌, ◌⊎◌, ◌≤◌, ◌++◌, length};
 ghost use Rattle.outside_io.specs.Causes.{Rose};
 ghost use Rattle.vm_types.specs.Configuration.{IsWellFormed};
-ghost use Rattle.program_ends.specs.Concludes.{Concludes, EndsAnswered, HasTold, WasCut};
-ghost use Rattle.program_ends.specs.Ends.{Ends};
-ghost use Rattle.program_ends.specs.Tells.{IsTrace, Tells};
-ghost use Rattle.program_ends.specs.Wrongs.{IsWrongText, TellsWrong};
+ghost use Rattle.command_ends.specs.Concludes.{Concludes, EndsAnswered, HasTold, WasCut};
+ghost use Rattle.command_ends.specs.Ends.{Ends};
+ghost use Rattle.command_ends.specs.Tells.{IsTrace, Tells};
+ghost use Rattle.command_ends.specs.Wrongs.{IsWrongText, TellsWrong};
 ghost use Rattle.pager_model.specs.Text.{status_line};
 ghost use Rattle.study_command.specs.StudyText.{IsStudyAnswer, answer_lines};
+ghost use Rattle.study_command.specs.Undeclared.{undeclared};
 
 use crate::answers::{Answers, answers_of};
 use crate::printing::print_answers;
 use crate::words::Study;
 use arrayvec::ArrayVec;
+use command_ends::{Status, Wrong, end_fault, end_with, wrong_of};
 use outside_io::{Sink, Source};
-use program_ends::{Status, Wrong, end_fault, end_with, wrong_of};
 use std::alloc::Global;
 use trace_reader::read_trace;
-use vm_types::Config;
+use vm_types::{Config, Proc};
 
 // Writes the lines and the status 0.
 fn end_answers<K: Sink>(answers: &Answers, frames: u32, sink: &mut K) -> Status
@@ -43,6 +44,17 @@ fn study_config<K: Sink>(alloc: Global, config: &Config, study: Study, sink: &mu
     }
 }
 
+// That the trace doesn't have the process, if so.
+fn undeclared(config: &Config, process: Proc) -> Option<Wrong>
+    ensures { result ≡ undeclared config.now process }
+{
+    if config.procs.items().len() <= process.0 as usize {
+        Some(Wrong::Undeclared(process))
+    } else {
+        None
+    }
+}
+
 // The outcome of the command.
 fn conclude<S: Source, K: Sink>(
     alloc: Global,
@@ -57,8 +69,11 @@ fn conclude<S: Source, K: Sink>(
     ensures kept { IsWrongText result.1 (S.seen source.old).left kept.new.items }
     ensures faults_later { (S.seen source.old).failures ≤ (S.seen source.new).failures }
 {
-    match read_trace(source, alloc, kept) {
-        Ok(config) => (study_config(alloc, &config, study, sink), None),
+    match read_trace(alloc, source, kept) {
+        Ok(config) => {
+            let status = study_config(alloc, &config, study, sink);
+            (status, undeclared(&config, study.process))
+        }
         Err(fault) => (end_fault(fault, sink), wrong_of(fault)),
     }
 }
@@ -71,7 +86,8 @@ fn conclude<S: Source, K: Sink>(
 /// again; a `CUT` for each place that shows that no schedule has fewer; and the status line. Each line
 /// is one write of a whole text. The status is 0 for a trace, 2 if the input is none, 3 only if a read
 /// failed, 4 only if a write failed or took nothing, 7 if memory ran out. It answers besides what is
-/// wrong with the input, if anything is, and keeps the first 80 bytes of a faulty line in `kept`.
+/// wrong with the input, or that the trace doesn't have the process, and keeps the first 80 bytes of a faulty
+/// line in `kept`.
 ///
 /// Takes time as the references times the logarithm of the frames, and for LRU as a 128th part of the
 /// references between two to the same page.

@@ -4,8 +4,8 @@ ghost use Rattle.study_command.specs.StudyText.{answer_lines, faults_line, lru_l
 
 use crate::answers::Answers;
 use arrayvec::ArrayVec;
+use command_ends::{push_counted, write_line};
 use outside_io::{Sink, WriteFault};
-use program_ends::{push_counted, write_line};
 
 // How many references there are, and to how many distinct pages.
 fn print_pages<K: Sink>(pages: u32, distinct: u32, sink: &mut K) -> Result<(), WriteFault>

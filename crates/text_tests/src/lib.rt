@@ -4,6 +4,8 @@
 #![tactic(auto)]
 
 #[cfg(test)]
+mod of_command_ends;
+#[cfg(test)]
 mod of_command_messages;
 #[cfg(test)]
 mod of_line_reader;
@@ -13,8 +15,6 @@ mod of_make_summary;
 mod of_outside_io;
 #[cfg(test)]
 mod of_paging_study;
-#[cfg(test)]
-mod of_program_ends;
 #[cfg(test)]
 mod of_run_text;
 #[cfg(test)]

@@ -1,9 +1,9 @@
 use arrayvec::ArrayVec;
+use command_ends::Wrong;
 use command_messages::{LineFault, explain, quoted_fault};
 use outside_io::MemorySink;
-use program_ends::Wrong;
 use std::test::Fail;
-use trace_reader::Cause;
+use trace_reader::{Bound, Breach, Cause};
 
 // The words of a faulty command line, and what is said before usage.
 #[test]
@@ -95,46 +95,140 @@ fn says_what_stands_in_the_place_of_a_trace(rt: HostRuntime) -> Result<(), Fail>
         (
             1,
             b"\xEF\xBB\xBFVMTRACE 1\r",
-            "neqysbar: line 1: a byte order mark stands in front of the trace, which is plain ASCII: \\xEF\\xBB\\xBFVMTRACE 1\n",
+            "neqysbar: line 1: a byte order mark stands in front of the trace, which is plain ASCII\n    \\xEF\\xBB\\xBFVMTRACE 1\n",
         ),
         (
             1,
             b"\xFF\xFEV\x00",
-            "neqysbar: line 1: the input begins as UTF-16 does, and a trace is plain ASCII: \\xFF\\xFEV\\x00\n",
+            "neqysbar: line 1: the input begins as UTF-16 does, and a trace is plain ASCII\n    \\xFF\\xFEV\\x00\n",
         ),
         (
             1,
             b"1 A ZERO 00000000 F0",
-            "neqysbar: line 1: the input begins as a log does, and a trace begins with VMTRACE 1: 1 A ZERO 00000000 F0\n",
+            "neqysbar: line 1: the input begins as a log does, and a trace begins with VMTRACE 1\n    1 A ZERO 00000000 F0\n",
         ),
         (
             1,
             b"PFN AT 0",
-            "neqysbar: line 1: the input begins as a log does, and a trace begins with VMTRACE 1: PFN AT 0\n",
+            "neqysbar: line 1: the input begins as a log does, and a trace begins with VMTRACE 1\n    PFN AT 0\n",
         ),
         (
             1,
             b"VMSDUMP1\x00",
-            "neqysbar: line 1: the input begins as a dump does, and a trace begins with VMTRACE 1: VMSDUMP1\\x00\n",
+            "neqysbar: line 1: the input begins as a dump does, and a trace begins with VMTRACE 1\n    VMSDUMP1\\x00\n",
         ),
         (
             1,
             b"\x7FELF",
-            "neqysbar: line 1: the line has a byte that is neither a blank, a tab nor a printable character: \\x7FELF\n",
+            "neqysbar: line 1: the line has a byte that is neither a blank, a tab nor a printable character\n    \\x7FELF\n",
         ),
         (
             2,
             b"1 \xEF",
-            "neqysbar: line 2: the line has a byte that is neither a blank, a tab nor a printable character: 1 \\xEF\n",
+            "neqysbar: line 2: the line has a byte that is neither a blank, a tab nor a printable character\n    1 \\xEF\n",
         ),
     ];
     for (number, bytes, message) in table {
         let mut kept = ArrayVec::new();
         kept.try_extend_from_slice(bytes)?;
         let mut messages = MemorySink::new(alloc, 2000, Vec::new(alloc), Vec::new(alloc))?;
-        let wrong = Wrong::Line(number, Cause::NotAscii);
+        let wrong = Wrong::Line(number, Breach::at_word(0, Cause::NotAscii));
         explain(2, Some(wrong), None, &kept, &mut messages);
         assert_eq!(rt; messages.taken(), message.as_bytes());
     }
+    Ok(())
+}
+
+// The word that is wrong, what may stand there, and the message behind the number of the line.
+#[test]
+fn marks_the_word_that_is_wrong(rt: HostRuntime) -> Result<(), Fail> {
+    let alloc = rt.alloc();
+    let table: [(u8, Cause, Bound, &[u8], &str); 10] = [
+        (
+            1,
+            Cause::OutOfRange,
+            Bound::HiLimit(256),
+            b"BODY",
+            "WAITLIMIT is 256, so HILIMIT is at most 256\n    BODY\n    ^\n",
+        ),
+        (
+            3,
+            Cause::OutOfRange,
+            Bound::Within(1, 8),
+            b"PARAM PFC 32\r",
+            "the number is from 1 to 8\n    PARAM PFC 32\n              ^\n",
+        ),
+        (
+            2,
+            Cause::UnknownWord,
+            Bound::Free,
+            b"\tPARAM  PFD 9",
+            "the word is none of those that may stand in its place\n     PARAM  PFD 9\n            ^\n",
+        ),
+        (
+            2,
+            Cause::Misplaced,
+            Bound::Free,
+            b"FRAMES",
+            "the line has too many or too few words\n    FRAMES\n          ^\n",
+        ),
+        (
+            1,
+            Cause::Misplaced,
+            Bound::Free,
+            b"FRAMES 8",
+            "the line doesn't belong here\n    FRAMES 8\n    ^\n",
+        ),
+        (
+            2,
+            Cause::Misplaced,
+            Bound::Next(1),
+            b"PROCESS C 4 4 4 0",
+            "processes are declared in the order of their letters, from A on\n    PROCESS C 4 4 4 0\n            ^\n",
+        ),
+        (
+            3,
+            Cause::Unaligned,
+            Bound::Multiple(512),
+            b"MAPZERO A 1 1 UW",
+            "the address has 1 to 8 hexadecimal digits, and is a multiple of 512\n    MAPZERO A 1 1 UW\n              ^\n",
+        ),
+        (
+            6,
+            Cause::OutOfRange,
+            Bound::Pages(1),
+            b"MAPSEC A 0 1 LIB 1 UW",
+            "the section has 1 pages, and those from this page on are among them\n    MAPSEC A 0 1 LIB 1 UW\n                     ^\n",
+        ),
+        (
+            6,
+            Cause::OutOfRange,
+            Bound::Locks(4),
+            b"PROCESS A 4 4 4 3",
+            "the limit is 4, so the locks and 2 are at most 4\n    PROCESS A 4 4 4 3\n                    ^\n",
+        ),
+        (
+            0,
+            Cause::LineTooLong,
+            Bound::Free,
+            b"!",
+            "the line has more than 255 bytes\n    !\n",
+        ),
+    ];
+    for (word, cause, bound, bytes, message) in table {
+        let mut kept = ArrayVec::new();
+        kept.try_extend_from_slice(bytes)?;
+        let mut messages = MemorySink::new(alloc, 2000, Vec::new(alloc), Vec::new(alloc))?;
+        let wrong = Wrong::Line(5, Breach::bounded(word, cause, bound));
+        explain(2, Some(wrong), None, &kept, &mut messages);
+        assert!(rt; messages.taken().starts_with(b"neqysbar: line 5: "));
+        assert!(rt; messages.taken().ends_with(message.as_bytes()));
+    }
+    let mut messages = MemorySink::new(alloc, 2000, Vec::new(alloc), Vec::new(alloc))?;
+    explain(2, Some(Wrong::Empty), None, &ArrayVec::new(), &mut messages);
+    assert_eq!(rt;
+        messages.taken(),
+        b"neqysbar: the input is empty\n".as_slice()
+    );
     Ok(())
 }

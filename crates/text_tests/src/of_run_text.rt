@@ -1,8 +1,8 @@
 ghost use Rattle.std.specs.Prelude.{◌≡◌, IfOk};
 ghost use Rattle.text_tests.specs.TestRun.{test_config, test_report};
 
+use command_ends::Status;
 use outside_io::MemorySink;
-use program_ends::Status;
 use report_lines::{FrameRow, ProcessRow, Report};
 use run_text::print_run;
 use std::alloc::Global;

@@ -1,6 +1,6 @@
 use arrayvec::ArrayVec;
+use command_ends::Status;
 use outside_io::{MemorySink, MemorySource};
-use program_ends::Status;
 use std::test::Fail;
 use study_command::{Study, first_word, study_of, study_trace};
 use vm_types::Proc;

@@ -11,9 +11,12 @@ use Rattle.trace_words.specs.declared.cause.Cause.TheVariants.{UnknownWord, Misp
 use Rattle.trace_words.specs.Judged.{◌>>=◌, owed}
 use Rattle.trace_words.specs.Letter.{letter}
 use Rattle.trace_words.specs.Name.{is_name}
-use Rattle.trace_words.specs.Number.{decimal, decimal_within}
+use Rattle.trace_words.specs.Number.{decimal}
 use Rattle.trace_words.specs.Pairs.{pairs}
 use Rattle.trace_words.specs.Words.{is}
+use Rattle.trace_lines.specs.declared.breach.Bound.TheVariants.{Free, Bytes, Next, Locks, Quota, Extent}
+use Rattle.trace_lines.specs.declared.breach.Breach.{Breach}
+use Rattle.trace_lines.specs.Breaches.{at_word, bounded, counted, marked, miscounted, ranged}
 use Rattle.trace_lines.specs.Lookups.{bytes_at, has_file, number_named, section}
 use Rattle.trace_lines.specs.Says.{Says, Section, Data, Process}
 
@@ -26,31 +29,39 @@ abbrev pub has_room : List Held → ℕ → Bool
 has_room sections pages = nat_lt (length sections) 64 && nat_le (sum_by section_pages sections + pages) 16384
 
 -- SECTION name SHARED n, SECTION name CRF n
-abbrev pub section_line : Config → List (List ℕ) → Result Says Cause
+abbrev pub section_line : Config → List (List ℕ) → Result Says Breach
 section_line config (name ∷ word ∷ n ∷ []) =
-    owed (is_name name) UnknownWord
-    (section_kind word >>= λ of_kind. decimal_within 1 4294967295 n >>= λ pages.
-    owed (not (is_some (number_named config.sections name))) Repeated
-    (owed (has_room config.sections pages) TooMany (Ok (Section name of_kind pages))))
-section_line config other = Err Misplaced
+    owed (is_name name) (at_word 2 UnknownWord)
+    (marked 3 Free (section_kind word) >>= λ of_kind. ranged 4 1 4294967295 n >>= λ pages.
+    owed (not (is_some (number_named config.sections name))) (at_word 2 Repeated)
+    (owed (has_room config.sections pages) (at_word 4 TooMany) (Ok (Section name of_kind pages))))
+section_line config other = Err (miscounted 2 3 other)
 
 -- DATA name offset hex, inside a section that has a file
-abbrev pub data_line : Config → List (List ℕ) → Result Says Cause
+abbrev pub data_line : Config → List (List ℕ) → Result Says Breach
 data_line config (name ∷ offset ∷ hex ∷ []) =
-    section config.sections name >>= λ s. owed (has_file config.sections s) NoSuch
-    (decimal offset >>= λ at. pairs hex >>= λ bytes.
-    owed (nat_le (at + length bytes) (bytes_at config.sections s)) OutOfRange (Ok (Data s at bytes)))
-data_line config other = Err Misplaced
+    marked 2 Free (section config.sections name) >>= λ s. owed (has_file config.sections s) (at_word 2 NoSuch)
+    (marked 3 (Bytes (bytes_at config.sections s)) (decimal offset) >>= λ at. marked 4 Free (pairs hex) >>= λ bytes.
+    owed (nat_le (at + length bytes) (bytes_at config.sections s)) (bounded 3 OutOfRange (Bytes (bytes_at config.sections s))) (Ok (Data s at bytes)))
+data_line config other = Err (miscounted 2 3 other)
 
 -- the bounds between the numbers of a process
 abbrev pub are_ordered : ProcSpec → Bool
 are_ordered spec = nat_le (spec.locks + 2) spec.limit && nat_le spec.limit spec.quota && nat_le spec.quota spec.extent
 
+-- the first of them that a number breaks
+abbrev pub disordered : ProcSpec → Breach
+disordered spec =
+    if nat_lt spec.limit (spec.locks + 2) then bounded 6 OutOfRange (Locks spec.limit)
+    else if nat_lt spec.quota spec.limit then bounded 4 OutOfRange (Quota spec.limit)
+    else bounded 5 OutOfRange (Extent spec.quota)
+
 -- PROCESS x limit quota extent locks, of the next letter
-abbrev pub process_line : Config → List (List ℕ) → Result Says Cause
+abbrev pub process_line : Config → List (List ℕ) → Result Says Breach
 process_line config (x ∷ limit ∷ quota ∷ extent ∷ locks ∷ []) =
-    letter x >>= λ p. owed (p == length config.procs) Misplaced
-    (decimal limit >>= λ limit. decimal quota >>= λ quota. decimal_within 0 1024 extent >>= λ extent. decimal locks >>= λ locks.
+    marked 2 (Next (length config.procs)) (letter x) >>= λ p.
+    owed (p == length config.procs) (bounded 2 Misplaced (Next (length config.procs)))
+    (counted 3 limit >>= λ limit. counted 4 quota >>= λ quota. ranged 5 0 1024 extent >>= λ extent. counted 6 locks >>= λ locks.
     let spec : ProcSpec = record { limit = limit; quota = quota; extent = extent; locks = locks } in
-    owed (are_ordered spec) OutOfRange (owed (nat_lt (length config.procs) 16) TooMany (Ok (Process spec))))
-process_line config other = Err Misplaced
+    owed (are_ordered spec) (disordered spec) (owed (nat_lt (length config.procs) 16) (at_word 2 TooMany) (Ok (Process spec))))
+process_line config other = Err (miscounted 2 5 other)

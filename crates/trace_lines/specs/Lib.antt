@@ -3,6 +3,7 @@ pub mod Keywords
 pub mod ParamWords
 pub mod Says
 pub mod Lookups
+pub mod Breaches
 pub mod Headers
 pub mod Declarations
 pub mod Mappings

@@ -4,11 +4,13 @@ use Rattle.std.specs.List.{list_any}
 use Rattle.vm_types.specs.declared.config.Config.{Config}
 use Rattle.vm_types.specs.declared.config.Mapping.{Mapping}
 use Rattle.vm_types.specs.declared.config.Origin.TheVariants as origin
-use Rattle.trace_words.specs.declared.cause.Cause.{Cause}
-use Rattle.trace_words.specs.declared.cause.Cause.TheVariants.{Misplaced, OutOfRange, Repeated}
+use Rattle.trace_words.specs.declared.cause.Cause.TheVariants.{OutOfRange, Repeated}
 use Rattle.trace_words.specs.Judged.{◌>>=◌, owed}
-use Rattle.trace_words.specs.Number.{decimal, decimal_within}
+use Rattle.trace_words.specs.Number.{decimal}
 use Rattle.trace_words.specs.Protection.{protection}
+use Rattle.trace_lines.specs.declared.breach.Bound.TheVariants.{Free, Multiple, Pages, Regions}
+use Rattle.trace_lines.specs.declared.breach.Breach.{Breach}
+use Rattle.trace_lines.specs.Breaches.{at_word, bounded, marked, miscounted, ranged}
 use Rattle.trace_lines.specs.Lookups.{process, section, pages_at, aligned, is_inside}
 use Rattle.trace_lines.specs.Says.{Says, Map}
 
@@ -18,23 +20,25 @@ overlaps m n =
     ((m.proc).0 == (n.proc).0) && nat_lt (m.at).0 ((n.at).0 + 512 * n.pages) && nat_lt (n.at).0 ((m.at).0 + 512 * m.pages)
 
 -- a mapping inside the regions, of pages that aren't mapped yet
-abbrev pub mapped : Config → Mapping → Result Says Cause
+abbrev pub mapped : Config → Mapping → Result Says Breach
 mapped config m =
-    owed (is_inside (m.at).0 m.pages) OutOfRange
-    (owed (not (list_any (λ before. overlaps before m) config.maps)) Repeated (Ok (Map m)))
+    owed (is_inside (m.at).0 m.pages) (bounded 3 OutOfRange Regions)
+    (owed (not (list_any (λ before. overlaps before m) config.maps)) (at_word 3 Repeated) (Ok (Map m)))
 
 -- MAPZERO x addr n prot
-abbrev pub mapzero_line : Config → List (List ℕ) → Result Says Cause
+abbrev pub mapzero_line : Config → List (List ℕ) → Result Says Breach
 mapzero_line config (x ∷ addr ∷ n ∷ prot ∷ []) =
-    process config.procs x >>= λ p. aligned 512 addr >>= λ at. decimal_within 1 4096 n >>= λ pages. protection prot >>= λ code.
+    marked 2 Free (process config.procs x) >>= λ p. marked 3 (Multiple 512) (aligned 512 addr) >>= λ at.
+    ranged 4 1 4096 n >>= λ pages. marked 5 Free (protection prot) >>= λ code.
     mapped config (record { proc = record { 0 = p }; at = record { 0 = at }; pages = pages; from = origin.Zero; prot = code })
-mapzero_line config other = Err Misplaced
+mapzero_line config other = Err (miscounted 2 4 other)
 
 -- MAPSEC x addr n name first prot
-abbrev pub mapsec_line : Config → List (List ℕ) → Result Says Cause
+abbrev pub mapsec_line : Config → List (List ℕ) → Result Says Breach
 mapsec_line config (x ∷ addr ∷ n ∷ name ∷ first ∷ prot ∷ []) =
-    process config.procs x >>= λ p. aligned 512 addr >>= λ at. decimal_within 1 4096 n >>= λ pages.
-    section config.sections name >>= λ s. decimal first >>= λ page. protection prot >>= λ code.
-    owed (nat_le (page + pages) (pages_at config.sections s)) OutOfRange
+    marked 2 Free (process config.procs x) >>= λ p. marked 3 (Multiple 512) (aligned 512 addr) >>= λ at.
+    ranged 4 1 4096 n >>= λ pages. marked 5 Free (section config.sections name) >>= λ s.
+    marked 6 (Pages (pages_at config.sections s)) (decimal first) >>= λ page. marked 7 Free (protection prot) >>= λ code.
+    owed (nat_le (page + pages) (pages_at config.sections s)) (bounded 6 OutOfRange (Pages (pages_at config.sections s)))
     (mapped config (record { proc = record { 0 = p }; at = record { 0 = at }; pages = pages; from = origin.Section (record { 0 = s }) page; prot = code }))
-mapsec_line config other = Err Misplaced
+mapsec_line config other = Err (miscounted 2 6 other)

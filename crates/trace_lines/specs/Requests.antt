@@ -1,5 +1,5 @@
 -- BODY, END, and the requests between them. Source: this project's own.
-use Rattle.std.specs.Prelude.{ℕ, ◌+◌, ◌^◌, Bool, ◌&&◌, nat_le, nat_lt, length, List, [], ◌∷◌, Option, Some, None, Result, Ok, Err}
+use Rattle.std.specs.Prelude.{ℕ, ◌+◌, ◌-◌, ◌^◌, Bool, ◌&&◌, nat_le, nat_lt, length, List, [], ◌∷◌, Option, Some, None, Result, Ok, Err, if◌then◌else◌}
 use Rattle.std.specs.List.{list_all}
 use Rattle.vm_types.specs.WellFormed.{width_bytes}
 use Rattle.vm_types.specs.declared.config.Config.{Config}
@@ -12,7 +12,6 @@ use Rattle.vm_types.specs.declared.reference.Op.TheVariants as what
 use Rattle.vm_types.specs.declared.service.Service.TheVariants as asked
 use Rattle.vm_types.specs.declared.service.Request.{Request as Wanted}
 use Rattle.vm_types.specs.declared.service.Request.TheVariants as wanted
-use Rattle.trace_words.specs.declared.cause.Cause.{Cause}
 use Rattle.trace_words.specs.declared.cause.Cause.TheVariants.{UnknownWord, Misplaced, OutOfRange, TooMany}
 use Rattle.trace_words.specs.declared.ops.Access.{Access}
 use Rattle.trace_words.specs.declared.ops.Access.TheVariants.{Read, Write, Add}
@@ -21,12 +20,16 @@ use Rattle.trace_words.specs.declared.services.ServiceName.TheVariants.{Create, 
 use Rattle.trace_words.specs.declared.verbs.Verb.{Verb}
 use Rattle.trace_words.specs.declared.verbs.Verb.TheVariants.{Op, Service}
 use Rattle.trace_words.specs.Judged.{◌>>=◌, owed}
-use Rattle.trace_words.specs.Number.{decimal, decimal_within, hexadecimal}
+use Rattle.trace_words.specs.Number.{hexadecimal}
 use Rattle.trace_words.specs.Protection.{protection}
 use Rattle.trace_words.specs.VerbWords.{verb_of}
+use Rattle.trace_lines.specs.declared.breach.Bound.{Bound}
+use Rattle.trace_lines.specs.declared.breach.Bound.TheVariants.{Free, Within, Multiple, Regions, LoLimit, HiLimit, FreeLim, Frames}
+use Rattle.trace_lines.specs.declared.breach.Breach.{Breach}
 use Rattle.trace_lines.specs.declared.ranges.Written.{Written}
 use Rattle.trace_lines.specs.declared.ranges.Range.{Range}
 use Rattle.trace_lines.specs.declared.ranges.CodedRange.{CodedRange}
+use Rattle.trace_lines.specs.Breaches.{at_word, bounded, counted, marked, miscounted, ranged}
 use Rattle.trace_lines.specs.Lookups.{process, aligned, is_inside}
 use Rattle.trace_lines.specs.Says.{Says, Body, Request, End}
 
@@ -38,61 +41,78 @@ params_agree params = nat_le params.lolimit params.hilimit && nat_le params.hili
 abbrev pub has_frames : Config → Bool
 has_frames config = list_all (λ spec. nat_le (spec.extent + length config.bad + 2) config.frames) config.procs
 
+-- the first bound that the parameters and the processes break
+abbrev pub unmet : Config → Bound
+unmet config =
+    if nat_lt config.params.hilimit config.params.lolimit then LoLimit config.params.hilimit
+    else if nat_lt config.params.waitlimit config.params.hilimit then HiLimit config.params.waitlimit
+    else if nat_lt config.params.freegoal config.params.freelim then FreeLim config.params.freegoal
+    else Frames config.frames
+
 -- BODY, once there is a process
-abbrev pub body_line : Config → List (List ℕ) → Result Says Cause
-body_line config [] = owed (nat_lt 0 (length config.procs)) Misplaced (owed (params_agree config.params && has_frames config) OutOfRange (Ok Body))
-body_line config other = Err Misplaced
+abbrev pub body_line : Config → List (List ℕ) → Result Says Breach
+body_line config [] =
+    owed (nat_lt 0 (length config.procs)) (at_word 1 Misplaced)
+    (owed (params_agree config.params && has_frames config) (bounded 1 OutOfRange (unmet config)) (Ok Body))
+body_line config other = Err (miscounted 2 0 other)
 
 -- END
-abbrev pub end_line : List (List ℕ) → Result Says Cause
+abbrev pub end_line : List (List ℕ) → Result Says Breach
 end_line [] = Ok End
-end_line other = Err Misplaced
+end_line other = Err (miscounted 2 0 other)
 
 -- one of at most 100,000 requests
-abbrev pub asked_by : Config → ℕ → Wanted → Result Says Cause
-asked_by config p request = owed (nat_lt (length config.body) 100000) TooMany (Ok (Request (record { proc = record { 0 = p }; request = request })))
+abbrev pub asked_by : Config → ℕ → Wanted → Result Says Breach
+asked_by config p request = owed (nat_lt (length config.body) 100000) (at_word 1 TooMany) (Ok (Request (record { proc = record { 0 = p }; request = request })))
 
-abbrev pub referred : Config → ℕ → Mode → ℕ → What → Result Says Cause
+abbrev pub referred : Config → ℕ → Mode → ℕ → What → Result Says Breach
 referred config p mode at op = asked_by config p (wanted.Reference (record { mode = mode; addr = record { 0 = at }; op = op }))
 
 -- x op addr, for reads
-abbrev pub read_line : Config → List ℕ → Mode → Width → List (List ℕ) → Result Says Cause
+abbrev pub read_line : Config → List ℕ → Mode → Width → List (List ℕ) → Result Says Breach
 read_line config x mode width (addr ∷ []) =
-    process config.procs x >>= λ p. aligned (width_bytes width) addr >>= λ at. referred config p mode at (what.Read width)
-read_line config x mode width other = Err Misplaced
+    marked 1 Free (process config.procs x) >>= λ p. marked 3 (Multiple (width_bytes width)) (aligned (width_bytes width) addr) >>= λ at.
+    referred config p mode at (what.Read width)
+read_line config x mode width other = Err (miscounted 3 1 other)
+
+-- the values of a width
+abbrev pub values : Width → Bound
+values width = Within 0 (256 ^ width_bytes width - 1)
 
 -- x op addr value, for writes and A4; the value fits the width
-abbrev pub write_of : Config → List ℕ → Width → List (List ℕ) → Result Written Cause
+abbrev pub write_of : Config → List ℕ → Width → List (List ℕ) → Result Written Breach
 write_of config x width (addr ∷ value ∷ []) =
-    process config.procs x >>= λ p. aligned (width_bytes width) addr >>= λ at. hexadecimal value >>= λ n.
-    owed (nat_lt n (256 ^ width_bytes width)) OutOfRange (Ok (record { proc = p; at = at; value = n }))
-write_of config x width other = Err Misplaced
+    marked 1 Free (process config.procs x) >>= λ p. marked 3 (Multiple (width_bytes width)) (aligned (width_bytes width) addr) >>= λ at.
+    marked 4 (values width) (hexadecimal value) >>= λ n.
+    owed (nat_lt n (256 ^ width_bytes width)) (bounded 4 OutOfRange (values width)) (Ok (record { proc = p; at = at; value = n }))
+write_of config x width other = Err (miscounted 3 2 other)
 
-abbrev pub reference_line : Config → List ℕ → Mode → Access → List (List ℕ) → Result Says Cause
+abbrev pub reference_line : Config → List ℕ → Mode → Access → List (List ℕ) → Result Says Breach
 reference_line config x mode (Read width) args = read_line config x mode width args
 reference_line config x mode (Write width) args = write_of config x width args >>= λ w. referred config w.proc mode w.at (what.Write width w.value)
 reference_line config x mode Add args = write_of config x Four args >>= λ w. referred config w.proc mode w.at (what.Add w.value)
 
 -- x SERVICE addr n
-abbrev pub range_of : Config → List ℕ → List (List ℕ) → Result Range Cause
+abbrev pub range_of : Config → List ℕ → List (List ℕ) → Result Range Breach
 range_of config x (addr ∷ n ∷ []) =
-    process config.procs x >>= λ p. aligned 512 addr >>= λ at. decimal_within 1 4096 n >>= λ pages.
-    owed (is_inside at pages) OutOfRange (Ok (record { proc = p; at = at; pages = pages }))
-range_of config x other = Err Misplaced
+    marked 1 Free (process config.procs x) >>= λ p. marked 3 (Multiple 512) (aligned 512 addr) >>= λ at. ranged 4 1 4096 n >>= λ pages.
+    owed (is_inside at pages) (bounded 3 OutOfRange Regions) (Ok (record { proc = p; at = at; pages = pages }))
+range_of config x other = Err (miscounted 3 2 other)
 
 -- x SERVICE addr n prot
-abbrev pub coded_range_of : Config → List ℕ → List (List ℕ) → Result CodedRange Cause
+abbrev pub coded_range_of : Config → List ℕ → List (List ℕ) → Result CodedRange Breach
 coded_range_of config x (addr ∷ n ∷ prot ∷ []) =
-    process config.procs x >>= λ p. aligned 512 addr >>= λ at. decimal_within 1 4096 n >>= λ pages. protection prot >>= λ code.
-    owed (is_inside at pages) OutOfRange (Ok (record { proc = p; at = at; pages = pages; prot = code }))
-coded_range_of config x other = Err Misplaced
+    marked 1 Free (process config.procs x) >>= λ p. marked 3 (Multiple 512) (aligned 512 addr) >>= λ at. ranged 4 1 4096 n >>= λ pages.
+    marked 5 Free (protection prot) >>= λ code.
+    owed (is_inside at pages) (bounded 3 OutOfRange Regions) (Ok (record { proc = p; at = at; pages = pages; prot = code }))
+coded_range_of config x other = Err (miscounted 3 3 other)
 
 -- x ADJWSL limit
-abbrev pub adjust_line : Config → List ℕ → List (List ℕ) → Result Says Cause
-adjust_line config x (limit ∷ []) = process config.procs x >>= λ p. decimal limit >>= λ n. asked_by config p (wanted.Service (asked.Adjust n))
-adjust_line config x other = Err Misplaced
+abbrev pub adjust_line : Config → List ℕ → List (List ℕ) → Result Says Breach
+adjust_line config x (limit ∷ []) = marked 1 Free (process config.procs x) >>= λ p. counted 3 limit >>= λ n. asked_by config p (wanted.Service (asked.Adjust n))
+adjust_line config x other = Err (miscounted 3 1 other)
 
-abbrev pub service_line : Config → List ℕ → ServiceName → List (List ℕ) → Result Says Cause
+abbrev pub service_line : Config → List ℕ → ServiceName → List (List ℕ) → Result Says Breach
 service_line config x Create args = coded_range_of config x args >>= λ r. asked_by config r.proc (wanted.Service (asked.Create (record { 0 = r.at }) r.pages r.prot))
 service_line config x Protect args = coded_range_of config x args >>= λ r. asked_by config r.proc (wanted.Service (asked.Protect (record { 0 = r.at }) r.pages r.prot))
 service_line config x Delete args = range_of config x args >>= λ r. asked_by config r.proc (wanted.Service (asked.Delete (record { 0 = r.at }) r.pages))
@@ -102,12 +122,12 @@ service_line config x Purge args = range_of config x args >>= λ r. asked_by con
 service_line config x Adjust args = adjust_line config x args
 
 -- by the second word; where it is neither an operation nor a service, the process is judged first
-abbrev pub by_verb : Config → List ℕ → List (List ℕ) → Option Verb → Result Says Cause
-by_verb config x args None = process config.procs x >>= λ _. Err UnknownWord
+abbrev pub by_verb : Config → List ℕ → List (List ℕ) → Option Verb → Result Says Breach
+by_verb config x args None = marked 1 Free (process config.procs x) >>= λ _. Err (at_word 2 UnknownWord)
 by_verb config x args (Some (Op op)) = reference_line config x op.mode op.access args
 by_verb config x args (Some (Service name)) = service_line config x name args
 
 -- a request of the process of this letter
-abbrev pub request_line : Config → List ℕ → List (List ℕ) → Result Says Cause
-request_line config x [] = Err Misplaced
+abbrev pub request_line : Config → List ℕ → List (List ℕ) → Result Says Breach
+request_line config x [] = Err (at_word 2 Misplaced)
 request_line config x (second ∷ args) = by_verb config x args (verb_of second)

@@ -5,7 +5,7 @@ use Rattle.vm_types.specs.declared.config.Mapping.{Mapping}
 use Rattle.vm_types.specs.declared.config.ProcSpec.{ProcSpec}
 use Rattle.vm_types.specs.declared.config.SectionKind.{SectionKind}
 use Rattle.vm_types.specs.declared.config.Task.{Task}
-use Rattle.trace_words.specs.declared.cause.Cause.{Cause}
+use Rattle.trace_lines.specs.declared.breach.Breach.{Breach}
 use Rattle.trace_lines.specs.declared.params.Param.{Param as Parameter}
 use Rattle.trace_lines.specs.declared.line.Line.{Line}
 use Rattle.trace_lines.specs.declared.line.Line.TheVariants as line
@@ -46,6 +46,6 @@ meant line.Body = Body
 meant (line.Request task) = Request task
 meant line.End = End
 
-abbrev pub said : Result Line Cause → Result Says Cause
+abbrev pub said : Result Line Breach → Result Says Breach
 said (Ok read) = Ok (meant read)
-said (Err cause) = Err cause
+said (Err breach) = Err breach

@@ -1,12 +1,13 @@
 ghost use Rattle.std.specs.Prelude.{◌≡◌, ◌≤◌, sum_by};
 ghost use Rattle.vm_types.specs.Configuration.{section_pages};
 ghost use Rattle.trace_words.specs.Split.{listed};
-ghost use Rattle.trace_lines.specs.Declarations.{section_kind, has_room, section_line, data_line, are_ordered, process_line};
+ghost use Rattle.trace_lines.specs.Declarations.{section_kind, has_room, section_line, data_line, are_ordered, disordered, process_line};
 ghost use Rattle.trace_lines.specs.Says.{said};
 
+use crate::breach::{Bound, Breach, counted, marked, miscounted, ranged};
 use crate::line::Line;
 use crate::lookups::{bytes_at, has_file, number_named, section as section_of, total_pages};
-use trace_words::{Cause, Words, decimal, decimal_within, is, is_name, letter, pairs};
+use trace_words::{Cause, Words, decimal, is, is_name, letter, pairs};
 use vm_types::{Config, ProcSpec, Section, SectionKind};
 
 fn section_kind(word: &[u8]) -> Result<SectionKind, Cause>
@@ -28,43 +29,44 @@ fn has_room(sections: &[Section], pages: u32) -> bool
     sections.len() < 64 && total_pages(sections) + pages as usize <= 16_384
 }
 
-pub(crate) fn section<'a>(config: &Config, args: &Words<'a>) -> Result<Line<'a>, Cause>
+pub(crate) fn section<'a>(config: &Config, args: &Words<'a>) -> Result<Line<'a>, Breach>
     requires { sum_by section_pages config.now.sections ≤ 16384 }
     ensures { said result ≡ section_line config.now (listed args.now) }
 {
     let Words::Three(name, kind, n) = *args else {
-        return Err(Cause::Misplaced);
+        return Err(miscounted(2, 3, args));
     };
     if !is_name(name) {
-        return Err(Cause::UnknownWord);
+        return Err(Breach::at_word(2, Cause::UnknownWord));
     }
-    let kind = section_kind(kind)?;
-    let pages = decimal_within(1, 0xffff_ffff, n)?;
+    let kind = marked(3, Bound::Free, section_kind(kind))?;
+    let pages = ranged(4, 1, 0xffff_ffff, n)?;
     let sections = config.sections.items();
     if number_named(sections, name).is_some() {
-        return Err(Cause::Repeated);
+        return Err(Breach::at_word(2, Cause::Repeated));
     }
     if !has_room(sections, pages) {
-        return Err(Cause::TooMany);
+        return Err(Breach::at_word(4, Cause::TooMany));
     }
     Ok(Line::Section(name, kind, pages))
 }
 
-pub(crate) fn data<'a>(config: &Config, args: &Words<'a>) -> Result<Line<'a>, Cause>
+pub(crate) fn data<'a>(config: &Config, args: &Words<'a>) -> Result<Line<'a>, Breach>
     ensures { said result ≡ data_line config.now (listed args.now) }
 {
     let Words::Three(name, offset, hex) = *args else {
-        return Err(Cause::Misplaced);
+        return Err(miscounted(2, 3, args));
     };
     let sections = config.sections.items();
-    let s = section_of(sections, name)?;
+    let s = marked(2, Bound::Free, section_of(sections, name))?;
     if !has_file(sections, s) {
-        return Err(Cause::NoSuch);
+        return Err(Breach::at_word(2, Cause::NoSuch));
     }
-    let at = decimal(offset)?;
-    let bytes = pairs(hex)?;
-    if at as usize + bytes.len() > bytes_at(sections, s) {
-        return Err(Cause::OutOfRange);
+    let room = bytes_at(sections, s);
+    let at = marked(3, Bound::Bytes(room), decimal(offset))?;
+    let bytes = marked(4, Bound::Free, pairs(hex))?;
+    if at as usize + bytes.len() > room {
+        return Err(Breach::bounded(3, Cause::OutOfRange, Bound::Bytes(room)));
     }
     Ok(Line::Data(s, at, bytes))
 }
@@ -77,21 +79,35 @@ fn are_ordered(spec: &ProcSpec) -> bool
         && spec.quota <= spec.extent
 }
 
-pub(crate) fn process<'a>(config: &Config, args: &Words<'a>) -> Result<Line<'a>, Cause>
+// The first bound between the numbers of a process that one of them breaks.
+fn disordered(spec: &ProcSpec) -> Breach
+    ensures { result ≡ disordered spec.now }
+{
+    if u64::from(spec.limit) < u64::from(spec.locks) + 2 {
+        Breach::bounded(6, Cause::OutOfRange, Bound::Locks(spec.limit))
+    } else if spec.quota < spec.limit {
+        Breach::bounded(4, Cause::OutOfRange, Bound::Quota(spec.limit))
+    } else {
+        Breach::bounded(5, Cause::OutOfRange, Bound::Extent(spec.quota))
+    }
+}
+
+pub(crate) fn process<'a>(config: &Config, args: &Words<'a>) -> Result<Line<'a>, Breach>
     ensures { said result ≡ process_line config.now (listed args.now) }
 {
     let Words::Five(x, limit, quota, extent, locks) = args else {
-        return Err(Cause::Misplaced);
+        return Err(miscounted(2, 5, args));
     };
-    let p = letter(x)?;
     let procs = config.procs.items();
+    let next = Bound::Next(procs.len());
+    let p = marked(2, next, letter(x))?;
     if p as usize != procs.len() {
-        return Err(Cause::Misplaced);
+        return Err(Breach::bounded(2, Cause::Misplaced, next));
     }
-    let limit = decimal(limit)?;
-    let quota = decimal(quota)?;
-    let extent = decimal_within(0, 1024, extent)?;
-    let locks = decimal(locks)?;
+    let limit = counted(3, limit)?;
+    let quota = counted(4, quota)?;
+    let extent = ranged(5, 0, 1024, extent)?;
+    let locks = counted(6, locks)?;
     let spec = ProcSpec {
         limit,
         quota,
@@ -99,10 +115,10 @@ pub(crate) fn process<'a>(config: &Config, args: &Words<'a>) -> Result<Line<'a>,
         locks,
     };
     if !are_ordered(&spec) {
-        return Err(Cause::OutOfRange);
+        return Err(disordered(&spec));
     }
     if procs.len() >= 16 {
-        return Err(Cause::TooMany);
+        return Err(Breach::at_word(2, Cause::TooMany));
     }
     Ok(Line::Process(spec))
 }

@@ -1,17 +1,18 @@
-ghost use Rattle.std.specs.Prelude.{◌≡◌, ◌≤◌, ◌&&◌, nat_le, length, IfOk};
+ghost use Rattle.std.specs.Prelude.{◌≡◌, ◌≤◌, ◌&&◌, nat_le, length, false, IfOk};
 ghost use Rattle.std.specs.List.{list_any};
 ghost use Rattle.trace_words.specs.BlockWords.{name_of};
-ghost use Rattle.trace_words.specs.Pairs.{held};
 ghost use Rattle.trace_words.specs.Words.{words};
-ghost use Rattle.trace_lines.specs.Fails.{is_same, slots_at, block_named, call_numbers, fail_line};
+ghost use Rattle.trace_lines.specs.Breaches.{miscounted};
+ghost use Rattle.trace_lines.specs.Fails.{is_same, slots_at, block_named, block_of, call_numbers, kept, fail_line};
 ghost use Rattle.trace_lines.specs.Says.{said};
 ghost use Rattle.trace_lines.specs.Seen.{IsSeen, IsBounded, IsKeyed};
 
+use crate::breach::{Bound, Breach, marked, ranged};
 use crate::line::Line;
 use crate::lookups::{blocks_at, number_named};
 use crate::seen::{Seen, block_key};
 use arrayvec::ArrayVec;
-use trace_words::{BlockName, Cause, block_name, decimal_within, next_word};
+use trace_words::{BlockName, Cause, block_name, next_word};
 use vm_types::{BlockId, Config, Proc, ProcSpec, SecId};
 
 // The swap blocks of the process of this number.
@@ -75,15 +76,15 @@ fn has_calls(text: &[u8]) -> bool
     count >= 1
 }
 
-// The numbers that the words of the text spell.
-fn call_numbers(text: &[u8]) -> Result<ArrayVec<u32, 16>, Cause>
+// The numbers that the words of the text spell, which stand from the third word on.
+fn call_numbers(text: &[u8]) -> Result<ArrayVec<u32, 16>, Breach>
     requires { length (words text.now) ≤ 16 }
-    ensures { held result ≡ call_numbers (words text.now) }
+    ensures { kept result ≡ call_numbers 3 (words text.now) }
 {
     let mut calls = ArrayVec::new();
     let mut rest = text;
     while let Some((word, after)) = next_word(rest) {
-        let n = decimal_within(1, 0xffff_ffff, word)?;
+        let n = ranged(3 + calls.len() as u8, 1, 0xffff_ffff, word)?;
         calls.push(n);
         rest = after;
     }
@@ -100,22 +101,42 @@ fn is_repeated(config: &Config, seen: &Seen, id: BlockId) -> bool
     seen.blocks.contains(&block_key(id))
 }
 
-pub(crate) fn fail<'a>(config: &Config, seen: &Seen, text: &[u8]) -> Result<Line<'a>, Cause>
+// The block that the word names, if it is there.
+fn block_of(config: &Config, word: &[u8]) -> Result<BlockId, Cause>
+    requires { IsBounded config.now }
+    ensures value { result ≡ block_of config.now word.now }
+    ensures keyed { IfOk result IsKeyed }
+{
+    let name = block_name(word)?;
+    block_named(config, &name)
+}
+
+// Other than 1 to 16 words stand from the third place on.
+fn misplaced(text: &[u8]) -> Breach
+    requires { (nat_le 1 (length (words text.now)) && nat_le (length (words text.now)) 16) ≡ false }
+    ensures { result ≡ miscounted 3 16 (words text.now) }
+{
+    match next_word(text) {
+        None => Breach::at_word(3, Cause::Misplaced),
+        Some(_) => Breach::at_word(19, Cause::Misplaced),
+    }
+}
+
+pub(crate) fn fail<'a>(config: &Config, seen: &Seen, text: &[u8]) -> Result<Line<'a>, Breach>
     requires seen { IsSeen seen.now config.now }
     requires bounded { IsBounded config.now }
     ensures { said result ≡ fail_line config.now (words text.now) }
 {
     let Some((name, rest)) = next_word(text) else {
-        return Err(Cause::Misplaced);
+        return Err(Breach::at_word(2, Cause::Misplaced));
     };
     if !has_calls(rest) {
-        return Err(Cause::Misplaced);
+        return Err(misplaced(rest));
     }
-    let name = block_name(name)?;
-    let id = block_named(config, &name)?;
+    let id = marked(2, Bound::Free, block_of(config, name))?;
     let calls = call_numbers(rest)?;
     if is_repeated(config, seen, id) {
-        return Err(Cause::Repeated);
+        return Err(Breach::at_word(2, Cause::Repeated));
     }
     Ok(Line::Fail(id, calls))
 }

@@ -4,69 +4,71 @@ ghost use Rattle.trace_lines.specs.Headers.{version_line, frames_line, pagefile_
 ghost use Rattle.trace_lines.specs.Says.{said};
 ghost use Rattle.trace_lines.specs.Seen.{IsSeen};
 
+use crate::breach::{Bound, Breach, marked, miscounted, ranged};
 use crate::line::Line;
 use crate::params::param_of;
 use crate::seen::Seen;
-use trace_words::{Cause, Words, decimal, decimal_within};
+use trace_words::{Cause, Words, decimal};
 use vm_types::Config;
 
-pub(crate) fn version<'a>(args: &Words<'a>) -> Result<Line<'a>, Cause>
+pub(crate) fn version<'a>(args: &Words<'a>) -> Result<Line<'a>, Breach>
     ensures { said result ≡ version_line (listed args.now) }
 {
     let Words::One(n) = args else {
-        return Err(Cause::Misplaced);
+        return Err(miscounted(2, 1, args));
     };
-    decimal_within(1, 1, n)?;
+    ranged(2, 1, 1, n)?;
     Ok(Line::Version)
 }
 
-pub(crate) fn frames<'a>(args: &Words<'a>) -> Result<Line<'a>, Cause>
+pub(crate) fn frames<'a>(args: &Words<'a>) -> Result<Line<'a>, Breach>
     ensures { said result ≡ frames_line (listed args.now) }
 {
     let Words::One(n) = args else {
-        return Err(Cause::Misplaced);
+        return Err(miscounted(2, 1, args));
     };
-    let n = decimal_within(8, 4096, n)?;
+    let n = ranged(2, 8, 4096, n)?;
     Ok(Line::Frames(n))
 }
 
-pub(crate) fn pagefile<'a>(args: &Words<'a>) -> Result<Line<'a>, Cause>
+pub(crate) fn pagefile<'a>(args: &Words<'a>) -> Result<Line<'a>, Breach>
     ensures { said result ≡ pagefile_line (listed args.now) }
 {
     let Words::One(n) = args else {
-        return Err(Cause::Misplaced);
+        return Err(miscounted(2, 1, args));
     };
-    let n = decimal_within(1, 16_384, n)?;
+    let n = ranged(2, 1, 16_384, n)?;
     Ok(Line::PageFile(n))
 }
 
-pub(crate) fn param<'a>(given: &[bool; 14], args: &Words<'a>) -> Result<Line<'a>, Cause>
+pub(crate) fn param<'a>(given: &[bool; 14], args: &Words<'a>) -> Result<Line<'a>, Breach>
     ensures { said result ≡ param_line given.now (listed args.now) }
 {
     let Words::Two(name, n) = args else {
-        return Err(Cause::Misplaced);
+        return Err(miscounted(2, 2, args));
     };
-    let param = param_of(name)?;
-    let n = decimal_within(param.least(), param.most(), n)?;
+    let param = marked(2, Bound::Free, param_of(name))?;
+    let n = ranged(3, param.least(), param.most(), n)?;
     if given[param.number()] {
-        return Err(Cause::Repeated);
+        return Err(Breach::at_word(2, Cause::Repeated));
     }
     Ok(Line::Param(param, n))
 }
 
-pub(crate) fn bad<'a>(config: &Config, seen: &Seen, args: &Words<'a>) -> Result<Line<'a>, Cause>
+pub(crate) fn bad<'a>(config: &Config, seen: &Seen, args: &Words<'a>) -> Result<Line<'a>, Breach>
     requires { IsSeen seen.now config.now }
     ensures { said result ≡ bad_line config.now (listed args.now) }
 {
     let Words::One(f) = args else {
-        return Err(Cause::Misplaced);
+        return Err(miscounted(2, 1, args));
     };
-    let f = decimal(f)?;
+    let below = Bound::BelowFrames(config.frames);
+    let f = marked(2, below, decimal(f))?;
     if f >= config.frames {
-        return Err(Cause::OutOfRange);
+        return Err(Breach::bounded(2, Cause::OutOfRange, below));
     }
     if seen.bad.contains(&u64::from(f)) {
-        return Err(Cause::Repeated);
+        return Err(Breach::at_word(2, Cause::Repeated));
     }
     Ok(Line::Bad(f))
 }

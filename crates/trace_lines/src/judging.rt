@@ -5,6 +5,7 @@ ghost use Rattle.trace_lines.specs.Grammar.{by_keyword, is_letter, is_comment, b
 ghost use Rattle.trace_lines.specs.Says.{said, meant};
 ghost use Rattle.trace_lines.specs.Seen.{IsSeen, IsBounded};
 
+use crate::breach::Breach;
 use crate::declarations::{data, process, section};
 use crate::fails::fail;
 use crate::headers::{bad, frames, pagefile, param, version};
@@ -23,7 +24,7 @@ fn by_keyword<'a>(
     seen: &Seen,
     keyword: Keyword,
     text: &'a [u8],
-) -> Result<Line<'a>, Cause>
+) -> Result<Line<'a>, Breach>
     requires seen { IsSeen seen.now part.now.config }
     requires bounded { IsBounded part.now.config }
     ensures { said result ≡ by_keyword part.now (words text.now) keyword }
@@ -60,7 +61,7 @@ fn is_comment(word: &[u8]) -> bool
 }
 
 // A line of this first word, by the text behind it.
-fn by_first<'a>(part: &Part, seen: &Seen, first: &[u8], text: &'a [u8]) -> Result<Line<'a>, Cause>
+fn by_first<'a>(part: &Part, seen: &Seen, first: &[u8], text: &'a [u8]) -> Result<Line<'a>, Breach>
     requires seen { IsSeen seen.now part.now.config }
     requires bounded { IsBounded part.now.config }
     ensures { said result ≡ by_first part.now first.now (words text.now) }
@@ -70,15 +71,15 @@ fn by_first<'a>(part: &Part, seen: &Seen, first: &[u8], text: &'a [u8]) -> Resul
     }
     if is_letter(first) {
         if part.place.rank() != Place::Requests.rank() {
-            return Err(Cause::Misplaced);
+            return Err(Breach::at_word(1, Cause::Misplaced));
         }
         return request(&part.config, first, text);
     }
     let Some(keyword) = keyword_of(first) else {
-        return Err(Cause::UnknownWord);
+        return Err(Breach::at_word(1, Cause::UnknownWord));
     };
     if part.place.rank() != keyword.place().rank() {
-        return Err(Cause::Misplaced);
+        return Err(Breach::at_word(1, Cause::Misplaced));
     }
     by_keyword(part, seen, keyword, text)
 }
@@ -110,21 +111,21 @@ fn are_text(line: &[u8]) -> bool
 /// What the line of this number says, after these declarations. Doesn't allocate.
 ///
 /// # Errors
-/// The first rule that the line breaks.
-pub fn judge<'a>(number: u32, part: &Part, seen: &Seen, line: &'a [u8]) -> Result<Line<'a>, Cause>
+/// The first rule that the line breaks, and the word that breaks it.
+pub fn judge<'a>(number: u32, part: &Part, seen: &Seen, line: &'a [u8]) -> Result<Line<'a>, Breach>
     requires seen { IsSeen seen.now part.now.config }
     requires bounded { IsBounded part.now.config }
     ensures { said result ≡ judged number part.now line.now }
 {
     if line.len() > 255 {
-        return Err(Cause::LineTooLong);
+        return Err(Breach::at_word(0, Cause::LineTooLong));
     }
     let line = content(line);
     if !are_text(line) {
-        return Err(Cause::NotAscii);
+        return Err(Breach::at_word(0, Cause::NotAscii));
     }
     if number > 200_000 {
-        return Err(Cause::TooMany);
+        return Err(Breach::at_word(0, Cause::TooMany));
     }
     match next_word(line) {
         None => Ok(Line::Nothing),

@@ -1,7 +1,8 @@
 //! The lines of a trace: what a line says, by what the lines before it declare, or which rule it
-//! breaks first. Nothing here takes memory.
+//! breaks first, and by which word. Nothing here takes memory.
 #![tactic(auto)]
 
+mod breach;
 mod declarations;
 mod fails;
 mod first_line;
@@ -19,6 +20,7 @@ mod ranges;
 mod requests;
 mod seen;
 
+pub use breach::{Bound, Breach};
 pub use first_line::plain_request;
 pub use judging::judge;
 pub use keywords::Keyword;

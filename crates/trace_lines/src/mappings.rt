@@ -9,10 +9,11 @@ ghost use Rattle.trace_lines.specs.Mappings.{overlaps, mapped, mapzero_line, map
 ghost use Rattle.trace_lines.specs.Says.{said};
 ghost use Rattle.trace_lines.specs.Seen.{IsSeen, IsBounded};
 
+use crate::breach::{Bound, Breach, marked, miscounted, ranged};
 use crate::line::Line;
 use crate::lookups::{aligned, is_inside, pages_at, process, section};
 use crate::seen::{Seen, page_key};
-use trace_words::{Cause, Words, decimal, decimal_within, protection};
+use trace_words::{Cause, Words, decimal, protection};
 use vm_types::{Addr, Config, Mapping, Origin, Proc, SecId};
 
 // Whether one of the pages is mapped already.
@@ -43,7 +44,7 @@ fn is_repeated(config: &Config, seen: &Seen, m: &Mapping) -> bool
 }
 
 // A mapping inside the regions, of pages that aren't mapped yet.
-fn mapped<'a>(config: &Config, seen: &Seen, m: Mapping) -> Result<Line<'a>, Cause>
+fn mapped<'a>(config: &Config, seen: &Seen, m: Mapping) -> Result<Line<'a>, Breach>
     requires seen { IsSeen seen.now config.now }
     requires aligned { (m.at).0 % 512 ≡ 0 }
     requires some { 1 ≤ m.pages }
@@ -51,26 +52,30 @@ fn mapped<'a>(config: &Config, seen: &Seen, m: Mapping) -> Result<Line<'a>, Caus
     ensures { said result ≡ mapped config.now m }
 {
     if !is_inside(m.at.0, m.pages) {
-        return Err(Cause::OutOfRange);
+        return Err(Breach::bounded(3, Cause::OutOfRange, Bound::Regions));
     }
     if is_repeated(config, seen, &m) {
-        return Err(Cause::Repeated);
+        return Err(Breach::at_word(3, Cause::Repeated));
     }
     Ok(Line::Map(m))
 }
 
-pub(crate) fn mapzero<'a>(config: &Config, seen: &Seen, args: &Words<'a>) -> Result<Line<'a>, Cause>
+pub(crate) fn mapzero<'a>(
+    config: &Config,
+    seen: &Seen,
+    args: &Words<'a>,
+) -> Result<Line<'a>, Breach>
     requires seen { IsSeen seen.now config.now }
     requires bounded { IsBounded config.now }
     ensures { said result ≡ mapzero_line config.now (listed args.now) }
 {
     let Words::Four(x, addr, n, prot) = args else {
-        return Err(Cause::Misplaced);
+        return Err(miscounted(2, 4, args));
     };
-    let p = process(config.procs.items(), x)?;
-    let at = aligned(512, addr)?;
-    let pages = decimal_within(1, 4096, n)?;
-    let prot = protection(prot)?;
+    let p = marked(2, Bound::Free, process(config.procs.items(), x))?;
+    let at = marked(3, Bound::Multiple(512), aligned(512, addr))?;
+    let pages = ranged(4, 1, 4096, n)?;
+    let prot = marked(5, Bound::Free, protection(prot))?;
     mapped(
         config,
         seen,
@@ -84,23 +89,24 @@ pub(crate) fn mapzero<'a>(config: &Config, seen: &Seen, args: &Words<'a>) -> Res
     )
 }
 
-pub(crate) fn mapsec<'a>(config: &Config, seen: &Seen, args: &Words<'a>) -> Result<Line<'a>, Cause>
+pub(crate) fn mapsec<'a>(config: &Config, seen: &Seen, args: &Words<'a>) -> Result<Line<'a>, Breach>
     requires seen { IsSeen seen.now config.now }
     requires bounded { IsBounded config.now }
     ensures { said result ≡ mapsec_line config.now (listed args.now) }
 {
     let Words::Six(x, addr, n, name, first, prot) = args else {
-        return Err(Cause::Misplaced);
+        return Err(miscounted(2, 6, args));
     };
     let sections = config.sections.items();
-    let p = process(config.procs.items(), x)?;
-    let at = aligned(512, addr)?;
-    let pages = decimal_within(1, 4096, n)?;
-    let s = section(sections, name)?;
-    let first = decimal(first)?;
-    let prot = protection(prot)?;
-    if first as usize + pages as usize > pages_at(sections, s) {
-        return Err(Cause::OutOfRange);
+    let p = marked(2, Bound::Free, process(config.procs.items(), x))?;
+    let at = marked(3, Bound::Multiple(512), aligned(512, addr))?;
+    let pages = ranged(4, 1, 4096, n)?;
+    let s = marked(5, Bound::Free, section(sections, name))?;
+    let room = pages_at(sections, s);
+    let first = marked(6, Bound::Pages(room), decimal(first))?;
+    let prot = marked(7, Bound::Free, protection(prot))?;
+    if first as usize + pages as usize > room {
+        return Err(Breach::bounded(6, Cause::OutOfRange, Bound::Pages(room)));
     }
     mapped(
         config,

@@ -1,10 +1,11 @@
 ghost use Rattle.std.specs.Prelude.{◌≡◌, ◌^◌, ◌<◌, nat_lt};
 ghost use Rattle.vm_types.specs.WellFormed.{width_bytes};
 ghost use Rattle.trace_words.specs.Split.{listed};
-ghost use Rattle.trace_lines.specs.Requests.{write_of, range_of, coded_range_of};
+ghost use Rattle.trace_lines.specs.Requests.{values, write_of, range_of, coded_range_of};
 
+use crate::breach::{Bound, Breach, marked, miscounted, ranged};
 use crate::lookups::{aligned, is_inside, process};
-use trace_words::{Cause, Words, decimal_within, hexadecimal, protection};
+use trace_words::{Cause, Words, hexadecimal, protection};
 use vm_types::{Config, Width};
 
 /// A process, an address and a value.
@@ -55,56 +56,69 @@ pub(crate) fn fits(width: Width, value: u32) -> bool
     }
 }
 
+// The values of the width.
+fn values(width: Width) -> Bound
+    ensures { result ≡ values width }
+{
+    match width {
+        Width::One => Bound::Within(0, 0xff),
+        Width::Two => Bound::Within(0, 0xffff),
+        Width::Four => Bound::Within(0, 0xffff_ffff),
+    }
+}
+
 /// What a write or an add names, by the words behind its name.
 pub(crate) fn write_of(
     config: &Config,
     x: &[u8],
     width: Width,
     args: &Words,
-) -> Result<Written, Cause>
+) -> Result<Written, Breach>
     ensures { result ≡ write_of config.now x.now width (listed args.now) }
 {
     let Words::Two(addr, value) = args else {
-        return Err(Cause::Misplaced);
+        return Err(miscounted(3, 2, args));
     };
-    let proc = process(config.procs.items(), x)?;
-    let at = aligned(bytes_of(width), addr)?;
-    let value = hexadecimal(value)?;
+    let proc = marked(1, Bound::Free, process(config.procs.items(), x))?;
+    let bytes = bytes_of(width);
+    let at = marked(3, Bound::Multiple(bytes), aligned(bytes, addr))?;
+    let values = values(width);
+    let value = marked(4, values, hexadecimal(value))?;
     if fits(width, value) {
         Ok(Written { proc, at, value })
     } else {
-        Err(Cause::OutOfRange)
+        Err(Breach::bounded(4, Cause::OutOfRange, values))
     }
 }
 
 /// The range of a service, by the words behind its name.
-pub(crate) fn range_of(config: &Config, x: &[u8], args: &Words) -> Result<Range, Cause>
+pub(crate) fn range_of(config: &Config, x: &[u8], args: &Words) -> Result<Range, Breach>
     ensures { result ≡ range_of config.now x.now (listed args.now) }
 {
     let Words::Two(addr, n) = args else {
-        return Err(Cause::Misplaced);
+        return Err(miscounted(3, 2, args));
     };
-    let proc = process(config.procs.items(), x)?;
-    let at = aligned(512, addr)?;
-    let pages = decimal_within(1, 4096, n)?;
+    let proc = marked(1, Bound::Free, process(config.procs.items(), x))?;
+    let at = marked(3, Bound::Multiple(512), aligned(512, addr))?;
+    let pages = ranged(4, 1, 4096, n)?;
     if is_inside(at, pages) {
         Ok(Range { proc, at, pages })
     } else {
-        Err(Cause::OutOfRange)
+        Err(Breach::bounded(3, Cause::OutOfRange, Bound::Regions))
     }
 }
 
 /// The range and the code of a service, by the words behind its name.
-pub(crate) fn coded_range_of(config: &Config, x: &[u8], args: &Words) -> Result<CodedRange, Cause>
+pub(crate) fn coded_range_of(config: &Config, x: &[u8], args: &Words) -> Result<CodedRange, Breach>
     ensures { result ≡ coded_range_of config.now x.now (listed args.now) }
 {
     let Words::Three(addr, n, prot) = args else {
-        return Err(Cause::Misplaced);
+        return Err(miscounted(3, 3, args));
     };
-    let proc = process(config.procs.items(), x)?;
-    let at = aligned(512, addr)?;
-    let pages = decimal_within(1, 4096, n)?;
-    let prot = protection(prot)?;
+    let proc = marked(1, Bound::Free, process(config.procs.items(), x))?;
+    let at = marked(3, Bound::Multiple(512), aligned(512, addr))?;
+    let pages = ranged(4, 1, 4096, n)?;
+    let prot = marked(5, Bound::Free, protection(prot))?;
     if is_inside(at, pages) {
         Ok(CodedRange {
             proc,
@@ -113,6 +127,6 @@ pub(crate) fn coded_range_of(config: &Config, x: &[u8], args: &Words) -> Result<
             prot,
         })
     } else {
-        Err(Cause::OutOfRange)
+        Err(Breach::bounded(3, Cause::OutOfRange, Bound::Regions))
     }
 }

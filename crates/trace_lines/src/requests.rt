@@ -1,13 +1,14 @@
 ghost use Rattle.std.specs.Prelude.{◌≡◌};
 ghost use Rattle.trace_words.specs.Split.{listed};
 ghost use Rattle.trace_words.specs.Words.{words};
-ghost use Rattle.trace_lines.specs.Requests.{params_agree, has_frames, body_line, end_line, asked_by, referred, read_line, reference_line, adjust_line, service_line, by_verb, request_line};
+ghost use Rattle.trace_lines.specs.Requests.{params_agree, has_frames, unmet, body_line, end_line, asked_by, referred, read_line, reference_line, adjust_line, service_line, by_verb, request_line};
 ghost use Rattle.trace_lines.specs.Says.{said};
 
+use crate::breach::{Bound, Breach, counted, marked, miscounted};
 use crate::line::Line;
 use crate::lookups::{aligned, process};
 use crate::ranges::{bytes_of, coded_range_of, range_of, write_of};
-use trace_words::{Access, Cause, ServiceName, Verb, Words, decimal, next_word, verb_of, words_of};
+use trace_words::{Access, Cause, ServiceName, Verb, Words, next_word, verb_of, words_of};
 use vm_types::{Addr, Config, Mode, Op, Params, Proc, Ref, Request, Service, Task, Width};
 
 fn params_agree(params: &Params) -> bool
@@ -31,35 +32,51 @@ fn has_frames(config: &Config) -> bool
         .all(|spec| u64::from(spec.extent) + bad + 2 <= frames)
 }
 
-pub(crate) fn body<'a>(config: &Config, args: &Words<'a>) -> Result<Line<'a>, Cause>
+// The first bound that the parameters and the processes break.
+fn unmet(config: &Config) -> Bound
+    ensures { result ≡ unmet config.now }
+{
+    let params = &config.params;
+    if params.hilimit < params.lolimit {
+        Bound::LoLimit(params.hilimit)
+    } else if params.waitlimit < params.hilimit {
+        Bound::HiLimit(params.waitlimit)
+    } else if params.freegoal < params.freelim {
+        Bound::FreeLim(params.freegoal)
+    } else {
+        Bound::Frames(config.frames)
+    }
+}
+
+pub(crate) fn body<'a>(config: &Config, args: &Words<'a>) -> Result<Line<'a>, Breach>
     ensures { said result ≡ body_line config.now (listed args.now) }
 {
     let Words::Zero = args else {
-        return Err(Cause::Misplaced);
+        return Err(miscounted(2, 0, args));
     };
     if config.procs.items().is_empty() {
-        return Err(Cause::Misplaced);
+        return Err(Breach::at_word(1, Cause::Misplaced));
     }
     if !params_agree(&config.params) || !has_frames(config) {
-        return Err(Cause::OutOfRange);
+        return Err(Breach::bounded(1, Cause::OutOfRange, unmet(config)));
     }
     Ok(Line::Body)
 }
 
-pub(crate) fn end<'a>(args: &Words<'a>) -> Result<Line<'a>, Cause>
+pub(crate) fn end<'a>(args: &Words<'a>) -> Result<Line<'a>, Breach>
     ensures { said result ≡ end_line (listed args.now) }
 {
     let Words::Zero = args else {
-        return Err(Cause::Misplaced);
+        return Err(miscounted(2, 0, args));
     };
     Ok(Line::End)
 }
 
-fn asked_by<'a>(config: &Config, p: u32, request: Request) -> Result<Line<'a>, Cause>
+fn asked_by<'a>(config: &Config, p: u32, request: Request) -> Result<Line<'a>, Breach>
     ensures { said result ≡ asked_by config.now p request }
 {
     if config.body.items().len() >= 100_000 {
-        return Err(Cause::TooMany);
+        return Err(Breach::at_word(1, Cause::TooMany));
     }
     Ok(Line::Request(Task {
         proc: Proc(p),
@@ -67,7 +84,7 @@ fn asked_by<'a>(config: &Config, p: u32, request: Request) -> Result<Line<'a>, C
     }))
 }
 
-fn referred<'a>(config: &Config, p: u32, mode: Mode, at: u32, op: Op) -> Result<Line<'a>, Cause>
+fn referred<'a>(config: &Config, p: u32, mode: Mode, at: u32, op: Op) -> Result<Line<'a>, Breach>
     ensures { said result ≡ referred config.now p mode at op }
 {
     let addr = Addr(at);
@@ -80,14 +97,15 @@ fn read<'a>(
     mode: Mode,
     width: Width,
     args: &Words,
-) -> Result<Line<'a>, Cause>
+) -> Result<Line<'a>, Breach>
     ensures { said result ≡ read_line config.now x.now mode width (listed args.now) }
 {
     let Words::One(addr) = args else {
-        return Err(Cause::Misplaced);
+        return Err(miscounted(3, 1, args));
     };
-    let p = process(config.procs.items(), x)?;
-    let at = aligned(bytes_of(width), addr)?;
+    let p = marked(1, Bound::Free, process(config.procs.items(), x))?;
+    let bytes = bytes_of(width);
+    let at = marked(3, Bound::Multiple(bytes), aligned(bytes, addr))?;
     referred(config, p, mode, at, Op::Read(width))
 }
 
@@ -97,7 +115,7 @@ fn reference<'a>(
     mode: Mode,
     access: Access,
     args: &Words,
-) -> Result<Line<'a>, Cause>
+) -> Result<Line<'a>, Breach>
     ensures { said result ≡ reference_line config.now x.now mode access (listed args.now) }
 {
     match access {
@@ -113,14 +131,14 @@ fn reference<'a>(
     }
 }
 
-fn adjust<'a>(config: &Config, x: &[u8], args: &Words) -> Result<Line<'a>, Cause>
+fn adjust<'a>(config: &Config, x: &[u8], args: &Words) -> Result<Line<'a>, Breach>
     ensures { said result ≡ adjust_line config.now x.now (listed args.now) }
 {
     let Words::One(limit) = args else {
-        return Err(Cause::Misplaced);
+        return Err(miscounted(3, 1, args));
     };
-    let p = process(config.procs.items(), x)?;
-    let limit = decimal(limit)?;
+    let p = marked(1, Bound::Free, process(config.procs.items(), x))?;
+    let limit = counted(3, limit)?;
     asked_by(config, p, Request::Service(Service::Adjust { limit }))
 }
 
@@ -129,7 +147,7 @@ fn service<'a>(
     x: &[u8],
     name: ServiceName,
     args: &Words,
-) -> Result<Line<'a>, Cause>
+) -> Result<Line<'a>, Breach>
     ensures { said result ≡ service_line config.now x.now name (listed args.now) }
 {
     match name {
@@ -198,13 +216,13 @@ fn by_verb<'a>(
     x: &[u8],
     verb: Option<Verb>,
     args: &Words,
-) -> Result<Line<'a>, Cause>
+) -> Result<Line<'a>, Breach>
     ensures { said result ≡ by_verb config.now x.now (listed args.now) verb }
 {
     match verb {
         None => {
-            process(config.procs.items(), x)?;
-            Err(Cause::UnknownWord)
+            marked(1, Bound::Free, process(config.procs.items(), x))?;
+            Err(Breach::at_word(2, Cause::UnknownWord))
         }
         Some(Verb::Op(op)) => reference(config, x, op.mode, op.access, args),
         Some(Verb::Service(name)) => service(config, x, name, args),
@@ -212,11 +230,11 @@ fn by_verb<'a>(
 }
 
 /// A request of the process of this letter, by the text behind it.
-pub(crate) fn request<'a>(config: &Config, x: &[u8], text: &[u8]) -> Result<Line<'a>, Cause>
+pub(crate) fn request<'a>(config: &Config, x: &[u8], text: &[u8]) -> Result<Line<'a>, Breach>
     ensures { said result ≡ request_line config.now x.now (words text.now) }
 {
     let Some((second, rest)) = next_word(text) else {
-        return Err(Cause::Misplaced);
+        return Err(Breach::at_word(2, Cause::Misplaced));
     };
     let args = words_of(rest);
     by_verb(config, x, verb_of(second), &args)

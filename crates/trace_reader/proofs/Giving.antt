@@ -21,27 +21,39 @@ use Rattle.trace_words.specs.Name.{is_capital, is_name_byte, is_name}
 use Rattle.trace_words.specs.Number.{decimal, within, decimal_within, hexadecimal, hexadecimal_digit, decimal_digit, spelled, has_length}
 use Rattle.trace_words.specs.Protection.{kernel_code, executive_code, other_code, protection}
 use Rattle.trace_words.specs.Words.{is}
+use Rattle.trace_lines.specs.declared.breach.Bound.{Bound}
+use Rattle.trace_lines.specs.declared.breach.Breach.{Breach}
+use Rattle.trace_lines.specs.Breaches.{marked}
 use Rattle.trace_lines.specs.Lookups.{process, number_named, section, or_none, pages_at, blocks_at, aligned, is_inside}
 
-pub owed_gives : {A : Type 0} (test : Bool) (cause : Cause) (value : Result A Cause) (P : A → Type 0) → (test ≡ true → IfOk value P) → IfOk (owed test cause value) P
-owed_gives true cause value P h = h refl
-owed_gives false cause value P h = tt
+pub owed_gives : {A E : Type 0} (test : Bool) (wrong : E) (value : Result A E) (P : A → Type 0) → (test ≡ true → IfOk value P) → IfOk (owed test wrong value) P
+owed_gives true wrong value P h = h refl
+owed_gives false wrong value P h = tt
 
-pub bind_gives : {A B : Type 0} (r : Result A Cause) (f : A → Result B Cause) (P : A → Type 0) (Q : B → Type 0) → IfOk r P → ((x : A) → P x → IfOk (f x) Q) → IfOk (r >>= f) Q
+pub bind_gives : {A B E : Type 0} (r : Result A E) (f : A → Result B E) (P : A → Type 0) (Q : B → Type 0) → IfOk r P → ((x : A) → P x → IfOk (f x) Q) → IfOk (r >>= f) Q
 bind_gives (Ok x) f P Q p h = h x p
-bind_gives (Err cause) f P Q p h = tt
+bind_gives (Err wrong) f P Q p h = tt
 
-pub then_gives : {A B : Type 0} (r : Result A Cause) (f : A → Result B Cause) (Q : B → Type 0) → ((x : A) → IfOk (f x) Q) → IfOk (r >>= f) Q
+pub then_gives : {A B E : Type 0} (r : Result A E) (f : A → Result B E) (Q : B → Type 0) → ((x : A) → IfOk (f x) Q) → IfOk (r >>= f) Q
 then_gives (Ok x) f Q h = h x
-then_gives (Err cause) f Q h = tt
+then_gives (Err wrong) f Q h = tt
 
-pub if_gives : {A : Type 0} (test : Bool) (a b : Result A Cause) (P : A → Type 0) → IfOk a P → IfOk b P → IfOk (cond test a b) P
+-- a step over the word of some number
+pub step_gives : {A B : Type 0} (word : ℕ) (bound : Bound) (r : Result A Cause) (f : A → Result B Breach) (P : A → Type 0) (Q : B → Type 0) → IfOk r P → ((x : A) → P x → IfOk (f x) Q) → IfOk (marked word bound r >>= f) Q
+step_gives word bound (Ok x) f P Q p h = h x p
+step_gives word bound (Err cause) f P Q p h = tt
+
+pub pass_gives : {A B : Type 0} (word : ℕ) (bound : Bound) (r : Result A Cause) (f : A → Result B Breach) (Q : B → Type 0) → ((x : A) → IfOk (f x) Q) → IfOk (marked word bound r >>= f) Q
+pass_gives word bound (Ok x) f Q h = h x
+pass_gives word bound (Err cause) f Q h = tt
+
+pub if_gives : {A E : Type 0} (test : Bool) (a b : Result A E) (P : A → Type 0) → IfOk a P → IfOk b P → IfOk (cond test a b) P
 if_gives true a b P p q = p
 if_gives false a b P p q = q
 
-pub weaker : {A : Type 0} (r : Result A Cause) (P Q : A → Type 0) → IfOk r P → ((x : A) → P x → Q x) → IfOk r Q
+pub weaker : {A E : Type 0} (r : Result A E) (P Q : A → Type 0) → IfOk r P → ((x : A) → P x → Q x) → IfOk r Q
 weaker (Ok x) P Q p h = h x p
-weaker (Err cause) P Q p h = tt
+weaker (Err wrong) P Q p h = tt
 
 -- numbers
 

@@ -6,6 +6,7 @@ use Rattle.vm_types.specs.declared.config.Config.{Config}
 use Rattle.vm_types.specs.declared.faults.Failed.{Failed}
 use Rattle.trace_words.specs.declared.cause.Cause.TheVariants.{LineTooLong}
 use Rattle.trace_lines.specs.declared.part.Part.{Part}
+use Rattle.trace_lines.specs.Breaches.{at_word}
 use Rattle.line_source.specs.declared.lines.Line.{Line}
 use Rattle.line_source.specs.declared.lines.Line.TheVariants.{Text, Long, End}
 use Rattle.line_source.specs.HandedOut.{HandsOut, Gives, Takes}
@@ -21,7 +22,7 @@ use Rattle.trace_reader.specs.Stream.{IsReading}
 use Rattle.trace_words.specs.Words.{words}
 use Rattle.trace_lines.specs.Grammar.{content}
 use Rattle.trace_reader.specs.Meaning.{next_line}
-use Rattle.trace_reader.proofs.HeadLines.{gone_first, line_goes, line_answers, last_goes, none_left, long_line, first_of, log_at_end}
+use Rattle.trace_reader.proofs.HeadLines.{empty_text, gone_first, line_goes, line_answers, last_goes, none_left, long_line, first_of, log_at_end}
 use Rattle.trace_reader.proofs.Drafting.{read_whole}
 
 pub told_first : (told : Option (List ℕ)) (part : Part) (number : ℕ) → part ≡ start → number ≡ 1 → IsTold told part number told
@@ -65,13 +66,14 @@ told_fault (Some text) left new part number out ended fault.NoMemory h gives t f
     let first = first_of h.rest out line.rest ended gives line.parts in
     record { part = part; number = number; rest = h.rest; gone = h.gone; line = out; others = first.0; first = first.1; right = f }
 told_fault (Some text) left new part number out ended fault.ReadFault h gives t f = absurd f
-told_fault (Some text) left new part number out ended (fault.Line n cause) h gives t f =
+told_fault (Some text) left new part number out ended (fault.Line n breach) h gives t f =
     let line = took left new (Ok (Text ended)) h.rest out h.left_over t in
-    line_answers text part number h.rest out line.rest ended (is_faulty cause) h.gone gives line.parts f.1 (λ p. λ never. absurd cc) ∙ ap (λ (k : ℕ). head.Faulty k cause) (sym f.0)
+    line_answers text part number h.rest out line.rest ended (is_faulty breach) h.gone gives line.parts f.1 (λ p. λ never. absurd cc) ∙ ap (λ (k : ℕ). head.Faulty k breach) (sym f.0)
+told_fault (Some text) left new part number out ended fault.Empty h gives t f = absurd f
 told_fault (Some text) left new part number out ended fault.Unfinished h gives t f = absurd f
 
 pub told_long : (told left new : Option (List ℕ)) (part : Part) (number : ℕ) (out : List ℕ) → IsTold told part number left → HandsOut Long out → TookOf left (Ok Long) out new
-    → IfSome told (λ text. HeadAnswers (Err (fault.Line number LineTooLong)) text new)
+    → IfSome told (λ text. HeadAnswers (Err (fault.Line number (at_word 0 LineTooLong))) text new)
 told_long None left new part number out h gives t = tt
 told_long (Some text) left new part number out h gives t =
     let line = took left new (Ok Long) h.rest out h.left_over t in
@@ -82,6 +84,12 @@ told_none None left new part number out h t = tt
 told_none (Some text) left new part number out h t =
     let line = took left new (Ok End) h.rest out h.left_over t in
     (none_left text part number h.rest h.gone line.parts.0, line.left_over ∙ ap (λ (r : List ℕ). Some r) line.parts.1)
+
+pub told_empty : (told left new : Option (List ℕ)) (part : Part) (number : ℕ) (out : List ℕ) → IsTold told part number left → TookOf left (Ok End) out new → number ≡ 1 → IfSome told (λ text. HeadAnswers (Err fault.Empty) text new)
+told_empty None left new part number out h t first = tt
+told_empty (Some text) left new part number out h t first =
+    let line = took left new (Ok End) h.rest out h.left_over t in
+    (empty_text text part number h.rest h.gone line.parts.0 first, line.left_over ∙ ap (λ (r : List ℕ). Some r) line.parts.1)
 
 pub told_failed : (told left new : Option (List ℕ)) (part : Part) (number : ℕ) (out : List ℕ) (failed : Failed) → IsTold told part number left → Gives (Err failed) out → TookOf left (Err failed) out new
     → IfSome told (λ text. HeadAnswers (Err fault.ReadFault) text new)
@@ -117,7 +125,8 @@ head_read before next number after line r h =
 pub no_read : (part : Part) (number : ℕ) (line : List ℕ) (why : TraceFault) → IsHeadLineAtFault part number line why → (count : ℕ) → CountsBy (Err why) count count
 no_read part number line fault.NoMemory h count = refl
 no_read part number line fault.ReadFault h count = absurd h
-no_read part number line (fault.Line n cause) h count = refl
+no_read part number line (fault.Line n breach) h count = refl
+no_read part number line fault.Empty h count = absurd h
 no_read part number line fault.Unfinished h count = absurd h
 
 pub quiet_counts : (answer : Result Bool TraceFault) (before now : ℕ) → now ≡ before → CountsBy answer before before → CountsBy answer before now

@@ -3,14 +3,15 @@ use Rattle.std.proofs.Common.{◌≡◌, ℕ, ◌≤◌, eqb, leb, List, [], ◌
 use Rattle.std.specs.Prelude.{IfOk}
 use Rattle.std.specs.List.{list_all}
 use Rattle.std.proofs.lemmas.Bool.{leb-true, eqb-true}
-use Rattle.trace_words.specs.declared.cause.Cause.{Cause}
 use Rattle.trace_words.specs.declared.cause.Cause.TheVariants.{Misplaced}
 use Rattle.trace_words.specs.Judged.{owed}
 use Rattle.trace_words.specs.Words.{words}
+use Rattle.trace_lines.specs.declared.breach.Breach.{Breach}
 use Rattle.trace_lines.specs.declared.keywords.Keyword.{Keyword}
 use Rattle.trace_lines.specs.declared.keywords.Keyword.TheVariants.{Version, Frames, PageFile, Param, Bad, Section, Data, Process, MapZero, MapSection, Fail, Body, End}
 use Rattle.trace_lines.specs.declared.part.Part.{Part}
 use Rattle.trace_lines.specs.declared.places.Place.TheVariants.{Requests}
+use Rattle.trace_lines.specs.Breaches.{at_word}
 use Rattle.trace_lines.specs.Grammar.{by_keyword, placed, is_letter, is_comment, by_first, by_words, content, is_text, judged}
 use Rattle.trace_lines.specs.Keywords.{keyword_of, place_of}
 use Rattle.trace_lines.specs.Places.{rank}
@@ -44,7 +45,7 @@ placed_gives part args (Some keyword) =
     owed_gives (eqb (rank part.place) (rank (place_of keyword))) _ (by_keyword part args keyword) (IsRight part) (λ e.
     weaker (by_keyword part args keyword) (Gives part (rank (place_of keyword))) (IsRight part) (keyword_gives part args keyword) (λ said g. stands part (rank (place_of keyword)) said (eqb-true (rank part.place) (rank (place_of keyword)) e) g))
 
-letter_gives : (part : Part) (first : List ℕ) (args : List (List ℕ)) → IfOk (owed (eqb (rank part.place) (rank Requests)) Misplaced (request_line part.config first args)) (IsRight part)
+letter_gives : (part : Part) (first : List ℕ) (args : List (List ℕ)) → IfOk (owed (eqb (rank part.place) (rank Requests)) (at_word 1 Misplaced) (request_line part.config first args)) (IsRight part)
 letter_gives part first args =
     owed_gives (eqb (rank part.place) 4) _ (request_line part.config first args) (IsRight part) (λ e.
     weaker (request_line part.config first args) (Gives part 4) (IsRight part) (request_gives part first args) (λ said g. stands part 4 said (eqb-true (rank part.place) 4 e) g))
@@ -69,5 +70,5 @@ judged_gives number part line =
     owed_gives (leb number 200000) _ (by_words part (words (content line))) (IsJudged number part) (λ e.
     weaker (by_words part (words (content line))) (IsRight part) (IsJudged number part) (words_give part (words (content line))) (λ said r. record { right = r; few = leb-true number 200000 e }))))
 
-pub at_ok : {A : Type 0} (r : Result A Cause) (x : A) (P : A → Type 0) → IfOk r P → r ≡ Ok x → P x
-at_ok {A} r x P h e = subst (λ (s : Result A Cause). IfOk s P) e h
+pub at_ok : {A : Type 0} (r : Result A Breach) (x : A) (P : A → Type 0) → IfOk r P → r ≡ Ok x → P x
+at_ok {A} r x P h e = subst (λ (s : Result A Breach). IfOk s P) e h

@@ -4,9 +4,10 @@ use Rattle.std.proofs.lemmas.Bool.{lt-leb, le-leb}
 use Rattle.std.proofs.lemmas.List.{drop-drop, length-append}
 use Rattle.std.proofs.lemmas.List.Elements.{recursion_from_All}
 use Rattle.std.specs.List.{AllByRecursion}
-use Rattle.trace_words.specs.declared.cause.Cause.{Cause}
 use Rattle.trace_words.specs.declared.cause.Cause.TheVariants.{LineTooLong}
+use Rattle.trace_lines.specs.declared.breach.Breach.{Breach}
 use Rattle.trace_lines.specs.declared.part.Part.{Part}
+use Rattle.trace_lines.specs.Breaches.{at_word}
 use Rattle.trace_reader.specs.Meaning.{Faulty, next_line, judge, is_open, lines}
 use Rattle.trace_reader.specs.Stream.{Follows}
 use Rattle.trace_reader.proofs.Splitting.{lines_none, lines_at, some_line}
@@ -19,11 +20,11 @@ judge_one part next number line first more e = rw e refl
 open_one : (part next : Part) (number : ℕ) (line first : List ℕ) (more : List (List ℕ)) → next_line number part line ≡ Ok next → is_open number part (line ∷ first ∷ more) ≡ is_open (number + 1) next (first ∷ more)
 open_one part next number line first more e = rw e refl
 
-fault_one : (part : Part) (number : ℕ) (cause : Cause) (line first : List ℕ) (more : List (List ℕ)) → next_line number part line ≡ Err cause → judge number part (line ∷ first ∷ more) ≡ Faulty number cause
-fault_one part number cause line first more e = rw e refl
+fault_one : (part : Part) (number : ℕ) (breach : Breach) (line first : List ℕ) (more : List (List ℕ)) → next_line number part line ≡ Err breach → judge number part (line ∷ first ∷ more) ≡ Faulty number breach
+fault_one part number breach line first more e = rw e refl
 
-shut_one : (part : Part) (number : ℕ) (cause : Cause) (line first : List ℕ) (more : List (List ℕ)) → next_line number part line ≡ Err cause → is_open number part (line ∷ first ∷ more) ≡ false
-shut_one part number cause line first more e = rw e refl
+shut_one : (part : Part) (number : ℕ) (breach : Breach) (line first : List ℕ) (more : List (List ℕ)) → next_line number part line ≡ Err breach → is_open number part (line ∷ first ∷ more) ≡ false
+shut_one part number breach line first more e = rw e refl
 
 -- the lines of a text whose front has no byte 10, whatever comes next
 rejoin : (line back more : List ℕ) → (line ++ 10 ∷ back) ++ more ≡ line ++ 10 ∷ (back ++ more)
@@ -49,15 +50,15 @@ follows_line part next number line back other e = record {
       ap (λ (n : ℕ). drop n (lines ((line ++ 10 ∷ back) ++ more))) one ∙ ap (λ (ls : List (List ℕ)). drop 1 ls) some.2 ∙ sym some.3;
 }
 
-pub fault_line : (part : Part) (number : ℕ) (cause : Cause) (line back more : List ℕ) → All (λ b. b ≢ 10) line → next_line number part line ≡ Err cause → judge number part (lines ((line ++ 10 ∷ back) ++ more)) ≡ Faulty number cause
-fault_line part number cause line back more other e =
+pub fault_line : (part : Part) (number : ℕ) (breach : Breach) (line back more : List ℕ) → All (λ b. b ≢ 10) line → next_line number part line ≡ Err breach → judge number part (lines ((line ++ 10 ∷ back) ++ more)) ≡ Faulty number breach
+fault_line part number breach line back more other e =
     let some = first_line line back more other in
-    ap (judge number part) some.2 ∙ fault_one part number cause line some.0 some.1 e
+    ap (judge number part) some.2 ∙ fault_one part number breach line some.0 some.1 e
 
-pub shut_line : (part : Part) (number : ℕ) (cause : Cause) (line back more : List ℕ) → All (λ b. b ≢ 10) line → next_line number part line ≡ Err cause → is_open number part (lines ((line ++ 10 ∷ back) ++ more)) ≡ false
-shut_line part number cause line back more other e =
+pub shut_line : (part : Part) (number : ℕ) (breach : Breach) (line back more : List ℕ) → All (λ b. b ≢ 10) line → next_line number part line ≡ Err breach → is_open number part (lines ((line ++ 10 ∷ back) ++ more)) ≡ false
+shut_line part number breach line back more other e =
     let some = first_line line back more other in
-    ap (is_open number part) some.2 ∙ shut_one part number cause line some.0 some.1 e
+    ap (is_open number part) some.2 ∙ shut_one part number breach line some.0 some.1 e
 
 pub follows_same : (part : Part) (number : ℕ) (text : List ℕ) → Follows part number text part number text
 follows_same part number text =
@@ -98,24 +99,24 @@ begun_by (b ∷ front) more other =
 pub begun : (front more : List ℕ) → All (λ b. b ≢ 10) front → (rest : List ℕ) × (others : List (List ℕ)) × (lines (front ++ more) ≡ (front ++ rest) ∷ others)
 begun front more other = begun_by front more (recursion_from_All (λ b. b ≢ 10) front other)
 
-pub too_long : (part : Part) (number : ℕ) (line : List ℕ) → 255 < length line → next_line number part line ≡ Err LineTooLong
+pub too_long : (part : Part) (number : ℕ) (line : List ℕ) → 255 < length line → next_line number part line ≡ Err (at_word 0 LineTooLong)
 too_long part number line h = rw (lt-leb (length line) 255 h) refl
 
-pub refused : (part : Part) (number : ℕ) (cause : Cause) (line : List ℕ) (others : List (List ℕ)) → 0 < length line → next_line number part line ≡ Err cause → judge number part (line ∷ others) ≡ Faulty number cause
-refused part number cause [] others some e = absurd (omega (arith, some))
-refused part number cause (b ∷ line) [] some e = rw e refl
-refused part number cause (b ∷ line) (first ∷ more) some e = fault_one part number cause (b ∷ line) first more e
+pub refused : (part : Part) (number : ℕ) (breach : Breach) (line : List ℕ) (others : List (List ℕ)) → 0 < length line → next_line number part line ≡ Err breach → judge number part (line ∷ others) ≡ Faulty number breach
+refused part number breach [] others some e = absurd (omega (arith, some))
+refused part number breach (b ∷ line) [] some e = rw e refl
+refused part number breach (b ∷ line) (first ∷ more) some e = fault_one part number breach (b ∷ line) first more e
 
-pub fault_long : (part : Part) (number : ℕ) (front more : List ℕ) → All (λ b. b ≢ 10) front → 255 < length front → judge number part (lines (front ++ more)) ≡ Faulty number LineTooLong
+pub fault_long : (part : Part) (number : ℕ) (front more : List ℕ) → All (λ b. b ≢ 10) front → 255 < length front → judge number part (lines (front ++ more)) ≡ Faulty number (at_word 0 LineTooLong)
 fault_long part number front more other long =
     let tail = begun front more other in
     let longer : 255 < length (front ++ tail.0) = rw length-append (omega arith) in
-    ap (judge number part) tail.2 ∙ refused part number LineTooLong (front ++ tail.0) tail.1 (omega arith) (too_long part number (front ++ tail.0) longer)
+    ap (judge number part) tail.2 ∙ refused part number (at_word 0 LineTooLong) (front ++ tail.0) tail.1 (omega arith) (too_long part number (front ++ tail.0) longer)
 
 -- a begun line of so many bytes isn't open
 pub shut_long : (part : Part) (number : ℕ) (line : List ℕ) (others : List (List ℕ)) → 255 < length line → is_open number part (line ∷ others) ≡ false
 shut_long part number line [] long = lt-leb (length line) 255 long
-shut_long part number line (first ∷ more) long = shut_one part number LineTooLong line first more (too_long part number line long)
+shut_long part number line (first ∷ more) long = shut_one part number (at_word 0 LineTooLong) line first more (too_long part number line long)
 
 -- the last line of a text
 pub last_line : (part : Part) (number : ℕ) (line : List ℕ) → All (λ b. b ≢ 10) line → length line ≤ 255 → is_open number part (lines line) ≡ true

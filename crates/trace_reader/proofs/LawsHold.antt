@@ -4,9 +4,10 @@ use Rattle.std.proofs.lemmas.Bool.{leb-false}
 use Rattle.std.proofs.lemmas.List.{length-append}
 use Rattle.vm_types.specs.Configuration.{IsWellFormed}
 use Rattle.vm_types.specs.declared.config.Config.{Config}
-use Rattle.trace_words.specs.declared.cause.Cause.{Cause}
 use Rattle.trace_words.specs.declared.cause.Cause.TheVariants.{LineTooLong}
+use Rattle.trace_lines.specs.declared.breach.Breach.{Breach}
 use Rattle.trace_lines.specs.declared.part.Part.{Part}
+use Rattle.trace_lines.specs.Breaches.{at_word}
 use Rattle.trace_lines.specs.declared.places.Place.{Place}
 use Rattle.trace_lines.specs.declared.places.Place.TheVariants.{Version, Frames, PageFile, Declarations, Requests, Ended}
 use Rattle.trace_reader.specs.Changes.{start}
@@ -22,8 +23,8 @@ use Rattle.trace_reader.proofs.Splitting.{some_line}
 not_finished : (config : Config) → Unfinished ≡ Configuration config → ⊥
 not_finished config e = cc
 
-not_faulty : (n : ℕ) (cause : Cause) (config : Config) → Faulty n cause ≡ Configuration config → ⊥
-not_faulty n cause config e = cc
+not_faulty : (n : ℕ) (breach : Breach) (config : Config) → Faulty n breach ≡ Configuration config → ⊥
+not_faulty n breach config e = cc
 
 same_configuration : (a b : Config) → Configuration a ≡ Configuration b → a ≡ b
 same_configuration a b e = cc
@@ -38,9 +39,9 @@ finished_read part Ended config d p e = subst IsWellFormed (same_configuration p
 
 after_read : (number : ℕ) (part : Part) (line : List ℕ) (config : Config) (rest : Part → Trace) → IsDraft part
     → ((next : Part) → IsDraft next → rest next ≡ Configuration config → IsWellFormed config)
-    → (r : Result Part Cause) → next_line number part line ≡ r → after number r rest ≡ Configuration config → IsWellFormed config
+    → (r : Result Part Breach) → next_line number part line ≡ r → after number r rest ≡ Configuration config → IsWellFormed config
 after_read number part line config rest d h (Ok next) is e = h next (next_draft number part next line d is) e
-after_read number part line config rest d h (Err cause) is e = absurd (not_faulty number cause config e)
+after_read number part line config rest d h (Err breach) is e = absurd (not_faulty number breach config e)
 
 end_read : (number : ℕ) (part : Part) (last : List ℕ) (config : Config) → IsDraft part → at_end number part last ≡ Configuration config → IsWellFormed config
 end_read number part [] config d e = finished_read part part.place config d refl e
@@ -103,22 +104,22 @@ lines_append (b ∷ text) more = by_byte b text more (eqb b 10) refl (lines_appe
 -- what is shut stays so
 
 abbrev Stays : ℕ → Part → List (List ℕ) → List (List ℕ) → Type 0
-Stays number part all more = ((n : ℕ) × ((cause : Cause) × (judge number part all ≡ Faulty n cause))) × (judge number part (joined all more) ≡ judge number part all)
+Stays number part all more = ((n : ℕ) × ((breach : Breach) × (judge number part all ≡ Faulty n breach))) × (judge number part (joined all more) ≡ judge number part all)
 
 never : true ≡ false → ⊥
 never e = cc
 
 long_stays : (number : ℕ) (part : Part) (last : List ℕ) (more : List (List ℕ)) → 255 < length last → Stays number part (last ∷ []) more
 unfolding joined
-long_stays number part last [] long = let fault = refused part number LineTooLong last [] (omega arith) (too_long part number last long) in ((number, (LineTooLong, fault)), refl)
+long_stays number part last [] long = let fault = refused part number (at_word 0 LineTooLong) last [] (omega arith) (too_long part number last long) in ((number, (at_word 0 LineTooLong, fault)), refl)
 long_stays number part last (m ∷ more) long =
-    let fault = refused part number LineTooLong last [] (omega arith) (too_long part number last long) in
+    let fault = refused part number (at_word 0 LineTooLong) last [] (omega arith) (too_long part number last long) in
     let longer : 255 < length (last ++ m) = rw length-append (omega arith) in
-    ((number, (LineTooLong, fault)), refused part number LineTooLong (last ++ m) more (omega arith) (too_long part number (last ++ m) longer) ∙ sym fault)
+    ((number, (at_word 0 LineTooLong, fault)), refused part number (at_word 0 LineTooLong) (last ++ m) more (omega arith) (too_long part number (last ++ m) longer) ∙ sym fault)
 
 line_stays : (number : ℕ) (part : Part) (line next : List ℕ) (all more : List (List ℕ))
     → ((p : Part) → is_open (number + 1) p (next ∷ all) ≡ false → Stays (number + 1) p (next ∷ all) more)
-    → (r : Result Part Cause) → next_line number part line ≡ r → open_after r (λ p. is_open (number + 1) p (next ∷ all)) ≡ false → Stays number part (line ∷ next ∷ all) more
+    → (r : Result Part Breach) → next_line number part line ≡ r → open_after r (λ p. is_open (number + 1) p (next ∷ all)) ≡ false → Stays number part (line ∷ next ∷ all) more
 unfolding joined
 line_stays number part line next all more rest (Ok p) is shut =
     let tail = rest p shut in
@@ -127,12 +128,12 @@ line_stays number part line next all more rest (Ok p) is shut =
     let there : judge number part (line ∷ joined (next ∷ all) more) ≡ judge (number + 1) p (joined (next ∷ all) more) =
     ap (λ (ls : List (List ℕ)). judge number part (line ∷ ls)) head.2 ∙ (rw is refl) ∙ ap (judge (number + 1) p) (sym head.2) in
     ((tail.0.0, (tail.0.1.0, here ∙ tail.0.1.1)), there ∙ tail.1 ∙ sym here)
-line_stays number part line next all more rest (Err cause) is shut =
+line_stays number part line next all more rest (Err breach) is shut =
     let head = joined_head 0 next all more in
-    let here : judge number part (line ∷ next ∷ all) ≡ Faulty number cause = rw is refl in
-    let there : judge number part (line ∷ joined (next ∷ all) more) ≡ Faulty number cause =
+    let here : judge number part (line ∷ next ∷ all) ≡ Faulty number breach = rw is refl in
+    let there : judge number part (line ∷ joined (next ∷ all) more) ≡ Faulty number breach =
     ap (λ (ls : List (List ℕ)). judge number part (line ∷ ls)) head.2 ∙ (rw is refl) in
-    ((number, (cause, here)), there ∙ sym here)
+    ((number, (breach, here)), there ∙ sym here)
 
 stays : (number : ℕ) (part : Part) (all more : List (List ℕ)) → is_open number part all ≡ false → Stays number part all more
 stays number part [] more shut = absurd (never shut)

@@ -51,7 +51,7 @@ use Rattle.trace_lines.specs.Requests.{params_agree, has_frames, body_line, end_
 use Rattle.trace_lines.specs.Says as says
 use Rattle.trace_lines.specs.Says.{Says}
 use Rattle.trace_reader.specs.Right.{IsOrdered, Fits, place_for}
-use Rattle.trace_reader.proofs.Giving.{owed_gives, bind_gives, if_gives, then_gives, InRange, number_gives, IsWord, decimal_gives, aligned_gives, process_number, section_number, name_gives, protection_gives, inside_gives, blocks_give, origin_gives}
+use Rattle.trace_reader.proofs.Giving.{owed_gives, bind_gives, if_gives, then_gives, step_gives, pass_gives, InRange, number_gives, IsWord, decimal_gives, aligned_gives, process_number, section_number, name_gives, protection_gives, inside_gives, blocks_give, origin_gives}
 
 -- the line says what fits, and stands there
 abbrev pub Gives : Part → ℕ → Says → Type 0
@@ -59,31 +59,31 @@ Gives part place said = Fits part said × (place_for said (rank part.place) ≡ 
 
 pub version_gives : (part : Part) (words : List (List ℕ)) → IfOk (version_line words) (Gives part 0)
 version_gives part [] = tt
-version_gives part (n ∷ []) = then_gives (decimal_within 1 1 n) _ (Gives part 0) (λ _. (tt, refl))
+version_gives part (n ∷ []) = pass_gives _ _ (decimal_within 1 1 n) _ (Gives part 0) (λ _. (tt, refl))
 version_gives part (a ∷ b ∷ more) = tt
 
 pub frames_gives : (part : Part) (words : List (List ℕ)) → IfOk (frames_line words) (Gives part 1)
 frames_gives part [] = tt
-frames_gives part (n ∷ []) = bind_gives (decimal_within 8 4096 n) _ (InRange 8 4096) (Gives part 1) (number_gives 8 4096 n) (λ n range. (range, refl))
+frames_gives part (n ∷ []) = step_gives _ _ (decimal_within 8 4096 n) _ (InRange 8 4096) (Gives part 1) (number_gives 8 4096 n) (λ n range. (range, refl))
 frames_gives part (a ∷ b ∷ more) = tt
 
 pub pagefile_gives : (part : Part) (words : List (List ℕ)) → IfOk (pagefile_line words) (Gives part 2)
 pagefile_gives part [] = tt
-pagefile_gives part (n ∷ []) = bind_gives (decimal_within 1 16384 n) _ (InRange 1 16384) (Gives part 2) (number_gives 1 16384 n) (λ n range. (range, refl))
+pagefile_gives part (n ∷ []) = step_gives _ _ (decimal_within 1 16384 n) _ (InRange 1 16384) (Gives part 2) (number_gives 1 16384 n) (λ n range. (range, refl))
 pagefile_gives part (a ∷ b ∷ more) = tt
 
 pub param_gives : (part : Part) (words : List (List ℕ)) → IfOk (param_line part.given words) (Gives part 3)
 param_gives part [] = tt
 param_gives part (a ∷ []) = tt
 param_gives part (name ∷ n ∷ []) =
-    then_gives (param_of name) _ (Gives part 3) (λ p. bind_gives (decimal_within (least p) (most p) n) _ (InRange (least p) (most p)) (Gives part 3) (number_gives (least p) (most p) n) (λ v range.
+    pass_gives _ _ (param_of name) _ (Gives part 3) (λ p. step_gives _ _ (decimal_within (least p) (most p) n) _ (InRange (least p) (most p)) (Gives part 3) (number_gives (least p) (most p) n) (λ v range.
     owed_gives _ _ (Ok (says.Param p v)) (Gives part 3) (λ _. (range, refl))))
 param_gives part (a ∷ b ∷ c ∷ more) = tt
 
 pub bad_gives : (part : Part) (words : List (List ℕ)) → IfOk (bad_line part.config words) (Gives part 3)
 bad_gives part [] = tt
 bad_gives part (f ∷ []) =
-    then_gives (decimal f) _ (Gives part 3) (λ f. owed_gives (ltb f part.config.frames) _ _ (Gives part 3) (λ below.
+    pass_gives _ _ (decimal f) _ (Gives part 3) (λ f. owed_gives (ltb f part.config.frames) _ _ (Gives part 3) (λ below.
     owed_gives (not (is_listed part.config.bad f)) _ (Ok (says.Bad f)) (Gives part 3) (λ new. ((ltb-true f part.config.frames below, not-true (is_listed part.config.bad f) new), refl))))
 bad_gives part (a ∷ b ∷ more) = tt
 
@@ -100,8 +100,8 @@ section_gives part [] = tt
 section_gives part (a ∷ []) = tt
 section_gives part (a ∷ b ∷ []) = tt
 section_gives part (name ∷ word ∷ n ∷ []) =
-    owed_gives (is_name name) _ _ (Gives part 3) (λ good. bind_gives (section_kind word) _ (λ of_kind. is_paged_kind of_kind ≡ false) (Gives part 3) (kind_gives word) (λ of_kind file.
-    bind_gives (decimal_within 1 4294967295 n) _ (InRange 1 4294967295) (Gives part 3) (number_gives 1 4294967295 n) (λ pages range.
+    owed_gives (is_name name) _ _ (Gives part 3) (λ good. step_gives _ _ (section_kind word) _ (λ of_kind. is_paged_kind of_kind ≡ false) (Gives part 3) (kind_gives word) (λ of_kind file.
+    step_gives _ _ (decimal_within 1 4294967295 n) _ (InRange 1 4294967295) (Gives part 3) (number_gives 1 4294967295 n) (λ pages range.
     owed_gives (not (is_some (number_named part.config.sections name))) _ _ (Gives part 3) (λ new.
     owed_gives (has_room part.config.sections pages) _ (Ok (says.Section name of_kind pages)) (Gives part 3) (λ room.
     ((name_gives name good, range.0, none_found (number_named part.config.sections name) new, room, file), refl))))))
@@ -112,8 +112,8 @@ data_gives part [] = tt
 data_gives part (a ∷ []) = tt
 data_gives part (a ∷ b ∷ []) = tt
 data_gives part (name ∷ offset ∷ hex ∷ []) =
-    bind_gives (section part.config.sections name) _ (λ s. s < length part.config.sections) (Gives part 3) (section_number part.config.sections name) (λ s there.
-    owed_gives (has_file part.config.sections s) _ _ (Gives part 3) (λ file. then_gives (decimal offset) _ (Gives part 3) (λ at. then_gives (pairs hex) _ (Gives part 3) (λ bytes.
+    step_gives _ _ (section part.config.sections name) _ (λ s. s < length part.config.sections) (Gives part 3) (section_number part.config.sections name) (λ s there.
+    owed_gives (has_file part.config.sections s) _ _ (Gives part 3) (λ file. pass_gives _ _ (decimal offset) _ (Gives part 3) (λ at. pass_gives _ _ (pairs hex) _ (Gives part 3) (λ bytes.
     owed_gives (leb (at + length bytes) (bytes_at part.config.sections s)) _ (Ok (says.Data s at bytes)) (Gives part 3) (λ inside.
     ((there, leb-true (at + length bytes) (bytes_at part.config.sections s) inside, file), refl))))))
 data_gives part (a ∷ b ∷ c ∷ d ∷ more) = tt
@@ -134,9 +134,9 @@ process_gives part (a ∷ b ∷ []) = tt
 process_gives part (a ∷ b ∷ c ∷ []) = tt
 process_gives part (a ∷ b ∷ c ∷ d ∷ []) = tt
 process_gives part (x ∷ limit ∷ quota ∷ extent ∷ locks ∷ []) =
-    then_gives (letter x) _ (Gives part 3) (λ p. owed_gives (eqb p (length part.config.procs)) _ _ (Gives part 3) (λ order.
-    then_gives (decimal limit) _ (Gives part 3) (λ l. then_gives (decimal quota) _ (Gives part 3) (λ q.
-    bind_gives (decimal_within 0 1024 extent) _ (InRange 0 1024) (Gives part 3) (number_gives 0 1024 extent) (λ x few. then_gives (decimal locks) _ (Gives part 3) (λ k.
+    pass_gives _ _ (letter x) _ (Gives part 3) (λ p. owed_gives (eqb p (length part.config.procs)) _ _ (Gives part 3) (λ order.
+    pass_gives _ _ (decimal limit) _ (Gives part 3) (λ l. pass_gives _ _ (decimal quota) _ (Gives part 3) (λ q.
+    step_gives _ _ (decimal_within 0 1024 extent) _ (InRange 0 1024) (Gives part 3) (number_gives 0 1024 extent) (λ x few. pass_gives _ _ (decimal locks) _ (Gives part 3) (λ k.
     let spec : ProcSpec = record { limit = l; quota = q; extent = x; locks = k } in
     owed_gives (are_ordered spec) _ _ (Gives part 3) (λ ordered. owed_gives (ltb (length part.config.procs) 16) _ (Ok (says.Process spec)) (Gives part 3) (λ room.
     ((ordered_gives spec few.1 ordered, ltb-true (length part.config.procs) 16 room), refl)))))))))
@@ -157,10 +157,10 @@ mapzero_gives part (a ∷ []) = tt
 mapzero_gives part (a ∷ b ∷ []) = tt
 mapzero_gives part (a ∷ b ∷ c ∷ []) = tt
 mapzero_gives part (x ∷ addr ∷ n ∷ prot ∷ []) =
-    bind_gives (process part.config.procs x) _ (λ p. p < length part.config.procs) (Gives part 3) (process_number part.config.procs x) (λ p there.
-    bind_gives (aligned 512 addr) _ (λ at. IsWord at × (at % 512 ≡ 0)) (Gives part 3) (aligned_gives 512 addr) (λ at whole.
-    bind_gives (decimal_within 1 4096 n) _ (InRange 1 4096) (Gives part 3) (number_gives 1 4096 n) (λ pages few.
-    bind_gives (protection prot) _ IsCode (Gives part 3) (protection_gives prot) (λ code good.
+    step_gives _ _ (process part.config.procs x) _ (λ p. p < length part.config.procs) (Gives part 3) (process_number part.config.procs x) (λ p there.
+    step_gives _ _ (aligned 512 addr) _ (λ at. IsWord at × (at % 512 ≡ 0)) (Gives part 3) (aligned_gives 512 addr) (λ at whole.
+    step_gives _ _ (decimal_within 1 4096 n) _ (InRange 1 4096) (Gives part 3) (number_gives 1 4096 n) (λ pages few.
+    step_gives _ _ (protection prot) _ IsCode (Gives part 3) (protection_gives prot) (λ code good.
     mapped_gives part (record { proc = record { 0 = p }; at = record { 0 = at }; pages = pages; from = origin.Zero; prot = code })
     (λ inside. record { proc = there; range = inside_gives at pages whole.1 few inside; code = good; origin = tt })))))
 mapzero_gives part (a ∷ b ∷ c ∷ d ∷ e ∷ more) = tt
@@ -173,11 +173,11 @@ mapsec_gives part (a ∷ b ∷ c ∷ []) = tt
 mapsec_gives part (a ∷ b ∷ c ∷ d ∷ []) = tt
 mapsec_gives part (a ∷ b ∷ c ∷ d ∷ e ∷ []) = tt
 mapsec_gives part (x ∷ addr ∷ n ∷ name ∷ first ∷ prot ∷ []) =
-    bind_gives (process part.config.procs x) _ (λ p. p < length part.config.procs) (Gives part 3) (process_number part.config.procs x) (λ p there.
-    bind_gives (aligned 512 addr) _ (λ at. IsWord at × (at % 512 ≡ 0)) (Gives part 3) (aligned_gives 512 addr) (λ at whole.
-    bind_gives (decimal_within 1 4096 n) _ (InRange 1 4096) (Gives part 3) (number_gives 1 4096 n) (λ pages few.
-    then_gives (section part.config.sections name) _ (Gives part 3) (λ s. then_gives (decimal first) _ (Gives part 3) (λ page.
-    bind_gives (protection prot) _ IsCode (Gives part 3) (protection_gives prot) (λ code good.
+    step_gives _ _ (process part.config.procs x) _ (λ p. p < length part.config.procs) (Gives part 3) (process_number part.config.procs x) (λ p there.
+    step_gives _ _ (aligned 512 addr) _ (λ at. IsWord at × (at % 512 ≡ 0)) (Gives part 3) (aligned_gives 512 addr) (λ at whole.
+    step_gives _ _ (decimal_within 1 4096 n) _ (InRange 1 4096) (Gives part 3) (number_gives 1 4096 n) (λ pages few.
+    pass_gives _ _ (section part.config.sections name) _ (Gives part 3) (λ s. pass_gives _ _ (decimal first) _ (Gives part 3) (λ page.
+    step_gives _ _ (protection prot) _ IsCode (Gives part 3) (protection_gives prot) (λ code good.
     owed_gives (leb (page + pages) (pages_at part.config.sections s)) _ _ (Gives part 3) (λ fits.
     mapped_gives part (record { proc = record { 0 = p }; at = record { 0 = at }; pages = pages; from = origin.Section (record { 0 = s }) page; prot = code })
     (λ inside. record {
@@ -206,11 +206,11 @@ block_gives config (named.Swap p slot) = owed_gives (ltb slot (slots_at config.p
 abbrev AreCalls : List (List ℕ) → List ℕ → Type 0
 AreCalls words calls = (length calls ≡ length words) × All (λ call. 1 ≤ call) calls
 
-calls_give : (words : List (List ℕ)) → IfOk (call_numbers words) (AreCalls words)
-calls_give [] = (refl, All-nil (λ call. 1 ≤ call))
-calls_give (word ∷ words) =
-    bind_gives (decimal_within 1 4294967295 word) _ (InRange 1 4294967295) (AreCalls (word ∷ words)) (number_gives 1 4294967295 word) (λ n range.
-    bind_gives (call_numbers words) (λ more. Ok (n ∷ more)) (AreCalls words) (AreCalls (word ∷ words)) (calls_give words) (λ more rest. (ap suc rest.0, All-cons (λ call. 1 ≤ call) n more range.0 rest.1)))
+calls_give : (place : ℕ) (words : List (List ℕ)) → IfOk (call_numbers place words) (AreCalls words)
+calls_give place [] = (refl, All-nil (λ call. 1 ≤ call))
+calls_give place (word ∷ words) =
+    step_gives _ _ (decimal_within 1 4294967295 word) _ (InRange 1 4294967295) (AreCalls (word ∷ words)) (number_gives 1 4294967295 word) (λ n range.
+    bind_gives (call_numbers (place + 1) words) (λ more. Ok (n ∷ more)) (AreCalls words) (AreCalls (word ∷ words)) (calls_give (place + 1) words) (λ more rest. (ap suc rest.0, All-cons (λ call. 1 ≤ call) n more range.0 rest.1)))
 
 pub fail_gives : (part : Part) (words : List (List ℕ)) → IfOk (fail_line part.config words) (Gives part 3)
 fail_gives part [] = tt
@@ -219,8 +219,8 @@ fail_gives part (name ∷ words) =
     let both = and_parts (leb 1 (length words)) (leb (length words) 16) some in
     let low : 1 ≤ length words = leb-true 1 (length words) both.0 in
     let high : length words ≤ 16 = leb-true (length words) 16 both.1 in
-    bind_gives (block_name name >>= block_named part.config) _ (IsBlock part.config) (Gives part 3) (then_gives (block_name name) (block_named part.config) (IsBlock part.config) (λ b. block_gives part.config b)) (λ id there.
-    bind_gives (call_numbers words) _ (AreCalls words) (Gives part 3) (calls_give words) (λ calls good.
+    step_gives _ _ (block_name name >>= block_named part.config) _ (IsBlock part.config) (Gives part 3) (then_gives (block_name name) (block_named part.config) (IsBlock part.config) (λ b. block_gives part.config b)) (λ id there.
+    bind_gives (call_numbers 3 words) _ (AreCalls words) (Gives part 3) (calls_give 3 words) (λ calls good.
     owed_gives (not (list_any (λ f. is_same f.block id) part.config.fails)) _ (Ok (says.Fail id calls)) (Gives part 3) (λ new.
     ((there, (omega (arith, low, good.0), omega (arith, high, good.0)), good.1, not-true (list_any (λ f. is_same f.block id) part.config.fails) new), refl)))))
 
@@ -246,8 +246,8 @@ asked_gives part p request there good known =
 read_gives : (part : Part) (x : List ℕ) (mode : Mode) (width : Width) (words : List (List ℕ)) → IfOk (read_line part.config x mode width words) (Gives part 4)
 read_gives part x mode width [] = tt
 read_gives part x mode width (addr ∷ []) =
-    bind_gives (process part.config.procs x) _ (λ p. p < length part.config.procs) (Gives part 4) (process_number part.config.procs x) (λ p there.
-    bind_gives (aligned (width_bytes width) addr) _ (λ at. IsWord at × (at % width_bytes width ≡ 0)) (Gives part 4) (aligned_gives (width_bytes width) addr) (λ at good.
+    step_gives _ _ (process part.config.procs x) _ (λ p. p < length part.config.procs) (Gives part 4) (process_number part.config.procs x) (λ p there.
+    step_gives _ _ (aligned (width_bytes width) addr) _ (λ at. IsWord at × (at % width_bytes width ≡ 0)) (Gives part 4) (aligned_gives (width_bytes width) addr) (λ at good.
     asked_gives part p (wanted.Reference (record { mode = mode; addr = record { 0 = at }; op = what.Read width })) there (record { address = good.0; aligned = good.1; fits = tt }) tt))
 read_gives part x mode width (a ∷ b ∷ more) = tt
 
@@ -258,9 +258,9 @@ write_gives : (part : Part) (x : List ℕ) (width : Width) (words : List (List �
 write_gives part x width [] = tt
 write_gives part x width (a ∷ []) = tt
 write_gives part x width (addr ∷ value ∷ []) =
-    bind_gives (process part.config.procs x) _ (λ p. p < length part.config.procs) (IsGoodWrite part width) (process_number part.config.procs x) (λ p there.
-    bind_gives (aligned (width_bytes width) addr) _ (λ at. IsWord at × (at % width_bytes width ≡ 0)) (IsGoodWrite part width) (aligned_gives (width_bytes width) addr) (λ at good.
-    then_gives (hexadecimal value) _ (IsGoodWrite part width) (λ n. owed_gives (ltb n (256 ^ width_bytes width)) _ (Ok (record { proc = p; at = at; value = n })) (IsGoodWrite part width) (λ fits.
+    step_gives _ _ (process part.config.procs x) _ (λ p. p < length part.config.procs) (IsGoodWrite part width) (process_number part.config.procs x) (λ p there.
+    step_gives _ _ (aligned (width_bytes width) addr) _ (λ at. IsWord at × (at % width_bytes width ≡ 0)) (IsGoodWrite part width) (aligned_gives (width_bytes width) addr) (λ at good.
+    pass_gives _ _ (hexadecimal value) _ (IsGoodWrite part width) (λ n. owed_gives (ltb n (256 ^ width_bytes width)) _ (Ok (record { proc = p; at = at; value = n })) (IsGoodWrite part width) (λ fits.
     (there, good.0, good.1, ltb-true n (256 ^ width_bytes width) fits)))))
 write_gives part x width (a ∷ b ∷ c ∷ more) = tt
 
@@ -278,9 +278,9 @@ range_gives : (part : Part) (x : List ℕ) (words : List (List ℕ)) → IfOk (r
 range_gives part x [] = tt
 range_gives part x (a ∷ []) = tt
 range_gives part x (addr ∷ n ∷ []) =
-    bind_gives (process part.config.procs x) _ (λ p. p < length part.config.procs) (IsGoodRange part) (process_number part.config.procs x) (λ p there.
-    bind_gives (aligned 512 addr) _ (λ at. IsWord at × (at % 512 ≡ 0)) (IsGoodRange part) (aligned_gives 512 addr) (λ at whole.
-    bind_gives (decimal_within 1 4096 n) _ (InRange 1 4096) (IsGoodRange part) (number_gives 1 4096 n) (λ pages few.
+    step_gives _ _ (process part.config.procs x) _ (λ p. p < length part.config.procs) (IsGoodRange part) (process_number part.config.procs x) (λ p there.
+    step_gives _ _ (aligned 512 addr) _ (λ at. IsWord at × (at % 512 ≡ 0)) (IsGoodRange part) (aligned_gives 512 addr) (λ at whole.
+    step_gives _ _ (decimal_within 1 4096 n) _ (InRange 1 4096) (IsGoodRange part) (number_gives 1 4096 n) (λ pages few.
     owed_gives (is_inside at pages) _ (Ok (record { proc = p; at = at; pages = pages })) (IsGoodRange part) (λ inside. (there, inside_gives at pages whole.1 few inside)))))
 range_gives part x (a ∷ b ∷ c ∷ more) = tt
 
@@ -292,18 +292,18 @@ coded_range_gives part x [] = tt
 coded_range_gives part x (a ∷ []) = tt
 coded_range_gives part x (a ∷ b ∷ []) = tt
 coded_range_gives part x (addr ∷ n ∷ prot ∷ []) =
-    bind_gives (process part.config.procs x) _ (λ p. p < length part.config.procs) (IsGoodCodedRange part) (process_number part.config.procs x) (λ p there.
-    bind_gives (aligned 512 addr) _ (λ at. IsWord at × (at % 512 ≡ 0)) (IsGoodCodedRange part) (aligned_gives 512 addr) (λ at whole.
-    bind_gives (decimal_within 1 4096 n) _ (InRange 1 4096) (IsGoodCodedRange part) (number_gives 1 4096 n) (λ pages few.
-    bind_gives (protection prot) _ IsCode (IsGoodCodedRange part) (protection_gives prot) (λ code good.
+    step_gives _ _ (process part.config.procs x) _ (λ p. p < length part.config.procs) (IsGoodCodedRange part) (process_number part.config.procs x) (λ p there.
+    step_gives _ _ (aligned 512 addr) _ (λ at. IsWord at × (at % 512 ≡ 0)) (IsGoodCodedRange part) (aligned_gives 512 addr) (λ at whole.
+    step_gives _ _ (decimal_within 1 4096 n) _ (InRange 1 4096) (IsGoodCodedRange part) (number_gives 1 4096 n) (λ pages few.
+    step_gives _ _ (protection prot) _ IsCode (IsGoodCodedRange part) (protection_gives prot) (λ code good.
     owed_gives (is_inside at pages) _ (Ok (record { proc = p; at = at; pages = pages; prot = code })) (IsGoodCodedRange part) (λ inside. (there, inside_gives at pages whole.1 few inside, good))))))
 coded_range_gives part x (a ∷ b ∷ c ∷ d ∷ more) = tt
 
 adjust_gives : (part : Part) (x : List ℕ) (words : List (List ℕ)) → IfOk (adjust_line part.config x words) (Gives part 4)
 adjust_gives part x [] = tt
 adjust_gives part x (limit ∷ []) =
-    bind_gives (process part.config.procs x) _ (λ p. p < length part.config.procs) (Gives part 4) (process_number part.config.procs x) (λ p there.
-    bind_gives (decimal limit) _ IsWord (Gives part 4) (decimal_gives limit) (λ n small. asked_gives part p (wanted.Service (asked.Adjust n)) there small tt))
+    step_gives _ _ (process part.config.procs x) _ (λ p. p < length part.config.procs) (Gives part 4) (process_number part.config.procs x) (λ p there.
+    step_gives _ _ (decimal limit) _ IsWord (Gives part 4) (decimal_gives limit) (λ n small. asked_gives part p (wanted.Service (asked.Adjust n)) there small tt))
 adjust_gives part x (a ∷ b ∷ more) = tt
 
 service_gives : (part : Part) (x : List ℕ) (name : ServiceName) (words : List (List ℕ)) → IfOk (service_line part.config x name words) (Gives part 4)
@@ -316,7 +316,7 @@ service_gives part x service.Purge words = bind_gives (range_of part.config x wo
 service_gives part x service.Adjust words = adjust_gives part x words
 
 verb_gives : (part : Part) (x : List ℕ) (words : List (List ℕ)) (verb : Option Verb) → IfOk (by_verb part.config x words verb) (Gives part 4)
-verb_gives part x words None = then_gives (process part.config.procs x) _ (Gives part 4) (λ _. tt)
+verb_gives part x words None = pass_gives _ _ (process part.config.procs x) _ (Gives part 4) (λ _. tt)
 verb_gives part x words (Some (Op op)) = reference_gives part x op.mode op.access words
 verb_gives part x words (Some (Service name)) = service_gives part x name words
 

@@ -3,9 +3,10 @@ use Rattle.std.proofs.Common.{◌≡◌, ◌≢◌, ℕ, ◌+◌, ◌<◌, ◌�
 use Rattle.std.proofs.Math.Seq.{drop-append_seam}
 use Rattle.std.specs.Prelude.{IsOk}
 use Rattle.vm_types.specs.declared.config.Task.{Task}
-use Rattle.trace_words.specs.declared.cause.Cause.{Cause}
 use Rattle.trace_words.specs.declared.cause.Cause.TheVariants.{LineTooLong}
+use Rattle.trace_lines.specs.declared.breach.Breach.{Breach}
 use Rattle.trace_lines.specs.declared.part.Part.{Part}
+use Rattle.trace_lines.specs.Breaches.{at_word}
 use Rattle.trace_lines.specs.Grammar.{judged}
 use Rattle.trace_lines.specs.Plain.{IsFirstRequest}
 use Rattle.trace_lines.specs.Says.{Request}
@@ -71,11 +72,12 @@ fault_then before first piece now number rest fault.NoMemory t h = record {
       ∙ ap (λ (r : List ℕ). is_open number now.part (lines r)) (append-nil h.front) ∙ h.opened;
 }
 fault_then before first piece now number rest fault.ReadFault t h = absurd h
-fault_then before first piece now number rest (fault.Line n cause) t h =
+fault_then before first piece now number rest (fault.Line n breach) t h =
     let whole = whole_follows before first piece now number rest t in (
       (λ more. whole.judged more ∙ h.0 more),
       ap (λ (r : List ℕ). is_open first before (lines r)) (sym (append-nil piece)) ∙ whole.opened [] ∙ ap (λ (r : List ℕ). is_open number now.part (lines r)) (append-nil rest) ∙ h.1,
     )
+fault_then before first piece now number rest fault.Empty t h = absurd h
 fault_then before first piece now number rest fault.Unfinished t h = absurd h
 
 -- nothing was taken yet
@@ -104,9 +106,9 @@ pub take_request : (before : Part) (first : ℕ) (piece : List ℕ) (now : Draft
 take_request before first piece now number rest after task next t asked same seen =
     take_line before first piece now number rest asked.line after next (number + 1) t asked.split asked.one_line (has_asked now number rest task after next t.reading asked same seen)
 
-is_ok_value : {A : Type 0} (r : Result A Cause) → IsOk r → (x : A) × (r ≡ Ok x)
+is_ok_value : {A : Type 0} (r : Result A Breach) → IsOk r → (x : A) × (r ≡ Ok x)
 is_ok_value (Ok x) h = (x, refl)
-is_ok_value (Err cause) h = absurd cc
+is_ok_value (Err breach) h = absurd cc
 
 -- memory ran out at a line that is right
 open_front : (before part next : Part) (first number : ℕ) (piece front rest line after : List ℕ) → Follows before first front part number [] → piece ≡ front ++ rest → rest ≡ line ++ 10 ∷ after
@@ -125,16 +127,17 @@ fault_here before first piece now number rest line after fault.NoMemory t cut ot
     let some = is_ok_value (next_line number now.part line) h in
     open_front before now.part some.0 first number piece t.front rest line after t.follows t.split cut other some.1
 fault_here before first piece now number rest line after fault.ReadFault t cut other h = absurd h
-fault_here before first piece now number rest line after (fault.Line n cause) t cut other h =
+fault_here before first piece now number rest line after (fault.Line n breach) t cut other h =
     let whole = whole_follows before first piece now number rest t in (
-      (λ more. whole.judged more ∙ ap (λ (r : List ℕ). judge number now.part (lines (r ++ more))) cut ∙ fault_line now.part number cause line after more other h.1 ∙ ap (λ (k : ℕ). Faulty k cause) (sym h.0)),
-      ap (λ (r : List ℕ). is_open first before (lines r)) (sym (append-nil piece)) ∙ whole.opened [] ∙ ap (λ (r : List ℕ). is_open number now.part (lines (r ++ []))) cut ∙ shut_line now.part number cause line after [] other h.1,
+      (λ more. whole.judged more ∙ ap (λ (r : List ℕ). judge number now.part (lines (r ++ more))) cut ∙ fault_line now.part number breach line after more other h.1 ∙ ap (λ (k : ℕ). Faulty k breach) (sym h.0)),
+      ap (λ (r : List ℕ). is_open first before (lines r)) (sym (append-nil piece)) ∙ whole.opened [] ∙ ap (λ (r : List ℕ). is_open number now.part (lines (r ++ []))) cut ∙ shut_line now.part number breach line after [] other h.1,
     )
+fault_here before first piece now number rest line after fault.Empty t cut other h = absurd h
 fault_here before first piece now number rest line after fault.Unfinished t cut other h = absurd h
 
 pub fault_in_long : (before : Part) (first : ℕ) (piece : List ℕ) (now : Draft) (number : ℕ) (rest : List ℕ)
     → IsFrontTaken before first piece now number rest → All (λ b. b ≢ 10) rest → 255 < length rest
-    → IsAtFault before first piece (fault.Line number LineTooLong)
+    → IsAtFault before first piece (fault.Line number (at_word 0 LineTooLong))
 fault_in_long before first piece now number rest t other long =
     let whole = whole_follows before first piece now number rest t in (
       (λ more. whole.judged more ∙ fault_long now.part number rest more other long),

@@ -1,5 +1,5 @@
 -- A text that is read in pieces.
-use Rattle.std.proofs.Common.{◌≡◌, ◌≢◌, ℕ, ◌+◌, ◌-◌, ◌≤◌, true, List, [], ◌++◌, length, take, drop, All, Option, Some, None, Result, Ok, Err, refl, sym, ap, subst, ◌∙◌, append_assoc, arith, lit≤, inl, inr}
+use Rattle.std.proofs.Common.{◌≡◌, ◌≢◌, ℕ, ◌+◌, ◌-◌, ◌≤◌, true, List, [], ◌++◌, length, take, drop, All, Option, Some, None, Result, Ok, Err, refl, sym, ap, ap₂, subst, ◌∙◌, append_assoc, arith, lit≤, inl, inr}
 use Rattle.std.specs.Prelude.{IfSome}
 use Rattle.std.specs.List.{copy_within}
 use Rattle.std.specs.Io.KnownBytes.{Keeps, Consumes, IsAtEnd}
@@ -15,11 +15,11 @@ use Rattle.trace_reader.specs.declared.fault.TraceFault.TheVariants as fault
 use Rattle.trace_reader.specs.Answer.{Answers, IsTaken, HasShown, IsRightSoFar}
 use Rattle.trace_reader.specs.Changes.{start}
 use Rattle.trace_reader.specs.Drafts.{IsDraft}
-use Rattle.trace_reader.specs.Meaning.{at_end, judge, trace_of, shows_no_fault}
+use Rattle.trace_reader.specs.Meaning.{at_end, judge, lines, trace_of, shows_no_fault}
 use Rattle.trace_reader.specs.Stream.{Follows, IsReading, IsHeld, IsAtFault, IsOpenFront, IsPieceTaken, Means}
 use Rattle.trace_reader.proofs.Judging.{follows_same, follows_then, follows_more, last_line}
 use Rattle.trace_reader.proofs.Drafting.{start_draft}
-use Rattle.trace_reader.proofs.Splitting.{lines_none}
+use Rattle.trace_reader.proofs.Splitting.{lines_none, no_lines}
 
 -- between two reads: whole lines were taken, and the buffer begins with a part of the next one
 pub record IsBetween (text left : Option (List ℕ)) (buffer : List ℕ) (held : Draft) (number count : ℕ) : Type 0 where
@@ -97,13 +97,21 @@ right_until text done pending rest part number new whole none over other few fol
   right = no_fault done pending part number other few follows;
 }
 
+-- nothing was taken before the end: the text is empty
+pub none_taken : (text done pending rest : List ℕ) (part : Part) (number : ℕ) → text ≡ (done ++ pending) ++ rest → rest ≡ [] → Follows start 1 done part number [] → pending ≡ [] → number ≡ 1 → text ≡ []
+none_taken text done pending rest part number whole over follows nothing first =
+    let all : lines done ≡ lines [] =
+    ap (λ (t : List ℕ). lines t) (sym (append-nil done)) ∙ sym (ap (λ (n : ℕ). drop (n - 1) (lines (done ++ []))) first) ∙ follows.counted [] in
+    whole ∙ ap (λ (r : List ℕ). (done ++ pending) ++ r) over ∙ append-nil (done ++ pending) ∙ ap₂ (λ (p : List ℕ) (q : List ℕ). p ++ q) (no_lines done all) nothing
+
 answers_from : (result : Result Config TraceFault) (text done pending rest : List ℕ) (part : Part) (number : ℕ) (new : Option (List ℕ)) → trace_of text ≡ at_end number part pending → new ≡ Some []
-    → IsRightSoFar text new → Means number part pending result (at_end number part pending) → Answers result text new
-answers_from (Ok config) text done pending rest part number new e none right m = (e ∙ m, none)
-answers_from (Err fault.NoMemory) text done pending rest part number new e none right m = right
-answers_from (Err fault.ReadFault) text done pending rest part number new e none right m = absurd m
-answers_from (Err (fault.Line n cause)) text done pending rest part number new e none right m = (e ∙ m, all_taken text new none)
-answers_from (Err fault.Unfinished) text done pending rest part number new e none right m = (e ∙ m, none)
+    → IsRightSoFar text new → (pending ≡ [] → number ≡ 1 → text ≡ []) → Means number part pending result (at_end number part pending) → Answers result text new
+answers_from (Ok config) text done pending rest part number new e none right bare m = (e ∙ m, none)
+answers_from (Err fault.NoMemory) text done pending rest part number new e none right bare m = right
+answers_from (Err fault.ReadFault) text done pending rest part number new e none right bare m = absurd m
+answers_from (Err (fault.Line n breach)) text done pending rest part number new e none right bare m = (e ∙ m, all_taken text new none)
+answers_from (Err fault.Empty) text done pending rest part number new e none right bare m = (bare m.0 m.1, none)
+answers_from (Err fault.Unfinished) text done pending rest part number new e none right bare m = (e ∙ m, none)
 
 end_answer : (result : Result Config TraceFault) (told left new : Option (List ℕ)) (pending bytes : List ℕ) (part : Part) (number : ℕ) → All (λ b. b ≢ 10) pending → length pending ≤ 255
     → IfSome told (λ t. IsHeld t left part number pending) → bytes ≡ [] → Consumes left new bytes → IsAtEnd new → Means number part pending result (at_end number part pending)
@@ -112,7 +120,8 @@ end_answer result None left new pending bytes part number other few h none c at 
 end_answer result (Some text) left new pending bytes part number other few h none c at m =
     let over = ended left new h.split.rest bytes h.split.left_over none c at in
     answers_from result text h.done pending h.split.rest part number new (meaning_at_end text h.done pending h.split.rest part number h.split.whole over.0 other h.follows) over.1
-    (right_until text h.done pending h.split.rest part number new h.split.whole over.0 over.1 other few h.follows) m
+    (right_until text h.done pending h.split.rest part number new h.split.whole over.0 over.1 other few h.follows)
+    (none_taken text h.done pending h.split.rest part number h.split.whole over.0 h.follows) m
 
 take_none : (n : ℕ) (xs : List ℕ) → n ≡ 0 → take n xs ≡ []
 take_none n xs e = ap (λ (k : ℕ). take k xs) e
@@ -170,10 +179,11 @@ pub piece_fault : (told new : Option (List ℕ)) (piece : List ℕ) (part : Part
 piece_fault None new piece part number f few h a = tt
 piece_fault (Some text) new piece part number fault.NoMemory few h a = right_so_far text h.done piece part number new h.split few h.follows a
 piece_fault (Some text) new piece part number fault.ReadFault few h a = absurd a
-piece_fault (Some text) new piece part number (fault.Line n cause) few h a = (
+piece_fault (Some text) new piece part number (fault.Line n breach) few h a = (
   ap trace_of (h.split.whole ∙ append_assoc h.done piece h.split.rest) ∙ h.follows.judged (piece ++ h.split.rest) ∙ a.0 h.split.rest,
   record { taken = h.done ++ piece; split = h.split; shown = inl (h.follows.opened piece ∙ a.1) },
 )
+piece_fault (Some text) new piece part number fault.Empty few h a = absurd a
 piece_fault (Some text) new piece part number fault.Unfinished few h a = absurd a
 
 -- the whole lines of the piece were taken

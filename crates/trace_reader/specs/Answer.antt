@@ -3,7 +3,7 @@ use Rattle.std.specs.Prelude.{◌≡◌, ◌⊎◌, ℕ, ◌≤◌, true, false,
 use Rattle.vm_types.specs.declared.config.Config.{Config}
 use Rattle.outside_io.specs.Causes.{Rose}
 use Rattle.trace_reader.specs.declared.fault.TraceFault.{TraceFault}
-use Rattle.trace_reader.specs.declared.fault.TraceFault.TheVariants.{NoMemory, ReadFault, Line, Unfinished}
+use Rattle.trace_reader.specs.declared.fault.TraceFault.TheVariants.{NoMemory, ReadFault, Line, Empty, Unfinished}
 use Rattle.trace_reader.specs.Meaning.{Configuration, Faulty, trace_of, shows_no_fault}
 use Rattle.trace_reader.specs.Meaning as meaning
 
@@ -31,7 +31,8 @@ pub record IsRightSoFar (text : List ℕ) (left : Option (List ℕ)) : Type 0 wh
 -- what the answer says of the whole text, and of what is left of it
 abbrev pub Answers : Result Config TraceFault → List ℕ → Option (List ℕ) → Type 0
 Answers (Ok config) text left = (trace_of text ≡ Configuration config) × (left ≡ Some [])
-Answers (Err (Line n cause)) text left = (trace_of text ≡ Faulty n cause) × HasShown text left
+Answers (Err (Line n breach)) text left = (trace_of text ≡ Faulty n breach) × HasShown text left
+Answers (Err Empty) text left = (text ≡ []) × (left ≡ Some [])
 Answers (Err Unfinished) text left = (trace_of text ≡ meaning.Unfinished) × (left ≡ Some [])
 Answers (Err ReadFault) text left = (taken : List ℕ) × IsTaken text taken left × (shows_no_fault taken ≡ true)
 Answers (Err NoMemory) text left = IsRightSoFar text left
@@ -40,6 +41,7 @@ Answers (Err NoMemory) text left = IsRightSoFar text left
 abbrev pub FaultsBy : Result Config TraceFault → ℕ → ℕ → Type 0
 FaultsBy (Err ReadFault) before now = Rose before now
 FaultsBy (Err NoMemory) before now = now ≡ before
-FaultsBy (Err (Line n cause)) before now = now ≡ before
+FaultsBy (Err (Line n breach)) before now = now ≡ before
+FaultsBy (Err Empty) before now = now ≡ before
 FaultsBy (Err Unfinished) before now = now ≡ before
 FaultsBy (Ok config) before now = now ≡ before

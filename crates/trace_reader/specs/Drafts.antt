@@ -4,7 +4,7 @@ use Rattle.vm_types.specs.Configuration.{AreSections, IsMapping, AreApart, AreFa
 use Rattle.vm_types.specs.declared.config.Config.{Config}
 use Rattle.vm_types.specs.declared.config.Params.{Params}
 use Rattle.vm_types.specs.declared.config.Version.TheVariants as version
-use Rattle.trace_words.specs.declared.cause.Cause.{Cause}
+use Rattle.trace_lines.specs.declared.breach.Breach.{Breach}
 use Rattle.trace_lines.specs.declared.part.Part.{Part}
 use Rattle.trace_lines.specs.Places.{rank}
 use Rattle.trace_lines.specs.Requests.{params_agree, has_frames}
@@ -63,6 +63,6 @@ pub record IsDraft (part : Part) : Type 0 where
   pub placed : IsPlaced (rank part.place) part.config
 
 -- why a line that gives this wasn't taken
-abbrev pub IsRefused : Result Part Cause → Refused → Type 0
-IsRefused next (Fault cause) = next ≡ Err cause
+abbrev pub IsRefused : Result Part Breach → Refused → Type 0
+IsRefused next (Fault breach) = next ≡ Err breach
 IsRefused next NoMemory = IsOk next

@@ -8,7 +8,7 @@ use Rattle.line_source.specs.HandedOut.{HandsOut, Takes}
 use Rattle.trace_lines.specs.declared.part.Part.{Part}
 use Rattle.trace_reader.specs.declared.draft.Draft.{Draft}
 use Rattle.trace_reader.specs.declared.fault.TraceFault.{TraceFault}
-use Rattle.trace_reader.specs.declared.fault.TraceFault.TheVariants.{NoMemory, ReadFault, Line, Unfinished}
+use Rattle.trace_reader.specs.declared.fault.TraceFault.TheVariants.{NoMemory, ReadFault, Line, Empty, Unfinished}
 use Rattle.trace_reader.specs.Head.{Configured, Faulty, begins_log, goes_on, is_faulty, head_line, head_of, judge_head}
 use Rattle.trace_reader.specs.Head as head
 use Rattle.trace_reader.specs.Meaning.{lines, next_line}
@@ -47,7 +47,8 @@ pub record IsCutShort (text : List ℕ) (left : Option (List ℕ)) : Type 0 wher
 -- what the answer says of the whole text, and of what is left of it
 abbrev pub HeadAnswers : Result Config TraceFault → List ℕ → Option (List ℕ) → Type 0
 HeadAnswers (Ok config) text left = (log : List ℕ) × (head_of text ≡ Configured config log) × (left ≡ Some log)
-HeadAnswers (Err (Line n cause)) text left = head_of text ≡ Faulty n cause
+HeadAnswers (Err (Line n breach)) text left = head_of text ≡ Faulty n breach
+HeadAnswers (Err Empty) text left = (text ≡ []) × (left ≡ Some [])
 HeadAnswers (Err Unfinished) text left = (head_of text ≡ head.Unfinished) × (left ≡ Some [])
 HeadAnswers (Err ReadFault) text left = IsCutShort text left
 HeadAnswers (Err NoMemory) text left = HasRightLine text
@@ -86,7 +87,8 @@ HasTakenHead before number line after next false = (head_line number before.part
 abbrev pub IsHeadLineAtFault : Part → ℕ → List ℕ → TraceFault → Type 0
 IsHeadLineAtFault part number line NoMemory = IsOk (next_line number part line)
 IsHeadLineAtFault part number line ReadFault = ⊥
-IsHeadLineAtFault part number line (Line n cause) = (n ≡ number) × (head_line number part line ≡ is_faulty cause)
+IsHeadLineAtFault part number line (Line n breach) = (n ≡ number) × (head_line number part line ≡ is_faulty breach)
+IsHeadLineAtFault part number line Empty = ⊥
 IsHeadLineAtFault part number line Unfinished = ⊥
 
 -- by what the line is that was handed out, whatever was left at first
@@ -98,6 +100,7 @@ AnswersLine part number ended line next after answer =
 abbrev pub CountsBy : Result Bool TraceFault → ℕ → ℕ → Type 0
 CountsBy (Err ReadFault) before now = Rose before now
 CountsBy (Err NoMemory) before now = now ≡ before
-CountsBy (Err (Line n cause)) before now = now ≡ before
+CountsBy (Err (Line n breach)) before now = now ≡ before
+CountsBy (Err Empty) before now = now ≡ before
 CountsBy (Err Unfinished) before now = now ≡ before
 CountsBy (Ok begins) before now = now ≡ before

@@ -1,9 +1,9 @@
--- What a text means as a trace: a configuration, a first faulty line with its cause, or unfinished.
+-- What a text means as a trace: a configuration, a first faulty line with what is wrong with it, or unfinished.
 -- Source: this project's own.
 use Rattle.std.specs.Prelude.{ℕ, ◌+◌, ◌==◌, Bool, true, false, List, [], ◌∷◌, length, nat_le, Result, Ok, Err}
 use Rattle.std.specs.List.{slice_split}
 use Rattle.vm_types.specs.declared.config.Config.{Config}
-use Rattle.trace_words.specs.declared.cause.Cause.{Cause}
+use Rattle.trace_lines.specs.declared.breach.Breach.{Breach}
 use Rattle.trace_words.specs.Judged.{◌>>=◌}
 use Rattle.trace_lines.specs.declared.part.Part.{Part}
 use Rattle.trace_lines.specs.declared.places.Place.{Place}
@@ -11,14 +11,14 @@ use Rattle.trace_lines.specs.declared.places.Place.TheVariants.{Version, Frames,
 use Rattle.trace_lines.specs.Grammar.{judged}
 use Rattle.trace_reader.specs.Changes.{start, changed}
 
--- exactly one of three: a configuration, a first faulty line with its cause, unfinished
+-- exactly one of three: a configuration, a first faulty line with what is wrong with it, unfinished
 pub data Trace : Type 0 where
   Configuration : Config → Trace
-  Faulty : ℕ → Cause → Trace
+  Faulty : ℕ → Breach → Trace
   Unfinished : Trace
 
 -- the declarations after the line of this number
-abbrev pub next_line : ℕ → Part → List ℕ → Result Part Cause
+abbrev pub next_line : ℕ → Part → List ℕ → Result Part Breach
 next_line number part line = judged number part line >>= λ says. Ok (changed part says)
 
 -- the text ends after whole lines
@@ -31,9 +31,9 @@ finished Requests config = Unfinished
 finished Ended config = Configuration config
 
 -- the meaning of a text from the line of this number on, by what that line declares
-abbrev pub after : ℕ → Result Part Cause → (Part → Trace) → Trace
+abbrev pub after : ℕ → Result Part Breach → (Part → Trace) → Trace
 after number (Ok part) rest = rest part
-after number (Err cause) rest = Faulty number cause
+after number (Err breach) rest = Faulty number breach
 
 -- the text ends with this part of a line: if it isn't empty it is the last line
 abbrev pub at_end : ℕ → Part → List ℕ → Trace
@@ -55,9 +55,9 @@ abbrev pub trace_of : List ℕ → Trace
 trace_of text = judge 1 start (lines text)
 
 -- no line is at fault so far
-abbrev pub open_after : Result Part Cause → (Part → Bool) → Bool
+abbrev pub open_after : Result Part Breach → (Part → Bool) → Bool
 open_after (Ok part) rest = rest part
-open_after (Err cause) rest = false
+open_after (Err breach) rest = false
 
 -- a line that has begun is at fault once it has 256 bytes
 abbrev pub is_open : ℕ → Part → List (List ℕ) → Bool

@@ -29,7 +29,8 @@ pub record HasTaken (before : Draft) (number : ℕ) (line : List ℕ) (after : D
 abbrev pub IsLineAtFault : Part → ℕ → List ℕ → TraceFault → Type 0
 IsLineAtFault part number line fault.NoMemory = IsOk (next_line number part line)
 IsLineAtFault part number line fault.ReadFault = ⊥
-IsLineAtFault part number line (fault.Line n cause) = (n ≡ number) × (next_line number part line ≡ Err cause)
+IsLineAtFault part number line (fault.Line n breach) = (n ≡ number) × (next_line number part line ≡ Err breach)
+IsLineAtFault part number line fault.Empty = ⊥
 IsLineAtFault part number line fault.Unfinished = ⊥
 
 -- whatever comes next, the text from before is judged as the rest is from after, which stands so many lines
@@ -51,24 +52,36 @@ pub record IsOpenFront (part : Part) (number : ℕ) (text : List ℕ) : Type 0 w
 abbrev pub IsAtFault : Part → ℕ → List ℕ → TraceFault → Type 0
 IsAtFault part number text fault.NoMemory = IsOpenFront part number text
 IsAtFault part number text fault.ReadFault = ⊥
-IsAtFault part number text (fault.Line n cause) =
-    ((more : List ℕ) → judge number part (lines (text ++ more)) ≡ Faulty n cause) × (is_open number part (lines text) ≡ false)
+IsAtFault part number text (fault.Line n breach) =
+    ((more : List ℕ) → judge number part (lines (text ++ more)) ≡ Faulty n breach) × (is_open number part (lines text) ≡ false)
+IsAtFault part number text fault.Empty = ⊥
 IsAtFault part number text fault.Unfinished = ⊥
 
 -- the first 80 bytes of the line of this number were kept, if it is at fault
 abbrev pub KeepsLine : ℕ → List ℕ → List ℕ → TraceFault → Type 0
 KeepsLine number line kept fault.NoMemory = Unit {0}
 KeepsLine number line kept fault.ReadFault = Unit {0}
-KeepsLine number line kept (fault.Line n cause) = (n ≡ number) × (kept ≡ take 80 line)
+KeepsLine number line kept (fault.Line n breach) = (n ≡ number) × (kept ≡ take 80 line)
+KeepsLine number line kept fault.Empty = ⊥
 KeepsLine number line kept fault.Unfinished = Unit {0}
+
+-- the same of what stands behind the last whole line of a text, which has no bytes if nothing stands there and
+-- no line was taken
+abbrev pub KeepsLast : ℕ → List ℕ → List ℕ → TraceFault → Type 0
+KeepsLast number line kept fault.NoMemory = Unit {0}
+KeepsLast number line kept fault.ReadFault = Unit {0}
+KeepsLast number line kept (fault.Line n breach) = KeepsLine number line kept (fault.Line n breach)
+KeepsLast number line kept fault.Empty = (line ≡ []) × (number ≡ 1)
+KeepsLast number line kept fault.Unfinished = Unit {0}
 
 -- whatever comes next, these are the first 80 bytes of the faulty line of a text that begins with the line of
 -- this number
 abbrev pub KeepsFaulty : ℕ → List ℕ → List ℕ → TraceFault → Type 0
 KeepsFaulty first text kept fault.NoMemory = Unit {0}
 KeepsFaulty first text kept fault.ReadFault = Unit {0}
-KeepsFaulty first text kept (fault.Line n cause) =
+KeepsFaulty first text kept (fault.Line n breach) =
     (first ≤ n) × ((more : List ℕ) → kept ≡ take 80 (slice_index_or (lines (text ++ more)) (n - first) []))
+KeepsFaulty first text kept fault.Empty = ⊥
 KeepsFaulty first text kept fault.Unfinished = Unit {0}
 
 -- the answer is what the text means; or memory ran out at its last line, which is right
@@ -76,7 +89,8 @@ abbrev pub Means : ℕ → Part → List ℕ → Result Config TraceFault → Tr
 Means number part line (Ok config) trace = trace ≡ Configuration config
 Means number part line (Err fault.NoMemory) trace = IsOk (next_line number part line)
 Means number part line (Err fault.ReadFault) trace = ⊥
-Means number part line (Err (fault.Line n cause)) trace = trace ≡ Faulty n cause
+Means number part line (Err (fault.Line n breach)) trace = trace ≡ Faulty n breach
+Means number part line (Err fault.Empty) trace = (line ≡ []) × (number ≡ 1)
 Means number part line (Err fault.Unfinished) trace = trace ≡ meaning.Unfinished
 
 -- of the text this much was taken: whole lines, and a part of the next one

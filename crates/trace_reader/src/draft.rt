@@ -8,27 +8,28 @@ ghost use Rattle.trace_reader.specs.Right.{IsRight};
 
 use crate::store::{add, add_range, blank, fails_of, write_bytes};
 use std::alloc::Global;
-use trace_lines::{DEFAULTS, Line, Part, Place, Seen, block_key, judge, page_key, plain_line};
-use trace_words::Cause;
+use trace_lines::{
+    Breach, DEFAULTS, Line, Part, Place, Seen, block_key, judge, page_key, plain_line,
+};
 use vm_types::{BlockId, Config, Listed, Mapping, NoMemory, Task, Version};
 
 /// Why a line wasn't taken.
 #[derive(Clone, Copy, Debug)]
 pub(crate) enum Refused {
-    /// The first rule that it breaks.
-    Fault(Cause),
+    /// The first rule that it breaks, and the word that breaks it.
+    Fault(Breach),
     /// It breaks none, and memory ran out.
     NoMemory,
 }
 
-impl From<Cause> for Refused {
+impl From<Breach> for Refused {
     ghost use Rattle.std.specs.Prelude.{◌≡◌};
     ghost use Rattle.trace_reader.specs.declared.draft.Refused.TheVariants.{Fault};
 
-    ghost from_gives = { λ cause e. e ≡ Fault cause };
+    ghost from_gives = { λ breach e. e ≡ Fault breach };
 
-    fn from(cause: Cause) -> Refused {
-        Refused::Fault(cause)
+    fn from(breach: Breach) -> Refused {
+        Refused::Fault(breach)
     }
 }
 

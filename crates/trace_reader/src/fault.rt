@@ -3,7 +3,7 @@ ghost use Rattle.trace_reader.specs.declared.fault.TraceFault.TheVariants.{NoMem
 
 use std::alloc::AllocError;
 use thiserror::Error;
-use trace_words::Cause;
+use trace_lines::Breach;
 
 /// Why a trace gives no configuration.
 #[derive(Clone, Copy, Debug, PartialEq, Eq, Error)]
@@ -14,10 +14,13 @@ pub enum TraceFault {
     /// A read failed; the source's count of failures says so.
     #[error("the trace can't be read")]
     ReadFault,
-    /// The first faulty line, by its number from 1, and the first rule that it breaks.
-    #[error("line {0}: {1}")]
-    Line(u32, Cause),
-    /// The text ends without a faulty line and without END.
+    /// The first faulty line, by its number from 1, the first rule that it breaks and the word that breaks it.
+    #[error("line {0} breaks a rule")]
+    Line(u32, Breach),
+    /// The text has no bytes.
+    #[error("the text is empty")]
+    Empty,
+    /// The text has bytes, and ends without a faulty line and without END.
     #[error("the trace ends before its line END")]
     Unfinished,
 }

@@ -20,7 +20,7 @@ use arrayvec::ArrayVec;
 use line_source::{Line, Lines, keep_front};
 use outside_io::Source;
 use std::alloc::Global;
-use trace_lines::{Place, judge};
+use trace_lines::{Breach, Place, judge};
 use trace_words::{Cause, is, next_word};
 use vm_types::Config;
 
@@ -69,8 +69,11 @@ fn is_unknown(reader: &Reader, line: &[u8]) -> bool
 {
     match reader.draft.part.place {
         Place::Ended => match judge(reader.number, &reader.draft.part, &reader.draft.seen, line) {
-            Err(Cause::UnknownWord) => true,
-            _ => false,
+            Err(breach) => match breach.cause {
+                Cause::UnknownWord => true,
+                _ => false,
+            },
+            Ok(_) => false,
         },
         _ => false,
     }
@@ -92,11 +95,13 @@ fn take_head_line(
             AfterEnd::Log => Ok(true),
             AfterEnd::Misplaced => {
                 keep_front(kept, line);
-                Err(TraceFault::Line(reader.number, Cause::Misplaced))
+                let breach = Breach::at_word(2, Cause::Misplaced);
+                Err(TraceFault::Line(reader.number, breach))
             }
             AfterEnd::Unknown => {
                 keep_front(kept, line);
-                Err(TraceFault::Line(reader.number, Cause::UnknownWord))
+                let breach = Breach::at_word(1, Cause::UnknownWord);
+                Err(TraceFault::Line(reader.number, breach))
             }
         };
     }
@@ -153,8 +158,10 @@ fn next_front<S: Source>(
         Ok(Line::Text { ended }) => take_ended(reader, out.as_slice(), ended, kept),
         Ok(Line::Long) => {
             keep_front(kept, out.as_slice());
-            Err(TraceFault::Line(reader.number, Cause::LineTooLong))
+            let breach = Breach::at_word(0, Cause::LineTooLong);
+            Err(TraceFault::Line(reader.number, breach))
         }
+        Ok(Line::End) if reader.number == 1 => Err(TraceFault::Empty),
         Ok(Line::End) => Err(TraceFault::Unfinished),
         Err(_) => Err(TraceFault::ReadFault),
     }
@@ -166,12 +173,13 @@ fn next_front<S: Source>(
 ///
 /// # Errors
 /// `Line` is the first faulty line with the first rule that it breaks; after END each line that isn't
-/// skipped and isn't the one word LOG is faulty. `Unfinished` if the text ends before LOG. `ReadFault`
+/// skipped and isn't the one word LOG is faulty. `Empty` if the text has no bytes. `Unfinished` if it has some
+/// and ends before LOG. `ReadFault`
 /// only if the source's count of failures rose, and no line taken before is at fault. `NoMemory` if memory
 /// ran out at a line that isn't at fault.
 pub fn read_head<S: Source>(
-    lines: &mut Lines<'_, S>,
     alloc: Global,
+    lines: &mut Lines<'_, S>,
     kept: &mut ArrayVec<u8, 80>,
 ) -> Result<Config, TraceFault>
     ensures well_formed { IfOk result IsWellFormed }

@@ -8,7 +8,7 @@ ghost use Rattle.trace_reader.specs.Answer.{Answers, FaultsBy};
 ghost use Rattle.trace_reader.specs.Changes.{start};
 ghost use Rattle.trace_reader.specs.LineText.{IsTextOf};
 ghost use Rattle.trace_reader.specs.Meaning.{at_end};
-ghost use Rattle.trace_reader.specs.Stream.{IsReading, HasTaken, IsLineAtFault, IsFrontTaken, IsPieceTaken, IsAtFault, IsOpenFront, KeepsFaulty, KeepsLine, Means};
+ghost use Rattle.trace_reader.specs.Stream.{IsReading, HasTaken, IsLineAtFault, IsFrontTaken, IsPieceTaken, IsAtFault, IsOpenFront, KeepsFaulty, KeepsLast, KeepsLine, Means};
 
 use crate::draft::{Draft, Refused};
 use crate::fault::TraceFault;
@@ -16,7 +16,7 @@ use arrayvec::ArrayVec;
 use line_source::keep_front;
 use outside_io::Source;
 use std::alloc::Global;
-use trace_lines::{Place, plain_request};
+use trace_lines::{Breach, Place, plain_request};
 use trace_words::{Cause, parted};
 use vm_types::{Config, Failed, NoMemory};
 
@@ -27,14 +27,14 @@ const ROOM: usize = 8192;
 /// to the first faulty line, of which the first 80 bytes are kept in `kept`.
 ///
 /// # Errors
-/// `Line` is the first faulty line with the first rule that it breaks, as soon as the bytes taken
-/// show it: at its end, or at its 256th byte. `Unfinished` if the text ends without a faulty line and
-/// without `END`. `ReadFault` only if the source's count of failures rose, and no line taken before is
+/// `Line` is the first faulty line with the first rule that it breaks and the word that breaks it, as soon as the bytes taken
+/// show it: at its end, or at its 256th byte. `Empty` if the text has no bytes. `Unfinished` if it has some
+/// and ends without a faulty line and without `END`. `ReadFault` only if the source's count of failures rose, and no line taken before is
 /// at fault. `NoMemory` if memory ran out; no line that was judged is at fault then: the bytes taken
 /// show no fault, but for those of the last piece, at most 8192.
 pub fn read_trace<S: Source>(
-    source: &mut S,
     alloc: Global,
+    source: &mut S,
     kept: &mut ArrayVec<u8, 80>,
 ) -> Result<Config, TraceFault>
     ensures well_formed { IfOk result IsWellFormed }
@@ -136,9 +136,9 @@ impl Reader {
                 self.number += 1;
                 Ok(())
             }
-            Err(Refused::Fault(cause)) => {
+            Err(Refused::Fault(breach)) => {
                 keep_front(kept, line);
-                Err(TraceFault::Line(self.number, cause))
+                Err(TraceFault::Line(self.number, breach))
             }
             Err(Refused::NoMemory) => Err(TraceFault::NoMemory),
         }
@@ -174,7 +174,8 @@ impl Reader {
         }
         if rest.len() > 255 {
             keep_front(kept, rest);
-            return Err(TraceFault::Line(self.number, Cause::LineTooLong));
+            let breach = Breach::at_word(0, Cause::LineTooLong);
+            return Err(TraceFault::Line(self.number, breach));
         }
         Ok(rest.len())
     }
@@ -185,13 +186,14 @@ impl Reader {
         ensures means { Means self.number self.draft.part rest.now result (at_end self.number self.draft.part rest.now) }
         ensures well_formed { IfOk result IsWellFormed }
         ensures version { IfOk result (λ config. config.version ≡ Version.One) }
-        ensures kept { IfErr result (KeepsLine self.number rest.now kept.new.items) }
+        ensures kept { IfErr result (KeepsLast self.number rest.now kept.new.items) }
     {
         if !rest.is_empty() {
             self.take_line(rest, kept)?;
         }
         match self.draft.part.place {
             Place::Ended => Ok(self.draft.part.config),
+            _ if rest.is_empty() && self.number == 1 => Err(TraceFault::Empty),
             _ => Err(TraceFault::Unfinished),
         }
     }

@@ -136,12 +136,12 @@ block_read c w (block.Swap p slot) is =
 
 -- calls
 
-calls_read : (calls : List ℕ) → All (λ n. 1 ≤ n) calls → All (λ n. n < 2 ^ 32) calls → call_numbers (map printed calls) ≡ Ok calls
-calls_read [] some small = refl
-calls_read (n ∷ calls) some small =
+calls_read : (place : ℕ) (calls : List ℕ) → All (λ n. 1 ≤ n) calls → All (λ n. n < 2 ^ 32) calls → call_numbers place (map printed calls) ≡ Ok calls
+calls_read place [] some small = refl
+calls_read place (n ∷ calls) some small =
     let low = All-head (λ n. 1 ≤ n) n calls some in
     let high = All-head (λ n. n < 2 ^ 32) n calls small in
-    let rest = calls_read calls (All-tail (λ n. 1 ≤ n) n calls some) (All-tail (λ n. n < 2 ^ 32) n calls small) in
+    let rest = calls_read (place + 1) calls (All-tail (λ n. 1 ≤ n) n calls some) (All-tail (λ n. n < 2 ^ 32) n calls small) in
     rw (within_read 1 4294967295 n low (omega (arith, high)) (lit< tt), rest) refl
 
 call_words : (calls : List ℕ) → All (λ n. n < 2 ^ 32) calls → AreShort (replicate (length calls) 10) (map printed calls)
@@ -193,7 +193,7 @@ fail_leads c w before f is small new b =
     (line_of (4 ∷ 28 ∷ replicate (length f.calls) 10) (codes "FAIL") (block_text c.sections f.block ∷ map printed f.calls)
     (literal 4 _ refl refl refl, (b.word, call_words f.calls small)) (omega (arith, total_calls (length f.calls))))
     (keyword_says part (codes "FAIL") (block_text c.sections f.block ∷ map printed f.calls) keyword.Fail refl refl refl refl
-    ∙ (rw (size, b.named, there, calls_read f.calls is.calls small, new) refl)) where
+    ∙ (rw (size, b.named, there, calls_read 3 f.calls is.calls small, new) refl)) where
       there_too : (name : Named) → block_named c name ≡ Ok f.block → block_named (with_fails c before).config name ≡ Ok f.block
       there_too (InSection name page) e = e
       there_too (InPageFile n) e = e

@@ -7,6 +7,7 @@ use Rattle.trace_words.specs.declared.cause.Cause.TheVariants.{LineTooLong, NotA
 use Rattle.trace_words.specs.Judged.{owed}
 use Rattle.trace_words.specs.Words.{words}
 use Rattle.trace_lines.specs.declared.part.Part.{Part}
+use Rattle.trace_lines.specs.Breaches.{at_word}
 use Rattle.trace_lines.specs.Grammar.{is_text, content, by_words, judged}
 use Rattle.trace_lines.specs.Says.{Says}
 use Rattle.trace_reader.specs.Changes.{changed}
@@ -62,9 +63,9 @@ line_read number part (word ∷ more) says is few e =
     let ascii : list_all is_text (content (word ++ spaced more)) ≡ true = ap (list_all is_text) same ∙ drawn_texts (word ++ spaced more) drawn in
     let parted : words (content (word ++ spaced more)) ≡ word ∷ more = ap words same ∙ words_line word more is.words in
     let said : by_words part (words (content (word ++ spaced more))) ≡ Ok says = ap (by_words part) parted ∙ e in
-    owed_passes (leb (length (word ++ spaced more)) 255) LineTooLong (owed (list_all is_text (content (word ++ spaced more))) NotAscii (owed (leb number 200000) TooMany (by_words part (words (content (word ++ spaced more)))))) (le-leb (length (word ++ spaced more)) 255 is.short)
-    ∙ owed_passes (list_all is_text (content (word ++ spaced more))) NotAscii (owed (leb number 200000) TooMany (by_words part (words (content (word ++ spaced more))))) ascii
-    ∙ owed_passes (leb number 200000) TooMany (by_words part (words (content (word ++ spaced more)))) (le-leb number 200000 few)
+    owed_passes (leb (length (word ++ spaced more)) 255) (at_word 0 LineTooLong) (owed (list_all is_text (content (word ++ spaced more))) (at_word 0 NotAscii) (owed (leb number 200000) (at_word 0 TooMany) (by_words part (words (content (word ++ spaced more)))))) (le-leb (length (word ++ spaced more)) 255 is.short)
+    ∙ owed_passes (list_all is_text (content (word ++ spaced more))) (at_word 0 NotAscii) (owed (leb number 200000) (at_word 0 TooMany) (by_words part (words (content (word ++ spaced more))))) ascii
+    ∙ owed_passes (leb number 200000) (at_word 0 TooMany) (by_words part (words (content (word ++ spaced more)))) (le-leb number 200000 few)
     ∙ said
 
 abbrev pub AreLines : List Line → Type 0

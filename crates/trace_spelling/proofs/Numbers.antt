@@ -15,8 +15,8 @@ use Rattle.trace_words.specs.Judged.{owed}
 use Rattle.trace_words.specs.Number.{decimal_digit, hexadecimal_digit, spelled, has_length, decimal, decimal_within, hexadecimal}
 
 -- a test that holds lets the value pass
-pub owed_passes : {A : Type 0} (test : Bool) (cause : Cause) (value : Result A Cause) → test ≡ true → owed test cause value ≡ value
-owed_passes test cause value e = rw e refl
+pub owed_passes : {A E : Type 0} (test : Bool) (wrong : E) (value : Result A E) → test ≡ true → owed test wrong value ≡ value
+owed_passes test wrong value e = rw e refl
 
 -- decimal digits
 

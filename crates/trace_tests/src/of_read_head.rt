@@ -4,7 +4,7 @@ use outside_io::MemorySource;
 use std::alloc::Global;
 use std::process::Abort;
 use std::test::Fail;
-use trace_reader::{Cause, TraceFault, read_head};
+use trace_reader::{Breach, Cause, TraceFault, read_head};
 use vm_types::Config;
 
 // A whole trace of one process without requests: seven lines.
@@ -21,7 +21,7 @@ fn head(
     text.extend_from_slice(behind)?;
     let mut source = MemorySource::new(text, fails);
     let mut lines = Lines::new(&mut source);
-    let answer = read_head(&mut lines, alloc, &mut ArrayVec::new());
+    let answer = read_head(alloc, &mut lines, &mut ArrayVec::new());
     let mut out = ArrayVec::new();
     let mut left = 0;
     for n in 1..10 {
@@ -38,8 +38,8 @@ fn fault(alloc: Global, behind: &[u8]) -> Result<Option<TraceFault>, Fail> {
     Ok(head(alloc, behind, Vec::new(alloc))?.0.err())
 }
 
-fn line(n: u32, cause: Cause) -> Option<TraceFault> {
-    Some(TraceFault::Line(n, cause))
+fn line(n: u32, word: u8, cause: Cause) -> Option<TraceFault> {
+    Some(TraceFault::Line(n, Breach::at_word(word, cause)))
 }
 
 #[test]
@@ -58,20 +58,26 @@ fn a_log_stands_behind_its_line(rt: HostRuntime) -> Result<(), Fail> {
 
 #[test]
 fn another_line_is_at_fault(rt: HostRuntime) -> Result<(), Fail> {
-    assert_eq!(rt; fault(rt.alloc(), b"LOG IT\n")?, line(8, Cause::Misplaced));
+    assert_eq!(rt;
+        fault(rt.alloc(), b"LOG IT\n")?,
+        line(8, 2, Cause::Misplaced)
+    );
     assert_eq!(rt;
         fault(rt.alloc(), b"\nLOGS\n")?,
-        line(9, Cause::UnknownWord)
+        line(9, 1, Cause::UnknownWord)
     );
     assert_eq!(rt;
         fault(rt.alloc(), b"END\nLOG\n")?,
-        line(8, Cause::Misplaced)
+        line(8, 1, Cause::Misplaced)
     );
-    assert_eq!(rt; fault(rt.alloc(), b"A R1 0\n")?, line(8, Cause::Misplaced));
-    assert_eq!(rt; fault(rt.alloc(), b"\x01\n")?, line(8, Cause::NotAscii));
+    assert_eq!(rt;
+        fault(rt.alloc(), b"A R1 0\n")?,
+        line(8, 1, Cause::Misplaced)
+    );
+    assert_eq!(rt; fault(rt.alloc(), b"\x01\n")?, line(8, 0, Cause::NotAscii));
     assert_eq!(rt;
         fault(rt.alloc(), &[b' '; 300])?,
-        line(8, Cause::LineTooLong)
+        line(8, 0, Cause::LineTooLong)
     );
     assert_eq!(rt;
         fault(rt.alloc(), b"\n! LOG\n")?,

@@ -6,7 +6,7 @@ use std::alloc::{AllocError, Global};
 use std::process::Abort;
 use std::test::Fail;
 use trace_reader::{
-    Cause, TraceFault, a_shown_fault_stays, read_trace, what_is_read_is_well_formed,
+    Breach, Cause, TraceFault, a_shown_fault_stays, read_trace, what_is_read_is_well_formed,
 };
 use vm_types::{
     Addr, BlockId, Failed, Mapping, Mode, Op, Origin, Params, Proc, ProcSpec, Ref, Request, SecId,
@@ -203,17 +203,25 @@ P END;A R1 0\n\
 fn fault(rt: &impl Abort, alloc: Global, text: &[u8]) -> Result<Option<TraceFault>, AllocError> {
     let mut pieces = dripping(text.to_vec(alloc)?, 0);
     let mut kept = ArrayVec::new();
-    let slow = read_trace(&mut pieces, alloc, &mut kept).err();
+    let slow = read_trace(alloc, &mut pieces, &mut kept).err();
     let mut source = MemorySource::new(text.to_vec(alloc)?, Vec::new(alloc));
     let mut front = ArrayVec::new();
-    let fast = read_trace(&mut source, alloc, &mut front).err();
+    let fast = read_trace(alloc, &mut source, &mut front).err();
     assert_eq!(rt; fast, slow);
     assert_eq!(rt; front.as_slice(), kept.as_slice());
     Ok(fast)
 }
 
+// The line and the rule, without the word.
+fn rule(fault: Option<TraceFault>) -> Option<TraceFault> {
+    match fault {
+        Some(TraceFault::Line(n, breach)) => line(n, breach.cause),
+        other => other,
+    }
+}
+
 fn line(n: u32, cause: Cause) -> Option<TraceFault> {
-    Some(TraceFault::Line(n, cause))
+    Some(TraceFault::Line(n, Breach::at_word(0, cause)))
 }
 
 // The cause of this letter.
@@ -259,8 +267,74 @@ fn judges(
             Some(cause) => line(number, cause),
             None => Some(TraceFault::Unfinished),
         };
-        assert_eq!(rt; fault(rt, alloc, text.as_slice())?, answer);
+        assert_eq!(rt; rule(fault(rt, alloc, text.as_slice())?), answer);
     }
+    Ok(())
+}
+
+// The number of the word that is wrong, a blank, and lines with `;` between them behind the machine and
+// one process, of which the last is at fault.
+const WORDS: &[u8] = b"\
+1 FRAME 8\n\
+1 A R1 0\n\
+2 PARAM PFD 9\n\
+3 PARAM PFC 9\n\
+3 PARAM PFC\n\
+4 PARAM PFC 1 1\n\
+2 PARAM PFC 1;PARAM PFC 1\n\
+2 BAD 8\n\
+2 SECTION A CRF 1\n\
+3 SECTION LIB SHARE 1\n\
+4 SECTION LIB CRF 0\n\
+3 SECTION LIB CRF 1;DATA LIB 512 00\n\
+4 SECTION LIB CRF 1;DATA LIB 0 0\n\
+2 PROCESS C 4 4 4 0\n\
+4 PROCESS B 4 3 4 0\n\
+5 PROCESS B 4 4 3 0\n\
+6 PROCESS B 4 4 4 3\n\
+2 MAPZERO B 0 1 UW\n\
+3 MAPZERO A 1 1 UW\n\
+3 MAPZERO A 00200000 1 UW\n\
+4 MAPZERO A 0 4097 UW\n\
+5 MAPZERO A 0 1 RW\n\
+6 MAPZERO A 0 1 UW UW\n\
+6 SECTION LIB CRF 1;MAPSEC A 0 1 LIB 1 UW\n\
+2 FAIL P:4 1\n\
+3 FAIL P:3\n\
+5 FAIL P:3 1 2 0\n\
+1 PARAM HILIMIT 500;BODY\n\
+2 BODY 1\n\
+1 BODY;B R1 0\n\
+2 BODY;A\n\
+2 BODY;A R8 0\n\
+3 BODY;A R1\n\
+3 BODY;A R2 1\n\
+4 BODY;A W1 0 1FF\n\
+5 BODY;A W1 0 1 1\n\
+4 BODY;A PURGWS 0 0\n\
+3 BODY;A ADJWSL -1\n\
+2 BODY;END 1\n\
+1 BODY;END;END\n\
+";
+
+#[test]
+fn names_the_word_that_is_wrong(rt: HostRuntime) -> Result<(), Fail> {
+    let alloc = rt.alloc();
+    for row in WORDS.split(|b| *b == b'\n') {
+        let [digit, _, lines @ ..] = row else {
+            continue;
+        };
+        let mut text = HEAD.to_vec(alloc)?;
+        for byte in lines {
+            text.push(if *byte == b';' { b'\n' } else { *byte })?;
+        }
+        let word = match fault(&rt, alloc, text.as_slice())? {
+            Some(TraceFault::Line(_, breach)) => breach.word,
+            _ => 0,
+        };
+        assert_eq!(rt; b'0'.saturating_add(word), *digit);
+    }
+    assert_eq!(rt; fault(&rt, alloc, b"")?, Some(TraceFault::Empty));
     Ok(())
 }
 
@@ -298,7 +372,7 @@ fn reads_a_whole_trace(rt: HostRuntime) -> Result<(), Fail> {
     let alloc = rt.alloc();
     let mut source = MemorySource::new(WHOLE.to_vec(alloc)?, Vec::new(alloc));
     let mut kept = ArrayVec::new();
-    let config = read_trace(&mut source, alloc, &mut kept)
+    let config = read_trace(alloc, &mut source, &mut kept)
         .ok()
         .ok_or("a trace")?;
     assert!(rt; config.frames == 40 && config.pagefile == 16);
@@ -409,7 +483,10 @@ fn answers_in_the_order_of_the_bytes(rt: HostRuntime) -> Result<(), Fail> {
     for (text, fails, answer) in table {
         let mut source = dripping(text.to_vec(alloc)?, fails);
         let mut kept = ArrayVec::new();
-        assert_eq!(rt; read_trace(&mut source, alloc, &mut kept).err(), answer);
+        assert_eq!(rt;
+            rule(read_trace(alloc, &mut source, &mut kept).err()),
+            answer
+        );
     }
     what_is_read_is_well_formed();
     a_shown_fault_stays();
@@ -427,15 +504,15 @@ fn counts_lines_and_requests(rt: HostRuntime) -> Result<(), Fail> {
     let full = joined(alloc, text.as_slice(), b"A R1 0")?;
     let mut source = MemorySource::new(full, Vec::new(alloc));
     let mut kept = ArrayVec::new();
-    let answer = read_trace(&mut source, alloc, &mut kept).err();
+    let answer = read_trace(alloc, &mut source, &mut kept).err();
     assert_eq!(rt; kept.as_slice(), b"A R1 0".as_slice());
-    assert_eq!(rt; answer, line(100_006, Cause::TooMany));
+    assert_eq!(rt; rule(answer), line(100_006, Cause::TooMany));
     for _ in 0..99_995 {
         text.extend_from_slice(b"\n")?;
     }
     text.extend_from_slice(b"!")?;
     let mut source = MemorySource::new(text, Vec::new(alloc));
-    let answer = read_trace(&mut source, alloc, &mut kept).err();
+    let answer = read_trace(alloc, &mut source, &mut kept).err();
     assert_eq!(rt; kept.as_slice(), b"!".as_slice());
     assert_eq!(rt; answer, line(200_001, Cause::TooMany));
     Ok(())

@@ -1,13 +1,12 @@
--- How the cause of a fault travels up from the word that is wrong. Source: this project's own.
+-- How what is wrong travels up from where it is found. Source: this project's own.
 use Rattle.std.specs.Prelude.{Bool, Result, Ok, Err, if◌then◌else◌}
-use Rattle.trace_words.specs.declared.cause.Cause.{Cause}
 
--- what follows from a value, if there is one; else its cause stays
+-- what follows from a value, if there is one; else what is wrong stays
 infixl 10 ◌>>=◌
-abbrev pub ◌>>=◌ : {A B : Type 0} → Result A Cause → (A → Result B Cause) → Result B Cause
+abbrev pub ◌>>=◌ : {A B E : Type 0} → Result A E → (A → Result B E) → Result B E
 (Ok x) >>= f = f x
-(Err cause) >>= f = Err cause
+(Err wrong) >>= f = Err wrong
 
--- the value, if the test holds; else this cause
-abbrev pub owed : {A : Type 0} → Bool → Cause → Result A Cause → Result A Cause
-owed test cause value = if test then value else Err cause
+-- the value, if the test holds; else this is wrong
+abbrev pub owed : {A E : Type 0} → Bool → E → Result A E → Result A E
+owed test wrong value = if test then value else Err wrong

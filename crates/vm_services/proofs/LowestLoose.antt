@@ -18,7 +18,7 @@ use Rattle.pager_rules.proofs.Basics.{nat_eq_refl}
 use Rattle.pager_rules.proofs.Lists.{count_found, found_one, found_passes}
 use Rattle.pager_rules.specs.Kept.{IsKept}
 use Rattle.call_laws.proofs.SlotsOnce.{only_place}
-use Rattle.call_steps.proofs.Branches.{if_true}
+use Rattle.call_begins.proofs.Branches.{if_true}
 use Rattle.vm_state.specs.ProcessReadings.{slot_by, slot_in, slot_with}
 use Rattle.vm_services.specs.Lowest.{purged_in}
 use Rattle.vm_services.proofs.Searches.{IsLeastOf, found_least}

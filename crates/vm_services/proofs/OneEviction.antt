@@ -14,16 +14,16 @@ use Rattle.pager_model.specs.Pager.{Valid}
 use Rattle.pager_model.specs.Serve.{evict_given, serve_again, serve_modified_full, serve_more}
 use Rattle.page_holders.proofs.ValidEntries.{IsValidAt, valid_at_page}
 use Rattle.call_laws.proofs.WaitsLegal.{kept, mapped_small}
-use Rattle.call_steps.proofs.Branches.{if_false, if_true}
-use Rattle.call_steps.proofs.Steps.{paid_first}
+use Rattle.call_begins.proofs.Branches.{if_false, if_true}
+use Rattle.call_begins.proofs.Steps.{paid_first}
 use Rattle.vm_state.specs.History.{History, MayAdd, entry_by, pager}
 use Rattle.vm_state.specs.PageReadings.{frame_of}
-use Rattle.page_states.specs.Shown.{frame_number}
+use Rattle.page_readers.specs.Shown.{frame_number}
 use Rattle.vm_services.specs.Cases.{at_evict}
-use Rattle.call_steps.specs.ReadySeat.{IsReadySeat}
+use Rattle.call_begins.specs.ReadySeat.{IsReadySeat}
 use Rattle.vm_services.specs.Serves.{MayServe}
 use Rattle.vm_services.proofs.Steps.{may_as}
-use Rattle.call_steps.proofs.ReadySeats.{ready_of}
+use Rattle.call_begins.proofs.ReadySeats.{ready_of}
 
 -- the entry that shows a frame
 entry_with : (f : Pfn) (o : Option Valid) → option_map frame_number (Some f) ≡ option_map frame_of o → (e : Valid) × (o ≡ Some e) × (f.0 ≡ e.frame)

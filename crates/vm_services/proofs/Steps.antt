@@ -11,13 +11,13 @@ use Rattle.pager_model.specs.Lookups.{is_resident}
 use Rattle.pager_model.specs.Serve.{GivenServe, ServeWhy as Reason, serve_again, serve_more, served_with}
 use Rattle.call_laws.specs.AreLegal.{AreLegal}
 use Rattle.call_laws.proofs.ServeLegal.{serve_legal}
-use Rattle.call_steps.proofs.Branches.{if_true}
-use Rattle.call_steps.proofs.Steps.{paid_first}
+use Rattle.call_begins.proofs.Branches.{if_true}
+use Rattle.call_begins.proofs.Steps.{paid_first}
 use Rattle.vm_state.specs.History.{History, MayAdd, added, entry_by, owed, pager}
 use Rattle.vm_services.specs.Cases.{at_service}
-use Rattle.call_steps.specs.ReadySeat.{IsReadySeat}
+use Rattle.call_begins.specs.ReadySeat.{IsReadySeat}
 use Rattle.vm_services.specs.Serves.{MayServe, Serves, again_of}
-use Rattle.call_steps.proofs.ReadySeats.{ready_of}
+use Rattle.call_begins.proofs.ReadySeats.{ready_of}
 use Rattle.vm_services.specs.declared.next.ServeNext.{ServeNext}
 use Rattle.vm_services.specs.declared.next.ServeNext.TheVariants.{Again, Answered, More}
 

@@ -4,7 +4,7 @@ ghost use Rattle.vm_types.specs.declared.service.Service.{Service};
 ghost use Rattle.pager_model.specs.Serve.{is_unmapped};
 ghost use Rattle.vm_state.specs.History.{pager};
 ghost use Rattle.vm_services.specs.Cases.{at_delete, at_rest, at_service};
-ghost use Rattle.call_steps.specs.ReadySeat.{IsReadySeat};
+ghost use Rattle.call_begins.specs.ReadySeat.{IsReadySeat};
 ghost use Rattle.vm_services.specs.Serves.{MayServe, Serves};
 
 use crate::evictions::evict;

@@ -1,10 +1,10 @@
 ghost use Rattle.std.specs.Prelude.{◌≡◌};
 ghost use Rattle.vm_services.specs.Cases.{at_evict};
-ghost use Rattle.call_steps.specs.ReadySeat.{IsReadySeat};
+ghost use Rattle.call_begins.specs.ReadySeat.{IsReadySeat};
 ghost use Rattle.vm_services.specs.Serves.{MayServe, Serves};
 
 use crate::next::{ServeNext, ServeWhy};
-use call_steps::{goes_to, is_stopped};
+use call_begins::{goes_to, is_stopped};
 use disk_trait::Block;
 use vm_journal::EvictWhy;
 use vm_state::State;

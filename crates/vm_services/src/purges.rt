@@ -2,7 +2,7 @@ ghost use Rattle.std.specs.Prelude.{◌≡◌};
 ghost use Rattle.vm_types.specs.WellFormed.{IsRange};
 ghost use Rattle.vm_types.specs.declared.service.Service.{Service};
 ghost use Rattle.vm_services.specs.Cases.{at_service};
-ghost use Rattle.call_steps.specs.ReadySeat.{IsReadySeat};
+ghost use Rattle.call_begins.specs.ReadySeat.{IsReadySeat};
 ghost use Rattle.vm_services.specs.Serves.{MayServe, Serves};
 
 use crate::evictions::evict;

@@ -6,7 +6,7 @@ ghost use Rattle.pager_model.specs.Lookups.{is_resident};
 ghost use Rattle.pager_model.specs.Serve.{serve_gives};
 ghost use Rattle.vm_state.specs.History.{MayAdd, added, entry_by, owed, pager};
 ghost use Rattle.vm_services.specs.Cases.{at_service};
-ghost use Rattle.call_steps.specs.ReadySeat.{IsIdleSeat, IsReadySeat};
+ghost use Rattle.call_begins.specs.ReadySeat.{IsIdleSeat, IsReadySeat};
 ghost use Rattle.vm_services.specs.Serves.{MayServe, Serves};
 ghost use Rattle.vm_services.specs.declared.next.ServeNext.{ServeNext};
 

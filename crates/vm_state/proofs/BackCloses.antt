@@ -39,8 +39,8 @@ use Rattle.state_fits.proofs.BackParts.{back_coming_parts, back_parts, is_coming
 use Rattle.state_fits.proofs.EnteredParts.{entered_row}
 use Rattle.state_fits.proofs.FrameRows.{row_read}
 use Rattle.vm_state.specs.History.{owed}
-use Rattle.page_states.specs.RingSlots.{CanFault, CanTakeSlot, HasFaulted, TakesSlot, mark_back}
-use Rattle.page_states.specs.SectionPages.{CanShare}
+use Rattle.page_readers.specs.RingSlots.{CanFault, CanTakeSlot, HasFaulted, TakesSlot, mark_back}
+use Rattle.page_readers.specs.SectionPages.{CanShare}
 use Rattle.vm_state.specs.StateKept.{IsState}
 use Rattle.vm_state.proofs.Closing.{closed, kept, right}
 use Rattle.vm_state.proofs.Numbered.{can_share}
@@ -78,7 +78,7 @@ module _ {B : Type 0} {seen : B → BlockView} {tells : Tells} {config : Config}
         by status.Gone is = can_fault (λ comes. cc (is, comes))
         by status.Coming is =
             let may = back_coming_can config past a seat q address f from fields before.formed (kept before) (right before) legal before.parts x read is in
-            record { procs = may.procs; place = may.place; charged = may.charged; kept = may.kept; proc = q; slot = may.slot; lies = may.lies; few = may.few; empty = may.empty }
+            record { procs = may.procs; charged = may.charged; kept = may.kept; of = q; slot = may.slot; lies = may.lies; few = may.few; empty = may.empty }
 
     module _ (g : Page) (page : (row_of fields.frames f.0).page ≡ Some g) (row' : ProcessRow) (slot : ℕ) (frames' : Frames)
         (free : frames'.free ≡ without fields.frames.free f.0) (modified : frames'.modified ≡ without fields.frames.modified f.0)
@@ -111,8 +111,8 @@ module _ {B : Type 0} {seen : B → BlockView} {tells : Tells} {config : Config}
       by_status status.Coming is taken rows =
           let own = private_page is in
           let same = shared ∙ ap (λ (h : Page). shared_in config h fields.globals) own in
-          rw (taken.row, same) (back_coming_parts config past a seat q address f from fields (kept before) (right before) legal before.parts x g taken.charged taken.proc slot old frames' tables' pages' swaps' read is page taken.kept taken.lies there
-          (rows ∙ ap (λ (h : Page). slice_set fields.frames.rows f.0 (entered_row g true (page_slot h slot) (row_of fields.frames f.0))) own) free modified procs changed taken.pages_procs taken.pages_changed taken.swaps_procs taken.swaps_changed)
+          rw (taken.row, same) (back_coming_parts config past a seat q address f from fields (kept before) (right before) legal before.parts x g taken.charged taken.of slot old frames' tables' pages' swaps' read is page taken.kept taken.lies there
+          (rows ∙ ap (λ (h : Page). slice_set fields.frames.rows f.0 (entered_row g true (page_slot h slot) (row_of fields.frames f.0))) own) free modified procs changed taken.pages_changed taken.swaps_procs taken.swaps_changed)
 
       pub back_closes : owed (e ∷ past) + 1 ≤ spare → TakesSlot x.status q.0 v x row' fields.pages pages' fields.swaps swaps' slot
           → (modify : Bool) → modify ≡ mark_back x.status (row_of fields.frames f.0).modify → (held : ℕ) → held ≡ page_slot g slot
@@ -121,4 +121,4 @@ module _ {B : Type 0} {seen : B → BlockView} {tells : Tells} {config : Config}
       back_closes paid taken modify marked held held_is rows =
           closed before e (λ told. tt) legal paid (record store { frames = frames' }) left
           (by_status x.status refl taken (rows ∙ ap₂ (λ (m : Bool) (n : ℕ). slice_set fields.frames.rows f.0 (entered_row g m n (row_of fields.frames f.0))) marked held_is)) (refl, refl)
-          (record { ids = before.places.ids; buffers = before.places.buffers; blocks = before.places.blocks; left = before.places.left; firsts = before.places.firsts })
+          (record { ids = before.places.ids; buffers = before.places.buffers; blocks = before.places.blocks; left = before.places.left; firsts = before.places.firsts; size = before.places.size })

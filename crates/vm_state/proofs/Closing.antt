@@ -3,7 +3,6 @@ use Rattle.std.proofs.Common.{◌≡◌, ℕ, ◌+◌, ◌-◌, ◌≤◌, Bool,
 use Rattle.std.proofs.lemmas.List.{length-reverse, reverse-append}
 use Rattle.vm_types.specs.BlockView.{BlockView, Tells}
 use Rattle.vm_types.specs.declared.config.Config.{Config}
-use Rattle.vm_types.proofs.VersionOne.{no_paged}
 use Rattle.run_record.specs.RunRecord.{Recorded}
 use Rattle.vm_journal.specs.declared.entry.Entry.{Entry}
 use Rattle.pager_model.specs.Flights.{open_flights}
@@ -21,7 +20,6 @@ use Rattle.frame_store.specs.Blocks.{held_at}
 use Rattle.frame_store.specs.StoreView.{StoreView}
 use Rattle.state_fits.specs.Parts.{Parts}
 use Rattle.state_fits.specs.PartsFit.{PartsFit}
-use Rattle.state_fits.specs.Pages.{HasNoPaged}
 use Rattle.vm_state.specs.History.{History, MayAdd, owed}
 use Rattle.vm_state.specs.StateKept.{IsState, IsStoreOf, home_in}
 
@@ -50,10 +48,6 @@ module _ {B : Type 0} {seen : B → BlockView} {tells : Tells} {config : Config}
 
     pub right : IsOfConfig config (pager_after config past)
     right = run_right config past before.formed before.run
-
-    -- no section is in the page file
-    pub plain : HasNoPaged config
-    plain s = no_paged config before.formed before.version s.0
 
     -- the store as it was, or with other buffers and blocks
     pub closed : (e : Entry) → (tells.content ≡ true → ShowsReply config (flat_after config past) (e.seat).0 e.what) → IsLegal config past (pager_after config past) e → owed (e ∷ past) + 1 ≤ spare → (store' : StoreView B) (fields' : Parts)

@@ -3,6 +3,7 @@ use Rattle.std.proofs.Common.{◌≡◌, ℕ, ◌+◌, ◌-◌, ◌≤◌, ◌<�
 use Rattle.std.specs.Prelude.{IsSome}
 use Rattle.vm_types.specs.BlockView.{BlockView, Tells}
 use Rattle.vm_types.specs.PagePlaces.{changed_at}
+use Rattle.vm_types.specs.declared.names.Page.TheVariants.{Private}
 use Rattle.vm_types.specs.declared.config.Config.{Config}
 use Rattle.vm_types.specs.declared.names.Addr.{Addr}
 use Rattle.vm_types.specs.declared.names.FrameState.TheVariants as state
@@ -21,13 +22,13 @@ use Rattle.section_table.specs.SectionTable.{SectionTable, behind_of}
 use Rattle.pager_model.specs.Around.{quiet}
 use Rattle.pager_model.specs.Flights.{is_busy, open_flights}
 use Rattle.pager_model.specs.Forget.{after_delete}
-use Rattle.pager_model.specs.Maps.{page_number}
+use Rattle.pager_model.specs.Maps.{page_number, proc}
 use Rattle.pager_model.specs.Pager.{Pager}
 use Rattle.pager_model.specs.Run.{pager_after}
 use Rattle.pager_model.specs.Step.{IsLegal}
 use Rattle.pager_rules.specs.Kept.{IsKept}
 use Rattle.frame_store.specs.StoreView.{StoreView}
-use Rattle.state_parts.specs.ChargedTable.{ChargedTable, charged_at}
+use Rattle.state_parts.specs.ChargedTable.{ChargedTable, IsTableSet, kept_at}
 use Rattle.state_parts.specs.declared.charged_page.ChargedPage.{ChargedPage}
 use Rattle.state_parts.specs.declared.spoken_row.SpokenRow.{SpokenRow}
 use Rattle.state_fits.specs.Forgetting.{emptied_frame, frame_in_transition, released_block, uncharged_page}
@@ -81,21 +82,21 @@ module _ {B : Type 0} {seen : B → BlockView} {tells : Tells} {config : Config}
         → (f < length (parts.frames).rows) × IsOneOf (state.Free ∷ state.Modified ∷ state.ReadError ∷ []) (row_of parts.frames f).state × ((row_of parts.frames f).flights ≡ 0)
     can_empty = can.can_empty config past a seat.0 at.0 pages calm legal.row.0 still legal.row.1 i v below refl parts fit
 
-    pub can_release : (row : ChargedPage) → charged_at parts.pages seat.0 v ≡ Some row → (n : ℕ) → row.assigned ≡ Some n → IsAssignedBlock parts.file n
+    pub can_release : (row : ChargedPage) → kept_at parts.pages (Private (proc seat.0) v) ≡ Some row → (n : ℕ) → row.assigned ≡ Some n → IsAssignedBlock parts.file n
     can_release row found = can.can_release config past a seat.0 at.0 pages calm legal.row.0 still legal.row.1 i v below refl parts fit row found
 
-    pub can_uncharge : (row : ChargedPage) → charged_at parts.pages seat.0 v ≡ Some row → assigned_blocks (released_block row.assigned parts.file) < (released_block row.assigned parts.file).charged
+    pub can_uncharge : (row : ChargedPage) → kept_at parts.pages (Private (proc seat.0) v) ≡ Some row → assigned_blocks (released_block row.assigned parts.file) < (released_block row.assigned parts.file).charged
     can_uncharge row found = can.can_uncharge config past a seat.0 at.0 pages calm legal.row.0 still legal.row.1 i v below refl parts fit row found
 
-    pub one_deleted : (pte : Pte) → pte_in parts.tables seat.0 v ≡ Some pte → (row : Option ChargedPage) → row ≡ charged_at parts.pages seat.0 v
+    pub one_deleted : (pte : Pte) → pte_in parts.tables seat.0 v ≡ Some pte → (row : Option ChargedPage) → row ≡ kept_at parts.pages (Private (proc seat.0) v)
         → (frames' : Frames) → frames' ≡ emptied_frame (frame_in_transition pte.place) parts.frames → (file' : Blocks) → file' ≡ uncharged_page row parts.file
         → (tables' : PageTables) → tables'.procs ≡ (parts.tables).procs → ((q w : ℕ) → pte_in tables' q w ≡ changed_at (pte_in parts.tables) seat.0 v None q w)
         → (sections' : SectionTable) → sections'.procs ≡ (parts.sections).procs → sections'.parts ≡ (parts.sections).parts → ((q w : ℕ) → behind_of sections' q w ≡ changed_at (behind_of parts.sections) seat.0 v None q w)
-        → (pages' : ChargedTable) → pages'.procs ≡ (parts.pages).procs → ((q w : ℕ) → charged_at pages' q w ≡ changed_at (charged_at parts.pages) seat.0 v None q w)
+        → (pages' : ChargedTable) → IsTableSet parts.pages pages' (Private (proc seat.0) v) None
         → FitDeleted (i + 1) (record parts { frames = frames'; tables = tables'; sections = sections'; pages = pages'; file = file' })
-    one_deleted pte there row row_is frames' frames_is file' file_is tables' procs changed sections' procs_s kinds behind pages' procs_p charged =
+    one_deleted pte there row row_is frames' frames_is file' file_is tables' procs changed sections' procs_s kinds behind pages' charged =
         rw (frames_is, file_is, row_is)
-        (deleted_step config past a seat.0 at.0 pages calm legal.row.0 still legal.row.1 i v below refl parts fit pte there tables' procs changed sections' procs_s kinds behind pages' procs_p charged)
+        (deleted_step config past a seat.0 at.0 pages calm legal.row.0 still legal.row.1 i v below refl parts fit pte there tables' procs changed sections' procs_s kinds behind pages' charged)
 
   pub spoken_few : (i : ℕ) (parts : Parts) → FitDeleted i parts → (y : SpokenRow) → y ≡ slice_index_or parts.spoken seat.0 y → y.count ≤ length past
   spoken_few i parts fit y read =

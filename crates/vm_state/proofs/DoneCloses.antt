@@ -3,13 +3,11 @@ use Rattle.std.specs.Prelude.{if◌then◌else◌}
 use Rattle.std.proofs.Common.{◌≡◌, ℕ, ◌+◌, ◌-◌, ◌≤◌, ◌<◌, ◌^◌, Bool, true, List, ◌∷◌, Option, Some, None, IsSome, length, slice_index_or, slice_set, refl, sym, ap, ◌∙◌, subst, arith, length-set}
 use Rattle.std.specs.Option.{option_map}
 use Rattle.vm_types.specs.BlockView.{BlockView, Tells}
-use Rattle.vm_types.specs.PagePlaces.{region_place}
 use Rattle.vm_types.specs.WellFormed.{IsWellFormedReference, width_bytes}
 use Rattle.vm_types.specs.declared.config.Config.{Config}
 use Rattle.vm_types.specs.declared.names.FrameState.{FrameState}
 use Rattle.vm_types.specs.declared.names.FrameState.TheVariants as state
 use Rattle.vm_types.specs.declared.names.Page.{Page}
-use Rattle.vm_types.specs.declared.names.Page.TheVariants.{Private, Shared}
 use Rattle.vm_types.specs.declared.names.Pfn.{Pfn}
 use Rattle.vm_types.specs.declared.names.Seat.{Seat}
 use Rattle.vm_types.specs.declared.reference.Op.{Op}
@@ -31,33 +29,30 @@ use Rattle.pager_model.specs.Flat.{bytes_after, flat_reply, is_change, offset_in
 use Rattle.pager_model.specs.Flights.{open_flights}
 use Rattle.pager_model.specs.Lookups.{is}
 use Rattle.pager_model.specs.Maps.{page_number}
-use Rattle.pager_model.specs.OfConfig.{IsMappable, IsPageOf}
 use Rattle.pager_model.specs.Pager.{Pager, Valid}
 use Rattle.pager_model.specs.Run.{pager_after}
 use Rattle.pager_model.specs.Spoken.{flat_after}
 use Rattle.pager_model.specs.Step.{IsLegal}
-use Rattle.std.proofs.lemmas.Grind.{common_steps}
 use Rattle.content_laws.specs.Put.{PutsBuffer}
 use Rattle.content_laws.proofs.AtHome.{buffer_home}
 use Rattle.content_laws.proofs.ContentStays.{done_is_right}
 use Rattle.content_laws.proofs.ListPuts.{list_puts_buffer}
 use Rattle.frame_store.specs.Blocks.{held_at}
 use Rattle.frame_store.specs.StoreView.{StoreView}
-use Rattle.state_parts.specs.ChargedTable.{ChargedTable, charged_at}
+use Rattle.state_parts.specs.ChargedTable.{ChargedTable, IsTableSet, kept_at}
 use Rattle.state_parts.specs.declared.process_row.ProcessRow.{ProcessRow}
 use Rattle.state_parts.specs.declared.spoken_row.SpokenRow.{SpokenRow}
 use Rattle.page_holders.proofs.ValidEntries.{IsValidAt, mapping_of}
 use Rattle.state_fits.specs.Frames.{frame_row}
-use Rattle.state_fits.specs.Pages.{touched_rows}
+use Rattle.state_fits.specs.Pages.{touched_row}
 use Rattle.state_fits.specs.Parts.{Parts}
 use Rattle.state_fits.proofs.DoneParts.{at as page_at_done, done_parts}
 use Rattle.state_fits.proofs.ShownEntries.{valid_shown}
 use Rattle.vm_state.specs.History.{History, MayAnswer, entry_by, owed, pager}
-use Rattle.page_states.specs.Shown.{frame_entry, frame_number, frame_shown}
+use Rattle.page_readers.specs.Shown.{frame_entry, frame_number, frame_shown}
 use Rattle.vm_state.specs.StateKept.{IsState, home_in}
-use Rattle.page_states.specs.Touching.{MayTouch}
 use Rattle.vm_state.proofs.Closing.{closed, kept, right}
-use Rattle.page_states.proofs.Looked.{frame_looked}
+use Rattle.page_readers.proofs.Looked.{frame_looked}
 
 pub answer_before : {s t : History} {seat : Seat} {r : Ref} → s ≡ t → MayAnswer t seat r → MayAnswer s seat r
 answer_before {s} {t} {seat} {r} is may = subst (λ (x : History). MayAnswer x seat r) (sym is) may
@@ -83,9 +78,6 @@ some_legal {s} {seat} {r} may = may.legal (some_reply r.op).0 (some_reply r.op).
 number_is : (found : Option Pfn) (n : ℕ) → option_map frame_number found ≡ Some n → IsSome found × ((f : Pfn) → found ≡ Some f → f.0 ≡ n)
 number_is None n e = absurd (let no : ⊥ = cc in no)
 number_is (Some g) n e = (refl, λ f is. let same : g.0 ≡ n = cc in let it : g ≡ f = cc in sym (ap frame_number it) ∙ same)
-
-mappable_place : (w : ℕ) → IsMappable w → IsSome (region_place w)
-mappable_place w is = grind (arith, common_steps)
 
 module _ {B : Type 0} {seen : B → BlockView} {tells : Tells} {config : Config} {past : List Entry} {spare : ℕ} {store : StoreView B} {fields : Parts} {numbers : List ℕ}
     (before : IsState seen tells config past spare store fields numbers) (seat : Seat) (r : Ref)
@@ -142,16 +134,6 @@ module _ {B : Type 0} {seen : B → BlockView} {tells : Tells} {config : Config}
     pub may_mark : (m : Bool) → FitsModify (row_of fields.frames f.0).state m
     may_mark m = subst (λ (s : FrameState). FitsModify s m) (sym active) tt
 
-    pub may_touch : (page : Page) → (row_of fields.frames f.0).page ≡ Some page → MayTouch fields.pages page
-    may_touch page is =
-        let both : Some page ≡ Some at.page = sym is ∙ page_held in
-        let it : page ≡ at.page = cc in
-        subst (λ (g : Page). MayTouch fields.pages g) (sym it) (go at.page ((right before).held e.frame at.page at.holds))
-      where
-        go : (g : Page) → IsPageOf config g → MayTouch fields.pages g
-        go (Private q w) of = record { proc = (let procs = before.parts.pages.procs in omega (arith, procs, of.0)); page = mappable_place w of.1 }
-        go (Shared s i) of = tt
-
     -- ---- its buffer
     buffer_at : (bytes : List ℕ) × (held_at store.buffers e.frame ≡ Some bytes) × (length bytes ≡ 512)
     buffer_at = buffer_home config a.state (held_at store.buffers) e.frame before.bytes.buffers at.within (ap (is state.Reading) at.active)
@@ -162,12 +144,12 @@ module _ {B : Type 0} {seen : B → BlockView} {tells : Tells} {config : Config}
     pub done_closes : owed past + 1 ≤ spare → (x : ProcessRow) → x ≡ slice_index_or fields.processes seat.0 x → (y : SpokenRow) → y ≡ slice_index_or fields.spoken seat.0 y
         → (number : ℕ) → number ≡ length past + 1 → (row : Row) → row ≡ row_of fields.frames f.0 → (m : Bool) → m ≡ (if is_change r.op then true else row.modify)
         → (frames' : Frames) → frames'.rows ≡ slice_set fields.frames.rows f.0 (record (row_of fields.frames f.0) { modify = m }) → frames'.free ≡ fields.frames.free → frames'.modified ≡ fields.frames.modified
-        → (page : Page) → row.page ≡ Some page → (pages' : ChargedTable) → pages'.procs ≡ (fields.pages).procs → ((q w : ℕ) → charged_at pages' q w ≡ touched_rows page (charged_at fields.pages) q w)
+        → (page : Page) → row.page ≡ Some page → (pages' : ChargedTable) → IsTableSet fields.pages pages' page (touched_row (kept_at fields.pages page))
         → (bytes bytes' : List ℕ) → held_at store.buffers f.0 ≡ Some bytes → bytes' ≡ bytes_after r.op bytes (offset_in_page r)
         → (tells.content ≡ true → answer ≡ flat_reply config (flat_after config past) seat.0 r)
         → IsState seen tells config (record { seat = seat; what = what.Done r answer } ∷ past) (spare - 1) (record store { frames = frames'; buffers = slice_set store.buffers f.0 (Some bytes') })
         (record fields { frames = frames'; processes = slice_set fields.processes seat.0 (record x { references = x.references + 1 }); spoken = slice_set fields.spoken seat.0 (record { last = Some number; count = y.count + 1 }); pages = pages' }) numbers
-    done_closes paid x read y read_y number counted row row_is m m_is frames' rows free modified page page_is pages' procs touched bytes bytes' there bytes_is shows =
+    done_closes paid x read y read_y number counted row row_is m m_is frames' rows free modified page page_is pages' touched bytes bytes' there bytes_is shows =
         let m_row : m ≡ (if is_change r.op then true else (row_of fields.frames f.0).modify) = m_is ∙ ap (λ (z : Row). if is_change r.op then true else z.modify) row_is in
         let both : Some page ≡ Some at.page = sym page_is ∙ (ap (λ (z : Row). z.page) row_is ∙ page_held) in
         let it : page ≡ at.page = cc in
@@ -175,7 +157,7 @@ module _ {B : Type 0} {seen : B → BlockView} {tells : Tells} {config : Config}
         (done_parts config past a seat r answer (kept before) legal fields before.parts frames'
         (rows ∙ (ap (λ (b : Bool). slice_set fields.frames.rows f.0 (record (row_of fields.frames f.0) { modify = b })) m_row
         ∙ ap (λ (n : ℕ). slice_set fields.frames.rows n (record (row_of fields.frames n) { modify = (if is_change r.op then true else (row_of fields.frames n).modify) })) same))
-        free modified x read y read_y pages' procs (subst (λ (g : Page). (q w : ℕ) → charged_at pages' q w ≡ touched_rows g (charged_at fields.pages) q w) it touched)) (
+        free modified x read y read_y pages' (subst (λ (g : Page). IsTableSet fields.pages pages' g (touched_row (kept_at fields.pages g))) it touched)) (
           record {
             bytes = bytes;
             finds = record { entry = e; valid = legal.row.valid.1; has = subst (λ (n : ℕ). held_at store.buffers n ≡ Some bytes) same there };
@@ -185,7 +167,7 @@ module _ {B : Type 0} {seen : B → BlockView} {tells : Tells} {config : Config}
           },
           refl,
         )
-        (record { ids = before.places.ids; buffers = length-set store.buffers f.0 (Some bytes') ∙ before.places.buffers; blocks = before.places.blocks; left = before.places.left; firsts = before.places.firsts }))
+        (record { ids = before.places.ids; buffers = length-set store.buffers f.0 (Some bytes') ∙ before.places.buffers; blocks = before.places.blocks; left = before.places.left; firsts = before.places.firsts; size = before.places.size }))
 
     pub done_right : (bytes : List ℕ) → held_at store.buffers f.0 ≡ Some bytes → answer ≡ reply_from r.op bytes (offset_in_page r) → tells.content ≡ true
         → answer ≡ flat_reply config (flat_after config past) seat.0 r

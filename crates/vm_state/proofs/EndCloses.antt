@@ -1,5 +1,5 @@
--- The blocks that a state gives back once no transfer is open: each is home, counted and written back.
-use Rattle.std.proofs.Common.{◌≡◌, ℕ, ◌<◌, List, [], Option, Some, None, IsSome, length, map, slice_get, slice_index_or, refl, sym, ap, ◌∙◌, subst, arith}
+-- A state once no transfer is open: all buffers are in, and fill the pool; and each block is home, counted and written back.
+use Rattle.std.proofs.Common.{◌≡◌, ℕ, ◌<◌, ◌≤◌, ◌+◌, ◌*◌, Bool, true, false, not, List, [], Option, Some, None, IsSome, count_by, length, map, slice_get, slice_index_or, refl, sym, ap, ◌∙◌, subst, arith}
 use Rattle.std.specs.Option.{option_map}
 use Rattle.std.proofs.lemmas.Option.{get_or_from_slice_get, none-some, slice_get-get_or, slice_get-map}
 use Rattle.vm_types.specs.BlockView.{BlockView, Tells}
@@ -7,10 +7,15 @@ use Rattle.vm_types.specs.Configuration.{IsBlock}
 use Rattle.vm_types.specs.declared.config.Config.{Config}
 use Rattle.vm_types.specs.declared.names.BlockId.{BlockId}
 use Rattle.vm_types.specs.declared.names.BlockId.TheVariants as block
+use Rattle.vm_types.specs.declared.names.FrameState.TheVariants as state
 use Rattle.vm_journal.specs.declared.entry.Entry.{Entry}
-use Rattle.pager_model.specs.Flights.{open_flights}
+use Rattle.pager_model.specs.Flights.{Flight, open_flights}
+use Rattle.pager_model.specs.Lookups.{is}
+use Rattle.pager_model.specs.Transfers.{reads_on}
 use Rattle.pager_model.specs.Run.{pager_after}
 use Rattle.pager_model.specs.CountedBlock.{IsCountedBlock}
+use Rattle.pager_rules.specs.Kept.{one_if}
+use Rattle.pager_laws.proofs.RunsAreSound.{run_kept}
 use Rattle.content_laws.proofs.EndContent.{block_home, blocks_written_back}
 use Rattle.frame_store.specs.Blocks.{block_at, blocks_of, held_at}
 use Rattle.frame_store.specs.StoreView.{StoreView}
@@ -18,7 +23,7 @@ use Rattle.frame_store.proofs.Blocks.{is_block, number_only}
 use Rattle.frame_store.proofs.Places.{get_held, held_get}
 use Rattle.state_fits.specs.Parts.{Parts}
 use Rattle.vm_state.specs.Ends.{IsGivenBack}
-use Rattle.vm_state.specs.StateKept.{IsState, home_in}
+use Rattle.vm_state.specs.StateKept.{IsState, home_in, is_writing}
 
 module _ {B : Type 0} {seen : B → BlockView} {tells : Tells} {config : Config} {past : List Entry} {spare : ℕ} {store : StoreView B} {fields : Parts} {numbers : List ℕ}
     (before : IsState seen tells config past spare store fields numbers) (none : open_flights past ≡ []) where
@@ -39,6 +44,29 @@ module _ {B : Type 0} {seen : B → BlockView} {tells : Tells} {config : Config}
           let home = at_home b (is_block config k b at) in
           let held : held_at store.blocks k ≡ Some home.0 = ap (held_at store.blocks) (sym (number_only config k b at)) ∙ home.1 in
           subst IsSome (sym (get_or_from_slice_get store.blocks k (Some home.0) d (held_get store.blocks k home.0 held))) refl
+
+  still : (f : ℕ) → is state.Reading ((pager_after config past).state f) ≡ false
+  still f = go (is state.Reading ((pager_after config past).state f)) refl
+    where
+      count : 0 ≡ one_if (is state.Reading ((pager_after config past).state f))
+      count = ap (reads_on f) (sym none) ∙ ((run_kept config past before.formed before.run).frames f).reads
+
+      go : (b : Bool) → is state.Reading ((pager_after config past).state f) ≡ b → is state.Reading ((pager_after config past).state f) ≡ false
+      go false other = other
+      go true reads = let one : 0 ≡ 1 = count ∙ ap one_if reads in absurd (omega (arith, one))
+
+  pub all_in : (f : ℕ) (d : Option (List ℕ)) → f < length store.buffers → IsSome (slice_index_or store.buffers f d)
+  all_in f d within =
+      let many = before.places.buffers in
+      let home : IsSome (held_at store.buffers f) = before.bytes.buffers.home f (omega (arith, many, within)) ∙ ap not (still f) in
+      subst IsSome (sym (get_or_from_slice_get store.buffers f (held_at store.buffers f) d (slice_get-get_or store.buffers f None within))) home
+
+  pub full : store.pool.size ≤ store.left + length store.buffers
+  full =
+      let left : 16 * (length config.procs + 2) ≤ store.left + 0 = subst (λ (flights : List Flight). 16 * (length config.procs + 2) ≤ store.left + count_by is_writing flights) none before.places.left in
+      let size = before.places.size in
+      let many = before.places.buffers in
+      omega (arith, left, size, many)
 
   -- the blocks with their names, as they are given
   module _ (blocks : List (BlockId × B)) (names : map (λ (p : BlockId × B). p.0) blocks ≡ store.ids) (places : map (λ (p : BlockId × B). Some p.1) blocks ≡ store.blocks) where

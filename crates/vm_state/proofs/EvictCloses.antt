@@ -33,7 +33,7 @@ use Rattle.state_fits.specs.Parts.{Parts}
 use Rattle.state_fits.proofs.EvictCan.{CanEvict, evict_can}
 use Rattle.state_fits.proofs.EvictParts.{evict_parts, left_row, unpinned}
 use Rattle.vm_state.specs.History.{owed}
-use Rattle.page_states.specs.SectionPages.{HasShare}
+use Rattle.page_readers.specs.SectionPages.{HasShare}
 use Rattle.vm_state.specs.StateKept.{IsState}
 use Rattle.vm_state.proofs.Closing.{closed, kept, right}
 use Rattle.vm_state.proofs.Numbered.{has_share}
@@ -70,4 +70,4 @@ module _ {B : Type 0} {seen : B → BlockView} {tells : Tells} {config : Config}
       free modified procs
       (λ r w. changed r w ∙ ap (λ (y : Place). changed_at (pte_in fields.tables) q.0 v (Some (record { prot = old.prot; place = y })) r w) place_is))
       (refl, refl)
-      (record { ids = before.places.ids; buffers = before.places.buffers; blocks = before.places.blocks; left = before.places.left; firsts = before.places.firsts }))
+      (record { ids = before.places.ids; buffers = before.places.buffers; blocks = before.places.blocks; left = before.places.left; firsts = before.places.firsts; size = before.places.size }))

@@ -3,60 +3,63 @@
 use Rattle.std.proofs.Common.{◌≡◌, ℕ, ◌<◌, ◌≤◌, Bool, true, false, not, cond, ◌&&◌, List, Option, Some, None, length, nat_eq, refl, sym, ap, ◌∙◌, subst, arith}
 use Rattle.std.proofs.lemmas.Bool.{and_parts, eq-eqb, eqb-true, false≢true, ne_eqb, true≢false}
 use Rattle.std.specs.Option.{is_some}
+use Rattle.std.specs.Prelude.{◌^◌, All}
+use Rattle.std.proofs.lemmas.List.Sums.{get_or-le-sum_by}
 use Rattle.std.proofs.lemmas.Map.Made.{length-le_from_is_member}
-use Rattle.std.proofs.lemmas.Option.{none-some}
+use Rattle.std.proofs.lemmas.Option.{none-some, slice_get_within}
 use Rattle.vm_types.specs.BlockView.{BlockView, Tells}
 use Rattle.vm_types.specs.Access.{is_allowed}
+use Rattle.vm_types.specs.Configuration.{section_pages}
+use Rattle.vm_types.specs.Kinds.{is_paged_kind, paged_of}
 use Rattle.vm_types.specs.declared.config.Config.{Config}
+use Rattle.vm_types.specs.declared.config.Section.{Section}
 use Rattle.vm_types.specs.declared.names.BlockId.{BlockId}
 use Rattle.vm_types.specs.declared.names.Page.{Page}
 use Rattle.vm_types.specs.declared.names.Page.TheVariants.{Private, Shared}
-use Rattle.vm_types.specs.declared.names.SecId.{SecId}
-use Rattle.vm_types.specs.declared.names.Proc.{Proc}
 use Rattle.vm_types.specs.declared.reference.Ref.{Ref}
 use Rattle.vm_types.specs.declared.reply.Why.{Why}
 use Rattle.vm_types.specs.declared.reply.Why.TheVariants as why
 use Rattle.vm_journal.specs.declared.entry.Entry.{Entry}
 use Rattle.pager_model.specs.Flat.{FlatState, flat_refusal, is_change, is_page_file_full, refusal_at}
 use Rattle.pager_model.specs.Lookups.{block_of, entry_of}
-use Rattle.pager_model.specs.Maps.{Map, Mapped, page_behind, page_number, proc}
+use Rattle.pager_model.specs.Maps.{Map, Mapped, is_paged, page_behind, page_number}
 use Rattle.pager_model.specs.Pager.{Assigned, Pager}
 use Rattle.pager_model.specs.Run.{pager_after}
 use Rattle.pager_model.specs.Sets.{has_page}
 use Rattle.pager_model.specs.Sound.{HasCharges, IsPagedMapped}
 use Rattle.pager_model.specs.Spoken.{flat_after}
 use Rattle.pager_laws.proofs.FlatFollows.{follows}
-use Rattle.pager_laws.proofs.KeptIsSound.{kept_is_sound}
+use Rattle.pager_laws.proofs.KeptIsSound.{count_from_has, kept_is_sound}
+use Rattle.pager_laws.proofs.OfConfigKept.{charged_right}
 use Rattle.pager_rules.proofs.TouchedPages.{same_page_equiv, shorter_list}
 use Rattle.frame_store.specs.StoreView.{StoreView}
-use Rattle.state_parts.specs.ChargedTable.{charged_at}
+use Rattle.state_parts.specs.ChargedTable.{kept_at}
 use Rattle.page_holders.proofs.EntryPages.{mapped_right}
 use Rattle.state_fits.specs.Pages.{charged_row}
 use Rattle.state_fits.specs.Parts.{Parts}
 use Rattle.vm_state.specs.PageReadings.{found_in, found_with}
-use Rattle.page_states.specs.PagesShown.{HasWaiting, NoneWaits, is_touched_row, is_waiting}
+use Rattle.page_readers.specs.PagesShown.{HasWaiting, NoneShared, NoneWaits, is_touched_row, is_waiting}
 use Rattle.vm_state.specs.StateKept.{IsState}
-use Rattle.page_states.specs.declared.found.Found.{Found}
-use Rattle.vm_state.proofs.Closing.{kept, plain, right}
+use Rattle.page_readers.specs.declared.found.Found.{Found}
+use Rattle.vm_state.proofs.Closing.{kept, right}
 
--- ---- what is kept of a private page says whether it is touched
-touched_row : (charged touched : List Page) (lies : Page → Option BlockId) (assigned : List Assigned) (p v : ℕ) → (has_page touched (Private (proc p) v) ≡ true → has_page charged (Private (proc p) v) ≡ true)
-    → is_touched_row (charged_row charged touched lies assigned p v) ≡ has_page touched (Private (proc p) v)
+-- ---- what is kept of a page says whether it is touched
+touched_row : (charged touched : List Page) (lies : Page → Option BlockId) (assigned : List Assigned) (g : Page) → (has_page touched g ≡ true → has_page charged g ≡ true)
+    → is_touched_row (charged_row charged touched lies assigned g) ≡ has_page touched g
 unfolding charged_row
-touched_row charged touched lies assigned p v within = go (has_page charged (Private (proc p) v)) (has_page touched (Private (proc p) v)) within
+touched_row charged touched lies assigned g within = go (has_page charged g) (has_page touched g) within
   where
-    go : (b c : Bool) → (c ≡ true → b ≡ true) → is_touched_row (cond b (Some (record { touched = c; lies = lies (Private (proc p) v); assigned = block_of assigned (Private (proc p) v) })) None) ≡ c
+    go : (b c : Bool) → (c ≡ true → b ≡ true) → is_touched_row (cond b (Some (record { touched = c; lies = lies g; assigned = block_of assigned g })) None) ≡ c
     go true c is = refl
     go false false is = refl
     go false true is = absurd (false≢true (is refl))
 
-waiting_row : (charged touched : List Page) (lies : Page → Option BlockId) (assigned : List Assigned) (p v : ℕ)
-    → is_waiting (charged_row charged touched lies assigned p v) ≡ (has_page charged (Private (proc p) v) && not (has_page touched (Private (proc p) v)))
+waiting_row : (charged touched : List Page) (lies : Page → Option BlockId) (assigned : List Assigned) (g : Page)
+    → is_waiting (charged_row charged touched lies assigned g) ≡ (has_page charged g && not (has_page touched g))
 unfolding charged_row
-waiting_row charged touched lies assigned p v = go (has_page charged (Private (proc p) v))
+waiting_row charged touched lies assigned g = go (has_page charged g)
   where
-    go : (b : Bool) → is_waiting (cond b (Some (record { touched = has_page touched (Private (proc p) v); lies = lies (Private (proc p) v); assigned = block_of assigned (Private (proc p) v) })) None)
-        ≡ (b && not (has_page touched (Private (proc p) v)))
+    go : (b : Bool) → is_waiting (cond b (Some (record { touched = has_page touched g; lies = lies g; assigned = block_of assigned g })) None) ≡ (b && not (has_page touched g))
     go true = refl
     go false = refl
 
@@ -87,30 +90,43 @@ module _ {B : Type 0} {seen : B → BlockView} {tells : Tells} {config : Config}
 
   waits_fewer : HasWaiting fields.pages → length a.touched < length a.charged
   waits_fewer w =
-      let both = and_parts (has_page a.charged (Private (proc w.p) w.v)) (not (has_page a.touched (Private (proc w.p) w.v)))
-      (sym (waiting_row a.charged a.touched a.lies a.assigned w.p w.v) ∙ (ap is_waiting (sym (before.parts.pages.each w.p w.v)) ∙ w.waits)) in
-      shorter_list a.touched a.charged (Private (proc w.p) w.v) charges.touched_once charges.touched (not_true (has_page a.touched (Private (proc w.p) w.v)) both.1) both.0
+      let both = and_parts (has_page a.charged w.page) (not (has_page a.touched w.page))
+      (sym (waiting_row a.charged a.touched a.lies a.assigned w.page) ∙ (ap is_waiting (sym (before.parts.pages.each w.page)) ∙ w.waits)) in
+      shorter_list a.touched a.charged w.page charges.touched_once charges.touched (not_true (has_page a.touched w.page) both.1) both.0
     where
       not_true : (b : Bool) → not b ≡ true → b ≡ false
       not_true false is = refl
       not_true true is = absurd (false≢true is)
 
-  each_touched : ((p : ℕ) → p < length config.procs → NoneWaits fields.pages p) → (g : Page) → has_page a.charged g ≡ true → has_page a.touched g ≡ true
-  each_touched none g is = by g is ((kept_is_sound config past a (kept before)).contents.mapped g is)
+  -- what the search for a page that waits needs, and what it tells
+  pub few_sections : length config.sections < 2 ^ 32
+  few_sections = let few = before.formed.sections.few in omega (arith, few)
+
+  pub few_pages : All (λ (s : Section). section_pages s < 2 ^ 32) config.sections
+  few_pages k d below =
+      let one = get_or-le-sum_by section_pages config.sections k d below in
+      let most = before.formed.sections.pages in
+      omega (arith, one, most)
+
+  abbrev pub NoneWaitsAnywhere : Type 0
+  NoneWaitsAnywhere = ((p : ℕ) → p < length config.procs → NoneWaits fields.pages p) × ((s : ℕ) → s < length config.sections → NoneShared fields.pages config.sections s)
+
+  each_touched : NoneWaitsAnywhere → (g : Page) → has_page a.charged g ≡ true → has_page a.touched g ≡ true
+  each_touched none g is = both (has_page a.charged g) (has_page a.touched g) is (sym (waiting_row a.charged a.touched a.lies a.assigned g) ∙ (ap is_waiting (sym (before.parts.pages.each g)) ∙ still g is ((kept_is_sound config past a (kept before)).contents.mapped g is)))
     where
       both : (b c : Bool) → b ≡ true → (b && not c) ≡ false → c ≡ true
       both true true is row = refl
       both true false is row = absurd (true≢false row)
       both false c is row = absurd (false≢true is)
 
-      by : (h : Page) → has_page a.charged h ≡ true → IsPagedMapped config a h → has_page a.touched h ≡ true
-      by (Shared s i) there mapped = absurd (true≢false (sym mapped ∙ plain before s))
-      by (Private p v) there mapped =
+      still : (h : Page) → has_page a.charged h ≡ true → IsPagedMapped config a h → is_waiting (kept_at fields.pages h) ≡ false
+      still (Shared s i) there paged =
+          let of = (charged_right config a.charged (Shared s i) (count_from_has a.charged (Shared s i) there) (right before).charged).0 in
+          let kind : is_paged_kind (of.0).kind ≡ true = sym (ap paged_of of.1) ∙ paged in
+          none.1 s.0 (slice_get_within config.sections s.0 of.0 of.1) of.0 of.1 i (subst (λ (n : ℕ). i < n) (sym (ap (λ (b : Bool). cond b (section_pages of.0) 0) kind)) of.2)
+      still (Private p v) there mapped =
           let found = mapped_right config a p.0 v (Private p v) (right before) mapped in
-          let still : is_waiting (charged_at fields.pages p.0 v) ≡ false = none p.0 (found.3).process v (found.3).page in
-          let row : (has_page a.charged (Private p v) && not (has_page a.touched (Private p v))) ≡ false =
-          sym (waiting_row a.charged a.touched a.lies a.assigned p.0 v) ∙ (ap is_waiting (sym (before.parts.pages.each p.0 v)) ∙ still) in
-          both (has_page a.charged (Private p v)) (has_page a.touched (Private p v)) there row
+          none.0 p.0 (found.3).process v (found.3).page
 
   not_all : HasWaiting fields.pages → nat_eq (length flat.touched) config.pagefile ≡ false
   not_all w = ap (λ (xs : List Page). nat_eq (length xs) config.pagefile) (sym touched_is) ∙ ne_eqb _ _ (let less = waits_fewer w in let fit = (kept before).fit in λ same. omega (arith, less, fit, same))
@@ -122,23 +138,19 @@ module _ {B : Type 0} {seen : B → BlockView} {tells : Tells} {config : Config}
       eqb_apart : (m n : ℕ) → nat_eq m n ≡ false → m ≡ n → ⊥
       eqb_apart m n apart same = false≢true (sym apart ∙ eq-eqb m n same)
 
-  -- a shared page needs none
-  shared_needs_none : (s : SecId) (i : ℕ) → false ≡ is_page_file_full config flat (Shared s i)
-  shared_needs_none s i = ap (λ (b : Bool). (b && not (has_page flat.touched (Shared s i))) && nat_eq (length flat.touched) config.pagefile) (sym (plain before s))
-
-  pub shared_is : {s : SecId} {i : ℕ} (h : Page) → h ≡ Shared s i → false ≡ is_page_file_full config flat h
-  shared_is {s} {i} h is = shared_needs_none s i ∙ ap (is_page_file_full config flat) (sym is)
+  -- a page that isn't paged needs none
+  pub unpaged_is : (g : Page) (paged : Bool) → paged ≡ is_paged config g → paged ≡ false → false ≡ is_page_file_full config flat g
+  unpaged_is g paged is other = ap (λ (b : Bool). (b && not (has_page flat.touched g)) && nat_eq (length flat.touched) config.pagefile) (sym other ∙ is)
 
   -- while some block of the page file is free no page needs one in vain
-  pub blocks_left : (h : Page) (n : ℕ) → n ≡ length a.charged → n < config.pagefile → false ≡ is_page_file_full config flat h
-  blocks_left (Shared s i) n count less = shared_needs_none s i
-  blocks_left (Private p v) n count less = by (has_page flat.touched (Private p v)) (not_charged n count (ne_eqb _ _ (λ same. omega (arith, less, same))))
+  pub blocks_left : (g : Page) (n : ℕ) → n ≡ length a.charged → n < config.pagefile → false ≡ is_page_file_full config flat g
+  blocks_left g n count less = by (is_paged config g && not (has_page flat.touched g)) (not_charged n count (ne_eqb _ _ (λ same. omega (arith, less, same))))
     where
-      by : (b : Bool) → nat_eq (length flat.touched) config.pagefile ≡ false → false ≡ (not b && nat_eq (length flat.touched) config.pagefile)
-      by true is = refl
-      by false is = sym is
+      by : (b : Bool) → nat_eq (length flat.touched) config.pagefile ≡ false → false ≡ (b && nat_eq (length flat.touched) config.pagefile)
+      by true is = sym is
+      by false is = refl
 
-  pub all_is : (n : ℕ) → n ≡ length a.charged → nat_eq n config.pagefile ≡ true → (waits : Bool) → (waits ≡ true → HasWaiting fields.pages) → (waits ≡ false → (p : ℕ) → p < length config.procs → NoneWaits fields.pages p)
+  pub all_is : (n : ℕ) → n ≡ length a.charged → nat_eq n config.pagefile ≡ true → (waits : Bool) → (waits ≡ true → HasWaiting fields.pages) → (waits ≡ false → NoneWaitsAnywhere)
       → not waits ≡ nat_eq (length flat.touched) config.pagefile
   all_is n count full true some none = sym (not_all (some refl))
   all_is n count full false some none =
@@ -148,18 +160,25 @@ module _ {B : Type 0} {seen : B → BlockView} {tells : Tells} {config : Config}
       sym (ap (λ (xs : List Page). nat_eq (length xs) config.pagefile) (sym touched_is) ∙ eq-eqb _ _ (omega (arith, least, most, count, charged)))
 
   -- ---- whether a page needs a block of a full page file
-  pub touched_known : (p v : ℕ) → is_touched_row (charged_at fields.pages p v) ≡ has_page flat.touched (Private (proc p) v)
-  touched_known p v =
-      ap is_touched_row (before.parts.pages.each p v) ∙ (touched_row a.charged a.touched a.lies a.assigned p v (charges.touched (Private (proc p) v)) ∙ ap (λ (xs : List Page). has_page xs (Private (proc p) v)) touched_is)
+  touched_known : (g : Page) → is_touched_row (kept_at fields.pages g) ≡ has_page flat.touched g
+  touched_known g =
+      ap is_touched_row (before.parts.pages.each g) ∙ (touched_row a.charged a.touched a.lies a.assigned g (charges.touched g) ∙ ap (λ (xs : List Page). has_page xs g) touched_is)
 
-  pub full_private : (p : Proc) (v : ℕ) (touched all : Bool) → touched ≡ is_touched_row (charged_at fields.pages p.0 v) → touched ≡ false → all ≡ nat_eq (length flat.touched) config.pagefile
-      → all ≡ is_page_file_full config flat (Private p v)
-  full_private p v touched all is not_touched all_is =
-      all_is ∙ sym (ap (λ (b : Bool). not b && nat_eq (length flat.touched) config.pagefile) (sym (is ∙ touched_known p.0 v) ∙ not_touched))
+  abbrev full_by : Page → Bool → Bool → Bool
+  full_by g paged touched = (paged && not touched) && nat_eq (length flat.touched) config.pagefile
 
-  pub touched_private : (p : Proc) (v : ℕ) (touched : Bool) → touched ≡ is_touched_row (charged_at fields.pages p.0 v) → touched ≡ true → not touched ≡ is_page_file_full config flat (Private p v)
-  touched_private p v touched is was =
-      ap not was ∙ sym (ap (λ (b : Bool). not b && nat_eq (length flat.touched) config.pagefile) (sym (is ∙ touched_known p.0 v) ∙ was))
+  pub full_untouched : (g : Page) (paged : Bool) → paged ≡ is_paged config g → paged ≡ true → (touched all : Bool) → touched ≡ is_touched_row (kept_at fields.pages g) → touched ≡ false → all ≡ nat_eq (length flat.touched) config.pagefile
+      → all ≡ is_page_file_full config flat g
+  full_untouched g paged paged_is in_file touched all is not_touched same =
+      same ∙ (λ i. full_by g ((sym in_file ∙ paged_is) i) ((sym not_touched ∙ (is ∙ touched_known g)) i))
+
+  pub full_touched : (g : Page) (touched : Bool) → touched ≡ is_touched_row (kept_at fields.pages g) → touched ≡ true → not touched ≡ is_page_file_full config flat g
+  full_touched g touched is was = ap not was ∙ sym (by (is_paged config g) (has_page flat.touched g) (sym (is ∙ touched_known g) ∙ was))
+    where
+      by : (b c : Bool) → c ≡ true → full_by g b c ≡ false
+      by true true is = refl
+      by false c is = refl
+      by true false is = absurd (false≢true is)
 
   -- ---- the refusal, by what is found
   pub unmapped_is : (p : ℕ) (r : Ref) → None ≡ found_in config a p (page_number (r.addr).0) → Some why.Unmapped ≡ flat_refusal config flat p r

@@ -1,5 +1,5 @@
 -- OUTFAIL closes, and its calls may be made.
-use Rattle.std.proofs.Common.{◌≡◌, ℕ, ◌+◌, ◌-◌, ◌≤◌, ◌<◌, true, List, ◌∷◌, Option, Some, None, length, slice_get, slice_set, refl, sym, ap, subst, subst₂, arith}
+use Rattle.std.proofs.Common.{◌≡◌, ℕ, ◌+◌, ◌-◌, ◌≤◌, ◌<◌, true, List, ◌∷◌, Option, Some, None, length, slice_get, slice_set, refl, sym, ap, ◌∙◌, subst, subst₂, arith}
 use Rattle.vm_types.specs.BlockView.{BlockView, Tells}
 use Rattle.vm_types.specs.declared.config.Config.{Config}
 use Rattle.vm_types.specs.declared.names.BlockId.{BlockId}
@@ -7,7 +7,7 @@ use Rattle.vm_types.specs.declared.names.Pfn.{Pfn}
 use Rattle.vm_types.specs.declared.names.Seat.{Seat}
 use Rattle.vm_journal.specs.declared.entry.Entry.{Entry}
 use Rattle.vm_journal.specs.declared.entry.What.TheVariants as what
-use Rattle.pfn_database.specs.Frames.{Frames}
+use Rattle.pfn_database.specs.Frames.{Frames, row_of}
 use Rattle.pager_model.specs.Fits.{bad}
 use Rattle.pager_model.specs.Flights.{open_flights, without_flight}
 use Rattle.pager_model.specs.Pager.{Pager}
@@ -20,6 +20,7 @@ use Rattle.frame_store.specs.declared.lift.Carried.TheVariants.{Bad}
 use Rattle.state_fits.specs.Parts.{Parts}
 use Rattle.state_fits.proofs.OutLandingCan.{CanEndWrite, can_end_write}
 use Rattle.state_fits.proofs.OutLandingParts.{IsLandingDone, landing_on, out_fail_parts}
+use Rattle.state_fits.proofs.OutParts.{row_page}
 use Rattle.state_fits.proofs.WriteLanded.{IsWrittenOn}
 use Rattle.vm_state.specs.History.{owed}
 use Rattle.lift_carriers.specs.LiftsFit.{LiftFits, result_of}
@@ -37,11 +38,15 @@ module _ {B : Type 0} {seen : B → BlockView} {tells : Tells} {config : Config}
   there : seat.0 < length config.procs + 2
   there = let few = legal.line.seat in omega (arith, few)
 
-  on : IsWrittenOn config a (open_flights past) (without_flight lift.start (open_flights past)) legal.row.write.flight lift.frame
+  pub on : IsWrittenOn config a (open_flights past) (without_flight lift.start (open_flights past)) legal.row.write.flight lift.frame
   on = landing_on config past a seat (record { 0 = lift.frame }) lift.start legal.row.write.flight (kept before) legal.row.write.lands legal.row.write.writes there fields before.parts
 
   pub can : CanEndWrite fields seat.0 lift.frame
   can = can_end_write config past a seat (record { 0 = lift.frame }) lift.start legal.row.write.flight before.formed (kept before) (right before) legal.row.write.lands legal.row.write.writes there fields before.parts
+
+  -- the page that the frame holds
+  pub holds : (h : ℕ) → h ≡ lift.frame → (row_of fields.frames h).page ≡ Some on.page
+  holds h is = ap (λ (x : ℕ). (row_of fields.frames x).page) is ∙ (row_page config past a seat (record { 0 = lift.frame }) (kept before) fields before.parts ∙ on.holds)
 
   pub frame_there : lift.frame < length store.buffers
   frame_there = land.frame_there before seat lift fits legal.row.write.flight legal.row.write.lands legal.row.write.writes on.within
@@ -53,7 +58,7 @@ module _ {B : Type 0} {seen : B → BlockView} {tells : Tells} {config : Config}
     -- with the names of the frame and of the transfer's start
     abbrev Closes : BlockId → ℕ → ℕ → Type 0
     Closes b f k =
-        IsLandingDone fields seat.0 f b true frames' n fields.pages fields.swaps
+        IsLandingDone fields seat.0 f b on.page true frames' n fields.pages fields.swaps
         → IsState seen tells config (record { seat = seat; what = what.OutFail (record { 0 = f }) k c d } ∷ past) (spare - 1) store'
         (record fields { frames = store'.frames; starts = store'.flights; roles = slice_set fields.roles f None; busy = slice_set fields.busy seat.0 (n - 1); in_flight = fields.in_flight - 1 }) numbers
 
@@ -65,7 +70,7 @@ module _ {B : Type 0} {seen : B → BlockView} {tells : Tells} {config : Config}
         (land.store_after before seat lift fits its.flight its.lands its.writes on.within frames')
         (record fields { frames = frames'; starts = slice_set starts lift.frame None; roles = slice_set fields.roles lift.frame None; busy = slice_set fields.busy seat.0 (n - 1); in_flight = fields.in_flight - 1 }) numbers) same
         (closed before (record { seat = seat; what = what.OutFail (record { 0 = lift.frame }) lift.start c d }) (λ told. tt) legal paid (land.store_after before seat lift fits its.flight its.lands its.writes on.within frames') _
-        (out_fail_parts config past a seat (record { 0 = lift.frame }) lift.start (kept before) fields before.parts c d legal frames' n fields.pages fields.swaps done)
+        (out_fail_parts config past a seat (record { 0 = lift.frame }) lift.start (kept before) fields before.parts c d legal on.page frames' n fields.pages fields.swaps done)
         (refl, land.brings before seat lift fits its.flight its.lands its.writes on.within frames' (bad c d) (ap result_of ended))
         (land.places before seat lift fits its.flight its.lands its.writes on.within frames')))
 

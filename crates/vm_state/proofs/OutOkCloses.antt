@@ -1,8 +1,10 @@
 -- OUTOK closes, and its calls may be made.
-use Rattle.std.proofs.Common.{◌≡◌, ℕ, ◌+◌, ◌-◌, ◌≤◌, ◌<◌, false, List, ◌∷◌, Option, Some, None, length, slice_get, slice_set, refl, sym, ap, subst, subst₂, arith}
+use Rattle.std.proofs.Common.{◌≡◌, ℕ, ◌+◌, ◌-◌, ◌≤◌, ◌<◌, false, List, ◌∷◌, Option, Some, None, length, slice_get, slice_set, refl, sym, ap, ◌∙◌, subst, subst₂, arith}
+use Rattle.std.specs.Prelude.{IsSome, is_some}
 use Rattle.vm_types.specs.BlockView.{BlockView, Tells}
 use Rattle.vm_types.specs.declared.config.Config.{Config}
 use Rattle.vm_types.specs.declared.names.BlockId.{BlockId}
+use Rattle.vm_types.specs.declared.names.Page.{Page}
 use Rattle.vm_types.specs.declared.names.Pfn.{Pfn}
 use Rattle.vm_types.specs.declared.names.Seat.{Seat}
 use Rattle.vm_journal.specs.declared.entry.Entry.{Entry}
@@ -18,12 +20,13 @@ use Rattle.frame_store.specs.Blocks.{number_in}
 use Rattle.frame_store.specs.LiftView.{LiftView}
 use Rattle.frame_store.specs.StoreView.{StoreView, landed}
 use Rattle.frame_store.specs.declared.lift.Carried.TheVariants.{Good}
-use Rattle.state_parts.specs.ChargedTable.{ChargedTable, charged_at}
+use Rattle.state_parts.specs.ChargedTable.{ChargedTable, IsTableSet, kept_at}
 use Rattle.state_parts.specs.SwapTable.{SwapTable, swapped_at}
 use Rattle.state_fits.specs.Parts.{Parts}
-use Rattle.state_fits.specs.Writes.{page_landed, swaps_landed}
+use Rattle.state_fits.specs.Writes.{landed_row, swaps_landed}
 use Rattle.state_fits.proofs.OutLandingCan.{CanEndWrite, CanLieIn, can_end_write, can_lie_in}
 use Rattle.state_fits.proofs.OutLandingParts.{IsLandingDone, landing_on, out_ok_parts}
+use Rattle.state_fits.proofs.OutParts.{row_page}
 use Rattle.state_fits.proofs.WriteLanded.{IsWrittenOn}
 use Rattle.write_moves.specs.Moves.{MayLie}
 use Rattle.write_moves.proofs.MayMove.{may_lie}
@@ -34,13 +37,12 @@ use Rattle.vm_state.proofs.Closing.{closed, kept, right}
 use Rattle.vm_state.proofs.WriteLands as land
 
 -- the page and the swap blocks after it, with the row that was read before, and the block's name
-pub pages_after : (pages pages' : ChargedTable) (row r : Row) → row ≡ r → (c b : BlockId) → c ≡ b → ((q w : ℕ) → charged_at pages' q w ≡ page_landed row.modify row.page c (charged_at pages) q w)
-    → (q w : ℕ) → charged_at pages' q w ≡ page_landed r.modify r.page b (charged_at pages) q w
-pages_after pages pages' row r read c b named now = subst₂ (λ (x : Row) (d : BlockId). (q w : ℕ) → charged_at pages' q w ≡ page_landed x.modify x.page d (charged_at pages) q w) read named now
+pub pages_after : (pages pages' : ChargedTable) (g : Page) (row r : Row) → row ≡ r → (c b : BlockId) → c ≡ b → IsTableSet pages pages' g (landed_row row.modify c (kept_at pages g)) → IsTableSet pages pages' g (landed_row r.modify b (kept_at pages g))
+pages_after pages pages' g row r read c b named now = subst₂ (λ (x : Row) (d : BlockId). IsTableSet pages pages' g (landed_row x.modify d (kept_at pages g))) read named now
 
-pub swaps_after : (pages : ChargedTable) (swaps swaps' : SwapTable) (row r : Row) → row ≡ r → (c b : BlockId) → c ≡ b → ((q m : ℕ) → swapped_at swaps' q m ≡ swaps_landed row.modify row.page c (charged_at pages) (swapped_at swaps) q m)
-    → (q m : ℕ) → swapped_at swaps' q m ≡ swaps_landed r.modify r.page b (charged_at pages) (swapped_at swaps) q m
-swaps_after pages swaps swaps' row r read c b named now = subst₂ (λ (x : Row) (d : BlockId). (q m : ℕ) → swapped_at swaps' q m ≡ swaps_landed x.modify x.page d (charged_at pages) (swapped_at swaps) q m) read named now
+pub swaps_after : (pages : ChargedTable) (swaps swaps' : SwapTable) (g : Page) (row r : Row) → row ≡ r → (c b : BlockId) → c ≡ b → ((q m : ℕ) → swapped_at swaps' q m ≡ swaps_landed row.modify g c (kept_at pages g) (swapped_at swaps) q m)
+    → (q m : ℕ) → swapped_at swaps' q m ≡ swaps_landed r.modify g b (kept_at pages g) (swapped_at swaps) q m
+swaps_after pages swaps swaps' g row r read c b named now = subst₂ (λ (x : Row) (d : BlockId). (q m : ℕ) → swapped_at swaps' q m ≡ swaps_landed x.modify g d (kept_at pages g) (swapped_at swaps) q m) read named now
 
 module _ {B : Type 0} {seen : B → BlockView} {tells : Tells} {config : Config} {past : List Entry} {spare : ℕ} {store : StoreView B} {fields : Parts} {numbers : List ℕ}
     (before : IsState seen tells config past spare store fields numbers) (seat : Seat) (lift : LiftView B)
@@ -58,12 +60,17 @@ module _ {B : Type 0} {seen : B → BlockView} {tells : Tells} {config : Config}
   pub can : CanEndWrite fields seat.0 lift.frame
   can = can_end_write config past a seat (record { 0 = lift.frame }) lift.start legal.row.flight before.formed (kept before) (right before) legal.row.lands legal.row.writes there fields before.parts
 
-  pub may : (row : Row) → row ≡ row_of fields.frames lift.frame → (c : BlockId) → c ≡ lift.block → MayLie fields.pages fields.swaps row.page c
-  may row read c named =
-      subst₂ (λ (r : Row) (b : BlockId). MayLie fields.pages fields.swaps r.page b) (sym read) (sym named)
-      (may_lie fields (row_of fields.frames lift.frame).page lift.block
-      (λ p v page. subst (λ (b : BlockId). CanLieIn fields b p v) (land.block_is before seat lift fits legal.row.flight legal.row.lands legal.row.writes on.within)
-      (can_lie_in config past a seat (record { 0 = lift.frame }) lift.start legal.row.flight before.formed (kept before) (right before) legal.row.lands legal.row.writes there fields before.parts p v page)))
+  -- the frame holds a page
+  pub held : (row : Row) → row ≡ row_of fields.frames lift.frame → IsSome row.page
+  held row read = subst (λ (r : Row). IsSome r.page) (sym read) (ap is_some (row_page config past a seat (record { 0 = lift.frame }) (kept before) fields before.parts ∙ on.holds))
+
+  pub may : (row : Row) → row ≡ row_of fields.frames lift.frame → (g : Page) → row.page ≡ Some g → (c : BlockId) → c ≡ lift.block → MayLie fields.pages fields.swaps g c
+  may row read g page c named =
+      subst (MayLie fields.pages fields.swaps g) (sym named)
+      (may_lie fields g lift.block
+      (λ p v is. subst (λ (b : BlockId). CanLieIn fields b p v) (land.block_is before seat lift fits legal.row.flight legal.row.lands legal.row.writes on.within)
+      (can_lie_in config past a seat (record { 0 = lift.frame }) lift.start legal.row.flight before.formed (kept before) (right before) legal.row.lands legal.row.writes there fields before.parts p v
+      (ap (λ (r : Row). r.page) (sym read) ∙ (page ∙ ap Some is)))))
 
   pub frame_there : lift.frame < length store.buffers
   frame_there = land.frame_there before seat lift fits legal.row.flight legal.row.lands legal.row.writes on.within
@@ -71,11 +78,11 @@ module _ {B : Type 0} {seen : B → BlockView} {tells : Tells} {config : Config}
   pub block_out : slice_get store.blocks (number_in store.ids lift.block) ≡ Some None
   block_out = land.block_out before seat lift fits legal.row.flight legal.row.lands legal.row.writes on.within
 
-  module _ (frames' : Frames) (store' : StoreView B) (landed_is : store' ≡ landed (record store { frames = frames' }) lift) (n : ℕ) (same : fields.starts ≡ store.flights) (pages' : ChargedTable) (swaps' : SwapTable) where
+  module _ (frames' : Frames) (store' : StoreView B) (landed_is : store' ≡ landed (record store { frames = frames' }) lift) (n : ℕ) (same : fields.starts ≡ store.flights) (pages' : ChargedTable) (swaps' : SwapTable) (g : Page) where
     -- with the names of the block, of the frame and of the transfer's start
     abbrev Closes : BlockId → ℕ → ℕ → Type 0
     Closes b f k =
-        IsLandingDone fields seat.0 f b false frames' n pages' swaps'
+        IsLandingDone fields seat.0 f b g false frames' n pages' swaps'
         → IsState seen tells config (record { seat = seat; what = what.OutOk (record { 0 = f }) k } ∷ past) (spare - 1) store'
         (record fields { frames = store'.frames; starts = store'.flights; roles = slice_set fields.roles f None; pages = pages'; swaps = swaps'; busy = slice_set fields.busy seat.0 (n - 1); in_flight = fields.in_flight - 1 }) numbers
 
@@ -87,7 +94,7 @@ module _ {B : Type 0} {seen : B → BlockView} {tells : Tells} {config : Config}
         (land.store_after before seat lift fits its.flight its.lands its.writes on.within frames')
         (record fields { frames = frames'; starts = slice_set starts lift.frame None; roles = slice_set fields.roles lift.frame None; pages = pages'; swaps = swaps'; busy = slice_set fields.busy seat.0 (n - 1); in_flight = fields.in_flight - 1 }) numbers) same
         (closed before (record { seat = seat; what = what.OutOk (record { 0 = lift.frame }) lift.start }) (λ told. tt) legal paid (land.store_after before seat lift fits its.flight its.lands its.writes on.within frames') _
-        (out_ok_parts config past a seat (record { 0 = lift.frame }) lift.start (kept before) fields before.parts legal frames' n pages' swaps' done)
+        (out_ok_parts config past a seat (record { 0 = lift.frame }) lift.start (kept before) fields before.parts legal g frames' n pages' swaps' done)
         (refl, land.brings before seat lift fits its.flight its.lands its.writes on.within frames' good (ap result_of ended))
         (land.places before seat lift fits its.flight its.lands its.writes on.within frames')))
 

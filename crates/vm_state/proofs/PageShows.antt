@@ -1,7 +1,7 @@
 -- What the readers of pages show is what the parts stand for.
-use Rattle.std.proofs.Common.{◌≡◌, ℕ, ◌+◌, ◌<◌, ◌≤◌, Bool, true, false, List, Option, Some, None, nat_lt, slice_index, ◌⊎◌, inl, inr, refl, sym, ap, ◌∙◌, arith}
+use Rattle.std.proofs.Common.{◌≡◌, ℕ, ◌+◌, ◌<◌, Bool, true, false, cond, List, Option, Some, None, nat_lt, slice_index, refl, sym, ap, ◌∙◌, arith}
 use Rattle.std.specs.Option.{is_some, option_map}
-use Rattle.std.proofs.lemmas.Bool.{cases_lt, eqb-true, false≢true, lt-ltb, true≢false}
+use Rattle.std.proofs.lemmas.Bool.{eqb-true, false≢true, lt-ltb}
 use Rattle.std.proofs.lemmas.Option.{get_or_from_slice_get, none-some}
 use Rattle.vm_types.specs.BlockView.{BlockView, Tells}
 use Rattle.vm_types.specs.Same.{same_page}
@@ -26,7 +26,7 @@ use Rattle.pager_model.specs.Around.{past_view}
 use Rattle.pager_model.specs.Forget.{holder}
 use Rattle.pager_model.specs.Given.{pfn}
 use Rattle.pager_model.specs.Lookups.{block_of, count_page, entry_of, is_assigned_to, is_of}
-use Rattle.pager_model.specs.Maps.{Map, Mapped, page_behind, proc}
+use Rattle.pager_model.specs.Maps.{Map, Mapped, is_paged, page_behind, proc}
 use Rattle.pager_model.specs.Pager.{Assigned, Pager, Valid}
 use Rattle.pager_model.specs.Run.{pager_after}
 use Rattle.pager_model.specs.Sets.{has_page}
@@ -36,7 +36,7 @@ use Rattle.pager_rules.proofs.Basics.{count_from_no_find, find_none_from_count, 
 use Rattle.pager_rules.proofs.Lists.{count_found, found_one, found_passes}
 use Rattle.pager_rules.proofs.Put.{blocks_equal}
 use Rattle.frame_store.specs.StoreView.{StoreView}
-use Rattle.state_parts.specs.ChargedTable.{charged_at}
+use Rattle.state_parts.specs.ChargedTable.{kept_at}
 use Rattle.state_parts.specs.SwapTable.{swapped_at}
 use Rattle.state_parts.specs.declared.charged_page.ChargedPage.{ChargedPage}
 use Rattle.page_holders.proofs.EntryPages.{entry_page, mapped_there}
@@ -47,12 +47,12 @@ use Rattle.state_fits.specs.Parts.{Parts}
 use Rattle.state_fits.proofs.KnownEntries.{pte_known}
 use Rattle.vm_types.specs.Configuration.{IsSectionPage}
 use Rattle.vm_state.specs.PageReadings.{backing_in, found_in, found_with, frame_of}
-use Rattle.page_states.specs.PagesShown.{found_shown, frame_named, is_valid, own_backing}
-use Rattle.page_states.specs.Shown.{frame_by, frame_entry}
+use Rattle.page_readers.specs.PagesShown.{found_shown, frame_named, is_valid, own_backing, shared_backing, shared_home}
+use Rattle.page_readers.specs.Shown.{frame_by, frame_entry}
 use Rattle.vm_state.specs.StateKept.{IsState}
-use Rattle.page_states.specs.declared.found.Backing.{Backing}
-use Rattle.page_states.specs.declared.found.Found.{Found}
-use Rattle.vm_state.proofs.Closing.{kept, plain}
+use Rattle.page_readers.specs.declared.found.Backing.{Backing}
+use Rattle.page_readers.specs.declared.found.Found.{Found}
+use Rattle.vm_state.proofs.Closing.{kept}
 use Rattle.vm_state.proofs.Numbered.{has_number}
 
 -- ---- the place of a page whose entry isn't valid
@@ -166,12 +166,12 @@ module _ {B : Type 0} {seen : B → BlockView} {tells : Tells} {config : Config}
       let blocks = ((kept before).pages g).blocks in
       ap (option_map (λ (x : Assigned). x.block)) (find_none_from_count (is_assigned_to g) a.assigned (omega (arith, blocks, none)))
 
-  lies_nowhere : (p v : ℕ) → count_page a.charged (Private (proc p) v) ≡ 0 → a.lies (Private (proc p) v) ≡ None
-  lies_nowhere p v none = go (a.lies (Private (proc p) v)) refl
+  lies_nowhere : (g : Page) → is_paged config g ≡ true → count_page a.charged g ≡ 0 → a.lies g ≡ None
+  lies_nowhere g paged none = go (a.lies g) refl
     where
-      go : (o : Option BlockId) → a.lies (Private (proc p) v) ≡ o → a.lies (Private (proc p) v) ≡ None
+      go : (o : Option BlockId) → a.lies g ≡ o → a.lies g ≡ None
       go None is = is
-      go (Some b) is = let one = ((kept before).pages (Private (proc p) v)).lying b refl is in absurd (omega (arith, one, none))
+      go (Some b) is = let one = ((kept before).pages g).lying b paged is in absurd (omega (arith, one, none))
 
   held_nowhere : (p v : ℕ) → count_page a.charged (Private (proc p) v) ≡ 0 → holder config a.page (Private (proc p) v) ≡ None
   held_nowhere p v none =
@@ -191,7 +191,7 @@ module _ {B : Type 0} {seen : B → BlockView} {tells : Tells} {config : Config}
           holder_there config (past_view past) a (Private (proc p) v) e.frame (kept before) (page.2 ∙ mine)
 
   own_shows : (p v : ℕ) (b : Bool) → has_page a.charged (Private (proc p) v) ≡ b
-      → own_backing (charged_row a.charged a.touched a.lies a.assigned p v) (pte_of config a.map a.valid a.page a.lies p v) ≡ backing_in config a (Private (proc p) v)
+      → own_backing (charged_row a.charged a.touched a.lies a.assigned (Private (proc p) v)) (pte_of config a.map a.valid a.page a.lies p v) ≡ backing_in config a (Private (proc p) v)
   unfolding charged_row
   own_shows p v true is =
       let some = count_from_has a.charged (Private (proc p) v) is in
@@ -200,29 +200,42 @@ module _ {B : Type 0} {seen : B → BlockView} {tells : Tells} {config : Config}
   own_shows p v false is =
       let none = none_from_has a.charged (Private (proc p) v) is in
       rw is (backings_equal false None (a.lies (Private (proc p) v)) None (block_of a.assigned (Private (proc p) v)) None _ _
-      (sym (ap (nat_lt 0) none)) (sym (lies_nowhere p v none)) (sym (none_assigned (Private (proc p) v) none)) (ap (option_map pfn) (sym (held_nowhere p v none))))
+      (sym (ap (nat_lt 0) none)) (sym (lies_nowhere (Private (proc p) v) refl none)) (sym (none_assigned (Private (proc p) v) none)) (ap (option_map pfn) (sym (held_nowhere p v none))))
 
-  pub own_is : (p v : ℕ) (row : Option ChargedPage) (entry : Option Pte) → row ≡ charged_at fields.pages p v → entry ≡ pte_in fields.tables p v → own_backing row entry ≡ backing_in config a (Private (proc p) v)
+  pub own_is : (p v : ℕ) (row : Option ChargedPage) (entry : Option Pte) → row ≡ kept_at fields.pages (Private (proc p) v) → entry ≡ pte_in fields.tables p v → own_backing row entry ≡ backing_in config a (Private (proc p) v)
   own_is p v row entry charged there =
-      (λ i. own_backing ((charged ∙ before.parts.pages.each p v) i) ((there ∙ before.parts.tables.each p v) i)) ∙ own_shows p v (has_page a.charged (Private (proc p) v)) refl
-
-  -- ---- a shared page lies in its section's block, and is never charged
-  not_charged : (s : SecId) (i : ℕ) → count_page a.charged (Shared s i) ≡ 0
-  not_charged s i = go (cases_lt 0 (count_page a.charged (Shared s i)))
-    where
-      go : (0 < count_page a.charged (Shared s i)) ⊎ (count_page a.charged (Shared s i) ≤ 0) → count_page a.charged (Shared s i) ≡ 0
-      go (inl some) = absurd (true≢false (sym (((kept before).pages (Shared s i)).paged some) ∙ plain before s))
-      go (inr none) = omega (arith, none)
+      (λ i. own_backing ((charged ∙ before.parts.pages.each (Private (proc p) v)) i) ((there ∙ before.parts.tables.each p v) i)) ∙ own_shows p v (has_page a.charged (Private (proc p) v)) refl
 
   -- the number of a section's page follows from that of the section's first
   pub number_is : (s i : ℕ) → IsSectionPage config.sections s i → slice_index numbers s + i ≡ section_page_number config s i
   number_is s i there = ap (λ (n : ℕ). n + i) (get_or_from_slice_get numbers s (section_page_number config s 0) 0 (has_number before s i there).first) ∙ (let e : section_page_number config s 0 + i ≡ section_page_number config s i = omega arith in e)
 
-  pub shared_is : (s : SecId) (i : ℕ) (frame : Option Pfn) → IsSectionPage config.sections s.0 i → frame ≡ global_frame fields.globals (section_page_number config s.0 i)
-      → ◌≡◌ {A = Backing} (record { charged = false; lies = Some (block.Section s i); assigned = None; frame = frame }) (backing_in config a (Shared s i))
-  shared_is s i frame there is =
-      backings_equal false (Some (block.Section s i)) (a.lies (Shared s i)) None (block_of a.assigned (Shared s i)) frame (option_map pfn (holder config a.page (Shared s i))) _
-      (sym (ap (nat_lt 0) (not_charged s i))) (sym (((kept before).pages (Shared s i)).shared s i refl (plain before s))) (sym (none_assigned (Shared s i) (not_charged s i))) (is ∙ before.parts.globals.frames s i there)
+  -- a shared page that isn't charged lies in its section's block, or nowhere if the section is in the page file
+  home_is : (s : SecId) (i : ℕ) → count_page a.charged (Shared s i) ≡ 0 → shared_home config s i ≡ a.lies (Shared s i)
+  home_is s i none = go (is_paged config (Shared s i)) refl
+    where
+      go : (b : Bool) → is_paged config (Shared s i) ≡ b → cond b None (Some (block.Section s i)) ≡ a.lies (Shared s i)
+      go true paged = sym (lies_nowhere (Shared s i) paged none)
+      go false filed = sym (((kept before).pages (Shared s i)).shared s i refl filed)
+
+  shared_shows : (s : SecId) (i : ℕ) (frame : Option Pfn) → frame ≡ option_map pfn (holder config a.page (Shared s i)) → (b : Bool) → has_page a.charged (Shared s i) ≡ b
+      → shared_backing (charged_row a.charged a.touched a.lies a.assigned (Shared s i)) (shared_home config s i) frame ≡ backing_in config a (Shared s i)
+  unfolding charged_row
+  shared_shows s i frame there true is =
+      let some = count_from_has a.charged (Shared s i) is in
+      rw is (backings_equal true (a.lies (Shared s i)) (a.lies (Shared s i)) (block_of a.assigned (Shared s i)) (block_of a.assigned (Shared s i)) _ _ _
+      (sym (lt-ltb 0 (count_page a.charged (Shared s i)) some)) refl refl there)
+  shared_shows s i frame there false is =
+      let none = none_from_has a.charged (Shared s i) is in
+      rw is (backings_equal false (shared_home config s i) (a.lies (Shared s i)) None (block_of a.assigned (Shared s i)) _ _ _
+      (sym (ap (nat_lt 0) none)) (home_is s i none) (sym (none_assigned (Shared s i) none)) there)
+
+  pub shared_is : (s : SecId) (i : ℕ) (row : Option ChargedPage) (home : Option BlockId) (frame : Option Pfn) → IsSectionPage config.sections s.0 i
+      → row ≡ kept_at fields.pages (Shared s i) → home ≡ shared_home config s i → frame ≡ global_frame fields.globals (section_page_number config s.0 i)
+      → shared_backing row home frame ≡ backing_in config a (Shared s i)
+  shared_is s i row home frame there row_is home_is is =
+      (λ k. shared_backing ((row_is ∙ before.parts.pages.each (Shared s i)) k) (home_is k) frame)
+      ∙ shared_shows s i frame (is ∙ before.parts.globals.frames s i there) (has_page a.charged (Shared s i)) refl
 
   -- ---- the page that lies in a swap block
   lies_at : (g : Page) (p n : ℕ) → lies_in (a.lies g) (block.Swap (proc p) n) ≡ true → a.lies g ≡ Some (block.Swap (proc p) n)

@@ -135,4 +135,5 @@ module _ {B : Type 0} {seen : B → BlockView} {tells : Tells} {config : Config}
           let writes_same = count_removed_no is_writing (starts lift.start) (open_flights past) x lands.open_k (starts_once past lift.start) (ap (λ d. not (is_reading d)) its_role) in
           omega (arith, few, writes_same));
       firsts = before.places.firsts;
+      size = before.places.size;
     }

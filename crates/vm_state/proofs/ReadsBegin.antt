@@ -60,7 +60,7 @@ use Rattle.state_fits.proofs.FirstNumbers as first
 use Rattle.state_fits.proofs.InCan.{CanFault, CanRead, can_fault, can_read}
 use Rattle.state_fits.proofs.InParts.{IsReadBegun, IsReadable, come_readable, fault_readable_as, in_come_parts, in_fault_parts, in_near_parts, lying_readable}
 use Rattle.state_fits.proofs.MappedPages.{page_shown}
-use Rattle.page_states.specs.ReadStarts.{ChargesFault, CountsFault, MayChargeFault, MayCountFault, page_read}
+use Rattle.page_readers.specs.ReadStarts.{ChargesFault, CountsFault, MayChargeFault, MayCountFault, page_read}
 use Rattle.vm_state.specs.History.{owed}
 use Rattle.lift_carriers.specs.LiftsFit.{LiftFits, lift_seen}
 use Rattle.vm_state.specs.StateKept.{IsState, IsStoreOf, home_in}
@@ -258,7 +258,7 @@ module _ {B : Type 0} {seen : B → BlockView} {tells : Tells} {config : Config}
             → PartsFit config (entry r' ∷ past) (after config past a (entry r')) (after_parts r' (slice_set fields.starts f.0 (Some (length past + 1))))
         parts_by (role.Fault q address) legal' page' moved counts charges =
             rw counts.2 (in_fault_parts config past a seat f d q address before.formed (kept before) (right before) legal' fields before.parts x (shown q address x page') frames' tables' globals' moved
-            counts.0 (sym (get_or_from_slice_get fields.processes q.0 counts.0 counts.0 counts.1)) pages' charges.procs charges.rows file' charges.charge n read)
+            counts.0 (sym (get_or_from_slice_get fields.processes q.0 counts.0 counts.0 counts.1)) pages' charges.rows file' charges.charge n read)
         parts_by (role.Near g) legal' page' moved counts charges =
             let same : g ≡ x = same_Some _ _ page' in
             rw (counts, charges.0, charges.1) (in_near_parts config past a seat f d g before.formed (kept before) (right before) legal' fields before.parts frames' tables' globals' (subst (λ (h : Page). IsReadBegun config fields f.0 h frames' tables' globals') (sym same) moved) n read)
@@ -285,6 +285,7 @@ module _ {B : Type 0} {seen : B → BlockView} {tells : Tells} {config : Config}
           blocks = length-set store.blocks (number_in store.ids d) None ∙ before.places.blocks;
           left = before.places.left;
           firsts = before.places.firsts;
+          size = before.places.size;
         }
 
         closes_here : fields.starts ≡ store.flights → owed (e ∷ past) + 1 ≤ spare → IsReadBegun config fields f.0 x frames' tables' globals' → CountsFault r fields.processes rows' → ChargesFault r x fields.pages pages' fields.file file'

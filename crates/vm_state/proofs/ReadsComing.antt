@@ -33,18 +33,18 @@ use Rattle.pager_model.specs.Step.{IsLegal}
 use Rattle.frame_store.specs.LiftView.{LiftView}
 use Rattle.frame_store.specs.StoreView.{StoreView, landed}
 use Rattle.frame_store.specs.declared.lift.Carried.TheVariants.{Good}
-use Rattle.state_parts.specs.ChargedTable.{ChargedTable, charged_at}
+use Rattle.state_parts.specs.ChargedTable.{ChargedTable, kept_at}
 use Rattle.state_parts.specs.SwapTable.{SwapTable, swapped_at}
 use Rattle.state_parts.specs.declared.charged_page.ChargedPage.{ChargedPage}
 use Rattle.state_parts.specs.declared.process_row.ProcessRow.{ProcessRow}
 use Rattle.state_fits.specs.Parts.{Parts}
 use Rattle.state_fits.proofs.InOkParts.{come_lies, in_ok_come_parts}
 use Rattle.state_fits.proofs.LandingCan.{CanComeIn, can_clear, can_come_in, can_put_in_slot, its_page}
-use Rattle.state_fits.proofs.LiesNowhere.{charged_there}
+use Rattle.state_fits.proofs.ChargedRows.{charged_is as row_charged}
 use Rattle.vm_state.specs.History.{owed}
 use Rattle.lift_carriers.specs.LiftsFit.{LiftFits, result_of}
 use Rattle.vm_state.specs.ReadRoles.{IsReadAs}
-use Rattle.page_states.specs.RingSlots.{CanComeHome, HasComeHome}
+use Rattle.page_readers.specs.RingSlots.{CanComeHome, HasComeHome}
 use Rattle.vm_state.specs.StateKept.{IsState}
 use Rattle.vm_state.proofs.Closing.{closed, kept, right}
 use Rattle.vm_state.proofs.InOkCloses as ended
@@ -83,11 +83,11 @@ module _ {B : Type 0} {seen : B → BlockView} {tells : Tells} {config : Config}
   charged : ChargedPage
   charged = record { touched = has_page a.touched (Private q v); lies = a.lies (Private q v); assigned = block_of a.assigned (Private q v) }
 
-  charged_is : charged_at fields.pages q.0 v ≡ Some charged
+  charged_is : kept_at fields.pages (Private q v) ≡ Some charged
   unfolding charged
   charged_is =
       let one = ((kept before).pages (Private q v)).lying _ refl lies in
-      before.parts.pages.each q.0 v ∙ charged_there a.charged a.touched a.lies a.assigned q.0 v (has_from_count a.charged (Private q v) (omega (arith, one)))
+      before.parts.pages.each (Private q v) ∙ row_charged a.charged a.touched a.lies a.assigned (Private q v) (has_from_count a.charged (Private q v) (omega (arith, one)))
 
   charged_lies : charged.lies ≡ Some (block.Swap q m)
   unfolding charged
@@ -97,11 +97,10 @@ module _ {B : Type 0} {seen : B → BlockView} {tells : Tells} {config : Config}
   can_home y read =
       let slot = can_clear config past a seat (record { 0 = lift.frame }) lift.start before.formed (kept before) (right before) legal fields before.parts q address is_come in
       record {
-        procs = (come_can.place.proc, slot.proc);
-        place = come_can.place.page;
+        procs = slot.proc;
         charged = charged;
         kept = charged_is;
-        proc = q;
+        of = q;
         slot = m;
         lies = charged_lies;
         few = slot.slot;
@@ -115,7 +114,7 @@ module _ {B : Type 0} {seen : B → BlockView} {tells : Tells} {config : Config}
     slot_is : slot ≡ m
     slot_is =
         let one : home.charged ≡ charged = same_Some _ _ (sym home.kept ∙ charged_is) in
-        let both : Some (block.Swap home.proc slot) ≡ Some (block.Swap q m) = sym home.lies ∙ (ap (λ (c : ChargedPage). c.lies) one ∙ charged_lies) in
+        let both : Some (block.Swap home.of slot) ≡ Some (block.Swap q m) = sym home.lies ∙ (ap (λ (c : ChargedPage). c.lies) one ∙ charged_lies) in
         cc both
 
     -- with the names of the frame and of the transfer's start
@@ -164,7 +163,7 @@ module _ {B : Type 0} {seen : B → BlockView} {tells : Tells} {config : Config}
         }) numbers) same
         (closed before (record { seat = seat; what = what.InOk (record { 0 = lift.frame }) lift.start }) (λ told. tt) legal paid (land.store_after before seat lift fits its.flight its.role its.lands its.reads on.within on.state frames') _
         (in_ok_come_parts config past a seat (record { 0 = lift.frame }) lift.start (kept before) (right before) legal fields before.parts q address is_come y y_read
-        frames' rows free modified old there tables' procs changed home.charged home.kept pages' home.pages_procs home.pages_changed swaps' home.swaps_procs
+        frames' rows free modified old there tables' procs changed home.charged home.kept pages' home.pages_changed swaps' home.swaps_procs
         (subst (λ (s : ℕ). (p w : ℕ) → swapped_at swaps' p w ≡ changed_at (swapped_at fields.swaps) q.0 s None p w) slot_is home.swaps_changed) n read)
         (land.brings before seat lift fits its.flight its.role its.lands its.reads on.within on.state frames' good (ap result_of good_now) size)
         (land.places before seat lift fits its.flight its.role its.lands its.reads on.within on.state frames')))

@@ -35,8 +35,8 @@ use Rattle.state_fits.specs.PartsFit.{PartsFit}
 use Rattle.state_fits.proofs.ReuseCan.{CanReuse, reuse_can, reuse_global, reuse_private, reuse_uncharges}
 use Rattle.state_fits.proofs.ReuseParts.{holds, own, reuse_private_parts, reuse_shared_parts, reuse_uncharged_parts}
 use Rattle.vm_state.specs.History.{owed}
-use Rattle.page_states.specs.Resting.{IsAtRest, IsNumberedOrigin, IsUncharged, MayRest, MayUncharge, Rests, Uncharges}
-use Rattle.page_states.specs.SectionPages.{IsGlobal, IsNumbered}
+use Rattle.page_readers.specs.Resting.{IsAtRest, IsNumberedOrigin, IsUncharged, MayRest, MayUncharge, Rests, Uncharges}
+use Rattle.page_readers.specs.SectionPages.{IsGlobal, IsNumbered}
 use Rattle.vm_state.specs.StateKept.{IsState}
 use Rattle.vm_state.proofs.Closing.{closed, kept, right}
 use Rattle.vm_state.proofs.Numbered.{has_number, numbered_page}
@@ -106,11 +106,11 @@ module _ {B : Type 0} {seen : B → BlockView} {tells : Tells} {config : Config}
         rw (globals, same.0, same.1) (reuse_private_parts config past a seat f page fields (kept before) (right before) legal before.parts p v is
         rest.charged rest.behind rest.pte frames' tables' other (rows, free, modified) rest.kept rest.origin rest.entry rest.procs rest.changed)
 
-    private_goes : (p : Proc) (v : ℕ) → page ≡ Private p v → is_failed_first fields.failed page ≡ true → IsAtRest config fields.pages fields.sections fields.tables tables' p.0 v → globals' ≡ fields.globals → IsUncharged p.0 v fields.pages pages' fields.file file'
+    private_goes : (p : Proc) (v : ℕ) → page ≡ Private p v → is_failed_first fields.failed page ≡ true → IsAtRest config fields.pages fields.sections fields.tables tables' p.0 v → globals' ≡ fields.globals → IsUncharged (Private p v) fields.pages pages' fields.file file'
         → PartsFit config (e ∷ past) (pager_after config (e ∷ past)) left
     private_goes p v is first rest globals gone =
         rw (globals, gone.released) (reuse_uncharged_parts config past a seat f page fields (kept before) (right before) legal before.parts p v is
-        rest.charged rest.behind rest.pte frames' tables' pages' first (rows, free, modified) rest.kept rest.origin rest.entry rest.procs rest.changed gone.procs gone.changed)
+        rest.charged rest.behind rest.pte frames' tables' pages' first (rows, free, modified) rest.kept rest.origin rest.entry rest.procs rest.changed gone.row)
 
     by_failed : (p : Proc) (v : ℕ) (o : Option BlockId) → page ≡ Private p v → fields.failed ≡ o → IsAtRest config fields.pages fields.sections fields.tables tables' p.0 v → globals' ≡ fields.globals → Uncharges (Private p v) o fields.pages pages' fields.file file'
         → PartsFit config (e ∷ past) (pager_after config (e ∷ past)) left
@@ -130,4 +130,4 @@ module _ {B : Type 0} {seen : B → BlockView} {tells : Tells} {config : Config}
         → IsState seen tells config (e ∷ past) (spare - 1) (record store { frames = frames' }) left numbers
     reuse_closes paid rest globals charge =
         closed before e (λ told. tt) legal paid (record store { frames = frames' }) left (by_page page refl rest globals charge) (refl, refl)
-        (record { ids = before.places.ids; buffers = before.places.buffers; blocks = before.places.blocks; left = before.places.left; firsts = before.places.firsts })
+        (record { ids = before.places.ids; buffers = before.places.buffers; blocks = before.places.blocks; left = before.places.left; firsts = before.places.firsts; size = before.places.size })

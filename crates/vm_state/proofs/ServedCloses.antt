@@ -42,7 +42,7 @@ module _ {B : Type 0} {seen : B → BlockView} {tells : Tells} {config : Config}
       → IsState seen tells config (record { seat = seat; what = what.Served s w } ∷ past) (spare - 1) (record store { frames = frames }) fields' numbers
   answered_closes s w legal paid frames fields' fit =
       closed before (record { seat = seat; what = what.Served s w }) (λ told. tt) legal paid (record store { frames = frames }) fields' fit (refl, refl)
-      (record { ids = before.places.ids; buffers = before.places.buffers; blocks = before.places.blocks; left = before.places.left; firsts = before.places.firsts })
+      (record { ids = before.places.ids; buffers = before.places.buffers; blocks = before.places.blocks; left = before.places.left; firsts = before.places.firsts; size = before.places.size })
 
   module _ (y : SpokenRow) (read_y : y ≡ slice_index_or fields.spoken seat.0 y) (number : ℕ) (is : number ≡ length past + 1) where
     abbrev said : List SpokenRow

@@ -21,7 +21,7 @@ use Rattle.frame_store.proofs.Places.{get_held, held_get}
 use Rattle.state_fits.specs.Opening.{AreFirst}
 use Rattle.state_fits.specs.Parts.{Parts}
 use Rattle.state_fits.proofs.OpeningParts.{opening_parts}
-use Rattle.page_states.specs.Laying.{HasFirsts}
+use Rattle.page_readers.specs.Laying.{HasFirsts}
 use Rattle.vm_state.specs.Made.{IsMade}
 use Rattle.vm_state.specs.StateKept.{IsState, home_in}
 
@@ -34,6 +34,7 @@ module _ {B : Type 0} (seen : B → BlockView) (tells : Tells) (config : Config)
 
   pub record IsOpened : Type 0 where
     pub left : store.left ≡ 16 * (length config.procs + 2)
+    pub size : store.pool.size ≡ config.frames + 16 * (length config.procs + 2)
     pub buffers : store.buffers ≡ replicate config.frames (Some (replicate 512 0))
     pub ids : store.ids ≡ blocks_of config
     pub blocks_are : store.blocks ≡ map place blocks
@@ -121,6 +122,7 @@ module _ {B : Type 0} (seen : B → BlockView) (tells : Tells) (config : Config)
             blocks = many;
             left = (let left = opened.left in omega (arith, left));
             firsts = have;
+            size = opened.size;
           };
           right = λ told. tt;
         })

@@ -179,4 +179,5 @@ module _ {B : Type 0} {seen : B → BlockView} {tells : Tells} {config : Config}
           let more = count_cons_yes is_writing (record { start = length past + 1; seat = seat.0; frame = f.0; block = b; direction = writing }) (open_flights past) refl in
           omega (arith, spare, some, more));
       firsts = before.places.firsts;
+      size = before.places.size;
     }

@@ -114,4 +114,5 @@ module _ {B : Type 0} {seen : B → BlockView} {tells : Tells} {config : Config}
           let one_less = count_removed_yes is_writing (starts lift.start) (open_flights past) x lands.open_k (starts_once past lift.start) (ap (λ d. not (is_reading d)) is_out) in
           omega (arith, few, one_less));
       firsts = before.places.firsts;
+      size = before.places.size;
     }

@@ -22,13 +22,14 @@ use Rattle.vm_state.specs.History.{owed}
 abbrev pub is_writing : Flight → Bool
 is_writing x = not (is_reading x.direction)
 
--- the store is the configuration's: its blocks, a place for each of them, a buffer for each frame, and as many more as may be out with writes;
--- and the number of the first page of each section
+-- the store is the configuration's: its blocks, a place for each of them, a buffer for each frame, and as many more as may be out with writes, with
+-- which the pool is full; and the number of the first page of each section
 pub record IsStoreOf {B : Type 0} (config : Config) (flights : List Flight) (store : StoreView B) (numbers : List ℕ) : Type 0 where
   pub ids : store.ids ≡ blocks_of config
   pub buffers : length store.buffers ≡ config.frames
   pub blocks : length store.blocks ≡ length (blocks_of config)
   pub left : 16 * (length config.procs + 2) ≤ store.left + count_by is_writing flights
+  pub size : store.pool.size ≡ config.frames + 16 * (length config.procs + 2)
   pub firsts : (s : ℕ) → s < length config.sections → slice_get numbers s ≡ Some (section_page_number config s 0)
 
 module _ {B : Type 0} (seen : B → BlockView) where

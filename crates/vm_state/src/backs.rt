@@ -2,8 +2,8 @@ ghost use Rattle.std.specs.Prelude.{◌≡◌};
 
 use crate::state::State;
 use disk_trait::Block;
-use frame_moves::enter;
-use page_states::{enter_ring, entry_in, frame_slot, marked_back, share};
+use frame_changes::enter;
+use page_readers::{enter_ring, entry_in, frame_slot, marked_back, share};
 use pte_forms::{Place, Pte};
 use vm_journal::{Entry, What};
 use vm_types::{Addr, FrameState, Pfn, Proc, Seat};

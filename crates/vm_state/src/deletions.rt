@@ -3,9 +3,9 @@ ghost use Rattle.std.specs.Prelude.{◌≡◌};
 use crate::state::State;
 use disk_trait::Block;
 use page_ranges::{empty_frame, uncharge};
-use page_states::entry_in;
+use page_readers::entry_in;
 use vm_journal::{Entry, What};
-use vm_types::{Addr, Answer, Proc, Seat, Service};
+use vm_types::{Addr, Answer, Page, Proc, Seat, Service};
 
 impl<B: Block> State<B> {
     ghost use Rattle.vm_journal.specs.declared.entry.What.{What};
@@ -24,9 +24,10 @@ impl<B: Block> State<B> {
             let vpn = at.0 / 512 + n;
             let place = entry_in(self.tables.look(p, vpn)).unwrap().place;
             empty_frame(self.store.frames_mut(), place);
-            let kept = self.pages.at(p, vpn);
+            let page = Page::Private(p, vpn);
+            let kept = self.pages.at(page);
             uncharge(&mut self.file, kept);
-            self.pages.set(p, vpn, None);
+            self.pages.set(page, None);
             self.tables.unmap(p, vpn);
             self.sections.forget(p, vpn);
         }

@@ -2,8 +2,8 @@ ghost use Rattle.std.specs.Prelude.{◌≡◌};
 
 use crate::state::State;
 use disk_trait::Block;
-use frame_moves::leave;
-use page_states::{entry_in, left_at, unshare};
+use frame_changes::leave;
+use page_readers::{entry_in, left_at, unshare};
 use pte_forms::Pte;
 use state_parts::give_up;
 use vm_journal::{Entry, EvictWhy, What};

@@ -2,12 +2,13 @@ ghost use Rattle.std.specs.Prelude.{◌≡◌};
 
 use crate::state::State;
 use disk_trait::Block;
-use frame_moves::enter;
-use page_states::entry_in;
+use frame_changes::enter;
+use page_moves::mapped_page;
+use page_readers::{entry_in, frame_slot, hold, share};
 use pte_forms::{Place, Pte};
 use state_parts::{ChargedPage, take_slot};
 use vm_journal::{Entry, What};
-use vm_types::{Addr, Page, Pfn, Proc, Seat};
+use vm_types::{Addr, Pfn, Proc, Seat};
 
 /// What is kept of a page that has just been charged.
 const FRESH: ChargedPage = ChargedPage {
@@ -27,16 +28,12 @@ impl<B: Block> State<B> {
     {
         let p = Proc(seat.0);
         let vpn = a.0 / 512;
+        let page = mapped_page(&self.config, &self.sections, p, vpn).unwrap();
         let row = &mut self.processes[seat.0 as usize];
         let slot = take_slot(&mut row.ring, row.limit, vpn);
         row.faults += 1;
-        enter(
-            self.store.frames_mut(),
-            f,
-            Page::Private(p, vpn),
-            slot,
-            true,
-        );
+        let held = frame_slot(page, slot);
+        enter(self.store.frames_mut(), f, page, held, true);
         self.store.zero(f);
         let look = self.tables.look(p, vpn);
         let prot = entry_in(look).unwrap().prot;
@@ -45,7 +42,9 @@ impl<B: Block> State<B> {
             frame: f,
         };
         self.tables.set(p, vpn, Pte { prot, place });
-        self.pages.set(p, vpn, Some(FRESH));
+        hold(&mut self.globals, &self.firsts, f, page);
+        share(&mut self.globals, &self.firsts, page);
+        self.pages.set(page, Some(FRESH));
         self.file.charge().unwrap();
         self.journal.push(Entry {
             seat,

@@ -14,7 +14,7 @@ mod flight_readers;
 mod kept;
 mod landings;
 mod open_read;
-mod page_readers;
+mod page_queries;
 mod process_readers;
 mod readers;
 mod reads_begin;

@@ -4,11 +4,11 @@ ghost use Rattle.vm_types.specs.Configuration.{AreParams, IsLimited};
 ghost use Rattle.pager_model.specs.Lookups.{slot_of};
 ghost use Rattle.vm_state.specs.History.{pager};
 ghost use Rattle.vm_state.specs.ProcessReadings.{IsAfter, held_parts, pending_by, pending_in, slot_in};
-ghost use Rattle.page_states.specs.Shown.{frame_number};
+ghost use Rattle.page_readers.specs.Shown.{frame_number};
 
 use crate::state::State;
 use disk_trait::Block;
-use page_states::{Slot, frame_in};
+use page_readers::{Slot, frame_in};
 use state_parts::ProcessRow;
 use vm_types::{Params, Pfn, Proc, ProcSpec};
 use working_set::{Ring, adjust};

@@ -2,11 +2,11 @@ ghost use Rattle.std.specs.Prelude.{◌≡◌, true};
 
 use crate::state::State;
 use disk_trait::Block;
-use frame_moves::begin_read;
+use frame_changes::begin_read;
 use frame_store::Lift;
 use lift_carriers::Carrier;
 use page_moves::{global_number, hold_page};
-use page_states::{charge_fault, count_fault, read_page};
+use page_readers::{charge_fault, count_fault, read_page};
 use vm_journal::{Entry, Role, What};
 use vm_types::{BlockId, Pfn, Seat};
 

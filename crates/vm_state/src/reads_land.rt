@@ -2,7 +2,7 @@ ghost use Rattle.std.specs.Prelude.{◌≡◌};
 
 use crate::state::State;
 use disk_trait::Block;
-use frame_moves::{end_read_free, fail_read};
+use frame_changes::{end_read_free, fail_read};
 use frame_store::{Carried, Lift};
 use vm_journal::{Entry, What};
 use vm_types::Seat;

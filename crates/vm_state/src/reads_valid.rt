@@ -2,10 +2,10 @@ ghost use Rattle.std.specs.Prelude.{◌≡◌};
 
 use crate::state::State;
 use disk_trait::Block;
-use frame_moves::end_read;
+use frame_changes::end_read;
 use frame_store::{Carried, Lift};
 use page_moves::first_read;
-use page_states::{come_home, entry_in, frame_slot, share};
+use page_readers::{come_home, entry_in, frame_slot, share};
 use pte_forms::{Place, Pte};
 use state_parts::take_slot;
 use vm_journal::{Entry, Role, What};

@@ -3,7 +3,7 @@ ghost use Rattle.std.specs.Prelude.{◌≡◌, true};
 use crate::state::State;
 use disk_trait::Block;
 use flat_model::apply;
-use page_states::{frame_in, marked, touch};
+use page_readers::{frame_in, marked, touch};
 use vm_journal::{Entry, What};
 use vm_types::{Proc, Ref, Reply, Seat, Why};
 

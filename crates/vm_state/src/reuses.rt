@@ -2,7 +2,7 @@ ghost use Rattle.std.specs.Prelude.{◌≡◌};
 
 use crate::state::State;
 use disk_trait::Block;
-use page_states::{release, rest, uncharge};
+use page_readers::{release, rest, uncharge};
 use vm_journal::{Entry, What};
 use vm_types::{Page, Pfn, Seat};
 

@@ -11,7 +11,7 @@ ghost use Rattle.vm_state.specs.History.{pager};
 
 use crate::state::State;
 use disk_trait::Block;
-use page_states::entry_in;
+use page_readers::entry_in;
 use page_tables::Tables;
 use state_parts::{count_in, fixed_in, locked_in, pinned_in};
 use vm_types::{Addr, Answer, Proc, ProcSpec, Seat, Service};

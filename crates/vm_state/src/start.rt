@@ -10,7 +10,7 @@ use disk_trait::Block;
 use frame_store::Store;
 use global_pages::Globals;
 use page_file::PageFile;
-use page_states::{first_pages, first_tables, no_roles, none_busy, none_spoken, process_rows};
+use page_readers::{first_pages, first_tables, no_roles, none_busy, none_spoken, process_rows};
 use run_record::RunRecord;
 use section_table::Sections;
 use state_parts::{ChargedPages, SwapPages};
@@ -81,7 +81,7 @@ impl<B: Block> State<B> {
             spoken: none_spoken(alloc, procs)?,
             tables: first_tables(alloc, &config, &firsts)?,
             sections: Sections::new(alloc, &config)?,
-            pages: ChargedPages::new(alloc, procs as u32)?,
+            pages: ChargedPages::new(alloc, procs as u32, config.sections.items())?,
             globals: Globals::new(alloc, total)?,
             file: PageFile::new(alloc, config.pagefile)?,
             swaps: SwapPages::new(alloc, procs as u32)?,

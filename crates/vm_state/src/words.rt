@@ -1,5 +1,5 @@
 ghost use Rattle.std.specs.Prelude.{◌≡◌, ℕ, ◌<◌, Some, length};
-ghost use Rattle.page_states.specs.Shown.{frame_by};
+ghost use Rattle.page_readers.specs.Shown.{frame_by};
 ghost use Rattle.pfn_database.specs.Frames.{row_of};
 ghost use Rattle.pte_forms.specs.Word.{IsPte};
 ghost use Rattle.vm_state.specs.History.{pager};
@@ -7,7 +7,7 @@ ghost use Rattle.vm_state.specs.Words.{word_in, word_marked};
 
 use crate::state::State;
 use disk_trait::Block;
-use page_states::entry_in;
+use page_readers::entry_in;
 use pfn_database::Pfns;
 use pte_forms::{Place, Pte, to_word};
 use vm_types::Proc;

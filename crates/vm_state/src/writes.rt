@@ -2,7 +2,7 @@ ghost use Rattle.std.specs.Prelude.{◌≡◌, false};
 
 use crate::state::State;
 use disk_trait::Block;
-use frame_moves::end_write;
+use frame_changes::end_write;
 use frame_store::{Carried, Lift};
 use vm_journal::{Entry, What};
 use vm_types::Seat;
@@ -55,13 +55,8 @@ impl<B: Block> State<B> {
         self.store.land(lift);
         let row = self.store.frames().row(f);
         end_write(self.store.frames_mut(), f, false);
-        lie_unless(
-            &mut self.pages,
-            &mut self.swaps,
-            row.modify,
-            row.page,
-            block,
-        );
+        let page = row.page.unwrap();
+        lie_unless(&mut self.pages, &mut self.swaps, row.modify, page, block);
         self.roles[f.0 as usize] = None;
         let busy = &mut self.busy[seat.0 as usize];
         *busy -= 1;

@@ -2,7 +2,7 @@ ghost use Rattle.std.specs.Prelude.{◌≡◌, false};
 
 use crate::state::State;
 use disk_trait::Block;
-use frame_moves::begin_write;
+use frame_changes::begin_write;
 use frame_store::Lift;
 use lift_carriers::Carrier;
 use vm_journal::{Entry, What};
@@ -48,7 +48,7 @@ impl<B: Block> State<B> {
         let kept = self.store.frames().row(f);
         let page = kept.page.unwrap();
         begin_write(self.store.frames_mut(), f);
-        give_block(&mut self.pages, &mut self.file, kept.page, block);
+        give_block(&mut self.pages, &mut self.file, page, block);
         self.roles[f.0 as usize] = None;
         let busy = &mut self.busy[seat.0 as usize];
         *busy += 1;

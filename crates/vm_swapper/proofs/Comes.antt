@@ -3,7 +3,7 @@ use Rattle.std.proofs.Common.{◌≡◌, ℕ, false, List, Some, None, length, n
 use Rattle.vm_types.specs.Adjust.{lesser}
 use Rattle.pager_model.specs.Given.{Target, given, reads_made}
 use Rattle.pager_model.specs.Swap.{come_free, come_out, swap_carry}
-use Rattle.call_steps.proofs.Branches.{if_false}
+use Rattle.call_begins.proofs.Branches.{if_false}
 use Rattle.vm_state.specs.History.{History, pager}
 use Rattle.vm_swapper.specs.Cases.{at_back, at_come, at_out, at_reads, at_resident}
 use Rattle.vm_swapper.specs.Looks.{first}

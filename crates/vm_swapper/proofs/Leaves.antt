@@ -8,8 +8,8 @@ use Rattle.vm_journal.specs.declared.entry.What.TheVariants as what
 use Rattle.pager_model.specs.Given.{eviction, given, goes_to, is_stopped, page_address, seen_at}
 use Rattle.pager_model.specs.Maps.{proc}
 use Rattle.pager_model.specs.Swap.{leave_page, leave_saved, leave_shared, leave_unsaved, swap_again, swap_carry, swap_in_flight, swap_modified_full, swap_more}
-use Rattle.call_steps.proofs.Branches.{if_false, if_true}
-use Rattle.call_steps.proofs.Steps.{paid_first}
+use Rattle.call_begins.proofs.Branches.{if_false, if_true}
+use Rattle.call_begins.proofs.Steps.{paid_first}
 use Rattle.vm_state.specs.History.{History, MayAdd, entry_by, pager}
 use Rattle.vm_swapper.specs.Cases.{at_gone, at_leave, at_private, at_slot, at_unsaved, at_writes}
 use Rattle.vm_swapper.specs.Looks.{first}

@@ -8,8 +8,8 @@ use Rattle.pager_model.specs.Swap.{GivenSwap, SwapIs, SwapWhy as Reason, swap_ag
 use Rattle.call_laws.specs.Ready.{MayWork}
 use Rattle.pager_model.specs.Run.{IsRun}
 use Rattle.vm_types.specs.Configuration.{IsWellFormed}
-use Rattle.call_steps.specs.Lifted.{HasLifts}
-use Rattle.call_steps.specs.MayBegin.{MayBegin}
+use Rattle.call_begins.specs.Lifted.{HasLifts}
+use Rattle.call_begins.specs.MayBegin.{MayBegin}
 use Rattle.lift_carriers.specs.CarrierView.{CarrierView}
 use Rattle.vm_state.specs.History.{History, added, entry_by}
 use Rattle.vm_state.specs.LiftsLand.{added_each}

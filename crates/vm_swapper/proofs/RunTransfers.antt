@@ -11,13 +11,13 @@ use Rattle.pager_model.specs.Given.{Target, reads_made}
 use Rattle.pager_model.specs.Maps.{proc}
 use Rattle.pager_model.specs.Run.{IsRun}
 use Rattle.call_laws.specs.AreLegal.{AreLegal}
-use Rattle.call_steps.specs.Lifted.{HasBegunLifts, HasLifts, place_of, places_in}
-use Rattle.call_steps.specs.OneRead.{one_read}
+use Rattle.call_begins.specs.Lifted.{HasBegunLifts, HasLifts, place_of, places_in}
+use Rattle.call_begins.specs.OneRead.{one_read}
 use Rattle.lift_carriers.specs.CarrierView.{CarrierView}
 use Rattle.vm_state.specs.History.{History, owed, pager}
 use Rattle.vm_state.specs.LiftsLand.{added_each}
 use Rattle.vm_swapper.specs.Runs.{reads_from, writes_from}
-use Rattle.call_steps.proofs.ReadsLeft.{IsReading, may_one, next_read, read_all}
+use Rattle.call_begins.proofs.ReadsLeft.{IsReading, may_one, next_read, read_all}
 
 module _ {B : Type 0} (seen : B → BlockView) (tells : Tells) (s₀ : History) (seat : Seat) (p : ℕ) where
   -- so many writes were begun, and these are left, from this slot on

@@ -6,7 +6,7 @@ use Rattle.vm_types.specs.declared.names.Seat.{Seat}
 use Rattle.vm_journal.specs.declared.entry.What.{What}
 use Rattle.pager_model.specs.Swap.{GivenSwap, SwapIs, SwapWhy as Reason, swap_again, swap_carry, swap_in_flight, swap_modified_full, swap_more, swap_no_frame, swap_settled}
 use Rattle.call_laws.specs.AreLegal.{AreLegal}
-use Rattle.call_steps.specs.Lifted.{HasLifts}
+use Rattle.call_begins.specs.Lifted.{HasLifts}
 use Rattle.lift_carriers.specs.CarrierView.{CarrierView}
 use Rattle.vm_state.specs.History.{History, owed}
 use Rattle.vm_state.specs.LiftsLand.{added_each}

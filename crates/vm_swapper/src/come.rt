@@ -2,7 +2,7 @@ ghost use Rattle.std.specs.Prelude.{◌≡◌, ◌+◌, ◌<◌, ◌≤◌, ◌�
 ghost use Rattle.pager_model.specs.Swap.{come_gives};
 ghost use Rattle.vm_types.specs.Adjust.{lesser};
 ghost use Rattle.vm_types.specs.declared.names.ProcStatus.TheVariants as status;
-ghost use Rattle.call_steps.specs.MayBegin.{MayBegin, empty};
+ghost use Rattle.call_begins.specs.MayBegin.{MayBegin, empty};
 ghost use Rattle.vm_state.specs.History.{owed, pager};
 ghost use Rattle.vm_swapper.specs.Cases.{at_back, at_come, at_out, at_reads, at_resident};
 ghost use Rattle.vm_swapper.specs.Swaps.{MaySwap, Swaps};

@@ -1,7 +1,7 @@
 ghost use Rattle.std.specs.Prelude.{◌≡◌, ◌+◌, ◌<◌, ◌≤◌, ◌↔◌, length};
 ghost use Rattle.pager_model.specs.Swap.{leave_gives};
 ghost use Rattle.vm_types.specs.declared.names.ProcStatus.TheVariants as status;
-ghost use Rattle.call_steps.specs.MayBegin.{MayBegin, empty};
+ghost use Rattle.call_begins.specs.MayBegin.{MayBegin, empty};
 ghost use Rattle.vm_state.specs.History.{owed, pager};
 ghost use Rattle.vm_swapper.specs.Cases.{at_gone, at_leave, at_private, at_slot, at_unsaved, at_writes};
 ghost use Rattle.vm_swapper.specs.Swaps.{MaySwap, Swaps};
@@ -12,7 +12,7 @@ use crate::runs::frames_from;
 use crate::seen::see;
 use crate::swap::{Swap, SwapWhy};
 use crate::transfers::write_all;
-use call_steps::{goes_to, is_stopped};
+use call_begins::{goes_to, is_stopped};
 use disk_trait::Block;
 use vm_journal::EvictWhy;
 use vm_state::{Carrier, State};

@@ -1,13 +1,13 @@
 ghost use Rattle.std.specs.Prelude.{◌≡◌, ◌+◌, ◌<◌, ◌≤◌, length};
 ghost use Rattle.pager_model.specs.Given.{reads_made};
 ghost use Rattle.call_laws.specs.AreLegal.{AreLegal};
-ghost use Rattle.call_steps.specs.Lifted.{HasLifts};
-ghost use Rattle.call_steps.specs.MayBegin.{empty};
+ghost use Rattle.call_begins.specs.Lifted.{HasLifts};
+ghost use Rattle.call_begins.specs.MayBegin.{empty};
 ghost use Rattle.vm_state.specs.History.{owed, pager};
 ghost use Rattle.vm_state.specs.LiftsLand.{added_each};
 ghost use Rattle.vm_swapper.specs.Runs.{reads_from, writes_from};
 
-use call_steps::{read_one, write_one};
+use call_begins::{read_one, write_one};
 use disk_trait::Block;
 use vm_journal::Role;
 use vm_state::{Carrier, State};

@@ -4,4 +4,4 @@
 
 mod writes;
 
-pub use writes::{give_block, lie_in, lie_unless};
+pub use writes::{give_block, lie_unless};

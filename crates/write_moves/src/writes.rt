@@ -1,70 +1,66 @@
 ghost use Rattle.std.specs.Prelude.{◌≡◌, ℕ};
-ghost use Rattle.state_parts.specs.ChargedTable.{charged_at};
+ghost use Rattle.state_parts.specs.ChargedTable.{IsTableSet, kept_at};
 ghost use Rattle.state_parts.specs.SwapTable.{swapped_at};
-ghost use Rattle.state_fits.specs.Writes.{block_given, block_taken, page_landed, page_written, slot_emptied, slot_filled, swaps_landed, swaps_written};
-ghost use Rattle.write_moves.specs.Moves.{MayEmpty, MayFill, MayGive, MayLie};
+ghost use Rattle.state_fits.specs.Writes.{block_taken, given_row, landed_row, slot_emptied, slot_filled, swaps_landed, swaps_moved};
+ghost use Rattle.write_moves.specs.Moves.{MayEmpty, MayFill, MayGive, MayLie, MayMoveSlot};
 
 use page_file::PageFile;
 use state_parts::{ChargedPage, ChargedPages, SwapPages};
 use vm_types::{BlockId, Page};
 
-/// A write of the page to the block begins: if the page is private, the block is the page file's, and
-/// the page has none yet, the block is assigned to it.
-pub fn give_block(pages: &mut ChargedPages, file: &mut PageFile, page: Option<Page>, block: BlockId)
+/// A write of the page to the block begins: if the block is the page file's, and the page has none yet,
+/// the block is assigned to it.
+#[tactic(auto, using(state_fits::proofs::PartsSet::table_same))]
+pub fn give_block(pages: &mut ChargedPages, file: &mut PageFile, page: Page, block: BlockId)
     requires { MayGive pages.old file.old block page }
-    ensures rows { (q w : ℕ) → charged_at pages.new q w ≡ block_given block page (charged_at pages.old) q w }
-    ensures procs { pages.new.procs ≡ pages.old.procs }
-    ensures file { file.new ≡ block_taken block page (charged_at pages.old) file.old }
+    ensures rows { IsTableSet pages.old pages.new page (given_row block (kept_at pages.old page)) }
+    ensures file { file.new ≡ block_taken block page (kept_at pages.old page) file.old }
 {
-    if let (BlockId::PageFile(n), Some(Page::Private(p, vpn))) = (block, page) {
-        let Some(row) = pages.at(p, vpn) else {
-            unreachable!();
-        };
-        if row.assigned.is_none() {
-            file.assign(n, Page::Private(p, vpn));
+    if let BlockId::PageFile(n) = block {
+        if let Some(row) = pages.at(page) {
+            if row.assigned.is_none() {
+                file.assign(n, page);
+            }
+            let assigned = Some(n);
+            pages.set(page, Some(ChargedPage { assigned, ..row }));
         }
-        let assigned = Some(n);
-        pages.set(p, vpn, Some(ChargedPage { assigned, ..row }));
     }
 }
 
-/// A write of the page to the block has landed, and the page wasn't modified meanwhile: if it is private
-/// it lies in the block, and in no other.
-pub fn lie_in(pages: &mut ChargedPages, swaps: &mut SwapPages, page: Option<Page>, block: BlockId)
-    requires { MayLie pages.old swaps.old page block }
-    ensures rows { (q w : ℕ) → charged_at pages.new q w ≡ page_written page block (charged_at pages.old) q w }
-    ensures procs { pages.new.procs ≡ pages.old.procs }
-    ensures swaps { (q m : ℕ) → swapped_at swaps.new q m ≡ swaps_written page block (charged_at pages.old) (swapped_at swaps.old) q m }
-    ensures swap_procs { swaps.new.procs ≡ swaps.old.procs }
-{
-    if let Some(Page::Private(p, vpn)) = page {
-        let Some(row) = pages.at(p, vpn) else {
-            unreachable!();
-        };
-        empty_slot(swaps, row.lies);
-        fill_slot(swaps, block, vpn);
-        let lies = Some(block);
-        pages.set(p, vpn, Some(ChargedPage { lies, ..row }));
-    }
-}
-
-/// A page whose write has landed lies in the block, unless it was modified meanwhile.
+/// A write of the page to the block has landed: the page lies in the block, if it is charged and wasn't
+/// modified meanwhile, and in no other.
+#[tactic(auto, using(state_fits::proofs::PartsSet::table_same))]
 pub fn lie_unless(
     pages: &mut ChargedPages,
     swaps: &mut SwapPages,
     modify: bool,
-    page: Option<Page>,
+    page: Page,
     block: BlockId,
 )
     requires { MayLie pages.old swaps.old page block }
-    ensures rows { (q w : ℕ) → charged_at pages.new q w ≡ page_landed modify page block (charged_at pages.old) q w }
-    ensures procs { pages.new.procs ≡ pages.old.procs }
+    ensures rows { IsTableSet pages.old pages.new page (landed_row modify block (kept_at pages.old page)) }
     ensures swaps { (q m : ℕ) → swapped_at swaps.new q m
-        ≡ swaps_landed modify page block (charged_at pages.old) (swapped_at swaps.old) q m }
+        ≡ swaps_landed modify page block (kept_at pages.old page) (swapped_at swaps.old) q m }
     ensures swap_procs { swaps.new.procs ≡ swaps.old.procs }
 {
     if !modify {
-        lie_in(pages, swaps, page, block);
+        if let Some(row) = pages.at(page) {
+            move_slot(swaps, page, row.lies, block);
+            let lies = Some(block);
+            pages.set(page, Some(ChargedPage { lies, ..row }));
+        }
+    }
+}
+
+/// A private page lies in the block, and not where it lay: of swap blocks this is kept.
+fn move_slot(swaps: &mut SwapPages, page: Page, lies: Option<BlockId>, block: BlockId)
+    requires { MayMoveSlot swaps.old page lies block }
+    ensures swaps { (q m : ℕ) → swapped_at swaps.new q m ≡ swaps_moved page block lies (swapped_at swaps.old) q m }
+    ensures procs { swaps.new.procs ≡ swaps.old.procs }
+{
+    if let Page::Private(_, vpn) = page {
+        empty_slot(swaps, lies);
+        fill_slot(swaps, block, vpn);
     }
 }
 

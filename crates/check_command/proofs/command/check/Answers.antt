@@ -1,6 +1,6 @@
-use Rattle.program_ends.proofs.Concluding.{has_told, was_cut, faulty_write, no_failed_write}
+use Rattle.command_ends.proofs.Concluding.{has_told, was_cut, faulty_write, no_failed_write}
 use Rattle.check_command.proofs.Telling.{complete_status, not_four, read_status}
-use Rattle.program_ends.proofs.Wronging.{told_alone}
+use Rattle.command_ends.proofs.Wronging.{told_alone}
 use Rattle.check_command.proofs.command.check.Goals as goal
 
 pub returns-clause-told : goal.returns-clause-told

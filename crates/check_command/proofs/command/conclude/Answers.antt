@@ -1,5 +1,5 @@
 use Rattle.check_command.proofs.Verdicts.{concludes_fault, concludes_verdict, verdict_text_kept}
-use Rattle.program_ends.proofs.Wronging.{fault_text_kept}
+use Rattle.command_ends.proofs.Wronging.{fault_text_kept}
 use Rattle.check_command.proofs.command.conclude.Goals as goal
 
 pub returns-in-Ok-clause-outcome : goal.returns-in-Ok-clause-outcome

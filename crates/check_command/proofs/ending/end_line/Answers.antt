@@ -1,5 +1,5 @@
 use Rattle.pager_model.specs.Text.{status_line}
-use Rattle.program_ends.proofs.Ending.{ends_cut, ends_then}
+use Rattle.command_ends.proofs.Ending.{ends_cut, ends_then}
 use Rattle.check_command.proofs.ending.end_line.Goals as goal
 
 pub returns-in-Ok : goal.returns-in-Ok

@@ -1,7 +1,7 @@
 use Rattle.std.proofs.Common.{ap, subst, ◌∙◌, ◌++◌, List, ℕ}
 use Rattle.std.specs.Prelude.{codes}
 use Rattle.pager_model.specs.Text.{ended, status_line}
-use Rattle.program_ends.specs.Ends.{Ends}
+use Rattle.command_ends.specs.Ends.{Ends}
 use Rattle.check_command.proofs.ending.end_too_long.Goals as goal
 
 pub returns : goal.returns

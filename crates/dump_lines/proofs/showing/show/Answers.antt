@@ -1,4 +1,4 @@
-use Rattle.program_ends.proofs.Ending.{ends_cut, ends_then}
+use Rattle.command_ends.proofs.Ending.{ends_cut, ends_then}
 use Rattle.pager_model.specs.Text.{status_line}
 use Rattle.dump_lines.proofs.showing.show.Goals as goal
 

@@ -1,6 +1,6 @@
 use Rattle.pager_model.specs.Advance.{again_no_frame}
 use Rattle.vm_state.specs.History.{pager}
-use Rattle.call_steps.proofs.Heads.{head_there, some_free}
+use Rattle.call_begins.proofs.Heads.{head_there, some_free}
 use Rattle.fault_core.proofs.Comes.{no_frame}
 use Rattle.fault_core.proofs.Steps.{waits}
 use Rattle.fault_core.proofs.fetches.frame.Goals as goal

@@ -8,7 +8,7 @@ use Rattle.pager_model.specs.Given.{page_address}
 use Rattle.pager_model.specs.Maps.{proc}
 use Rattle.vm_state.specs.History.{pager}
 use Rattle.vm_state.specs.ProcessReadings.{slot_in}
-use Rattle.call_steps.proofs.Rows.{row_goes}
+use Rattle.call_begins.proofs.Rows.{row_goes}
 use Rattle.fault_core.proofs.Replaces.{may_replace, none_seen, replaces, slot_small, slot_within, stops}
 use Rattle.fault_core.proofs.Steps.{goes_on, waits}
 use Rattle.fault_core.proofs.waits.replace.Goals as goal

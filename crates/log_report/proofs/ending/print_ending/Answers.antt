@@ -1,5 +1,5 @@
 use Rattle.pager_model.specs.Text.{status_line}
-use Rattle.program_ends.proofs.Ending.{ends_cut, ends_then}
+use Rattle.command_ends.proofs.Ending.{ends_cut, ends_then}
 use Rattle.log_report.specs.EndStatus.{end_status}
 use Rattle.log_report.proofs.ending.print_ending.Goals as goal
 

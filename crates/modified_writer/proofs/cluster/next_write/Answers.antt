@@ -1,6 +1,6 @@
 use Rattle.std.proofs.Common.{Some, None, refl, ◌∙◌}
 use Rattle.vm_state.specs.History.{pager}
-use Rattle.call_steps.proofs.Heads.{head_there}
+use Rattle.call_begins.proofs.Heads.{head_there}
 use Rattle.modified_writer.proofs.ListedPages.{block_left, held_known, listed_within, row_holds}
 use Rattle.modified_writer.proofs.NextWrites.{next_is}
 use Rattle.modified_writer.proofs.cluster.next_write.Goals as goal

@@ -4,7 +4,7 @@ use Rattle.std.specs.Prelude.{◌⊎◌}
 use Rattle.std.specs.Io.KnownBytes.{Appends}
 use Rattle.outside_io.specs.Causes.{Rose}
 use Rattle.vm_types.specs.Moved.{moved}
-use Rattle.program_ends.specs.Wrongs.{IsWrong}
+use Rattle.command_ends.specs.Wrongs.{IsWrong}
 use Rattle.program_call.specs.ProgramTells.{ProgramTells}
 use Rattle.program_call.proofs.Telling.{whole_but_kept}
 use Rattle.program_call.proofs.program.run_and_finish.Goals as goal

@@ -1,8 +1,8 @@
 use Rattle.std.proofs.Common.{refl}
 use Rattle.pager_model.specs.Text.{status_line}
-use Rattle.program_ends.proofs.Wronging.{concludes_wrong, one_right, seven_right}
+use Rattle.command_ends.proofs.Wronging.{concludes_wrong, one_right, seven_right}
 use Rattle.replay_cli.specs.Commands.{usage, unread_options, obeyed}
-use Rattle.replay_cli.specs.declared.words.Command.TheVariants.{Serial, Study, Make, Check}
+use Rattle.replay_cli.specs.declared.words.Command.TheVariants.{Serial, Study, Make, Check, Dump, Show}
 use Rattle.replay_cli.proofs.Making.{concludes_made}
 use Rattle.replay_cli.proofs.cli.conclude.Goals as goal
 
@@ -33,3 +33,16 @@ pub returns-in-Ok-Some-Check-clause-outcome : goal.returns-in-Ok-Some-Check-clau
 returns-in-Ok-Some-Check-clause-outcome g c =
     let asks = rw c.in-Ok-Some-Check.field-0-0-is at (rw c.in-Ok-Some-Check.field-0-is at c.in-Ok-Some-Check.ensures.some) in
     concludes_wrong (λ status text told. obeyed Check status text asks (told, refl)) c.check.ensures.outcome
+
+pub returns-in-Ok-Some-Dump-clause-outcome : goal.returns-in-Ok-Some-Dump-clause-outcome
+returns-in-Ok-Some-Dump-clause-outcome g c =
+    let asks = rw c.in-Ok-Some-Dump.field-0-0-is at (rw c.in-Ok-Some-Dump.field-0-is at c.in-Ok-Some-Dump.ensures.some) in
+    concludes_wrong (λ status text told. obeyed Dump status text asks told) c.dump.ensures.outcome
+
+pub returns-in-Ok-Some-Show-clause-outcome : goal.returns-in-Ok-Some-Show-clause-outcome
+returns-in-Ok-Some-Show-clause-outcome g c =
+    let asks = rw c.in-Ok-Some-Show.field-0-0-is at (rw c.in-Ok-Some-Show.field-0-is at c.in-Ok-Some-Show.ensures.some) in
+    concludes_wrong (λ status text told. obeyed Show status text asks (told, refl)) c.show_dump.ensures.outcome
+
+pub returns-in-Ok-Some-Show-clause-kept : goal.returns-in-Ok-Some-Show-clause-kept
+returns-in-Ok-Some-Show-clause-kept g c = c.show_dump.ensures.kept _ _

@@ -1,5 +1,5 @@
-use Rattle.program_ends.proofs.Concluding.{has_told, was_cut, faulty_write, no_failed_write}
-use Rattle.program_ends.proofs.Wronging.{told_alone}
+use Rattle.command_ends.proofs.Concluding.{has_told, was_cut, faulty_write, no_failed_write}
+use Rattle.command_ends.proofs.Wronging.{told_alone}
 use Rattle.replay_cli.proofs.Obeying.{not_four, usage_status, no_usage_status, read_status, depot_status, complete_status}
 use Rattle.replay_cli.proofs.Served.{served}
 use Rattle.replay_cli.proofs.cli.run_and_tell.Goals as goal

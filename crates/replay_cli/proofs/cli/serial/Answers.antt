@@ -1,5 +1,5 @@
 use Rattle.replay_cli.proofs.Serving.{concludes_run, concludes_unread}
-use Rattle.program_ends.proofs.Wronging.{fault_text_kept}
+use Rattle.command_ends.proofs.Wronging.{fault_text_kept}
 use Rattle.replay_cli.proofs.cli.serial.Goals as goal
 
 pub returns-in-Ok-clause-outcome : goal.returns-in-Ok-clause-outcome

@@ -1,5 +1,5 @@
 use Rattle.pager_model.specs.Text.{status_line}
-use Rattle.program_ends.proofs.Ending.{ends_cut, ends_then}
+use Rattle.command_ends.proofs.Ending.{ends_cut, ends_then}
 use Rattle.run_text.specs.Parts.{run_status}
 use Rattle.run_text.proofs.run.end_parts.Goals as goal
 

@@ -4,7 +4,7 @@ use Rattle.vm_journal.specs.HasLine.{HasLine}
 use Rattle.vm_journal.specs.declared.entry.Entry.{Entry}
 use Rattle.pager_model.specs.Run.{pager_after}
 use Rattle.pager_model.specs.Text.{run_text}
-use Rattle.program_ends.specs.Ends.{Ends}
+use Rattle.command_ends.specs.Ends.{Ends}
 use Rattle.run_text.specs.Parts.{run_status}
 use Rattle.report_lines.proofs.DirtyPages.{told_printable}
 use Rattle.run_text.proofs.RunParts.{entries_have_lines, first_part, run_text_parts, same_past, same_rest, second_part}

@@ -1,6 +1,6 @@
 use Rattle.std.proofs.Common.{ap, ◌∙◌}
 use Rattle.vm_types.specs.declared.names.Seat.{Seat}
-use Rattle.call_steps.specs.MayBegin.{empty}
+use Rattle.call_begins.specs.MayBegin.{empty}
 use Rattle.rundown.proofs.WrittenOnce.{landed_so, own_lifts, own_whole}
 use Rattle.rundown.proofs.clusters.land_writes.Goals as goal
 

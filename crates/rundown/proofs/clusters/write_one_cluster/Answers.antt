@@ -1,6 +1,6 @@
 use Rattle.std.proofs.Common.{ap, sym, ◌∙◌}
 use Rattle.vm_types.specs.declared.names.Seat.{Seat}
-use Rattle.call_steps.specs.MayBegin.{empty}
+use Rattle.call_begins.specs.MayBegin.{empty}
 use Rattle.rundown.proofs.WrittenOnce.{cluster_counted, cluster_loaded, cluster_written, has_room, may_begin}
 use Rattle.rundown.proofs.clusters.write_one_cluster.Goals as goal
 

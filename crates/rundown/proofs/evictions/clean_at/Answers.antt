@@ -1,7 +1,7 @@
 use Rattle.std.proofs.Common.{ap, refl, sym, ◌∙◌}
 use Rattle.pfn_database.specs.declared.row.Row.{Row}
 use Rattle.pager_model.specs.Evict.{evicted_to}
-use Rattle.call_steps.proofs.Rows.{row_goes}
+use Rattle.call_begins.proofs.Rows.{row_goes}
 use Rattle.vm_swapper.specs.SeenSlots.{seen_as}
 use Rattle.rundown.specs.Places.{place_as}
 use Rattle.rundown.proofs.PlacesCleaned.{evicted_moved, goes_later, may_evict, none_seen, written_moved}

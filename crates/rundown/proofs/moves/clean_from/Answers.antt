@@ -1,7 +1,7 @@
 use Rattle.std.proofs.Common.{◌∙◌, ap, sym}
 use Rattle.std.specs.Option.{option_map}
 use Rattle.pager_model.specs.Rundown.{later_move}
-use Rattle.call_steps.specs.MayBegin.{empty}
+use Rattle.call_begins.specs.MayBegin.{empty}
 use Rattle.vm_state.specs.History.{History, pager}
 use Rattle.rundown.specs.Cleanings.{control_at}
 use Rattle.rundown.specs.Cleans.{writer_seat}

@@ -1,5 +1,5 @@
 use Rattle.std.proofs.Common.{◌≡◌, ◌-◌, ◌^◌, length}
-use Rattle.call_steps.specs.MayBegin.{empty}
+use Rattle.call_begins.specs.MayBegin.{empty}
 use Rattle.rundown.specs.Cleanings.{control_at}
 use Rattle.rundown.specs.Cleans.{writer_seat}
 use Rattle.rundown.proofs.RunningDown.{IsRunningDown}

@@ -2,7 +2,7 @@ use Rattle.std.proofs.Common.{inl, inr, None, refl, ap, sym, subst, arith}
 use Rattle.vm_types.specs.declared.config.Config.{Config}
 use Rattle.lift_carriers.specs.CarrierView.{CarrierView}
 use Rattle.vm_state.specs.History.{pager}
-use Rattle.call_steps.specs.MayBegin.{empty}
+use Rattle.call_begins.specs.MayBegin.{empty}
 use Rattle.seat_turns.specs.Steps.{HasTurned}
 use Rattle.seat_turns.specs.declared.turned.Turned.TheVariants.{Made, Rests}
 use Rattle.seat_turns.proofs.Resting.{swapped_lowest, swapped_none}

@@ -2,7 +2,7 @@ use Rattle.std.proofs.Common.{◌∙◌}
 use Rattle.pager_model.specs.Swap.{come_gives}
 use Rattle.vm_state.specs.History.{pager}
 use Rattle.vm_swapper.specs.declared.swap.Swap.TheVariants.{Carry, More, Settled}
-use Rattle.move_steps.proofs.Shapes.{come_shape}
+use Rattle.serial_steps.proofs.Shapes.{come_shape}
 use Rattle.seat_laws.proofs.FreeSeats.{may_begin}
 use Rattle.seat_turns.proofs.NoFaults.{come_no_faults}
 use Rattle.seat_turns.proofs.Referring.{still_free}

@@ -1,6 +1,6 @@
 use Rattle.std.proofs.Common.{refl, ◌∙◌, sym}
 use Rattle.vm_types.specs.declared.names.ProcStatus.TheVariants as status
-use Rattle.call_steps.specs.MayBegin.{empty}
+use Rattle.call_begins.specs.MayBegin.{empty}
 use Rattle.seat_turns.proofs.OpenWork.{may_turn_comer, may_turn_gone, may_work, nothing_worked, turn_worked}
 use Rattle.seat_turns.proofs.swapping.turn_gone.Goals as goal
 

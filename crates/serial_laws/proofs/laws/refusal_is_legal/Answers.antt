@@ -1,4 +1,4 @@
-use Rattle.serial_laws.proofs.Refusals.{refusal_legal}
+use Rattle.serial_laws.proofs.LegalRefusals.{refusal_legal}
 use Rattle.serial_laws.proofs.laws.refusal_is_legal.Goals as goal
 
 pub returns : goal.returns

@@ -1,5 +1,5 @@
 use Rattle.pager_model.specs.Text.{status_line}
-use Rattle.program_ends.proofs.Ending.{ends_cut, ends_then}
+use Rattle.command_ends.proofs.Ending.{ends_cut, ends_then}
 use Rattle.study_command.proofs.command.end_answers.Goals as goal
 
 pub returns-in-Ok : goal.returns-in-Ok

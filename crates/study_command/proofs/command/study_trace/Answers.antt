@@ -1,7 +1,7 @@
 use Rattle.std.proofs.Common.{◌≡◌}
-use Rattle.program_ends.proofs.Concluding.{has_told, was_cut, faulty_write, no_failed_write}
-use Rattle.program_ends.proofs.Telling.{answered_status, not_four, read_status}
-use Rattle.program_ends.proofs.Wronging.{told_alone}
+use Rattle.command_ends.proofs.Concluding.{has_told, was_cut, faulty_write, no_failed_write}
+use Rattle.command_ends.proofs.Telling.{answered_status, not_four, read_status}
+use Rattle.command_ends.proofs.Wronging.{told_alone}
 use Rattle.study_command.proofs.command.study_trace.Goals as goal
 
 pub returns-clause-told : goal.returns-clause-told

@@ -5,7 +5,7 @@ use Rattle.pager_model.specs.Evict.{evicted_to}
 use Rattle.pager_model.specs.Given.{page_address}
 use Rattle.pager_model.specs.Maps.{proc}
 use Rattle.pager_model.specs.Serve.{serve_modified_full}
-use Rattle.call_steps.proofs.Rows.{row_goes}
+use Rattle.call_begins.proofs.Rows.{row_goes}
 use Rattle.vm_services.proofs.OneEviction.{evicts, frame_within, may_evict, page_small, stops}
 use Rattle.vm_services.proofs.Steps.{goes_on, waits}
 use Rattle.vm_services.proofs.evictions.evict.Goals as goal

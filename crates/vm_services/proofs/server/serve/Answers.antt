@@ -3,7 +3,7 @@ use Rattle.vm_types.specs.declared.names.ProcStatus.TheVariants as status
 use Rattle.pager_model.specs.Lookups.{is_resident}
 use Rattle.vm_state.specs.History.{pager}
 use Rattle.vm_services.proofs.Steps.{may_serve}
-use Rattle.call_steps.proofs.ReadySeats.{is_in_memory}
+use Rattle.call_begins.proofs.ReadySeats.{is_in_memory}
 use Rattle.vm_services.proofs.server.serve.Goals as goal
 
 pub resident-requires-clause-may : goal.resident-requires-clause-may

@@ -1,5 +1,5 @@
 use Rattle.std.proofs.Common.{ap}
-use Rattle.page_states.specs.Shown.{frame_by}
+use Rattle.page_readers.specs.Shown.{frame_by}
 use Rattle.vm_state.proofs.words.marked_word.Goals as goal
 
 pub row-modify-requires : goal.row-modify-requires

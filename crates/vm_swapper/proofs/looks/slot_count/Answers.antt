@@ -2,7 +2,7 @@ use Rattle.std.proofs.Common.{◌∙◌, List, ap, slice_index_or}
 use Rattle.std.proofs.lemmas.Option.{get_or_from_slice_get}
 use Rattle.vm_types.specs.declared.config.Config.{Config}
 use Rattle.vm_types.specs.declared.config.ProcSpec.{ProcSpec}
-use Rattle.call_steps.proofs.Branches.{item_there}
+use Rattle.call_begins.proofs.Branches.{item_there}
 use Rattle.vm_swapper.proofs.SlotsSeen.{slots_are}
 use Rattle.vm_swapper.proofs.looks.slot_count.Goals as goal
 

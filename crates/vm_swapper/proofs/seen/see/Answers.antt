@@ -1,6 +1,6 @@
 use Rattle.std.proofs.Common.{◌∙◌, ap, sym}
 use Rattle.pfn_database.specs.declared.row.Row.{Row}
-use Rattle.call_steps.proofs.Rows.{row_page}
+use Rattle.call_begins.proofs.Rows.{row_page}
 use Rattle.vm_swapper.proofs.SlotsSeen.{shown_in, slot_seen, slot_small, slot_within}
 use Rattle.vm_swapper.proofs.seen.see.Goals as goal
 

@@ -6,11 +6,11 @@ use Rattle.pager_model.specs.Forget.{holder}
 use Rattle.pager_model.specs.Given.{passes}
 use Rattle.pager_model.specs.Lookups.{is}
 use Rattle.pager_model.specs.Swap.{is_free_frame}
-use Rattle.call_steps.proofs.Rows.{row_state}
+use Rattle.call_begins.proofs.Rows.{row_state}
 use Rattle.vm_state.specs.History.{pager}
-use Rattle.page_states.specs.declared.found.Backing.{Backing}
+use Rattle.page_readers.specs.declared.found.Backing.{Backing}
 use Rattle.vm_swapper.proofs.SwapBlocks.{held_within}
-use Rattle.call_steps.proofs.ReadySeats.{frame_some}
+use Rattle.call_begins.proofs.ReadySeats.{frame_some}
 use Rattle.vm_swapper.proofs.slots.is_back_on_free.Goals as goal
 
 pub frame-requires-after_bounds : goal.frame-requires-after_bounds

@@ -1,6 +1,7 @@
 use Rattle.std.proofs.Common.{◌∙◌, sym, subst, ap, Result, Err, ℕ}
 use Rattle.std.specs.Prelude.{IfErr}
 use Rattle.std.proofs.lemmas.Result.{err_from_is_err_and}
+use Rattle.trace_lines.specs.declared.breach.Breach.{Breach}
 use Rattle.trace_reader.specs.declared.fault.TraceFault.{TraceFault}
 use Rattle.trace_reader.specs.declared.fault.TraceFault.TheVariants as fault
 use Rattle.trace_reader.specs.Stream.{IsAtFault, KeepsFaulty}
@@ -59,7 +60,8 @@ loop-line-preserved c =
 
 pub returns-then-rest-gt255-clause-err : goal.returns-then-rest-gt255-clause-err
 returns-then-rest-gt255-clause-err c =
-    fault_in_long c.args.self.now.draft.part c.args.self.now.number c.args.piece.now c.loop-line.self.draft c.loop-line.self.number c.loop-line.rest.now c.loop-line.invariant c.in_default.ensures c.if-rest-gt255.true
+    subst (λ (b : Breach). IsAtFault c.args.self.now.draft.part c.args.self.now.number c.args.piece.now (fault.Line c.loop-line.self.number b)) (sym c.at_word-breach.ensures)
+    (fault_in_long c.args.self.now.draft.part c.args.self.now.number c.args.piece.now c.loop-line.self.draft c.loop-line.self.number c.loop-line.rest.now c.loop-line.invariant c.in_default.ensures c.if-rest-gt255.true)
 
 pub returns-clause-ok : goal.returns-clause-ok
 returns-clause-ok c =

@@ -3,10 +3,10 @@ use Rattle.pfn_database.specs.Frames.{Frames, row_of}
 use Rattle.pfn_database.specs.declared.row.Row.{Row}
 use Rattle.vm_journal.specs.declared.entry.What.TheVariants as what
 use Rattle.vm_state.specs.History.{entry_by}
-use Rattle.page_states.specs.RingSlots.{mark_back}
+use Rattle.page_readers.specs.RingSlots.{mark_back}
 use Rattle.vm_state.proofs.BackCloses as close
 use Rattle.vm_state.proofs.Closing.{may_before, pushed}
-use Rattle.page_states.proofs.Looked.{looked}
+use Rattle.page_readers.proofs.Looked.{looked}
 use Rattle.vm_state.proofs.Numbered.{numbered}
 use Rattle.vm_state.proofs.state.State.back.Goals as goal
 

@@ -6,7 +6,7 @@ use Rattle.vm_types.specs.declared.service.Service.TheVariants as service
 use Rattle.vm_state.specs.History.{entry_by}
 use Rattle.vm_state.proofs.Closing.{may_before, next_number, pushed}
 use Rattle.vm_state.proofs.DeleteCloses as close
-use Rattle.page_states.proofs.Looked.{looked}
+use Rattle.page_readers.proofs.Looked.{looked}
 use Rattle.vm_state.proofs.state.State.delete.Goals as goal
 
 pub loop-n-init : goal.loop-n-init
@@ -44,11 +44,11 @@ empty_frame-requires-clause-flights g c = λ f named.
 
 pub uncharge-requires-clause-assigned : goal.uncharge-requires-clause-assigned
 uncharge-requires-clause-assigned g c = λ p b found assigned.
-    close.can_release c.self.invariant c.args.seat c.args.at c.args.pages (may_before c.self.view_is c.requires).legal c.loop-n.n c.loop-n-test.true _ c.loop-n.invariant.parts p (sym c.at-kept.ensures ∙ found) b assigned
+    close.can_release c.self.invariant c.args.seat c.args.at c.args.pages (may_before c.self.view_is c.requires).legal c.loop-n.n c.loop-n-test.true _ c.loop-n.invariant.parts p (sym c.at-kept.ensures.value ∙ found) b assigned
 
 pub uncharge-requires-clause-charged : goal.uncharge-requires-clause-charged
 uncharge-requires-clause-charged g c = λ p found.
-    close.can_uncharge c.self.invariant c.args.seat c.args.at c.args.pages (may_before c.self.view_is c.requires).legal c.loop-n.n c.loop-n-test.true _ c.loop-n.invariant.parts p (sym c.at-kept.ensures ∙ found)
+    close.can_uncharge c.self.invariant c.args.seat c.args.at c.args.pages (may_before c.self.view_is c.requires).legal c.loop-n.n c.loop-n-test.true _ c.loop-n.invariant.parts p (sym c.at-kept.ensures.value ∙ found)
 
 pub forget-requires : goal.forget-requires
 forget-requires g c =
@@ -58,9 +58,9 @@ pub loop-n-preserved : goal.loop-n-preserved
 loop-n-preserved g c = record {
   parts = close.one_deleted c.self.invariant c.args.seat c.args.at c.args.pages (may_before c.self.view_is c.requires).legal c.loop-n.n c.loop-n-test.true _ c.loop-n.invariant.parts
       c.unwrap-place.result (sym (looked c.loop-n.self-inside.tables c.args.seat.0 (c.args.at.0 / 512 + c.loop-n.n) c.look.result c.entry_in.result c.look.ensures.value c.entry_in.ensures) ∙ c.unwrap-place.ensures)
-      c.at-kept.result c.at-kept.ensures c.empty_frame.new.frames (rw (← c.frames_mut.ensures.value) c.empty_frame.ensures.emptied) c.uncharge.new.file c.uncharge.ensures.uncharged
+      c.at-kept.result c.at-kept.ensures.value c.empty_frame.new.frames (rw (← c.frames_mut.ensures.value) c.empty_frame.ensures.emptied) c.uncharge.new.file c.uncharge.ensures.uncharged
       c.unmap.new.self c.unmap.ensures.procs c.unmap.ensures.changed c.forget.new.self c.forget.ensures.procs c.forget.ensures.parts c.forget.ensures.changed
-      c.set.new.self c.set.ensures.procs c.set.ensures.changed;
+      c.set.new.self c.set.ensures;
   store = close.frames_in c.self.inside.store c.loop-n.self-inside.store c.loop-n.self-inside.store.frames c.empty_frame.new.frames c.loop-n.invariant.store;
   config = c.loop-n.invariant.config;
   journal = c.loop-n.invariant.journal;

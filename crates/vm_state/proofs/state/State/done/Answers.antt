@@ -47,12 +47,6 @@ unwrap-requires g c =
     let same = (close.found_is c.self.invariant c.args.seat c.args.r may c.look-look.result c.frame_in.result c.look-look.ensures.value c.frame_in.ensures).1 c.unwrap-f.result c.unwrap-f.ensures in
     rw (c.row-kept.ensures.row, c.frames.ensures) (subst IsSome (sym (close.page_held c.self.invariant c.args.seat c.args.r may c.unwrap-f.result same)) refl)
 
-pub touch-requires : goal.touch-requires
-touch-requires g c =
-    let may = (close.some_legal (close.answer_before c.self.view_is c.requires)) in
-    let same = (close.found_is c.self.invariant c.args.seat c.args.r may c.look-look.result c.frame_in.result c.look-look.ensures.value c.frame_in.ensures).1 c.unwrap-f.result c.unwrap-f.ensures in
-    close.may_touch c.self.invariant c.args.seat c.args.r may c.unwrap-f.result same c.unwrap.result (sym (ap (λ (z : Row). z.page) (c.row-kept.ensures.row ∙ ap (λ (fs : Frames). row_of fs c.unwrap-f.result.0) c.frames.ensures)) ∙ c.unwrap.ensures)
-
 pub bytes_mut-requires-after_bounds : goal.bytes_mut-requires-after_bounds
 bytes_mut-requires-after_bounds g c = λ κs outlives.
     let may = (close.some_legal (close.answer_before c.self.view_is c.requires)) in
@@ -77,7 +71,7 @@ invariant_of-self g c =
     (close.done_closes c.self.invariant c.args.seat c.args.r legal c.unwrap-f.result same may.paid c.index_mut-row.result.now c.index_mut-row.ensures.value c.index_mut-spoken.result.now c.index_mut-spoken.ensures.value
     _ (next_number _ c.len-number.result c.len-number.ensures.len) c.row-kept.result (rw (← c.frames.ensures) c.row-kept.ensures.row) c.marked.result c.marked.ensures
     c.mark.new.self (rw (← c.frames_mut.ensures.value) c.mark.ensures.rows) (rw (← c.frames_mut.ensures.value) c.mark.ensures.free) (rw (← c.frames_mut.ensures.value) c.mark.ensures.modified)
-    c.unwrap.result c.unwrap.ensures c.touch.new.pages c.touch.ensures.procs c.touch.ensures.changed
+    c.unwrap.result c.unwrap.ensures c.touch.new.pages c.touch.ensures
     c.bytes_mut.result.now c.apply-reply.new.page c.bytes_mut.ensures.bytes c.apply-reply.ensures.bytes
     (λ told. close.done_right c.self.invariant c.args.seat c.args.r legal c.unwrap-f.result same c.bytes_mut.result.now c.bytes_mut.ensures.bytes c.apply-reply.ensures.reply told))
 

@@ -6,8 +6,14 @@ use Rattle.vm_state.specs.History.{History}
 use Rattle.vm_state.proofs.EndCloses as close
 use Rattle.vm_state.proofs.state.State.finish.Goals as goal
 
-pub into_blocks-requires-after_bounds : goal.into_blocks-requires-after_bounds
-into_blocks-requires-after_bounds g c κs within = close.all_home c.self.invariant (subst (λ (s : History). open_flights s.past ≡ []) (sym c.self.view_is) c.requires)
+pub into_blocks-requires-clause-buffers : goal.into_blocks-requires-clause-buffers
+into_blocks-requires-clause-buffers g c κs within = close.all_in c.self.invariant (subst (λ (s : History). open_flights s.past ≡ []) (sym c.self.view_is) c.requires)
+
+pub into_blocks-requires-clause-left : goal.into_blocks-requires-clause-left
+into_blocks-requires-clause-left g c κs within = close.full c.self.invariant (subst (λ (s : History). open_flights s.past ≡ []) (sym c.self.view_is) c.requires)
+
+pub into_blocks-requires-clause-blocks : goal.into_blocks-requires-clause-blocks
+into_blocks-requires-clause-blocks g c κs within = close.all_home c.self.invariant (subst (λ (s : History). open_flights s.past ≡ []) (sym c.self.view_is) c.requires)
 
 pub returns-clause-blocks : goal.returns-clause-blocks
 returns-clause-blocks g c =

@@ -8,7 +8,7 @@ use Rattle.vm_state.specs.History.{History, entry_by}
 use Rattle.vm_state.specs.ReadRoles.{IsReadAs}
 use Rattle.vm_state.proofs.Closing.{may_before, pushed}
 use Rattle.vm_state.proofs.InOkCloses as ended
-use Rattle.page_states.proofs.Looked.{looked}
+use Rattle.page_readers.proofs.Looked.{looked}
 use Rattle.vm_state.proofs.Numbered.{numbered}
 use Rattle.vm_state.proofs.ReadLands.{fits_before}
 use Rattle.vm_state.proofs.ReadsValid as close

@@ -4,7 +4,7 @@ use Rattle.vm_journal.specs.declared.entry.Entry.{Entry}
 use Rattle.vm_journal.specs.declared.entry.What.TheVariants as what
 use Rattle.page_moves.specs.Moves.{number_by}
 use Rattle.state_parts.specs.declared.process_row.ProcessRow.{ProcessRow}
-use Rattle.page_states.specs.ReadStarts.{CountsFault}
+use Rattle.page_readers.specs.ReadStarts.{CountsFault}
 use Rattle.vm_state.specs.History.{History, entry_by}
 use Rattle.vm_state.specs.LiftsBegin.{HasBegun}
 use Rattle.lift_carriers.specs.LiftsFit.{LiftFits}

@@ -27,7 +27,9 @@ pub begin_write-requires-clause-flights : goal.begin_write-requires-clause-fligh
 begin_write-requires-clause-flights g c = rw c.frames_mut.ensures.value ((begin.can c.self.invariant c.args.seat c.args.f c.args.block (may_before c.self.view_is c.requires).legal).flights)
 
 pub give_block-requires : goal.give_block-requires
-give_block-requires g c = close.may c.self.invariant c.args.seat c.args.f c.args.block (may_before c.self.view_is c.requires).legal c.row-kept.result.page (ap (λ (r : Row). r.page) c.row-kept.ensures.row ∙ ap (λ (x : Frames). (row_of x c.args.f.0).page) c.frames.ensures)
+give_block-requires g c =
+    let page_is = ap (λ (r : Row). r.page) c.row-kept.ensures.row ∙ ap (λ (x : Frames). (row_of x c.args.f.0).page) c.frames.ensures in
+    close.may c.self.invariant c.args.seat c.args.f c.args.block (may_before c.self.view_is c.requires).legal c.unwrap-page.result (sym page_is ∙ c.unwrap-page.ensures)
 
 pub index_mut-requires : goal.index_mut-requires
 index_mut-requires g c =
@@ -57,15 +59,15 @@ invariant_of-self g c =
     let may = may_before c.self.view_is c.requires in
     let page_is = ap (λ (r : Row). r.page) c.row-kept.ensures.row ∙ ap (λ (x : Frames). (row_of x c.args.f.0).page) c.frames.ensures in
     pushed _ _ (entry_by c.args.seat (what.Out c.args.f c.args.block)) c.push.new.self c.push.ensures
-    (close.out_closes c.self.invariant c.args.seat c.args.f c.args.block (may_before c.self.view_is c.requires).legal c.begin_write.new.frames c.lift_out-lift.new.self c.index_mut-busy.result.now refl c.give_block.new.pages
-    _ (next_number _ c.len-start.result c.len-start.ensures.len) c.row-kept.result.page page_is c.give_block.new.file c.give_block.ensures.file may.paid
+    (close.out_closes c.self.invariant c.args.seat c.args.f c.args.block (may_before c.self.view_is c.requires).legal c.begin_write.new.frames c.lift_out-lift.new.self c.index_mut-busy.result.now refl c.give_block.new.pages c.unwrap-page.result
+    _ (next_number _ c.len-start.result c.len-start.ensures.len) c.give_block.new.file c.give_block.ensures.file may.paid
     (record {
       rows = rw (← c.frames_mut.ensures.value) c.begin_write.ensures.rows;
       free = rw (← c.frames_mut.ensures.value) c.begin_write.ensures.free;
       modified = rw (← c.frames_mut.ensures.value) c.begin_write.ensures.modified;
       busy = c.index_mut-busy.ensures.value;
-      procs = c.give_block.ensures.procs;
-      pages = close.pages_given c.self.inside.pages c.give_block.new.pages c.row-kept.result.page (row_of c.self.inside.store.frames c.args.f.0).page page_is c.args.block c.give_block.ensures.rows;
+      page = sym page_is ∙ c.unwrap-page.ensures;
+      pages = c.give_block.ensures.rows;
     })
     c.lift_out-lift.ensures.store)
 

@@ -1,5 +1,6 @@
 use Rattle.std.proofs.Common.{refl, arith, ap, ◌∙◌}
 use Rattle.frame_store.specs.StoreView.{StoreView}
+use Rattle.state_fits.proofs.PartsSet.{table_same}
 use Rattle.vm_state.specs.History.{entry_by}
 use Rattle.vm_state.proofs.Closing.{may_before, pushed}
 use Rattle.vm_state.proofs.OutFailCloses as close
@@ -42,8 +43,8 @@ invariant_of-self g c =
       free = rw (← (c.frames_mut.ensures.value ∙ (ap (λ (s : StoreView g.row.B.Denot). s.frames) c.land.ensures.store))) c.end_write.ensures.free;
       modified = rw (← (c.frames_mut.ensures.value ∙ (ap (λ (s : StoreView g.row.B.Denot). s.frames) c.land.ensures.store))) c.end_write.ensures.modified;
       busy = c.index_mut-busy.ensures.value;
-      page_procs = refl;
-      pages = λ q w. refl;
+      page = close.holds c.self.invariant c.args.seat c.args.lift c.args.before c.args.after may.legal (fits_before g.B.Block.seen g.B.Block.tells c.args.lift c.self.view_is c.requires.fits) c.frame-f.result.0 c.frame-f.ensures;
+      pages = table_same c.self.inside.pages _ _ refl;
       swap_procs = refl;
       swaps = λ q m. refl;
     }))

@@ -22,8 +22,8 @@ section_page-number-requires-clause-small g c =
     let small = (has_number c.self.invariant c.args.s.0 c.args.i there).small in
     rw c.deref.ensures.value (omega (arith, number, small))
 
-pub frame-requires : goal.frame-requires
-frame-requires g c =
+pub frame-frame-requires : goal.frame-frame-requires
+frame-frame-requires g c =
     let there = subst (λ (s : History). IsSectionPage s.config.sections c.args.s.0 c.args.i) (sym c.self.view_is) c.requires in
     rw (c.section_page-number.ensures, c.deref.ensures.value, shows.number_is c.self.invariant c.args.s.0 c.args.i there)
     (let within = number_within c.self.inside.config c.args.s.0 c.args.i there in let count = c.self.invariant.parts.globals.count in omega (arith, within, count))
@@ -31,6 +31,7 @@ frame-requires g c =
 pub returns : goal.returns
 returns g c =
     let there = subst (λ (s : History). IsSectionPage s.config.sections c.args.s.0 c.args.i) (sym c.self.view_is) c.requires in
-    shows.shared_is c.self.invariant c.args.s c.args.i c.frame.result there
-    (c.frame.ensures ∙ ap (frame_of c.self.inside.globals) (c.section_page-number.ensures ∙ (ap (λ (xs : List ℕ). slice_index xs c.args.s.0 + c.args.i) c.deref.ensures.value ∙ shows.number_is c.self.invariant c.args.s.0 c.args.i there)))
+    c.shared_backing.ensures
+    ∙ shows.shared_is c.self.invariant c.args.s c.args.i c.at-kept.result c.shared_home.result c.frame-frame.result there c.at-kept.ensures.value c.shared_home.ensures
+    (c.frame-frame.ensures ∙ ap (frame_of c.self.inside.globals) (c.section_page-number.ensures ∙ (ap (λ (xs : List ℕ). slice_index xs c.args.s.0 + c.args.i) c.deref.ensures.value ∙ shows.number_is c.self.invariant c.args.s.0 c.args.i there)))
     ∙ ap (λ (s : History). backing_in s.config (pager s) (Shared c.args.s c.args.i)) c.self.view_is

@@ -1,5 +1,7 @@
-use Rattle.std.proofs.Common.{ℕ, ◌+◌, List, None, length, map, replicate, refl, ap, ◌∙◌}
+use Rattle.std.proofs.Common.{ℕ, ◌+◌, List, None, length, map, replicate, refl, ap, subst, ◌∙◌}
 use Rattle.vm_types.specs.declared.config.ProcSpec.{ProcSpec}
+use Rattle.vm_types.specs.declared.config.Section.{Section}
+use Rattle.state_parts.specs.ChargedTable.{HasPagedPlaces}
 use Rattle.state_fits.specs.Opening.{first_row, unspoken}
 use Rattle.vm_state.proofs.StartCloses.{started}
 use Rattle.vm_state.proofs.state.State.start_with.Goals as goal
@@ -9,6 +11,7 @@ invariant_of-result g c =
     started g.B.Block.seen g.B.Block.tells c.args.config c.args.blocks.items c.in_ok-store.store
     (record {
       left = c.in_ok-store.ensures.left;
+      size = c.in_ok-store.ensures.size;
       buffers = c.in_ok-store.ensures.buffers;
       ids = c.in_ok-store.ensures.ids;
       blocks_are = c.in_ok-store.ensures.blocks;
@@ -28,6 +31,7 @@ invariant_of-result g c =
       kinds = c.in_ok-new.ensures.parts;
       behind = c.in_ok-new.ensures.behind;
       page_procs = c.in_ok-new-2.ensures.procs ∙ ap length c.items-procs.ensures;
+      page_places = subst (λ (sections : List Section). HasPagedPlaces sections c.in_ok-new-2.field-0) c.items-2.ensures c.in_ok-new-2.ensures.places;
       pages = c.in_ok-new-2.ensures.none;
       globals = c.in_ok-new-3.ensures ∙ ap (λ (n : ℕ). record { frames = replicate n None; counts = replicate n 0 }) c.in_ok-firsts.ensures.total;
       file = c.in_ok-new-4.ensures.made;

@@ -1,0 +1,81 @@
+-- Why a line of an input is at fault, in words. Source: this project's own.
+use Rattle.std.specs.Prelude.{ℕ, ◌==◌, Bool, true, false, ◌&&◌, ◌||◌, if◌then◌else◌, List, [], ◌∷◌, ◌++◌, codes, decimal}
+use Rattle.trace_words.specs.declared.cause.Cause.{Cause}
+use Rattle.trace_words.specs.declared.cause.Cause.TheVariants.{LineTooLong, NotAscii, TooMany, UnknownWord, Misplaced, NoSuch, BadNumber, OutOfRange, Unaligned, Repeated}
+use Rattle.trace_lines.specs.declared.breach.Bound.{Bound}
+use Rattle.trace_lines.specs.declared.breach.Bound.TheVariants.{Free, Within, Multiple, Next, BelowFrames, Bytes, Pages, Regions, Locks, Quota, Extent, LoLimit, HiLimit, FreeLim, Frames}
+use Rattle.trace_lines.specs.declared.breach.Breach.{Breach}
+
+-- the rule that the word of this number breaks
+abbrev pub rule_text : ℕ → Cause → List ℕ
+rule_text word LineTooLong = codes "the line has more than 255 bytes"
+rule_text word NotAscii = codes "the line has a byte that is neither a blank, a tab nor a printable character"
+rule_text word TooMany = codes "there are more lines, sections, section pages, processes or requests than a trace may have"
+rule_text word UnknownWord = codes "the word is none of those that may stand in its place"
+rule_text word Misplaced = if word == 1 then codes "the line doesn't belong here" else codes "the line has too many or too few words"
+rule_text word NoSuch = codes "no earlier line declares this"
+rule_text word BadNumber = codes "the word stands in the place of a number and is none"
+rule_text word OutOfRange = codes "the number is out of its range"
+rule_text word Unaligned = codes "the address isn't a multiple of the page size or of the width of the reference"
+rule_text word Repeated = codes "this was declared before"
+
+-- a text with a number, and one with the same number twice
+abbrev pub with_one : List ℕ → ℕ → List ℕ → List ℕ
+with_one front n back = front ++ decimal n ++ back
+
+abbrev pub with_two : List ℕ → ℕ → List ℕ → ℕ → List ℕ
+with_two front n middle m = front ++ decimal n ++ middle ++ decimal m
+
+-- what may stand in the place of a word, with the numbers that are at play; of a word that may be anything the
+-- rule that it breaks
+abbrev pub bound_text : List ℕ → Bound → List ℕ
+bound_text rule Free = rule
+bound_text rule (Within low high) = with_two (codes "the number is from ") low (codes " to ") high
+bound_text rule (Multiple bytes) = with_one (codes "the address has 1 to 8 hexadecimal digits, and is a multiple of ") bytes []
+bound_text rule (Next p) = codes "processes are declared in the order of their letters, from A on"
+bound_text rule (BelowFrames n) = with_two (codes "FRAMES is ") n (codes ", so the frame's number is below ") n
+bound_text rule (Bytes n) = with_one (codes "the section has ") n (codes " bytes, and those from this place on lie in it")
+bound_text rule (Pages n) = with_one (codes "the section has ") n (codes " pages, and those from this page on are among them")
+bound_text rule Regions = codes "the pages lie in P0 pages 0 to 4095, or in the last 1024 pages of P1"
+bound_text rule (Locks n) = with_two (codes "the limit is ") n (codes ", so the locks and 2 are at most ") n
+bound_text rule (Quota n) = with_two (codes "the limit is ") n (codes ", so the quota is at least ") n
+bound_text rule (Extent n) = with_two (codes "the quota is ") n (codes ", so the extent is at least ") n
+bound_text rule (LoLimit n) = with_two (codes "HILIMIT is ") n (codes ", so LOLIMIT is at most ") n
+bound_text rule (HiLimit n) = with_two (codes "WAITLIMIT is ") n (codes ", so HILIMIT is at most ") n
+bound_text rule (FreeLim n) = with_two (codes "FREEGOAL is ") n (codes ", so FREELIM is at most ") n
+bound_text rule (Frames n) = with_two (codes "FRAMES is ") n (codes ", so each extent, the bad frames and 2 are at most ") n
+
+abbrev pub breach_text : Breach → List ℕ
+breach_text breach = bound_text (rule_text breach.word breach.cause) breach.bound
+
+-- whether the text begins with these bytes
+abbrev pub begins : List ℕ → List ℕ → Bool
+begins [] text = true
+begins (byte ∷ front) [] = false
+begins (byte ∷ front) (first ∷ text) = (byte == first) && begins front text
+
+-- what stands in the place of a trace, by the first bytes of its first line: a byte order mark of UTF-8, one of
+-- UTF-16, a log, or a dump
+abbrev pub is_marked : List ℕ → Bool
+is_marked text = begins (239 ∷ 187 ∷ 191 ∷ []) text
+
+abbrev pub is_wide : List ℕ → Bool
+is_wide text = begins (254 ∷ 255 ∷ []) text || begins (255 ∷ 254 ∷ []) text
+
+abbrev pub is_log : List ℕ → Bool
+is_log text = begins (codes "1 ") text || begins (codes "PFN AT ") text
+
+abbrev pub is_dump : List ℕ → Bool
+is_dump text = begins (codes "VMSDUMP") text
+
+-- why a first line is at fault: what it is, if its first bytes say so, else this
+abbrev pub first_reason : List ℕ → List ℕ → List ℕ
+first_reason reason text =
+    if is_marked text then codes "a byte order mark stands in front of the trace, which is plain ASCII" else
+    if is_wide text then codes "the input begins as UTF-16 does, and a trace is plain ASCII" else
+    if is_log text then codes "the input begins as a log does, and a trace begins with VMTRACE 1" else
+    if is_dump text then codes "the input begins as a dump does, and a trace begins with VMTRACE 1" else reason
+
+-- why a line of this number is at fault
+abbrev pub reason_text : ℕ → Breach → List ℕ → List ℕ
+reason_text number breach text = if number == 1 then first_reason (breach_text breach) text else breach_text breach

@@ -1,0 +1,5 @@
+pub mod Numbers
+pub mod Entries
+pub mod Shared
+pub mod Bounded
+pub mod NoneWrong

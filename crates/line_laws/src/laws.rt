@@ -1,7 +1,0 @@
-ghost use Rattle.line_laws.specs.Laws.{RunsHaveLines};
-
-/// Each entry of a run has a line: its seat has a name, and each number that its line has is within
-/// the bound of its kind.
-pub fn runs_have_lines()
-    ensures { RunsHaveLines }
-{}

@@ -1,6 +1,0 @@
-mod Choices
-mod Clusters
-mod FreeBlocks
-mod Leads
-mod Ranges
-mod SharedPlaces

@@ -1,8 +1,0 @@
-use Rattle.std.proofs.Common.{◌≡◌}
-use Rattle.log_pager.specs.Shown.{shown}
-use Rattle.log_cleaning.proofs.SharedPlaces.{of_those_from}
-use Rattle.log_cleaning.proofs.places.shared_of_processes.Given as goal
-
--- no process before this one has a shared page
-abbrev pub invariant-loop-q : goal.invariant-loop-q
-invariant-loop-q l = of_those_from (shown l.pager).pager l.count l.first ≡ of_those_from (shown l.pager).pager l.count l.q

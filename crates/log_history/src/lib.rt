@@ -1,0 +1,23 @@
+//! What the rows of legal steps ask of the past: a state that stands for a list of entries without
+//! keeping it.
+#![tactic(auto)]
+
+mod blocks;
+mod carriers;
+mod carrying;
+mod count;
+mod counts;
+mod direction;
+mod flight;
+mod flights;
+mod log_history;
+mod open;
+mod orders;
+mod readers;
+mod rundown_readers;
+mod spoken;
+
+pub use carrying::Carrying;
+pub use direction::Direction;
+pub use flight::Flight;
+pub use log_history::LogHistory;

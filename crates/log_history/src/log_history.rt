@@ -1,0 +1,86 @@
+ghost use Rattle.std.specs.Prelude.{◌≡◌, ◌+◌, ◌<◌, ◌^◌, [], ◌∷◌, length, IfOk, OnOk, OnErr};
+ghost use Rattle.vm_types.specs.Configuration.{IsWellFormed};
+ghost use Rattle.pager_model.specs.Flights.{open_flights};
+
+use crate::carriers::Carriers;
+use crate::counts::Counts;
+use crate::flight::Flight;
+use crate::flights::Flights;
+use crate::orders::Orders;
+use std::alloc::Global;
+use std::marker::Model;
+use vm_journal::{Entry, Past};
+use vm_types::{Config, NoMemory};
+
+/// What the rows of legal steps ask of the entries so far, which aren't kept. Contracts see the
+/// configuration and the entries, the newest first.
+#[derive(Drop)]
+pub struct LogHistory<'a> {
+    pub(crate) config: &'a Config,
+    pub(crate) past: Past,
+    pub(crate) count: u64,
+    pub(crate) flights: Flights,
+    pub(crate) failed: Option<Flight>,
+    pub(crate) carriers: Carriers,
+    pub(crate) counts: Counts,
+    pub(crate) orders: Orders<'a>,
+}
+
+impl<'a> Model for LogHistory<'a> {
+    ghost use Rattle.log_history.specs.Standing.{Passed, StandsFor};
+
+    ghost Value = { Passed };
+
+    ghost view = { λ s. record { config = s.config.now; past = s.past.entries } };
+
+    ghost invariant = { λ s. StandsFor s.config.now s.past.entries s.count s.flights s.failed s.carriers s.counts s.orders };
+}
+
+impl<'a> LogHistory<'a> {
+    ghost use Rattle.log_history.specs.Standing.{FailsOpen};
+
+    /// No entries.
+    ///
+    /// # Errors
+    /// `NoMemory` if out of memory.
+    pub fn new(alloc: Global, config: &'a Config) -> Result<LogHistory<'a>, NoMemory>
+        requires { IsWellFormed config.now }
+        ensures { IfOk result (λ s. s ≡ record { config = config.now; past = [] }) }
+    {
+        let procs = config.procs.items().len();
+        Ok(LogHistory {
+            config,
+            past: Past::new(),
+            count: 0,
+            flights: Flights::new(alloc),
+            failed: None,
+            carriers: Carriers::new(alloc, procs + 2)?,
+            counts: Counts::new(alloc),
+            orders: Orders::new(alloc, config.body.items(), procs)?,
+        })
+    }
+
+    /// One more entry, of a process, the writer or the swapper; a read that fails is open.
+    ///
+    /// # Errors
+    /// `NoMemory` if out of memory; nothing is changed then.
+    pub fn add(&mut self, e: Entry) -> Result<(), NoMemory>
+        requires seat { (e.seat).0 < length self.old.config.procs + 2 }
+        requires few { length self.old.past + 1 < 2 ^ 48 }
+        requires fails_open { FailsOpen e.what (open_flights self.old.past) }
+        ensures ok { OnOk result (self.new ≡ record self.old { past = e ∷ self.old.past }) }
+        ensures err { OnErr result (self.new ≡ self.old) }
+    {
+        let failed = self.flights.failed_by(e.what);
+        let busy = self.flights.is_busy(e.seat);
+        let number = self.count + 1;
+        self.counts.add(&self.flights, e.what)?;
+        self.flights.add(number, e.seat, e.what)?;
+        self.carriers.add(number, e.seat, busy, e.what);
+        self.orders.add(e.seat, e.what);
+        self.failed = failed;
+        self.count = number;
+        self.past = self.past.then(&e);
+        Ok(())
+    }
+}

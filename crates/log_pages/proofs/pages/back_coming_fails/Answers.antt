@@ -1,0 +1,9 @@
+use Rattle.std.proofs.Common.{IsNone, refl}
+use Rattle.log_pager.specs.Shown.{shown}
+use Rattle.log_pages.proofs.ComingBack.{coming_back}
+use Rattle.log_pages.proofs.pages.back_coming_fails.Goals as goal
+
+pub returns-clause-legal : goal.returns-clause-legal
+returns-clause-legal c =
+    let a = (shown c.args.pager.now).pager in
+    coming_back c.args.config.now a c.args.p.0 c.args.a.0 c.args.f.0 c.args.from (IsNone c.swapped_fails.result) c.requires (c.in_default.ensures.legal.0 refl) c.swapped_fails.ensures.legal

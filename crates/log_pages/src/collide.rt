@@ -1,0 +1,81 @@
+//! COLLIDE: why a fault on a page may not meet a read of it by another seat.
+
+ghost use Rattle.std.specs.Prelude.{◌≡◌, ◌↔◌, true, Some, IfSome, IsNone, find};
+ghost use Rattle.vm_types.specs.declared.names.Page.{Page as AnyPage};
+ghost use Rattle.pager_model.specs.Collide.{IsCollide};
+ghost use Rattle.pager_model.specs.Flights.{Flight as OpenFlight, is_reading, open_flights};
+ghost use Rattle.pager_model.specs.Lookups.{page_by};
+ghost use Rattle.pager_model.specs.Transfers.{starts};
+ghost use Rattle.log_reasons.specs.RowReasons.{CollideFails, NamedFails, OtherReadFails};
+ghost use Rattle.log_pager.specs.Shown.{shown};
+
+use log_history::LogHistory;
+use log_pager::LogPager;
+use log_reasons::Reason;
+use log_services::own_fails;
+use vm_types::{Addr, Config, Pfn, Proc, Seat};
+
+/// Why the transfer that entry k began isn't another seat's open read into the frame.
+fn other_read_fails(past: &LogHistory<'_>, p: Proc, f: Pfn, k: u64) -> Option<Reason>
+    ensures legal { IsNone result ↔ ((x : OpenFlight) × (find (starts k) (open_flights past.now.past) ≡ Some x) × (x.frame ≡ f.0)
+        × (is_reading x.direction ≡ true) × (x.seat ≡ p.0 → ⊥)) }
+    ensures said { IfSome result (OtherReadFails past.now.past p.0 f.0 k) }
+{
+    match past.flight(k) {
+        None => Some(Reason::NoOpenTransfer),
+        Some(x) => {
+            if x.frame().0 != f.0 {
+                return Some(Reason::TransferOfOtherFrame(x.frame()));
+            }
+            if !x.direction().is_reading() {
+                return Some(Reason::TransferGoesOtherWay);
+            }
+            if x.seat().0 == p.0 {
+                return Some(Reason::TransferIsOwn);
+            }
+            None
+        }
+    }
+}
+
+/// Why the frame doesn't hold the page, or the process named the read before.
+fn named_fails(config: &Config, pager: &LogPager, p: Proc, v: u32, f: Pfn, k: u64) -> Option<Reason>
+    ensures legal { IsNone result ↔ (((page : AnyPage) × (page_by config.now (shown pager.now).pager.map p.0 v ≡ Some page) × ((shown pager.now).pager.page f.0 ≡ Some page))
+        × ((shown pager.now).pager.collided p.0 ≡ Some k → ⊥)) }
+    ensures said { IfSome result (NamedFails config.now (shown pager.now).pager p.0 v f.0 k) }
+{
+    let mapped = pager.page_of(config, p, v);
+    if mapped.is_none() {
+        return Some(Reason::NotMapped);
+    }
+    let held = pager.page(f);
+    if held != mapped {
+        return Some(Reason::HoldsOtherPage(held));
+    }
+    if pager.collided(p) == Some(k) {
+        return Some(Reason::CollisionIsNamed);
+    }
+    None
+}
+
+/// Why the collision of a seat with a read into a frame isn't legal.
+pub fn collide_fails(
+    past: &LogHistory<'_>,
+    pager: &LogPager,
+    seat: Seat,
+    a: Addr,
+    f: Pfn,
+    k: u64,
+) -> Option<Reason>
+    ensures legal { IsNone result ↔ IsCollide past.now.config past.now.past (shown pager.now).pager seat.0 a.0 f.0 k }
+    ensures said { IfSome result (CollideFails past.now.config past.now.past (shown pager.now).pager seat.0 a.0 f.0 k) }
+{
+    let p = Proc(seat.0);
+    if let Some(reason) = own_fails(past.config(), pager, p) {
+        return Some(reason);
+    }
+    if let Some(reason) = other_read_fails(past, p, f, k) {
+        return Some(reason);
+    }
+    named_fails(past.config(), pager, p, a.0 / 512, f, k)
+}

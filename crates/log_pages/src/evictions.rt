@@ -1,0 +1,397 @@
+//! EVICT: why a page may not leave a working set.
+
+ghost use Rattle.std.specs.Prelude.{◌≡◌, ◌↔◌, ◌⊎◌, ◌+◌, ◌<◌, ◌≤◌, ℕ, false, true, Some, IfSome, IsNone, IsTrue, length, slice_get};
+ghost use Rattle.vm_types.specs.Ring.{Held as HeldPage, choose, filled, is_fixed};
+ghost use Rattle.vm_types.specs.declared.names.Page.{Page as AnyPage};
+ghost use Rattle.pager_model.specs.Evict.{IsDropped, IsEvict, IsLeavingEvict, IsReplace, IsRundownEvict, IsTaken, Waits, evicted_to};
+ghost use Rattle.pager_model.specs.Flights.{open_flights};
+ghost use Rattle.pager_model.specs.Lookups.{slot_with};
+ghost use Rattle.pager_model.specs.Maps.{is_private};
+ghost use Rattle.pager_model.specs.Order.{IsAnswered, IsInOrder};
+ghost use Rattle.pager_model.specs.Transfers.{reads_on, writes_on};
+ghost use Rattle.log_reasons.specs.EvictReasons.{DroppedFails, EvictFails, FullFails, LeavingFails, LooseFails, ReplaceFails, RundownFails, TakenFails, UnpinnedFails, VictimFails, WaitsFails, WriterFails, victim_slot};
+ghost use Rattle.log_reasons.specs.RowReasons.{SeatFails, StatusFails};
+ghost use Rattle.log_pager.specs.Shown.{shown};
+
+use log_history::LogHistory;
+use log_pager::LogPager;
+use log_reasons::Reason;
+use log_services::{is_private, own_fails};
+use log_tables::Ring;
+use vm_journal::EvictWhy;
+use vm_types::{Addr, BlockId, Choice, FrameState, Page, Pfn, Proc, ProcStatus, Seat};
+
+/// Where a frame goes, by how many entries share it, how many flights it has, and its modify mark.
+fn evicted_to(shares: usize, flights: usize, modified: bool) -> FrameState
+    ensures { result ≡ evicted_to shares flights modified }
+{
+    if 1 < shares {
+        FrameState::Active
+    } else if 0 < flights {
+        FrameState::ReleasePending
+    } else if modified {
+        FrameState::Modified
+    } else {
+        FrameState::Free
+    }
+}
+
+/// Why a process's page isn't valid in the frame, or that doesn't go to this state.
+fn taken_fails(
+    past: &LogHistory<'_>,
+    pager: &LogPager,
+    p: Proc,
+    v: u32,
+    f: Pfn,
+    to: FrameState,
+) -> Option<Reason>
+    ensures legal { IsNone result ↔ IsTaken past.now.past (shown pager.now).pager p.0 v f.0 to }
+    ensures said { IfSome result (TakenFails past.now.past (shown pager.now).pager p.0 v f.0 to) }
+{
+    match pager.entry(p, v) {
+        None => Some(Reason::PageNotValid),
+        Some(entry) => {
+            if entry.frame().0 != f.0 {
+                return Some(Reason::ValidInOtherFrame(entry.frame()));
+            }
+            let goes = evicted_to(pager.shares(f), past.flights_on(f), pager.is_modified(f));
+            if to != goes {
+                return Some(Reason::GoesElsewhere(goes));
+            }
+            None
+        }
+    }
+}
+
+/// Why the frame may not go onto the modified list, if it goes there.
+fn waits_fails(past: &LogHistory<'_>, pager: &LogPager, to: FrameState) -> Option<Reason>
+    ensures legal { IsNone result ↔ Waits past.now.config (shown pager.now).pager to }
+    ensures said { IfSome result (WaitsFails past.now.config (shown pager.now).pager to) }
+{
+    let most = past.config().params.waitlimit;
+    if to == FrameState::Modified && most as usize <= pager.modified_frames() {
+        return Some(Reason::ModifiedListAtWaitLimit(most));
+    }
+    None
+}
+
+/// Why a process's working set isn't at its limit or above.
+fn full_fails(pager: &LogPager, p: Proc) -> Option<Reason>
+    requires { p.0 < (shown pager.now).processes }
+    ensures legal { IsNone result ↔ ((shown pager.now).pager.limit p.0 ≤ filled ((shown pager.now).pager.ring p.0).slots) }
+    ensures said { IfSome result (FullFails (shown pager.now).pager p.0) }
+{
+    let count = pager.ring(p).filled();
+    let limit = pager.limit_of(p);
+    if count < limit {
+        return Some(Reason::CountBelowLimit(count, limit));
+    }
+    None
+}
+
+/// The slot of the ring's victim, if there is one.
+fn victim_slot(choice: Choice) -> Option<u32>
+    ensures { result ≡ victim_slot choice }
+{
+    match choice {
+        Choice::Victim(slot) => Some(slot),
+        Choice::Empty(_) | Choice::AllLocked => None,
+    }
+}
+
+/// Whether the ring's victim is in a slot with this page.
+#[tactic(auto, using(log_services::proofs::Slots::held_there, log_services::proofs::Slots::none_there))]
+fn is_victim(ring: &Ring, limit: u32, v: u32) -> bool
+    ensures { IsTrue result ↔ ((slot : ℕ) × (held : HeldPage) × (choose ring.now limit ≡ Choice.Victim slot)
+        × (slice_get ring.now.slots slot ≡ Some (Some held)) × (held.vpn ≡ v)) }
+{
+    match ring.choose(limit) {
+        Choice::Victim(slot) => match ring.at(slot) {
+            None => false,
+            Some(held) => held.vpn() == v,
+        },
+        Choice::Empty(_) | Choice::AllLocked => false,
+    }
+}
+
+/// Why the page isn't in the slot of the ring's victim.
+fn victim_fails(ring: &Ring, limit: u32, v: u32) -> Option<Reason>
+    ensures legal { IsNone result ↔ ((slot : ℕ) × (held : HeldPage) × (choose ring.now limit ≡ Choice.Victim slot)
+        × (slice_get ring.now.slots slot ≡ Some (Some held)) × (held.vpn ≡ v)) }
+    ensures said { IfSome result (VictimFails ring.now limit v) }
+{
+    if is_victim(ring, limit, v) {
+        return None;
+    }
+    Some(Reason::NotTheVictim(victim_slot(ring.choose(limit))))
+}
+
+/// Why a page may not be replaced.
+fn replace_fails(
+    past: &LogHistory<'_>,
+    pager: &LogPager,
+    p: Proc,
+    a: Addr,
+    f: Pfn,
+    to: FrameState,
+) -> Option<Reason>
+    requires { (shown pager.now).processes ≡ length past.now.config.procs }
+    ensures legal { IsNone result ↔ IsReplace past.now.config past.now.past (shown pager.now).pager p.0 a.0 f.0 to }
+    ensures said { IfSome result (ReplaceFails past.now.config past.now.past (shown pager.now).pager p.0 a.0 f.0 to) }
+{
+    let v = a.0 / 512;
+    if let Some(reason) = own_fails(past.config(), pager, p) {
+        return Some(reason);
+    }
+    if let Some(reason) = full_fails(pager, p) {
+        return Some(reason);
+    }
+    if let Some(reason) = victim_fails(pager.ring(p), pager.limit_of(p), v) {
+        return Some(reason);
+    }
+    if let Some(reason) = taken_fails(past, pager, p, v, f, to) {
+        return Some(reason);
+    }
+    waits_fails(past, pager, to)
+}
+
+/// Why a page may not leave its slot: it is purged, and locked or pinned.
+#[tactic(auto, using(log_services::proofs::Slots::held_there, log_services::proofs::Slots::none_there))]
+fn loose_fails(ring: &Ring, v: u32, purged: bool) -> Option<Reason>
+    ensures legal { IsNone result ↔ ((held : HeldPage) → slice_get ring.now.slots (slot_with ring.now v) ≡ Some (Some held) → purged ≡ true → is_fixed held ≡ false) }
+    ensures said { IfSome result (LooseFails ring.now v purged) }
+{
+    match ring.at(ring.slot_with(v)) {
+        None => None,
+        Some(held) => {
+            if purged && held.is_fixed() {
+                return Some(Reason::PageIsFixed);
+            }
+            None
+        }
+    }
+}
+
+/// Why a page may not be purged, or leave for its deletion.
+fn dropped_fails(
+    past: &LogHistory<'_>,
+    pager: &LogPager,
+    p: Proc,
+    a: Addr,
+    f: Pfn,
+    purged: bool,
+    to: FrameState,
+) -> Option<Reason>
+    requires { (shown pager.now).processes ≡ length past.now.config.procs }
+    ensures legal { IsNone result ↔ IsDropped past.now.config past.now.past (shown pager.now).pager p.0 a.0 f.0 purged to }
+    ensures said { IfSome result (DroppedFails past.now.config past.now.past (shown pager.now).pager p.0 a.0 f.0 purged to) }
+{
+    let v = a.0 / 512;
+    if let Some(reason) = own_fails(past.config(), pager, p) {
+        return Some(reason);
+    }
+    if let Some(reason) = taken_fails(past, pager, p, v, f, to) {
+        return Some(reason);
+    }
+    if let Some(reason) = loose_fails(pager.ring(p), v, purged) {
+        return Some(reason);
+    }
+    waits_fails(past, pager, to)
+}
+
+/// Whether the page in a frame, if it is private, lies in the block, unmodified and without a
+/// flight.
+fn is_written(past: &LogHistory<'_>, pager: &LogPager, f: Pfn, block: BlockId) -> bool
+    ensures { IsTrue result ↔ ((g : AnyPage) → (shown pager.now).pager.page f.0 ≡ Some g → is_private g ≡ true
+        → ((shown pager.now).pager.lies g ≡ Some block) × ((shown pager.now).pager.modify f.0 ≡ false)
+        × (reads_on f.0 (open_flights past.now.past) + writes_on f.0 (open_flights past.now.past) ≡ 0)) }
+{
+    match pager.page(f) {
+        None => true,
+        Some(page) => {
+            !is_private(page)
+                || pager.lies(page) == Some(block)
+                    && !pager.is_modified(f)
+                    && past.flights_on(f) == 0
+        }
+    }
+}
+
+/// Why the slot of a page has it pinned.
+#[tactic(auto, using(log_services::proofs::Slots::held_there, log_services::proofs::Slots::none_there))]
+fn unpinned_fails(ring: &Ring, v: u32) -> Option<Reason>
+    ensures legal { IsNone result ↔ ((held : HeldPage) → slice_get ring.now.slots (slot_with ring.now v) ≡ Some (Some held) → held.pinned ≡ false) }
+    ensures said { IfSome result (UnpinnedFails ring.now v) }
+{
+    match ring.at(ring.slot_with(v)) {
+        None => None,
+        Some(held) => {
+            if held.is_pinned() {
+                return Some(Reason::PageIsPinned);
+            }
+            None
+        }
+    }
+}
+
+/// Why a process isn't leaving.
+fn leaves_fails(pager: &LogPager, p: Proc) -> Option<Reason>
+    ensures legal { IsNone result ↔ ((shown pager.now).pager.status p.0 ≡ ProcStatus.Leaving) }
+    ensures said { IfSome result (StatusFails (shown pager.now).pager p.0 ProcStatus.Leaving) }
+{
+    let status = pager.status(p);
+    if status != ProcStatus::Leaving {
+        return Some(Reason::InOtherStatus(status));
+    }
+    None
+}
+
+/// Why a page of a leaving process may not leave.
+fn leaving_fails(
+    past: &LogHistory<'_>,
+    pager: &LogPager,
+    p: Proc,
+    a: Addr,
+    f: Pfn,
+    to: FrameState,
+) -> Option<Reason>
+    requires { p.0 < (shown pager.now).processes }
+    ensures legal { IsNone result ↔ IsLeavingEvict past.now.config past.now.past (shown pager.now).pager p.0 a.0 f.0 to }
+    ensures said { IfSome result (LeavingFails past.now.config past.now.past (shown pager.now).pager p.0 a.0 f.0 to) }
+{
+    let v = a.0 / 512;
+    let block = BlockId::Swap(p, pager.ring(p).slot_with(v));
+    if let Some(reason) = leaves_fails(pager, p) {
+        return Some(reason);
+    }
+    if let Some(reason) = unpinned_fails(pager.ring(p), v) {
+        return Some(reason);
+    }
+    if let Some(reason) = taken_fails(past, pager, p, v, f, to) {
+        return Some(reason);
+    }
+    if !is_written(past, pager, f, block) {
+        return Some(Reason::NotYetWritten);
+    }
+    waits_fails(past, pager, to)
+}
+
+/// Why the seat isn't the writer's after the last answer, or the page is private.
+fn writer_fails(past: &LogHistory<'_>, pager: &LogPager, seat: Seat, f: Pfn) -> Option<Reason>
+    requires { IsInOrder past.now.config past.now.past }
+    ensures legal { IsNone result ↔ ((seat.0 ≡ length past.now.config.procs) × IsAnswered past.now.config past.now.past
+        × ((g : AnyPage) → (shown pager.now).pager.page f.0 ≡ Some g → is_private g ≡ false)) }
+    ensures said { IfSome result (WriterFails past.now.config past.now.past (shown pager.now).pager seat.0 f.0) }
+{
+    if seat.0 as usize != past.config().procs.items().len() {
+        return Some(Reason::NotTheWriter);
+    }
+    if !past.is_answered() {
+        return Some(Reason::RequestIsLeft);
+    }
+    match pager.page(f) {
+        Some(page) if is_private(page) => Some(Reason::PageIsPrivate),
+        _ => None,
+    }
+}
+
+/// Why a shared page of a process may not leave in the rundown.
+fn rundown_fails(
+    past: &LogHistory<'_>,
+    pager: &LogPager,
+    seat: Seat,
+    p: Proc,
+    a: Addr,
+    f: Pfn,
+    to: FrameState,
+) -> Option<Reason>
+    requires { IsInOrder past.now.config past.now.past }
+    ensures legal { IsNone result ↔ IsRundownEvict past.now.config past.now.past (shown pager.now).pager seat.0 p.0 a.0 f.0 to }
+    ensures said { IfSome result (RundownFails past.now.config past.now.past (shown pager.now).pager seat.0 p.0 a.0 f.0 to) }
+{
+    if let Some(reason) = writer_fails(past, pager, seat, f) {
+        return Some(reason);
+    }
+    if let Some(reason) = taken_fails(past, pager, p, a.0 / 512, f, to) {
+        return Some(reason);
+    }
+    waits_fails(past, pager, to)
+}
+
+/// Why a process isn't the seat's.
+fn seat_fails(seat: Seat, p: Proc) -> Option<Reason>
+    ensures legal { IsNone result ↔ (p.0 ≡ seat.0) }
+    ensures said { IfSome result (SeatFails seat.0 p.0) }
+{
+    if p.0 != seat.0 {
+        return Some(Reason::NotOwnProcess);
+    }
+    None
+}
+
+/// Why a page of the seat's own process may not be replaced.
+fn own_replace_fails(
+    past: &LogHistory<'_>,
+    pager: &LogPager,
+    seat: Seat,
+    p: Proc,
+    a: Addr,
+    f: Pfn,
+    to: FrameState,
+) -> Option<Reason>
+    requires { (shown pager.now).processes ≡ length past.now.config.procs }
+    ensures legal { IsNone result ↔ IsEvict EvictWhy.Replace past.now.config past.now.past (shown pager.now).pager seat.0 p.0 a.0 f.0 to }
+    ensures said { IfSome result (EvictFails EvictWhy.Replace past.now.config past.now.past (shown pager.now).pager seat.0 p.0 a.0 f.0 to) }
+{
+    if let Some(reason) = seat_fails(seat, p) {
+        return Some(reason);
+    }
+    replace_fails(past, pager, p, a, f, to)
+}
+
+/// Why a page of the seat's own process may not be purged, or leave for its deletion.
+fn own_dropped_fails(
+    past: &LogHistory<'_>,
+    pager: &LogPager,
+    seat: Seat,
+    p: Proc,
+    a: Addr,
+    f: Pfn,
+    purged: bool,
+    to: FrameState,
+) -> Option<Reason>
+    requires { (shown pager.now).processes ≡ length past.now.config.procs }
+    ensures legal { IsNone result ↔ ((p.0 ≡ seat.0) × IsDropped past.now.config past.now.past (shown pager.now).pager p.0 a.0 f.0 purged to) }
+    ensures said { IfSome result (λ r. SeatFails seat.0 p.0 r ⊎ DroppedFails past.now.config past.now.past (shown pager.now).pager p.0 a.0 f.0 purged to r) }
+{
+    if let Some(reason) = seat_fails(seat, p) {
+        return Some(reason);
+    }
+    dropped_fails(past, pager, p, a, f, purged, to)
+}
+
+/// Why a page may not leave a working set.
+pub fn evict_fails(
+    past: &LogHistory<'_>,
+    pager: &LogPager,
+    seat: Seat,
+    p: Proc,
+    a: Addr,
+    f: Pfn,
+    why: EvictWhy,
+    to: FrameState,
+) -> Option<Reason>
+    requires processes { (shown pager.now).processes ≡ length past.now.config.procs }
+    requires process { p.0 < (shown pager.now).processes }
+    requires order { IsInOrder past.now.config past.now.past }
+    ensures legal { IsNone result ↔ IsEvict why past.now.config past.now.past (shown pager.now).pager seat.0 p.0 a.0 f.0 to }
+    ensures said { IfSome result (EvictFails why past.now.config past.now.past (shown pager.now).pager seat.0 p.0 a.0 f.0 to) }
+{
+    match why {
+        EvictWhy::Replace => own_replace_fails(past, pager, seat, p, a, f, to),
+        EvictWhy::Purge => own_dropped_fails(past, pager, seat, p, a, f, true, to),
+        EvictWhy::Delete => own_dropped_fails(past, pager, seat, p, a, f, false, to),
+        EvictWhy::Leave => leaving_fails(past, pager, p, a, f, to),
+        EvictWhy::Rundown => rundown_fails(past, pager, seat, p, a, f, to),
+    }
+}

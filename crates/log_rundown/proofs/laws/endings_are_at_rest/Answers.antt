@@ -1,8 +1,0 @@
-use Rattle.log_rundown.proofs.Stepwise.{ending, no_move_rests}
-use Rattle.log_rundown.proofs.laws.endings_are_at_rest.Goals as goal
-
-pub returns-clause-ending : goal.returns-clause-ending
-returns-clause-ending c = ending
-
-pub returns-clause-plan : goal.returns-clause-plan
-returns-clause-plan c = no_move_rests

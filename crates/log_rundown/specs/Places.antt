@@ -1,0 +1,16 @@
+-- A slot of a process, and what stands in it, in plain numbers. This project's own.
+use Rattle.std.specs.Prelude.{◌<◌}
+use Rattle.pager_model.specs.Given.{Seen as SeenIs}
+use Rattle.pager_model.specs.Rundown.{Place as PlaceIs}
+use Rattle.log_rundown.specs.declared.places.Place.{Place}
+use Rattle.log_rundown.specs.declared.seen.Seen.{Seen}
+
+abbrev pub place_as : Place → PlaceIs
+place_as x = record { process = (x.process).0; slot = x.slot }
+
+-- a slot's number is small
+abbrev pub IsSmall : Place → Type 0
+IsSmall x = x.slot < 1024
+
+abbrev pub seen_as : Seen → SeenIs
+seen_as s = record { vpn = s.vpn; frame = (s.frame).0; page = s.page; pinned = s.pinned }

@@ -1,0 +1,144 @@
+ghost use Rattle.std.specs.Prelude.{◌≡◌, ◌+◌, ◌<◌, ◌^◌, IfOk, Some, None, false, if◌then◌else◌, length, true};
+ghost use Rattle.std.specs.Option.{option_map};
+ghost use Rattle.pager_model.specs.Cleaning.{evicting, rounds};
+ghost use Rattle.log_laws.specs.Underway.{between_moves, is_made, plan_of, step_plan};
+ghost use Rattle.log_pager.specs.Shown.{shown};
+ghost use Rattle.log_rundown.specs.Chosen.{eviction_as, move_as};
+ghost use Rattle.log_rundown.specs.Standing.{onward_as, standing_as};
+ghost use Rattle.log_rundown.specs.declared.choice.Choice.TheVariants.{WritesBefore, WritesRound};
+
+use crate::choice::Choice;
+use crate::cleaning::Cleaning;
+use crate::cluster::cluster_writes;
+use crate::eviction::Eviction;
+use crate::expected::is_evicted;
+use crate::onward::Onward;
+use crate::outs::step_outs;
+use crate::standing::Standing;
+use log_history::LogHistory;
+use log_pager::LogPager;
+use std::alloc::Global;
+use vm_journal::Entry;
+use vm_types::{Config, NoMemory, Proc};
+
+/// After a cluster that was written for the page in a slot that slot is looked at again.
+fn again(process: Proc, slot: u32) -> Onward
+    ensures { onward_as result ≡ record { failed = evicting process.0 slot true; written = evicting process.0 slot false } }
+{
+    Onward {
+        failed: Cleaning::Evicting {
+            process,
+            slot,
+            failed: true,
+        },
+        written: Cleaning::Evicting {
+            process,
+            slot,
+            failed: false,
+        },
+    }
+}
+
+/// After a cluster of a round the round goes on, whether the cluster failed or not.
+fn in_round(following: u32, left: usize) -> Onward
+    ensures { onward_as result ≡ record { failed = rounds following left; written = rounds following left } }
+{
+    let at = Cleaning::Rounds { following, left };
+    Onward {
+        failed: at,
+        written: at,
+    }
+}
+
+/// Where an entry leads to if this eviction is the next move; none if it can't come next.
+fn step_eviction(config: &Config, x: Eviction, slot: u32, e: Entry) -> Option<Standing>
+    ensures { option_map standing_as result
+        ≡ (if is_made config.now (eviction_as x) e then Some (between_moves (evicting (x.process).0 slot false)) else None) }
+{
+    if is_evicted(config, x, e) {
+        let process = x.process;
+        Some(Standing::BetweenMoves(Cleaning::Evicting {
+            process,
+            slot,
+            failed: false,
+        }))
+    } else {
+        None
+    }
+}
+
+/// Where an entry leads to if a cluster is written next for the page in a slot; none if it can't come
+/// next.
+fn step_before(
+    alloc: Global,
+    past: &LogHistory<'_>,
+    pager: &LogPager,
+    process: Proc,
+    slot: u32,
+    e: Entry,
+) -> Result<Option<Standing>, NoMemory>
+    requires { length past.now.past + 1 < 2 ^ 48 }
+    ensures { IfOk result (λ o. option_map standing_as o
+        ≡ step_plan past.now.config past.now.past (plan_of (move_as past.now.config (shown pager.now).pager (WritesBefore process slot))) e) }
+{
+    let config = past.config();
+    let writes = cluster_writes(alloc, config, pager)?;
+    let onward = again(process, slot);
+    let at = step_outs(alloc, past, &writes, onward, e)?;
+    Ok(at)
+}
+
+/// Where an entry leads to if a cluster of a round is written next; none if it can't come next.
+fn step_round(
+    alloc: Global,
+    past: &LogHistory<'_>,
+    pager: &LogPager,
+    following: u32,
+    left: usize,
+    e: Entry,
+) -> Result<Option<Standing>, NoMemory>
+    requires { length past.now.past + 1 < 2 ^ 48 }
+    ensures { IfOk result (λ o. option_map standing_as o
+        ≡ step_plan past.now.config past.now.past (plan_of (move_as past.now.config (shown pager.now).pager (WritesRound following left))) e) }
+{
+    let config = past.config();
+    let writes = cluster_writes(alloc, config, pager)?;
+    let count = writes.len();
+    let rest = left.saturating_sub(count);
+    let onward = in_round(following, rest);
+    let at = step_outs(alloc, past, &writes, onward, e)?;
+    Ok(at)
+}
+
+/// Where an entry leads to if this is the next move; none if it can't come next.
+///
+/// # Errors
+/// `NoMemory` if out of memory.
+pub(crate) fn step_choice(
+    alloc: Global,
+    past: &LogHistory<'_>,
+    pager: &LogPager,
+    choice: Choice,
+    e: Entry,
+) -> Result<Option<Standing>, NoMemory>
+    requires { length past.now.past + 1 < 2 ^ 48 }
+    ensures { IfOk result (λ o. option_map standing_as o
+        ≡ step_plan past.now.config past.now.past (plan_of (move_as past.now.config (shown pager.now).pager choice)) e) }
+{
+    match choice {
+        Choice::EvictsPage(x, slot) => {
+            let config = past.config();
+            let at = step_eviction(config, x, slot, e);
+            Ok(at)
+        }
+        Choice::WritesBefore(process, slot) => {
+            let before = step_before(alloc, past, pager, process, slot, e)?;
+            Ok(before)
+        }
+        Choice::WritesRound(following, left) => {
+            let within = step_round(alloc, past, pager, following, left, e)?;
+            Ok(within)
+        }
+        Choice::Rests => Ok(None),
+    }
+}

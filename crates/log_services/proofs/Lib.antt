@@ -1,0 +1,3 @@
+pub mod MappedRanges
+pub mod Places
+pub mod Slots

@@ -1,0 +1,82 @@
+//! Why an entry isn't a legal next one.
+
+ghost use Rattle.std.specs.Prelude.{◌≡◌, ◌↔◌, ◌+◌, ◌<◌, ◌≤◌, IfSome, IsNone, IsTrue, length};
+ghost use Rattle.vm_journal.specs.HasLine.{HasLine, WhatHasLine};
+ghost use Rattle.pager_model.specs.Order.{IsInOrder};
+ghost use Rattle.pager_model.specs.Step.{IsLegal, IsLegalWhat};
+ghost use Rattle.log_reasons.specs.EntryReasons.{EntryFails, WhatFails};
+ghost use Rattle.log_pager.specs.Shown.{shown};
+ghost use Rattle.log_processes.specs.FollowsFlat.{FollowsFlat};
+ghost use Rattle.log_steps.specs.Follows.{Follows};
+
+use crate::line::has_line;
+use log_history::LogHistory;
+use log_pager::LogPager;
+use log_pages::{back_fails, collide_fails, evict_fails, reuse_fails, zero_fails};
+use log_processes::{denied_fails, done_fails, in_turn_fails, limit_fails, turn_fails};
+use log_reasons::Reason;
+use log_services::served_fails;
+use log_transfers::{
+    in_fail_fails, in_fails, in_ok_fails, out_fail_fails, out_fails, out_ok_fails,
+};
+use pager_laws::{flat_machine_follows, runs_are_of_configuration};
+use vm_journal::{Entry, What};
+use vm_types::Seat;
+
+/// Why an entry of its kind that has a line isn't legal by its row.
+fn what_fails(past: &LogHistory<'_>, pager: &LogPager, seat: Seat, what: What) -> Option<Reason>
+    requires line { WhatHasLine (length past.now.config.procs) past.now.config.sections what }
+    requires seat { seat.0 < length past.now.config.procs + 2 }
+    requires processes { (shown pager.now).processes ≡ length past.now.config.procs }
+    requires frames { (shown pager.now).frames ≤ 16384 }
+    requires flat { FollowsFlat past.now.config past.now.past (shown pager.now).pager }
+    requires order { IsInOrder past.now.config past.now.past }
+    ensures legal { IsNone result ↔ IsLegalWhat past.now.config past.now.past (shown pager.now).pager seat.0 what }
+    ensures said { IfSome result (WhatFails past.now.config past.now.past (shown pager.now).pager seat.0 what) }
+{
+    let config = past.config();
+    match what {
+        What::Done { r, reply: _ } => done_fails(config, pager, seat, r),
+        What::Denied { r, why } => denied_fails(past, pager, seat, r, why),
+        What::Served { s, answer } => served_fails(past, pager, seat, s, answer),
+        What::Reuse { f, page } => reuse_fails(past, pager, seat, f, page),
+        What::Zero { a, f } => zero_fails(config, pager, seat, a, f),
+        What::Back { p, a, f, from } => back_fails(config, pager, seat, p, a, f, from),
+        What::Collide { a, f, k } => collide_fails(past, pager, seat, a, f, k),
+        What::In { f, block, role } => in_fails(past, pager, seat, f, block, role),
+        What::InOk { f, k } => in_ok_fails(past, seat, f, k),
+        What::InFail { f, k, c, d } => in_fail_fails(past, seat, f, k, c, d),
+        What::Out { f, block } => out_fails(past, pager, f, block),
+        What::OutOk { f, k } => out_ok_fails(past, seat, f, k),
+        What::OutFail { f, k, c, d } => out_fail_fails(past, seat, f, k, c, d),
+        What::Evict { p, a, f, why, to } => evict_fails(past, pager, seat, p, a, f, why, to),
+        What::Limit { n, faults } => limit_fails(config, pager, seat, n, faults),
+        What::Turn { p, status } => turn_fails(past, pager, p, status),
+    }
+}
+
+/// Whether an entry has a line in a log of the configuration of those so far.
+fn has_line_after(past: &LogHistory<'_>, e: Entry) -> bool
+    requires { length past.now.config.procs ≤ 16 }
+    ensures { IsTrue result ↔ HasLine (length past.now.config.procs) past.now.config.sections e }
+{
+    has_line(past.config(), e)
+}
+
+/// Why an entry isn't a legal next one after those so far, which led to this state of the pager: the
+/// first condition of it that doesn't hold, if there is one. Doesn't allocate.
+pub fn fails(past: &LogHistory<'_>, pager: &LogPager, e: Entry) -> Option<Reason>
+    requires { Follows past.now.config past.now.past (shown pager.now) }
+    ensures legal { IsNone result ↔ IsLegal past.now.config past.now.past (shown pager.now).pager e }
+    ensures said { IfSome result (EntryFails past.now.config past.now.past (shown pager.now).pager e) }
+{
+    if !has_line_after(past, e) {
+        return Some(Reason::OutOfBounds);
+    }
+    flat_machine_follows();
+    runs_are_of_configuration();
+    if let Some(reason) = in_turn_fails(past, e) {
+        return Some(reason);
+    }
+    what_fails(past, pager, e.seat, e.what)
+}

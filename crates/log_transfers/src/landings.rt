@@ -1,0 +1,107 @@
+//! INOK, INFAIL, OUTOK and OUTFAIL: why a read or a write may not land.
+
+ghost use Rattle.std.specs.Prelude.{◌≡◌, ◌↔◌, ◌<◌, true, false, Some, IfSome, IsNone, find};
+ghost use Rattle.pager_model.specs.Counted.{IsCounted};
+ghost use Rattle.pager_model.specs.Flights.{Flight as OpenFlight, is_reading, open_flights};
+ghost use Rattle.pager_model.specs.InFail.{IsInFail};
+ghost use Rattle.pager_model.specs.InOk.{IsInOk, IsLanding};
+ghost use Rattle.pager_model.specs.OutLanding.{IsOutFail, IsOutOk};
+ghost use Rattle.pager_model.specs.Transfers.{starts};
+ghost use Rattle.log_reasons.specs.LandingReasons.{BadLandingFails, CountedFails, LandingFails};
+
+use log_history::LogHistory;
+use log_reasons::Reason;
+use vm_types::{Pfn, Seat};
+
+/// Why a seat's transfer of a frame, begun in entry k, may not land: a read, or a write.
+fn landing_fails(past: &LogHistory<'_>, seat: Seat, f: Pfn, k: u64, reads: bool) -> Option<Reason>
+    ensures legal { IsNone result ↔ ((x : OpenFlight) × IsLanding past.now.past seat.0 f.0 k x × (is_reading x.direction ≡ reads)) }
+    ensures said { IfSome result (LandingFails past.now.past seat.0 f.0 k reads) }
+{
+    match past.flight(k) {
+        None => Some(Reason::NoOpenTransfer),
+        Some(x) => {
+            if x.seat().0 != seat.0 {
+                return Some(Reason::TransferOfOtherSeat(x.seat()));
+            }
+            if x.frame().0 != f.0 {
+                return Some(Reason::TransferOfOtherFrame(x.frame()));
+            }
+            if x.direction().is_reading() != reads {
+                return Some(Reason::TransferGoesOtherWay);
+            }
+            None
+        }
+    }
+}
+
+/// Why these aren't the counts of a failure of the block of the transfer begun in entry k, before and
+/// after it.
+fn counted_fails(past: &LogHistory<'_>, k: u64, c: u64, d: u64) -> Option<Reason>
+    ensures legal { (x : OpenFlight) → find (starts k) (open_flights past.now.past) ≡ Some x → (IsNone result ↔ IsCounted past.now.past x.block c d) }
+    ensures said { IfSome result (CountedFails past.now.past k c d) }
+{
+    let x = past.flight(k)?;
+    let last = past.last_count(x.block());
+    if c != last {
+        return Some(Reason::WrongCountBefore(last));
+    }
+    if d <= c {
+        return Some(Reason::CountDoesNotRise);
+    }
+    None
+}
+
+/// Why a seat's read into a frame, begun in entry k, may not land well.
+pub fn in_ok_fails(past: &LogHistory<'_>, seat: Seat, f: Pfn, k: u64) -> Option<Reason>
+    ensures legal { IsNone result ↔ IsInOk past.now.past seat.0 f.0 k }
+    ensures said { IfSome result (LandingFails past.now.past seat.0 f.0 k true) }
+{
+    landing_fails(past, seat, f, k, true)
+}
+
+/// Why a seat's read into a frame, begun in entry k, may not land badly, with these counts of its block's
+/// failures before and after it.
+pub fn in_fail_fails(
+    past: &LogHistory<'_>,
+    seat: Seat,
+    f: Pfn,
+    k: u64,
+    c: u64,
+    d: u64,
+) -> Option<Reason>
+    ensures legal { IsNone result ↔ IsInFail past.now.past seat.0 f.0 k c d }
+    ensures said { IfSome result (BadLandingFails past.now.past seat.0 f.0 k c d true) }
+{
+    if let Some(reason) = landing_fails(past, seat, f, k, true) {
+        return Some(reason);
+    }
+    counted_fails(past, k, c, d)
+}
+
+/// Why a seat's write of a frame, begun in entry k, may not land well.
+pub fn out_ok_fails(past: &LogHistory<'_>, seat: Seat, f: Pfn, k: u64) -> Option<Reason>
+    ensures legal { IsNone result ↔ IsOutOk past.now.past seat.0 f.0 k }
+    ensures said { IfSome result (LandingFails past.now.past seat.0 f.0 k false) }
+{
+    landing_fails(past, seat, f, k, false)
+}
+
+/// Why a seat's write of a frame, begun in entry k, may not land badly, with these counts of its block's
+/// failures before and after it.
+pub fn out_fail_fails(
+    past: &LogHistory<'_>,
+    seat: Seat,
+    f: Pfn,
+    k: u64,
+    c: u64,
+    d: u64,
+) -> Option<Reason>
+    ensures legal { IsNone result ↔ IsOutFail past.now.past seat.0 f.0 k c d }
+    ensures said { IfSome result (BadLandingFails past.now.past seat.0 f.0 k c d false) }
+{
+    if let Some(reason) = landing_fails(past, seat, f, k, false) {
+        return Some(reason);
+    }
+    counted_fails(past, k, c, d)
+}

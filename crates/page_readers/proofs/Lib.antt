@@ -1,0 +1,5 @@
+pub mod Looked
+pub mod FirstPages
+pub mod Layable
+pub mod TouchedRows
+pub mod SectionsSeen

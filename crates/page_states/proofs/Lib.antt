@@ -1,3 +1,0 @@
-pub mod Looked
-pub mod FirstPages
-pub mod Layable

@@ -1,4 +1,0 @@
-pub mod Counting
-pub mod AloneInMemory
-pub mod LostCarriers
-pub mod RefusedOnce

@@ -1,0 +1,94 @@
+-- What `dump` tells, by what reading and running answer.
+use Rattle.std.proofs.Common.{◌≡◌, ℕ, List, ◌++◌, ap, refl, subst, sym, arith, inl, inr}
+use Rattle.std.specs.Prelude.{IfSome, None, Ok, Err, true}
+use Rattle.std.specs.declared.option.Option.{Option}
+use Rattle.vm_types.specs.BlockView.{Retired, Tells}
+use Rattle.vm_types.specs.Configuration.{IsWellFormed}
+use Rattle.vm_types.specs.declared.config.Config.{Config}
+use Rattle.vm_types.specs.Moved.{Moved, moved}
+use Rattle.vm_journal.specs.declared.entry.Entry.{Entry}
+use Rattle.disk_trait.specs.DepotView.{DepotView}
+use Rattle.outside_io.specs.Views.{SinkView, SourceView}
+use Rattle.trace_reader.specs.Answer.{Answers, FaultsBy}
+use Rattle.trace_reader.specs.declared.fault.TraceFault.{TraceFault}
+use Rattle.pager_model.specs.Asked.{IsAsked}
+use Rattle.pager_model.specs.Spoken.{IsRight}
+use Rattle.pager_model.specs.Text.{status_line}
+use Rattle.pager_laws.specs.Laws.{RunsAreSound}
+use Rattle.command_ends.specs.Concludes.{Concludes, EndsAnswered}
+use Rattle.command_ends.specs.Ends.{Ends}
+use Rattle.command_ends.specs.FaultText.{fault_status, fault_told}
+use Rattle.command_ends.specs.Tells.{answered, no_memory}
+use Rattle.command_ends.specs.Wrongs.{TellsWrong, wrong_of}
+use Rattle.command_ends.specs.declared.wrong.Wrong.{Wrong}
+use Rattle.command_ends.proofs.Telling.{fault_tells}
+use Rattle.command_ends.proofs.Wronging.{fault_wrong, outcome_right, seven_right}
+use Rattle.dump_bytes.specs.Dumped.{Dumped}
+use Rattle.dump_bytes.specs.Text.{dump_text}
+use Rattle.dump_laws.specs.DumpAfter.{dump_after}
+use Rattle.dump_laws.specs.Laws.{DumpsAreSound}
+use Rattle.serial_run.specs.AtReport.{IsAtReport}
+use Rattle.replay_cli.specs.DumpAnswer.{DumpTells, IsDumpAnswer, IsDumpedRun, IsRunToReport}
+use Rattle.replay_cli.proofs.Serving.{not_early}
+
+-- a run up to the report's place, seen by what is seen of the depot before and after
+pub run_to_report_over : (tells : Tells) (config : Config) (past : List Entry) (depot depot' : DepotView) → depot.tells ≡ tells → IsAtReport tells.content config past
+    → (taken : List Retired) × (depot'.retired ≡ depot.retired ++ taken) × IsAsked tells.plan config past taken → RunsAreSound → IsRunToReport (moved depot depot') config past
+run_to_report_over tells config past depot depot' known there back sound = record {
+  legal = there.run;
+  right = subst (λ (t : Tells). t.content ≡ true → IsRight config past) (sym known) there.right;
+  in_order = there.in_order;
+  answered = there.answered;
+  made = there.serial;
+  landed = there.landed;
+  reused = there.reused;
+  sound = sound config past there.formed there.run;
+  taken = back.0;
+  longer = back.1;
+  asked = subst (λ (t : Tells). IsAsked t.plan config past back.0) (sym known) back.2;
+}
+
+-- its dump is an answer
+pub dumped_run : (depot : Moved DepotView) (config : Config) (d : Dumped) (past : List Entry) → IsWellFormed config → IsRunToReport depot config past → d ≡ dump_after config past → DumpsAreSound
+    → IsDumpedRun depot config 0 (dump_text d)
+dumped_run depot config d past formed run is sound = record { past = past; run = run; ending = refl; bytes = ap dump_text is; shown = sound config past formed run.legal }
+
+module _ {before after : SourceView} {depot depot' : DepotView} {sink sink' : SinkView} {result : ℕ} where
+  -- the trace was read, and its configuration was answered
+  pub concludes_dumped : (config : Config) → IfSome before.left (λ text. Answers (Ok config) text after.left) → FaultsBy (Ok config) before.failures after.failures
+      → EndsAnswered (IsDumpAnswer (moved depot depot') config) sink sink' result → Concludes (TellsWrong (DumpTells (moved before after) (moved depot depot')) None) sink sink' result
+  concludes_dumped config means counts (inl told) = record {
+    status = told.status;
+    text = told.text;
+    tells_it = record {
+      told = record {
+        tells = answered config told.status told.text told.outcome counts means told.answers;
+        keeps = λ early. absurd (not_early told.status told.outcome early);
+      };
+      says = outcome_right told.status told.text told.outcome;
+    };
+    ends = told.ends;
+  }
+  concludes_dumped config means counts (inr none) = record {
+    status = 7;
+    text = status_line 7;
+    tells_it = record {
+      told = record {
+        tells = no_memory counts;
+        keeps = λ early. absurd (elim early [ inl two ↦ omega (arith, two) | inr three ↦ omega (arith, three) ]);
+      };
+      says = seven_right (status_line 7);
+    };
+    ends = none;
+  }
+
+-- there is no configuration, and no block was made
+pub concludes_undumped : {before after : SourceView} {depot : DepotView} {sink sink' : SinkView} {result : ℕ} (f : TraceFault) (wrong : Option Wrong)
+    → wrong ≡ wrong_of f → IfSome before.left (λ text. Answers (Err f) text after.left) → FaultsBy (Err f) before.failures after.failures
+    → Ends sink sink' (fault_status f) (fault_told f) result → Concludes (TellsWrong (DumpTells (moved before after) (moved depot depot)) wrong) sink sink' result
+concludes_undumped {depot = depot} f wrong is means counts ends = record {
+  status = fault_status f;
+  text = fault_told f;
+  tells_it = record { told = record { tells = fault_tells (IsDumpAnswer (moved depot depot)) f means counts; keeps = λ early. refl }; says = fault_wrong f wrong is };
+  ends = ends;
+}

@@ -1,0 +1,24 @@
+ghost use Rattle.std.specs.Prelude.{◌≡◌, ◌≤◌, [], false, OnOk};
+ghost use Rattle.pager_model.specs.Flights.{awaits_reuse, open_flights};
+ghost use Rattle.serial_steps.specs.Moved.{IsSameBut};
+
+use disk_trait::Block;
+use vm_state::State;
+use vm_types::NoMemory;
+
+/// Room for the entries that a move makes: where there is too little, room for 4096 is reserved.
+///
+/// # Errors
+/// `NoMemory` if out of memory.
+pub fn prepare<B: Block>(state: &mut State<B>) -> Result<(), NoMemory>
+    requires landed { open_flights state.old.past ≡ [] }
+    requires reused { awaits_reuse state.old.past ≡ false }
+    ensures room { OnOk result (64 ≤ state.new.spare) }
+    ensures same { IsSameBut state.old state.new }
+    ensures past { state.new.past ≡ state.old.past }
+{
+    if state.spare() < 64 {
+        state.reserve(4096)?;
+    }
+    Ok(())
+}

@@ -1,2 +1,0 @@
-pub mod MappedRanges
-pub mod Places
