@@ -11,7 +11,7 @@ import sys
 import tempfile
 
 HERE = pathlib.Path(__file__).resolve().parent
-CRATES = ["vm_types", "vm_text", "vm_journal", "journal_lines", "line_reader"]
+CRATES = ["vm_types", "vm_text", "vm_journal", "entry_lines"]
 LINES = 16 * 1_000_000
 
 
@@ -26,9 +26,8 @@ def main():
             "vm_types:\n"
             "vm_text: vm_types arrayvec itoa\n"
             "vm_journal: vm_types vm_text\n"
-            "journal_lines: vm_types vm_text vm_journal arrayvec\n"
-            "line_reader: vm_types vm_text vm_journal journal_lines arrayvec\n"
-            "lines: vm_types vm_text vm_journal journal_lines line_reader arrayvec\n"
+            "entry_lines: vm_types vm_text vm_journal arrayvec\n"
+            "lines: vm_types vm_text vm_journal entry_lines arrayvec\n"
         )
         ran = subprocess.run(["rt", "run"], cwd=room / "crates" / "lines", stdout=subprocess.PIPE, text=True, check=True)
         read, written, reading, both = map(int, ran.stdout.split())

@@ -21,8 +21,8 @@ def text(lines):
     return ('\n'.join(lines) + '\n').encode()
 
 
-def head(frames, pagefile):
-    return ['VMTRACE 1', 'FRAMES %d' % frames, 'PAGEFILE %d' % pagefile]
+def head(frames, pagefile, version=1):
+    return ['VMTRACE %d' % version, 'FRAMES %d' % frames, 'PAGEFILE %d' % pagefile]
 
 
 def request(draws, process, address):
@@ -100,6 +100,14 @@ def body(count, lines_in_all):
     return text(lines + ['END'])
 
 
+def most_entries():
+    """100,000 requests, each of which evicts a page that is written before the next one and reads one back."""
+    lines = head(8, 16384) + ['PARAM PFC 8', 'PARAM WRTCLUSTER 16', 'PARAM HILIMIT 0', 'PARAM LOLIMIT 0',
+                              'PROCESS A 2 2 2 0', 'MAPZERO A 00000000 16 UW', 'BODY']
+    lines += ['A W4 %08X %08X' % (512 * (n % 16), n) for n in range(100000)]
+    return text(lines + ['END'])
+
+
 def failing_blocks():
     """1,000 blocks that fail at 16 calls each."""
     draws = Draws(4)
@@ -171,6 +179,34 @@ def all_slots():
     return text(lines + ['END'])
 
 
+def all_frames_of_version_two():
+    """64 sections in the page file with 16,384 pages together, in as many frames: each page is touched, so that each
+    block is promised, and each frame is in use. Each of 16 processes maps 16 of the sections, four of which it
+    touches first, and pins and locks some pages."""
+    draws = Draws(8)
+    lines = head(16384, 16384, 2) + ['PARAM PFC 8', 'PARAM WRTCLUSTER 16', 'PARAM FREELIM 32', 'PARAM FREEGOAL 64']
+    lines += ['SECTION S%02d PAGED 256' % s for s in range(64)]
+    for p, x in enumerate(LETTERS):
+        lines.append('PROCESS %s 1024 1024 1024 64' % x)
+        for k in range(16):
+            lines.append('MAPSEC %s %08X 256 S%02d 0 UW' % (x, k * 256 * 512, (4 * p + k) % 64))
+    lines.append('BODY')
+    for v in range(1024):
+        lines += ['%s W1 %08X %02X' % (x, 512 * v + v % 512, v % 256) for x in LETTERS]
+    for n in range(9000):
+        x = LETTERS[n // 300 % 16]
+        at = 512 * draws.below(1024)
+        kind = draws.below(100)
+        if kind < 4:
+            lines.append('%s %s %08X %d' % (x, ('LCKPAG', 'ULKPAG', 'LKWSET', 'ULWSET')[kind], at, 1 + draws.below(20)))
+        elif kind == 4:
+            lines.append('%s PURGWS %08X %d' % (x, at, 1 + draws.below(20)))
+        else:
+            page = draws.below(4096) if draws.below(4) == 0 else draws.below(1200)
+            lines.append(request(draws, x, 512 * page + 4 * draws.below(128)))
+    return text(lines + ['END'])
+
+
 def study_round():
     """A process refers to 4,096 pages, 100,000 times."""
     draws = Draws(7)
@@ -195,6 +231,7 @@ LARGE = [
     ('many-requests', ['serial'], lambda: body(30000, 199999)),
     ('many-requests-log', ['check'], 'many-requests'),
     ('most-lines', ['serial'], lambda: body(1000, 200000)),
+    ('most-entries', ['serial'], most_entries),
     ('a-line-too-many', ['serial'], lambda: body(99000, 200001)),
     ('a-request-too-many', ['serial'], lambda: body(100001, 150000)),
     ('failing-blocks', ['serial'], failing_blocks),
@@ -203,6 +240,7 @@ LARGE = [
     ('single-mappings-log', ['check'], 'single-mappings'),
     ('all-slots', ['serial'], all_slots),
     ('all-slots-log', ['check'], 'all-slots'),
+    ('all-frames-of-version-two', ['serial'], all_frames_of_version_two),
     ('study-round', ['study', '--process', 'A', '--frames', '1024'], study_round),
     ('study-frames', ['study', '--process', 'C', '--frames', '1000'], lambda: all_frames(40000, 2000)),
     ('make-most', ['make', '--seed', '1', '--procs', '16', '--refs', '100000'], nothing),

@@ -25,7 +25,8 @@ WORDS = {
 }
 OPERANDS = {
     "CRETVA": "address pages protection", "DELTVA": "address pages", "SETPRT": "address pages protection",
-    "LKWSET": "address pages", "ULWSET": "address pages", "PURGWS": "address pages", "ADJWSL": "limit",
+    "LKWSET": "address pages", "ULWSET": "address pages",
+    "LCKPAG": "address pages", "ULKPAG": "address pages", "PURGWS": "address pages", "ADJWSL": "limit",
 }
 
 

@@ -2,12 +2,14 @@
 """Tests neqysbar.py: examples by the library, and entry lines as dictionaries."""
 
 import pathlib
+import resource
 import sys
 import threading
 import unittest
 
 HERE = pathlib.Path(__file__).resolve().parent
 EXAMPLES = HERE.parent / "examples"
+STATM = pathlib.Path("/proc/self/statm")
 sys.path.insert(0, str(HERE))
 import neqysbar  # noqa: E402
 
@@ -19,6 +21,11 @@ def examples():
         if trace.exists():
             data = trace.read_bytes()
             yield ["check" if b"\nLOG\n" in data else "serial"], data, output.read_bytes()
+
+
+def process_size():
+    """The bytes of the process's address space, touched or not."""
+    return int(STATM.read_text(encoding="ascii").split()[0]) * resource.getpagesize()
 
 
 def status_of(output):
@@ -65,6 +72,20 @@ class Runs(unittest.TestCase):
         for thread in threads:
             thread.join()
         self.assertEqual(wrong, [])
+
+    @unittest.skipUnless(STATM.exists(), "the system doesn't tell the size of a process")
+    def test_nothing_is_left(self):
+        """A thousand calls leave the process as large as it was, up to 1 KiB a call."""
+        for words, name in ((["serial"], "first-run"), (["serial"], "swapping"), (["serial"], "failing-disk"), (["check"], "checked-run"),
+                            (["study", "--process", "A", "--frames", "3"], "first-run"), (["dump"], "first-run"),
+                            (["make", "--seed", "1", "--procs", "2", "--refs", "50"], "first-run")):
+            data = (EXAMPLES / name).with_suffix(".trace").read_bytes()
+            for _ in range(20):
+                self.assertIn(neqysbar.run(words, data)[0], (0, 5))
+            before = process_size()
+            for _ in range(1000):
+                neqysbar.run(words, data)
+            self.assertLessEqual(process_size() - before, 2 ** 20, (words, name))
 
 
 class Logs(unittest.TestCase):

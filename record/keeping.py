@@ -1,10 +1,12 @@
 """Keeps the addresses of a list: where they have to lie, and which pages are mapped for them."""
 
 import dataclasses
+import re
 
 from sources import PAGE_BYTES, SERVICES, RecordError, check_address
 
 LETTERS = "ABCDEFGHIJKLMNOP"
+SECTION_NAME = re.compile(r"[A-Z][A-Z0-9_]{1,14}")
 
 
 @dataclasses.dataclass(frozen=True)
@@ -16,18 +18,47 @@ class Range:
     pages: int
 
 
-def range_of(word):
-    """A range as A:00000200:4, a process, an address and a number of pages."""
-    letter, _, rest = word.partition(":")
+@dataclasses.dataclass(frozen=True)
+class Common:
+    """A section in the page file, which these processes map at the same place."""
+
+    name: str
+    processes: list
+    first: int
+    pages: int
+
+
+def pages_at(rest, word, form):
+    """The first page and the number of pages of ADDRESS:PAGES, which ends the word."""
     address, _, pages = rest.partition(":")
-    if len(letter) != 1 or letter not in LETTERS or not pages.isdecimal() or not 1 <= int(pages) <= 4096:
-        raise ValueError(f"\"{word}\" isn't PROCESS:ADDRESS:PAGES, such as A:00000200:4; a range has 1 to "
-                         "4096 pages")
+    if not pages.isdecimal() or not 1 <= int(pages) <= 4096:
+        raise ValueError(f"\"{word}\" isn't {form}; a range has 1 to 4096 pages")
     at = int(address, 16)
     check_address(at, int(pages) * PAGE_BYTES, word)
     if at % PAGE_BYTES:
         raise ValueError(f"\"{word}\" begins at no multiple of {PAGE_BYTES}")
-    return Range(LETTERS.index(letter), at // PAGE_BYTES, int(pages))
+    return at // PAGE_BYTES, int(pages)
+
+
+def range_of(word):
+    """A range as A:00000200:4, a process, an address and a number of pages."""
+    form = "PROCESS:ADDRESS:PAGES, such as A:00000200:4"
+    letter, _, rest = word.partition(":")
+    if len(letter) != 1 or letter not in LETTERS:
+        raise ValueError(f"\"{word}\" isn't {form}; a range has 1 to 4096 pages")
+    return Range(LETTERS.index(letter), *pages_at(rest, word, form))
+
+
+def common_of(word):
+    """A section in the page file as COM:AB:00000200:4: its name, the processes that map it, the address and
+    the number of pages."""
+    form = "NAME:LETTERS:ADDRESS:PAGES, such as COM:AB:00000200:4"
+    name, _, rest = word.partition(":")
+    letters, _, rest = rest.partition(":")
+    if not SECTION_NAME.fullmatch(name) or not letters or len(set(letters)) != len(letters) \
+            or not all(letter in LETTERS for letter in letters):
+        raise ValueError(f"\"{word}\" isn't {form}")
+    return Common(name, [LETTERS.index(letter) for letter in letters], *pages_at(rest, word, form))
 
 
 def pages_of(request):
@@ -40,10 +71,9 @@ def pages_of(request):
 class Kept:
     """Which pages each process has from the start, and which its services create.
 
-    A page that is used before a CRETVA has it is mapped from the start. PURGWS uses no page.
+    A page that is used before a CRETVA has it is mapped from the start. PURGWS uses no page. The pages of a
+    section in the page file are its own.
     """
-
-    sections = {}
 
     def __init__(self, found, options):
         given = [[one for one in options.map if one.process == process]
@@ -59,6 +89,24 @@ class Kept:
                 self.created[process].update(set(pages_of(request)) - self.mapped[process])
             elif op not in ("PURGWS", "ADJWSL") and not given[process]:
                 self.mapped[process].update(set(pages_of(request)) - self.created[process])
+        self.commons = options.common
+        self.leave_commons()
+
+    def leave_commons(self):
+        """The pages of the sections are mapped by these alone."""
+        held = [set() for _ in self.mapped]
+        for one in self.commons:
+            pages = set(range(one.first, one.first + one.pages))
+            for process in one.processes:
+                if process >= len(held):
+                    raise RecordError("--common names a process that the list hasn't")
+                if held[process] & pages:
+                    raise RecordError(f"process {LETTERS[process]} has two sections at one place")
+                held[process] |= pages
+        for process, pages in enumerate(held):
+            if self.created[process] & pages:
+                raise RecordError(f"process {LETTERS[process]} creates pages where a section is")
+            self.mapped[process] -= pages
 
     @staticmethod
     def address(_, address):
@@ -75,8 +123,15 @@ class Kept:
         return found
 
     def map_lines(self):
-        return [f"MAPZERO {LETTERS[process]} {first * PAGE_BYTES:08X} {pages} UW"
-                for process in range(len(self.mapped)) for first, pages in self.runs(process)]
+        zeros = [f"MAPZERO {LETTERS[process]} {first * PAGE_BYTES:08X} {pages} UW"
+                 for process in range(len(self.mapped)) for first, pages in self.runs(process)]
+        return zeros + [f"MAPSEC {LETTERS[process]} {one.first * PAGE_BYTES:08X} {one.pages} {one.name} 0 UW"
+                        for one in self.commons for process in one.processes]
 
-    def private_pages(self):
-        return sum(map(len, self.mapped)) + sum(map(len, self.created))
+    def section_lines(self):
+        return [f"SECTION {one.name} PAGED {one.pages}" for one in self.commons]
+
+    def charged_pages(self):
+        """The pages that may want a block of the page file."""
+        return (sum(map(len, self.mapped)) + sum(map(len, self.created))
+                + sum(one.pages for one in self.commons))

@@ -210,7 +210,11 @@ class Layout:
             return f"the sections have more than {SECTION_PAGES} pages"
         return ""
 
-    def private_pages(self):
+    def section_lines(self):
+        return [f"SECTION {name} SHARED {len(pages)}" for name, pages in self.sections.items() if pages]
+
+    def charged_pages(self):
+        """The pages that may want a block of the page file."""
         return sum(len(place.zero) + len(place.stack) for place in self.places)
 
     def address(self, process, address):

@@ -17,14 +17,13 @@ import sys
 
 sys.dont_write_bytecode = True
 
-from keeping import LETTERS, range_of
+from keeping import LETTERS, SECTION_NAME, common_of, range_of
 from placing import REQUESTS, gather, lay_out
 from programs import start_lackey
 from recording import Part, Recorded
 from sources import Din, Lackey, Listed, RecordError
 from trace_text import trace_text
 
-SECTION_NAME = re.compile(r"[A-Z][A-Z0-9_]{1,14}")
 NUMBER = re.compile(r"[0-9]{1,9}")
 
 
@@ -60,6 +59,13 @@ def last(word):
 def mapped(word):
     try:
         return range_of(word)
+    except (ValueError, RecordError) as fault:
+        raise argparse.ArgumentTypeError(str(fault)) from None
+
+
+def common(word):
+    try:
+        return common_of(word)
     except (ValueError, RecordError) as fault:
         raise argparse.ArgumentTypeError(str(fault)) from None
 
@@ -131,6 +137,9 @@ def add_choices(words):
                        "list as they are; its lines may be services too")
     group.add_argument("--map", type=mapped, action="append", default=[], metavar="X:ADDRESS:PAGES",
                        help="maps this range of process X, in place of the pages that its list uses")
+    group.add_argument("--common", type=common, action="append", default=[],
+                       metavar="NAME:LETTERS:ADDRESS:PAGES",
+                       help="these processes share this range: it is a section in the page file")
     group.add_argument("--quantum", type=at_least_one, default=100, metavar="N",
                        help="references of one recording before the next one's turn (100)")
     group.add_argument("--widths", type=widths, default={1, 2, 4}, metavar="N,N",
@@ -180,14 +189,16 @@ def read_words():
     if options.keep_addresses and (options.run or options.text or options.stack or any(
             kind != "list" for kind, _ in options.recordings)):
         raise RecordError("--keep-addresses is for lists, without --stack and --text")
-    if options.map and not options.keep_addresses:
-        raise RecordError("--map needs --keep-addresses")
+    for name, given in [("--map", options.map), ("--common", options.common)]:
+        if given and not options.keep_addresses:
+            raise RecordError(f"{name} needs --keep-addresses")
     if options.text and not options.fetches:
         raise RecordError("--text needs --fetches")
     options.parameters = dict(options.param)
     if len(options.parameters) != len(options.param):
         raise RecordError("a parameter is given twice")
-    if len({name for name, _ in options.text}) != len(options.text):
+    names = [name for name, _ in options.text] + [one.name for one in options.common]
+    if len(set(names)) != len(names):
         raise RecordError("a section is given twice")
     return options
 

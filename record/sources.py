@@ -19,7 +19,10 @@ P1_BEGIN = P1_END - 1024 * PAGE_BYTES
 S0_END = 0xC0000000
 CODES = "NA KW KR UW EW ERKW ER SW SREW SRKW SR URSW UREW URKW UR".split()
 # the words of each service behind its name
-SERVICES = {"CRETVA": 3, "SETPRT": 3, "DELTVA": 2, "LKWSET": 2, "ULWSET": 2, "PURGWS": 2, "ADJWSL": 1}
+SERVICES = {"CRETVA": 3, "SETPRT": 3, "DELTVA": 2, "LKWSET": 2, "ULWSET": 2, "LCKPAG": 2, "ULKPAG": 2,
+            "PURGWS": 2, "ADJWSL": 1}
+# those that version 2 of the trace alone has
+PINS = ("LCKPAG", "ULKPAG")
 
 
 class RecordError(Exception):

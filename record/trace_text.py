@@ -4,7 +4,7 @@ import textwrap
 
 from keeping import LETTERS, Kept
 from placing import PAGE_BYTES
-from sources import SERVICES, RecordError
+from sources import PINS, SERVICES, RecordError
 
 PARAMETERS = {
     "PFC": (1, 8), "HILIMIT": (0, 16384), "LOLIMIT": (0, 16384), "WAITLIMIT": (1, 16384),
@@ -12,7 +12,7 @@ PARAMETERS = {
     "PFRATH": (0, 100000), "PFRATL": (0, 100000), "WSINC": (0, 1024), "WSDEC": (0, 1024),
     "AWSMIN": (2, 1024), "BORROWLIM": (0, 4096)}
 DEFAULTS = {"HILIMIT": 128, "LOLIMIT": 32, "WAITLIMIT": 256, "FREELIM": 0, "FREEGOAL": 0}
-FRAMES = (8, 4096)
+FRAMES = {1: (8, 4096), 2: (8, 16384)}
 PAGEFILE = (1, 16384)
 GREATEST_EXTENT = 1024
 COMMENT_BYTES = 200
@@ -31,7 +31,7 @@ def spread(name, numbers, processes):
     return numbers * processes if len(numbers) == 1 else numbers
 
 
-def process_bounds(options, processes):
+def process_bounds(options, processes, version):
     """The limit, quota, extent and locks of each process."""
     limits = spread("--limit", options.limit, processes)
     quotas = spread("--quota", options.quota or limits, processes)
@@ -42,8 +42,10 @@ def process_bounds(options, processes):
         if not lock + 2 <= limit <= quota <= extent <= GREATEST_EXTENT:
             raise RecordError(f"process {letter}: locks + 2 <= limit <= quota <= extent <= "
                               f"{GREATEST_EXTENT} doesn't hold of {lock}, {limit}, {quota}, {extent}")
-    if max(extents) + 2 > options.frames:
-        raise RecordError(f"the greatest extent, {max(extents)}, and 2 are more than the "
+    pins = sum(locks) if version == 2 else 0
+    if max(extents) + pins + 2 > options.frames:
+        also = f"the locks of all processes, {pins}, " if pins else ""
+        raise RecordError(f"the greatest extent, {max(extents)}, {also}and 2 are more than the "
                           f"{options.frames} frames")
     return bounds
 
@@ -139,8 +141,8 @@ def request_lines(found, layout, zero):
 
 
 def needed_blocks(layout):
-    """A page file in which every private page finds a block."""
-    pages = layout.private_pages()
+    """A page file in which every page that may want one finds a block."""
+    pages = layout.charged_pages()
     return min(PAGEFILE[1], max(PAGEFILE[0], pages))
 
 
@@ -153,18 +155,24 @@ def head_comments(options, found, layout):
     return lines + mapping_comments(layout, found.owners)
 
 
+def version_of(options, found):
+    """2 where the trace has what version 1 hasn't: pins, sections in the page file, or more frames."""
+    pins = any(op in PINS for _, op, *_ in found.requests)
+    return 2 if pins or options.common or options.frames > FRAMES[1][1] else 1
+
+
 def trace_text(options, found, layout):
     """The whole trace."""
-    bounded("--frames", options.frames, FRAMES)
+    version = version_of(options, found)
+    bounded("--frames", options.frames, FRAMES[2])
     pagefile = bounded("--pagefile", options.pagefile or needed_blocks(layout), PAGEFILE)
     check_parameters(options.parameters)
-    bounds = process_bounds(options, len(found.owners))
-    lines = ["VMTRACE 1"]
+    bounds = process_bounds(options, len(found.owners), version)
+    lines = [f"VMTRACE {version}"]
     lines += head_comments(options, found, layout) if options.comments else []
     lines += [f"FRAMES {options.frames}", f"PAGEFILE {pagefile}"]
     lines += [f"PARAM {name} {number}" for name, number in options.parameters.items()]
-    lines += [f"SECTION {name} SHARED {len(pages)}"
-              for name, pages in layout.sections.items() if pages]
+    lines += layout.section_lines()
     lines += [f"PROCESS {letter} {' '.join(map(str, four))}"
               for letter, four in zip(LETTERS, bounds)]
     lines += map_lines(layout, options)

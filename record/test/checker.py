@@ -9,7 +9,7 @@ RANGES = {
     "AWSMIN": (2, 1024), "BORROWLIM": (0, 4096)}
 CODES = "NA KW KR UW EW ERKW ER SW SREW SRKW SR URSW UREW URKW UR".split()
 REQUEST = re.compile(r"([A-P]) (?:R([124])|([WA])([124])) ([0-9A-F]{8})(?: ([0-9A-F]{2,8}))?")
-SERVICE = re.compile(r"([A-P]) (?:(ADJWSL) (\d+)|(?:(CRETVA|SETPRT)|DELTVA|LKWSET|ULWSET|PURGWS) "
+SERVICE = re.compile(r"([A-P]) (?:(ADJWSL) (\d+)|(?:(CRETVA|SETPRT)|(LCKPAG|ULKPAG)|DELTVA|LKWSET|ULWSET|PURGWS) "
                      r"([0-9A-F]{8}) (\d+)(?: ([A-Z]+))?)")
 
 
@@ -18,10 +18,12 @@ class Checker:
 
     def __init__(self):
         self.place = 0
+        self.version = 0
         self.frames = 0
         self.parameters = {}
         self.sections = {}
         self.extents = []
+        self.locks = 0
         self.mapped = set()
         self.requests = 0
 
@@ -41,9 +43,11 @@ class Checker:
         return self.request(text) if self.place == 4 else "a line after END"
 
     def head(self, words):
-        name, low, high = [("VMTRACE", 1, 1), ("FRAMES", 8, 4096), ("PAGEFILE", 1, 16384)][self.place]
+        frames = 16384 if self.version == 2 else 4096
+        name, low, high = [("VMTRACE", 1, 2), ("FRAMES", 8, frames), ("PAGEFILE", 1, 16384)][self.place]
         if words[0] != name or len(words) != 2 or not low <= int(words[1]) <= high:
             return f"the line {name} is missing or out of range"
+        self.version = int(words[1]) if name == "VMTRACE" else self.version
         self.frames = int(words[1]) if name == "FRAMES" else self.frames
         self.place += 1
         return ""
@@ -63,6 +67,8 @@ class Checker:
     def section(self, words):
         if not re.fullmatch(r"[A-Z][A-Z0-9_]{1,14}", words[1]) or words[1] in self.sections:
             return "a section's name"
+        if words[2] not in (["SHARED", "CRF"] if self.version == 1 else ["SHARED", "CRF", "PAGED"]):
+            return "a section's kind"
         self.sections[words[1]] = int(words[3])
         too_many = len(self.sections) > 64 or sum(self.sections.values()) > 16384
         return "the sections' pages" if too_many or int(words[3]) < 1 else ""
@@ -72,6 +78,7 @@ class Checker:
         if words[1] != chr(65 + len(self.extents)) or len(self.extents) == 16:
             return "a process letter"
         self.extents.append(extent)
+        self.locks += locks if self.version == 2 else 0
         good = locks + 2 <= limit <= quota <= extent <= 1024
         return "" if good else "a process's bounds"
 
@@ -96,7 +103,7 @@ class Checker:
         values = {"LOLIMIT": 32, "HILIMIT": 128, "WAITLIMIT": 256, "FREELIM": 0, "FREEGOAL": 0,
                   **self.parameters}
         self.place = 4
-        good = (self.extents and max(self.extents) + 2 <= self.frames and len(words) == 1
+        good = (self.extents and max(self.extents) + self.locks + 2 <= self.frames and len(words) == 1
                 and values["LOLIMIT"] <= values["HILIMIT"] <= values["WAITLIMIT"]
                 and values["FREELIM"] <= values["FREEGOAL"])
         return "" if good else "the bounds at BODY"
@@ -126,11 +133,13 @@ class Checker:
             return "a service's process"
         if found[2]:
             return "" if 1 <= int(found[3]) <= 1024 else "a limit"
-        first, pages = int(found[5], 16), int(found[6])
+        if found[5] and self.version == 1:
+            return "a service of version 2"
+        first, pages = int(found[6], 16), int(found[7])
         if first % 512 or not (1 <= pages and first + pages * 512 <= 4096 * 512
                                or 0x7FF80000 <= first and first + pages * 512 <= 0x80000000):
             return "a service's range"
-        if (found[4] is None) != (found[7] is None) or found[7] and found[7] not in CODES:
+        if (found[4] is None) != (found[8] is None) or found[8] and found[8] not in CODES:
             return "a service's protection code"
         if found[4] == "CRETVA":
             self.mapped |= {(found[1], first // 512 + page) for page in range(pages)}

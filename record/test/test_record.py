@@ -300,6 +300,56 @@ END
         self.assertEqual(lines_of(trace, "MAPZERO"), [
             "MAPZERO A 00000200 2 UW", "MAPZERO A 7FFEDA00 3 UW", "MAPZERO B 00000200 2 UW"])
 
+    def test_second_version(self):
+        """Pins and sections in the page file are of version 2, and so are many frames."""
+        one = self.file("one", "p W4 4000 7\np LCKPAG 4000 1\nq R4 4000\nq W4 200 8\np ULKPAG 4000 2\n")
+        trace = self.trace("--no-comments", "--keep-addresses", "--frames", 16, "--limit", 4, "--locks", "1,2",
+                           "--common", "COM:AB:4000:2", "--list", one)
+        self.assertEqual(trace, """\
+VMTRACE 2
+FRAMES 16
+PAGEFILE 3
+SECTION COM PAGED 2
+PROCESS A 4 4 4 1
+PROCESS B 4 4 4 2
+MAPZERO B 00000200 1 UW
+MAPSEC A 00004000 2 COM 0 UW
+MAPSEC B 00004000 2 COM 0 UW
+BODY
+A W4 00004000 00000007
+A LCKPAG 00004000 1
+B R4 00004000
+B W4 00000200 00000008
+A ULKPAG 00004000 2
+END
+""")
+        if PROGRAM:
+            done = subprocess.run([PROGRAM, "serial"], input=trace, capture_output=True, text=True,
+                                  check=False)
+            self.assertEqual(done.returncode, 0)
+            self.assertIn("B DONE R4 00004000 00000007", done.stdout)
+        trace = self.trace("--no-comments", "--frames", 5000, "--list", self.file("two", "p R4 0\n"))
+        self.assertEqual(trace.split("\n")[:2], ["VMTRACE 2", "FRAMES 5000"])
+
+    def test_second_version_refused(self):
+        one = self.file("one", "p R4 200\np LCKPAG 200 1\np CRETVA 600 1 UW\n")
+        for message, words in [
+                ("--common needs", ["--common", "COM:A:0:1", "--list", one]),
+                ("--common names a process", ["--keep-addresses", "--common", "COM:B:0:1", "--list", one]),
+                ("isn't NAME:LETTERS:ADDRESS:PAGES", ["--keep-addresses", "--common", "COM:A:0", "--list", one]),
+                ("process A has two sections at one place", [
+                    "--keep-addresses", "--common", "ONE:A:0:2", "--common", "TWO:A:200:1", "--list", one]),
+                ("process A creates pages where a section is", [
+                    "--keep-addresses", "--common", "ONE:A:600:2", "--list", one]),
+                ("a section is given twice", [
+                    "--keep-addresses", "--common", "ONE:A:0:1", "--common", "ONE:A:200:1", "--list", one]),
+                ("--frames is 16385; it has to be from 8 to 16384", [
+                    "--keep-addresses", "--frames", 16385, "--list", one]),
+                ("the greatest extent, 5, the locks of all processes, 2, and 2 are more than the 8 frames", [
+                    "--keep-addresses", "--frames", 8, "--limit", 5, "--locks", 2, "--list", one])]:
+            with self.subTest(message):
+                self.refused(message, *words)
+
     def test_refused(self):
         for text, message in [
                 ("p R4 80001000\n", "line 1: the address 80001000 lies in system space (S0)"),

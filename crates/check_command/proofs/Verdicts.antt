@@ -5,7 +5,7 @@ use Rattle.std.specs.Prelude.{IfSome}
 use Rattle.std.specs.Io.KnownBytes.{prepend_known}
 use Rattle.vm_types.specs.declared.config.Config.{Config}
 use Rattle.outside_io.specs.Views.{SinkView, SourceView}
-use Rattle.line_source.specs.BytesLeft.{pending}
+use Rattle.outside_io.specs.BytesLeft.{pending}
 use Rattle.trace_reader.specs.Head.{head_of}
 use Rattle.trace_reader.specs.HeadAnswer.{HeadAnswers}
 use Rattle.trace_reader.specs.declared.fault.TraceFault.{TraceFault}
@@ -21,7 +21,7 @@ use Rattle.command_ends.specs.FaultText.{fault_status, fault_told}
 use Rattle.command_ends.specs.Wrongs.{IsWrong, IsWrongText, TellsWrong, wrong_of}
 use Rattle.command_ends.specs.declared.wrong.Wrong.{Wrong}
 use Rattle.command_ends.proofs.Wronging.{fault_wrong}
-use Rattle.line_source.specs.LineText.{line_text}
+use Rattle.outside_io.specs.LineText.{line_text}
 use Rattle.log_check.specs.Judged.{KeepsFault}
 use Rattle.check_command.specs.Answers.{Answer, CountsBy, IsRead, KeepsText, Says}
 use Rattle.check_command.specs.CheckText.{legal, at_fault, too_long}

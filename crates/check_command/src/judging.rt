@@ -1,13 +1,12 @@
 //! Reading a trace and a log.
 
 ghost use Rattle.std.specs.Prelude.{◌≡◌, ◌≤◌, length, IfSome};
-ghost use Rattle.line_source.specs.BytesLeft.{bytes_left, pending};
+ghost use Rattle.outside_io.specs.BytesLeft.{bytes_left, pending};
 ghost use Rattle.check_command.specs.Answers.{CountsBy, IsRead, KeepsText, Says};
 
 use arrayvec::ArrayVec;
-use line_source::Lines;
 use log_check::{CheckFault, Verdict, check_log};
-use outside_io::Source;
+use outside_io::{Lines, Source};
 use std::alloc::Global;
 use trace_reader::{TraceFault, read_head};
 

@@ -1,9 +1,9 @@
 -- Why a line of an input is at fault, in words. Source: this project's own.
-use Rattle.std.specs.Prelude.{ℕ, ◌==◌, Bool, true, false, ◌&&◌, ◌||◌, if◌then◌else◌, List, [], ◌∷◌, ◌++◌, codes, decimal}
+use Rattle.std.specs.Prelude.{ℕ, ◌==◌, Bool, true, false, ◌&&◌, ◌||◌, if◌then◌else◌, List, [], ◌∷◌, ◌++◌, codes, decimal, length}
 use Rattle.trace_words.specs.declared.cause.Cause.{Cause}
 use Rattle.trace_words.specs.declared.cause.Cause.TheVariants.{LineTooLong, NotAscii, TooMany, UnknownWord, Misplaced, NoSuch, BadNumber, OutOfRange, Unaligned, Repeated}
 use Rattle.trace_lines.specs.declared.breach.Bound.{Bound}
-use Rattle.trace_lines.specs.declared.breach.Bound.TheVariants.{Free, Within, Multiple, Next, BelowFrames, Bytes, Pages, Regions, Locks, Quota, Extent, LoLimit, HiLimit, FreeLim, Frames}
+use Rattle.trace_lines.specs.declared.breach.Bound.TheVariants.{Free, Within, Multiple, Next, BelowFrames, Bytes, Pages, Regions, Locks, Quota, Extent, LoLimit, HiLimit, FreeLim, Frames, FramesAndLocks}
 use Rattle.trace_lines.specs.declared.breach.Breach.{Breach}
 
 -- the rule that the word of this number breaks
@@ -44,6 +44,7 @@ bound_text rule (LoLimit n) = with_two (codes "HILIMIT is ") n (codes ", so LOLI
 bound_text rule (HiLimit n) = with_two (codes "WAITLIMIT is ") n (codes ", so HILIMIT is at most ") n
 bound_text rule (FreeLim n) = with_two (codes "FREEGOAL is ") n (codes ", so FREELIM is at most ") n
 bound_text rule (Frames n) = with_two (codes "FRAMES is ") n (codes ", so each extent, the bad frames and 2 are at most ") n
+bound_text rule (FramesAndLocks n) = with_two (codes "FRAMES is ") n (codes ", so each extent, the bad frames, the locks of all processes and 2 are at most ") n
 
 abbrev pub breach_text : Breach → List ℕ
 breach_text breach = bound_text (rule_text breach.word breach.cause) breach.bound
@@ -73,9 +74,13 @@ abbrev pub first_reason : List ℕ → List ℕ → List ℕ
 first_reason reason text =
     if is_marked text then codes "a byte order mark stands in front of the trace, which is plain ASCII" else
     if is_wide text then codes "the input begins as UTF-16 does, and a trace is plain ASCII" else
-    if is_log text then codes "the input begins as a log does, and a trace begins with VMTRACE 1" else
-    if is_dump text then codes "the input begins as a dump does, and a trace begins with VMTRACE 1" else reason
+    if is_log text then codes "the input begins as a log does, and a trace begins with VMTRACE" else
+    if is_dump text then codes "the input begins as a dump does, and a trace begins with VMTRACE" else reason
+
+-- why a later line is at fault: it begins the log that check reads, or else this
+abbrev pub later_reason : List ℕ → List ℕ → List ℕ
+later_reason reason text = if (length text == 3) && begins (codes "LOG") text then codes "LOG stands behind the line END, and check alone reads it" else reason
 
 -- why a line of this number is at fault
 abbrev pub reason_text : ℕ → Breach → List ℕ → List ℕ
-reason_text number breach text = if number == 1 then first_reason (breach_text breach) text else breach_text breach
+reason_text number breach text = if number == 1 then first_reason (breach_text breach) text else later_reason (breach_text breach) text

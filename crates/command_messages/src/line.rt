@@ -9,7 +9,7 @@ ghost use Rattle.command_messages.specs.declared.faults.LineFault.{LineFault};
 
 use crate::faults::{CommandName, LineFault, LineOption};
 use arrayvec::ArrayVec;
-use line_source::keep_front;
+use outside_io::keep_front;
 use study_command::first_word;
 use trace_words::decimal_within;
 use vm_text::{after, is};

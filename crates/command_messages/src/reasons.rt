@@ -2,7 +2,7 @@
 
 ghost use Rattle.std.specs.Prelude.{◌≡◌, ◌+◌, ◌≤◌, ◌++◌, length};
 ghost use Rattle.arrayvec.specs.ArrayVec.{array_vec_len};
-ghost use Rattle.command_messages.specs.Reasons.{begins, bound_text, breach_text, first_reason, is_dump, is_log, is_marked, is_wide, reason_text, rule_text, with_one, with_two};
+ghost use Rattle.command_messages.specs.Reasons.{begins, bound_text, breach_text, first_reason, is_dump, is_log, is_marked, is_wide, later_reason, reason_text, rule_text, with_one, with_two};
 
 use arrayvec::ArrayVec;
 use trace_reader::{Bound, Breach, Cause};
@@ -52,7 +52,7 @@ fn push_one(out: &mut ArrayVec<u8, 640>, front: &[u8], n: u64, back: &[u8])
 // Adds a text with two numbers.
 fn push_two(out: &mut ArrayVec<u8, 640>, front: &[u8], n: u32, middle: &[u8], m: u32)
     requires front { length front.now ≤ 30 }
-    requires middle { length middle.now ≤ 60 }
+    requires middle { length middle.now ≤ 80 }
     requires room { array_vec_len out.old ≤ 40 }
     ensures items { out.new.items ≡ out.old.items ++ with_two front.now n middle.now m }
     ensures len { array_vec_len out.new ≤ array_vec_len out.old + 150 }
@@ -125,6 +125,13 @@ fn push_bound(out: &mut ArrayVec<u8, 640>, rule: &[u8], bound: Bound)
             b", so each extent, the bad frames and 2 are at most ",
             n,
         ),
+        Bound::FramesAndLocks(n) => push_two(
+            out,
+            b"FRAMES is ",
+            n,
+            b", so each extent, the bad frames, the locks of all processes and 2 are at most ",
+            n,
+        ),
     }
 }
 
@@ -181,12 +188,28 @@ fn push_first(out: &mut ArrayVec<u8, 640>, breach: Breach, text: &[u8])
     } else if is_log(text) {
         push_word(
             out,
-            b"the input begins as a log does, and a trace begins with VMTRACE 1",
+            b"the input begins as a log does, and a trace begins with VMTRACE",
         );
     } else if begins(b"VMSDUMP", text) {
         push_word(
             out,
-            b"the input begins as a dump does, and a trace begins with VMTRACE 1",
+            b"the input begins as a dump does, and a trace begins with VMTRACE",
+        );
+    } else {
+        push_breach(out, breach);
+    }
+}
+
+// Adds why a later line is at fault.
+fn push_later(out: &mut ArrayVec<u8, 640>, breach: Breach, text: &[u8])
+    requires { array_vec_len out.old ≤ 40 }
+    ensures items { out.new.items ≡ out.old.items ++ later_reason (breach_text breach) text.now }
+    ensures len { array_vec_len out.new ≤ array_vec_len out.old + 150 }
+{
+    if text.len() == 3 && begins(b"LOG", text) {
+        push_word(
+            out,
+            b"LOG stands behind the line END, and check alone reads it",
         );
     } else {
         push_breach(out, breach);
@@ -202,6 +225,6 @@ pub(crate) fn push_reason(out: &mut ArrayVec<u8, 640>, number: u32, breach: Brea
     if number == 1 {
         push_first(out, breach, text);
     } else {
-        push_breach(out, breach);
+        push_later(out, breach, text);
     }
 }

@@ -3,6 +3,10 @@
 #![tactic(auto)]
 
 #[cfg(test)]
+mod cut_traces;
+#[cfg(test)]
 mod failing_ends;
+#[cfg(test)]
+mod shared_run;
 #[cfg(test)]
 mod sizes;

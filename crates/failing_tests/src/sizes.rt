@@ -30,9 +30,20 @@ FRAMES 4096\n\
 PAGEFILE 16384\n\
 SECTION BIG SHARED 16384\n";
 
-const GREATEST_TEXT: &[u8] = b"PFN AT 0\n\
-FREE 4096 MODIFIED 0 BAD 0 RELEASE 0 READERROR 0 WRITING 0 READING 0 ACTIVE 0\n\
-PAGEFILE 16384 CHARGED 0 ASSIGNED 0\n\
+const GREATEST_COUNTS: &[u8] = b"PFN AT 0\n\
+FREE 4096 MODIFIED 0 BAD 0 RELEASE 0 READERROR 0 WRITING 0 READING 0 ACTIVE 0\n";
+
+// The most of version 2.
+const SECOND_GREATEST: &[u8] = b"VMTRACE 2\n\
+FRAMES 16384\n\
+PAGEFILE 16384\n\
+SECTION BIG PAGED 16384\n";
+
+const SECOND_COUNTS: &[u8] = b"PFN AT 0\n\
+FREE 16384 MODIFIED 0 BAD 0 RELEASE 0 READERROR 0 WRITING 0 READING 0 ACTIVE 0\n";
+
+// What follows the counts of the states, in both versions.
+const GREATEST_REST: &[u8] = b"PAGEFILE 16384 CHARGED 0 ASSIGNED 0\n\
 PROCESS A RESIDENT COUNT 0 LIMIT 1024\n\
 PROCESS B RESIDENT COUNT 0 LIMIT 1024\n\
 PROCESS C RESIDENT COUNT 0 LIMIT 1024\n\
@@ -79,11 +90,13 @@ fn busy(alloc: Global) -> Result<Vec<u8>, NoMemory> {
     Ok(text)
 }
 
-// The process of this letter with the greatest working set.
-fn add_process(text: &mut Vec<u8>, letter: u8) -> Result<(), NoMemory> {
+// The process of this letter with the greatest working set, and with these locks.
+fn add_process(text: &mut Vec<u8>, letter: u8, locks: &[u8]) -> Result<(), NoMemory> {
     text.extend_from_slice(b"PROCESS ")?;
     text.push(letter)?;
-    text.extend_from_slice(b" 1024 1024 1024 1022\n")?;
+    text.extend_from_slice(b" 1024 1024 1024 ")?;
+    text.extend_from_slice(locks)?;
+    text.push(b'\n')?;
     Ok(())
 }
 
@@ -97,10 +110,10 @@ fn add_maps(text: &mut Vec<u8>, letter: u8) -> Result<(), NoMemory> {
     Ok(())
 }
 
-fn greatest(alloc: Global) -> Result<Vec<u8>, NoMemory> {
-    let mut text = Vec::from_slice(alloc, GREATEST)?;
+fn greatest(alloc: Global, machine: &[u8], locks: &[u8]) -> Result<Vec<u8>, NoMemory> {
+    let mut text = Vec::from_slice(alloc, machine)?;
     for letter in b'A'..b'Q' {
-        add_process(&mut text, letter)?;
+        add_process(&mut text, letter, locks)?;
         add_maps(&mut text, letter)?;
     }
     text.extend_from_slice(b"BODY\nEND\n")?;
@@ -125,8 +138,16 @@ fn one_hundred_thousand_requests(rt: HostRuntime) -> Result<(), Fail> {
 #[test]
 fn the_greatest_configuration(rt: HostRuntime) -> Result<(), Fail> {
     let alloc = rt.alloc();
-    let (status, text) = serial_of(alloc, greatest(alloc)?)?;
-    assert_eq!(rt; status, Status(0));
-    assert_eq!(rt; text.as_slice(), GREATEST_TEXT);
+    let table: [(&[u8], &[u8], &[u8]); 2] = [
+        (GREATEST, b"1022", GREATEST_COUNTS),
+        (SECOND_GREATEST, b"959", SECOND_COUNTS),
+    ];
+    for (machine, locks, counts) in table {
+        let (status, text) = serial_of(alloc, greatest(alloc, machine, locks)?)?;
+        let mut wanted = Vec::from_slice(alloc, counts)?;
+        wanted.extend_from_slice(GREATEST_REST)?;
+        assert_eq!(rt; status, Status(0));
+        assert_eq!(rt; text, wanted);
+    }
     Ok(())
 }

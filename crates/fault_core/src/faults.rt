@@ -17,7 +17,7 @@ use crate::next::{AgainWhy, Next};
 use crate::sought::Sought;
 use crate::waits::{read, replace};
 use disk_trait::Block;
-use page_moves::is_paged;
+use page_changes::is_paged;
 use page_readers::Found;
 use vm_state::{Carrier, State};
 use vm_types::{BlockId, Config, Origin, Page, Proc, Ref, Seat};

@@ -1,4 +1,4 @@
-ghost use Rattle.std.specs.Prelude.{◌≡◌, ◌≢◌, ◌<◌, ◌+◌, ◌-◌, ◌^◌, ◌==◌, if◌then◌else◌, length, IfSome, slice_set, Some};
+ghost use Rattle.std.specs.Prelude.{◌≡◌, ◌≢◌, ◌<◌, ◌+◌, ◌-◌, ◌^◌, ◌==◌, if◌then◌else◌, true, length, IfSome, slice_set, Some};
 ghost use Rattle.page_lists.specs.Lists.{without};
 ghost use Rattle.pfn_database.specs.Rows.{FitsSlot, counted_references, uncounted};
 ghost use Rattle.pfn_database.specs.Frames.{row_of, IsConsistent};
@@ -41,9 +41,65 @@ pub fn enter(frames: &mut Pfns, f: Pfn, page: Page, slot: u32, modify: bool)
 
 /// One entry less is valid for an active frame. The last one gives up the slot; the frame is then
 /// release pending while a transfer is open, else it goes onto the tail of the modified list where
-/// its modify mark is set, and onto the tail of the free list where it isn't. It keeps its page.
+/// its modify mark is set, and onto the tail of the free list where it isn't. It keeps its page. If
+/// the page was pinned, it has one reference less for that.
 #[inline(always)]
-pub fn leave(frames: &mut Pfns, f: Pfn)
+pub fn leave(frames: &mut Pfns, f: Pfn, pinned: bool)
+    requires below { f.0 < length frames.old.rows }
+    requires active { (row_of frames.old f.0).state ≡ FrameState.Active }
+    requires shares { 0 < (row_of frames.old f.0).shares }
+    requires pins { pinned ≡ true → 0 < uncounted (row_of frames.old f.0) }
+    ensures rows { let row = row_of frames.old f.0 in
+        frames.new.rows ≡ slice_set frames.old.rows f.0
+        (record row {
+          state = evicted_to row.shares row.flights row.modify;
+          refs = counted_references (row.shares - 1) row.flights + (if pinned then uncounted row - 1 else uncounted row);
+          shares = row.shares - 1;
+          slot = if row.shares == 1 then 0 else row.slot;
+        }) }
+    ensures free { let row = row_of frames.old f.0 in
+        frames.new.free ≡ pushed_if
+        (is FrameState.Free (evicted_to row.shares row.flights row.modify)) frames.old.free f.0 }
+    ensures modified { let row = row_of frames.old f.0 in
+        frames.new.modified ≡ pushed_if
+        (is FrameState.Modified (evicted_to row.shares row.flights row.modify)) frames.old.modified f.0 }
+    ensures consistent { IsConsistent frames.new }
+{
+    if pinned {
+        return lose_pinned(frames, f);
+    }
+    lose_entry(frames, f)
+}
+
+/// One entry less is valid for an active frame, whose page was pinned by it.
+fn lose_pinned(frames: &mut Pfns, f: Pfn)
+    requires below { f.0 < length frames.old.rows }
+    requires active { (row_of frames.old f.0).state ≡ FrameState.Active }
+    requires shares { 0 < (row_of frames.old f.0).shares }
+    requires pins { 0 < uncounted (row_of frames.old f.0) }
+    ensures rows { let row = row_of frames.old f.0 in
+        frames.new.rows ≡ slice_set frames.old.rows f.0
+        (record row {
+          state = evicted_to row.shares row.flights row.modify;
+          refs = counted_references (row.shares - 1) row.flights + (uncounted row - 1);
+          shares = row.shares - 1;
+          slot = if row.shares == 1 then 0 else row.slot;
+        }) }
+    ensures free { let row = row_of frames.old f.0 in
+        frames.new.free ≡ pushed_if
+        (is FrameState.Free (evicted_to row.shares row.flights row.modify)) frames.old.free f.0 }
+    ensures modified { let row = row_of frames.old f.0 in
+        frames.new.modified ≡ pushed_if
+        (is FrameState.Modified (evicted_to row.shares row.flights row.modify)) frames.old.modified f.0 }
+    ensures consistent { IsConsistent frames.new }
+{
+    frames.unhold(f);
+    lose_entry(frames, f);
+}
+
+/// One entry less is valid for an active frame, whose page isn't pinned by it.
+#[inline(always)]
+fn lose_entry(frames: &mut Pfns, f: Pfn)
     requires below { f.0 < length frames.old.rows }
     requires active { (row_of frames.old f.0).state ≡ FrameState.Active }
     requires shares { 0 < (row_of frames.old f.0).shares }

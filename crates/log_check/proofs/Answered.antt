@@ -3,9 +3,9 @@ use Rattle.std.proofs.Common.{◌≡◌, ◌≢◌, inl, inr, ℕ, ◌+◌, ◌<
 use Rattle.std.specs.Prelude.{IfSome}
 use Rattle.vm_types.specs.Configuration.{IsWellFormed}
 use Rattle.vm_types.specs.declared.faults.Failed.{Failed}
-use Rattle.line_source.specs.declared.lines.Line.{Line}
-use Rattle.line_source.specs.declared.lines.Line.TheVariants.{End, Long, Text}
-use Rattle.line_source.specs.HandedOut.{Gives, HandsOut, Takes}
+use Rattle.outside_io.specs.declared.lines.Line.{Line}
+use Rattle.outside_io.specs.declared.lines.Line.TheVariants.{End, Long, Text}
+use Rattle.outside_io.specs.HandedOut.{Gives, HandsOut, Takes}
 use Rattle.pager_model.specs.Text.{ended}
 use Rattle.log_model.specs.Log.{BeginsLegal, IsAtFault, IsTooLong, most_lines}
 use Rattle.log_laws.specs.Laws.{LegalLinesAreShort}

@@ -12,9 +12,9 @@ use Rattle.vm_text.proofs.Printable.{config_names}
 use Rattle.vm_journal.specs.declared.entry.Entry.{Entry}
 use Rattle.vm_journal.specs.HasLine.{IsEntryNumber}
 use Rattle.vm_journal.specs.Line.{entry_words}
-use Rattle.line_reader.proofs.OneToOne.{line_same}
-use Rattle.line_source.specs.LineText.{lines_of}
-use Rattle.line_source.proofs.Fronts.{line_first}
+use Rattle.entry_lines.proofs.OneToOne.{line_same}
+use Rattle.outside_io.specs.LineText.{lines_of}
+use Rattle.outside_io.proofs.Fronts.{line_first}
 use Rattle.pager_model.specs.Run.{pager_after}
 use Rattle.pager_model.specs.Text.{dirty_lines, dirty_pages, ended, status_line}
 use Rattle.log_model.specs.NextLine.{IsFirstLine}

@@ -1,11 +1,11 @@
 -- The first bytes of the line at which a log is at fault.
 use Rattle.std.proofs.Common.{◌≡◌, ℕ, ◌+◌, Bool, true, List, [], ◌∷◌, Option, Some, None, Result, Ok, Err, sym, ap, ◌∙◌, subst, take}
 use Rattle.std.specs.Prelude.{IfSome}
-use Rattle.line_source.specs.declared.lines.Line.{Line}
-use Rattle.line_source.specs.declared.lines.Line.TheVariants.{Text}
-use Rattle.line_source.specs.HandedOut.{HandsOut, Takes}
-use Rattle.line_source.specs.LineText.{line_text}
-use Rattle.line_source.proofs.Fronts.{first_front, line_behind, one_more}
+use Rattle.outside_io.specs.declared.lines.Line.{Line}
+use Rattle.outside_io.specs.declared.lines.Line.TheVariants.{Text}
+use Rattle.outside_io.specs.HandedOut.{HandsOut, Takes}
+use Rattle.outside_io.specs.LineText.{line_text}
+use Rattle.outside_io.proofs.Fronts.{first_front, line_behind, one_more}
 use Rattle.log_model.specs.Log.{most_lines}
 use Rattle.log_check.specs.declared.check.Step.{Step}
 use Rattle.log_check.specs.declared.check.Step.TheVariants.{Judged}

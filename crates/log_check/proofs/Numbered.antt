@@ -8,7 +8,7 @@ use Rattle.vm_text.specs.Named.{AreNames}
 use Rattle.vm_journal.specs.HasLine.{HasLine, IsEntryNumber}
 use Rattle.vm_journal.specs.Line.{line_text}
 use Rattle.vm_journal.specs.declared.entry.Entry.{Entry}
-use Rattle.line_reader.proofs.OneToOne.{line_same}
+use Rattle.entry_lines.proofs.OneToOne.{line_same}
 use Rattle.log_check.specs.EntryLine.{IsItsLine}
 
 names_are : (config : Config) → IsWellFormed config → AreNames (length config.procs) config.sections

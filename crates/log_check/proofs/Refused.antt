@@ -4,7 +4,7 @@ use Rattle.std.specs.Option.{IsSome}
 use Rattle.std.proofs.lemmas.Bool.{false≢true}
 use Rattle.vm_types.specs.declared.config.Config.{Config}
 use Rattle.vm_journal.specs.declared.entry.Entry.{Entry}
-use Rattle.line_source.specs.LineText.{line_text}
+use Rattle.outside_io.specs.LineText.{line_text}
 use Rattle.pager_model.specs.Run.{IsRun}
 use Rattle.log_history.specs.Standing.{Passed}
 use Rattle.log_model.specs.Stand.{Stand, ending_after, in_rundown, report_after}

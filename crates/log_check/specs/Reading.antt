@@ -1,6 +1,6 @@
 -- A log that is read line by line. This project's own.
 use Rattle.std.specs.Prelude.{◌≡◌, ℕ, ◌+◌, ◌≤◌, List, [], Option, Some, Result, Ok, Err, length, take, drop}
-use Rattle.line_source.specs.LineText.{line_text, lines_of}
+use Rattle.outside_io.specs.LineText.{line_text, lines_of}
 use Rattle.log_history.specs.Standing.{Passed}
 use Rattle.log_model.specs.Log.{BeginsLegal, most_lines}
 use Rattle.log_model.specs.Stand.{Stand}

@@ -1,7 +1,7 @@
 -- Why a line leads nowhere. This project's own.
 use Rattle.std.specs.Prelude.{◌≡◌, ◌⊎◌, ℕ, List, None}
 use Rattle.vm_journal.specs.declared.entry.Entry.{Entry}
-use Rattle.line_source.specs.LineText.{line_text}
+use Rattle.outside_io.specs.LineText.{line_text}
 use Rattle.log_history.specs.Standing.{Passed}
 use Rattle.log_model.specs.Stand.{Stand}
 use Rattle.log_laws.specs.Underway.{Underway, step}

@@ -1,6 +1,6 @@
 ghost use Rattle.std.specs.Prelude.{◌≡◌, ◌+◌, ◌≤◌, ◌<◌, List, ℕ, IfOk, IfSome, IsSome, length};
 ghost use Rattle.vm_types.specs.Configuration.{IsWellFormed};
-ghost use Rattle.line_source.specs.BytesLeft.{bytes_left};
+ghost use Rattle.outside_io.specs.BytesLeft.{bytes_left};
 ghost use Rattle.log_check.specs.Followed.{IsFollowed};
 ghost use Rattle.log_check.specs.Judged.{CountsBy, Judges, KeepsFault};
 ghost use Rattle.log_model.specs.Log.{most_lines};
@@ -12,10 +12,9 @@ use crate::place::Place;
 use crate::turning::take;
 use crate::verdict::Verdict;
 use arrayvec::ArrayVec;
-use line_source::{Line, Lines, keep_front};
 use log_laws::legal_lines_are_short;
 use log_reasons::LineReason;
-use outside_io::Source;
+use outside_io::{Line, Lines, Source, keep_front};
 use std::alloc::Global;
 use vm_types::Config;
 

@@ -3,7 +3,7 @@ ghost use Rattle.vm_types.specs.Configuration.{IsWellFormed};
 ghost use Rattle.log_check.specs.EntryLine.{IsEntryOf, IsItsLine, IsNoEntry};
 ghost use Rattle.log_check.specs.Results.{ok_of};
 
-use line_reader::read_line;
+use entry_lines::read_line;
 use log_reasons::LineReason;
 use vm_journal::Entry;
 use vm_types::Config;

@@ -1,9 +1,9 @@
 ghost use Rattle.std.specs.Prelude.{◌≡◌, ◌↔◌, [], IsTrue, slice_index_or};
-ghost use Rattle.line_source.specs.LineText.{line_text, lines_of};
+ghost use Rattle.outside_io.specs.LineText.{line_text, lines_of};
 ghost use Rattle.log_check.specs.Texts.{Begins, IsTaken};
 
 use arrayvec::ArrayVec;
-use line_source::keep_front;
+use outside_io::keep_front;
 use std::marker::Model;
 use vm_text::cut;
 

@@ -7,4 +7,6 @@ mod check_ends;
 #[cfg(test)]
 mod checks;
 #[cfg(test)]
+mod version_two;
+#[cfg(test)]
 mod wrong_lines;

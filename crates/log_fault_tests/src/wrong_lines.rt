@@ -17,7 +17,7 @@ use worked_runs::{
 };
 
 // The number of a line, the line that stands in its place, and why that isn't a legal next one.
-type Wrong = (usize, &'static str, &'static str);
+pub(super) type Wrong = (usize, &'static str, &'static str);
 
 const IN_FIRST_RUN: [Wrong; 48] = [
     (1, "1 B ZERO 00000000 F0\n", "the line is no entry's"),
@@ -226,7 +226,7 @@ const IN_FIRST_RUN: [Wrong; 48] = [
     (5, "PFN AT 5\n", "the line that comes here is PFN AT 4"),
 ];
 
-const IN_OUT_AND_IN_AGAIN: [Wrong; 24] = [
+const IN_OUT_AND_IN_AGAIN: [Wrong; 25] = [
     (
         18,
         "18 B OUT F0 X:A/1\n",
@@ -314,6 +314,7 @@ const IN_OUT_AND_IN_AGAIN: [Wrong; 24] = [
         "55 A TURN B COMING\n",
         "the process is in another status, LEAVING",
     ),
+    (56, "56 A TURN B COMING\n", "another process is coming"),
     (
         57,
         "57 A IN F5 X:B/0 COME A/00000000\n",
@@ -545,6 +546,68 @@ const IN_COLLISION: [Wrong; 6] = [
     ),
 ];
 
+// The first lines of a legal log that the serial run doesn't write: a page comes back while it is written, its
+// process leaves, and comes back with its other page still on the modified list. There are four good frames.
+const LEGAL_OTHERWISE: &str = "VMTRACE 1\n\
+FRAMES 8\n\
+PAGEFILE 4\n\
+BAD 4\n\
+BAD 5\n\
+BAD 6\n\
+BAD 7\n\
+SECTION LIB SHARED 1\n\
+PROCESS A 2 2 2 0\n\
+PROCESS B 2 2 2 0\n\
+MAPZERO A 00000000 1 UW\n\
+MAPSEC A 00000200 1 LIB 0 UW\n\
+MAPZERO B 00000000 2 UW\n\
+BODY\n\
+A W1 00000200 07\n\
+END\n";
+
+const LEGAL_OTHERWISE_TEXT: &str = "1 B ZERO 00000000 F0\n\
+2 B ZERO 00000200 F1\n\
+3 A IN F2 S:LIB/0 FAULT A/00000200\n\
+4 A INOK F2 3\n\
+5 A DONE W1 00000200 07\n\
+6 A ZERO 00000000 F3\n\
+7 A EVICT A 00000000 F3 PURGE MODIFIED\n\
+8 MPW OUT F3 P:0\n\
+9 A BACK A 00000000 F3 WRITING\n\
+10 A TURN A LEAVING\n\
+11 MPW OUTOK F3 8\n\
+12 SWP OUT F3 X:A/1\n\
+13 SWP OUTOK F3 12\n\
+14 SWP EVICT A 00000000 F3 LEAVE FREE\n\
+15 SWP EVICT A 00000200 F2 LEAVE MODIFIED\n\
+16 SWP TURN A GONE\n\
+17 SWP TURN A COMING\n\
+18 SWP REUSE F3 A/00000000\n\
+19 SWP IN F3 X:A/1 COME A/00000000\n";
+
+const IN_LEGAL_OTHERWISE: [Wrong; 4] = [
+    (
+        9,
+        "9 A SERVED DELTVA 00000000 1 OK\n",
+        "a page of the range has an open transfer",
+    ),
+    (
+        11,
+        "11 SWP OUT F3 X:A/1\n",
+        "the frame has an open transfer",
+    ),
+    (
+        18,
+        "18 A BACK A 00000200 F2 MODIFIED\n",
+        "a page of a coming process comes back from the free list alone",
+    ),
+    (
+        20,
+        "20 A TURN A LEAVING\n",
+        "a page of the process is being read back",
+    ),
+];
+
 // What is said beside the verdict on a trace and a log.
 fn said(alloc: Global, text: &[u8]) -> Result<(Status, Vec<u8>), NoMemory> {
     let words: &[&[u8]] = &[b"neqysbar", b"check"];
@@ -571,7 +634,12 @@ fn message(alloc: Global, number: usize, words: &str) -> Result<Vec<u8>, Fail> {
 }
 
 // Each line of a table in the place of the log's own.
-fn explains(alloc: Global, trace: &str, log: &str, table: &[Wrong]) -> Result<bool, Fail> {
+pub(super) fn explains(
+    alloc: Global,
+    trace: &str,
+    log: &str,
+    table: &[Wrong],
+) -> Result<bool, Fail> {
     for row in table {
         let (number, line, why) = *row;
         let text = input(alloc, trace, log, Change::Line(number, line))?;
@@ -620,6 +688,14 @@ fn says_why_a_line_is_wrong(rt: HostRuntime) -> Result<(), Fail> {
     assert!(rt; explains(alloc, DELETIONS, DELETIONS_TEXT, &IN_DELETIONS)?);
     assert!(rt; explains(alloc, LOCKS, LOCKS_TEXT, &IN_LOCKS)?);
     assert!(rt; explains(alloc, COLLISION, COLLISION_TEXT, &IN_COLLISION)?);
+    assert!(rt;
+        explains(
+            alloc,
+            LEGAL_OTHERWISE,
+            LEGAL_OTHERWISE_TEXT,
+            &IN_LEGAL_OTHERWISE
+        )?
+    );
     Ok(())
 }
 

@@ -14,8 +14,8 @@ use Rattle.vm_text.proofs.Decimals.{byte_in}
 use Rattle.vm_journal.specs.declared.entry.Entry.{Entry}
 use Rattle.vm_journal.specs.HasLine.{HasLine, IsEntryNumber}
 use Rattle.vm_journal.specs.Line.{entry_words, line_text}
-use Rattle.line_reader.proofs.LineWords.{entry_blankless}
-use Rattle.line_reader.proofs.OneToOne.{line_same}
+use Rattle.entry_lines.proofs.LineWords.{entry_blankless}
+use Rattle.entry_lines.proofs.OneToOne.{line_same}
 use Rattle.pager_model.specs.Run.{pager_after}
 use Rattle.pager_model.specs.Text.{dirty_lines, dirty_pages, status_line}
 use Rattle.log_model.specs.Log.{AreLegal, most_lines}

@@ -6,7 +6,7 @@ use Rattle.vm_types.specs.declared.reply.Reply.{Reply}
 use Rattle.vm_journal.specs.HasLine.{HasLine}
 use Rattle.vm_journal.specs.declared.entry.Entry.{Entry}
 use Rattle.vm_journal.specs.declared.entry.What.TheVariants as what
-use Rattle.line_source.specs.LineText.{line_text}
+use Rattle.outside_io.specs.LineText.{line_text}
 use Rattle.pager_model.specs.Flat.{flat_reply}
 use Rattle.pager_model.specs.Order.{IsInOrder}
 use Rattle.pager_model.specs.Run.{pager_after}

@@ -63,8 +63,8 @@ fn has_line_after(past: &LogHistory<'_>, e: Entry) -> bool
     has_line(past.config(), e)
 }
 
-/// Why an entry isn't a legal next one after those so far, which led to this state of the pager: the
-/// first condition of it that doesn't hold, if there is one. Doesn't allocate.
+/// Why an entry isn't a legal next one after those so far, which led to this state of the pager: one of
+/// the conditions of its kind that doesn't hold, if there is one. Doesn't allocate.
 pub fn fails(past: &LogHistory<'_>, pager: &LogPager, e: Entry) -> Option<Reason>
     requires { Follows past.now.config past.now.past (shown pager.now) }
     ensures legal { IsNone result ↔ IsLegal past.now.config past.now.past (shown pager.now).pager e }

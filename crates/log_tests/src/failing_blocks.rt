@@ -6,7 +6,9 @@ use replay_cli::Status;
 use std::alloc::Global;
 use std::test::Fail;
 use vm_types::{BlockId, NoMemory, SecId};
-use worked_runs::{DIRTY_PAGE, DIRTY_PAGE_TEXT};
+use worked_runs::{
+    DIRTY_IN_THE_PAGE_FILE, DIRTY_IN_THE_PAGE_FILE_TEXT, DIRTY_PAGE, DIRTY_PAGE_TEXT,
+};
 
 // Two processes with a shared section of two pages, a copied one and pages of zeros: eight pages
 // in five frames, so pages are read and written in clusters and both processes leave and come
@@ -91,9 +93,15 @@ fn count(text: &[u8], word: &[u8]) -> usize {
 
 #[test]
 fn tells_a_dirty_page(rt: HostRuntime) -> Result<(), Fail> {
-    let told = serial(rt.alloc(), DIRTY_PAGE.as_bytes())?;
-    assert_eq!(rt; told.0, Status(5));
-    assert_eq!(rt; told.1.as_slice(), DIRTY_PAGE_TEXT.as_bytes());
+    let table: [(&str, &str); 2] = [
+        (DIRTY_PAGE, DIRTY_PAGE_TEXT),
+        (DIRTY_IN_THE_PAGE_FILE, DIRTY_IN_THE_PAGE_FILE_TEXT),
+    ];
+    for (trace, text) in table {
+        let told = serial(rt.alloc(), trace.as_bytes())?;
+        assert_eq!(rt; told.0, Status(5));
+        assert_eq!(rt; told.1.as_slice(), text.as_bytes());
+    }
     Ok(())
 }
 

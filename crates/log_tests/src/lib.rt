@@ -20,3 +20,5 @@ mod several_processes;
 mod swapping;
 #[cfg(test)]
 mod texts;
+#[cfg(test)]
+mod version_two;

@@ -9,7 +9,7 @@ ghost use Rattle.vm_state.specs.History.{pager};
 ghost use Rattle.vm_state.specs.PageReadings.{IsKnown};
 
 use disk_trait::Block;
-use page_moves::is_paged;
+use page_changes::is_paged;
 use vm_state::State;
 use vm_types::{BlockId, Page};
 

@@ -1,11 +1,11 @@
 //! The program: the process's words, standard input, standard output, standard error and a depot in
-//! memory, handed to `run_and_explain`.
+//! memory, handed to `run_and_explain`; and the system's words, if input or output failed.
 #![tactic(auto)]
 
 use disk_trait::MemoryDepot;
 use outside_io::{StdSink, StdSource};
 use program_call::{EnvArguments, run_and_explain};
-use std::io::Input;
+use std::io::{Input, Write};
 use std::process::ExitCode;
 
 fn main(rt: HostRuntime) -> ExitCode {
@@ -22,5 +22,13 @@ fn main(rt: HostRuntime) -> ExitCode {
         &mut messages,
         &mut depot,
     );
+    let error = match status.0 {
+        3 => source.error(),
+        4 => output.error(),
+        _ => None,
+    };
+    if let Some(error) = error {
+        let _ = writeln!(rt.stderr(), "neqysbar: {error}");
+    }
     ExitCode::from(status.0)
 }

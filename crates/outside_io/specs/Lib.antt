@@ -7,3 +7,6 @@ pub mod MemoryOutput
 pub mod Writes
 pub mod Views
 pub mod KeptIsLast
+pub mod HandedOut
+pub mod BytesLeft
+pub mod LineText

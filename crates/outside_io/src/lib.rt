@@ -1,8 +1,11 @@
 //! Input and output: a source and a sink of bytes that count their faults, the write of a whole
-//! text, and both in memory and over std's readers and writers.
+//! text, both in memory and over std's readers and writers, and the lines of a source one after
+//! another.
 #![tactic(auto)]
 
 mod calls;
+mod front;
+mod lines;
 mod memory_sink;
 mod memory_source;
 mod sink;
@@ -12,6 +15,8 @@ mod std_source;
 mod steady_write;
 mod whole;
 
+pub use front::keep_front;
+pub use lines::{Line, Lines};
 pub use memory_sink::MemorySink;
 pub use memory_source::MemorySource;
 pub use sink::Sink;

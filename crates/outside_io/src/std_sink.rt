@@ -1,4 +1,4 @@
-ghost use Rattle.std.specs.Prelude.{◌≡◌, ◌≢◌, ◌<◌, ◌≤◌, ◌++◌, [], length, drop, ℕ, is_some, is_err, OnOk, OnErr, IsErr};
+ghost use Rattle.std.specs.Prelude.{◌≡◌, ◌≢◌, ◌<◌, ◌≤◌, ◌++◌, [], length, drop, ℕ, is_some, is_err, nat_lt, OnOk, OnErr, IsErr};
 ghost use Rattle.std.specs.Io.{WritesAtMost};
 ghost use Rattle.std.specs.Io.KnownBytes.{Keeps, WriteAppends, append_known};
 ghost use Rattle.outside_io.specs.Causes.{HasCause, raised};
@@ -9,6 +9,7 @@ use crate::sink::Sink;
 use crate::steady_write::SteadyWrite;
 use arrayvec::ArrayVec;
 use std::io;
+use std::io::ErrorKind;
 use vm_types::Failed;
 
 /// One of std's writers as a sink, with a buffer of 65536 bytes before it. The bytes taken are known if
@@ -23,7 +24,9 @@ pub struct StdSink<W: SteadyWrite> {
     // so many of the buffer's first bytes are handed on
     done: usize,
     faults: u64,
+    error: Option<io::Error>,
     ghost within: { done ≤ length buffer.items },
+    ghost told: { is_some error ≡ nat_lt 0 faults },
 }
 
 impl<W: SteadyWrite> StdSink<W> {
@@ -39,17 +42,27 @@ impl<W: SteadyWrite> StdSink<W> {
             buffer: ArrayVec::new(),
             done: 0,
             faults: 0,
+            error: None,
         }
     }
 
+    /// Why the first call that failed did so, in the writer's words; `None` if none failed. Doesn't
+    /// allocate.
+    pub fn error(&self) -> Option<io::Error>
+        ensures { is_some result ≡ nat_lt 0 (⟦<StdSink<W> as Sink>⟧.seen self.now).failures }
+    {
+        self.error
+    }
+
     // Counts a failed call.
-    fn fail(&mut self) -> Result<(), Failed>
+    fn fail(&mut self, error: io::Error) -> Result<(), Failed>
         ensures err { IsErr result }
         ensures faults { self.new.faults ≡ raised self.old.faults }
         ensures writer { self.new.writer ≡ self.old.writer }
         ensures buffer { self.new.buffer ≡ self.old.buffer }
         ensures done { self.new.done ≡ self.old.done }
     {
+        self.error = self.error.or(Some(error));
         self.faults = self.faults.saturating_add(1);
         Err(Failed)
     }
@@ -65,13 +78,14 @@ impl<W: SteadyWrite> StdSink<W> {
         ensures still { self.old.faults ≢ 0 → self.new.writer ≡ self.old.writer }
         ensures no_more { self.old.faults ≢ 0 → IsErr result }
     {
-        if self.faults > 0 {
-            return self.fail();
+        if let Some(error) = self.error {
+            return self.fail(error);
         }
         while self.done < self.buffer.len() {
             match self.writer.write(&self.buffer.as_slice()[self.done..]) {
-                Ok(count) if count > 0 => self.done += count,
-                _ => return self.fail(),
+                Ok(0) => return self.fail(ErrorKind::WriteZero.into()),
+                Ok(count) => self.done += count,
+                Err(error) => return self.fail(error),
             }
         }
         self.buffer.clear();
@@ -90,7 +104,7 @@ impl<W: SteadyWrite> StdSink<W> {
     {
         match answer {
             Ok(()) => Ok(()),
-            Err(_) => self.fail(),
+            Err(error) => self.fail(error),
         }
     }
 }

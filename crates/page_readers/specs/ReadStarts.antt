@@ -7,7 +7,7 @@ use Rattle.vm_types.specs.declared.names.Page.{Page}
 use Rattle.vm_journal.specs.declared.entry.Role.{Role}
 use Rattle.vm_journal.specs.declared.entry.Role.TheVariants as role
 use Rattle.page_file.specs.Blocks.{Blocks}
-use Rattle.page_moves.specs.Moves.{MayCharge}
+use Rattle.page_changes.specs.Moves.{MayCharge}
 use Rattle.section_table.specs.SectionTable.{SectionTable, behind_of}
 use Rattle.pager_model.specs.Maps.{page_behind, page_number}
 use Rattle.state_parts.specs.ChargedTable.{ChargedTable, IsTableSet, kept_at}

@@ -8,7 +8,7 @@ ghost use Rattle.state_parts.specs.ChargedTable.{kept_at};
 ghost use Rattle.page_readers.specs.PagesShown.{HasWaiting, NoneShared, NoneWaits, found_shown, frame_at, frame_named, is_touched_row, is_valid, is_waiting, own_backing, paged_pages, shared_backing, shared_home};
 
 use crate::found::{Backing, Found};
-use page_moves::{is_paged, page_over};
+use page_changes::{is_paged, page_over};
 use pte_forms::{Place, Pte};
 use state_parts::{ChargedPage, ChargedPages};
 use vm_types::{BlockId, Config, Op, Origin, Page, Pfn, Proc, SecId, Section, SectionKind};

@@ -1,8 +1,8 @@
 ghost use Rattle.std.specs.Prelude.{◌≡◌};
 ghost use Rattle.page_readers.specs.ReadStarts.{ChargesFault, CountsFault, MayChargeFault, MayCountFault, page_read};
 
+use page_changes::{charge_page, mapped_page};
 use page_file::PageFile;
-use page_moves::{charge_page, mapped_page};
 use section_table::Sections;
 use state_parts::{ChargedPages, ProcessRow};
 use vm_journal::Role;

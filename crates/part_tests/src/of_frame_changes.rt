@@ -1,7 +1,8 @@
 ghost use Rattle.std.specs.Prelude.{◌≡◌, ◌<◌, length, IsTrue, Some};
+ghost use Rattle.pfn_database.specs.Rows.{uncounted};
 
 use frame_changes::{
-    begin_read, begin_write, end_read, end_read_free, end_write, enter, fail_read, leave,
+    begin_read, begin_write, count_pin, end_read, end_read_free, end_write, enter, fail_read, leave,
 };
 use pfn_database::{ListName, Pfns, Row};
 use std::test::Fail;
@@ -20,9 +21,11 @@ enum Move {
     EndReadFree,
     FailRead,
     Enter(u32, bool),
-    Leave,
+    Leave(bool),
     BeginWrite,
     EndWrite(bool),
+    Pin,
+    Unpin,
 }
 
 use Move::*;
@@ -34,6 +37,13 @@ fn is_read(row: Row) -> bool
     ensures page { IsTrue result → row.page ≡ Some PAGE }
 {
     row.state == Reading && row.flights == 1 && row.page == Some(PAGE)
+}
+
+/// Whether a pin of the page in the frame of this row is counted.
+fn is_pinned(row: Row) -> bool
+    ensures { IsTrue result → 0 < uncounted row }
+{
+    row.shares > 0 && row.refs > 1 && row.refs - 1 > row.flights
 }
 
 /// Makes a move of a frame if its conditions hold. Returns whether they do.
@@ -54,7 +64,11 @@ fn make(frames: &mut Pfns, f: Pfn, one: Move) -> bool
             if row.shares < 2 && (row.page.is_none() || row.page == Some(PAGE)) => {
             enter(frames, f, PAGE, slot, modify);
         }
-        (Leave, Active) if row.shares > 0 => leave(frames, f),
+        (Leave(pinned), Active) if row.shares > 0 && (!pinned || is_pinned(row)) => {
+            leave(frames, f, pinned);
+        }
+        (Pin, Active) if row.refs < 9 => count_pin(frames, f, true),
+        (Unpin, Active) if is_pinned(row) => count_pin(frames, f, false),
         (BeginWrite, Active | Modified) if row.flights == 0 => begin_write(frames, f),
         (EndWrite(failed), Active | Writing | ReleasePending) if row.flights == 1 => end_write(
             frames, f, failed,
@@ -80,18 +94,25 @@ fn are_free(frames: &Pfns, numbers: &[u32]) -> bool {
 /// transfers, and the free list.
 type Line = (u32, Move, FrameState, bool, [u32; 4], &'static [u32]);
 
-const LINES: [Line; 21] = [
+const LINES: [Line; 29] = [
     (0, BeginRead, Reading, false, [1, 0, 0, 1], &[1, 2]),
     (0, EndRead(3, true), Active, true, [1, 1, 3, 0], &[1, 2]),
     (0, BeginWrite, Active, false, [2, 1, 3, 1], &[1, 2]),
-    (0, Leave, ReleasePending, false, [1, 0, 0, 1], &[1, 2]),
+    (
+        0,
+        Leave(false),
+        ReleasePending,
+        false,
+        [1, 0, 0, 1],
+        &[1, 2],
+    ),
     (0, EndWrite(true), Modified, true, [0, 0, 0, 0], &[1, 2]),
     (0, BeginWrite, Writing, false, [1, 0, 0, 1], &[1, 2]),
     (0, Enter(5, false), Active, false, [2, 1, 5, 1], &[1, 2]),
     (0, Enter(5, true), Active, true, [2, 2, 5, 1], &[1, 2]),
-    (0, Leave, Active, true, [2, 1, 5, 1], &[1, 2]),
+    (0, Leave(false), Active, true, [2, 1, 5, 1], &[1, 2]),
     (0, EndWrite(false), Active, true, [1, 1, 5, 0], &[1, 2]),
-    (0, Leave, Modified, true, [0, 0, 0, 0], &[1, 2]),
+    (0, Leave(false), Modified, true, [0, 0, 0, 0], &[1, 2]),
     (0, BeginWrite, Writing, false, [1, 0, 0, 1], &[1, 2]),
     (0, EndWrite(false), Free, false, [0, 0, 0, 0], &[1, 2, 0]),
     (1, BeginRead, Reading, false, [1, 0, 0, 1], &[2, 0]),
@@ -100,8 +121,16 @@ const LINES: [Line; 21] = [
     (2, EndReadFree, Free, false, [0, 0, 0, 0], &[0, 2]),
     (0, Enter(6, true), Active, true, [1, 1, 6, 0], &[2]),
     (0, Enter(6, false), Active, false, [1, 2, 6, 0], &[2]),
-    (0, Leave, Active, false, [1, 1, 6, 0], &[2]),
-    (0, Leave, Free, false, [0, 0, 0, 0], &[2, 0]),
+    (0, Leave(false), Active, false, [1, 1, 6, 0], &[2]),
+    (0, Leave(false), Free, false, [0, 0, 0, 0], &[2, 0]),
+    (0, Enter(6, true), Active, true, [1, 1, 6, 0], &[2]),
+    (0, Pin, Active, true, [2, 1, 6, 0], &[2]),
+    (0, Enter(6, true), Active, true, [2, 2, 6, 0], &[2]),
+    (0, Pin, Active, true, [3, 2, 6, 0], &[2]),
+    (0, Leave(true), Active, true, [2, 1, 6, 0], &[2]),
+    (0, Unpin, Active, true, [1, 1, 6, 0], &[2]),
+    (0, Pin, Active, true, [2, 1, 6, 0], &[2]),
+    (0, Leave(true), Modified, true, [0, 0, 0, 0], &[2]),
 ];
 
 #[test]

@@ -1,6 +1,6 @@
 use state_parts::{
-    ChargedPage, ChargedPages, SwapPages, count_in, give_up, lock_range, locked_in, put_in_slot,
-    slot_of, take_slot, unlock_all,
+    ChargedPage, ChargedPages, SwapPages, count_in, give_up, lock_range, locked_in, mark_pin,
+    page_to_pin, pinned_in, put_in_slot, slot_of, take_slot, unlock_all,
 };
 use std::test::Fail;
 use vm_journal::EvictWhy;
@@ -94,5 +94,32 @@ fn changes_a_ring(rt: HostRuntime) -> Result<(), Fail> {
     assert_eq!(rt; (ring.count(), ring.locked()), (2, 1));
     unlock_all(&mut ring);
     assert_eq!(rt; (ring.count(), ring.locked()), (2, 0));
+    Ok(())
+}
+
+#[test]
+fn pins_a_page_of_a_ring(rt: HostRuntime) -> Result<(), Fail> {
+    let mut ring = Ring::new(rt.alloc(), 4)?;
+    for page in 8..10 {
+        assert!(rt; ring.count() < 3 && ring.slots() == 4);
+        assert_eq!(rt; take_slot(&mut ring, 3, page), page - 8);
+    }
+    assert!(rt; ring.slots() == 4);
+    let at = Addr(9 * 512);
+    for (slot, page) in [(0, None), (1, Some(9)), (2, None)] {
+        assert!(rt; slot < ring.slots());
+        assert_eq!(rt; page_to_pin(&ring, slot, at, 2, true), page);
+        assert_eq!(rt; page_to_pin(&ring, slot, at, 2, false), None);
+    }
+    assert!(rt; ring.slots() == 4);
+    mark_pin(&mut ring, 1, true);
+    assert!(rt; ring.slots() == 4 && pinned_in(&ring, at, 2) == 1);
+    assert_eq!(rt; page_to_pin(&ring, 1, at, 2, true), None);
+    assert_eq!(rt; page_to_pin(&ring, 1, at, 2, false), Some(9));
+    for (page, was) in [(9, true), (8, false)] {
+        assert!(rt; slot_of(&ring, page) < ring.slots());
+        assert_eq!(rt; give_up(&mut ring, 3, EvictWhy::Purge, page), was);
+    }
+    assert!(rt; ring.count() == 0 && pinned_in(&ring, at, 2) == 0);
     Ok(())
 }

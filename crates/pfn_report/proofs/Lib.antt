@@ -1,3 +1,4 @@
 mod FrameFits
+mod SlotPins
 mod SlotShares
 mod SlotsPassed

@@ -8,12 +8,12 @@ use Rattle.vm_types.specs.Ring.{Held}
 use Rattle.pager_model.specs.Lookups.{entries_at, has_vpn, is_entry, shares}
 use Rattle.pager_model.specs.Pager.{Valid}
 use Rattle.pager_rules.proofs.Basics.{count_cons, count_cons_no, count_cons_yes, each_weaker, nat_eq_refl}
-use Rattle.pfn_report.specs.Counts.{is_named, is_share_below, is_slot_for, shares_below}
+use Rattle.pfn_report.specs.Counts.{is_named, is_slot_for, shares_below}
 
-abbrev one : Bool → ℕ
+abbrev pub one : Bool → ℕ
 one b = cond b 1 0
 
-same_either_way : (m n : ℕ) → nat_eq m n ≡ nat_eq n m
+pub same_either_way : (m n : ℕ) → nat_eq m n ≡ nat_eq n m
 same_either_way m n = go (nat_eq n m) refl
   where
     go : (b : Bool) → nat_eq n m ≡ b → nat_eq m n ≡ b
@@ -24,7 +24,7 @@ abbrev pub is_own_for : ℕ → ℕ → Valid → Bool
 is_own_for p f e = nat_eq e.proc p && nat_eq e.frame f
 
 -- whether the slot has the page of an entry that is for the frame
-abbrev hits : ℕ → ℕ → Option Held → Valid → Bool
+abbrev pub hits : ℕ → ℕ → Option Held → Valid → Bool
 hits p f None e = false
 hits p f (Some held) e = is_entry p held.vpn e && nat_eq e.frame f
 
@@ -39,7 +39,7 @@ few_hits p f held (e ∷ valid) =
     less true false = omega arith
     less false b = omega arith
 
-slot_hits : (p f : ℕ) (held : Held) (valid : List Valid) → entries_at valid p held.vpn ≤ 1 → count_by (hits p f (Some held)) valid ≡ one (is_slot_for valid p f (Some held))
+pub slot_hits : (p f : ℕ) (held : Held) (valid : List Valid) → entries_at valid p held.vpn ≤ 1 → count_by (hits p f (Some held)) valid ≡ one (is_slot_for valid p f (Some held))
 slot_hits p f held [] once = refl
 slot_hits p f held (e ∷ valid) once = go (is_entry p held.vpn e) refl (slot_hits p f held valid)
   where
@@ -151,55 +151,75 @@ slots_share valid p f slots are once =
         omega (arith, there, are e.vpn, once e.vpn)
 
 -- ---- the entries of the processes below a number
+module _ (t : Valid → Bool) where
+  -- of the entries of the processes below a number those that pass
+  abbrev pub is_below : ℕ → Valid → Bool
+  is_below p e = nat_lt e.proc p && t e
+
+  abbrev pub is_own : ℕ → Valid → Bool
+  is_own p e = nat_eq e.proc p && t e
+
+  pub none_of : (valid : List Valid) → count_by (is_below 0) valid ≡ 0
+  none_of [] = refl
+  none_of (e ∷ valid) = count_cons_no (is_below 0) e valid (ap (λ (b : Bool). b && t e) (le-ltb e.proc 0 (omega arith))) ∙ none_of valid
+
+  pub more_of : (valid : List Valid) (p : ℕ) → count_by (is_below (p + 1)) valid ≡ count_by (is_below p) valid + count_by (is_own p) valid
+  more_of [] p = refl
+  more_of (e ∷ valid) p =
+      omega (arith, count_cons (is_below (p + 1)) e valid, count_cons (is_below p) e valid, count_cons (is_own p) e valid, more_of valid p, at)
+    where
+      both : (a b c : Bool) → nat_lt e.proc p ≡ a → nat_eq e.proc p ≡ b → nat_lt e.proc (p + 1) ≡ c → one c ≡ one a + one b
+      both true true c less same is = absurd (omega (arith, ltb-true e.proc p less, eqb-true e.proc p same))
+      both true false c less same is = ap one (sym is ∙ lt-ltb e.proc (p + 1) (omega (arith, ltb-true e.proc p less)))
+      both false true c less same is = ap one (sym is ∙ lt-ltb e.proc (p + 1) (omega (arith, eqb-true e.proc p same)))
+      both false false c less same is = ap one (sym is ∙ le-ltb e.proc (p + 1) (omega (arith, ltb-false e.proc p less, eqb-false e.proc p same)))
+
+      with_test : (a b c d : Bool) → one c ≡ one a + one b → one (c && d) ≡ one (a && d) + one (b && d)
+      with_test true true true d is = absurd (omega (arith, is))
+      with_test true true false d is = absurd (omega (arith, is))
+      with_test true false true true is = refl
+      with_test true false true false is = refl
+      with_test true false false d is = absurd (omega (arith, is))
+      with_test false true true true is = refl
+      with_test false true true false is = refl
+      with_test false true false d is = absurd (omega (arith, is))
+      with_test false false true d is = absurd (omega (arith, is))
+      with_test false false false d is = refl
+
+      at : one (nat_lt e.proc (p + 1) && t e) ≡ one (nat_lt e.proc p && t e) + one (nat_eq e.proc p && t e)
+      at =
+          with_test (nat_lt e.proc p) (nat_eq e.proc p) (nat_lt e.proc (p + 1)) (t e)
+          (both (nat_lt e.proc p) (nat_eq e.proc p) (nat_lt e.proc (p + 1)) refl refl refl)
+
+  pub all_of : (valid : List Valid) (n : ℕ) → AllByRecursion (λ (e : Valid). e.proc < n) valid → count_by (is_below n) valid ≡ count_by t valid
+  all_of [] n each = refl
+  all_of (e ∷ valid) n each =
+      omega (
+        arith,
+        count_cons (is_below n) e valid,
+        count_cons t e valid,
+        ap (λ (b : Bool). one (b && t e)) (lt-ltb e.proc n each.0),
+        all_of valid n each.1,
+      )
+
+  pub fewer_of : (valid : List Valid) (p : ℕ) → count_by (is_below p) valid ≤ count_by t valid
+  fewer_of [] p = omega arith
+  fewer_of (e ∷ valid) p =
+      omega (arith, count_cons (is_below p) e valid, count_cons t e valid, less (nat_lt e.proc p) (t e), fewer_of valid p)
+    where
+      less : (a b : Bool) → one (a && b) ≤ one b
+      less true b = omega arith
+      less false true = omega arith
+      less false false = omega arith
+
 pub none_below : (valid : List Valid) (f : ℕ) → shares_below valid 0 f ≡ 0
-none_below [] f = refl
-none_below (e ∷ valid) f = count_cons_no (is_share_below 0 f) e valid (ap (λ (b : Bool). b && nat_eq e.frame f) (le-ltb e.proc 0 (omega arith))) ∙ none_below valid f
+none_below valid f = none_of (λ (e : Valid). nat_eq e.frame f) valid
 
 pub more_below : (valid : List Valid) (p f : ℕ) → shares_below valid (p + 1) f ≡ shares_below valid p f + count_by (is_own_for p f) valid
-more_below [] p f = refl
-more_below (e ∷ valid) p f =
-    omega (arith, count_cons (is_share_below (p + 1) f) e valid, count_cons (is_share_below p f) e valid, count_cons (is_own_for p f) e valid, more_below valid p f, at)
-  where
-    both : (a b c : Bool) → nat_lt e.proc p ≡ a → nat_eq e.proc p ≡ b → nat_lt e.proc (p + 1) ≡ c → one c ≡ one a + one b
-    both true true c less same is = absurd (omega (arith, ltb-true e.proc p less, eqb-true e.proc p same))
-    both true false c less same is = ap one (sym is ∙ lt-ltb e.proc (p + 1) (omega (arith, ltb-true e.proc p less)))
-    both false true c less same is = ap one (sym is ∙ lt-ltb e.proc (p + 1) (omega (arith, eqb-true e.proc p same)))
-    both false false c less same is = ap one (sym is ∙ le-ltb e.proc (p + 1) (omega (arith, ltb-false e.proc p less, eqb-false e.proc p same)))
-
-    with_frame : (a b c d : Bool) → one c ≡ one a + one b → one (c && d) ≡ one (a && d) + one (b && d)
-    with_frame true true true d is = absurd (omega (arith, is))
-    with_frame true true false d is = absurd (omega (arith, is))
-    with_frame true false true true is = refl
-    with_frame true false true false is = refl
-    with_frame true false false d is = absurd (omega (arith, is))
-    with_frame false true true true is = refl
-    with_frame false true true false is = refl
-    with_frame false true false d is = absurd (omega (arith, is))
-    with_frame false false true d is = absurd (omega (arith, is))
-    with_frame false false false d is = refl
-
-    at : one (nat_lt e.proc (p + 1) && nat_eq e.frame f) ≡ one (nat_lt e.proc p && nat_eq e.frame f) + one (nat_eq e.proc p && nat_eq e.frame f)
-    at =
-        with_frame (nat_lt e.proc p) (nat_eq e.proc p) (nat_lt e.proc (p + 1)) (nat_eq e.frame f)
-        (both (nat_lt e.proc p) (nat_eq e.proc p) (nat_lt e.proc (p + 1)) refl refl refl)
+more_below valid p f = more_of (λ (e : Valid). nat_eq e.frame f) valid p
 
 pub all_below : (valid : List Valid) (n f : ℕ) → AllByRecursion (λ (e : Valid). e.proc < n) valid → shares_below valid n f ≡ shares valid f
-all_below [] n f each = refl
-all_below (e ∷ valid) n f each =
-    omega (
-      arith,
-      count_cons (is_share_below n f) e valid,
-      count_cons (λ (x : Valid). nat_eq x.frame f) e valid,
-      ap (λ (b : Bool). one (b && nat_eq e.frame f)) (lt-ltb e.proc n each.0),
-      all_below valid n f each.1,
-    )
+all_below valid n f each = all_of (λ (e : Valid). nat_eq e.frame f) valid n each
 
 pub fewer_below : (valid : List Valid) (p f : ℕ) → shares_below valid p f ≤ shares valid f
-fewer_below [] p f = omega arith
-fewer_below (e ∷ valid) p f =
-    omega (arith, count_cons (is_share_below p f) e valid, count_cons (λ (x : Valid). nat_eq x.frame f) e valid, less (nat_lt e.proc p) (nat_eq e.frame f), fewer_below valid p f)
-  where
-    less : (a b : Bool) → one (a && b) ≤ one b
-    less true b = omega arith
-    less false true = omega arith
-    less false false = omega arith
+fewer_below valid p f = fewer_of (λ (e : Valid). nat_eq e.frame f) valid p

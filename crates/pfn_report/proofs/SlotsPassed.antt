@@ -1,5 +1,5 @@
 -- While the slots of a process are passed: what is filled so far, and the shares so far.
-use Rattle.std.proofs.Common.{◌≡◌, ℕ, ◌+◌, ◌^◌, ◌<◌, ◌≤◌, Bool, true, false, cond, List, Option, Some, None, count_by, get_or, length, length-set, length-take-le, nat_eq, replicate, set, slice_get, take, take_all, refl, sym, ap, ◌∙◌, subst, arith}
+use Rattle.std.proofs.Common.{◌≡◌, ℕ, ◌+◌, ◌^◌, ◌<◌, ◌≤◌, Bool, true, false, cond, ◌&&◌, List, Option, Some, None, count_by, get_or, length, length-set, length-take-le, nat_eq, replicate, set, slice_get, take, take_all, refl, sym, ap, ◌∙◌, subst, arith}
 use Rattle.std.proofs.lemmas.Bool.{eqb-false, eqb-true}
 use Rattle.std.proofs.lemmas.List.{get_or-replicate, get_or-set_other, get_or-set_same, length-replicate}
 use Rattle.std.proofs.lemmas.List.Sums.{count_by-le-length, get_or-le-sum_by, sum_by_more}
@@ -13,17 +13,20 @@ use Rattle.pager_model.specs.Around.{past_view}
 use Rattle.pager_model.specs.Lookups.{entries_at, entry_of, has_vpn, is_entry, shares, slot_of}
 use Rattle.pager_model.specs.OfConfig.{IsOfConfig}
 use Rattle.pager_model.specs.Pager.{Pager, Valid}
+use Rattle.pager_model.specs.Report.{pins_on}
 use Rattle.pager_model.specs.Run.{IsRun, pager_after}
 use Rattle.pager_rules.specs.Kept.{IsForItsPage, IsKept}
 use Rattle.pager_rules.proofs.Basics.{count_from_no_find, each_weaker, nat_eq_refl}
 use Rattle.pager_laws.proofs.OfConfigKept.{run_right}
 use Rattle.pager_laws.proofs.RunsAreSound.{run_kept}
 use Rattle.page_holders.proofs.EntryPages.{mapped_right}
+use Rattle.page_holders.proofs.Pins.{few_pins}
 use Rattle.page_holders.proofs.ValidEntries.{valid_at_page}
 use Rattle.state_fits.proofs.FewShares.{few_shares}
 use Rattle.vm_state.specs.ProcessReadings.{slot_by, slot_in, slot_with}
 use Rattle.page_readers.specs.declared.found.Slot.{Slot}
-use Rattle.pfn_report.specs.Counts.{AreCounts, is_named, is_slot_for, passed, shares_below}
+use Rattle.pfn_report.specs.Counts.{AreCounts, is_named, is_pinned_for, is_slot_for, passed, pins_below, pins_passed, shares_below}
+use Rattle.pfn_report.proofs.SlotPins.{all_pinned, and_false, and_true, fewer_pinned, more_pinned, own_pins}
 use Rattle.pfn_report.proofs.SlotShares.{all_below, fewer_below, more_below, slots_share}
 
 abbrev one : Bool → ℕ
@@ -36,6 +39,7 @@ pub record IsSlotOf (valid : List Valid) (p : ℕ) (x : Slot) (o : Option Held) 
   pub entry : Valid
   pub found : entry_of valid p held.vpn ≡ Some entry
   pub frame : (x.frame).0 ≡ entry.frame
+  pub pinned : x.pinned ≡ held.pinned
 
 slot_there : (valid : List Valid) (p : ℕ) (x : Slot) (o : Option Held) → Some x ≡ slot_with valid p o → IsSlotOf valid p x o
 slot_there valid p x None is = absurd (none-some x (sym is))
@@ -43,7 +47,7 @@ slot_there valid p x (Some held) is = by (entry_of valid p held.vpn) refl is
   where
     by : (e : Option Valid) → entry_of valid p held.vpn ≡ e → Some x ≡ slot_by held e → IsSlotOf valid p x (Some held)
     by None at is = absurd (none-some x (sym is))
-    by (Some e) at is = record { held = held; fills = refl; entry = e; found = at; frame = ap (λ (y : Slot). (y.frame).0) (same_Some x _ is) }
+    by (Some e) at is = record { held = held; fills = refl; entry = e; found = at; frame = ap (λ (y : Slot). (y.frame).0) (same_Some x _ is); pinned = ap (λ (y : Slot). y.pinned) (same_Some x _ is) }
 
 slot_missing : (valid : List Valid) (p : ℕ) (held : Held) → None ≡ slot_with valid p (Some held) → entry_of valid p held.vpn ≡ None
 slot_missing valid p held is = by (entry_of valid p held.vpn) is
@@ -77,6 +81,22 @@ counts_more n f before after counts are within more =
         let step : after k ≡ before k + 0 = more k ∙ ap (λ (b : Bool). before k + one b) is in
         get_or-set_other counts f k (get_or counts f 0 + 1) 0 (λ same. eqb-false f k is (sym same)) ∙ omega (arith, are.each k below, step)
 
+-- one count more, or none
+pub counts_plus : (n f : ℕ) (more : Bool) (before after : ℕ → ℕ) (counts : List ℕ) → AreCounts n before counts → f < n → ((k : ℕ) → after k ≡ before k + one (nat_eq f k && more)) → AreCounts n after (set counts f (get_or counts f 0 + one more))
+counts_plus n f true before after counts are within step = counts_more n f before after counts are within (λ k. step k ∙ ap (λ (b : Bool). before k + one b) (and_true (nat_eq f k)))
+counts_plus n f false before after counts are within step =
+    record {
+      size = length-set counts f (get_or counts f 0 + 0) ∙ are.size;
+      each = λ k below. read k ∙ (are.each k below ∙ sym (let none = step k ∙ ap (λ (b : Bool). before k + one b) (and_false (nat_eq f k)) in omega (arith, none)));
+    }
+  where
+    read : (k : ℕ) → get_or (set counts f (get_or counts f 0 + 0)) k 0 ≡ get_or counts k 0
+    read k = go (nat_eq f k) refl
+      where
+        go : (b : Bool) → nat_eq f k ≡ b → get_or (set counts f (get_or counts f 0 + 0)) k 0 ≡ get_or counts k 0
+        go true is = subst (λ (j : ℕ). get_or (set counts f (get_or counts f 0 + 0)) j 0 ≡ get_or counts j 0) (eqb-true f k is) (get_or-set_same counts f (get_or counts f 0 + 0) 0 (omega (arith, within, are.size)) ∙ omega arith)
+        go false is = get_or-set_other counts f k (get_or counts f 0 + 0) 0 (λ same. eqb-false f k is (sym same))
+
 -- ---- a run's process
 module _ (config : Config) (past : List Entry) (formed : IsWellFormed config) (run : IsRun config past) where
   abbrev a : Pager
@@ -94,6 +114,12 @@ module _ (config : Config) (past : List Entry) (formed : IsWellFormed config) (r
       all_below a.valid (length config.procs) f
       (each_weaker (IsForItsPage config a.map a.page) (λ (e : Valid). e.proc < length config.procs) (λ e its. (mapped_right config a e.proc e.vpn its.0 right its.1).3.process) a.valid kept.valid)
 
+  -- and all pins
+  pub all_pins_counted : (f : ℕ) → pins_below a (length config.procs) f ≡ pins_on a f
+  all_pins_counted f =
+      all_pinned a (length config.procs) f
+      (each_weaker (IsForItsPage config a.map a.page) (λ (e : Valid). e.proc < length config.procs) (λ e its. (mapped_right config a e.proc e.vpn its.0 right its.1).3.process) a.valid kept.valid)
+
   module _ (p : ℕ) where
     abbrev slots : List (Option Held)
     slots = (a.ring p).slots
@@ -105,6 +131,17 @@ module _ (config : Config) (past : List Entry) (formed : IsWellFormed config) (r
           fewer_below a.valid p f,
           few_shares config (past_view past) a f formed kept right,
           count_by-le-length (is_slot_for a.valid p f) (take n slots),
+          length-take-le n slots within,
+        )
+
+    pub few_pins_passed : (n f : ℕ) → n ≤ length slots → pins_passed a p n f ≤ 2 ^ 26 + n
+    few_pins_passed n f within =
+        omega (
+          arith,
+          fewer_pinned a p f,
+          few_pins a f,
+          few_shares config (past_view past) a f formed kept right,
+          count_by-le-length (is_pinned_for a.valid p f) (take n slots),
           length-take-le n slots within,
         )
 
@@ -122,6 +159,12 @@ module _ (config : Config) (past : List Entry) (formed : IsWellFormed config) (r
           let here : one (is_slot_for a.valid p f (get_or slots n None)) ≡ one (is_slot_for a.valid p f o) = ap (λ (s : Option Held). one (is_slot_for a.valid p f s)) is in
           omega (arith, step, here)
 
+      pins_more : (f : ℕ) (o : Option Held) → get_or slots n None ≡ o → pins_passed a p (n + 1) f ≡ pins_passed a p n f + one (is_pinned_for a.valid p f o)
+      pins_more f o is =
+          let step = sum_by_more (λ (s : Option Held). one (is_pinned_for a.valid p f s)) slots n None within in
+          let here : one (is_pinned_for a.valid p f (get_or slots n None)) ≡ one (is_pinned_for a.valid p f o) = ap (λ (s : Option Held). one (is_pinned_for a.valid p f s)) is in
+          omega (arith, step, here)
+
       module _ (x : Slot) (is : Some x ≡ slot_in a p n) where
         there : IsSlotOf a.valid p x (get_or slots n None)
         there = slot_there a.valid p x (get_or slots n None) (is ∙ reading n within)
@@ -136,6 +179,13 @@ module _ (config : Config) (past : List Entry) (formed : IsWellFormed config) (r
         shares_one f =
             shares_more f (Some there.held) there.fills
             ∙ (ap (λ (e : Option Valid). passed a p n f + one (is_named f e)) there.found ∙ ap (λ (g : ℕ). passed a p n f + one (nat_eq g f)) (sym there.frame))
+
+        pub pins_one : (f : ℕ) → pins_passed a p (n + 1) f ≡ pins_passed a p n f + one (nat_eq (x.frame).0 f && x.pinned)
+        pins_one f =
+            pins_more f (Some there.held) there.fills
+            ∙ (ap (λ (e : Option Valid). pins_passed a p n f + one (is_named f e && (there.held).pinned)) there.found
+            ∙ (ap (λ (g : ℕ). pins_passed a p n f + one (nat_eq g f && (there.held).pinned)) (sym there.frame)
+            ∙ ap (λ (b : Bool). pins_passed a p n f + one (nat_eq (x.frame).0 f && b)) (sym there.pinned)))
 
       module _ (is : None ≡ slot_in a p n) where
         empty : get_or slots n None ≡ None
@@ -156,7 +206,19 @@ module _ (config : Config) (past : List Entry) (formed : IsWellFormed config) (r
         pub shares_none : (f : ℕ) → passed a p (n + 1) f ≡ passed a p n f
         shares_none f = omega (arith, shares_more f None empty)
 
+        pub pins_none : (f : ℕ) → pins_passed a p (n + 1) f ≡ pins_passed a p n f
+        pins_none f = omega (arith, pins_more f None empty)
+
     -- none passed yet, and all
+    pub no_pins_passed : (f : ℕ) → pins_passed a p 0 f ≡ pins_below a p f
+    no_pins_passed f = omega arith
+
+    pub all_pins_passed : (f : ℕ) → pins_passed a p (length slots) f ≡ pins_below a (p + 1) f
+    all_pins_passed f =
+        let whole = ap (count_by (is_pinned_for a.valid p f)) (take_all (length slots) slots (omega arith)) in
+        let owned = own_pins a p f (λ v. (kept.entries p v).once) (λ v. let once = (kept.entries p v).once in let as_many = (kept.entries p v).slots in omega (arith, once, as_many)) in
+        omega (arith, whole, owned, more_pinned a p f)
+
     pub none_passed : (f : ℕ) → passed a p 0 f ≡ shares_below a.valid p f
     none_passed f = omega arith
 

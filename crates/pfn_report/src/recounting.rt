@@ -18,8 +18,8 @@ fn no_counts(alloc: Global, frames: u32) -> Result<Vec<u32>, NoMemory>
 }
 
 /// The report of a state, counted anew: a frame's shares are the slots of working sets whose entries
-/// name it, its references come from these and from its transfer, and the states are counted frame by
-/// frame. The report has a text. Looks once at each slot of each process and at each frame.
+/// name it, its references come from these, from its transfer and from its pins, and the states are counted
+/// frame by frame. The report has a text. Looks once at each slot of each process and at each frame.
 ///
 /// # Errors
 /// `NoMemory` if out of memory.
@@ -30,8 +30,9 @@ pub fn recount<B: Block>(alloc: Global, state: &State<B>) -> Result<Report, NoMe
     state.run_law();
     let config = state.config();
     let mut counts = no_counts(alloc, config.frames)?;
-    let processes = process_rows(alloc, state, &mut counts)?;
-    let frames = frame_rows(alloc, state, &counts)?;
+    let mut pins = no_counts(alloc, config.frames)?;
+    let processes = process_rows(alloc, state, &mut counts, &mut pins)?;
+    let frames = frame_rows(alloc, state, &counts, &pins)?;
     let states = count_states(alloc, frames.items())?;
     Ok(Report {
         at: state.entry_count(),

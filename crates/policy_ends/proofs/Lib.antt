@@ -15,3 +15,10 @@ pub mod WalksLower
 pub mod Small
 pub mod Digits
 pub mod Chains
+pub mod Searches
+pub mod Unfailed
+pub mod Clusters
+pub mod Evictions
+pub mod CleanMoves
+pub mod Ended
+pub mod CleanRuns

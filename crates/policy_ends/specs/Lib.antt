@@ -1,3 +1,5 @@
 pub mod Rank
 pub mod Bound
 pub mod Laws
+pub mod Clean
+pub mod RundownLaws

@@ -5,6 +5,7 @@
 mod arguments;
 mod bytes;
 mod program;
+mod sure_block;
 mod sure_depot;
 mod words;
 

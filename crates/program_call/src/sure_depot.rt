@@ -1,16 +1,18 @@
 ghost use Rattle.std.specs.Prelude.{◌≡◌, ◌<◌, ◌++◌, [], OnErr, OnOk, length};
 ghost use Rattle.program_call.specs.ProgramTells.{memory_view};
 
-use disk_trait::{Block, Depot, MakeFault, MemoryBlock, MemoryDepot};
+use crate::sure_block::SureBlock;
+use disk_trait::{Block, Depot, MakeFault};
 use std::alloc::Global;
 use vm_types::{BlockId, NoMemory};
 
 /// A depot in memory that never fails: a block is not made only for want of memory. The bytes and the
-/// plans of its blocks are known, and they fail exactly at the calls that they are made to fail at.
+/// plans of its blocks are known, and they fail exactly at the calls that they are made to fail at. Each
+/// has memory of its own, so that nothing is left when the depot is dropped.
 #[derive(Drop)]
 pub(crate) struct SureDepot {
-    depot: MemoryDepot,
-    ghost never: { depot.fail_makes ≡ [] },
+    alloc: Global,
+    retired: Vec<(BlockId, SureBlock)>,
 }
 
 impl SureDepot {
@@ -19,7 +21,8 @@ impl SureDepot {
         ensures { ⟦<SureDepot as Depot>⟧.seen result ≡ memory_view [] }
     {
         SureDepot {
-            depot: MemoryDepot::new(alloc, Vec::new(alloc)),
+            alloc,
+            retired: Vec::new(alloc),
         }
     }
 }
@@ -28,24 +31,30 @@ impl Depot for SureDepot {
     ghost use Rattle.std.specs.Prelude.{refl};
     ghost use Rattle.disk_trait.specs.DepotView.{depot_view};
 
-    type Block = MemoryBlock;
+    type Block = SureBlock;
 
-    ghost seen = { λ d. depot_view ⟦<MemoryBlock as Block>⟧.seen ⟦<MemoryBlock as Block>⟧.tells d.depot.retired 0 };
+    ghost seen = { λ d. depot_view ⟦<SureBlock as Block>⟧.seen ⟦<SureBlock as Block>⟧.tells d.retired.items 0 };
 
     ghost known = { λ _. refl };
 
-    fn make(&mut self, id: BlockId, bytes: &[u8], fails: &[u32]) -> Result<MemoryBlock, MakeFault> {
-        self.depot.make(id, bytes, fails)
+    fn make(&mut self, _id: BlockId, bytes: &[u8], fails: &[u32]) -> Result<SureBlock, MakeFault> {
+        Ok(SureBlock::new(self.alloc, bytes, fails)?)
     }
 
-    fn retire(&mut self, id: BlockId, block: MemoryBlock) -> Result<(), NoMemory> {
-        self.depot.retire(id, block)
+    fn retire(&mut self, id: BlockId, block: SureBlock) -> Result<(), NoMemory> {
+        self.retired.push((id, block))?;
+        Ok(())
     }
 
-    fn retire_all(&mut self, blocks: Vec<(BlockId, MemoryBlock)>) -> Result<(), NoMemory>
-        ensures ok { OnOk result (self.new.depot.retired ≡ self.old.depot.retired ++ blocks.items) }
-        ensures err { OnErr result ((self.new.depot.retired ≡ self.old.depot.retired) × (0 < length blocks.items)) }
+    fn retire_all(&mut self, mut blocks: Vec<(BlockId, SureBlock)>) -> Result<(), NoMemory>
+        ensures ok { OnOk result (self.new.retired.items ≡ self.old.retired.items ++ blocks.items) }
+        ensures err { OnErr result ((self.new.retired.items ≡ self.old.retired.items) × (0 < length blocks.items)) }
     {
-        self.depot.retire_all(blocks)
+        if self.retired.is_empty() {
+            self.retired = blocks;
+            return Ok(());
+        }
+        self.retired.append(&mut blocks)?;
+        Ok(())
     }
 }

@@ -1,4 +1,5 @@
-use program_runs::{FIRST_RUN, FIRST_RUN_TEXT, outcome};
+use disk_trait::MemoryDepot;
+use program_runs::{FIRST_RUN, FIRST_RUN_TEXT, outcome, serial_over};
 use replay_cli::Status;
 use std::test::Fail;
 
@@ -170,6 +171,19 @@ fn denies_a_full_page_file(rt: HostRuntime) -> Result<(), Fail> {
     let told = outcome(rt.alloc(), &["serial"], FULL.as_bytes(), &[], &[], &[], &[])?;
     assert_eq!(rt; told.0, Status(0));
     assert!(rt; told.1.as_slice().starts_with(FULL_LINES.as_bytes()));
+    Ok(())
+}
+
+// A second run over a depot that has taken blocks back.
+#[test]
+fn runs_twice_over_a_depot(rt: HostRuntime) -> Result<(), Fail> {
+    let alloc = rt.alloc();
+    let mut depot = MemoryDepot::new(alloc, Vec::new(alloc));
+    for _ in 0..2 {
+        let told = serial_over(alloc, FIRST_RUN.as_bytes(), &mut depot)?;
+        assert_eq!(rt; told.0, Status(0));
+        assert_eq!(rt; told.1.as_slice(), FIRST_RUN_TEXT.as_bytes());
+    }
     Ok(())
 }
 

@@ -3,7 +3,6 @@
 ghost use Rattle.std.specs.Prelude.{◌≡◌, ◌≤◌, ◌≢◌};
 ghost use Rattle.vm_types.specs.Moved.{moved};
 ghost use Rattle.vm_types.specs.Configuration.{IsWellFormed};
-ghost use Rattle.vm_types.specs.declared.config.Version.{Version};
 ghost use Rattle.command_ends.specs.Concludes.{Concludes, EndsAnswered, HasTold};
 ghost use Rattle.command_ends.specs.Wrongs.{IsWrong, IsWrongText, TellsWrong};
 ghost use Rattle.replay_cli.specs.CommandRun.{IsCommandRun};
@@ -35,7 +34,6 @@ fn run_config<K: Sink, D: Depot>(
     depot: &mut D,
 ) -> Status
     requires formed { IsWellFormed config }
-    requires version { config.version ≡ Version.One }
     ensures outcome { EndsAnswered (IsSerialAnswer (moved (D.seen depot.old) (D.seen depot.new)) config)
         (K.seen sink.old) (K.seen sink.new) result.0 }
     ensures depot_later { (D.seen depot.old).failures ≤ (D.seen depot.new).failures }

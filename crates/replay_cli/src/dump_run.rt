@@ -4,7 +4,6 @@ ghost use Rattle.std.specs.Prelude.{◌≡◌, ◌≤◌, List, IfOk, IsErrOf};
 ghost use Rattle.vm_journal.specs.declared.entry.Entry.{Entry};
 ghost use Rattle.vm_types.specs.Moved.{moved};
 ghost use Rattle.vm_types.specs.Configuration.{IsWellFormed};
-ghost use Rattle.vm_types.specs.declared.config.Version.{Version};
 ghost use Rattle.disk_trait.specs.Causes.{Rose};
 ghost use Rattle.dump_bytes.specs.Bounds.{IsDump};
 ghost use Rattle.dump_bytes.specs.Dumped.{dumped};
@@ -36,7 +35,6 @@ use vm_types::Config;
 /// `NoMemory` if out of memory. `DepotFault` only if the depot's count of faults rose.
 fn dumped_run<D: Depot>(alloc: Global, config: Config, depot: &mut D) -> Result<Dump, RunFault>
     requires formed { IsWellFormed config }
-    requires version { config.version ≡ Version.One }
     ensures run { IfOk result (λ dump. (past : List Entry) × IsRunToReport (moved (D.seen depot.old) (D.seen depot.new)) config past
         × (dumped dump ≡ dump_after config past)) }
     ensures bounds { IfOk result (λ dump. IsDump (dumped dump)) }
@@ -70,7 +68,6 @@ fn dump_config<K: Sink, D: Depot>(
     depot: &mut D,
 ) -> Status
     requires formed { IsWellFormed config }
-    requires version { config.version ≡ Version.One }
     ensures outcome { EndsAnswered (IsDumpAnswer (moved (D.seen depot.old) (D.seen depot.new)) config)
         (K.seen sink.old) (K.seen sink.new) result.0 }
     ensures depot_later { (D.seen depot.old).failures ≤ (D.seen depot.new).failures }

@@ -2,7 +2,7 @@
 //! dirty pages and the status.
 #![tactic(auto)]
 
-mod entry_lines;
+mod entries;
 mod run;
 
 pub use run::print_run;

@@ -9,7 +9,7 @@ ghost use Rattle.command_ends.specs.Ends.{Ends};
 ghost use Rattle.run_text.specs.Parts.{parts_text, run_status};
 ghost use Rattle.run_text.specs.Reported.{AreParts, IsReported};
 
-use crate::entry_lines::print_entries;
+use crate::entries::print_entries;
 use command_ends::{Status, end_with};
 use outside_io::{Sink, WriteFault};
 use report_lines::{Report, print, print_dirty};

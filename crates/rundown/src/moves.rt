@@ -1,4 +1,4 @@
-ghost use Rattle.std.specs.Prelude.{◌≡◌, IfOk, OnErr, length};
+ghost use Rattle.std.specs.Prelude.{◌≡◌, ◌<◌, IfOk, OnErr, length};
 ghost use Rattle.std.specs.Option.{option_map};
 ghost use Rattle.pager_model.specs.Cleaning.{evicting};
 ghost use Rattle.pager_model.specs.Order.{IsAnswered};
@@ -86,7 +86,7 @@ fn evict_from<B: Block>(
 /// and has no lifts, before it and afterwards.
 ///
 /// # Errors
-/// `NoMemory` if out of memory; then no entry was made.
+/// `NoMemory` if out of memory, and only if there was room for fewer than 64 entries; then no entry was made.
 pub fn make_move<B: Block>(
     state: &mut State<B>,
     at: Cleaning,
@@ -100,6 +100,7 @@ pub fn make_move<B: Block>(
         (move_of state.old.config state.old.past (control_at at)) (option_map control_at goes)) }
     ensures same { IsSameBut state.old state.new }
     ensures none_made { OnErr result (state.new.past ≡ state.old.past) }
+    ensures memory { OnErr result (state.old.spare < 64) }
 {
     prepare(state)?;
     match at {

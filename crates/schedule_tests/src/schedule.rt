@@ -2,7 +2,6 @@
 
 ghost use Rattle.std.specs.Prelude.{◌≡◌, IfOk};
 ghost use Rattle.vm_types.specs.Configuration.{IsWellFormed};
-ghost use Rattle.vm_types.specs.declared.config.Version.{Version};
 
 use arrayvec::ArrayVec;
 use disk_trait::MemoryDepot;
@@ -24,7 +23,6 @@ pub struct Schedule {
 /// The configuration that a trace names.
 fn config_of(alloc: Global, trace: &[u8]) -> Result<Config, Fail>
     ensures formed { IfOk result IsWellFormed }
-    ensures version { IfOk result (λ config. config.version ≡ Version.One) }
 {
     let mut source = MemorySource::new(Vec::from_slice(alloc, trace)?, Vec::new(alloc));
     match read_trace(alloc, &mut source, &mut ArrayVec::new()) {

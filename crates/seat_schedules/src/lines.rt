@@ -5,7 +5,7 @@ ghost use Rattle.vm_journal.specs.Line.{line_text};
 ghost use Rattle.pager_model.specs.Text.{ended, entry_lines};
 
 use arrayvec::ArrayVec;
-use journal_lines::line;
+use entry_lines::line;
 use std::alloc::Global;
 use vm_journal::Entry;
 use vm_types::{NoMemory, Section};

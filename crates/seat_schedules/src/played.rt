@@ -3,7 +3,6 @@ ghost use Rattle.std.specs.List.{range_with_len};
 ghost use Rattle.disk_trait.specs.Causes.{Rose};
 ghost use Rattle.disk_trait.specs.declared.depot.MakeFault.{MakeFault};
 ghost use Rattle.vm_types.specs.Configuration.{IsWellFormed};
-ghost use Rattle.vm_types.specs.declared.config.Version.{Version};
 ghost use Rattle.vm_types.specs.declared.names.BlockId.{BlockId};
 ghost use Rattle.frame_store.specs.Blocks.{blocks_of};
 ghost use Rattle.vm_state.specs.History.{pager};
@@ -153,7 +152,6 @@ fn play_blocks<B: Block>(
     steps: &[(Seat, Act)],
 ) -> Result<Played, NoMemory>
     requires formed { IsWellFormed config }
-    requires version { config.version ≡ Version.One }
     requires names { map (λ (p : BlockId × B). p.0) blocks.items ≡ blocks_of config }
     requires made { All (λ (p : BlockId × B). IsMade B.tells config p.0 (B.seen p.1)) blocks.items }
     ensures { IfOk result (IsPlayed config) }
@@ -174,7 +172,6 @@ pub fn play_schedule<D: Depot>(
     depot: &mut D,
 ) -> Result<Played, MakeFault>
     requires formed { IsWellFormed config }
-    requires version { config.version ≡ Version.One }
     ensures played { IfOk result (IsPlayed config) }
     ensures failed { IsErrOf result MakeFault.Failed → Rose (D.seen depot.old).failures (D.seen depot.new).failures }
     ensures later { (D.seen depot.old).failures ≤ (D.seen depot.new).failures }

@@ -1,4 +1,4 @@
-ghost use Rattle.std.specs.Prelude.{◌≡◌, ◌<◌, ◌&&◌, ℕ, true, None, IfOk, IfSome, length};
+ghost use Rattle.std.specs.Prelude.{◌≡◌, ◌<◌, ◌&&◌, ℕ, true, None, IfOk, OnErr, IfSome, length};
 ghost use Rattle.std.specs.Option.{option_map};
 ghost use Rattle.pager_model.specs.Moves.{asking, control, freeing};
 ghost use Rattle.pager_model.specs.Policy.{asking_move, ends_part, freeing_move, is_freeing, is_saving, saving_move, swapper_of};
@@ -25,7 +25,7 @@ use vm_types::{NoMemory, Proc, Seat};
 /// The next step for the next request; none if each was answered.
 ///
 /// # Errors
-/// `NoMemory` if out of memory.
+/// `NoMemory` if out of memory: room for fewer than 64 entries is left then.
 #[inline(always)]
 pub fn ask_next<B: Block>(
     state: &mut State<B>,
@@ -39,6 +39,7 @@ pub fn ask_next<B: Block>(
     ensures carriers { carriers.new ≡ carriers.old }
     ensures moved { IfOk result (Moves B.tells.content state.old state.new
         (asking_move state.old.config state.old.past (pager state.old) (option_map number_of leaving))) }
+    ensures memory { OnErr result (state.new.spare < 64) }
 {
     if let Some(task) = next_task(state) {
         return ask(state, leaving, task, &mut carriers[task.proc.0 as usize]);
@@ -86,7 +87,7 @@ fn finder<B: Block>(state: &State<B>, begun: bool, p: Proc) -> Option<Finder>
 /// The swapper's part after an answer to a process.
 ///
 /// # Errors
-/// `NoMemory` if out of memory.
+/// `NoMemory` if out of memory: room for fewer than 64 entries is left then.
 #[inline(always)]
 pub fn free<B: Block>(
     state: &mut State<B>,
@@ -103,6 +104,7 @@ pub fn free<B: Block>(
     ensures carriers { carriers.new ≡ carriers.old }
     ensures comes { IfOk result (ComesTo B.tells.content state.old state.new
         (freeing_move state.old.config state.old.past (pager state.old) (option_map number_of leaving) begun p.0)) }
+    ensures memory { OnErr result (state.new.spare < 64) }
 {
     let seat = Seat(processes(state) + 1);
     let doing = Doing::Freeing {
@@ -148,7 +150,7 @@ fn is_saving<B: Block>(state: &State<B>, begun: bool) -> bool
 /// The modified page writer's part after an answer to a process, and then the swapper's.
 ///
 /// # Errors
-/// `NoMemory` if out of memory.
+/// `NoMemory` if out of memory: room for fewer than 64 entries is left then.
 #[inline(always)]
 pub fn save<B: Block>(
     state: &mut State<B>,
@@ -163,6 +165,7 @@ pub fn save<B: Block>(
     ensures carriers { carriers.new ≡ carriers.old }
     ensures comes { IfOk result (ComesTo B.tells.content state.old state.new
         (saving_move state.old.config state.old.past (pager state.old) begun p.0)) }
+    ensures memory { OnErr result (state.new.spare < 64) }
 {
     if !is_saving(state, begun) {
         return free(state, None, false, p, carriers);
@@ -181,7 +184,7 @@ pub fn save<B: Block>(
 /// The writer's cluster is carried and lands.
 ///
 /// # Errors
-/// `NoMemory` if out of memory.
+/// `NoMemory` if out of memory: room for fewer than 64 entries is left then.
 fn save_on<B: Block>(
     state: &mut State<B>,
     seat: Seat,
@@ -192,6 +195,7 @@ fn save_on<B: Block>(
     requires may { MayRefuse state.old.config state.old.past seat.0 (after_saving p.0) }
     ensures carrier { carrier.new ≡ empty seat }
     ensures carried { IfOk result (λ c. IsCarriedOn B.tells.content state.old state.new seat.0 (after_saving p.0) (control_in c)) }
+    ensures memory { OnErr result (state.new.spare < 64) }
 {
     let failed = Control {
         doing: Doing::Freeing {

@@ -1,4 +1,4 @@
-ghost use Rattle.std.specs.Prelude.{◌≡◌, ◌+◌, ◌<◌, [], false, IfOk, length};
+ghost use Rattle.std.specs.Prelude.{◌≡◌, ◌+◌, ◌<◌, [], false, IfOk, OnErr, length};
 ghost use Rattle.pager_model.specs.Flights.{awaits_reuse, open_flights};
 ghost use Rattle.pager_model.specs.Moves.{control, saving};
 ghost use Rattle.pager_model.specs.Policy.{unless_all_failed, unless_first_failed, writing_move};
@@ -48,12 +48,13 @@ fn refuse_task<B: Block>(state: &mut State<B>, seat: Seat, task: Task)
 /// The next request is refused, for its carrier was lost.
 ///
 /// # Errors
-/// `NoMemory` if out of memory.
+/// `NoMemory` if out of memory: room for fewer than 64 entries is left then.
 pub fn refuse<B: Block>(state: &mut State<B>, seat: Seat) -> Result<Control, NoMemory>
     requires landed { open_flights state.old.past ≡ [] }
     requires reused { awaits_reuse state.old.past ≡ false }
     requires legal { IsRefusedLegally state.old.config state.old.past seat.0 }
-    ensures { IfOk result (λ c. IsRefusedThere B.tells.content state.old state.new (control_in c)) }
+    ensures refused { IfOk result (λ c. IsRefusedThere B.tells.content state.old state.new (control_in c)) }
+    ensures memory { OnErr result (state.new.spare < 64) }
 {
     prepare(state)?;
     match next_task(state) {
@@ -68,7 +69,7 @@ pub fn refuse<B: Block>(state: &mut State<B>, seat: Seat) -> Result<Control, NoM
 /// What a seat has begun is carried and lands. Unless each lift failed the policy goes on there.
 ///
 /// # Errors
-/// `NoMemory` if out of memory.
+/// `NoMemory` if out of memory: room for fewer than 64 entries is left then.
 #[inline(always)]
 pub fn carry_on<B: Block>(
     state: &mut State<B>,
@@ -82,6 +83,7 @@ pub fn carry_on<B: Block>(
     ensures carrier { carrier.new ≡ empty seat }
     ensures carried { IfOk result (λ c. IsCarriedOn B.tells.content state.old state.new seat.0
         (unless_all_failed (ends_in ends) (control_in next)) (control_in c)) }
+    ensures memory { OnErr result (state.new.spare < 64) }
 {
     let landed = carry_and_land(state, carrier);
     state.run_law();
@@ -98,7 +100,7 @@ pub fn carry_on<B: Block>(
 /// The reads of a reference are carried and land. Unless the first one failed the policy goes on there.
 ///
 /// # Errors
-/// `NoMemory` if out of memory.
+/// `NoMemory` if out of memory: room for fewer than 64 entries is left then.
 pub fn carry_reads<B: Block>(
     state: &mut State<B>,
     seat: Seat,
@@ -110,6 +112,7 @@ pub fn carry_reads<B: Block>(
     ensures carrier { carrier.new ≡ empty seat }
     ensures carried { IfOk result (λ c. IsCarriedOn B.tells.content state.old state.new seat.0
         (unless_first_failed (control_in next)) (control_in c)) }
+    ensures memory { OnErr result (state.new.spare < 64) }
 {
     let landed = carry_and_land(state, carrier);
     state.run_law();
@@ -123,7 +126,7 @@ pub fn carry_reads<B: Block>(
 /// One write cluster is written, because room is needed.
 ///
 /// # Errors
-/// `NoMemory` if out of memory.
+/// `NoMemory` if out of memory: room for fewer than 64 entries is left then.
 #[inline(always)]
 pub fn write_for_room<B: Block>(
     state: &mut State<B>,
@@ -139,6 +142,7 @@ pub fn write_for_room<B: Block>(
     ensures carrier { carrier.new ≡ carrier.old }
     ensures moved { IfOk result (λ c. IsMoved B.tells.content state.old state.new
         (writing_move state.old.config (pager state.old) seat.0 (ends_in ends) (control_in next)) (control_in c)) }
+    ensures memory { OnErr result (state.new.spare < 64) }
 {
     begin(state, seat, Reason::Need, carrier);
     carry_on(state, seat, ends, next, carrier)

@@ -1,4 +1,4 @@
-ghost use Rattle.std.specs.Prelude.{◌≡◌, ◌+◌, ◌<◌, ◌≤◌, ℕ, IfOk, IfSome, length};
+ghost use Rattle.std.specs.Prelude.{◌≡◌, ◌+◌, ◌<◌, ◌≤◌, ℕ, IfOk, OnErr, IfSome, length};
 ghost use Rattle.std.specs.Option.{option_map};
 ghost use Rattle.pager_model.specs.Lookups.{is_leaving};
 ghost use Rattle.pager_model.specs.Moves.{Doing as DoingIs, Move};
@@ -91,7 +91,7 @@ pub fn who_finds<B: Block>(state: &State<B>, p: Proc) -> Option<Finder>
 /// The one who finds a frame does what is next for it.
 ///
 /// # Errors
-/// `NoMemory` if out of memory.
+/// `NoMemory` if out of memory: room for fewer than 64 entries is left then.
 #[inline(always)]
 pub fn find_frame<B: Block>(
     state: &mut State<B>,
@@ -109,6 +109,7 @@ pub fn find_frame<B: Block>(
     ensures carrier { carrier.new ≡ carrier.old }
     ensures moved { IfOk result (Moves B.tells.content state.old state.new
         (finding_by state.old.config state.old.past (pager state.old) seat.0 (ends_in ends) (doing_in doing) finder)) }
+    ensures memory { OnErr result (state.new.spare < 64) }
 {
     match finder {
         Finder::Writer => {

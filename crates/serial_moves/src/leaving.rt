@@ -1,4 +1,4 @@
-ghost use Rattle.std.specs.Prelude.{◌≡◌, ◌+◌, ◌<◌, IfOk, length};
+ghost use Rattle.std.specs.Prelude.{◌≡◌, ◌+◌, ◌<◌, IfOk, OnErr, length};
 ghost use Rattle.vm_types.specs.declared.names.ProcStatus.TheVariants as status;
 ghost use Rattle.pager_model.specs.Policy.{leave_move};
 ghost use Rattle.vm_state.specs.History.{pager};
@@ -16,7 +16,7 @@ use vm_types::{NoMemory, Proc, Seat};
 /// A process that is leaving goes on to leave.
 ///
 /// # Errors
-/// `NoMemory` if out of memory.
+/// `NoMemory` if out of memory: room for fewer than 64 entries is left then.
 pub fn leave<B: Block>(
     state: &mut State<B>,
     seat: Seat,
@@ -34,6 +34,7 @@ pub fn leave<B: Block>(
     ensures carrier { carrier.new ≡ carrier.old }
     ensures moved { IfOk result (Moves B.tells.content state.old state.new
         (leave_move state.old.config state.old.past (pager state.old) seat.0 q.0 (ends_in ends) (doing_in doing))) }
+    ensures memory { OnErr result (state.new.spare < 64) }
 {
     let next = Control {
         doing,

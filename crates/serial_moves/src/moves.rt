@@ -1,4 +1,4 @@
-ghost use Rattle.std.specs.Prelude.{◌≡◌, IfOk};
+ghost use Rattle.std.specs.Prelude.{◌≡◌, ◌<◌, IfOk, OnErr};
 ghost use Rattle.pager_model.specs.Policy.{move_of};
 ghost use Rattle.serial_laws.specs.Between.{IsBetween};
 ghost use Rattle.serial_laws.specs.Controlled.{IsControlled};
@@ -18,7 +18,7 @@ use vm_types::NoMemory;
 /// and have no lifts, before it and afterwards.
 ///
 /// # Errors
-/// `NoMemory` if out of memory.
+/// `NoMemory` if out of memory: room for fewer than 64 entries is left then.
 pub fn make_move<B: Block>(
     state: &mut State<B>,
     c: Control,
@@ -29,6 +29,7 @@ pub fn make_move<B: Block>(
     requires carriers { AreIdle state.old carriers.old }
     ensures carriers { carriers.new ≡ carriers.old }
     ensures moved { IfOk result (Moves B.tells.content state.old state.new (move_of state.old.config state.old.past (control_in c))) }
+    ensures memory { OnErr result (state.new.spare < 64) }
 {
     prepare(state)?;
     match after_answer(state, c, carriers)? {
@@ -40,7 +41,7 @@ pub fn make_move<B: Block>(
 /// The work after an answer, if the policy is in it.
 ///
 /// # Errors
-/// `NoMemory` if out of memory.
+/// `NoMemory` if out of memory: room for fewer than 64 entries is left then.
 #[inline(always)]
 fn after_answer<B: Block>(
     state: &mut State<B>,
@@ -52,6 +53,7 @@ fn after_answer<B: Block>(
     requires carriers { AreIdle state.old carriers.old }
     ensures carriers { carriers.new ≡ carriers.old }
     ensures comes { IfOk result (ComesTo B.tells.content state.old state.new (move_of state.old.config state.old.past (control_in c))) }
+    ensures memory { OnErr result (state.new.spare < 64) }
 {
     match c.doing {
         Doing::Asking => Ok(AfterAnswer::Over(c.leaving)),

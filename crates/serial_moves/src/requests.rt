@@ -1,4 +1,4 @@
-ghost use Rattle.std.specs.Prelude.{◌≡◌, ◌+◌, ◌<◌, None, IfOk, IfSome, length};
+ghost use Rattle.std.specs.Prelude.{◌≡◌, ◌+◌, ◌<◌, None, IfOk, OnErr, IfSome, length};
 ghost use Rattle.std.specs.Option.{option_map};
 ghost use Rattle.vm_types.specs.WellFormed.{IsRequestOf, IsServiceOf, IsWellFormedReference, IsWellFormedRequest, IsWellFormedService};
 ghost use Rattle.vm_types.specs.declared.names.ProcStatus.TheVariants as status;
@@ -73,7 +73,7 @@ fn gone<B: Block>(state: &mut State<B>, seat: Seat) -> Option<Control>
 /// A process that is coming comes on.
 ///
 /// # Errors
-/// `NoMemory` if out of memory.
+/// `NoMemory` if out of memory: room for fewer than 64 entries is left then.
 fn come<B: Block>(
     state: &mut State<B>,
     seat: Seat,
@@ -86,6 +86,7 @@ fn come<B: Block>(
     requires here { IsMoveHere state.old (come_move state.old seat.0) }
     ensures carrier { carrier.new ≡ carrier.old }
     ensures moved { IfOk result (Moves B.tells.content state.old state.new (come_move state.old seat.0)) }
+    ensures memory { OnErr result (state.new.spare < 64) }
 {
     match come_some(state, seat, Proc(seat.0), carrier) {
         Swap::Carry => Ok(Some(carry_on(state, seat, Ends::Request, ASKING, carrier)?)),
@@ -103,7 +104,7 @@ fn come<B: Block>(
 /// A frame is found for the request of the seat's process.
 ///
 /// # Errors
-/// `NoMemory` if out of memory.
+/// `NoMemory` if out of memory: room for fewer than 64 entries is left then.
 #[inline(always)]
 fn find_for_request<B: Block>(
     state: &mut State<B>,
@@ -116,6 +117,7 @@ fn find_for_request<B: Block>(
     requires here { IsMoveHere state.old (finding_for state.old seat.0) }
     ensures carrier { carrier.new ≡ carrier.old }
     ensures moved { IfOk result (Moves B.tells.content state.old state.new (finding_for state.old seat.0)) }
+    ensures memory { OnErr result (state.new.spare < 64) }
 {
     match who_finds(state, Proc(seat.0)) {
         Some(found) => find_frame(state, seat, found, Ends::Request, Doing::Asking, carrier),
@@ -126,7 +128,7 @@ fn find_for_request<B: Block>(
 /// The next step for a reference of a process that is resident.
 ///
 /// # Errors
-/// `NoMemory` if out of memory.
+/// `NoMemory` if out of memory: room for fewer than 64 entries is left then.
 #[inline(always)]
 fn refer<B: Block>(
     state: &mut State<B>,
@@ -144,6 +146,7 @@ fn refer<B: Block>(
     ensures carrier { carrier.new ≡ carrier.old }
     ensures moved { IfOk result (Moves B.tells.content state.old state.new
         (resident_move state.old.config state.old.past (pager state.old) seat.0 (Request.Reference r))) }
+    ensures memory { OnErr result (state.new.spare < 64) }
 {
     match advance(state, seat, p, r, carrier) {
         Next::Answered(_) => return Ok(Some(answered(p))),
@@ -163,7 +166,7 @@ fn refer<B: Block>(
 /// The next step for a service of a process that is resident.
 ///
 /// # Errors
-/// `NoMemory` if out of memory.
+/// `NoMemory` if out of memory: room for fewer than 64 entries is left then.
 fn serve_next<B: Block>(
     state: &mut State<B>,
     seat: Seat,
@@ -181,6 +184,7 @@ fn serve_next<B: Block>(
     ensures carrier { carrier.new ≡ carrier.old }
     ensures moved { IfOk result (Moves B.tells.content state.old state.new
         (resident_move state.old.config state.old.past (pager state.old) seat.0 (Request.Service s))) }
+    ensures memory { OnErr result (state.new.spare < 64) }
 {
     match serve(state, seat, p, s) {
         ServeNext::Answered(_) => Ok(Some(answered(p))),
@@ -203,7 +207,7 @@ fn serve_next<B: Block>(
 /// process.
 ///
 /// # Errors
-/// `NoMemory` if out of memory.
+/// `NoMemory` if out of memory: room for fewer than 64 entries is left then.
 fn by_status<B: Block>(
     state: &mut State<B>,
     seat: Seat,
@@ -221,6 +225,7 @@ fn by_status<B: Block>(
     ensures carrier { carrier.new ≡ carrier.old }
     ensures moved { IfOk result (Moves B.tells.content state.old state.new
         (asked_move state.old.config state.old.past (pager state.old) None seat.0 task.request)) }
+    ensures memory { OnErr result (state.new.spare < 64) }
 {
     match state.status(task.proc) {
         ProcStatus::Resident => match task.request {
@@ -273,7 +278,7 @@ fn resident_reference<B: Block>(state: &State<B>, leaving: Option<Proc>, task: T
 /// process isn't here if nothing is left.
 ///
 /// # Errors
-/// `NoMemory` if out of memory.
+/// `NoMemory` if out of memory: room for fewer than 64 entries is left then.
 #[inline(never)]
 fn ask_other<B: Block>(
     state: &mut State<B>,
@@ -292,6 +297,7 @@ fn ask_other<B: Block>(
     ensures carrier { carrier.new ≡ carrier.old }
     ensures moved { IfOk result (Moves B.tells.content state.old state.new
         (asked_move state.old.config state.old.past (pager state.old) (option_map number_of leaving) (task.proc).0 task.request)) }
+    ensures memory { OnErr result (state.new.spare < 64) }
 {
     let seat = Seat(task.proc.0);
     match leaving {
@@ -303,7 +309,7 @@ fn ask_other<B: Block>(
 /// The next step for a request: a process that is being left comes first.
 ///
 /// # Errors
-/// `NoMemory` if out of memory.
+/// `NoMemory` if out of memory: room for fewer than 64 entries is left then.
 #[inline(always)]
 pub fn ask<B: Block>(
     state: &mut State<B>,
@@ -321,6 +327,7 @@ pub fn ask<B: Block>(
     ensures carrier { carrier.new ≡ carrier.old }
     ensures moved { IfOk result (Moves B.tells.content state.old state.new
         (asked_move state.old.config state.old.past (pager state.old) (option_map number_of leaving) (task.proc).0 task.request)) }
+    ensures memory { OnErr result (state.new.spare < 64) }
 {
     if let Some(r) = resident_reference(state, leaving, task) {
         return refer(state, Seat(task.proc.0), task.proc, r, carrier);

@@ -12,7 +12,7 @@ use Rattle.pager_model.specs.Text.{dirty_pages}
 use Rattle.content_laws.proofs.EndContent.{nowhere_uncharged}
 use Rattle.pager_laws.proofs.SerialInOrder.{serial_answered}
 use Rattle.report_lines.specs.Printable.{IsPrintable}
-use Rattle.rundown_laws.proofs.CleanRuns.{no_failure_no_dirt}
+use Rattle.policy_ends.proofs.CleanRuns.{no_failure_no_dirt}
 use Rattle.serial_laws.specs.Between.{IsBetween}
 use Rattle.serial_steps.specs.Moved.{IsSameBut}
 use Rattle.vm_state.specs.History.{History}

@@ -21,8 +21,8 @@ use Rattle.serial_run.specs.declared.finished.Counted.{Counted}
 use Rattle.serial_run.specs.declared.finished.Finished.{Finished}
 use Rattle.serial_run.specs.declared.run.Ending.{Ending}
 use Rattle.serial_run.proofs.AskedOnce.{asked, written}
-use Rattle.rundown_laws.specs.Clean.{failures}
-use Rattle.rundown_laws.proofs.Unfailed.{failures_both}
+use Rattle.policy_ends.specs.Clean.{failures}
+use Rattle.policy_ends.proofs.Unfailed.{failures_both}
 use Rattle.serial_run.specs.FewRefusals.{faults_of}
 use Rattle.serial_run.proofs.FewRefusals.{has_few_refusals}
 

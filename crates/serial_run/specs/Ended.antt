@@ -15,7 +15,7 @@ use Rattle.pager_model.specs.WrittenBack.{AreWrittenBack, NowhereMeansUncharged}
 use Rattle.pager_model.specs.Flights.{open_flights}
 use Rattle.report_lines.specs.Printable.{IsPrintable}
 use Rattle.run_record.specs.Tallies.{tallies_of}
-use Rattle.rundown_laws.specs.Clean.{NoneFailed}
+use Rattle.policy_ends.specs.Clean.{NoneFailed}
 use Rattle.serial_run.specs.FewRefusals.{HasFewRefusals, faults_of, refusals}
 use Rattle.serial_run.specs.declared.finished.Counted.{Counted}
 use Rattle.serial_run.specs.declared.finished.Finished.{Finished}

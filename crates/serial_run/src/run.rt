@@ -2,7 +2,6 @@ ghost use Rattle.std.specs.Prelude.{◌≡◌, ◌≤◌, ◌++◌, IfOk, IsErrO
 ghost use Rattle.disk_trait.specs.Causes.{Rose};
 ghost use Rattle.vm_types.specs.BlockView.{Retired};
 ghost use Rattle.vm_types.specs.Configuration.{IsWellFormed};
-ghost use Rattle.vm_types.specs.declared.config.Version.{Version};
 ghost use Rattle.serial_steps.specs.Moved.{IsSameBut};
 ghost use Rattle.serial_run.specs.AtReport.{IsAtReport};
 ghost use Rattle.serial_run.specs.Ended.{HasEnded, IsCounted, IsFinished};
@@ -54,7 +53,6 @@ pub fn run_serial<D: Depot>(
     depot: &mut D,
 ) -> Result<Finished, RunFault>
     requires formed { IsWellFormed config }
-    requires version { config.version ≡ Version.One }
     ensures finished { IfOk result (λ f. (taken : List Retired) × ((D.seen depot.new).retired ≡ (D.seen depot.old).retired ++ taken)
         × IsFinished D.Block.tells config taken f) }
     ensures failed { IsErrOf result RunFault.DepotFault → Rose (D.seen depot.old).failures (D.seen depot.new).failures }
@@ -83,7 +81,6 @@ pub fn count_serial<D: Depot>(
     depot: &mut D,
 ) -> Result<Counted, RunFault>
     requires formed { IsWellFormed config }
-    requires version { config.version ≡ Version.One }
     ensures counted { IfOk result (λ f. (taken : List Retired) × ((D.seen depot.new).retired ≡ (D.seen depot.old).retired ++ taken)
         × IsCounted D.Block.tells config taken f) }
     ensures failed { IsErrOf result RunFault.DepotFault → Rose (D.seen depot.old).failures (D.seen depot.new).failures }

@@ -3,7 +3,6 @@
 ghost use Rattle.std.specs.Prelude.{◌≡◌, ◌≤◌, [], true, IfOk, IsErrOf, OnOk};
 ghost use Rattle.disk_trait.specs.Causes.{Rose};
 ghost use Rattle.vm_types.specs.Configuration.{IsWellFormed};
-ghost use Rattle.vm_types.specs.declared.config.Version.{Version};
 ghost use Rattle.serial_steps.specs.Moved.{IsSameBut};
 ghost use Rattle.serial_run.specs.AtReport.{IsAtReport, IsReached};
 ghost use Rattle.serial_run.specs.declared.finished.RunFault.{RunFault};
@@ -56,7 +55,6 @@ pub fn run_to_report<D: Depot>(
     depot: &mut D,
 ) -> Result<State<D::Block>, RunFault>
     requires formed { IsWellFormed config }
-    requires version { config.version ≡ Version.One }
     ensures reached { IfOk result (IsReached D.Block.tells.content config) }
     ensures retired { (D.seen depot.new).retired ≡ (D.seen depot.old).retired }
     ensures failed { IsErrOf result RunFault.DepotFault → Rose (D.seen depot.old).failures (D.seen depot.new).failures }

@@ -1,4 +1,4 @@
-ghost use Rattle.std.specs.Prelude.{◌≡◌, ◌≤◌, [], false, OnOk};
+ghost use Rattle.std.specs.Prelude.{◌≡◌, ◌<◌, ◌≤◌, [], false, OnOk, OnErr};
 ghost use Rattle.pager_model.specs.Flights.{awaits_reuse, open_flights};
 ghost use Rattle.serial_steps.specs.Moved.{IsSameBut};
 
@@ -9,11 +9,13 @@ use vm_types::NoMemory;
 /// Room for the entries that a move makes: where there is too little, room for 4096 is reserved.
 ///
 /// # Errors
-/// `NoMemory` if out of memory.
+/// `NoMemory` if out of memory, and only if there was too little room; the state is as before then.
 pub fn prepare<B: Block>(state: &mut State<B>) -> Result<(), NoMemory>
     requires landed { open_flights state.old.past ≡ [] }
     requires reused { awaits_reuse state.old.past ≡ false }
     ensures room { OnOk result (64 ≤ state.new.spare) }
+    ensures memory { OnErr result (state.old.spare < 64) }
+    ensures err { OnErr result (state.new ≡ state.old) }
     ensures same { IsSameBut state.old state.new }
     ensures past { state.new.past ≡ state.old.past }
 {

@@ -1,5 +1,5 @@
 -- EVICT: what its calls require.
-use Rattle.std.proofs.Common.{◌≡◌, ℕ, ◌<◌, List, Some, length, slice_index_or, refl, sym, ap, ◌∙◌, subst, arith}
+use Rattle.std.proofs.Common.{◌≡◌, ℕ, ◌<◌, true, List, Some, length, slice_index_or, refl, sym, ap, ◌∙◌, subst, arith}
 use Rattle.std.specs.Prelude.{IsSome}
 use Rattle.std.proofs.lemmas.Option.{slice_get_within}
 use Rattle.vm_types.specs.Configuration.{IsWellFormed}
@@ -21,8 +21,11 @@ use Rattle.vm_journal.specs.declared.entry.What.TheVariants as what
 use Rattle.global_pages.specs.GlobalPages.{GlobalPages, IsGlobalPage, count_of}
 use Rattle.page_tables.specs.PageTables.{IsEntry, IsMapped, entry_of}
 use Rattle.pfn_database.specs.Frames.{row_of}
+use Rattle.pfn_database.specs.Rows.{uncounted}
 use Rattle.pfn_database.specs.declared.row.Row.{Row}
 use Rattle.pte_forms.specs.declared.pte.Pte.{Pte}
+use Rattle.working_set.specs.Slots.{pin_at}
+use Rattle.state_parts.specs.Victim.{slot_given}
 use Rattle.state_parts.specs.declared.process_row.ProcessRow.{ProcessRow}
 use Rattle.pager_laws.proofs.EvictKept.{in_its_slot}
 use Rattle.pager_model.specs.Around.{frame_view, past_view, quiet}
@@ -44,7 +47,7 @@ use Rattle.state_fits.specs.Globals.{shares_held}
 use Rattle.state_fits.specs.Parts.{Parts}
 use Rattle.state_fits.specs.PartsFit.{PartsFit}
 use Rattle.state_fits.specs.Processes.{process_row}
-use Rattle.state_fits.proofs.EvictParts.{below, gone, held, kept, one_share, process, valid_there}
+use Rattle.state_fits.proofs.EvictParts.{below, gone, held, kept, one_share, pin_counted, pin_is, process, valid_there}
 use Rattle.state_fits.proofs.FrameRows.{row_read}
 use Rattle.state_fits.proofs.GoodEntries.{good_left}
 use Rattle.state_fits.proofs.KnownEntries.{placed_entry, pte_valid}
@@ -63,6 +66,7 @@ pub record CanEvict (config : Config) (why : EvictWhy) (p v f : ℕ) (parts : Pa
   pub below : f < length parts.frames.rows
   pub active : (row_of parts.frames f).state ≡ state.Active
   pub shares : 0 < (row_of parts.frames f).shares
+  pub pins : (x : ProcessRow) → x ≡ slice_index_or parts.processes p x → pin_at x.ring (slot_given why x.ring x.limit v) ≡ true → 0 < uncounted (row_of parts.frames f)
   pub held : IsSome (row_of parts.frames f).page
   pub global : (g : Page) → (row_of parts.frames f).page ≡ Some g → HasShare config parts.globals g
   pub mapped : IsMapped parts.tables p v
@@ -126,6 +130,7 @@ module _ (config : Config) (past : List Entry) (a : Pager) (seat : Seat) (q : Pr
         below = omega (arith, less, fit.frames.count);
         active = ap (λ (row : Row). row.state) read ∙ active_frame (frame_view config (quiet (open_flights past)) a f.0) (quiet_past.frames f.0) some;
         shares = let same = ap (λ (row : Row). row.shares) read in omega (arith, same, some);
+        pins = λ x is pinned. pin_counted config past a seat q address f why to parts before right legal fit (sym (pin_is config past a seat q address f why to parts before right legal fit x is) ∙ pinned);
         held = subst IsSome (sym (ap (λ (row : Row). row.page) read ∙ holds)) refl;
         global = λ g is. global_there g (sym (ap (λ (row : Row). row.page) read) ∙ is);
         mapped = subst IsSome (sym known) refl;

@@ -3,13 +3,8 @@ use Rattle.std.proofs.Common.{◌≡◌, ℕ, ◌+◌, ◌-◌, ◌<◌, Bool, t
 use Rattle.std.specs.Prelude.{◌==◌, if◌then◌else◌}
 use Rattle.std.proofs.lemmas.Bool.{ne_eqb, eq-eqb}
 use Rattle.vm_types.specs.PagePlaces.{changed_at}
-use Rattle.std.proofs.lemmas.Option.{slice_get_cases}
-use Rattle.vm_types.specs.Configuration.{pins_of}
-use Rattle.vm_types.specs.Ring.{Ring, is_pinned_slot, pinned}
+use Rattle.vm_types.specs.Ring.{Ring}
 use Rattle.vm_types.specs.declared.config.Config.{Config}
-use Rattle.vm_types.specs.declared.config.ProcSpec.{ProcSpec}
-use Rattle.vm_types.specs.declared.config.Version.{Version}
-use Rattle.vm_types.specs.declared.config.Version.TheVariants as version
 use Rattle.vm_types.specs.declared.names.FrameState.{FrameState}
 use Rattle.vm_types.specs.declared.names.FrameState.TheVariants as state
 use Rattle.vm_types.specs.declared.names.Page.{Page}
@@ -23,6 +18,8 @@ use Rattle.vm_journal.specs.declared.entry.EvictWhy.{EvictWhy}
 use Rattle.vm_journal.specs.declared.entry.What.TheVariants as what
 use Rattle.std.specs.Option.{option_map}
 use Rattle.global_pages.specs.GlobalPages.{GlobalPages}
+use Rattle.working_set.specs.Slots.{pin_at}
+use Rattle.state_parts.specs.Victim.{slot_given}
 use Rattle.state_parts.specs.declared.process_row.ProcessRow.{ProcessRow}
 use Rattle.page_tables.specs.PageTables.{PageTables, entry_of}
 use Rattle.pfn_database.specs.Frames.{Frames, row_of}
@@ -62,7 +59,7 @@ use Rattle.state_fits.proofs.KnownEntries.{placed_at, pte_left, pte_valid}
 use Rattle.state_fits.proofs.PinsLeft.{pins_elsewhere, pins_left}
 use Rattle.state_fits.proofs.PartsSet.{frames_set, process_read, processes_set, tables_set}
 use Rattle.state_fits.proofs.RingSlots.{slot_gone, slot_stays}
-use Rattle.state_fits.proofs.WhyEvicted.{IsGivenUp, given_up}
+use Rattle.state_fits.proofs.WhyEvicted.{IsGivenUp, given_up, pin_given}
 
 -- the row of a frame for which one valid entry less is there, whose page was pinned or wasn't
 abbrev pub left_row : Bool → Row → Row
@@ -201,20 +198,21 @@ module _ (config : Config) (past : List Entry) (a : Pager) (seat : Seat) (q : Pr
   pub below : f.0 < config.frames
   below = holds_within config (quiet (open_flights past)) a f.0 valid_there.0 kept held
 
-  -- in version 1 no slot is pinned
-  pub unpinned : config.version ≡ version.One → (gone.evicted.held).pinned ≡ false
-  unpinned one = of (slice_get_cases config.procs q.0).1
-    where
-      flag : (b : Bool) → cond {A = ℕ} b 1 0 ≡ 0 → b ≡ false
-      flag true some = absurd (omega (arith, some))
-      flag false none = refl
+  -- whether the page is pinned in its slot, as its process's row says
+  pub pin_is : (x : ProcessRow) → x ≡ slice_index_or parts.processes q.0 x → pin_at x.ring (slot_given why x.ring x.limit v) ≡ (gone.evicted.held).pinned
+  pin_is x read =
+      let x_is = process_read (process_row a.status a.ring a.limit a.references a.faults a.collided) (length config.procs) parts.processes q.0 x fit.processes process read in
+      ap (λ (y : ProcessRow). pin_at y.ring (slot_given why y.ring y.limit v)) x_is ∙ pin_given past a why q.0 v f.0 to gone
 
-      of : ((spec : ProcSpec) × (q.0 < length config.procs) × (slice_get config.procs q.0 ≡ Some spec) × (slice_index_or config.procs q.0 spec ≡ spec)) ⊎ ((length config.procs ≤ q.0) × (slice_get config.procs q.0 ≡ None)) → (gone.evicted.held).pinned ≡ false
-      of (inl found) =
-          let most : pinned (a.ring q.0).slots ≤ 0 = subst (λ (n : Version). pinned (a.ring q.0).slots ≤ pins_of n found.0) one ((kept.processes q.0).bounds found.0 found.2).pins in
-          let written = count_written is_pinned_slot (a.ring q.0).slots gone.slot (Some gone.evicted.held) None gone.evicted.holds in
-          flag _ (omega (arith, most, written))
-      of (inr past_all) = absurd (omega (arith, process, past_all.0))
+  -- then its frame has a reference for that
+  pub pin_counted : (gone.evicted.held).pinned ≡ true → 0 < uncounted (row_of parts.frames f.0)
+  pin_counted pinned =
+      let read = row_read a.state a.page a.modify a.valid a.ring (open_flights past) config.frames a.free a.modified parts.frames f.0 fit.frames in
+      let its = ap uncounted read ∙ over_pins (counted_references (shares a.valid f.0) (reads_on f.0 (open_flights past) + writes_on f.0 (open_flights past))) (frame_pins a.valid a.ring f.0) in
+      let left = pins_left a.valid a.ring q.0 v f.0 gone.slot gone.evicted.taken.entry gone.evicted.held (evicted_ring why (a.ring q.0) (a.limit q.0) v) gone.evicted.taken.valid (kept.entries q.0 v).once gone.evicted.taken.frame gone.evicted.holds gone.evicted.same gone.emptied
+      (no_slot config past a q.0 v f.0 gone.slot to kept gone.evicted (evicted_ring why (a.ring q.0) (a.limit q.0) v) gone.emptied) in
+      let one : cond {A = ℕ} (gone.evicted.held).pinned 1 0 ≡ 1 = ap (λ (b : Bool). cond {A = ℕ} b 1 0) pinned in
+      omega (arith, its, left, one)
 
   row_held : (g : Page) → (row_of parts.frames f.0).page ≡ Some g → a.page f.0 ≡ Some g
   row_held g is = sym (ap (λ (row : Row). row.page) (row_read a.state a.page a.modify a.valid a.ring (open_flights past) config.frames a.free a.modified parts.frames f.0 fit.frames)) ∙ is

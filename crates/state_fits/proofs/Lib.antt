@@ -56,6 +56,8 @@ pub mod DeletedCan
 pub mod DeletedParts
 pub mod ForgottenParts
 pub mod LimitAndLocks
+pub mod PinsRepinned
+pub mod RepinnedParts
 pub mod RangedPages
 pub mod RemappedParts
 pub mod ServedCan

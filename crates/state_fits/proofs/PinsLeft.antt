@@ -11,12 +11,12 @@ use Rattle.pager_rules.proofs.Lists.{count_removed, count_removed_no, count_remo
 use Rattle.pager_rules.proofs.Pins.{pins_few}
 use Rattle.state_fits.specs.Frames.{frame_pins, is_pin_on}
 
-both_true : (b c : Bool) → (b && c) ≡ true → (b ≡ true) × (c ≡ true)
+pub both_true : (b c : Bool) → (b && c) ≡ true → (b ≡ true) × (c ≡ true)
 both_true true c e = (refl, e)
 both_true false c e = absurd (cc)
 
 -- two tests that agree but where a third one passes
-count_apart : {X : Type 0} (t u z : X → Bool) (xs : List X) → count_by z xs ≡ 0 → ((x : X) → z x ≡ false → t x ≡ u x) → count_by t xs ≡ count_by u xs
+pub count_apart : {X : Type 0} (t u z : X → Bool) (xs : List X) → count_by z xs ≡ 0 → ((x : X) → z x ≡ false → t x ≡ u x) → count_by t xs ≡ count_by u xs
 count_apart t u z [] none same = refl
 count_apart {X} t u z (x ∷ xs) none same = first (z x) refl (λ left. count_apart t u z xs left same)
   where

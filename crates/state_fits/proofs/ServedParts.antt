@@ -1,5 +1,5 @@
 -- SERVED, by service and answer: each of the parts that changes, and the entry that is spoken.
-use Rattle.std.proofs.Common.{◌≡◌, ℕ, ◌+◌, false, true, List, ◌∷◌, Option, Some, length, slice_set, slice_index_or, refl, sym, subst}
+use Rattle.std.proofs.Common.{◌≡◌, ℕ, ◌+◌, ◌<◌, Bool, false, true, List, ◌∷◌, Option, Some, length, slice_set, slice_index_or, refl, sym, subst}
 use Rattle.vm_types.specs.declared.config.Config.{Config}
 use Rattle.vm_types.specs.declared.config.Origin.{Origin}
 use Rattle.vm_types.specs.declared.config.Origin.TheVariants as origin
@@ -19,7 +19,8 @@ use Rattle.pager_model.specs.Around.{past_view, quiet}
 use Rattle.pager_model.specs.Flights.{is_busy, open_flights}
 use Rattle.pager_model.specs.Forget.{after_delete}
 use Rattle.pager_model.specs.Pager.{Pager}
-use Rattle.pager_model.specs.Ring.{range_locked}
+use Rattle.pager_model.specs.Ring.{range_locked, range_pinned}
+use Rattle.pager_model.specs.Served.{with_ring}
 use Rattle.pager_model.specs.Step.{after, IsLegal}
 use Rattle.pager_rules.proofs.Turns.{calm, idle}
 use Rattle.pager_rules.specs.Kept.{IsKept}
@@ -28,7 +29,7 @@ use Rattle.state_parts.specs.declared.process_row.ProcessRow.{ProcessRow}
 use Rattle.state_parts.specs.declared.spoken_row.SpokenRow.{SpokenRow}
 use Rattle.state_fits.specs.Parts.{Parts}
 use Rattle.state_fits.specs.PartsFit.{PartsFit}
-use Rattle.state_fits.specs.Serving.{is_serving, ranged, with_code}
+use Rattle.state_fits.specs.Serving.{is_serving, pin_service, ranged, with_code}
 use Rattle.state_fits.proofs.AnswerSpoken.{served_process, served_spoken, state_left}
 use Rattle.state_fits.proofs.LimitAndLocks.{adjusted, relocked}
 use Rattle.state_fits.proofs.RemappedParts.{created, protected}
@@ -95,6 +96,19 @@ module _ (config : Config) (past : List Entry) (a : Pager) (seat : Seat) where
       → FitAfter (service.Delete at pages) answer.Good (record parts { spoken = slice_set parts.spoken seat.0 (record { last = Some (length past + 1); count = y.count + 1 }) })
   deleted_parts at pages legal parts fit y read_y =
       served_spoken config past seat (service.Delete at pages) answer.Good (after_delete config a seat.0 at.0 pages) parts legal.in_turn legal.row.0.process fit y read_y
+
+  -- once the pages of the range are pinned, or unpinned
+  pub pinned_parts : (pin : Bool) (at : Addr) (pages n : ℕ) → IsLegalAnswer (pin_service pin at pages) (answer.Count n) → (parts : Parts) → PartsFit config past (with_ring a seat.0 (range_pinned pin at.0 pages (a.ring seat.0))) parts
+      → (y : SpokenRow) → y ≡ slice_index_or parts.spoken seat.0 y
+      → FitAfter (pin_service pin at pages) (answer.Count n) (record parts { spoken = slice_set parts.spoken seat.0 (record { last = Some (length past + 1); count = y.count + 1 }) })
+  pinned_parts true at pages n legal parts fit y read_y =
+      served_spoken config past seat (service.Pin at pages) (answer.Count n) (with_ring a seat.0 (range_pinned true at.0 pages (a.ring seat.0))) parts legal.in_turn (served_process config past a seat.0 (service.Pin at pages) (answer.Count n) legal.row) fit y read_y
+  pinned_parts false at pages n legal parts fit y read_y =
+      served_spoken config past seat (service.Unpin at pages) (answer.Count n) (with_ring a seat.0 (range_pinned false at.0 pages (a.ring seat.0))) parts legal.in_turn (served_process config past a seat.0 (service.Unpin at pages) (answer.Count n) legal.row) fit y read_y
+
+  -- what the pins of the pages need of it
+  pub pin_process : (pin : Bool) (at : Addr) (pages n : ℕ) → IsLegalAnswer (pin_service pin at pages) (answer.Count n) → seat.0 < length config.procs
+  pin_process pin at pages n legal = served_process config past a seat.0 (pin_service pin at pages) (answer.Count n) legal.row
 
   -- what the deletion of each page needs of the entry
   pub delete_kept : (at : Addr) (pages : ℕ) → IsKept config (past_view past) a → IsLegalAnswer (service.Delete at pages) answer.Good → IsKept config (quiet (open_flights past)) a

@@ -1,6 +1,7 @@
 -- The services that change the state, and what they change of a range of pages. Source: Kenah and Bate,
 -- "VAX/VMS Internals and Data Structures", memory management system services.
 use Rattle.std.specs.Prelude.{ℕ, Bool, true, false, ◌&&◌, nat_eq, if◌then◌else◌}
+use Rattle.vm_types.specs.declared.names.Addr.{Addr}
 use Rattle.vm_types.specs.declared.reply.Answer.{Answer}
 use Rattle.vm_types.specs.declared.reply.Answer.TheVariants as answer
 use Rattle.vm_types.specs.declared.service.Service.{Service}
@@ -19,6 +20,11 @@ is_serving (service.Pin at pages) (answer.Count n) = true
 is_serving (service.Unpin at pages) (answer.Count n) = true
 is_serving (service.Adjust n) answer.Good = true
 is_serving s other = false
+
+-- the service that pins, or unpins, the pages of a range
+abbrev pub pin_service : Bool → Addr → ℕ → Service
+pin_service true at pages = service.Pin at pages
+pin_service false at pages = service.Unpin at pages
 
 -- an entry with another protection code
 abbrev pub with_code : ℕ → Pte → Pte

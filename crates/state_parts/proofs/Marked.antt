@@ -68,7 +68,3 @@ module _ (pin : Bool) (address pages : ℕ) where
   pub repinned_in : (slot : Option Held) → is_slot_in address pages slot ≡ true → slot_with_pin slot pin ≡ repinned_slot pin address pages slot
   repinned_in None inside = refl
   repinned_in (Some held) inside = ap (λ (b : Bool). Some (record { vpn = held.vpn; locked = held.locked; pinned = cond b pin held.pinned })) (sym inside)
-
-  pub repinned_out : (slot : Option Held) → is_slot_in address pages slot ≡ false → repinned_slot pin address pages slot ≡ slot
-  repinned_out None outside = refl
-  repinned_out (Some held) outside = ap (λ (b : Bool). Some (record { vpn = held.vpn; locked = held.locked; pinned = cond b pin held.pinned })) outside

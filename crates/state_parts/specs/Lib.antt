@@ -1,3 +1,4 @@
 pub mod ChargedTable
+pub mod Repinned
 pub mod SwapTable
 pub mod Victim

@@ -13,8 +13,8 @@ pub use charged_page::ChargedPage;
 pub use charged_pages::ChargedPages;
 pub use process_row::ProcessRow;
 pub use ring_marks::{
-    count_in, fixed_in, give_up, lock_range, locked_in, pin_range, pinned_in, put_in_slot, slot_of,
-    take_slot, unlock_all, unpinned,
+    count_in, fixed_in, give_up, lock_range, locked_in, mark_pin, page_to_pin, pinned_in,
+    put_in_slot, slot_of, take_slot, unlock_all, unpinned,
 };
 pub use spoken_row::SpokenRow;
 pub use swap_pages::SwapPages;

@@ -1,11 +1,12 @@
-ghost use Rattle.std.specs.Prelude.{◌≡◌, ◌<◌, ◌≤◌, count_by, length};
+ghost use Rattle.std.specs.Prelude.{◌≡◌, ◌<◌, ◌≤◌, None, count_by, if◌then◌else◌, length, slice_set};
 ghost use Rattle.vm_types.specs.Ring.{choose, filled, unpinned};
-ghost use Rattle.working_set.specs.Slots.{IsEmptySlot, slot_at, with_lock, with_pin};
+ghost use Rattle.working_set.specs.Slots.{IsEmptySlot, pin_at, slot_at, with_lock, with_pin};
 ghost use Rattle.pager_model.specs.Evict.{evicted_ring};
 ghost use Rattle.pager_model.specs.Lookups.{has_vpn, slot_with};
-ghost use Rattle.pager_model.specs.Ring.{placed, range_locked, range_pinned, slotted, unlocked};
+ghost use Rattle.pager_model.specs.Ring.{placed, range_locked, slotted, unlocked};
 ghost use Rattle.pager_model.specs.Served.{is_fixed_in, is_locked_in, is_pinned_in, is_slot_in};
-ghost use Rattle.state_parts.specs.Victim.{HasVictim};
+ghost use Rattle.state_parts.specs.Repinned.{page_to_pin};
+ghost use Rattle.state_parts.specs.Victim.{HasVictim, slot_given};
 
 use vm_journal::EvictWhy;
 use vm_types::Addr;
@@ -28,18 +29,6 @@ pub fn lock_range(ring: &mut Ring, at: Addr, pages: u32, lock: bool)
     for slot in 0..ring.slots() {
         if is_in(ring, slot, at, pages) {
             mark(ring, slot, lock);
-        }
-    }
-}
-
-/// Pins, or unpins, each page of the ring that is one of so many pages (any number) from the
-/// address's page on.
-pub fn pin_range(ring: &mut Ring, at: Addr, pages: u32, pin: bool)
-    ensures { ring.new ≡ range_pinned pin at.0 pages ring.old }
-{
-    for slot in 0..ring.slots() {
-        if is_in(ring, slot, at, pages) {
-            mark_pin(ring, slot, pin);
         }
     }
 }
@@ -147,22 +136,38 @@ pub fn put_in_slot(ring: &mut Ring, slot: u32, vpn: u32)
     ring.place(slot, vpn, false);
 }
 
-/// Empties the slot of a page that leaves the ring, with its lock and its pin. A replaced page is the ring's
-/// victim at the limit, and the hand stands on its slot then; for each other cause the hand stays.
-pub fn give_up(ring: &mut Ring, limit: u32, why: EvictWhy, vpn: u32)
+/// Empties the slot of a page that leaves the ring, with its lock and its pin, and says whether the page was
+/// pinned there. A replaced page is the ring's victim at the limit, and the hand stands on its slot then; for
+/// each other cause the hand stays.
+pub fn give_up(ring: &mut Ring, limit: u32, why: EvictWhy, vpn: u32) -> bool
     requires held { slot_with ring.old vpn < length ring.old.slots }
     requires victim { HasVictim why ring.old limit }
-    ensures { ring.new ≡ evicted_ring why ring.old limit vpn }
+    ensures ring { ring.new ≡ evicted_ring why ring.old limit vpn }
+    ensures pinned { result ≡ pin_at ring.old (slot_given why ring.old limit vpn) }
 {
     if why == EvictWhy::Replace {
         let Choice::Victim(slot) = ring.choose(limit) else {
             unreachable!();
         };
-        ring.clear(slot, true);
+        empty_slot(ring, slot, true)
     } else {
         let slot = slot_of(ring, vpn);
-        ring.clear(slot, false);
+        empty_slot(ring, slot, false)
     }
+}
+
+/// Empties the slot, and says whether its page was pinned. With `point` the hand stands on it.
+fn empty_slot(ring: &mut Ring, slot: u32, point: bool) -> bool
+    requires { slot < length ring.old.slots }
+    ensures ring { ring.new ≡ record {
+      slots = slice_set ring.old.slots slot None;
+      hand = if point then slot else ring.old.hand;
+    } }
+    ensures pinned { result ≡ pin_at ring.old slot }
+{
+    let pinned = ring.pinned(slot);
+    ring.clear(slot, point);
+    pinned
 }
 
 /// Locks, or unlocks, the page in the slot, if it has one.
@@ -181,7 +186,7 @@ fn mark(ring: &mut Ring, slot: u32, lock: bool)
 }
 
 /// Pins, or unpins, the page in the slot, if it has one.
-fn mark_pin(ring: &mut Ring, slot: u32, pin: bool)
+pub fn mark_pin(ring: &mut Ring, slot: u32, pin: bool)
     requires { slot < length ring.old.slots }
     ensures { ring.new ≡ with_pin ring.old slot pin }
 {
@@ -192,6 +197,19 @@ fn mark_pin(ring: &mut Ring, slot: u32, pin: bool)
         ring.pin(slot);
     } else {
         ring.unpin(slot);
+    }
+}
+
+/// The page number in the slot, if it is one of so many pages (any number) from the address's page on whose
+/// pin changes if they are pinned, or unpinned.
+pub fn page_to_pin(ring: &Ring, slot: u32, at: Addr, pages: u32, pin: bool) -> Option<u32>
+    requires { slot < length ring.now.slots }
+    ensures { result ≡ page_to_pin pin at.0 pages (slot_at ring.now slot) }
+{
+    if is_in(ring, slot, at, pages) && ring.pinned(slot) != pin {
+        ring.at(slot)
+    } else {
+        None
     }
 }
 

@@ -97,6 +97,12 @@ fn files_give_back_what_was_written(rt: HostRuntime) -> Result<(), Fail> {
         assert_eq!(rt; write_and_read(&mut block, &[2; 512], &mut buf), Ok(()));
         assert_eq!(rt; buf, [2; 512]);
         assert_eq!(rt; fs::read(&rt, path)?.as_slice(), [2; 512].as_slice());
+        // A write truncates nothing.
+        fs::write(&rt, path, [9u8; 600].as_slice())?;
+        assert_eq!(rt; block.write(&[4; 512]), Ok(()));
+        let kept = fs::read(&rt, path)?;
+        assert_eq!(rt; kept.len(), 600);
+        assert!(rt; kept.starts_with(&[4; 512]) && kept.ends_with(&[9; 88]));
         fs::remove_file(&rt, path)?;
         assert_eq!(rt;
             (block.read(&mut buf), block.write(&[3; 512])),

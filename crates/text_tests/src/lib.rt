@@ -8,13 +8,15 @@ mod of_command_ends;
 #[cfg(test)]
 mod of_command_messages;
 #[cfg(test)]
-mod of_line_reader;
+mod of_lines;
 #[cfg(test)]
 mod of_make_summary;
 #[cfg(test)]
 mod of_outside_io;
 #[cfg(test)]
 mod of_paging_study;
+#[cfg(test)]
+mod of_read_line;
 #[cfg(test)]
 mod of_run_text;
 #[cfg(test)]

@@ -91,7 +91,7 @@ fn says_what_is_wrong_with_a_command_line(rt: HostRuntime) -> Result<(), Fail> {
 #[test]
 fn says_what_stands_in_the_place_of_a_trace(rt: HostRuntime) -> Result<(), Fail> {
     let alloc = rt.alloc();
-    let table: [(u32, &[u8], &str); 7] = [
+    let table: [(u32, &[u8], &str); 8] = [
         (
             1,
             b"\xEF\xBB\xBFVMTRACE 1\r",
@@ -105,17 +105,17 @@ fn says_what_stands_in_the_place_of_a_trace(rt: HostRuntime) -> Result<(), Fail>
         (
             1,
             b"1 A ZERO 00000000 F0",
-            "neqysbar: line 1: the input begins as a log does, and a trace begins with VMTRACE 1\n    1 A ZERO 00000000 F0\n",
+            "neqysbar: line 1: the input begins as a log does, and a trace begins with VMTRACE\n    1 A ZERO 00000000 F0\n",
         ),
         (
             1,
             b"PFN AT 0",
-            "neqysbar: line 1: the input begins as a log does, and a trace begins with VMTRACE 1\n    PFN AT 0\n",
+            "neqysbar: line 1: the input begins as a log does, and a trace begins with VMTRACE\n    PFN AT 0\n",
         ),
         (
             1,
             b"VMSDUMP1\x00",
-            "neqysbar: line 1: the input begins as a dump does, and a trace begins with VMTRACE 1\n    VMSDUMP1\\x00\n",
+            "neqysbar: line 1: the input begins as a dump does, and a trace begins with VMTRACE\n    VMSDUMP1\\x00\n",
         ),
         (
             1,
@@ -126,6 +126,11 @@ fn says_what_stands_in_the_place_of_a_trace(rt: HostRuntime) -> Result<(), Fail>
             2,
             b"1 \xEF",
             "neqysbar: line 2: the line has a byte that is neither a blank, a tab nor a printable character\n    1 \\xEF\n",
+        ),
+        (
+            3,
+            b"LOG",
+            "neqysbar: line 3: LOG stands behind the line END, and check alone reads it\n    LOG\n",
         ),
     ];
     for (number, bytes, message) in table {
@@ -143,13 +148,20 @@ fn says_what_stands_in_the_place_of_a_trace(rt: HostRuntime) -> Result<(), Fail>
 #[test]
 fn marks_the_word_that_is_wrong(rt: HostRuntime) -> Result<(), Fail> {
     let alloc = rt.alloc();
-    let table: [(u8, Cause, Bound, &[u8], &str); 10] = [
+    let table: [(u8, Cause, Bound, &[u8], &str); 11] = [
         (
             1,
             Cause::OutOfRange,
             Bound::HiLimit(256),
             b"BODY",
             "WAITLIMIT is 256, so HILIMIT is at most 256\n    BODY\n    ^\n",
+        ),
+        (
+            1,
+            Cause::OutOfRange,
+            Bound::FramesAndLocks(16_384),
+            b"BODY",
+            "FRAMES is 16384, so each extent, the bad frames, the locks of all processes and 2 are at most 16384\n    BODY\n    ^\n",
         ),
         (
             3,

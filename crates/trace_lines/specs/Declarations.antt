@@ -6,6 +6,8 @@ use Rattle.vm_types.specs.declared.config.ProcSpec.{ProcSpec}
 use Rattle.vm_types.specs.declared.config.Section.{Section as Held}
 use Rattle.vm_types.specs.declared.config.SectionKind.{SectionKind}
 use Rattle.vm_types.specs.declared.config.SectionKind.TheVariants as kind
+use Rattle.vm_types.specs.declared.config.Version.{Version}
+use Rattle.vm_types.specs.declared.config.Version.TheVariants as version
 use Rattle.trace_words.specs.declared.cause.Cause.{Cause}
 use Rattle.trace_words.specs.declared.cause.Cause.TheVariants.{UnknownWord, Misplaced, NoSuch, OutOfRange, Repeated, TooMany}
 use Rattle.trace_words.specs.Judged.{◌>>=◌, owed}
@@ -20,19 +22,28 @@ use Rattle.trace_lines.specs.Breaches.{at_word, bounded, counted, marked, miscou
 use Rattle.trace_lines.specs.Lookups.{bytes_at, has_file, number_named, section}
 use Rattle.trace_lines.specs.Says.{Says, Section, Data, Process}
 
--- SHARED or CRF
-abbrev pub section_kind : List ℕ → Result SectionKind Cause
-section_kind word = if is word (codes "SHARED") then Ok kind.Shared else if is word (codes "CRF") then Ok kind.Crf else Err UnknownWord
+-- sections in the page file are of version 2
+abbrev pub paged_kind : Version → Result SectionKind Cause
+paged_kind version.One = Err UnknownWord
+paged_kind version.Two = Ok kind.Paged
+
+-- SHARED, CRF, or, in version 2, PAGED
+abbrev pub section_kind : Version → List ℕ → Result SectionKind Cause
+section_kind v word =
+    if is word (codes "SHARED") then Ok kind.Shared
+    else if is word (codes "CRF") then Ok kind.Crf
+    else if is word (codes "PAGED") then paged_kind v
+    else Err UnknownWord
 
 -- at most 64 sections, with at most 16,384 pages
 abbrev pub has_room : List Held → ℕ → Bool
 has_room sections pages = nat_lt (length sections) 64 && nat_le (sum_by section_pages sections + pages) 16384
 
--- SECTION name SHARED n, SECTION name CRF n
+-- SECTION name SHARED n, SECTION name CRF n, SECTION name PAGED n
 abbrev pub section_line : Config → List (List ℕ) → Result Says Breach
 section_line config (name ∷ word ∷ n ∷ []) =
     owed (is_name name) (at_word 2 UnknownWord)
-    (marked 3 Free (section_kind word) >>= λ of_kind. ranged 4 1 4294967295 n >>= λ pages.
+    (marked 3 Free (section_kind config.version word) >>= λ of_kind. ranged 4 1 4294967295 n >>= λ pages.
     owed (not (is_some (number_named config.sections name))) (at_word 2 Repeated)
     (owed (has_room config.sections pages) (at_word 4 TooMany) (Ok (Section name of_kind pages))))
 section_line config other = Err (miscounted 2 3 other)

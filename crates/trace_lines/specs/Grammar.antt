@@ -23,7 +23,7 @@ use Rattle.trace_lines.specs.Says.{Says, Nothing}
 -- a line of this keyword, by its other words
 abbrev pub by_keyword : Part → List (List ℕ) → Keyword → Result Says Breach
 by_keyword part args Version = version_line args
-by_keyword part args Frames = frames_line args
+by_keyword part args Frames = frames_line part.config args
 by_keyword part args PageFile = pagefile_line args
 by_keyword part args Param = param_line part.given args
 by_keyword part args Bad = bad_line part.config args

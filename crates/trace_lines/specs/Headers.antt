@@ -1,8 +1,10 @@
--- The lines that hold numbers of the machine: VMTRACE 1, FRAMES n, PAGEFILE n, PARAM name n, BAD f.
+-- The lines that hold numbers of the machine: VMTRACE n, FRAMES n, PAGEFILE n, PARAM name n, BAD f.
 -- Source: this project's own.
-use Rattle.std.specs.Prelude.{ℕ, Bool, not, ◌==◌, nat_lt, List, [], ◌∷◌, Result, Ok, Err, slice_index_or, false}
+use Rattle.std.specs.Prelude.{ℕ, Bool, not, ◌==◌, nat_lt, List, [], ◌∷◌, Result, Ok, Err, slice_index_or, false, if◌then◌else◌}
 use Rattle.std.specs.List.{list_any}
 use Rattle.vm_types.specs.declared.config.Config.{Config}
+use Rattle.vm_types.specs.declared.config.Version.{Version as Format}
+use Rattle.vm_types.specs.declared.config.Version.TheVariants as version
 use Rattle.trace_words.specs.declared.cause.Cause.TheVariants.{OutOfRange, Repeated as AlreadyGiven}
 use Rattle.trace_words.specs.Judged.{◌>>=◌, owed}
 use Rattle.trace_words.specs.Number.{decimal}
@@ -12,15 +14,24 @@ use Rattle.trace_lines.specs.Breaches.{at_word, bounded, marked, miscounted, ran
 use Rattle.trace_lines.specs.ParamWords.{param_of, least, most, number_of}
 use Rattle.trace_lines.specs.Says.{Says, Version, Frames, PageFile, Param, Bad}
 
--- VMTRACE 1
+-- the version of this number, 1 or 2
+abbrev pub version_of : ℕ → Format
+version_of n = if n == 1 then version.One else version.Two
+
+-- VMTRACE 1, VMTRACE 2
 abbrev pub version_line : List (List ℕ) → Result Says Breach
-version_line (n ∷ []) = ranged 2 1 1 n >>= λ _. Ok Version
+version_line (n ∷ []) = ranged 2 1 2 n >>= λ number. Ok (Version (version_of number))
 version_line other = Err (miscounted 2 1 other)
 
--- FRAMES n
-abbrev pub frames_line : List (List ℕ) → Result Says Breach
-frames_line (n ∷ []) = ranged 2 8 4096 n >>= λ frames. Ok (Frames frames)
-frames_line other = Err (miscounted 2 1 other)
+-- the most frames that the version has
+abbrev pub most_frames : Format → ℕ
+most_frames version.One = 4096
+most_frames version.Two = 16384
+
+-- FRAMES n, by the version
+abbrev pub frames_line : Config → List (List ℕ) → Result Says Breach
+frames_line config (n ∷ []) = ranged 2 8 (most_frames config.version) n >>= λ frames. Ok (Frames frames)
+frames_line config other = Err (miscounted 2 1 other)
 
 -- PAGEFILE n
 abbrev pub pagefile_line : List (List ℕ) → Result Says Breach

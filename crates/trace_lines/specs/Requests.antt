@@ -1,9 +1,12 @@
 -- BODY, END, and the requests between them. Source: this project's own.
-use Rattle.std.specs.Prelude.{ℕ, ◌+◌, ◌-◌, ◌^◌, Bool, ◌&&◌, nat_le, nat_lt, length, List, [], ◌∷◌, Option, Some, None, Result, Ok, Err, if◌then◌else◌}
+use Rattle.std.specs.Prelude.{ℕ, ◌+◌, ◌-◌, ◌^◌, Bool, ◌&&◌, nat_le, nat_lt, true, false, length, List, [], ◌∷◌, Option, Some, None, Result, Ok, Err, if◌then◌else◌}
 use Rattle.std.specs.List.{list_all}
+use Rattle.vm_types.specs.Configuration.{all_pins}
 use Rattle.vm_types.specs.WellFormed.{width_bytes}
 use Rattle.vm_types.specs.declared.config.Config.{Config}
 use Rattle.vm_types.specs.declared.config.Params.{Params}
+use Rattle.vm_types.specs.declared.config.Version.{Version}
+use Rattle.vm_types.specs.declared.config.Version.TheVariants as version
 use Rattle.vm_types.specs.declared.reference.Mode.{Mode}
 use Rattle.vm_types.specs.declared.reference.Width.{Width}
 use Rattle.vm_types.specs.declared.reference.Width.TheVariants.{Four}
@@ -16,7 +19,7 @@ use Rattle.trace_words.specs.declared.cause.Cause.TheVariants.{UnknownWord, Misp
 use Rattle.trace_words.specs.declared.ops.Access.{Access}
 use Rattle.trace_words.specs.declared.ops.Access.TheVariants.{Read, Write, Add}
 use Rattle.trace_words.specs.declared.services.ServiceName.{ServiceName}
-use Rattle.trace_words.specs.declared.services.ServiceName.TheVariants.{Create, Delete, Protect, Lock, Unlock, Purge, Adjust}
+use Rattle.trace_words.specs.declared.services.ServiceName.TheVariants.{Create, Delete, Protect, Lock, Unlock, Purge, Pin, Unpin, Adjust}
 use Rattle.trace_words.specs.declared.verbs.Verb.{Verb}
 use Rattle.trace_words.specs.declared.verbs.Verb.TheVariants.{Op, Service}
 use Rattle.trace_words.specs.Judged.{◌>>=◌, owed}
@@ -24,7 +27,7 @@ use Rattle.trace_words.specs.Number.{hexadecimal}
 use Rattle.trace_words.specs.Protection.{protection}
 use Rattle.trace_words.specs.VerbWords.{verb_of}
 use Rattle.trace_lines.specs.declared.breach.Bound.{Bound}
-use Rattle.trace_lines.specs.declared.breach.Bound.TheVariants.{Free, Within, Multiple, Regions, LoLimit, HiLimit, FreeLim, Frames}
+use Rattle.trace_lines.specs.declared.breach.Bound.TheVariants.{Free, Within, Multiple, Regions, LoLimit, HiLimit, FreeLim, Frames, FramesAndLocks}
 use Rattle.trace_lines.specs.declared.breach.Breach.{Breach}
 use Rattle.trace_lines.specs.declared.ranges.Written.{Written}
 use Rattle.trace_lines.specs.declared.ranges.Range.{Range}
@@ -37,9 +40,17 @@ use Rattle.trace_lines.specs.Says.{Says, Body, Request, End}
 abbrev pub params_agree : Params → Bool
 params_agree params = nat_le params.lolimit params.hilimit && nat_le params.hilimit params.waitlimit && nat_le params.freelim params.freegoal
 
--- each process alone has a frame to spare beside the page at hand
+-- each process alone has a frame to spare beside the page at hand and the pages that all of them may pin
 abbrev pub has_frames : Config → Bool
-has_frames config = list_all (λ spec. nat_le (spec.extent + length config.bad + 2) config.frames) config.procs
+has_frames config = list_all (λ spec. nat_le (spec.extent + (length config.bad + all_pins config) + 2) config.frames) config.procs
+
+-- the bound of the frames, which in version 2 the locks are among
+abbrev pub frames_by : Version → ℕ → Bound
+frames_by version.One n = Frames n
+frames_by version.Two n = FramesAndLocks n
+
+abbrev pub frames_bound : Config → Bound
+frames_bound config = frames_by config.version config.frames
 
 -- the first bound that the parameters and the processes break
 abbrev pub unmet : Config → Bound
@@ -47,7 +58,7 @@ unmet config =
     if nat_lt config.params.hilimit config.params.lolimit then LoLimit config.params.hilimit
     else if nat_lt config.params.waitlimit config.params.hilimit then HiLimit config.params.waitlimit
     else if nat_lt config.params.freegoal config.params.freelim then FreeLim config.params.freegoal
-    else Frames config.frames
+    else frames_bound config
 
 -- BODY, once there is a process
 abbrev pub body_line : Config → List (List ℕ) → Result Says Breach
@@ -119,7 +130,31 @@ service_line config x Delete args = range_of config x args >>= λ r. asked_by co
 service_line config x Lock args = range_of config x args >>= λ r. asked_by config r.proc (wanted.Service (asked.Lock (record { 0 = r.at }) r.pages))
 service_line config x Unlock args = range_of config x args >>= λ r. asked_by config r.proc (wanted.Service (asked.Unlock (record { 0 = r.at }) r.pages))
 service_line config x Purge args = range_of config x args >>= λ r. asked_by config r.proc (wanted.Service (asked.Purge (record { 0 = r.at }) r.pages))
+service_line config x Pin args = range_of config x args >>= λ r. asked_by config r.proc (wanted.Service (asked.Pin (record { 0 = r.at }) r.pages))
+service_line config x Unpin args = range_of config x args >>= λ r. asked_by config r.proc (wanted.Service (asked.Unpin (record { 0 = r.at }) r.pages))
 service_line config x Adjust args = adjust_line config x args
+
+-- the services that pin and unpin pages are of version 2
+abbrev pub has_pins : Version → Bool
+has_pins version.One = false
+has_pins version.Two = true
+
+abbrev pub is_word_of : Version → ServiceName → Bool
+is_word_of v Create = true
+is_word_of v Delete = true
+is_word_of v Protect = true
+is_word_of v Lock = true
+is_word_of v Unlock = true
+is_word_of v Purge = true
+is_word_of v Pin = has_pins v
+is_word_of v Unpin = has_pins v
+is_word_of v Adjust = true
+
+-- the operation or the service, where the version has it
+abbrev pub verb_in : Version → Option Verb → Option Verb
+verb_in v None = None
+verb_in v (Some (Op op)) = Some (Op op)
+verb_in v (Some (Service name)) = if is_word_of v name then Some (Service name) else None
 
 -- by the second word; where it is neither an operation nor a service, the process is judged first
 abbrev pub by_verb : Config → List ℕ → List (List ℕ) → Option Verb → Result Says Breach
@@ -130,4 +165,4 @@ by_verb config x args (Some (Service name)) = service_line config x name args
 -- a request of the process of this letter
 abbrev pub request_line : Config → List ℕ → List (List ℕ) → Result Says Breach
 request_line config x [] = Err (at_word 2 Misplaced)
-request_line config x (second ∷ args) = by_verb config x args (verb_of second)
+request_line config x (second ∷ args) = by_verb config x args (verb_in config.version (verb_of second))

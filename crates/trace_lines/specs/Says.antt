@@ -5,6 +5,7 @@ use Rattle.vm_types.specs.declared.config.Mapping.{Mapping}
 use Rattle.vm_types.specs.declared.config.ProcSpec.{ProcSpec}
 use Rattle.vm_types.specs.declared.config.SectionKind.{SectionKind}
 use Rattle.vm_types.specs.declared.config.Task.{Task}
+use Rattle.vm_types.specs.declared.config.Version.{Version as Format}
 use Rattle.trace_lines.specs.declared.breach.Breach.{Breach}
 use Rattle.trace_lines.specs.declared.params.Param.{Param as Parameter}
 use Rattle.trace_lines.specs.declared.line.Line.{Line}
@@ -13,7 +14,7 @@ use Rattle.trace_lines.specs.declared.line.Line.TheVariants as line
 pub data Says : Type 0 where
   -- it is skipped
   Nothing : Says
-  Version : Says
+  Version : Format → Says
   Frames : ℕ → Says
   PageFile : ℕ → Says
   Param : Parameter → ℕ → Says
@@ -32,7 +33,7 @@ pub data Says : Type 0 where
 -- as the code holds it
 abbrev pub meant : Line → Says
 meant line.Nothing = Nothing
-meant line.Version = Version
+meant (line.Version v) = Version v
 meant (line.Frames n) = Frames n
 meant (line.PageFile n) = PageFile n
 meant (line.Param param n) = Param param n

@@ -41,6 +41,7 @@ pub record IsBounded (config : Config) : Type 0 where
   pub pagefile : config.pagefile ≤ 16384
   pub sections : length config.sections ≤ 64
   pub pages : sum_by section_pages config.sections ≤ 16384
+  pub locks : sum_by (λ spec. spec.locks) config.procs ≤ 16384
   pub slots : All (λ spec. spec.extent ≤ 1024) config.procs
   pub blocks : All (λ fails. IsKeyed fails.block) config.fails
   pub maps : All IsPaged config.maps

@@ -38,6 +38,9 @@ pub enum Bound {
     /// BODY, once the extent of each process, the bad frames and 2 are at most this, which is the number of
     /// frames.
     Frames(u32),
+    /// BODY of version 2, once the extent of each process, the bad frames, the locks of all processes and 2
+    /// are at most this, which is the number of frames.
+    FramesAndLocks(u32),
 }
 
 /// The first rule that a line breaks, and where.

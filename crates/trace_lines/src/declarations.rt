@@ -1,22 +1,34 @@
 ghost use Rattle.std.specs.Prelude.{◌≡◌, ◌≤◌, sum_by};
 ghost use Rattle.vm_types.specs.Configuration.{section_pages};
 ghost use Rattle.trace_words.specs.Split.{listed};
-ghost use Rattle.trace_lines.specs.Declarations.{section_kind, has_room, section_line, data_line, are_ordered, disordered, process_line};
+ghost use Rattle.trace_lines.specs.Declarations.{paged_kind, section_kind, has_room, section_line, data_line, are_ordered, disordered, process_line};
 ghost use Rattle.trace_lines.specs.Says.{said};
 
 use crate::breach::{Bound, Breach, counted, marked, miscounted, ranged};
 use crate::line::Line;
 use crate::lookups::{bytes_at, has_file, number_named, section as section_of, total_pages};
 use trace_words::{Cause, Words, decimal, is, is_name, letter, pairs};
-use vm_types::{Config, ProcSpec, Section, SectionKind};
+use vm_types::{Config, ProcSpec, Section, SectionKind, Version};
 
-fn section_kind(word: &[u8]) -> Result<SectionKind, Cause>
-    ensures { result ≡ section_kind word.now }
+// The kind of a section in the page file, which version 2 alone has.
+fn paged_kind(version: Version) -> Result<SectionKind, Cause>
+    ensures { result ≡ paged_kind version }
+{
+    match version {
+        Version::One => Err(Cause::UnknownWord),
+        Version::Two => Ok(SectionKind::Paged),
+    }
+}
+
+fn section_kind(version: Version, word: &[u8]) -> Result<SectionKind, Cause>
+    ensures { result ≡ section_kind version word.now }
 {
     if is(word, b"SHARED") {
         Ok(SectionKind::Shared)
     } else if is(word, b"CRF") {
         Ok(SectionKind::Crf)
+    } else if is(word, b"PAGED") {
+        paged_kind(version)
     } else {
         Err(Cause::UnknownWord)
     }
@@ -39,7 +51,7 @@ pub(crate) fn section<'a>(config: &Config, args: &Words<'a>) -> Result<Line<'a>,
     if !is_name(name) {
         return Err(Breach::at_word(2, Cause::UnknownWord));
     }
-    let kind = marked(3, Bound::Free, section_kind(kind))?;
+    let kind = marked(3, Bound::Free, section_kind(config.version, kind))?;
     let pages = ranged(4, 1, 0xffff_ffff, n)?;
     let sections = config.sections.items();
     if number_named(sections, name).is_some() {

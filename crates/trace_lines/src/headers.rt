@@ -1,6 +1,6 @@
 ghost use Rattle.std.specs.Prelude.{◌≡◌};
 ghost use Rattle.trace_words.specs.Split.{listed};
-ghost use Rattle.trace_lines.specs.Headers.{version_line, frames_line, pagefile_line, param_line, bad_line};
+ghost use Rattle.trace_lines.specs.Headers.{version_of, version_line, most_frames, frames_line, pagefile_line, param_line, bad_line};
 ghost use Rattle.trace_lines.specs.Says.{said};
 ghost use Rattle.trace_lines.specs.Seen.{IsSeen};
 
@@ -9,7 +9,14 @@ use crate::line::Line;
 use crate::params::param_of;
 use crate::seen::Seen;
 use trace_words::{Cause, Words, decimal};
-use vm_types::Config;
+use vm_types::{Config, Version};
+
+// The version of this number, 1 or 2.
+fn version_of(n: u32) -> Version
+    ensures { result ≡ version_of n }
+{
+    if n == 1 { Version::One } else { Version::Two }
+}
 
 pub(crate) fn version<'a>(args: &Words<'a>) -> Result<Line<'a>, Breach>
     ensures { said result ≡ version_line (listed args.now) }
@@ -17,17 +24,27 @@ pub(crate) fn version<'a>(args: &Words<'a>) -> Result<Line<'a>, Breach>
     let Words::One(n) = args else {
         return Err(miscounted(2, 1, args));
     };
-    ranged(2, 1, 1, n)?;
-    Ok(Line::Version)
+    let n = ranged(2, 1, 2, n)?;
+    Ok(Line::Version(version_of(n)))
 }
 
-pub(crate) fn frames<'a>(args: &Words<'a>) -> Result<Line<'a>, Breach>
-    ensures { said result ≡ frames_line (listed args.now) }
+// The most frames that the version has.
+fn most_frames(version: Version) -> u32
+    ensures { result ≡ most_frames version }
+{
+    match version {
+        Version::One => 4096,
+        Version::Two => 16_384,
+    }
+}
+
+pub(crate) fn frames<'a>(config: &Config, args: &Words<'a>) -> Result<Line<'a>, Breach>
+    ensures { said result ≡ frames_line config.now (listed args.now) }
 {
     let Words::One(n) = args else {
         return Err(miscounted(2, 1, args));
     };
-    let n = ranged(2, 8, 4096, n)?;
+    let n = ranged(2, 8, most_frames(config.version), n)?;
     Ok(Line::Frames(n))
 }
 

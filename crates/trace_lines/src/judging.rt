@@ -33,7 +33,7 @@ fn by_keyword<'a>(
     let args = words_of(text);
     match keyword {
         Keyword::Version => version(&args),
-        Keyword::Frames => frames(&args),
+        Keyword::Frames => frames(config, &args),
         Keyword::PageFile => pagefile(&args),
         Keyword::Param => param(&part.given, &args),
         Keyword::Bad => bad(config, seen, &args),

@@ -1,14 +1,14 @@
 use crate::params::Param;
 use arrayvec::ArrayVec;
-use vm_types::{BlockId, Mapping, ProcSpec, SectionKind, Task};
+use vm_types::{BlockId, Mapping, ProcSpec, SectionKind, Task, Version};
 
 /// What a line says.
 #[derive(Debug, Drop)]
 pub enum Line<'a> {
     /// Nothing: it is skipped.
     Nothing,
-    /// VMTRACE 1.
-    Version,
+    /// VMTRACE, and the version.
+    Version(Version),
     /// So many frames.
     Frames(u32),
     /// So many blocks of the page file.

@@ -1,7 +1,9 @@
-ghost use Rattle.std.specs.Prelude.{◌≡◌};
+ghost use Rattle.std.specs.Prelude.{◌≡◌, ◌≤◌, sum_by};
+ghost use Rattle.vm_types.specs.Configuration.{all_pins};
 ghost use Rattle.trace_words.specs.Split.{listed};
+ghost use Rattle.trace_words.specs.VerbWords.{verb_of};
 ghost use Rattle.trace_words.specs.Words.{words};
-ghost use Rattle.trace_lines.specs.Requests.{params_agree, has_frames, unmet, body_line, end_line, asked_by, referred, read_line, reference_line, adjust_line, service_line, by_verb, request_line};
+ghost use Rattle.trace_lines.specs.Requests.{params_agree, has_frames, frames_bound, unmet, body_line, end_line, asked_by, referred, read_line, reference_line, adjust_line, service_line, is_word_of, verb_in, by_verb, request_line};
 ghost use Rattle.trace_lines.specs.Says.{said};
 
 use crate::breach::{Bound, Breach, counted, marked, miscounted};
@@ -9,7 +11,9 @@ use crate::line::Line;
 use crate::lookups::{aligned, process};
 use crate::ranges::{bytes_of, coded_range_of, range_of, write_of};
 use trace_words::{Access, Cause, ServiceName, Verb, Words, next_word, verb_of, words_of};
-use vm_types::{Addr, Config, Mode, Op, Params, Proc, Ref, Request, Service, Task, Width};
+use vm_types::{
+    Addr, Config, Mode, Op, Params, Proc, ProcSpec, Ref, Request, Service, Task, Version, Width,
+};
 
 fn params_agree(params: &Params) -> bool
     ensures { result ≡ params_agree params.now }
@@ -19,17 +23,49 @@ fn params_agree(params: &Params) -> bool
         && params.freelim <= params.freegoal
 }
 
-// Whether each process alone has a frame to spare beside the page at hand.
+// The pages that these processes may lock together.
+fn all_locks(procs: &[ProcSpec]) -> u64
+    requires { sum_by (λ spec. spec.locks) procs.now ≤ 16384 }
+    ensures { result ≡ sum_by (λ spec. spec.locks) procs.now }
+{
+    procs.iter().map(|spec| u64::from(spec.locks)).sum()
+}
+
+// The pages that all processes together may pin: in version 1 none.
+fn all_pins(config: &Config) -> u64
+    requires { sum_by (λ spec. spec.locks) config.now.procs ≤ 16384 }
+    ensures value { result ≡ all_pins config.now }
+    ensures few { result ≤ 16384 }
+{
+    match config.version {
+        Version::One => 0,
+        Version::Two => all_locks(config.procs.items()),
+    }
+}
+
+// Whether each process alone has a frame to spare beside the page at hand and the pages that all of them
+// may pin.
 fn has_frames(config: &Config) -> bool
+    requires { sum_by (λ spec. spec.locks) config.now.procs ≤ 16384 }
     ensures { result ≡ has_frames config.now }
 {
-    let bad = config.bad.items().len() as u64;
+    let kept = config.bad.items().len() as u64 + all_pins(config);
     let frames = u64::from(config.frames);
     config
         .procs
         .items()
         .iter()
-        .all(|spec| u64::from(spec.extent) + bad + 2 <= frames)
+        .all(|spec| u64::from(spec.extent) + kept + 2 <= frames)
+}
+
+// The bound of the frames, which in version 2 the locks are among.
+fn frames_bound(config: &Config) -> Bound
+    ensures { result ≡ frames_bound config.now }
+{
+    match config.version {
+        Version::One => Bound::Frames(config.frames),
+        Version::Two => Bound::FramesAndLocks(config.frames),
+    }
 }
 
 // The first bound that the parameters and the processes break.
@@ -44,11 +80,12 @@ fn unmet(config: &Config) -> Bound
     } else if params.freegoal < params.freelim {
         Bound::FreeLim(params.freegoal)
     } else {
-        Bound::Frames(config.frames)
+        frames_bound(config)
     }
 }
 
 pub(crate) fn body<'a>(config: &Config, args: &Words<'a>) -> Result<Line<'a>, Breach>
+    requires { sum_by (λ spec. spec.locks) config.now.procs ≤ 16384 }
     ensures { said result ≡ body_line config.now (listed args.now) }
 {
     let Words::Zero = args else {
@@ -207,7 +244,57 @@ fn service<'a>(
                 Request::Service(Service::Purge { at, pages }),
             )
         }
+        ServiceName::Pin => {
+            let r = range_of(config, x, args)?;
+            let (at, pages) = (Addr(r.at), r.pages);
+            asked_by(config, r.proc, Request::Service(Service::Pin { at, pages }))
+        }
+        ServiceName::Unpin => {
+            let r = range_of(config, x, args)?;
+            let (at, pages) = (Addr(r.at), r.pages);
+            asked_by(
+                config,
+                r.proc,
+                Request::Service(Service::Unpin { at, pages }),
+            )
+        }
         ServiceName::Adjust => adjust(config, x, args),
+    }
+}
+
+// Whether the version has the service.
+fn is_word_of(version: Version, name: ServiceName) -> bool
+    ensures { result ≡ is_word_of version name }
+{
+    match name {
+        ServiceName::Pin | ServiceName::Unpin => match version {
+            Version::One => false,
+            Version::Two => true,
+        },
+        ServiceName::Create
+        | ServiceName::Delete
+        | ServiceName::Protect
+        | ServiceName::Lock
+        | ServiceName::Unlock
+        | ServiceName::Purge
+        | ServiceName::Adjust => true,
+    }
+}
+
+// The operation or the service of this name, if the version has it.
+fn verb_in(version: Version, word: &[u8]) -> Option<Verb>
+    ensures { result ≡ verb_in version (verb_of word.now) }
+{
+    match verb_of(word) {
+        None => None,
+        Some(Verb::Op(op)) => Some(Verb::Op(op)),
+        Some(Verb::Service(name)) => {
+            if is_word_of(version, name) {
+                Some(Verb::Service(name))
+            } else {
+                None
+            }
+        }
     }
 }
 
@@ -237,5 +324,5 @@ pub(crate) fn request<'a>(config: &Config, x: &[u8], text: &[u8]) -> Result<Line
         return Err(Breach::at_word(2, Cause::Misplaced));
     };
     let args = words_of(rest);
-    by_verb(config, x, verb_of(second), &args)
+    by_verb(config, x, verb_in(config.version, second), &args)
 }

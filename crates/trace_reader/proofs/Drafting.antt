@@ -1,9 +1,10 @@
 -- The declarations so far keep what makes a configuration well formed.
-use Rattle.std.proofs.Common.{◌≡◌, ◌≢◌, ℕ, zero, suc, ◌+◌, ◌<◌, ◌≤◌, true, leb, ◌&&◌, List, [], ◌∷◌, length, All, Some, Ok, refl, sym, subst, arith, lit≤}
+use Rattle.std.proofs.Common.{◌≡◌, ◌≢◌, ℕ, zero, suc, ◌+◌, ◌*◌, ◌<◌, ◌≤◌, true, leb, ◌&&◌, List, [], ◌∷◌, length, All, Some, Ok, refl, subst, arith, lit≤}
 use Rattle.std.specs.Prelude.{IfOk, AllPairs, sum_by, slice_get}
 use Rattle.std.specs.List.{list_all, AllByRecursion}
 use Rattle.std.proofs.lemmas.Bool.{and_parts, leb-true}
 use Rattle.std.proofs.lemmas.List.Elements.{All-nil, All-weaker, All-from_recursion, recursion_from_All}
+use Rattle.std.proofs.lemmas.List.Sums.{sum_by-cons}
 use Rattle.std.proofs.lemmas.Option.{slice_get_within}
 use Rattle.vm_types.specs.Configuration.{AreParams, FitsVersion, IsProcess, IsSection, IsMapping, AreApart, IsBlock, AreFails, IsTask, IsWellFormed, all_pins, section_pages}
 use Rattle.vm_types.specs.declared.config.Config.{Config}
@@ -15,7 +16,6 @@ use Rattle.vm_types.specs.declared.config.Version.{Version}
 use Rattle.vm_types.specs.declared.config.Version.TheVariants as version
 use Rattle.vm_types.specs.declared.names.BlockId.{BlockId}
 use Rattle.vm_types.specs.declared.names.BlockId.TheVariants as block
-use Rattle.vm_types.proofs.VersionOne.{no_pins}
 use Rattle.trace_lines.specs.declared.part.Part.{Part}
 use Rattle.trace_lines.specs.declared.places.Place.{Place}
 use Rattle.trace_lines.specs.declared.places.Place.TheVariants.{Ended}
@@ -41,7 +41,6 @@ no_pairs R i j d lt bound = absurd (omega (arith, bound))
 
 start_sound : AreSound start.config
 start_sound = record {
-  version = refl;
   frames = lit≤ tt;
   bad = All-nil (λ f. f < 0);
   bad_differ = no_pairs (λ f g. f ≢ g);
@@ -59,7 +58,7 @@ start_sound = record {
 }
 
 start_placed : IsPlaced 0 start.config
-start_placed = record { no_bad = λ h. refl; no_fails = λ h. refl; frames = λ h. absurd (omega (arith, h)); pagefile = λ h. absurd (omega (arith, h)); some_process = λ h. absurd (omega (arith, h)); agree = λ h. absurd (omega (arith, h)); room = λ h. absurd (omega (arith, h)) }
+start_placed = record { no_frames = λ h. refl; no_bad = λ h. refl; no_sections = λ h. refl; no_fails = λ h. refl; no_tasks = λ h. refl; frames = λ h. absurd (omega (arith, h)); pagefile = λ h. absurd (omega (arith, h)); some_process = λ h. absurd (omega (arith, h)); agree = λ h. absurd (omega (arith, h)); room = λ h. absurd (omega (arith, h)) }
 
 pub start_draft : IsDraft start
 start_draft = record { sound = start_sound; placed = start_placed }
@@ -83,6 +82,18 @@ keyed c s (block.Swap p n) h =
     let there = slice_get_within c.procs p.0 h.0 h.1 in
     omega (arith, h.2, extent_at c.procs p.0 h.0 (recursion_from_All IsOrdered c.procs s.procs) h.1)
 
+few_locks : (procs : List ProcSpec) → AllByRecursion IsOrdered procs → sum_by (λ (spec : ProcSpec). spec.locks) procs ≤ 1024 * length procs
+few_locks [] each = omega arith
+few_locks (x ∷ procs) each =
+    let is = each.0 in
+    let locks : x.locks + 2 ≤ x.limit = is.locks in
+    let quota : x.limit ≤ x.quota = is.quota in
+    let extent : x.quota ≤ x.extent = is.extent in
+    let most : x.extent ≤ 1024 = is.most in
+    let more = sum_by-cons (λ (spec : ProcSpec). spec.locks) x procs in
+    let rest = few_locks procs each.1 in
+    omega (arith, locks, quota, extent, most, more, rest)
+
 pub bounded : (part : Part) → IsDraft part → IsBounded part.config
 bounded part d =
     let s = d.sound in
@@ -90,6 +101,7 @@ bounded part d =
       pagefile = s.pagefile;
       sections = s.sections.few;
       pages = s.sections.pages;
+      locks = (let few = s.few_procs in let most = few_locks part.config.procs (recursion_from_All IsOrdered part.config.procs s.procs) in omega (arith, few, most));
       slots = All-weaker IsOrdered (λ spec. spec.extent ≤ 1024) (λ spec h. h.most) part.config.procs s.procs;
       blocks = All-weaker (AreFails part.config) (λ f. IsKeyed f.block) (λ f h. keyed part.config s f.block h.block) part.config.fails s.fails;
       maps = All-weaker (IsMapping (length part.config.procs) part.config.sections) IsPaged (λ m h. (h.range.aligned, h.range.some)) part.config.maps s.maps;
@@ -124,25 +136,24 @@ whole_params params s e =
     let a_b = and_parts a b ab.0 in
     record { pfc = s.pfc; hilimit = s.hilimit; lolimit = leb-true params.lolimit params.hilimit a_b.0; waitlimit = s.waitlimit; wait_above = leb-true params.hilimit params.waitlimit a_b.1; wrtcluster = s.wrtcluster; freelim = leb-true params.freelim params.freegoal ab.1; freegoal = s.freegoal; awstime = s.awstime; pfrath = s.pfrath; pfratl = s.pfratl; wsinc = s.wsinc; wsdec = s.wsdec; awsmin = s.awsmin; borrowlim = s.borrowlim }
 
-whole_procs : (frames bad : ℕ) (procs : List ProcSpec) → AllByRecursion IsOrdered procs → list_all (λ spec. leb (spec.extent + bad + 2) frames) procs ≡ true → AllByRecursion (IsProcess frames bad) procs
-whole_procs frames bad [] each e = tt
-whole_procs frames bad (spec ∷ procs) each e =
-    let both = and_parts (leb (spec.extent + bad + 2) frames) (list_all (λ (x : ProcSpec). leb (x.extent + bad + 2) frames) procs) e in
+whole_procs : (frames kept : ℕ) (procs : List ProcSpec) → AllByRecursion IsOrdered procs → list_all (λ spec. leb (spec.extent + kept + 2) frames) procs ≡ true → AllByRecursion (IsProcess frames kept) procs
+whole_procs frames kept [] each e = tt
+whole_procs frames kept (spec ∷ procs) each e =
+    let both = and_parts (leb (spec.extent + kept + 2) frames) (list_all (λ (x : ProcSpec). leb (x.extent + kept + 2) frames) procs) e in
     let s = each.0 in
-    (record { locks = s.locks; quota = s.quota; extent = s.extent; most = s.most; room = leb-true (spec.extent + bad + 2) frames both.0 }, whole_procs frames bad procs each.1 both.1)
+    (record { locks = s.locks; quota = s.quota; extent = s.extent; most = s.most; room = leb-true (spec.extent + kept + 2) frames both.0 }, whole_procs frames kept procs each.1 both.1)
 
 pub whole : (c : Config) → AreSound c → IsPlaced 5 c → IsWellFormed c
 whole c s p = record {
-  frames = (p.frames (lit≤ tt), (let few = s.frames in omega (arith, few)));
-  of_version = subst (λ (v : Version). FitsVersion v c.frames) (sym s.version) s.frames;
+  frames = (p.frames (lit≤ tt), few_frames c.version s.frames);
+  of_version = s.frames;
   bad = s.bad;
   bad_differ = s.bad_differ;
   pagefile = (p.pagefile (lit≤ tt), s.pagefile);
   params = whole_params c.params s.params (p.agree (lit≤ tt));
   sections = s.sections;
   some_process = (p.some_process (lit≤ tt), s.few_procs);
-  procs = subst (λ (kept : ℕ). All (IsProcess c.frames kept) c.procs) none
-      (All-from_recursion (IsProcess c.frames (length c.bad)) c.procs (whole_procs c.frames (length c.bad) c.procs (recursion_from_All IsOrdered c.procs s.procs) (p.room (lit≤ tt))));
+  procs = All-from_recursion (IsProcess c.frames (length c.bad + all_pins c)) c.procs (whole_procs c.frames (length c.bad + all_pins c) c.procs (recursion_from_All IsOrdered c.procs s.procs) (p.room (lit≤ tt)));
   maps = s.maps;
   maps_apart = s.maps_apart;
   fails = s.fails;
@@ -150,8 +161,9 @@ whole c s p = record {
   few_tasks = s.few_tasks;
   body = s.body;
 } where
-  none : length c.bad ≡ length c.bad + all_pins c
-  none = let pins = no_pins c s.version in omega (arith, pins)
+  few_frames : (v : Version) → FitsVersion v c.frames → c.frames ≤ 16384
+  few_frames version.One few = omega (arith, few)
+  few_frames version.Two few = few
 
 pub read_whole : (part : Part) → IsDraft part → part.place ≡ Ended → IsWellFormed part.config
 read_whole part d e = whole part.config d.sound (subst (λ (p : Place). IsPlaced (rank p) part.config) e d.placed)

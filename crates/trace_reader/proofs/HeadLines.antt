@@ -12,8 +12,8 @@ use Rattle.trace_lines.specs.Breaches.{at_word}
 use Rattle.trace_lines.specs.declared.places.Place.{Place}
 use Rattle.trace_lines.specs.declared.places.Place.TheVariants.{Version, Frames, PageFile, Declarations, Requests, Ended}
 use Rattle.trace_lines.specs.Grammar.{content}
-use Rattle.line_source.specs.declared.lines.Line.TheVariants.{Text}
-use Rattle.line_source.specs.HandedOut.{IsInLine, HandsOut, Parts}
+use Rattle.outside_io.specs.declared.lines.Line.TheVariants.{Text}
+use Rattle.outside_io.specs.HandedOut.{IsInLine, HandsOut, Parts}
 use Rattle.trace_reader.specs.Changes.{start}
 use Rattle.trace_reader.specs.Head.{Faulty, HeadLine, begins_log, goes_on, is_faulty, by_breach, by_trace, head_line, head_of, judge_head, head_at_end, after_line}
 use Rattle.trace_reader.specs.Head as head

@@ -7,9 +7,9 @@ use Rattle.vm_types.specs.declared.faults.Failed.{Failed}
 use Rattle.trace_words.specs.declared.cause.Cause.TheVariants.{LineTooLong}
 use Rattle.trace_lines.specs.declared.part.Part.{Part}
 use Rattle.trace_lines.specs.Breaches.{at_word}
-use Rattle.line_source.specs.declared.lines.Line.{Line}
-use Rattle.line_source.specs.declared.lines.Line.TheVariants.{Text, Long, End}
-use Rattle.line_source.specs.HandedOut.{HandsOut, Gives, Takes}
+use Rattle.outside_io.specs.declared.lines.Line.{Line}
+use Rattle.outside_io.specs.declared.lines.Line.TheVariants.{Text, Long, End}
+use Rattle.outside_io.specs.HandedOut.{HandsOut, Gives, Takes}
 use Rattle.trace_reader.specs.declared.fault.TraceFault.{TraceFault}
 use Rattle.trace_reader.specs.declared.fault.TraceFault.TheVariants as fault
 use Rattle.trace_reader.specs.Changes.{start}

@@ -5,9 +5,9 @@ use Rattle.std.specs.Io.KnownBytes.{IsAtEnd}
 use Rattle.std.proofs.Math.Nat.{add-zero}
 use Rattle.std.proofs.lemmas.List.{append-nil, get_or-drop, take-append-le}
 use Rattle.vm_types.specs.declared.config.Config.{Config}
-use Rattle.line_source.specs.declared.lines.Line.TheVariants.{Text, Long, End}
-use Rattle.line_source.specs.HandedOut.{HandsOut}
-use Rattle.line_source.specs.LineText.{line_text}
+use Rattle.outside_io.specs.declared.lines.Line.TheVariants.{Text, Long, End}
+use Rattle.outside_io.specs.HandedOut.{HandsOut}
+use Rattle.outside_io.specs.LineText.{line_text}
 use Rattle.trace_words.specs.declared.cause.Cause.TheVariants.{LineTooLong}
 use Rattle.trace_lines.specs.declared.part.Part.{Part}
 use Rattle.trace_lines.specs.Breaches.{at_word}

@@ -1,17 +1,20 @@
 -- What a line that breaks no rule says: each kind of line by its words.
-use Rattle.std.proofs.Common.{◌≡◌, ℕ, suc, ◌+◌, ◌%◌, ◌^◌, ◌<◌, ◌≤◌, true, false, not, eqb, leb, ltb, ◌&&◌, List, [], ◌∷◌, length, All, Option, Some, None, Ok, refl, arith, ap}
+use Rattle.std.proofs.Common.{◌≡◌, ℕ, suc, ◌+◌, ◌%◌, ◌^◌, ◌<◌, ◌≤◌, Bool, true, false, cond, not, eqb, leb, ltb, ◌&&◌, List, [], ◌∷◌, length, All, Option, Some, None, Ok, refl, sym, arith, ap}
 use Rattle.std.specs.Prelude.{IfOk, codes, slice_get, is_some}
 use Rattle.std.specs.List.{list_any}
 use Rattle.std.specs.Option.{option_map_or}
-use Rattle.std.proofs.lemmas.Bool.{and_parts, leb-true, ltb-true, not-true}
+use Rattle.std.proofs.lemmas.Bool.{and_parts, leb-true, ltb-true, not-true, true≢false}
 use Rattle.std.proofs.lemmas.List.Elements.{All-nil, All-cons}
-use Rattle.vm_types.specs.Configuration.{IsBlock, IsMapping}
+use Rattle.vm_types.specs.Configuration.{FitsVersion, IsBlock, IsMapping}
 use Rattle.vm_types.specs.Kinds.{is_paged_kind}
 use Rattle.vm_types.specs.WellFormed.{IsCode, IsRange, IsRequestOf, IsWellFormedRequest, width_bytes}
 use Rattle.vm_types.specs.declared.config.Config.{Config}
 use Rattle.vm_types.specs.declared.config.Mapping.{Mapping}
 use Rattle.vm_types.specs.declared.config.Origin.TheVariants as origin
 use Rattle.vm_types.specs.declared.config.ProcSpec.{ProcSpec}
+use Rattle.vm_types.specs.declared.config.SectionKind.{SectionKind}
+use Rattle.vm_types.specs.declared.config.Version.{Version}
+use Rattle.vm_types.specs.declared.config.Version.TheVariants as version
 use Rattle.vm_types.specs.declared.names.BlockId.TheVariants as block
 use Rattle.vm_types.specs.declared.reference.Mode.{Mode}
 use Rattle.vm_types.specs.declared.reference.Width.{Width}
@@ -40,14 +43,14 @@ use Rattle.trace_lines.specs.declared.part.Part.{Part}
 use Rattle.trace_lines.specs.declared.ranges.Written.{Written}
 use Rattle.trace_lines.specs.declared.ranges.Range.{Range}
 use Rattle.trace_lines.specs.declared.ranges.CodedRange.{CodedRange}
-use Rattle.trace_lines.specs.Declarations.{are_ordered, has_room, section_kind, section_line, data_line, process_line}
+use Rattle.trace_lines.specs.Declarations.{are_ordered, has_room, paged_kind, section_kind, section_line, data_line, process_line}
 use Rattle.trace_lines.specs.Fails.{is_same, slots_at, block_named, call_numbers, fail_line}
-use Rattle.trace_lines.specs.Headers.{version_line, frames_line, pagefile_line, param_line, bad_line, is_listed}
+use Rattle.trace_lines.specs.Headers.{version_line, most_frames, frames_line, pagefile_line, param_line, bad_line, is_listed}
 use Rattle.trace_lines.specs.Lookups.{process, section, number_named, or_none, pages_at, blocks_at, bytes_at, has_file, aligned, is_inside}
 use Rattle.trace_lines.specs.Mappings.{overlaps, mapped, mapzero_line, mapsec_line}
 use Rattle.trace_lines.specs.ParamWords.{param_of, least, most}
 use Rattle.trace_lines.specs.Places.{rank}
-use Rattle.trace_lines.specs.Requests.{params_agree, has_frames, body_line, end_line, asked_by, read_line, write_of, reference_line, range_of, coded_range_of, adjust_line, service_line, by_verb, request_line}
+use Rattle.trace_lines.specs.Requests.{params_agree, has_frames, body_line, end_line, asked_by, read_line, write_of, reference_line, range_of, coded_range_of, adjust_line, service_line, has_pins, is_word_of, verb_in, by_verb, request_line}
 use Rattle.trace_lines.specs.Says as says
 use Rattle.trace_lines.specs.Says.{Says}
 use Rattle.trace_reader.specs.Right.{IsOrdered, Fits, place_for}
@@ -59,12 +62,18 @@ Gives part place said = Fits part said × (place_for said (rank part.place) ≡ 
 
 pub version_gives : (part : Part) (words : List (List ℕ)) → IfOk (version_line words) (Gives part 0)
 version_gives part [] = tt
-version_gives part (n ∷ []) = pass_gives _ _ (decimal_within 1 1 n) _ (Gives part 0) (λ _. (tt, refl))
+version_gives part (n ∷ []) = pass_gives _ _ (decimal_within 1 2 n) _ (Gives part 0) (λ _. (tt, refl))
 version_gives part (a ∷ b ∷ more) = tt
 
-pub frames_gives : (part : Part) (words : List (List ℕ)) → IfOk (frames_line words) (Gives part 1)
+fits_version : (v : Version) (n : ℕ) → n ≤ most_frames v → FitsVersion v n
+fits_version version.One n few = few
+fits_version version.Two n few = few
+
+pub frames_gives : (part : Part) (words : List (List ℕ)) → IfOk (frames_line part.config words) (Gives part 1)
 frames_gives part [] = tt
-frames_gives part (n ∷ []) = step_gives _ _ (decimal_within 8 4096 n) _ (InRange 8 4096) (Gives part 1) (number_gives 8 4096 n) (λ n range. (range, refl))
+frames_gives part (n ∷ []) =
+    let most = most_frames part.config.version in
+    step_gives _ _ (decimal_within 8 most n) _ (InRange 8 most) (Gives part 1) (number_gives 8 most n) (λ n range. ((range.0, fits_version part.config.version n range.1), refl))
 frames_gives part (a ∷ b ∷ more) = tt
 
 pub pagefile_gives : (part : Part) (words : List (List ℕ)) → IfOk (pagefile_line words) (Gives part 2)
@@ -91,20 +100,30 @@ none_found : (o : Option ℕ) → not (is_some o) ≡ true → o ≡ None
 none_found None e = refl
 none_found (Some n) e = cc
 
--- SHARED and CRF have files
-kind_gives : (word : List ℕ) → IfOk (section_kind word) (λ of_kind. is_paged_kind of_kind ≡ false)
-kind_gives word = if_gives (is word (codes "SHARED")) _ _ _ refl (if_gives (is word (codes "CRF")) _ _ _ refl tt)
+-- a section in the page file is of version 2
+abbrev IsOfVersion : Version → SectionKind → Type 0
+IsOfVersion v of_kind = is_paged_kind of_kind ≡ true → v ≡ version.Two
+
+paged_gives : (v : Version) → IfOk (paged_kind v) (IsOfVersion v)
+paged_gives version.One = tt
+paged_gives version.Two = λ paged. refl
+
+kind_gives : (v : Version) (word : List ℕ) → IfOk (section_kind v word) (IsOfVersion v)
+kind_gives v word =
+    if_gives (is word (codes "SHARED")) _ _ (IsOfVersion v) (λ paged. absurd (true≢false (sym paged)))
+    (if_gives (is word (codes "CRF")) _ _ (IsOfVersion v) (λ paged. absurd (true≢false (sym paged)))
+    (if_gives (is word (codes "PAGED")) _ _ (IsOfVersion v) (paged_gives v) tt))
 
 pub section_gives : (part : Part) (words : List (List ℕ)) → IfOk (section_line part.config words) (Gives part 3)
 section_gives part [] = tt
 section_gives part (a ∷ []) = tt
 section_gives part (a ∷ b ∷ []) = tt
 section_gives part (name ∷ word ∷ n ∷ []) =
-    owed_gives (is_name name) _ _ (Gives part 3) (λ good. step_gives _ _ (section_kind word) _ (λ of_kind. is_paged_kind of_kind ≡ false) (Gives part 3) (kind_gives word) (λ of_kind file.
+    owed_gives (is_name name) _ _ (Gives part 3) (λ good. step_gives _ _ (section_kind part.config.version word) _ (IsOfVersion part.config.version) (Gives part 3) (kind_gives part.config.version word) (λ of_kind paged.
     step_gives _ _ (decimal_within 1 4294967295 n) _ (InRange 1 4294967295) (Gives part 3) (number_gives 1 4294967295 n) (λ pages range.
     owed_gives (not (is_some (number_named part.config.sections name))) _ _ (Gives part 3) (λ new.
     owed_gives (has_room part.config.sections pages) _ (Ok (says.Section name of_kind pages)) (Gives part 3) (λ room.
-    ((name_gives name good, range.0, none_found (number_named part.config.sections name) new, room, file), refl))))))
+    ((name_gives name good, range.0, none_found (number_named part.config.sections name) new, room, paged), refl))))))
 section_gives part (a ∷ b ∷ c ∷ d ∷ more) = tt
 
 pub data_gives : (part : Part) (words : List (List ℕ)) → IfOk (data_line part.config words) (Gives part 3)
@@ -306,19 +325,33 @@ adjust_gives part x (limit ∷ []) =
     step_gives _ _ (decimal limit) _ IsWord (Gives part 4) (decimal_gives limit) (λ n small. asked_gives part p (wanted.Service (asked.Adjust n)) there small tt))
 adjust_gives part x (a ∷ b ∷ more) = tt
 
-service_gives : (part : Part) (x : List ℕ) (name : ServiceName) (words : List (List ℕ)) → IfOk (service_line part.config x name words) (Gives part 4)
-service_gives part x service.Create words = bind_gives (coded_range_of part.config x words) _ (IsGoodCodedRange part) (Gives part 4) (coded_range_gives part x words) (λ r good. asked_gives part r.proc (wanted.Service (asked.Create (record { 0 = r.at }) r.pages r.prot)) good.0 (good.1, good.2) tt)
-service_gives part x service.Protect words = bind_gives (coded_range_of part.config x words) _ (IsGoodCodedRange part) (Gives part 4) (coded_range_gives part x words) (λ r good. asked_gives part r.proc (wanted.Service (asked.Protect (record { 0 = r.at }) r.pages r.prot)) good.0 (good.1, good.2) tt)
-service_gives part x service.Delete words = bind_gives (range_of part.config x words) _ (IsGoodRange part) (Gives part 4) (range_gives part x words) (λ r good. asked_gives part r.proc (wanted.Service (asked.Delete (record { 0 = r.at }) r.pages)) good.0 good.1 tt)
-service_gives part x service.Lock words = bind_gives (range_of part.config x words) _ (IsGoodRange part) (Gives part 4) (range_gives part x words) (λ r good. asked_gives part r.proc (wanted.Service (asked.Lock (record { 0 = r.at }) r.pages)) good.0 good.1 tt)
-service_gives part x service.Unlock words = bind_gives (range_of part.config x words) _ (IsGoodRange part) (Gives part 4) (range_gives part x words) (λ r good. asked_gives part r.proc (wanted.Service (asked.Unlock (record { 0 = r.at }) r.pages)) good.0 good.1 tt)
-service_gives part x service.Purge words = bind_gives (range_of part.config x words) _ (IsGoodRange part) (Gives part 4) (range_gives part x words) (λ r good. asked_gives part r.proc (wanted.Service (asked.Purge (record { 0 = r.at }) r.pages)) good.0 good.1 tt)
-service_gives part x service.Adjust words = adjust_gives part x words
+-- pages are pinned in version 2
+has_two : (v : Version) → has_pins v ≡ true → v ≡ version.Two
+has_two version.One known = absurd (true≢false (sym known))
+has_two version.Two known = refl
 
-verb_gives : (part : Part) (x : List ℕ) (words : List (List ℕ)) (verb : Option Verb) → IfOk (by_verb part.config x words verb) (Gives part 4)
-verb_gives part x words None = pass_gives _ _ (process part.config.procs x) _ (Gives part 4) (λ _. tt)
+service_gives : (part : Part) (x : List ℕ) (name : ServiceName) (words : List (List ℕ)) → is_word_of part.config.version name ≡ true → IfOk (service_line part.config x name words) (Gives part 4)
+service_gives part x service.Create words known = bind_gives (coded_range_of part.config x words) _ (IsGoodCodedRange part) (Gives part 4) (coded_range_gives part x words) (λ r good. asked_gives part r.proc (wanted.Service (asked.Create (record { 0 = r.at }) r.pages r.prot)) good.0 (good.1, good.2) tt)
+service_gives part x service.Protect words known = bind_gives (coded_range_of part.config x words) _ (IsGoodCodedRange part) (Gives part 4) (coded_range_gives part x words) (λ r good. asked_gives part r.proc (wanted.Service (asked.Protect (record { 0 = r.at }) r.pages r.prot)) good.0 (good.1, good.2) tt)
+service_gives part x service.Delete words known = bind_gives (range_of part.config x words) _ (IsGoodRange part) (Gives part 4) (range_gives part x words) (λ r good. asked_gives part r.proc (wanted.Service (asked.Delete (record { 0 = r.at }) r.pages)) good.0 good.1 tt)
+service_gives part x service.Lock words known = bind_gives (range_of part.config x words) _ (IsGoodRange part) (Gives part 4) (range_gives part x words) (λ r good. asked_gives part r.proc (wanted.Service (asked.Lock (record { 0 = r.at }) r.pages)) good.0 good.1 tt)
+service_gives part x service.Unlock words known = bind_gives (range_of part.config x words) _ (IsGoodRange part) (Gives part 4) (range_gives part x words) (λ r good. asked_gives part r.proc (wanted.Service (asked.Unlock (record { 0 = r.at }) r.pages)) good.0 good.1 tt)
+service_gives part x service.Purge words known = bind_gives (range_of part.config x words) _ (IsGoodRange part) (Gives part 4) (range_gives part x words) (λ r good. asked_gives part r.proc (wanted.Service (asked.Purge (record { 0 = r.at }) r.pages)) good.0 good.1 tt)
+service_gives part x service.Pin words known = bind_gives (range_of part.config x words) _ (IsGoodRange part) (Gives part 4) (range_gives part x words) (λ r good. asked_gives part r.proc (wanted.Service (asked.Pin (record { 0 = r.at }) r.pages)) good.0 good.1 (has_two part.config.version known))
+service_gives part x service.Unpin words known = bind_gives (range_of part.config x words) _ (IsGoodRange part) (Gives part 4) (range_gives part x words) (λ r good. asked_gives part r.proc (wanted.Service (asked.Unpin (record { 0 = r.at }) r.pages)) good.0 good.1 (has_two part.config.version known))
+service_gives part x service.Adjust words known = adjust_gives part x words
+
+unknown_gives : (part : Part) (x : List ℕ) (words : List (List ℕ)) → IfOk (by_verb part.config x words None) (Gives part 4)
+unknown_gives part x words = pass_gives _ _ (process part.config.procs x) _ (Gives part 4) (λ _. tt)
+
+verb_gives : (part : Part) (x : List ℕ) (words : List (List ℕ)) (verb : Option Verb) → IfOk (by_verb part.config x words (verb_in part.config.version verb)) (Gives part 4)
+verb_gives part x words None = unknown_gives part x words
 verb_gives part x words (Some (Op op)) = reference_gives part x op.mode op.access words
-verb_gives part x words (Some (Service name)) = service_gives part x name words
+verb_gives part x words (Some (Service name)) = go (is_word_of part.config.version name) refl
+  where
+    go : (b : Bool) → is_word_of part.config.version name ≡ b → IfOk (by_verb part.config x words (cond b (Some (Service name)) None)) (Gives part 4)
+    go true known = service_gives part x name words known
+    go false known = unknown_gives part x words
 
 pub request_gives : (part : Part) (x : List ℕ) (words : List (List ℕ)) → IfOk (request_line part.config x words) (Gives part 4)
 request_gives part x [] = tt

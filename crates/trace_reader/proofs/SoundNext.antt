@@ -5,7 +5,7 @@ use Rattle.std.proofs.lemmas.Slice.Eq.{bytes_eq-Decides}
 use Rattle.std.specs.List.{position_from, AllByRecursion}
 use Rattle.std.proofs.lemmas.Iterator.Adapters.{position_from-zero}
 use Rattle.std.proofs.lemmas.List.Elements.{All-from_recursion}
-use Rattle.std.proofs.lemmas.Bool.{and_parts, leb-true, ltb-true, true≢false}
+use Rattle.std.proofs.lemmas.Bool.{and_parts, leb-true, ltb-true}
 use Rattle.std.proofs.lemmas.List.{length-replicate}
 use Rattle.vm_types.specs.Configuration.{IsName, IsSection, section_pages}
 use Rattle.vm_types.specs.Kinds.{is_paged_kind}
@@ -13,6 +13,7 @@ use Rattle.vm_types.specs.declared.config.Params.{Params}
 use Rattle.vm_types.specs.declared.config.Section.{Section as Held}
 use Rattle.vm_types.specs.declared.config.SectionKind.{SectionKind}
 use Rattle.vm_types.specs.declared.config.Version.{Version}
+use Rattle.vm_types.specs.declared.config.Version.TheVariants as version
 use Rattle.trace_lines.specs.declared.params.Param.{Param as Parameter}
 use Rattle.trace_lines.specs.declared.params.Param.TheVariants as param
 use Rattle.trace_lines.specs.declared.part.Part.{Part}
@@ -25,7 +26,7 @@ use Rattle.trace_reader.specs.Changes.{blank_section, with_bytes, changed}
 use Rattle.trace_reader.specs.Drafts.{AreInRange, AreSound, IsPlaced}
 use Rattle.trace_reader.specs.Right.{IsRight}
 use Rattle.trace_reader.proofs.Listing.{same_with_bytes}
-use Rattle.trace_reader.proofs.Sounding.{with_bad, with_frames, with_pagefile, with_params, with_section, with_sections, with_process, with_map, with_fail, with_task}
+use Rattle.trace_reader.proofs.Sounding.{with_bad, with_frames, with_pagefile, with_params, with_section, with_sections, with_process, with_map, with_fail, with_task, with_version}
 
 params_go : (p : Parameter) (n : ℕ) (params : Params) → AreInRange params → least p ≤ n → n ≤ most p → AreInRange (with_param p n params)
 params_go param.Pfc n params s low high = record { pfc = (low, high); hilimit = s.hilimit; lolimit = s.lolimit; waitlimit = s.waitlimit; wrtcluster = s.wrtcluster; freelim = s.freelim; freegoal = s.freegoal; awstime = s.awstime; pfrath = s.pfrath; pfratl = s.pfratl; wsinc = s.wsinc; wsdec = s.wsdec; awsmin = s.awsmin; borrowlim = s.borrowlim }
@@ -67,14 +68,14 @@ not_named sections name none k d lt same =
 blank_pages : (name : List ℕ) (of_kind : SectionKind) (pages : ℕ) → section_pages (blank_section name of_kind pages) ≡ pages
 blank_pages name of_kind pages = ap (λ (n : ℕ). n / 512) (length-replicate (512 * pages) 0) ∙ omega arith
 
-blank_good : (v : Version) (name : List ℕ) (of_kind : SectionKind) (pages : ℕ) → is_paged_kind of_kind ≡ false → IsName name → 1 ≤ pages → IsSection v (blank_section name of_kind pages)
-blank_good v name of_kind pages file good some =
+blank_good : (v : Version) (name : List ℕ) (of_kind : SectionKind) (pages : ℕ) → (is_paged_kind of_kind ≡ true → v ≡ version.Two) → IsName name → 1 ≤ pages → IsSection v (blank_section name of_kind pages)
+blank_good v name of_kind pages of_version good some =
     let count : length (replicate (512 * pages) 0) ≡ 512 * pages = length-replicate (512 * pages) 0 in
-    record { name = good; whole = ap (λ (n : ℕ). n % 512) count ∙ omega arith; some = omega (arith, count, some); paged = λ paged. absurd (true≢false (sym paged ∙ file)) }
+    record { name = good; whole = ap (λ (n : ℕ). n % 512) count ∙ omega arith; some = omega (arith, count, some); paged = λ paged. (of_version paged, ap (λ (n : ℕ). replicate n 0) (sym count)) }
 
 pub sound_next : (part : Part) (said : Says) → AreSound part.config → IsPlaced (rank part.place) part.config → IsRight part said → AreSound (changed part said).config
 sound_next part says.Nothing s p r = s
-sound_next part says.Version s p r = s
+sound_next part (says.Version v) s p r = let here : rank part.place ≡ 0 = r.here in with_version part.config v s (p.no_frames (omega arith)) (p.no_sections (omega arith)) (p.no_tasks (omega arith))
 sound_next part (says.Frames n) s p r = let here : rank part.place ≡ 1 = r.here in with_frames part.config n s r.fits.1 (p.no_bad (omega arith))
 sound_next part (says.PageFile n) s p r = let here : rank part.place ≡ 2 = r.here in with_pagefile part.config n s r.fits.1 (p.no_fails (omega arith))
 sound_next part (says.Param q n) s p r = with_params part.config (with_param q n part.config.params) s (params_go q n part.config.params s.params r.fits.0 r.fits.1)

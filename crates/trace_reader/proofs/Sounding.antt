@@ -1,5 +1,5 @@
 -- The declarations so far keep what makes a configuration well formed.
-use Rattle.std.proofs.Common.{◌≡◌, ◌≢◌, ℕ, ◌+◌, ◌*◌, ◌%◌, ◌<◌, ◌≤◌, Bool, true, false, eqb, ltb, ◌&&◌, List, [], ◌∷◌, ◌++◌, length, get_or, All, Some, refl, sym, ap, subst, ◌∙◌, arith, inl, inr, eq-eqb, ◌⊎◌}
+use Rattle.std.proofs.Common.{◌≡◌, ◌≢◌, ℕ, ◌+◌, ◌*◌, ◌%◌, ◌<◌, ◌≤◌, Bool, true, false, eqb, ltb, ◌&&◌, List, [], ◌∷◌, ◌++◌, length, get_or, All, Some, refl, sym, ap, subst, ◌∙◌, arith, lit≤, inl, inr, eq-eqb, ◌⊎◌}
 use Rattle.std.specs.Prelude.{replicate, sum_by, slice_get}
 use Rattle.std.specs.List.{list_any}
 use Rattle.std.proofs.lemmas.Bool.{ltb-false, eqb-false}
@@ -7,7 +7,7 @@ use Rattle.std.proofs.lemmas.List.{length-append}
 use Rattle.std.proofs.lemmas.List.Elements.{All-nil, All-push, All-weaker}
 use Rattle.std.proofs.lemmas.List.Quantifiers.{all_pairs_push}
 use Rattle.std.proofs.lemmas.List.Sums.{sum_by-append, sum_by-cons}
-use Rattle.vm_types.specs.Configuration.{AreSections, IsName, IsSection, HasPages, IsMapping, AreApart, IsBlock, AreFails, IsTask, section_pages}
+use Rattle.vm_types.specs.Configuration.{FitsVersion, AreSections, IsName, IsSection, HasPages, IsMapping, AreApart, IsBlock, AreFails, IsTask, section_pages}
 use Rattle.vm_types.specs.Kinds.{is_paged_kind, paged_of}
 use Rattle.vm_types.specs.declared.config.Config.{Config}
 use Rattle.vm_types.specs.declared.config.Fails.{Fails}
@@ -19,6 +19,7 @@ use Rattle.vm_types.specs.declared.config.ProcSpec.{ProcSpec}
 use Rattle.vm_types.specs.declared.config.Section.{Section as Held}
 use Rattle.vm_types.specs.declared.config.Task.{Task}
 use Rattle.vm_types.specs.declared.config.Version.{Version}
+use Rattle.vm_types.specs.declared.config.Version.TheVariants as version
 use Rattle.vm_types.specs.declared.names.BlockId.{BlockId}
 use Rattle.vm_types.specs.declared.names.BlockId.TheVariants as block
 use Rattle.trace_lines.specs.Fails.{is_same}
@@ -117,7 +118,6 @@ sections_same v xs ys s same = record {
 
 pub with_bad : (c : Config) (f : ℕ) → AreSound c → f < c.frames → is_listed c.bad f ≡ false → AreSound (record c { bad = c.bad ++ f ∷ [] })
 with_bad c f s below new = record {
-  version = s.version;
   frames = s.frames;
   bad = All-push (λ g. g < c.frames) c.bad f s.bad below;
   bad_differ = all_pairs_push (λ g h. g ≢ h) c.bad f s.bad_differ (λ k d lt. eqb-false (get_or c.bad k d) f (none_passes (λ g. eqb g f) c.bad new k d lt));
@@ -134,9 +134,8 @@ with_bad c f s below new = record {
   body = s.body;
 }
 
-pub with_frames : (c : Config) (n : ℕ) → AreSound c → n ≤ 4096 → c.bad ≡ [] → AreSound (record c { frames = n })
+pub with_frames : (c : Config) (n : ℕ) → AreSound c → FitsVersion c.version n → c.bad ≡ [] → AreSound (record c { frames = n })
 with_frames c n s few none = record {
-  version = s.version;
   frames = few;
   bad = subst (λ (fs : List ℕ). All (λ f. f < n) fs) (sym none) (All-nil (λ f. f < n));
   bad_differ = s.bad_differ;
@@ -155,7 +154,6 @@ with_frames c n s few none = record {
 
 pub with_pagefile : (c : Config) (n : ℕ) → AreSound c → n ≤ 16384 → c.fails ≡ [] → AreSound (record c { pagefile = n })
 with_pagefile c n s few none = record {
-  version = s.version;
   frames = s.frames;
   bad = s.bad;
   bad_differ = s.bad_differ;
@@ -174,7 +172,6 @@ with_pagefile c n s few none = record {
 
 pub with_params : (c : Config) (params : Params) → AreSound c → AreInRange params → AreSound (record c { params = params })
 with_params c params s good = record {
-  version = s.version;
   frames = s.frames;
   bad = s.bad;
   bad_differ = s.bad_differ;
@@ -196,7 +193,6 @@ pub with_section : (c : Config) (x : Held) → AreSound c → IsSection c.versio
 with_section c x s good few pages differ =
     let go : SectionsGo c (record c { sections = c.sections ++ x ∷ [] }) = λ k y e. (y, get_append c.sections (x ∷ []) k y e, refl, refl) in
     record {
-      version = s.version;
       frames = s.frames;
       bad = s.bad;
       bad_differ = s.bad_differ;
@@ -217,7 +213,6 @@ pub with_sections : (c : Config) (ys : List Held) → AreSound c → AreSame c.s
 with_sections c ys s same =
     let go : SectionsGo c (record c { sections = ys }) = λ k x e. (let y = same_get c.sections ys k x same e in (y.0, y.1, same_pages x y.0 y.2, (y.2).kind)) in
     record {
-      version = s.version;
       frames = s.frames;
       bad = s.bad;
       bad_differ = s.bad_differ;
@@ -238,7 +233,6 @@ pub with_process : (c : Config) (spec : ProcSpec) → AreSound c → IsOrdered s
 with_process c spec s good room =
     let longer : length (c.procs ++ spec ∷ []) ≡ length c.procs + 1 = length-append c.procs (spec ∷ []) in
     record {
-      version = s.version;
       frames = s.frames;
       bad = s.bad;
       bad_differ = s.bad_differ;
@@ -257,7 +251,6 @@ with_process c spec s good room =
 
 pub with_map : (c : Config) (m : Mapping) → AreSound c → IsMapping (length c.procs) c.sections m → list_any (λ b. overlaps b m) c.maps ≡ false → AreSound (record c { maps = c.maps ++ m ∷ [] })
 with_map c m s good new = record {
-  version = s.version;
   frames = s.frames;
   bad = s.bad;
   bad_differ = s.bad_differ;
@@ -276,7 +269,6 @@ with_map c m s good new = record {
 
 pub with_fail : (c : Config) (f : Fails) → AreSound c → AreFails c f → list_any (λ g. is_same g.block f.block) c.fails ≡ false → AreSound (record c { fails = c.fails ++ f ∷ [] })
 with_fail c f s good new = record {
-  version = s.version;
   frames = s.frames;
   bad = s.bad;
   bad_differ = s.bad_differ;
@@ -295,7 +287,6 @@ with_fail c f s good new = record {
 
 pub with_task : (c : Config) (t : Task) → AreSound c → IsTask c.version (length c.procs) t → length c.body < 100000 → AreSound (record c { body = c.body ++ t ∷ [] })
 with_task c t s good room = record {
-  version = s.version;
   frames = s.frames;
   bad = s.bad;
   bad_differ = s.bad_differ;
@@ -310,4 +301,26 @@ with_task c t s good room = record {
   fails_differ = s.fails_differ;
   few_tasks = simp length-append (omega arith);
   body = All-push (IsTask c.version (length c.procs)) c.body t s.body good;
+}
+
+none_fit : (v : Version) → FitsVersion v 0
+none_fit version.One = lit≤ tt
+none_fit version.Two = lit≤ tt
+
+pub with_version : (c : Config) (v : Version) → AreSound c → c.frames ≡ 0 → c.sections ≡ [] → c.body ≡ [] → AreSound (record c { version = v })
+with_version c v s no_frames no_sections no_tasks = record {
+  frames = subst (FitsVersion v) (sym no_frames) (none_fit v);
+  bad = s.bad;
+  bad_differ = s.bad_differ;
+  pagefile = s.pagefile;
+  params = s.params;
+  sections = subst (AreSections v) (sym no_sections) (record { few = lit≤ tt; pages = lit≤ tt; each = All-nil (IsSection v); differ = λ i j d lt bound. absurd (omega (arith, bound)) });
+  few_procs = s.few_procs;
+  procs = s.procs;
+  maps = s.maps;
+  maps_apart = s.maps_apart;
+  fails = fails_go c (record c { version = v }) (stay c) (stay_procs c) refl c.fails s.fails;
+  fails_differ = s.fails_differ;
+  few_tasks = s.few_tasks;
+  body = subst (All (IsTask v (length c.procs))) (sym no_tasks) (All-nil (IsTask v (length c.procs)));
 }

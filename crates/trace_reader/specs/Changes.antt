@@ -38,7 +38,7 @@ at part config = record part { config = config }
 -- the declarations after a line that says this
 abbrev pub changed : Part → Says → Part
 changed part Nothing = part
-changed part Version = record part { place = place.Frames }
+changed part (Version v) = record { place = place.Frames; config = record part.config { version = v }; given = part.given }
 changed part (Frames n) = record { place = place.PageFile; config = record part.config { frames = n }; given = part.given }
 changed part (PageFile n) = record { place = place.Declarations; config = record part.config { pagefile = n }; given = part.given }
 changed part (Param param n) = record { place = part.place; config = record part.config { params = with_param param n part.config.params }; given = slice_set part.given (number_of param) true }

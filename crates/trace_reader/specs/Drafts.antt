@@ -1,9 +1,8 @@
 -- What the lines so far keep. Source: this project's own.
 use Rattle.std.specs.Prelude.{◌≡◌, ◌≢◌, ℕ, ◌<◌, ◌≤◌, true, [], length, All, AllPairs, Result, Err, IsOk}
-use Rattle.vm_types.specs.Configuration.{AreSections, IsMapping, AreApart, AreFails, IsTask}
+use Rattle.vm_types.specs.Configuration.{FitsVersion, AreSections, IsMapping, AreApart, AreFails, IsTask}
 use Rattle.vm_types.specs.declared.config.Config.{Config}
 use Rattle.vm_types.specs.declared.config.Params.{Params}
-use Rattle.vm_types.specs.declared.config.Version.TheVariants as version
 use Rattle.trace_lines.specs.declared.breach.Breach.{Breach}
 use Rattle.trace_lines.specs.declared.part.Part.{Part}
 use Rattle.trace_lines.specs.Places.{rank}
@@ -29,10 +28,9 @@ pub record AreInRange (params : Params) : Type 0 where
   pub awsmin : (2 ≤ params.awsmin) × (params.awsmin ≤ 1024)
   pub borrowlim : params.borrowlim ≤ 4096
 
--- what the declarations keep by themselves; the traces that are read are of version 1
+-- what the declarations keep by themselves
 pub record AreSound (config : Config) : Type 0 where
-  pub version : config.version ≡ version.One
-  pub frames : config.frames ≤ 4096
+  pub frames : FitsVersion config.version config.frames
   pub bad : All (λ f. f < config.frames) config.bad
   pub bad_differ : AllPairs (λ f g. f ≢ g) config.bad
   pub pagefile : config.pagefile ≤ 16384
@@ -49,8 +47,11 @@ pub record AreSound (config : Config) : Type 0 where
 
 -- what the places before keep
 pub record IsPlaced (place : ℕ) (config : Config) : Type 0 where
+  pub no_frames : place < 2 → config.frames ≡ 0
   pub no_bad : place < 3 → config.bad ≡ []
+  pub no_sections : place < 3 → config.sections ≡ []
   pub no_fails : place < 3 → config.fails ≡ []
+  pub no_tasks : place < 4 → config.body ≡ []
   pub frames : 2 ≤ place → 8 ≤ config.frames
   pub pagefile : 3 ≤ place → 1 ≤ config.pagefile
   pub some_process : 4 ≤ place → 1 ≤ length config.procs

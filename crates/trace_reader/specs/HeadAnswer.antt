@@ -3,8 +3,8 @@ use Rattle.std.specs.Prelude.{◌≡◌, ℕ, ◌+◌, ◌-◌, ◌≤◌, Bool,
 use Rattle.vm_types.specs.Configuration.{IsWellFormed}
 use Rattle.vm_types.specs.declared.config.Config.{Config}
 use Rattle.outside_io.specs.Causes.{Rose}
-use Rattle.line_source.specs.declared.lines.Line.TheVariants.{Text}
-use Rattle.line_source.specs.HandedOut.{HandsOut, Takes}
+use Rattle.outside_io.specs.declared.lines.Line.TheVariants.{Text}
+use Rattle.outside_io.specs.HandedOut.{HandsOut, Takes}
 use Rattle.trace_lines.specs.declared.part.Part.{Part}
 use Rattle.trace_reader.specs.declared.draft.Draft.{Draft}
 use Rattle.trace_reader.specs.declared.fault.TraceFault.{TraceFault}

@@ -1,6 +1,6 @@
 -- The first bytes of a faulty line, and that there are none. Source: this project's own.
 use Rattle.std.specs.Prelude.{◌≡◌, ℕ, List, [], Option, IfSome}
-use Rattle.line_source.specs.LineText.{line_text}
+use Rattle.outside_io.specs.LineText.{line_text}
 use Rattle.trace_reader.specs.declared.fault.TraceFault.{TraceFault}
 use Rattle.trace_reader.specs.declared.fault.TraceFault.TheVariants.{NoMemory, ReadFault, Line, Empty, Unfinished}
 

@@ -1,9 +1,10 @@
 -- What holds of what a line says, if the line breaks no rule. Source: this project's own.
 use Rattle.std.specs.Prelude.{◌≡◌, ℕ, ◌+◌, ◌<◌, ◌≤◌, true, false, None, length, All}
 use Rattle.std.specs.List.{list_any}
-use Rattle.vm_types.specs.Configuration.{IsName, IsMapping, IsBlock, IsTask}
+use Rattle.vm_types.specs.Configuration.{FitsVersion, IsName, IsMapping, IsBlock, IsTask}
 use Rattle.vm_types.specs.Kinds.{is_paged_kind}
 use Rattle.vm_types.specs.declared.config.ProcSpec.{ProcSpec}
+use Rattle.vm_types.specs.declared.config.Version.TheVariants as version
 use Rattle.trace_lines.specs.declared.part.Part.{Part}
 use Rattle.trace_lines.specs.Declarations.{has_room}
 use Rattle.trace_lines.specs.Fails.{is_same}
@@ -25,12 +26,12 @@ pub record IsOrdered (spec : ProcSpec) : Type 0 where
 -- what the line says fits the declarations
 abbrev pub Fits : Part → Says → Type 0
 Fits part Nothing = Unit {0}
-Fits part Version = Unit {0}
-Fits part (Frames n) = (8 ≤ n) × (n ≤ 4096)
+Fits part (Version v) = Unit {0}
+Fits part (Frames n) = (8 ≤ n) × FitsVersion part.config.version n
 Fits part (PageFile n) = (1 ≤ n) × (n ≤ 16384)
 Fits part (Param param n) = (least param ≤ n) × (n ≤ most param)
 Fits part (Bad f) = (f < part.config.frames) × (is_listed part.config.bad f ≡ false)
-Fits part (Section name of_kind pages) = IsName name × (1 ≤ pages) × (number_named part.config.sections name ≡ None) × (has_room part.config.sections pages ≡ true) × (is_paged_kind of_kind ≡ false)
+Fits part (Section name of_kind pages) = IsName name × (1 ≤ pages) × (number_named part.config.sections name ≡ None) × (has_room part.config.sections pages ≡ true) × (is_paged_kind of_kind ≡ true → part.config.version ≡ version.Two)
 Fits part (Data s at bytes) = (s < length part.config.sections) × (at + length bytes ≤ bytes_at part.config.sections s) × (has_file part.config.sections s ≡ true)
 Fits part (Process spec) = IsOrdered spec × (length part.config.procs < 16)
 Fits part (Map m) = IsMapping (length part.config.procs) part.config.sections m × (is_inside (m.at).0 m.pages ≡ true) × (list_any (λ b. overlaps b m) part.config.maps ≡ false)
@@ -42,7 +43,7 @@ Fits part End = Unit {0}
 -- where a line that says this stands
 abbrev pub place_for : Says → ℕ → ℕ
 place_for Nothing now = now
-place_for Version now = 0
+place_for (Version v) now = 0
 place_for (Frames n) now = 1
 place_for (PageFile n) now = 2
 place_for (Param param n) now = 3

@@ -87,7 +87,8 @@ impl Draft {
     {
         match line {
             Line::Nothing => Ok(()),
-            Line::Version => {
+            Line::Version(version) => {
+                self.part.config.version = *version;
                 self.part.place = Place::Frames;
                 Ok(())
             }

@@ -2,7 +2,7 @@
 
 ghost use Rattle.std.specs.Prelude.{◌≡◌, ◌≤◌, ℕ, List, Option, IfOk, IfErr, IfSome, IsSome, OnOk, if◌then◌else◌};
 ghost use Rattle.vm_types.specs.Configuration.{IsWellFormed};
-ghost use Rattle.line_source.specs.BytesLeft.{bytes_left};
+ghost use Rattle.outside_io.specs.BytesLeft.{bytes_left};
 ghost use Rattle.trace_words.specs.Words.{words};
 ghost use Rattle.trace_lines.specs.Grammar.{content};
 ghost use Rattle.trace_reader.specs.Answer.{FaultsBy};
@@ -17,8 +17,7 @@ use crate::draft::Draft;
 use crate::fault::TraceFault;
 use crate::read::Reader;
 use arrayvec::ArrayVec;
-use line_source::{Line, Lines, keep_front};
-use outside_io::Source;
+use outside_io::{Line, Lines, Source, keep_front};
 use std::alloc::Global;
 use trace_lines::{Breach, Place, judge};
 use trace_words::{Cause, is, next_word};

@@ -1,7 +1,6 @@
 ghost use Rattle.std.specs.Prelude.{◌≡◌, ◌+◌, ◌-◌, ◌<◌, ◌≤◌, ◌↔◌, length, take, drop, IfOk, IfErr, OnOk, OnErr, IfSome, IsSome, IsTrue};
 ghost use Rattle.std.specs.Io.KnownBytes.{Keeps, Consumes, IsAtEnd};
 ghost use Rattle.vm_types.specs.Configuration.{IsWellFormed};
-ghost use Rattle.vm_types.specs.declared.config.Version.{Version};
 ghost use Rattle.outside_io.specs.Causes.{HasCause};
 ghost use Rattle.trace_lines.specs.Seen.{IsSeen};
 ghost use Rattle.trace_reader.specs.Answer.{Answers, FaultsBy};
@@ -13,8 +12,7 @@ ghost use Rattle.trace_reader.specs.Stream.{IsReading, HasTaken, IsLineAtFault, 
 use crate::draft::{Draft, Refused};
 use crate::fault::TraceFault;
 use arrayvec::ArrayVec;
-use line_source::keep_front;
-use outside_io::Source;
+use outside_io::{Source, keep_front};
 use std::alloc::Global;
 use trace_lines::{Breach, Place, plain_request};
 use trace_words::{Cause, parted};
@@ -23,7 +21,7 @@ use vm_types::{Config, Failed, NoMemory};
 // Bytes of the buffer that the source's pieces go to.
 const ROOM: usize = 8192;
 
-/// The configuration of a trace of version 1: the source is read to its end, in pieces of at most 8192 bytes, up
+/// The configuration of a trace: the source is read to its end, in pieces of at most 8192 bytes, up
 /// to the first faulty line, of which the first 80 bytes are kept in `kept`.
 ///
 /// # Errors
@@ -38,7 +36,6 @@ pub fn read_trace<S: Source>(
     kept: &mut ArrayVec<u8, 80>,
 ) -> Result<Config, TraceFault>
     ensures well_formed { IfOk result IsWellFormed }
-    ensures version { IfOk result (λ config. config.version ≡ Version.One) }
     ensures text { IfSome (S.seen source.old).left (λ text. Answers result text (S.seen source.new).left) }
     ensures kept { IfErr result (λ fault. IsTextOf fault (S.seen source.old).left kept.new.items) }
     ensures known { IsSome (S.seen source.old).left → IsSome (S.seen source.new).left }
@@ -66,7 +63,6 @@ fn read_pieces<S: Source>(
     requires seen { IsSeen reader.draft.seen reader.draft.part.config }
     requires room { length buffer.old ≡ 8192 }
     ensures well_formed { IfOk result IsWellFormed }
-    ensures version { IfOk result (λ config. config.version ≡ Version.One) }
     ensures text { IfSome (S.seen source.old).left (λ text. Answers result text (S.seen source.new).left) }
     ensures kept { IfErr result (λ fault. IsTextOf fault (S.seen source.old).left kept.new.items) }
     ensures known { IsSome (S.seen source.old).left → IsSome (S.seen source.new).left }
@@ -185,7 +181,6 @@ impl Reader {
         requires { IsReading self.draft self.number }
         ensures means { Means self.number self.draft.part rest.now result (at_end self.number self.draft.part rest.now) }
         ensures well_formed { IfOk result IsWellFormed }
-        ensures version { IfOk result (λ config. config.version ≡ Version.One) }
         ensures kept { IfErr result (KeepsLast self.number rest.now kept.new.items) }
     {
         if !rest.is_empty() {

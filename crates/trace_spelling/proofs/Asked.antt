@@ -9,8 +9,6 @@ use Rattle.vm_types.specs.WellFormed.{width_bytes, IsRange, IsCode, IsWellFormed
 use Rattle.vm_types.specs.declared.config.Config.{Config}
 use Rattle.vm_types.specs.declared.config.ProcSpec.{ProcSpec}
 use Rattle.vm_types.specs.declared.config.Task.{Task}
-use Rattle.vm_types.specs.declared.config.Version.{Version}
-use Rattle.vm_types.specs.declared.config.Version.TheVariants as version
 use Rattle.vm_types.specs.declared.names.Addr.{Addr}
 use Rattle.vm_types.specs.declared.names.Proc.{Proc}
 use Rattle.vm_types.specs.declared.reference.Mode.{Mode}
@@ -33,7 +31,7 @@ use Rattle.trace_lines.specs.declared.places.Place.{Place}
 use Rattle.trace_lines.specs.declared.places.Place.TheVariants as place
 use Rattle.trace_lines.specs.Grammar.{by_words, is_comment, is_letter}
 use Rattle.trace_lines.specs.Places.{rank}
-use Rattle.trace_lines.specs.Requests.{params_agree, has_frames, request_line, by_verb, range_of, coded_range_of}
+use Rattle.trace_lines.specs.Requests.{params_agree, has_frames, verb_in, request_line, by_verb, range_of, coded_range_of}
 use Rattle.trace_lines.specs.Says as says
 use Rattle.trace_lines.specs.Says.{Says}
 use Rattle.trace_spelling.specs.Lines.{Line, request_words}
@@ -58,16 +56,16 @@ params_fit c w =
     (and_from (leb c.params.lolimit c.params.hilimit) (leb c.params.hilimit c.params.waitlimit) (le-leb c.params.lolimit c.params.hilimit w.params.lolimit) (le-leb c.params.hilimit c.params.waitlimit w.params.wait_above))
     (le-leb c.params.freelim c.params.freegoal w.params.freelim)
 
-frames_fit : (frames bad pins : ℕ) (procs : List ProcSpec) → All (IsProcess frames (bad + pins)) procs → list_all (λ spec. leb (spec.extent + bad + 2) frames) procs ≡ true
-frames_fit frames bad pins [] h = refl
-frames_fit frames bad pins (x ∷ procs) h =
-    and_from (leb (x.extent + bad + 2) frames) (list_all (λ spec. leb (spec.extent + bad + 2) frames) procs) (le-leb (x.extent + bad + 2) frames (let room = (All-head (IsProcess frames (bad + pins)) x procs h).room in omega (arith, room)))
-    (frames_fit frames bad pins procs (All-tail (IsProcess frames (bad + pins)) x procs h))
+frames_fit : (frames kept : ℕ) (procs : List ProcSpec) → All (IsProcess frames kept) procs → list_all (λ spec. leb (spec.extent + kept + 2) frames) procs ≡ true
+frames_fit frames kept [] h = refl
+frames_fit frames kept (x ∷ procs) h =
+    and_from (leb (x.extent + kept + 2) frames) (list_all (λ spec. leb (spec.extent + kept + 2) frames) procs) (le-leb (x.extent + kept + 2) frames (All-head (IsProcess frames kept) x procs h).room)
+    (frames_fit frames kept procs (All-tail (IsProcess frames kept) x procs h))
 
 pub body_leads : (c : Config) → IsWellFormed c → Leads (asking c place.Declarations []) ((codes "BODY" ∷ []) ∷ []) (asking c place.Requests [])
 body_leads c w =
     let part = asking c place.Declarations [] in
-    let agree : (params_agree c.params && has_frames (asking c place.Declarations []).config) ≡ true = and_from (params_agree c.params) (has_frames (asking c place.Declarations []).config) (params_fit c w) (frames_fit c.frames (length c.bad) (all_pins c) c.procs w.procs) in
+    let agree : (params_agree c.params && has_frames (asking c place.Declarations []).config) ≡ true = and_from (params_agree c.params) (has_frames (asking c place.Declarations []).config) (params_fit c w) (frames_fit c.frames (length c.bad + all_pins c) c.procs w.procs) in
     let some : 1 ≤ length c.procs = w.some_process.0 in
     leads_line part (codes "BODY" ∷ []) says.Body (line_of (4 ∷ []) (codes "BODY") [] (literal 4 _ refl refl refl, tt) (omega arith))
     (keyword_says part (codes "BODY") [] keyword.Body refl refl refl refl ∙ (rw (lt-ltb 0 (length c.procs) (omega arith), agree) refl))
@@ -126,17 +124,17 @@ module _ (c : Config) (w : IsWellFormed c) (before : List Task) (room : length b
   reference_leads mode at (op.Read width) is =
       request_leads (op_text mode (op.Read width) ∷ address_text at.0 ∷ []) (request.Reference (record { mode = mode; addr = at; op = op.Read width }))
       (line_of (1 ∷ 3 ∷ 8 ∷ []) (process_name p.0) (op_text mode (op.Read width) ∷ address_text at.0 ∷ []) (letter_word p.0 letter_small, (op_word mode (op.Read width), (hex_word 8 at.0 (omega arith), tt))) (omega arith))
-      (ap (by_verb part.config (process_name p.0) (address_text at.0 ∷ [])) (op_read mode (op.Read width))
+      (ap (by_verb part.config (process_name p.0) (address_text at.0 ∷ [])) (ap (verb_in c.version) (op_read mode (op.Read width)))
       ∙ (rw (process_read c.procs p.0 there few, aligned_read (width_bytes width) at.0 is.address is.aligned, room_test) refl))
   reference_leads mode at (op.Write width v) is =
       request_leads (op_text mode (op.Write width v) ∷ address_text at.0 ∷ hex (2 * width_bytes width) v ∷ []) (request.Reference (record { mode = mode; addr = at; op = op.Write width v }))
       (line_of (1 ∷ 3 ∷ 8 ∷ 8 ∷ []) (process_name p.0) (op_text mode (op.Write width v) ∷ address_text at.0 ∷ hex (2 * width_bytes width) v ∷ []) (letter_word p.0 letter_small, (op_word mode (op.Write width v), (hex_word 8 at.0 (omega arith), (value_word width v, tt)))) (omega arith))
-      (ap (by_verb part.config (process_name p.0) (address_text at.0 ∷ hex (2 * width_bytes width) v ∷ [])) (op_read mode (op.Write width v))
+      (ap (by_verb part.config (process_name p.0) (address_text at.0 ∷ hex (2 * width_bytes width) v ∷ [])) (ap (verb_in c.version) (op_read mode (op.Write width v)))
       ∙ (rw (process_read c.procs p.0 there few, aligned_read (width_bytes width) at.0 is.address is.aligned, value_read width v is.fits, lt-ltb v (256 ^ width_bytes width) is.fits, room_test) refl))
   reference_leads mode at (op.Add v) is =
       request_leads (op_text mode (op.Add v) ∷ address_text at.0 ∷ hex 8 v ∷ []) (request.Reference (record { mode = mode; addr = at; op = op.Add v }))
       (line_of (1 ∷ 3 ∷ 8 ∷ 8 ∷ []) (process_name p.0) (op_text mode (op.Add v) ∷ address_text at.0 ∷ hex 8 v ∷ []) (letter_word p.0 letter_small, (op_word mode (op.Add v), (hex_word 8 at.0 (omega arith), (hex_word 8 v (omega arith), tt)))) (omega arith))
-      (ap (by_verb part.config (process_name p.0) (address_text at.0 ∷ hex 8 v ∷ [])) (op_read mode (op.Add v))
+      (ap (by_verb part.config (process_name p.0) (address_text at.0 ∷ hex 8 v ∷ [])) (ap (verb_in c.version) (op_read mode (op.Add v)))
       ∙ (rw (process_read c.procs p.0 there few, aligned_read 4 at.0 is.address is.aligned, value_read Four v is.fits, lt-ltb v (256 ^ width_bytes Four) is.fits, room_test) refl))
 
   abbrev range_line : Service → Addr → ℕ → Line
@@ -163,39 +161,43 @@ module _ (c : Config) (w : IsWellFormed c) (before : List Task) (room : length b
       let small = range_small at.0 pages is in
       rw (process_read c.procs p.0 there few, aligned_read 512 at.0 (omega arith) is.aligned, within_read 1 4096 pages is.some is.few (lit< tt), protection_read code good, inside_read at.0 pages is) refl
 
-  service_leads : (s : Service) → IsServiceOf version.One s → IsWellFormedService s → Leads part ((process_name p.0 ∷ service_words s) ∷ []) (then_asking (request.Service s))
+  service_leads : (s : Service) → IsServiceOf c.version s → IsWellFormedService s → Leads part ((process_name p.0 ∷ service_words s) ∷ []) (then_asking (request.Service s))
   service_leads (service.Create at pages code) known is =
       request_leads (service_words (service.Create at pages code)) (request.Service (service.Create at pages code)) (coded_is_line (service.Create at pages code) at pages code is.0 is.1)
-      (ap (by_verb part.config (process_name p.0) (operands (service.Create at pages code))) (service_read (service.Create at pages code) tt) ∙ (rw (coded_read at pages code is.0 is.1, room_test) refl))
+      (ap (by_verb part.config (process_name p.0) (operands (service.Create at pages code))) (service_read c.version (service.Create at pages code) tt) ∙ (rw (coded_read at pages code is.0 is.1, room_test) refl))
   service_leads (service.Protect at pages code) known is =
       request_leads (service_words (service.Protect at pages code)) (request.Service (service.Protect at pages code)) (coded_is_line (service.Protect at pages code) at pages code is.0 is.1)
-      (ap (by_verb part.config (process_name p.0) (operands (service.Protect at pages code))) (service_read (service.Protect at pages code) tt) ∙ (rw (coded_read at pages code is.0 is.1, room_test) refl))
+      (ap (by_verb part.config (process_name p.0) (operands (service.Protect at pages code))) (service_read c.version (service.Protect at pages code) tt) ∙ (rw (coded_read at pages code is.0 is.1, room_test) refl))
   service_leads (service.Delete at pages) known is =
       request_leads (service_words (service.Delete at pages)) (request.Service (service.Delete at pages)) (range_is_line (service.Delete at pages) at pages is)
-      (ap (by_verb part.config (process_name p.0) (operands (service.Delete at pages))) (service_read (service.Delete at pages) tt) ∙ (rw (range_read at pages is, room_test) refl))
+      (ap (by_verb part.config (process_name p.0) (operands (service.Delete at pages))) (service_read c.version (service.Delete at pages) tt) ∙ (rw (range_read at pages is, room_test) refl))
   service_leads (service.Lock at pages) known is =
       request_leads (service_words (service.Lock at pages)) (request.Service (service.Lock at pages)) (range_is_line (service.Lock at pages) at pages is)
-      (ap (by_verb part.config (process_name p.0) (operands (service.Lock at pages))) (service_read (service.Lock at pages) tt) ∙ (rw (range_read at pages is, room_test) refl))
+      (ap (by_verb part.config (process_name p.0) (operands (service.Lock at pages))) (service_read c.version (service.Lock at pages) tt) ∙ (rw (range_read at pages is, room_test) refl))
   service_leads (service.Unlock at pages) known is =
       request_leads (service_words (service.Unlock at pages)) (request.Service (service.Unlock at pages)) (range_is_line (service.Unlock at pages) at pages is)
-      (ap (by_verb part.config (process_name p.0) (operands (service.Unlock at pages))) (service_read (service.Unlock at pages) tt) ∙ (rw (range_read at pages is, room_test) refl))
+      (ap (by_verb part.config (process_name p.0) (operands (service.Unlock at pages))) (service_read c.version (service.Unlock at pages) tt) ∙ (rw (range_read at pages is, room_test) refl))
   service_leads (service.Purge at pages) known is =
       request_leads (service_words (service.Purge at pages)) (request.Service (service.Purge at pages)) (range_is_line (service.Purge at pages) at pages is)
-      (ap (by_verb part.config (process_name p.0) (operands (service.Purge at pages))) (service_read (service.Purge at pages) tt) ∙ (rw (range_read at pages is, room_test) refl))
-  service_leads (service.Pin at pages) known is = absurd cc
-  service_leads (service.Unpin at pages) known is = absurd cc
+      (ap (by_verb part.config (process_name p.0) (operands (service.Purge at pages))) (service_read c.version (service.Purge at pages) tt) ∙ (rw (range_read at pages is, room_test) refl))
+  service_leads (service.Pin at pages) known is =
+      request_leads (service_words (service.Pin at pages)) (request.Service (service.Pin at pages)) (range_is_line (service.Pin at pages) at pages is)
+      (ap (by_verb part.config (process_name p.0) (operands (service.Pin at pages))) (service_read c.version (service.Pin at pages) known) ∙ (rw (range_read at pages is, room_test) refl))
+  service_leads (service.Unpin at pages) known is =
+      request_leads (service_words (service.Unpin at pages)) (request.Service (service.Unpin at pages)) (range_is_line (service.Unpin at pages) at pages is)
+      (ap (by_verb part.config (process_name p.0) (operands (service.Unpin at pages))) (service_read c.version (service.Unpin at pages) known) ∙ (rw (range_read at pages is, room_test) refl))
   service_leads (service.Adjust limit) known is =
       request_leads (service_words (service.Adjust limit)) (request.Service (service.Adjust limit))
       (line_of (1 ∷ 6 ∷ 10 ∷ []) (process_name p.0) (service_words (service.Adjust limit)) (letter_word p.0 letter_small, (service_word (service.Adjust limit), (number_word limit is, tt))) (omega arith))
-      (ap (by_verb part.config (process_name p.0) (operands (service.Adjust limit))) (service_read (service.Adjust limit) tt) ∙ (rw (process_read c.procs p.0 there few, number_read limit is, room_test) refl))
+      (ap (by_verb part.config (process_name p.0) (operands (service.Adjust limit))) (service_read c.version (service.Adjust limit) tt) ∙ (rw (process_read c.procs p.0 there few, number_read limit is, room_test) refl))
 
-  pub task_leads : (r : Request) → IsRequestOf version.One r → IsWellFormedRequest r → Leads part ((process_name p.0 ∷ request_words r) ∷ []) (then_asking r)
+  pub task_leads : (r : Request) → IsRequestOf c.version r → IsWellFormedRequest r → Leads part ((process_name p.0 ∷ request_words r) ∷ []) (then_asking r)
   task_leads (request.Reference r) known is = reference_leads r.mode r.addr r.op is
   task_leads (request.Service s) known is = service_leads s known is
 
-pub requests_lead : (c : Config) → IsWellFormed c → c.version ≡ version.One → Leads (asking c place.Requests []) (map lines.request_line c.body) (asking c place.Requests c.body)
-requests_lead c w one = leads_each lines.request_line (λ body. asking c place.Requests body) c.body (λ before task after e.
+pub requests_lead : (c : Config) → IsWellFormed c → Leads (asking c place.Requests []) (map lines.request_line c.body) (asking c place.Requests c.body)
+requests_lead c w = leads_each lines.request_line (λ body. asking c place.Requests body) c.body (λ before task after e.
     let is : IsTask c.version (length c.procs) task = member (IsTask c.version (length c.procs)) before task after c.body e w.body in
     let count = count_before before task after c.body e in
     let most : length c.body ≤ 100000 = w.few_tasks in
-    task_leads c w before (omega arith) task.proc is.proc task.request (subst (λ (v : Version). IsRequestOf v task.request) one is.of_version) is.request)
+    task_leads c w before (omega arith) task.proc is.proc task.request is.of_version is.request)

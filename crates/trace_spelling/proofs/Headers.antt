@@ -1,7 +1,7 @@
 -- The lines VMTRACE, FRAMES, PAGEFILE, PARAM and BAD.
-use Rattle.std.proofs.Common.{◌≡◌, ◌≢◌, ℕ, ◌<◌, ◌≤◌, ◌^◌, Bool, true, false, eqb, List, [], ◌∷◌, map, replicate, Some, Ok, refl, ◌∙◌, arith, lit<, lt-ltb, ne_eqb, eq-eqb, sym, subst}
+use Rattle.std.proofs.Common.{◌≡◌, ◌≢◌, ℕ, ◌<◌, ◌≤◌, ◌^◌, Bool, true, false, eqb, List, [], ◌∷◌, map, replicate, Some, Ok, refl, ◌∙◌, arith, lit<, lt-ltb, ne_eqb, eq-eqb}
 use Rattle.std.specs.Prelude.{codes, slice_index_or, slice_set, decimal as printed}
-use Rattle.vm_types.specs.Configuration.{IsWellFormed, AreParams}
+use Rattle.vm_types.specs.Configuration.{FitsVersion, IsWellFormed, AreParams}
 use Rattle.vm_types.specs.declared.config.Config.{Config}
 use Rattle.vm_types.specs.declared.config.Fails.{Fails}
 use Rattle.vm_types.specs.declared.config.Mapping.{Mapping}
@@ -10,7 +10,6 @@ use Rattle.vm_types.specs.declared.config.ProcSpec.{ProcSpec}
 use Rattle.vm_types.specs.declared.config.Section.{Section}
 use Rattle.vm_types.specs.declared.config.Version.{Version}
 use Rattle.vm_types.specs.declared.config.Version.TheVariants as version
-use Rattle.vm_types.proofs.VersionOne.{few_frames}
 use Rattle.trace_lines.specs.declared.keywords.Keyword.{Keyword}
 use Rattle.trace_lines.specs.declared.keywords.Keyword.TheVariants as keyword
 use Rattle.trace_lines.specs.declared.params.Param.{Param}
@@ -18,13 +17,13 @@ use Rattle.trace_lines.specs.declared.params.Param.TheVariants.{Pfc, HiLimit, Lo
 use Rattle.trace_lines.specs.declared.part.Part.{Part}
 use Rattle.trace_lines.specs.declared.places.Place.TheVariants as place
 use Rattle.trace_lines.specs.Grammar.{by_keyword, by_words, is_comment, is_letter}
-use Rattle.trace_lines.specs.Headers.{is_listed}
+use Rattle.trace_lines.specs.Headers.{is_listed, most_frames}
 use Rattle.trace_lines.specs.Keywords.{keyword_of, place_of}
 use Rattle.trace_lines.specs.ParamWords.{param_of, least, most, number_of, with_param, default_params}
 use Rattle.trace_lines.specs.Places.{rank}
 use Rattle.trace_lines.specs.Says as says
 use Rattle.trace_reader.specs.Changes.{start, changed}
-use Rattle.trace_spelling.specs.Lines.{Line, header_lines, param_line, param_lines, bad_line}
+use Rattle.trace_spelling.specs.Lines.{Line, header_lines, version_number, param_line, param_lines, bad_line}
 use Rattle.trace_spelling.proofs.Numbers.{number_read, within_read}
 use Rattle.trace_spelling.proofs.Printing.{IsShortWord, literal, number_word}
 use Rattle.trace_spelling.proofs.Leading.{line_of, Leads, leads_none, leads_line, leads_append, leads_each}
@@ -45,25 +44,38 @@ declaring c given params bad sections procs maps fails = record {
 
 -- VMTRACE, FRAMES, PAGEFILE
 
-pub headers_lead : (c : Config) → IsWellFormed c → c.version ≡ version.One → Leads start (header_lines c) (declaring c (replicate 14 false) default_params [] [] [] [] [])
-headers_lead c w one =
-    let frames_small : c.frames ≤ 4096 = few_frames c w one in
+version_leads : (v : Version) → Leads start ((codes "VMTRACE" ∷ printed (version_number v) ∷ []) ∷ []) (changed start (says.Version v))
+version_leads version.One =
+    leads_line start (codes "VMTRACE" ∷ printed 1 ∷ []) (says.Version version.One) (line_of (8 ∷ 10 ∷ []) (codes "VMTRACE") (printed 1 ∷ []) (literal 8 _ refl refl refl, (number_word 1 (lit< tt), tt)) (omega arith))
+    (keyword_says start (codes "VMTRACE") (printed 1 ∷ []) keyword.Version refl refl refl refl ∙ (rw (within_read 1 2 1 (omega arith) (omega arith) (lit< tt)) refl))
+version_leads version.Two =
+    leads_line start (codes "VMTRACE" ∷ printed 2 ∷ []) (says.Version version.Two) (line_of (8 ∷ 10 ∷ []) (codes "VMTRACE") (printed 2 ∷ []) (literal 8 _ refl refl refl, (number_word 2 (lit< tt), tt)) (omega arith))
+    (keyword_says start (codes "VMTRACE") (printed 2 ∷ []) keyword.Version refl refl refl refl ∙ (rw (within_read 1 2 2 (omega arith) (omega arith) (lit< tt)) refl))
+
+frames_most : (v : Version) (n : ℕ) → FitsVersion v n → n ≤ most_frames v
+frames_most version.One n few = few
+frames_most version.Two n few = few
+
+frames_short : (v : Version) → most_frames v < 2 ^ 32
+frames_short version.One = lit< tt
+frames_short version.Two = lit< tt
+
+pub headers_lead : (c : Config) → IsWellFormed c → Leads start (header_lines c) (declaring c (replicate 14 false) default_params [] [] [] [] [])
+headers_lead c w =
+    let frames_small : c.frames ≤ 16384 = w.frames.1 in
     let pagefile_small : c.pagefile ≤ 16384 = w.pagefile.1 in
-    let first = changed start says.Version in
+    let first = changed start (says.Version c.version) in
     let second = changed first (says.Frames c.frames) in
     let third = changed second (says.PageFile c.pagefile) in
     let frames : Line = codes "FRAMES" ∷ printed c.frames ∷ [] in
     let pagefile : Line = codes "PAGEFILE" ∷ printed c.pagefile ∷ [] in
-    let first_line : Line = codes "VMTRACE" ∷ printed 1 ∷ [] in
-    subst (λ (v : Version). Leads start (header_lines c) (declaring (record c { version = v }) (replicate 14 false) default_params [] [] [] [] [])) (sym one)
-    (leads_append start first third (first_line ∷ []) (frames ∷ pagefile ∷ [])
-    (leads_line start first_line says.Version (line_of (8 ∷ 10 ∷ []) (codes "VMTRACE") (printed 1 ∷ []) (literal 8 _ refl refl refl, (number_word 1 (lit< tt), tt)) (omega arith))
-    (keyword_says start (codes "VMTRACE") (printed 1 ∷ []) keyword.Version refl refl refl refl ∙ (rw (within_read 1 1 1 (omega arith) (omega arith) (lit< tt)) refl)))
+    let first_line : Line = codes "VMTRACE" ∷ printed (version_number c.version) ∷ [] in
+    leads_append start first third (first_line ∷ []) (frames ∷ pagefile ∷ []) (version_leads c.version)
     (leads_append first second third (frames ∷ []) (pagefile ∷ [])
     (leads_line first frames (says.Frames c.frames) (line_of (8 ∷ 10 ∷ []) (codes "FRAMES") (printed c.frames ∷ []) (literal 8 _ refl refl refl, (number_word c.frames (omega arith), tt)) (omega arith))
-    (keyword_says first (codes "FRAMES") (printed c.frames ∷ []) keyword.Frames refl refl refl refl ∙ (rw (within_read 8 4096 c.frames w.frames.0 frames_small (lit< tt)) refl)))
+    (keyword_says first (codes "FRAMES") (printed c.frames ∷ []) keyword.Frames refl refl refl refl ∙ (rw (within_read 8 (most_frames c.version) c.frames w.frames.0 (frames_most c.version c.frames w.of_version) (frames_short c.version)) refl)))
     (leads_line second pagefile (says.PageFile c.pagefile) (line_of (8 ∷ 10 ∷ []) (codes "PAGEFILE") (printed c.pagefile ∷ []) (literal 8 _ refl refl refl, (number_word c.pagefile (omega arith), tt)) (omega arith))
-    (keyword_says second (codes "PAGEFILE") (printed c.pagefile ∷ []) keyword.PageFile refl refl refl refl ∙ (rw (within_read 1 16384 c.pagefile w.pagefile.0 w.pagefile.1 (lit< tt)) refl)))))
+    (keyword_says second (codes "PAGEFILE") (printed c.pagefile ∷ []) keyword.PageFile refl refl refl refl ∙ (rw (within_read 1 16384 c.pagefile w.pagefile.0 w.pagefile.1 (lit< tt)) refl))))
 
 -- PARAM
 

@@ -1,10 +1,11 @@
 -- The lines SECTION and DATA.
-use Rattle.std.proofs.Common.{◌≡◌, ◌≢◌, ℕ, zero, suc, ◌+◌, ◌-◌, ◌*◌, ◌/◌, ◌%◌, ◌<◌, ◌≤◌, ◌^◌, Bool, true, false, not, leb, ltb, eqb, List, [], ◌∷◌, ◌++◌, map, flat_map, length, get_or, take, drop, replicate, All, AllPairs, Option, Some, None, Ok, refl, sym, ap, ap₂, subst, ◌∙◌, arith, lit<, eqb-true, if◌then◌else◌, lt-ltb, le-leb, append_assoc, append-nil, length-append}
+use Rattle.std.proofs.Common.{◌≡◌, ◌≢◌, ℕ, zero, suc, ◌+◌, ◌-◌, ◌*◌, ◌/◌, ◌%◌, ◌<◌, ◌≤◌, ◌^◌, Bool, true, false, not, leb, ltb, eqb, List, [], ◌∷◌, ◌++◌, map, flat_map, length, get_or, take, drop, replicate, All, AllPairs, Option, Some, None, Ok, refl, sym, ap, ap₂, subst, ◌∙◌, arith, lit<, eq-eqb, eqb-true, if◌then◌else◌, lt-ltb, le-leb, append_assoc, append-nil, length-append}
 use Rattle.std.specs.Prelude.{codes, slice_get, position, sum_by, is_some, bytes_eq, decimal as printed}
+use Rattle.std.specs.List.{AllByRecursion}
 use Rattle.std.specs.Option.{option_map_or}
 use Rattle.std.proofs.lemmas.Bool.{and_from, and_parts, true≢false}
 use Rattle.std.proofs.lemmas.List.{map-append, length-map, length-replicate, length-take-le, length-drop, take_all, drop-replicate, replicate-append-replicate}
-use Rattle.std.proofs.lemmas.List.Elements.{All-take, All-drop}
+use Rattle.std.proofs.lemmas.List.Elements.{All-take, All-drop, All-replicate, recursion_from_All}
 use Rattle.std.proofs.lemmas.List.Sums.{sum_by-cons}
 use Rattle.std.proofs.Math.Seq.{take-add, take-append_seam, drop-append-add}
 use Rattle.vm_types.specs.Configuration.{IsWellFormed, IsSection, IsName, section_pages}
@@ -17,7 +18,7 @@ use Rattle.vm_types.specs.declared.config.Version.{Version}
 use Rattle.vm_types.specs.declared.config.Version.TheVariants as version
 use Rattle.trace_lines.specs.declared.keywords.Keyword.TheVariants as keyword
 use Rattle.trace_lines.specs.declared.part.Part.{Part}
-use Rattle.trace_lines.specs.Declarations.{has_room, section_kind}
+use Rattle.trace_lines.specs.Declarations.{has_room, paged_kind, section_kind}
 use Rattle.trace_lines.specs.Lookups.{bytes_at, has_file, number_named, section}
 use Rattle.trace_lines.specs.Says as says
 use Rattle.trace_reader.specs.Changes.{blank_section, overwritten, with_bytes, changed}
@@ -63,31 +64,38 @@ blank_number xs name =
     ∙ ap (position (λ n. bytes_eq n name)) (blank_names xs)
     ∙ sym (position_map (λ (s : Section). s.name) (λ n. bytes_eq n name) xs)
 
-kind_read : (of_kind : SectionKind) → is_paged_kind of_kind ≡ false → section_kind (kind_word of_kind) ≡ Ok of_kind
-kind_read kind.Shared file = refl
-kind_read kind.Crf file = refl
-kind_read kind.Paged file = absurd (true≢false file)
+kind_read : (v : Version) (of_kind : SectionKind) → (is_paged_kind of_kind ≡ true → v ≡ version.Two) → section_kind v (kind_word of_kind) ≡ Ok of_kind
+kind_read v kind.Shared known = refl
+kind_read v kind.Crf known = refl
+kind_read v kind.Paged known = ap paged_kind (known refl)
 
 kind_is_word : (of_kind : SectionKind) → IsShortWord 6 (kind_word of_kind)
 kind_is_word kind.Shared = literal 6 _ refl refl refl
 kind_is_word kind.Crf = literal 6 _ refl refl refl
 kind_is_word kind.Paged = literal 6 _ refl refl refl
 
--- in version 1 a section has a file
-of_file : (v : Version) (x : Section) → v ≡ version.One → IsSection v x → is_paged_kind x.kind ≡ false
-of_file v x one is = go (is_paged_kind x.kind) refl where
+-- a section with a byte that isn't zero has a file
+zeros_pass : (bytes : List ℕ) → AllByRecursion (λ b. b ≡ 0) bytes → are_zeros bytes ≡ true
+zeros_pass [] each = refl
+zeros_pass (b ∷ bytes) each = and_from (eqb b 0) (are_zeros bytes) (eq-eqb b 0 each.0) (zeros_pass bytes each.1)
+
+of_file : (v : Version) (x : Section) (k : ℕ) → IsSection v x → are_zeros (piece x.bytes k) ≡ false → is_paged_kind x.kind ≡ false
+of_file v x k is some = go (is_paged_kind x.kind) refl where
   go : (b : Bool) → is_paged_kind x.kind ≡ b → is_paged_kind x.kind ≡ false
   go false e = e
-  go true e = absurd (let both : version.One ≡ version.Two = sym one ∙ (is.paged e).0 in cc)
+  go true e =
+      let all : All (λ b. b ≡ 0) x.bytes = subst (All (λ b. b ≡ 0)) (sym (is.paged e).1) (All-replicate (λ b. b ≡ 0) (length x.bytes) 0 refl) in
+      let none : All (λ b. b ≡ 0) (piece x.bytes k) = All-take (λ b. b ≡ 0) 64 (drop (64 * k) x.bytes) (All-drop (λ b. b ≡ 0) (64 * k) x.bytes all) in
+      absurd (true≢false (sym (zeros_pass (piece x.bytes k) (recursion_from_All (λ b. b ≡ 0) (piece x.bytes k) none)) ∙ some))
 
 not_found : (o : Option ℕ) → o ≡ None → not (is_some o) ≡ true
 not_found o e = rw e refl
 
-pub sections_lead : (c : Config) → IsWellFormed c → c.version ≡ version.One → Leads (declaring c (replicate 14 true) c.params c.bad [] [] [] []) (map lines.section_line c.sections) (declaring c (replicate 14 true) c.params c.bad (map blank c.sections) [] [] [])
-sections_lead c w one = leads_each lines.section_line (λ xs. declaring c (replicate 14 true) c.params c.bad (map blank xs) [] [] []) c.sections (λ before x after e.
+pub sections_lead : (c : Config) → IsWellFormed c → Leads (declaring c (replicate 14 true) c.params c.bad [] [] [] []) (map lines.section_line c.sections) (declaring c (replicate 14 true) c.params c.bad (map blank c.sections) [] [] [])
+sections_lead c w = leads_each lines.section_line (λ xs. declaring c (replicate 14 true) c.params c.bad (map blank xs) [] [] []) c.sections (λ before x after e.
     let part = declaring c (replicate 14 true) c.params c.bad (map blank before) [] [] [] in
     let is : IsSection c.version x = member (IsSection c.version) before x after c.sections e w.sections.each in
-    let file = of_file c.version x one is in
+    let known : is_paged_kind x.kind ≡ true → c.version ≡ version.Two = λ paged. (is.paged paged).0 in
     let bytes : 512 ≤ length x.bytes = is.some in
     let some : 1 ≤ length x.bytes / 512 = omega arith in
     let sum = sum_before section_pages before x after c.sections e in
@@ -104,7 +112,7 @@ sections_lead c w one = leads_each lines.section_line (λ xs. declaring c (repli
     (leads_line part (lines.section_line x) (says.Section x.name x.kind (length x.bytes / 512))
     (line_of (7 ∷ 15 ∷ 6 ∷ 10 ∷ []) (codes "SECTION") (x.name ∷ kind_word x.kind ∷ printed (length x.bytes / 512) ∷ []) (literal 7 _ refl refl refl, (name_word x.name is.name, (kind_is_word x.kind, (number_word (length x.bytes / 512) (omega arith), tt)))) (omega arith))
     (keyword_says part (codes "SECTION") (x.name ∷ kind_word x.kind ∷ printed (length x.bytes / 512) ∷ []) keyword.Section refl refl refl refl
-    ∙ (rw (name_passes x.name is.name, kind_read x.kind file, within_read 1 4294967295 (length x.bytes / 512) some (omega arith) (lit< tt), unnamed, room) refl)))
+    ∙ (rw (name_passes x.name is.name, kind_read c.version x.kind known, within_read 1 4294967295 (length x.bytes / 512) some (omega arith) (lit< tt), unnamed, room) refl)))
     (ap (λ (xs : List Section). declaring c (replicate 14 true) c.params c.bad xs [] [] []) (sym (map-append blank before (x ∷ [])))))
 
 -- a section with so many of its pieces
@@ -197,7 +205,7 @@ section_found before y after name is same others =
     let found : number_named (before ++ y ∷ after) name ≡ Some (length before) = position_at (λ s. bytes_eq s.name name) before y after others here in
     rw (name_passes name is, found) refl
 
-module _ (c : Config) (w : IsWellFormed c) (one : c.version ≡ version.One) (t : IsTyped c) (before : List Section) (x : Section) (after : List Section) (e : before ++ x ∷ after ≡ c.sections) where
+module _ (c : Config) (w : IsWellFormed c) (t : IsTyped c) (before : List Section) (x : Section) (after : List Section) (e : before ++ x ∷ after ≡ c.sections) where
   abbrev with_pieces : ℕ → Part
   with_pieces k = declaring c (replicate 14 true) c.params c.bad (before ++ begun x k ∷ map blank after) [] [] []
 
@@ -215,15 +223,15 @@ module _ (c : Config) (w : IsWellFormed c) (one : c.version ≡ version.One) (t 
       let pages : length x.bytes / 512 ≤ 16384 = omega (arith, sum, all_pages) in
       omega (arith, whole, pages)
 
-  piece_leads : (k : ℕ) → 64 * (k + 1) ≤ length x.bytes → Leads (with_pieces k) (lines.data_line x k ∷ []) (with_pieces (k + 1))
-  piece_leads k le =
+  piece_leads : (k : ℕ) → 64 * (k + 1) ≤ length x.bytes → are_zeros (piece x.bytes k) ≡ false → Leads (with_pieces k) (lines.data_line x k ∷ []) (with_pieces (k + 1))
+  piece_leads k le some =
       let most = few_bytes in
       let long = piece_length x.bytes k le in
       let here : section (before ++ begun x k ∷ map blank after) x.name ≡ Ok (length before) = section_found before (begun x k) (map blank after) x.name is_section.name refl (others_before before x after c.sections e w.sections.differ) in
       let small : All (λ b. b < 2 ^ 8) (piece x.bytes k) = All-take (λ b. b < 2 ^ 8) 64 (drop (64 * k) x.bytes) (All-drop (λ b. b < 2 ^ 8) (64 * k) x.bytes bytes_small) in
       let room : bytes_at (before ++ begun x k ∷ map blank after) (length before) ≡ length x.bytes = bytes_there before (begun x k) (map blank after) ∙ begun_length x k (omega arith) in
       let inside : leb (64 * k + length (piece x.bytes k)) (bytes_at (before ++ begun x k ∷ map blank after) (length before)) ≡ true = le-leb (64 * k + length (piece x.bytes k)) (bytes_at (before ++ begun x k ∷ map blank after) (length before)) (omega arith) in
-      let file : has_file (before ++ begun x k ∷ map blank after) (length before) ≡ true = ap (λ (o : Option Section). not (paged_of o)) (get_at before (begun x k) (map blank after)) ∙ ap not (of_file c.version x one is_section) in
+      let file : has_file (before ++ begun x k ∷ map blank after) (length before) ≡ true = ap (λ (o : Option Section). not (paged_of o)) (get_at before (begun x k) (map blank after)) ∙ ap not (of_file c.version x k is_section some) in
       let digits : length (pairs_text (piece x.bytes k)) ≡ 2 * length (piece x.bytes k) = length_pairs (piece x.bytes k) in
       let word : IsShortWord 128 (pairs_text (piece x.bytes k)) = record { is = record { some = lt-ltb 0 (length (pairs_text (piece x.bytes k))) (omega arith); plain = pairs_plain (piece x.bytes k) }; short = omega arith } in
       leads_to (with_pieces k) (changed (with_pieces k) (says.Data (length before) (64 * k) (piece x.bytes k))) (with_pieces (k + 1)) (lines.data_line x k ∷ [])
@@ -245,7 +253,7 @@ module _ (c : Config) (w : IsWellFormed c) (one : c.version ≡ version.One) (t 
 
   by_piece : (k : ℕ) → 64 * (k + 1) ≤ length x.bytes → (t : Bool) → are_zeros (piece x.bytes k) ≡ t → Leads (with_pieces k) (if t then [] else lines.data_line x k ∷ []) (with_pieces (k + 1))
   by_piece k le true e = zeros_lead k le e
-  by_piece k le false e = piece_leads k le
+  by_piece k le false e = piece_leads k le e
 
   pieces_lead : (n : ℕ) → 64 * n ≤ length x.bytes → Leads (with_pieces 0) (below (piece_lines x) n) (with_pieces n)
   pieces_lead zero le = leads_none (with_pieces 0)
@@ -261,7 +269,7 @@ module _ (c : Config) (w : IsWellFormed c) (one : c.version ≡ version.One) (t 
       subst (λ (xs : List Section). Leads (declaring c (replicate 14 true) c.params c.bad xs [] [] []) (data_lines x) (declaring c (replicate 14 true) c.params c.bad ((before ++ x ∷ []) ++ map blank after) [] [] [])) first
       (subst (λ (xs : List Section). Leads (with_pieces 0) (data_lines x) (declaring c (replicate 14 true) c.params c.bad xs [] [] [])) last (pieces_lead (length x.bytes / 64) (omega arith)))
 
-pub data_lead : (c : Config) → IsWellFormed c → c.version ≡ version.One → IsTyped c → Leads (declaring c (replicate 14 true) c.params c.bad (map blank c.sections) [] [] []) (flat_map data_lines c.sections) (declaring c (replicate 14 true) c.params c.bad c.sections [] [] [])
-data_lead c w one t =
+pub data_lead : (c : Config) → IsWellFormed c → IsTyped c → Leads (declaring c (replicate 14 true) c.params c.bad (map blank c.sections) [] [] []) (flat_map data_lines c.sections) (declaring c (replicate 14 true) c.params c.bad c.sections [] [] [])
+data_lead c w t =
     subst (λ (xs : List Section). Leads (declaring c (replicate 14 true) c.params c.bad (map blank c.sections) [] [] []) (flat_map data_lines c.sections) (declaring c (replicate 14 true) c.params c.bad xs [] [] [])) (append-nil c.sections)
-    (leads_many data_lines (λ before rest. declaring c (replicate 14 true) c.params c.bad (before ++ map blank rest) [] [] []) c.sections (λ before x after e. section_leads c w one t before x after e))
+    (leads_many data_lines (λ before rest. declaring c (replicate 14 true) c.params c.bad (before ++ map blank rest) [] [] []) c.sections (λ before x after e. section_leads c w t before x after e))

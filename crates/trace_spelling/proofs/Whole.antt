@@ -1,9 +1,8 @@
 -- The whole text of a plain spelling is read as what it spells.
-use Rattle.std.proofs.Common.{◌≡◌, ℕ, ◌<◌, true, false, List, [], ◌∷◌, ◌++◌, map, flat_map, replicate, refl, ap, ◌∙◌, arith}
+use Rattle.std.proofs.Common.{◌≡◌, ℕ, ◌<◌, ◌≤◌, true, false, List, [], ◌∷◌, ◌++◌, map, flat_map, replicate, refl, ap, ◌∙◌, arith}
 use Rattle.std.specs.Prelude.{codes}
 use Rattle.vm_types.specs.Configuration.{IsWellFormed}
 use Rattle.vm_types.specs.declared.config.Config.{Config}
-use Rattle.vm_types.specs.declared.config.Version.TheVariants as version
 use Rattle.trace_lines.specs.declared.places.Place.TheVariants as place
 use Rattle.trace_lines.specs.ParamWords.{default_params}
 use Rattle.trace_reader.specs.Changes.{start}
@@ -31,8 +30,8 @@ text_lines ((word ∷ more) ∷ all) are =
     lines_at (line_text (word ∷ more)) (text_of all) (drawn_one_line (line_text (word ∷ more)) (line_drawn word more are.0.words))
     ∙ ap (λ (ls : List (List ℕ)). line_text (word ∷ more) ∷ ls) (text_lines all are.1)
 
-declarations_lead : (c : Config) → IsWellFormed c → c.version ≡ version.One → IsTyped c → Leads (declaring c (replicate 14 false) default_params [] [] [] [] []) (declaration_lines c) (declaring c (replicate 14 true) c.params c.bad c.sections c.procs c.maps c.fails)
-declarations_lead c w one t =
+declarations_lead : (c : Config) → IsWellFormed c → IsTyped c → Leads (declaring c (replicate 14 false) default_params [] [] [] [] []) (declaration_lines c) (declaring c (replicate 14 true) c.params c.bad c.sections c.procs c.maps c.fails)
+declarations_lead c w t =
     let p0 = declaring c (replicate 14 false) default_params [] [] [] [] [] in
     let p1 = declaring c (replicate 14 true) c.params [] [] [] [] [] in
     let p2 = declaring c (replicate 14 true) c.params c.bad [] [] [] [] in
@@ -54,10 +53,10 @@ declarations_lead c w one t =
     (leads_append p0 p3 p4 (l1 ++ l2 ++ l3) l4
     (leads_append p0 p2 p3 (l1 ++ l2) l3
     (leads_append p0 p1 p2 l1 l2 (params_lead c w) (bads_lead c w))
-    (sections_lead c w one)) (data_lead c w one t)) (processes_lead c w)) (maps_lead c w)) (fails_lead c w t)
+    (sections_lead c w)) (data_lead c w t)) (processes_lead c w)) (maps_lead c w)) (fails_lead c w t)
 
-all_lead : (c : Config) → IsWellFormed c → c.version ≡ version.One → IsTyped c → Leads start (lines_of c) (asking c place.Ended c.body)
-all_lead c w one t =
+all_lead : (c : Config) → IsWellFormed c → IsTyped c → Leads start (lines_of c) (asking c place.Ended c.body)
+all_lead c w t =
     let p0 = declaring c (replicate 14 false) default_params [] [] [] [] [] in
     let p1 = asking c place.Declarations [] in
     let p2 = asking c place.Requests [] in
@@ -70,11 +69,11 @@ all_lead c w one t =
     let end : List Line = (codes "END" ∷ []) ∷ [] in
     leads_append start p3 p4 (l0 ++ l1 ++ (codes "BODY" ∷ []) ∷ l2) end
     (leads_append start p1 p3 (l0 ++ l1) ((codes "BODY" ∷ []) ∷ l2)
-    (leads_append start p0 p1 l0 l1 (headers_lead c w one) (declarations_lead c w one t))
-    (leads_append p1 p2 p3 body l2 (body_leads c w) (requests_lead c w one))) (end_leads c)
+    (leads_append start p0 p1 l0 l1 (headers_lead c w) (declarations_lead c w t))
+    (leads_append p1 p2 p3 body l2 (body_leads c w) (requests_lead c w))) (end_leads c)
 
 pub spelling_is_read : SpellingIsRead
 unfolding spelling
-spelling_is_read c one w t few =
-    let h = all_lead c w one t in
+spelling_is_read c w t few =
+    let h = all_lead c w t in
     ap (judge 1 start) (text_lines (lines_of c) h.printed) ∙ h.judged 1 ([] ∷ []) (omega arith) (omega arith)

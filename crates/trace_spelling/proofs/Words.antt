@@ -6,7 +6,7 @@ use Rattle.std.proofs.lemmas.Bool.{and_from, or_left, or_right}
 use Rattle.std.proofs.lemmas.List.Elements.{All-head, All-tail}
 use Rattle.vm_types.specs.Configuration.{IsName, IsNameByte, IsLetter}
 use Rattle.vm_types.specs.WellFormed.{IsCode, IsServiceOf}
-use Rattle.vm_types.specs.declared.config.Version.TheVariants as version
+use Rattle.vm_types.specs.declared.config.Version.{Version}
 use Rattle.vm_types.specs.declared.reference.Mode.{Mode}
 use Rattle.vm_types.specs.declared.reference.Mode.TheVariants.{K, E, S, U}
 use Rattle.vm_types.specs.declared.reference.Width.TheVariants.{One, Two, Four}
@@ -21,7 +21,7 @@ use Rattle.vm_text.specs.Services.{protection_name, service_name}
 use Rattle.trace_words.specs.declared.ops.Access.{Access}
 use Rattle.trace_words.specs.declared.ops.Access.TheVariants.{Read, Write, Add}
 use Rattle.trace_words.specs.declared.services.ServiceName.{ServiceName}
-use Rattle.trace_words.specs.declared.services.ServiceName.TheVariants.{Create, Delete, Protect, Lock, Unlock, Purge, Adjust}
+use Rattle.trace_words.specs.declared.services.ServiceName.TheVariants.{Create, Delete, Protect, Lock, Unlock, Purge, Pin, Unpin, Adjust}
 use Rattle.trace_words.specs.declared.verbs.Verb.TheVariants as verb
 use Rattle.trace_words.specs.Letter.{letter}
 use Rattle.trace_words.specs.Name.{is_capital, is_name_byte, is_name}
@@ -29,6 +29,7 @@ use Rattle.trace_words.specs.Number.{hexadecimal_digit}
 use Rattle.trace_words.specs.Pairs.{paired, pairs}
 use Rattle.trace_words.specs.Protection.{protection}
 use Rattle.trace_words.specs.VerbWords.{verb_of}
+use Rattle.trace_lines.specs.Requests.{verb_in}
 use Rattle.trace_spelling.specs.Lines.{pairs_text}
 use Rattle.trace_spelling.proofs.Numbers.{hex_digit_read}
 use Rattle.trace_spelling.proofs.Printing.{IsShortWord, literal, passes_each, passes_both, is_plain, from_plain, hex_plain}
@@ -181,21 +182,20 @@ named (service.Protect at pages prot) = Protect
 named (service.Lock at pages) = Lock
 named (service.Unlock at pages) = Unlock
 named (service.Purge at pages) = Purge
--- the words of pins aren't read in version 1
-named (service.Pin at pages) = Lock
-named (service.Unpin at pages) = Unlock
+named (service.Pin at pages) = Pin
+named (service.Unpin at pages) = Unpin
 named (service.Adjust limit) = Adjust
 
-pub service_read : (s : Service) → IsServiceOf version.One s → verb_of (service_name s) ≡ Some (verb.Service (named s))
-service_read (service.Create at pages prot) known = refl
-service_read (service.Delete at pages) known = refl
-service_read (service.Protect at pages prot) known = refl
-service_read (service.Lock at pages) known = refl
-service_read (service.Unlock at pages) known = refl
-service_read (service.Purge at pages) known = refl
-service_read (service.Pin at pages) known = absurd cc
-service_read (service.Unpin at pages) known = absurd cc
-service_read (service.Adjust limit) known = refl
+pub service_read : (v : Version) (s : Service) → IsServiceOf v s → verb_in v (verb_of (service_name s)) ≡ Some (verb.Service (named s))
+service_read v (service.Create at pages prot) known = refl
+service_read v (service.Delete at pages) known = refl
+service_read v (service.Protect at pages prot) known = refl
+service_read v (service.Lock at pages) known = refl
+service_read v (service.Unlock at pages) known = refl
+service_read v (service.Purge at pages) known = refl
+service_read v (service.Pin at pages) known = ap (λ (u : Version). verb_in u (Some (verb.Service Pin))) known
+service_read v (service.Unpin at pages) known = ap (λ (u : Version). verb_in u (Some (verb.Service Unpin))) known
+service_read v (service.Adjust limit) known = refl
 
 pub service_word : (s : Service) → IsShortWord 6 (service_name s)
 service_word (service.Create at pages prot) = literal 6 _ refl refl refl

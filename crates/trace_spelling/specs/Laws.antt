@@ -2,7 +2,6 @@
 use Rattle.std.specs.Prelude.{◌≡◌, ◌^◌, ◌<◌, ◌≤◌, length, All}
 use Rattle.vm_types.specs.Configuration.{IsWellFormed}
 use Rattle.vm_types.specs.declared.config.Config.{Config}
-use Rattle.vm_types.specs.declared.config.Version.TheVariants as version
 use Rattle.trace_reader.specs.Meaning.{Configuration, trace_of}
 use Rattle.trace_spelling.specs.Spelling.{lines_of, spelling}
 
@@ -11,7 +10,7 @@ pub record IsTyped (config : Config) : Type 0 where
   pub bytes : All (λ section. All (λ b. b < 2 ^ 8) section.bytes) config.sections
   pub calls : All (λ fails. All (λ call. call < 2 ^ 32) fails.calls) config.fails
 
--- the plain spelling of a configuration of version 1 is read as what it spells, if it has no more lines than a
--- trace may have
+-- the plain spelling of a configuration is read as what it spells, if it has no more lines than a trace may
+-- have
 abbrev pub SpellingIsRead : Type 0
-SpellingIsRead = (config : Config) → config.version ≡ version.One → IsWellFormed config → IsTyped config → length (lines_of config) ≤ 200000 → trace_of (spelling config) ≡ Configuration config
+SpellingIsRead = (config : Config) → IsWellFormed config → IsTyped config → length (lines_of config) ≤ 200000 → trace_of (spelling config) ≡ Configuration config

@@ -14,6 +14,8 @@ use Rattle.vm_types.specs.declared.config.Section.{Section}
 use Rattle.vm_types.specs.declared.config.SectionKind.{SectionKind}
 use Rattle.vm_types.specs.declared.config.SectionKind.TheVariants as kind
 use Rattle.vm_types.specs.declared.config.Task.{Task}
+use Rattle.vm_types.specs.declared.config.Version.{Version}
+use Rattle.vm_types.specs.declared.config.Version.TheVariants as version
 use Rattle.vm_types.specs.declared.service.Request.{Request}
 use Rattle.vm_types.specs.declared.service.Request.TheVariants as request
 use Rattle.vm_text.specs.Hex.{hex}
@@ -25,10 +27,14 @@ use Rattle.vm_text.specs.Services.{protection_name, service_words}
 abbrev pub Line : Type 0
 Line = List (List ℕ)
 
--- VMTRACE 1, FRAMES n, PAGEFILE n
+abbrev pub version_number : Version → ℕ
+version_number version.One = 1
+version_number version.Two = 2
+
+-- VMTRACE n, FRAMES n, PAGEFILE n
 abbrev pub header_lines : Config → List Line
 header_lines config =
-    (codes "VMTRACE" ∷ decimal 1 ∷ [])
+    (codes "VMTRACE" ∷ decimal (version_number config.version) ∷ [])
     ∷ (codes "FRAMES" ∷ decimal config.frames ∷ [])
     ∷ (codes "PAGEFILE" ∷ decimal config.pagefile ∷ [])
     ∷ []

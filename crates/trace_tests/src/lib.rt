@@ -4,8 +4,6 @@
 #![tactic(auto)]
 
 #[cfg(test)]
-mod of_line_source;
-#[cfg(test)]
 mod of_read_head;
 #[cfg(test)]
 mod of_trace_lines;

@@ -1,6 +1,5 @@
 use arrayvec::ArrayVec;
-use line_source::Lines;
-use outside_io::MemorySource;
+use outside_io::{Lines, MemorySource};
 use std::alloc::Global;
 use std::process::Abort;
 use std::test::Fail;
@@ -26,7 +25,7 @@ fn head(
     let mut left = 0;
     for n in 1..10 {
         match lines.next(&mut out) {
-            Ok(line_source::Line::Text { .. }) => left = n,
+            Ok(outside_io::Line::Text { .. }) => left = n,
             _ => break,
         }
     }

@@ -62,11 +62,16 @@ fn joined(alloc: Global, head: &[u8], tail: &[u8]) -> Result<Vec<u8>, AllocError
 
 // From the first line on.
 const HEADERS: &[u8] = b"\
-R VMTRACE 2\n\
+R VMTRACE 0\n\
+R VMTRACE 3\n\
 P FRAMES 8\n\
 R VMTRACE 1;FRAMES 7\n\
 R VMTRACE 1;FRAMES 4097\n\
 R VMTRACE 1;FRAMES 4096;PAGEFILE 0\n\
+R VMTRACE 2;FRAMES 7\n\
+R VMTRACE 2;FRAMES 16385\n\
+. VMTRACE 2;FRAMES 16384\n\
+R VMTRACE 2;FRAMES 16384;PAGEFILE 0\n\
 R VMTRACE 1;FRAMES 8;PAGEFILE 16385\n\
 P VMTRACE 1;FRAMES 8;PAGEFILE 16384;END\n\
 N VMTRACE 1;!\rx\n\
@@ -92,6 +97,25 @@ R PROCESS A 2 2 6 0;PARAM WAITLIMIT 127;BODY\n\
 S SECTION AB CRF 1;FAIL S:AB/1 1\n\
 R SECTION AB CRF 1;PROCESS A 2 2 6 0;MAPSEC A 0 1 AB 1 UW\n\
 R SECTION AB CRF 1;PROCESS A 2 2 6 0;MAPSEC A 0 2 AB 0 UW\n\
+";
+
+// Three lines that give a machine of version 2.
+const SECOND_MACHINE: &[u8] = b"VMTRACE 2\nFRAMES 8\nPAGEFILE 4\n";
+
+// Behind them.
+const OF_VERSION_TWO: &[u8] = b"\
+. SECTION LIB PAGED 1\n\
+T SECTION LIB PAGED 16385\n\
+U SECTION LIB PAGE 1\n\
+S SECTION LIB PAGED 1;DATA LIB 0 00\n\
+S SECTION LIB PAGED 1;FAIL S:LIB/0 1\n\
+. PROCESS A 4 4 4 1;PROCESS B 4 4 4 1;BODY\n\
+R PROCESS A 4 4 4 1;PROCESS B 4 4 4 2;BODY\n\
+. PROCESS A 4 4 4 1;BODY;A LCKPAG 0 1\n\
+. PROCESS A 4 4 4 1;BODY;A ULKPAG 0 1\n\
+R PROCESS A 4 4 4 1;BODY;A LCKPAG 0 0\n\
+P PROCESS A 4 4 4 1;BODY;A LCKPAG 0\n\
+S PROCESS A 4 4 4 1;BODY;B LCKPAG 0 1\n\
 ";
 
 // The least and the greatest value of each parameter, and one above it.
@@ -193,6 +217,9 @@ U A SETPRT 0 1 XX\n\
 R A LKWSET 0 0\n\
 R A ULWSET 0 4097\n\
 R A PURGWS 001FFE00 2\n\
+U A LCKPAG 0 1\n\
+U A ULKPAG 0\n\
+S B LCKPAG 0 1\n\
 . A ADJWSL 4294967295\n\
 R A ADJWSL 4294967296\n\
 P MAPZERO A 0 1 UW\n\
@@ -343,6 +370,7 @@ fn judges_each_kind_of_line(rt: HostRuntime) -> Result<(), Fail> {
     let alloc = rt.alloc();
     judges(&rt, alloc, b"", 1, HEADERS)?;
     judges(&rt, alloc, MACHINE, 4, LISTS)?;
+    judges(&rt, alloc, SECOND_MACHINE, 4, OF_VERSION_TWO)?;
     judges(&rt, alloc, HEAD, 5, PARAMETERS)?;
     judges(&rt, alloc, HEAD, 5, DECLARATIONS)?;
     let head = joined(alloc, HEAD, b"BODY\n")?;
@@ -490,6 +518,22 @@ fn answers_in_the_order_of_the_bytes(rt: HostRuntime) -> Result<(), Fail> {
     }
     what_is_read_is_well_formed();
     a_shown_fault_stays();
+    Ok(())
+}
+
+// Each read of single bytes fails in turn, and that of the end; the call after it isn't come to.
+#[test]
+fn each_read_fails_in_turn(rt: HostRuntime) -> Result<(), Fail> {
+    let alloc = rt.alloc();
+    let after = WHOLE.len().saturating_add(2);
+    for fails in 1..after {
+        let mut source = dripping(WHOLE.to_vec(alloc)?, fails);
+        let answer = read_trace(alloc, &mut source, &mut ArrayVec::new()).err();
+        assert_eq!(rt; answer, Some(TraceFault::ReadFault));
+    }
+    let mut source = dripping(WHOLE.to_vec(alloc)?, after);
+    let answer = read_trace(alloc, &mut source, &mut ArrayVec::new());
+    assert!(rt; answer.is_ok());
     Ok(())
 }
 

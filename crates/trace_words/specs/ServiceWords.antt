@@ -2,7 +2,7 @@
 -- Structures"; their form in a trace is this project's own.
 use Rattle.std.specs.Prelude.{ℕ, List, Option, Some, None, codes, if◌then◌else◌}
 use Rattle.trace_words.specs.declared.services.ServiceName.{ServiceName}
-use Rattle.trace_words.specs.declared.services.ServiceName.TheVariants.{Create, Delete, Protect, Lock, Unlock, Purge, Adjust}
+use Rattle.trace_words.specs.declared.services.ServiceName.TheVariants.{Create, Delete, Protect, Lock, Unlock, Purge, Pin, Unpin, Adjust}
 use Rattle.trace_words.specs.Words.{is}
 
 abbrev pub service_name : List ℕ → Option ServiceName
@@ -13,5 +13,7 @@ service_name word =
     else if is word (codes "LKWSET") then Some Lock
     else if is word (codes "ULWSET") then Some Unlock
     else if is word (codes "PURGWS") then Some Purge
+    else if is word (codes "LCKPAG") then Some Pin
+    else if is word (codes "ULKPAG") then Some Unpin
     else if is word (codes "ADJWSL") then Some Adjust
     else None

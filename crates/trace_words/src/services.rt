@@ -18,6 +18,10 @@ pub enum ServiceName {
     Unlock,
     /// Purge pages from the working set.
     Purge,
+    /// Lock pages in memory.
+    Pin,
+    /// Unlock pages from memory.
+    Unpin,
     /// Adjust the working set limit.
     Adjust,
 }
@@ -38,6 +42,10 @@ pub fn service_name(word: &[u8]) -> Option<ServiceName>
         Some(ServiceName::Unlock)
     } else if is(word, b"PURGWS") {
         Some(ServiceName::Purge)
+    } else if is(word, b"LCKPAG") {
+        Some(ServiceName::Pin)
+    } else if is(word, b"ULKPAG") {
+        Some(ServiceName::Unpin)
     } else if is(word, b"ADJWSL") {
         Some(ServiceName::Adjust)
     } else {

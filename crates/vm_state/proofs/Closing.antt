@@ -58,7 +58,6 @@ module _ {B : Type 0} {seen : B → BlockView} {tells : Tells} {config : Config}
     closed e shows legal paid store' fields' fit moves places =
         record {
           formed = before.formed;
-          version = before.version;
           run = (before.run, legal);
           short = (let short = before.short in omega (arith, short, paid));
           paid = omega (arith, paid);

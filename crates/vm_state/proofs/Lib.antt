@@ -27,10 +27,10 @@ pub mod OutCloses
 pub mod LiftLandings
 pub mod CarrierLands
 pub mod PageShows
+mod PinCloses
 pub mod WordShows
 pub mod ProcessShows
 pub mod FlightShows
 pub mod FlatShows
 pub mod EndCloses
 pub mod AnswerShows
-pub mod NeverPinned

@@ -22,7 +22,7 @@ use Rattle.vm_journal.specs.declared.entry.Role.TheVariants as role
 use Rattle.vm_journal.specs.declared.entry.What.TheVariants as what
 use Rattle.global_pages.specs.GlobalPages.{GlobalPages}
 use Rattle.page_file.specs.Blocks.{Blocks}
-use Rattle.page_moves.specs.Moves.{HasNumber, MayHold, number_by}
+use Rattle.page_changes.specs.Moves.{HasNumber, MayHold, number_by}
 use Rattle.page_tables.specs.PageTables.{PageTables}
 use Rattle.pfn_database.specs.Frames.{Frames}
 use Rattle.pager_laws.proofs.FewCounts.{counts_few}

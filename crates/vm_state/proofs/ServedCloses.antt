@@ -1,5 +1,5 @@
 -- SERVED closes, by service and answer.
-use Rattle.std.proofs.Common.{◌≡◌, ℕ, ◌+◌, ◌-◌, ◌≤◌, true, false, List, ◌∷◌, Option, Some, length, slice_index_or, slice_set, refl}
+use Rattle.std.proofs.Common.{◌≡◌, ℕ, ◌+◌, ◌-◌, ◌≤◌, Bool, true, false, List, ◌∷◌, Option, Some, length, slice_index_or, slice_set, refl}
 use Rattle.std.specs.Option.{option_map}
 use Rattle.vm_types.specs.BlockView.{BlockView, Tells}
 use Rattle.vm_types.specs.Ring.{Ring}
@@ -20,16 +20,17 @@ use Rattle.pte_forms.specs.declared.pte.Place.TheVariants as place
 use Rattle.pte_forms.specs.declared.pte.Pte.{Pte}
 use Rattle.section_table.specs.SectionTable.{SectionTable, behind_of}
 use Rattle.pager_model.specs.Forget.{after_delete}
-use Rattle.pager_model.specs.Ring.{range_locked}
+use Rattle.pager_model.specs.Ring.{range_locked, range_pinned}
 use Rattle.pager_model.specs.Run.{pager_after}
+use Rattle.pager_model.specs.Served.{with_ring}
 use Rattle.pager_model.specs.Step.{IsLegal}
 use Rattle.frame_store.specs.StoreView.{StoreView}
 use Rattle.state_parts.specs.declared.process_row.ProcessRow.{ProcessRow}
 use Rattle.state_parts.specs.declared.spoken_row.SpokenRow.{SpokenRow}
 use Rattle.state_fits.specs.Parts.{Parts}
 use Rattle.state_fits.specs.PartsFit.{PartsFit}
-use Rattle.state_fits.specs.Serving.{is_serving, ranged, with_code}
-use Rattle.state_fits.proofs.ServedParts.{FitAfter, adjusted_parts, created_parts, deleted_parts, left_parts, locked_parts, protected_parts, unlocked_parts}
+use Rattle.state_fits.specs.Serving.{is_serving, pin_service, ranged, with_code}
+use Rattle.state_fits.proofs.ServedParts.{FitAfter, adjusted_parts, created_parts, deleted_parts, left_parts, locked_parts, pinned_parts, protected_parts, unlocked_parts}
 use Rattle.vm_state.specs.History.{owed}
 use Rattle.vm_state.specs.StateKept.{IsState}
 use Rattle.vm_state.proofs.Closing.{closed, kept}
@@ -86,6 +87,16 @@ module _ {B : Type 0} {seen : B → BlockView} {tells : Tells} {config : Config}
     created_closes at pages prot tables' procs changed sections' procs_s kinds behind legal paid =
         rw is (answered_closes (service.Create at pages prot) answer.Good legal paid store.frames _
         (created_parts config past (pager_after config past) seat fields before.parts y read_y at pages prot (kept before) legal tables' procs changed sections' procs_s kinds behind))
+
+  -- once the pages of the range are pinned, or unpinned
+  pub pinned_closes : (pin : Bool) (at : Addr) (pages n : ℕ) → IsLegal config past (pager_after config past) (record { seat = seat; what = what.Served (pin_service pin at pages) (answer.Count n) })
+      → owed (record { seat = seat; what = what.Served (pin_service pin at pages) (answer.Count n) } ∷ past) + 1 ≤ spare
+      → (frames : Frames) (fields' : Parts) → PartsFit config past (with_ring (pager_after config past) seat.0 (range_pinned pin at.0 pages ((pager_after config past).ring seat.0))) fields'
+      → (y : SpokenRow) → y ≡ slice_index_or fields'.spoken seat.0 y → (number : ℕ) → number ≡ length past + 1
+      → IsState seen tells config (record { seat = seat; what = what.Served (pin_service pin at pages) (answer.Count n) } ∷ past) (spare - 1) (record store { frames = frames })
+      (record fields' { spoken = slice_set fields'.spoken seat.0 (record { last = Some number; count = y.count + 1 }) }) numbers
+  pinned_closes pin at pages n legal paid frames fields' fit y read_y number is =
+      rw is (answered_closes (pin_service pin at pages) (answer.Count n) legal paid frames _ (pinned_parts config past (pager_after config past) seat pin at pages n legal fields' fit y read_y))
 
   -- once the pages of the range are deleted
   pub deleted_closes : (at : Addr) (pages : ℕ) → IsLegal config past (pager_after config past) (record { seat = seat; what = what.Served (service.Delete at pages) answer.Good })

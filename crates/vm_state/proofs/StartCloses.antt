@@ -8,7 +8,6 @@ use Rattle.std.proofs.lemmas.Option.{get_or_from_slice_get, slice_get-map, slice
 use Rattle.vm_types.specs.BlockView.{BlockView, Tells}
 use Rattle.vm_types.specs.Configuration.{IsBlock, IsWellFormed}
 use Rattle.vm_types.specs.declared.config.Config.{Config}
-use Rattle.vm_types.specs.declared.config.Version.TheVariants as version
 use Rattle.vm_types.specs.declared.names.BlockId.{BlockId}
 use Rattle.vm_types.specs.declared.names.BlockId.TheVariants as block
 use Rattle.run_record.specs.RunRecord.{Recorded}
@@ -105,12 +104,11 @@ module _ {B : Type 0} (seen : B → BlockView) (tells : Tells) (config : Config)
       first = λ telling s i x there. let made = made_at (block.Section s i) x there in ap (λ (t : BlockView). t.content) made.1 ∙ (made.3).first telling s i refl;
     }
 
-    pub started : (fields : Parts) (numbers : List ℕ) (journal : Recorded) {keeps : Bool} → IsWellFormed config → config.version ≡ version.One → AreFirst config fields → HasFirsts config numbers → journal ≡ record { entries = []; spare = 0; keeps = keeps }
+    pub started : (fields : Parts) (numbers : List ℕ) (journal : Recorded) {keeps : Bool} → IsWellFormed config → AreFirst config fields → HasFirsts config numbers → journal ≡ record { entries = []; spare = 0; keeps = keeps }
         → IsState seen tells config (reverse journal.entries) journal.spare store fields numbers
-    started fields numbers journal formed one first have is =
+    started fields numbers journal formed first have is =
         subst (λ (j : Recorded). IsState seen tells config (reverse j.entries) j.spare store fields numbers) (sym is) (record {
           formed = formed;
-          version = one;
           run = tt;
           short = omega arith;
           paid = omega arith;

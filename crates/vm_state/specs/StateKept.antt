@@ -4,7 +4,6 @@ use Rattle.std.specs.Option.{option_map}
 use Rattle.vm_types.specs.BlockView.{BlockView, Tells}
 use Rattle.vm_types.specs.Configuration.{IsWellFormed}
 use Rattle.vm_types.specs.declared.config.Config.{Config}
-use Rattle.vm_types.specs.declared.config.Version.TheVariants as version
 use Rattle.vm_types.specs.declared.names.BlockId.{BlockId}
 use Rattle.vm_journal.specs.declared.entry.Entry.{Entry}
 use Rattle.pager_model.specs.Content.{ContentFits}
@@ -37,11 +36,10 @@ module _ {B : Type 0} (seen : B → BlockView) where
   abbrev pub home_in : Config → StoreView B → BlockId → Option BlockView
   home_in config store b = option_map seen (block_at config store.blocks b)
 
-  -- the configuration is of version 1; the entries are a run; the parts stand for the state that it leads to; buffers and blocks have the bytes that
+  -- the entries are a run; the parts stand for the state that it leads to; buffers and blocks have the bytes that
   -- they should; what is due is paid for; and if blocks tell their content each answered reference shows the flat reply
   pub record IsState (tells : Tells) (config : Config) (past : List Entry) (spare : ℕ) (store : StoreView B) (fields : Parts) (numbers : List ℕ) : Type 0 where
     pub formed : IsWellFormed config
-    pub version : config.version ≡ version.One
     pub run : IsRun config past
     pub short : length past + spare ≤ 2 ^ 48
     pub paid : owed past ≤ spare

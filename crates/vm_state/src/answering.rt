@@ -28,11 +28,8 @@ impl<B: Block> State<B> {
             Answer::Count(count) => match s {
                 Service::Lock { at, pages } => self.lock(seat, at, pages, count),
                 Service::Unlock { at, pages } => self.unlock(seat, at, pages, count),
-                // Pages are pinned in version 2 alone.
-                Service::Pin { .. } | Service::Unpin { .. } => {
-                    self.run_law();
-                    unreachable!()
-                }
+                Service::Pin { at, pages } => self.repin(seat, at, pages, true, count),
+                Service::Unpin { at, pages } => self.repin(seat, at, pages, false, count),
                 Service::Create { .. }
                 | Service::Delete { .. }
                 | Service::Protect { .. }

@@ -2,7 +2,7 @@ ghost use Rattle.std.specs.Prelude.{◌≡◌};
 
 use crate::state::State;
 use disk_trait::Block;
-use page_ranges::{empty_frame, uncharge};
+use page_changes::{empty_frame, uncharge};
 use page_readers::entry_in;
 use vm_journal::{Entry, What};
 use vm_types::{Addr, Answer, Page, Proc, Seat, Service};

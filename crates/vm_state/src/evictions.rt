@@ -25,8 +25,8 @@ impl<B: Block> State<B> {
         let kept = self.store.frames().row(f);
         let page = kept.page.unwrap();
         let row = &mut self.processes[p.0 as usize];
-        give_up(&mut row.ring, row.limit, why, vpn);
-        leave(self.store.frames_mut(), f);
+        let pinned = give_up(&mut row.ring, row.limit, why, vpn);
+        leave(self.store.frames_mut(), f, pinned);
         let place = left_at(&self.firsts, f, page);
         self.tables.set(p, vpn, Pte { prot, place });
         unshare(&mut self.globals, &self.firsts, page);

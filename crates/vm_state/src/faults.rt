@@ -3,7 +3,7 @@ ghost use Rattle.std.specs.Prelude.{◌≡◌};
 use crate::state::State;
 use disk_trait::Block;
 use frame_changes::enter;
-use page_moves::mapped_page;
+use page_changes::mapped_page;
 use page_readers::{entry_in, frame_slot, hold, share};
 use pte_forms::{Place, Pte};
 use state_parts::{ChargedPage, take_slot};

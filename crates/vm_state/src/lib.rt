@@ -10,6 +10,7 @@ mod deletions;
 mod ends;
 mod evictions;
 mod faults;
+mod first_parts;
 mod flight_readers;
 mod kept;
 mod landings;

@@ -11,7 +11,7 @@ ghost use Rattle.page_readers.specs.Shown.{frame_number};
 
 use crate::state::State;
 use disk_trait::Block;
-use page_moves::is_paged;
+use page_changes::is_paged;
 use page_readers::{
     Backing, Found, changes, entry_in, found_shown, frame_in, is_touched_row, is_valid,
     own_backing, section_page, shared_backing, shared_home, some_waits,

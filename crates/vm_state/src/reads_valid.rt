@@ -4,7 +4,7 @@ use crate::state::State;
 use disk_trait::Block;
 use frame_changes::end_read;
 use frame_store::{Carried, Lift};
-use page_moves::first_read;
+use page_changes::first_read;
 use page_readers::{come_home, entry_in, frame_slot, share};
 use pte_forms::{Place, Pte};
 use state_parts::take_slot;

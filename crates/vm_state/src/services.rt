@@ -1,12 +1,25 @@
 ghost use Rattle.std.specs.Prelude.{◌≡◌, false};
-ghost use Rattle.state_fits.specs.Serving.{is_serving};
+ghost use Rattle.state_fits.specs.Serving.{is_serving, pin_service};
 
 use crate::state::State;
 use disk_trait::Block;
-use page_ranges::{create_zeros, protect};
-use state_parts::lock_range;
+use frame_changes::count_pin;
+use page_changes::{create_zeros, protect};
+use page_readers::frame_in;
+use state_parts::{lock_range, mark_pin, page_to_pin};
 use vm_journal::{Entry, What};
 use vm_types::{Addr, Answer, Proc, Seat, Service};
+
+/// The service that pins, or unpins, the pages of a range.
+fn pin_service(pin: bool, at: Addr, pages: u32) -> Service
+    ensures { result ≡ pin_service pin at pages }
+{
+    if pin {
+        Service::Pin { at, pages }
+    } else {
+        Service::Unpin { at, pages }
+    }
+}
 
 impl<B: Block> State<B> {
     ghost use Rattle.vm_journal.specs.declared.entry.What.{What};
@@ -86,6 +99,34 @@ impl<B: Block> State<B> {
             seat,
             what: What::Served {
                 s: Service::Unlock { at, pages },
+                answer: Answer::Count(count),
+            },
+        });
+    }
+
+    /// Pins, or unpins, the valid pages of a range of the seat's process in memory, and answers how many.
+    pub fn repin(&mut self, seat: Seat, at: Addr, pages: u32, pin: bool, count: u32)
+        requires { MayAdd self.old (entry_by seat (What.Served (pin_service pin at pages) (Answer.Count count))) }
+        ensures { self.new ≡ added self.old (entry_by seat (What.Served (pin_service pin at pages) (Answer.Count count))) }
+    {
+        let p = Proc(seat.0);
+        let number = self.journal.len() + 1;
+        let slots = self.processes[seat.0 as usize].ring.slots();
+        for slot in 0..slots {
+            let row = &mut self.processes[seat.0 as usize];
+            if let Some(vpn) = page_to_pin(&row.ring, slot, at, pages, pin) {
+                mark_pin(&mut row.ring, slot, pin);
+                let f = frame_in(self.tables.look(p, vpn)).unwrap();
+                count_pin(self.store.frames_mut(), f, pin);
+            }
+        }
+        let spoken = &mut self.spoken[seat.0 as usize];
+        spoken.last = Some(number);
+        spoken.count += 1;
+        self.journal.push(Entry {
+            seat,
+            what: What::Served {
+                s: pin_service(pin, at, pages),
                 answer: Answer::Count(count),
             },
         });

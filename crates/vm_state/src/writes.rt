@@ -4,9 +4,9 @@ use crate::state::State;
 use disk_trait::Block;
 use frame_changes::end_write;
 use frame_store::{Carried, Lift};
+use page_changes::lie_unless;
 use vm_journal::{Entry, What};
 use vm_types::Seat;
-use write_moves::lie_unless;
 
 impl<B: Block> State<B> {
     ghost use Rattle.vm_journal.specs.declared.entry.What.{What};

@@ -5,9 +5,9 @@ use disk_trait::Block;
 use frame_changes::begin_write;
 use frame_store::Lift;
 use lift_carriers::Carrier;
+use page_changes::give_block;
 use vm_journal::{Entry, What};
 use vm_types::{BlockId, Pfn, Seat};
-use write_moves::give_block;
 
 impl<B: Block> State<B> {
     ghost use Rattle.frame_store.specs.LiftView.{LiftView};

@@ -1,4 +1,4 @@
-use Rattle.line_source.specs.BytesLeft.{bytes_left}
+use Rattle.outside_io.specs.BytesLeft.{bytes_left}
 use Rattle.check_command.proofs.Verdicts.{log_told, log_counts, log_text}
 use Rattle.check_command.proofs.judging.judge_lines.Goals as goal
 

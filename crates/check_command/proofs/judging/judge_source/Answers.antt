@@ -1,7 +1,7 @@
 use Rattle.std.proofs.Common.{rules, List, ℕ, subst}
 use Rattle.std.specs.declared.option.Option.{Option}
 use Rattle.check_command.specs.Answers.{KeepsText}
-use Rattle.line_source.specs.BytesLeft.{bytes_left, pending}
+use Rattle.outside_io.specs.BytesLeft.{bytes_left, pending}
 use Rattle.check_command.proofs.Verdicts.{read_told}
 use Rattle.check_command.proofs.judging.judge_source.Goals as goal
 

@@ -1,6 +1,6 @@
 use Rattle.std.proofs.Common.{◌∙◌, List, ℕ, ap, take, arith}
 use Rattle.std.proofs.lemmas.Result.{err_from_is_err_and}
-use Rattle.line_source.specs.BytesLeft.{bytes_left}
+use Rattle.outside_io.specs.BytesLeft.{bytes_left}
 use Rattle.log_check.proofs.Fronts.{last_kept, next_kept}
 use Rattle.log_check.proofs.Logs.{log_ended, log_judged, log_unbegun}
 use Rattle.log_check.proofs.check.check_log.Goals as goal

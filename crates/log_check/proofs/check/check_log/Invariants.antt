@@ -1,6 +1,6 @@
 use Rattle.std.proofs.Common.{◌≡◌, ◌≤◌, length}
 use Rattle.std.specs.Prelude.{IfSome, IsSome}
-use Rattle.line_source.specs.BytesLeft.{bytes_left}
+use Rattle.outside_io.specs.BytesLeft.{bytes_left}
 use Rattle.log_check.specs.Followed.{IsFollowed}
 use Rattle.log_check.specs.Reading.{HasRead, IsBehind}
 use Rattle.log_check.proofs.check.check_log.Given as goal

@@ -1,5 +1,5 @@
 use Rattle.std.proofs.Common.{lit≤, refl}
-use Rattle.line_source.specs.BytesLeft.{bytes_left}
+use Rattle.outside_io.specs.BytesLeft.{bytes_left}
 use Rattle.log_model.specs.Log.{most_lines}
 use Rattle.log_check.proofs.Answered.{told_end, told_longer, told_more, told_unread}
 use Rattle.log_check.proofs.Fronts.{end_front, front_is}

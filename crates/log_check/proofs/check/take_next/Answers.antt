@@ -1,6 +1,6 @@
 use Rattle.std.proofs.Common.{ap, arith}
 use Rattle.std.proofs.lemmas.Result.{IfErr-at_err}
-use Rattle.line_source.specs.BytesLeft.{bytes_left}
+use Rattle.outside_io.specs.BytesLeft.{bytes_left}
 use Rattle.log_check.specs.Refusing.{FailsAt}
 use Rattle.log_check.specs.Results.{ok_of}
 use Rattle.log_check.proofs.Answered.{told_end, told_fault, told_long, told_on, told_short, told_unended, told_unread}

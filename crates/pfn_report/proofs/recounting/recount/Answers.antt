@@ -1,6 +1,6 @@
 use Rattle.std.proofs.Common.{◌∙◌, List, ap, length, map, subst, sym, arith}
 use Rattle.std.specs.Prelude.{replicate}
-use Rattle.std.proofs.lemmas.List.{length-map, length-reverse}
+use Rattle.std.proofs.lemmas.List.{length-map}
 use Rattle.std.proofs.lemmas.List.FromFn.{length-map-range_with_len}
 use Rattle.vm_types.specs.declared.config.Config.{Config}
 use Rattle.pager_model.specs.Report.{FrameRow, all_states, frame_row, in_state}
@@ -12,11 +12,18 @@ use Rattle.report_lines.proofs.Prints.{report_printable}
 use Rattle.pfn_report.proofs.SlotsPassed.{counts_none}
 use Rattle.pfn_report.proofs.recounting.recount.Goals as goal
 
-pub process_rows-requires-after_bounds : goal.process_rows-requires-after_bounds
-process_rows-requires-after_bounds g c κs within =
+pub process_rows-requires-clause-no_shares : goal.process_rows-requires-clause-no_shares
+process_rows-requires-clause-no_shares g c κs within =
     let frames = c.args.state.now.config.frames in
     subst (AreCounts frames (λ f. 0))
     (sym (c.deref_mut.ensures.value ∙ (c.in_ok-counts.ensures ∙ ap (λ (x : Config). replicate x.frames 0) c.config-config.ensures)))
+    (counts_none frames)
+
+pub process_rows-requires-clause-no_pins : goal.process_rows-requires-clause-no_pins
+process_rows-requires-clause-no_pins g c κs within =
+    let frames = c.args.state.now.config.frames in
+    subst (AreCounts frames (λ f. 0))
+    (sym (c.deref_mut-2.ensures.value ∙ (c.in_ok-pins.ensures ∙ ap (λ (x : Config). replicate x.frames 0) c.config-config.ensures)))
     (counts_none frames)
 
 pub count_states-requires : goal.count_states-requires

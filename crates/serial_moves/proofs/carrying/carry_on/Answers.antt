@@ -23,7 +23,7 @@ pub returns-in-Request-clause-carried : goal.returns-in-Request-clause-carried
 returns-in-Request-clause-carried g c =
     request_failed c.args.state.now c.carry_and_land-landed.new.state c.args.seat c.carry_and_land-landed.result
     (landed_here c.args.state.now c.args.seat c.args.carrier.now c.requires.loaded _ _ c.carry_and_land-landed.ensures.landed) c.carry_and_land-landed.ensures.same
-    g.B.Block.tells.content c.args.next c.args.ends c.refuse.new.state c.refuse.result c.in-Request.is c.if-landed.true c.refuse.ensures
+    g.B.Block.tells.content c.args.next c.args.ends c.refuse.new.state c.refuse.result c.in-Request.is c.if-landed.true c.refuse.ensures.refused
 
 pub returns-in-Part-clause-carrier : goal.returns-in-Part-clause-carrier
 returns-in-Part-clause-carrier g c = emptied c.args.state.now c.args.seat c.args.carrier.now c.requires.loaded _ c.carry_and_land-landed.ensures.carrier

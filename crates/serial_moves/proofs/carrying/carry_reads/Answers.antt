@@ -23,7 +23,7 @@ pub returns-then-landed-clause-carried : goal.returns-then-landed-clause-carried
 returns-then-landed-clause-carried g c =
     first_lost c.args.state.now c.carry_and_land-landed.new.state c.args.seat c.carry_and_land-landed.result
     (landed_here c.args.state.now c.args.seat c.args.carrier.now c.requires.loaded _ _ c.carry_and_land-landed.ensures.landed) c.carry_and_land-landed.ensures.same
-    g.B.Block.tells.content c.args.next c.refuse.new.state c.refuse.result c.if-landed.true c.refuse.ensures
+    g.B.Block.tells.content c.args.next c.refuse.new.state c.refuse.result c.if-landed.true c.refuse.ensures.refused
 
 pub returns-else-landed-clause-carrier : goal.returns-else-landed-clause-carrier
 returns-else-landed-clause-carrier g c = emptied c.args.state.now c.args.seat c.args.carrier.now c.requires.loaded _ c.carry_and_land-landed.ensures.carrier

@@ -1,9 +1,9 @@
 use Rattle.std.proofs.Common.{◌∙◌, ℕ, List, Ok, Err, sym, subst, ap, take}
 use Rattle.std.specs.Prelude.{IfSome}
-use Rattle.line_source.specs.declared.lines.Line.{Line}
-use Rattle.line_source.specs.declared.lines.Line.TheVariants.{Text}
-use Rattle.line_source.specs.HandedOut.{HandsOut, Takes}
-use Rattle.line_source.specs.BytesLeft.{bytes_left}
+use Rattle.outside_io.specs.declared.lines.Line.{Line}
+use Rattle.outside_io.specs.declared.lines.Line.TheVariants.{Text}
+use Rattle.outside_io.specs.HandedOut.{HandsOut, Takes}
+use Rattle.outside_io.specs.BytesLeft.{bytes_left}
 use Rattle.trace_lines.specs.declared.breach.Breach.{Breach}
 use Rattle.trace_reader.specs.declared.fault.TraceFault.TheVariants as fault
 use Rattle.trace_reader.specs.HeadAnswer.{HeadAnswers}

@@ -1,6 +1,6 @@
 use Rattle.std.proofs.Common.{◌≡◌, ◌-◌}
 use Rattle.std.specs.Prelude.{IsSome}
-use Rattle.line_source.specs.BytesLeft.{bytes_left}
+use Rattle.outside_io.specs.BytesLeft.{bytes_left}
 use Rattle.trace_reader.specs.Stream.{IsReading}
 use Rattle.trace_reader.specs.HeadAnswer.{IsTold}
 use Rattle.trace_reader.proofs.head.read_head.Given as goal

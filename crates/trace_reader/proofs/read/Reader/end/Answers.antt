@@ -13,12 +13,3 @@ returns-in-Ended-clause-well_formed c =
       | else-not-is_empty w ↦ subst (λ (r : Reader). IsDraft r.draft.part) (sym w.self-is) c.requires.draft
     ])
     c.in-Ended.is
-
-pub returns-in-Ended-clause-version : goal.returns-in-Ended-clause-version
-returns-in-Ended-clause-version c =
-    let draft : IsDraft c.if-not-is_empty.self.draft.part =
-    elim c.if-not-is_empty.branch [
-      | then-not-is_empty+in_ok-take_line w ↦ subst (λ (r : Reader). IsDraft r.draft.part) (sym w.self-is) w.in_ok-take_line.ensures.ok.reading.draft
-      | else-not-is_empty w ↦ subst (λ (r : Reader). IsDraft r.draft.part) (sym w.self-is) c.requires.draft
-    ] in
-    draft.sound.version

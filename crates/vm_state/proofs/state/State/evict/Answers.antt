@@ -9,11 +9,11 @@ use Rattle.page_readers.proofs.Looked.{looked}
 use Rattle.vm_state.proofs.Numbered.{numbered}
 use Rattle.vm_state.proofs.state.State.evict.Goals as goal
 
-pub give_up-requires-clause-held : goal.give_up-requires-clause-held
-give_up-requires-clause-held g c = (close.can c.self.invariant c.args.seat c.args.p c.args.a c.args.f c.args.why c.args.to (may_before c.self.view_is c.requires).legal).slot c.index_mut-row.result.now c.index_mut-row.ensures.value
+pub give_up-pinned-requires-clause-held : goal.give_up-pinned-requires-clause-held
+give_up-pinned-requires-clause-held g c = (close.can c.self.invariant c.args.seat c.args.p c.args.a c.args.f c.args.why c.args.to (may_before c.self.view_is c.requires).legal).slot c.index_mut-row.result.now c.index_mut-row.ensures.value
 
-pub give_up-requires-clause-victim : goal.give_up-requires-clause-victim
-give_up-requires-clause-victim g c = (close.can c.self.invariant c.args.seat c.args.p c.args.a c.args.f c.args.why c.args.to (may_before c.self.view_is c.requires).legal).victim c.index_mut-row.result.now c.index_mut-row.ensures.value
+pub give_up-pinned-requires-clause-victim : goal.give_up-pinned-requires-clause-victim
+give_up-pinned-requires-clause-victim g c = (close.can c.self.invariant c.args.seat c.args.p c.args.a c.args.f c.args.why c.args.to (may_before c.self.view_is c.requires).legal).victim c.index_mut-row.result.now c.index_mut-row.ensures.value
 
 pub row-kept-requires : goal.row-kept-requires
 row-kept-requires g c = rw c.frames.ensures ((close.can c.self.invariant c.args.seat c.args.p c.args.a c.args.f c.args.why c.args.to (may_before c.self.view_is c.requires).legal).below)
@@ -26,6 +26,9 @@ leave-requires-clause-active g c = rw c.frames_mut.ensures.value ((close.can c.s
 
 pub leave-requires-clause-shares : goal.leave-requires-clause-shares
 leave-requires-clause-shares g c = rw c.frames_mut.ensures.value ((close.can c.self.invariant c.args.seat c.args.p c.args.a c.args.f c.args.why c.args.to (may_before c.self.view_is c.requires).legal).shares)
+
+pub leave-requires-clause-pins : goal.leave-requires-clause-pins
+leave-requires-clause-pins g c = λ pinned. rw c.frames_mut.ensures.value ((close.can c.self.invariant c.args.seat c.args.p c.args.a c.args.f c.args.why c.args.to (may_before c.self.view_is c.requires).legal).pins c.index_mut-row.result.now c.index_mut-row.ensures.value (sym c.give_up-pinned.ensures.pinned ∙ pinned))
 
 pub unwrap-prot-requires : goal.unwrap-prot-requires
 unwrap-prot-requires g c =
@@ -59,7 +62,7 @@ invariant_of-self g c =
     let number = numbered c.self.invariant c.args.f.0 c.unwrap-page.result page in
     pushed _ _ (entry_by c.args.seat (what.Evict c.args.p c.args.a c.args.f c.args.why c.args.to)) c.push.new.self c.push.ensures
     (close.evict_closes c.self.invariant c.args.seat c.args.p c.args.a c.args.f c.args.why c.args.to may.legal may.paid c.index_mut-row.result.now c.index_mut-row.ensures.value
-    c.give_up.new.ring c.give_up.ensures c.unwrap-page.result page c.leave.new.frames
+    c.give_up-pinned.new.ring c.give_up-pinned.ensures.ring c.give_up-pinned.result c.give_up-pinned.ensures.pinned c.unwrap-page.result page c.leave.new.frames
     (rw (← c.frames_mut.ensures.value) c.leave.ensures.rows) (rw (← c.frames_mut.ensures.value) c.leave.ensures.free) (rw (← c.frames_mut.ensures.value) c.leave.ensures.modified)
     c.left_at-place.result (c.left_at-place.ensures c.self.inside.config (rw c.deref.ensures.value number))
     c.set.new.self c.unwrap-prot.result c.set.ensures.procs c.set.ensures.changed

@@ -1,6 +1,5 @@
 use Rattle.std.proofs.Common.{◌≡◌, ◌+◌, ◌≤◌, ◌^◌, length, subst}
 use Rattle.vm_types.specs.Configuration.{IsWellFormed}
-use Rattle.vm_types.specs.declared.config.Version.TheVariants as version
 use Rattle.pager_model.specs.Run.{IsRun}
 use Rattle.pager_model.specs.Spoken.{IsRight}
 use Rattle.vm_state.specs.History.{History, owed}
@@ -8,9 +7,6 @@ use Rattle.vm_state.proofs.state.State.run_law.Goals as goal
 
 pub returns-clause-formed : goal.returns-clause-formed
 returns-clause-formed g c = subst (λ (s : History). IsWellFormed s.config) c.self.view_is c.self.invariant.formed
-
-pub returns-clause-version : goal.returns-clause-version
-returns-clause-version g c = subst (λ (s : History). s.config.version ≡ version.One) c.self.view_is c.self.invariant.version
 
 pub returns-clause-run : goal.returns-clause-run
 returns-clause-run g c = subst (λ (s : History). IsRun s.config s.past) c.self.view_is c.self.invariant.run

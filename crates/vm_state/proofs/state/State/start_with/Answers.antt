@@ -1,8 +1,4 @@
-use Rattle.std.proofs.Common.{ℕ, ◌+◌, List, None, length, map, replicate, refl, ap, subst, ◌∙◌}
-use Rattle.vm_types.specs.declared.config.ProcSpec.{ProcSpec}
-use Rattle.vm_types.specs.declared.config.Section.{Section}
-use Rattle.state_parts.specs.ChargedTable.{HasPagedPlaces}
-use Rattle.state_fits.specs.Opening.{first_row, unspoken}
+use Rattle.std.proofs.Common.{ℕ, ◌+◌, None, replicate, refl, ap, ◌∙◌}
 use Rattle.vm_state.proofs.StartCloses.{started}
 use Rattle.vm_state.proofs.state.State.start_with.Goals as goal
 
@@ -18,26 +14,26 @@ invariant_of-result g c =
       names = c.requires.names;
       made = c.requires.made;
     })
-    _ _ c.args.journal c.requires.formed c.requires.version
+    _ _ c.args.journal c.requires.formed
     (record {
       frames = c.in_ok-store.ensures.frames;
       starts = c.in_ok-store.ensures.flights;
-      roles = c.in_ok-no_roles.ensures;
-      processes = c.in_ok-process_rows.ensures ∙ ap (map first_row) c.items.ensures;
-      spoken = c.in_ok-none_spoken.ensures ∙ ap (λ (specs : List ProcSpec). replicate (length specs) unspoken) c.items-procs.ensures;
-      table_procs = c.in_ok-first_tables.ensures.procs;
-      entries = c.in_ok-first_tables.ensures.entries;
-      section_procs = c.in_ok-new.ensures.procs;
-      kinds = c.in_ok-new.ensures.parts;
-      behind = c.in_ok-new.ensures.behind;
-      page_procs = c.in_ok-new-2.ensures.procs ∙ ap length c.items-procs.ensures;
-      page_places = subst (λ (sections : List Section). HasPagedPlaces sections c.in_ok-new-2.field-0) c.items-2.ensures c.in_ok-new-2.ensures.places;
-      pages = c.in_ok-new-2.ensures.none;
-      globals = c.in_ok-new-3.ensures ∙ ap (λ (n : ℕ). record { frames = replicate n None; counts = replicate n 0 }) c.in_ok-firsts.ensures.total;
-      file = c.in_ok-new-4.ensures.made;
-      swap_procs = c.in_ok-new-5.ensures.procs ∙ ap length c.items-procs.ensures;
-      swaps = c.in_ok-new-5.ensures.none;
-      busy = c.in_ok-none_busy.ensures ∙ ap (λ (specs : List ProcSpec). replicate (length specs + 2) 0) c.items-procs.ensures;
+      roles = c.in_ok-rows.ensures.roles;
+      processes = c.in_ok-rows.ensures.processes;
+      spoken = c.in_ok-rows.ensures.spoken;
+      table_procs = c.in_ok-parts.ensures.table_procs;
+      entries = c.in_ok-parts.ensures.entries;
+      section_procs = c.in_ok-parts.ensures.section_procs;
+      kinds = c.in_ok-parts.ensures.kinds;
+      behind = c.in_ok-parts.ensures.behind;
+      page_procs = c.in_ok-parts.ensures.page_procs;
+      page_places = c.in_ok-parts.ensures.page_places;
+      pages = c.in_ok-parts.ensures.pages;
+      globals = c.in_ok-parts.ensures.globals ∙ ap (λ (n : ℕ). record { frames = replicate n None; counts = replicate n 0 }) c.in_ok-firsts.ensures.total;
+      file = c.in_ok-parts.ensures.file;
+      swap_procs = c.in_ok-parts.ensures.swap_procs;
+      swaps = c.in_ok-parts.ensures.swaps;
+      busy = c.in_ok-rows.ensures.busy;
       in_flight = refl;
       failed = refl;
     })

@@ -1,7 +1,0 @@
-use Rattle.vm_types.specs.WellFormed.{IsCode}
-use Rattle.vm_text.specs.Services.{protection_name}
-use Rattle.line_reader.proofs.Behind.{takes_word}
-use Rattle.line_reader.proofs.take.take_protection.Goals as goal
-
-pub returns : goal.returns
-returns c = takes_word IsCode protection_name _ _ _ _ c.in_ok-word.ensures c.read_protection.ensures

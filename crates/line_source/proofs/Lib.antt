@@ -1,3 +1,0 @@
-pub mod Pending
-pub mod Taking
-pub mod Fronts

@@ -1,7 +1,0 @@
-use Rattle.std.proofs.Common.{arith}
-use Rattle.line_source.proofs.Pending.{keeps_none}
-use Rattle.line_source.proofs.lines.Lines.fill.Goals as goal
-
-pub returns-in-Err-clause-failed : goal.returns-in-Err-clause-failed
-returns-in-Err-clause-failed g c =
-    keeps_none c.args.self.now.buffer c.read.new.buf c.args.self.now.next c.args.self.now.filled _ _ c.requires (omega arith) (omega arith) c.in-Err.ensures.bytes

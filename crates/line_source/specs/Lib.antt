@@ -1,3 +1,0 @@
-pub mod HandedOut
-pub mod BytesLeft
-pub mod LineText
