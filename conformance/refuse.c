@@ -1,13 +1,21 @@
 /* Refuses one allocation: the one whose number stands in REFUSE, counted from 1. Loaded before the C library. With
-   REFUSE=0 it refuses none. If REFUSED names a file, that file is made when one was refused. */
+   REFUSE=0 it refuses none. If REFUSED names a file, that file is made when one was refused. If LEFT names a file, the
+   number of allocations that weren't freed is written to it at the end. */
 #define _GNU_SOURCE
 #include <dlfcn.h>
 #include <errno.h>
 #include <fcntl.h>
+#include <stdatomic.h>
+#include <stdio.h>
 #include <stdlib.h>
 #include <unistd.h>
 
-static long count;
+static atomic_long count, left;
+
+static void *kept(void *block) {
+    if (block) left++;
+    return block;
+}
 
 static int is_refused(void) {
     const char *which = getenv("REFUSE"), *file = getenv("REFUSED");
@@ -20,23 +28,43 @@ static int is_refused(void) {
 void *malloc(size_t size) {
     static void *(*next)(size_t);
     if (!next) next = (void *(*)(size_t))dlsym(RTLD_NEXT, "malloc");
-    return is_refused() ? NULL : next(size);
+    return is_refused() ? NULL : kept(next(size));
 }
 
 void *realloc(void *old, size_t size) {
     static void *(*next)(void *, size_t);
     if (!next) next = (void *(*)(void *, size_t))dlsym(RTLD_NEXT, "realloc");
-    return is_refused() ? NULL : next(old, size);
+    return is_refused() ? NULL : old ? next(old, size) : kept(next(old, size));
 }
 
 void *aligned_alloc(size_t alignment, size_t size) {
     static void *(*next)(size_t, size_t);
     if (!next) next = (void *(*)(size_t, size_t))dlsym(RTLD_NEXT, "aligned_alloc");
-    return is_refused() ? NULL : next(alignment, size);
+    return is_refused() ? NULL : kept(next(alignment, size));
 }
 
 int posix_memalign(void **result, size_t alignment, size_t size) {
     static int (*next)(void **, size_t, size_t);
     if (!next) next = (int (*)(void **, size_t, size_t))dlsym(RTLD_NEXT, "posix_memalign");
-    return is_refused() ? ENOMEM : next(result, alignment, size);
+    if (is_refused()) return ENOMEM;
+    int failed = next(result, alignment, size);
+    if (!failed) kept(*result);
+    return failed;
+}
+
+void free(void *block) {
+    static void (*next)(void *);
+    if (!next) next = (void (*)(void *))dlsym(RTLD_NEXT, "free");
+    if (block) left--;
+    next(block);
+}
+
+__attribute__((destructor)) static void tell(void) {
+    const char *file = getenv("LEFT");
+    if (!file) return;
+    char text[32];
+    int length = snprintf(text, sizeof text, "%ld\n", (long)left);
+    int to = open(file, O_CREAT | O_WRONLY | O_TRUNC, 0600);
+    if (write(to, text, length) != length) abort();
+    close(to);
 }

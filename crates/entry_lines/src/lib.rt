@@ -1,4 +1,4 @@
-//! The line of an entry, written, and read back one to one.
+//! The line of an entry, with its request, service and answer: written, and read back one to one.
 #![tactic(auto)]
 
 mod entry_line;

@@ -6,7 +6,7 @@ ghost use Rattle.pager_model.specs.Changes.{pushed_if};
 ghost use Rattle.pager_model.specs.Evict.{evicted_to};
 ghost use Rattle.pager_model.specs.Lookups.{is};
 
-use pfn_database::Pfns;
+use pfn_database::{Pfns, Row};
 use vm_types::{FrameState, Page, Pfn};
 
 /// One more entry is valid for a frame that is empty or holds this page: it leaves the list that it
@@ -42,10 +42,11 @@ pub fn enter(frames: &mut Pfns, f: Pfn, page: Page, slot: u32, modify: bool)
 /// One entry less is valid for an active frame. The last one gives up the slot; the frame is then
 /// release pending while a transfer is open, else it goes onto the tail of the modified list where
 /// its modify mark is set, and onto the tail of the free list where it isn't. It keeps its page. If
-/// the page was pinned, it has one reference less for that.
+/// the page was pinned, it has one reference less for that. The row is the frame's.
 #[inline(always)]
-pub fn leave(frames: &mut Pfns, f: Pfn, pinned: bool)
+pub fn leave(frames: &mut Pfns, f: Pfn, row: Row, pinned: bool)
     requires below { f.0 < length frames.old.rows }
+    requires row { row ≡ row_of frames.old f.0 }
     requires active { (row_of frames.old f.0).state ≡ FrameState.Active }
     requires shares { 0 < (row_of frames.old f.0).shares }
     requires pins { pinned ≡ true → 0 < uncounted (row_of frames.old f.0) }
@@ -68,7 +69,7 @@ pub fn leave(frames: &mut Pfns, f: Pfn, pinned: bool)
     if pinned {
         return lose_pinned(frames, f);
     }
-    lose_entry(frames, f)
+    lose_entry(frames, f, row)
 }
 
 /// One entry less is valid for an active frame, whose page was pinned by it.
@@ -94,13 +95,15 @@ fn lose_pinned(frames: &mut Pfns, f: Pfn)
     ensures consistent { IsConsistent frames.new }
 {
     frames.unhold(f);
-    lose_entry(frames, f);
+    let row = frames.row(f);
+    lose_entry(frames, f, row);
 }
 
 /// One entry less is valid for an active frame, whose page isn't pinned by it.
 #[inline(always)]
-fn lose_entry(frames: &mut Pfns, f: Pfn)
+fn lose_entry(frames: &mut Pfns, f: Pfn, row: Row)
     requires below { f.0 < length frames.old.rows }
+    requires row { row ≡ row_of frames.old f.0 }
     requires active { (row_of frames.old f.0).state ≡ FrameState.Active }
     requires shares { 0 < (row_of frames.old f.0).shares }
     ensures rows { let row = row_of frames.old f.0 in
@@ -119,7 +122,6 @@ fn lose_entry(frames: &mut Pfns, f: Pfn)
         (is FrameState.Modified (evicted_to row.shares row.flights row.modify)) frames.old.modified f.0 }
     ensures consistent { IsConsistent frames.new }
 {
-    let row = frames.row(f);
     frames.unshare(f);
     if row.shares == 1 && row.flights == 0 {
         frames.settle(f);

@@ -1,5 +1,6 @@
-//! What each entry of the pager does to the row of one page frame, and to the two page lists: an
-//! entry that becomes valid or stops being so, a pin, and a read or a write that begins or ends.
+//! What each entry of the pager does in the PFN database of the state that runs, to the row of one page
+//! frame and to the two page lists: an entry that becomes valid or stops being so, a pin, and a read or
+//! a write that begins or ends.
 #![tactic(auto)]
 
 mod entries;

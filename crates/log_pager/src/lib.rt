@@ -1,4 +1,5 @@
-//! The pager's state of a log that is read entry by entry, as plain tables and lists.
+//! The pager as a log that is read tells it, as plain tables and lists, and what each entry of the log
+//! changes in them.
 #![tactic(auto)]
 
 mod answers;

@@ -8,11 +8,10 @@ ghost use Rattle.log_report.specs.EndStatus.{end_status};
 ghost use Rattle.log_report.specs.ShownRun.{ShowsRun};
 
 use crate::dirty::dirty_pages;
-use crate::text_sink::TextSink;
 use command_ends::{Status, end_with};
 use log_history::LogHistory;
 use log_pager::LogPager;
-use outside_io::Sink;
+use outside_io::{Sink, VecSink};
 use report_lines::print_dirty;
 use std::alloc::Global;
 use vm_types::{NoMemory, Page, Section};
@@ -58,10 +57,10 @@ pub fn ending_text(
 {
     let config = past.config();
     let dirty = dirty_pages(alloc, config, pager)?;
-    let mut sink = TextSink::new(alloc);
+    let mut sink = VecSink::new(alloc);
     let status = print_ending(dirty.as_slice(), config.sections.items(), &mut sink);
     if is_cut(status) {
         return Err(NoMemory);
     }
-    Ok(sink.into_text())
+    Ok(sink.into_bytes())
 }

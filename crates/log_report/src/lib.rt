@@ -5,7 +5,6 @@ mod dirty;
 mod ending;
 mod recounting;
 mod report;
-mod text_sink;
 
 pub use ending::ending_text;
 pub use report::report_text;

@@ -4,9 +4,9 @@ ghost use Rattle.log_pager.specs.Shown.{shown};
 ghost use Rattle.log_report.specs.ShownRun.{ShowsRun};
 
 use crate::recounting::recount;
-use crate::text_sink::TextSink;
 use log_history::LogHistory;
 use log_pager::LogPager;
+use outside_io::VecSink;
 use report_lines::print;
 use std::alloc::Global;
 use vm_types::NoMemory;
@@ -24,9 +24,9 @@ pub fn report_text(
     ensures { IfOk result (λ text. text.items ≡ report_after past.now.config past.now.past) }
 {
     let report = recount(alloc, past, pager)?;
-    let mut sink = TextSink::new(alloc);
+    let mut sink = VecSink::new(alloc);
     match print(&report, past.config().sections.items(), &mut sink) {
-        Ok(()) => Ok(sink.into_text()),
+        Ok(()) => Ok(sink.into_bytes()),
         Err(_) => Err(NoMemory),
     }
 }

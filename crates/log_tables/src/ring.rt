@@ -1,4 +1,4 @@
-ghost use Rattle.std.specs.Prelude.{◌≡◌, ◌+◌, ◌%◌, ◌++◌, ◌<◌, ◌≤◌, true, IfOk, count_by, drop, length, map, position, replicate, slice_get, slice_set, take};
+ghost use Rattle.std.specs.Prelude.{◌≡◌, ◌+◌, ◌%◌, ◌++◌, ◌<◌, ◌≤◌, true, IfOk, count_by, drop, length, map, position, replicate, slice_get, slice_index_or, slice_set, take, if◌then◌else◌};
 ghost use Rattle.vm_types.specs.Ring.{choose, filled, fixed, is_empty_slot, is_filled_slot, is_fixed_slot, is_locked_slot, is_loose_slot, is_pinned_slot, is_unpinned_slot, unpinned};
 ghost use Rattle.vm_journal.specs.declared.entry.EvictWhy.{EvictWhy};
 ghost use Rattle.pager_model.specs.Evict.{evicted_ring, victim_of};
@@ -18,17 +18,20 @@ use vm_types::{Addr, Choice, NoMemory};
 pub struct Ring {
     slots: Vec<Option<Held>>,
     hand: u32,
+    pages: u32,
+    marks: u32,
 }
 
 impl Model for Ring {
-    ghost use Rattle.std.specs.Prelude.{◌≤◌, vec_len};
-    ghost use Rattle.vm_types.specs.Ring.{Ring as RingOfSlots};
+    ghost use Rattle.std.specs.Prelude.{◌≡◌, ◌≤◌, vec_len};
+    ghost use Rattle.vm_types.specs.Ring.{Ring as RingOfSlots, filled, fixed};
 
     ghost Value = { RingOfSlots };
 
     ghost view = { λ r. record { slots = r.slots.items; hand = r.hand } };
 
-    ghost invariant = { λ r. (vec_len r.slots ≤ 1024) × (r.hand ≤ vec_len r.slots) };
+    ghost invariant = { λ r. (vec_len r.slots ≤ 1024) × (r.hand ≤ vec_len r.slots)
+        × (r.pages ≡ filled r.slots.items) × (r.marks ≡ fixed r.slots.items) };
 }
 
 /// Whether the slot holds a page.
@@ -153,6 +156,62 @@ fn places_to_loose(slots: &[Option<Held>], hand: usize) -> Option<usize>
     back.iter().chain(front).position(|slot| is_loose(*slot))
 }
 
+/// How many slots are filled.
+fn count_filled(slots: &[Option<Held>]) -> u32
+    requires { length slots.now ≤ 1024 }
+    ensures { result ≡ filled slots.now }
+{
+    slots.iter().filter(|slot| is_filled(**slot)).count() as u32
+}
+
+/// How many pages are locked or pinned.
+fn count_fixed(slots: &[Option<Held>]) -> u32
+    requires { length slots.now ≤ 1024 }
+    ensures { result ≡ fixed slots.now }
+{
+    slots.iter().filter(|slot| is_fixed(**slot)).count() as u32
+}
+
+/// 1 if the slot holds a page, else 0.
+fn filled_at(slots: &[Option<Held>], slot: usize) -> u32
+    requires { slot < length slots.now }
+    ensures { result ≡ (if is_filled_slot (slice_index_or slots.now slot None) then 1 else 0) }
+{
+    u32::from(is_filled(slots[slot]))
+}
+
+/// 1 if the slot holds a page that is locked or pinned, else 0.
+fn fixed_at(slots: &[Option<Held>], slot: usize) -> u32
+    requires { slot < length slots.now }
+    ensures { result ≡ (if is_fixed_slot (slice_index_or slots.now slot None) then 1 else 0) }
+{
+    u32::from(is_fixed(slots[slot]))
+}
+
+/// Puts this into a slot, with the counts of pages and of marks.
+#[tactic(auto, using(crate::proofs::Counts::count_changed, crate::proofs::Counts::count_enough))]
+fn change_slot(
+    slots: &mut [Option<Held>],
+    pages: &mut u32,
+    marks: &mut u32,
+    slot: usize,
+    held: Option<Held>,
+)
+    requires within { slot < length slots.old }
+    requires few { length slots.old ≤ 1024 }
+    requires pages { pages.old ≡ filled slots.old }
+    requires marks { marks.old ≡ fixed slots.old }
+    ensures slots { slots.new ≡ slice_set slots.old slot held }
+    ensures pages { pages.new ≡ filled slots.new }
+    ensures marks { marks.new ≡ fixed slots.new }
+{
+    let pages_less = *pages - filled_at(slots, slot);
+    let marks_less = *marks - fixed_at(slots, slot);
+    slots[slot] = held;
+    *pages = pages_less + filled_at(slots, slot);
+    *marks = marks_less + fixed_at(slots, slot);
+}
+
 /// Unlocks each page.
 fn unlock_slots(slots: &mut [Option<Held>])
     ensures { slots.new ≡ map unlocked_slot slots.old }
@@ -215,6 +274,8 @@ impl Ring {
         Ok(Ring {
             slots: vec![in alloc; None; slots as usize]?,
             hand: 0,
+            pages: 0,
+            marks: 0,
         })
     }
 
@@ -230,14 +291,14 @@ impl Ring {
     pub fn filled(&self) -> u32
         ensures { result ≡ filled self.now.slots }
     {
-        self.slots.iter().filter(|slot| is_filled(**slot)).count() as u32
+        self.pages
     }
 
     /// How many pages are locked or pinned.
     pub fn locked(&self) -> u32
         ensures { result ≡ fixed self.now.slots }
     {
-        self.slots.iter().filter(|slot| is_fixed(**slot)).count() as u32
+        self.marks
     }
 
     /// How many pages aren't pinned.
@@ -342,7 +403,7 @@ impl Ring {
         ensures within { IsWithin (length self.now.slots) result }
     {
         let hand = self.hand as usize;
-        if self.filled() < limit {
+        if self.pages < limit {
             match places_to_empty(&self.slots, hand) {
                 Some(places) => Choice::Empty(slot_after(&self.slots, hand, places)),
                 None => Choice::AllLocked,
@@ -360,9 +421,23 @@ impl Ring {
         ensures { self.new ≡ placed self.old limit vpn }
     {
         if let Choice::Empty(slot) = self.choose(limit) {
-            self.slots[slot as usize] = Some(Held::new(vpn));
+            self.change(slot as usize, Some(Held::new(vpn)));
             self.hand = ((slot as usize + 1) % self.slots.len()) as u32;
         }
+    }
+
+    /// Puts this into a slot.
+    fn change(&mut self, slot: usize, held: Option<Held>)
+        requires { slot < length self.old.slots }
+        ensures { self.new ≡ record self.old { slots = slice_set self.old.slots slot held } }
+    {
+        change_slot(
+            &mut self.slots,
+            &mut self.pages,
+            &mut self.marks,
+            slot,
+            held,
+        );
     }
 
     /// Puts a page into a slot, if that is there.
@@ -370,7 +445,7 @@ impl Ring {
         ensures { self.new ≡ slotted self.old slot vpn }
     {
         if (slot as usize) < self.slots.len() {
-            self.slots[slot as usize] = Some(Held::new(vpn));
+            self.change(slot as usize, Some(Held::new(vpn)));
         }
     }
 
@@ -379,7 +454,7 @@ impl Ring {
         ensures { self.new ≡ record self.old { slots = slice_set self.old.slots slot None } }
     {
         if (slot as usize) < self.slots.len() {
-            self.slots[slot as usize] = None;
+            self.change(slot as usize, None);
         }
     }
 
@@ -388,9 +463,7 @@ impl Ring {
         ensures { self.new ≡ cleared self.old (victim_of (choose self.old limit)) }
     {
         let slot = victim(self.choose(limit));
-        if (slot as usize) < self.slots.len() {
-            self.slots[slot as usize] = None;
-        }
+        self.empty(slot);
         self.hand = slot;
     }
 
@@ -412,6 +485,8 @@ impl Ring {
         ensures { self.new ≡ unlocked self.old }
     {
         unlock_slots(&mut self.slots);
+        self.pages = count_filled(&self.slots);
+        self.marks = count_fixed(&self.slots);
     }
 
     /// Locks the pages of a range, or unlocks them.
@@ -419,6 +494,8 @@ impl Ring {
         ensures { self.new ≡ range_locked lock at.0 pages self.old }
     {
         relock_slots(&mut self.slots, lock, at, pages);
+        self.pages = count_filled(&self.slots);
+        self.marks = count_fixed(&self.slots);
     }
 
     /// Pins the pages of a range, or unpins them.
@@ -426,5 +503,7 @@ impl Ring {
         ensures { self.new ≡ range_pinned pin at.0 pages self.old }
     {
         repin_slots(&mut self.slots, pin, at, pages);
+        self.pages = count_filled(&self.slots);
+        self.marks = count_fixed(&self.slots);
     }
 }

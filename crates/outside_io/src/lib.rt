@@ -13,6 +13,7 @@ mod source;
 mod std_sink;
 mod std_source;
 mod steady_write;
+mod vec_sink;
 mod whole;
 
 pub use front::keep_front;
@@ -24,4 +25,5 @@ pub use source::Source;
 pub use std_sink::StdSink;
 pub use std_source::StdSource;
 pub use steady_write::SteadyWrite;
+pub use vec_sink::VecSink;
 pub use whole::{WriteFault, write_whole};

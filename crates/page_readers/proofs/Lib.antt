@@ -1,5 +1,5 @@
 pub mod Looked
-pub mod FirstPages
-pub mod Layable
 pub mod TouchedRows
 pub mod SectionsSeen
+pub mod RangeSteps
+pub mod LockLimits

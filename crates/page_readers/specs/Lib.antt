@@ -1,8 +1,10 @@
 pub mod Shown
-pub mod Laying
 pub mod SectionPages
 pub mod Resting
 pub mod RingSlots
 pub mod ReadStarts
 pub mod PagesShown
 pub mod ComeRoles
+pub mod MarkedWords
+pub mod Pending
+pub mod ServiceAnswers

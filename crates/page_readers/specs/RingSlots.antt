@@ -2,7 +2,7 @@
 -- Internals and Data Structures", working set lists; the swap block of each slot is this project's own.
 use Rattle.std.specs.Prelude.{◌≡◌, ℕ, Bool, true, ◌+◌, ◌^◌, ◌-◌, ◌<◌, ◌≤◌, Some, None, length}
 use Rattle.vm_types.specs.PagePlaces.{changed_at}
-use Rattle.vm_types.specs.Ring.{choose, filled}
+use Rattle.vm_types.specs.Ring.{Held, choose, filled}
 use Rattle.vm_types.specs.declared.names.BlockId.TheVariants as block
 use Rattle.vm_types.specs.declared.names.Page.TheVariants.{Private}
 use Rattle.vm_types.specs.declared.names.Proc.{Proc}
@@ -63,3 +63,7 @@ TakesSlot other p v x x' pages pages' swaps swaps' slot = HasFaulted v x x' slot
 abbrev pub mark_back : ProcStatus → Bool → Bool
 mark_back status.Coming modify = true
 mark_back other modify = modify
+
+-- the page number in a slot, and whether it is locked, and pinned
+abbrev pub held_parts : Held → ℕ × Bool × Bool
+held_parts held = (held.vpn, held.locked, held.pinned)

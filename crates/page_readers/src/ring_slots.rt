@@ -1,7 +1,9 @@
-ghost use Rattle.std.specs.Prelude.{◌≡◌};
+ghost use Rattle.std.specs.Prelude.{◌≡◌, slice_get};
+ghost use Rattle.std.specs.Option.{option_map};
+ghost use Rattle.pager_model.specs.Lookups.{slot_of};
 ghost use Rattle.pager_model.specs.Turn.{turned_ring};
 ghost use Rattle.state_fits.specs.Changes.{page_slot};
-ghost use Rattle.page_readers.specs.RingSlots.{CanComeHome, CanFault, CanTakeSlot, HasComeHome, HasFaulted, TakesSlot, mark_back};
+ghost use Rattle.page_readers.specs.RingSlots.{CanComeHome, CanFault, CanTakeSlot, HasComeHome, HasFaulted, TakesSlot, held_parts, mark_back};
 
 use state_parts::{
     ChargedPage, ChargedPages, ProcessRow, SwapPages, put_in_slot, take_slot, unlock_all,
@@ -86,4 +88,16 @@ pub fn turn_ring(ring: &mut Ring, status: ProcStatus)
     if let ProcStatus::Leaving = status {
         unlock_all(ring);
     }
+}
+
+/// The page number in a slot (any number), and whether it is locked, and pinned; none if the slot is
+/// empty, or isn't there.
+pub fn held_in(ring: &Ring, n: u32) -> Option<(u32, bool, bool)>
+    ensures { result ≡ option_map held_parts (slot_of (slice_get ring.now.slots n)) }
+{
+    if n >= ring.slots() {
+        return None;
+    }
+    let vpn = ring.at(n)?;
+    Some((vpn, ring.is_locked(n), ring.pinned(n)))
 }

@@ -1,5 +1,6 @@
 //! What a list of page references costs with so many frames: in the ring of a working set, with the
-//! least recently used page replaced, and at the least.
+//! least recently used page replaced, and at the least. The intervals are those between two references
+//! of a page that follow each other.
 #![tactic(auto)]
 
 mod cuts;

@@ -65,7 +65,7 @@ fn make(frames: &mut Pfns, f: Pfn, one: Move) -> bool
             enter(frames, f, PAGE, slot, modify);
         }
         (Leave(pinned), Active) if row.shares > 0 && (!pinned || is_pinned(row)) => {
-            leave(frames, f, pinned);
+            leave(frames, f, row, pinned);
         }
         (Pin, Active) if row.refs < 9 => count_pin(frames, f, true),
         (Unpin, Active) if is_pinned(row) => count_pin(frames, f, false),

@@ -30,14 +30,14 @@ use Rattle.policy_ends.proofs.WriteSteps.{IsClear}
 use Rattle.policy_ends.specs.Clean.{IsClean, IsCleanAt, IsOver, NoneBefore, NoneShared, failures}
 use Rattle.policy_ends.proofs.Clusters.{AreListOuts, HasBegun, HasLandedWell, IsStill, landed_well, need_outs, shared_still, still_then, writes_begun}
 use Rattle.policy_ends.proofs.Evictions.{evicted_clean}
-use Rattle.policy_ends.proofs.Searches.{all_evicted, beyond, next_place}
+use Rattle.policy_ends.proofs.Searches.{all_passed, beyond, next_place}
 use Rattle.policy_ends.proofs.Unfailed.{more_made, not_all_bad}
 
 any_some : (t : ℕ → Bool) (xs : List ℕ) → list_any t xs ≡ true → 0 < length xs
 any_some t [] is = absurd (false≢true is)
 any_some t (x ∷ xs) is = omega arith
 
-abbrev is_rest : Move → Bool
+abbrev pub is_rest : Move → Bool
 is_rest rests = true
 is_rest other = false
 
@@ -167,13 +167,13 @@ module _ (config : Config) (past : List Entry) (between : IsBetween config past)
         (λ b still shorter first. (refl, λ q m earlier. shared_still a b still q m ∙ before q m earlier)))
 
   -- a process that isn't there has no slots
-  absent : (q m : ℕ) → length config.procs ≤ q → is_shared_at a q m ≡ false
+  pub absent : (q m : ℕ) → length config.procs ≤ q → is_shared_at a q m ≡ false
   absent q m least = beyond a q m (let none = ((kept.processes q).none (slice_get_past config.procs q least)).1 in omega (arith, none))
 
   place_cleans : (p n : ℕ) → NoneBefore a p n → (o : Option Place) → shared_place config a p n ≡ o → (later : Place → Move) → MoveCleans (place_move config past a false later o)
-  place_cleans p n before None is later = rounds_cleans 2 0 (all_evicted a config p n before absent is) (inr (omega arith, refl))
+  place_cleans p n before None is later = rounds_cleans 2 0 (all_passed a config p n (λ q m. is_shared_at a q m ≡ false) (λ q m none. none) before absent is) (inr (omega arith, refl))
   place_cleans p n before (Some at) is later =
-      let found = next_place a config p n before at is in
+      let found = next_place a config p n (λ q m. is_shared_at a q m ≡ false) (λ q m none. none) before at is in
       seen_cleans at found.0 found.1 (later at) (seen_at a at.process at.slot) refl
 
   pub cleaning_cleans : (at : Cleaning) → IsClean a at → MoveCleans (cleaning_move config past a at)

@@ -22,7 +22,7 @@ use Rattle.policy_ends.proofs.Ended.{none_dirty}
 use Rattle.policy_ends.proofs.Unfailed.{failures_both, more_landed, more_made, one_more}
 
 -- ---- what was before a move
-record GoesBack (config : Config) (past more : List Entry) : Type 0 where
+pub record GoesBack (config : Config) (past more : List Entry) : Type 0 where
   pub ran : IsRun config more → IsRun config past
   pub fewer : failures past ≤ failures more
 
@@ -43,7 +43,7 @@ module _ (config : Config) (past : List Entry) (heard : Heard) (more : List Entr
           let e : Entry = by_seat (task.proc).0 (refusal_of task) in
           subst (GoesBack config past) (sym refused.0) (back_then config past landed (e ∷ landed) back (record { ran = λ run. run.0; fewer = one_more e landed }))
 
-  move_back : (m : Move) → IsMade config past heard more next m → GoesBack config past more
+  pub move_back : (m : Move) → IsMade config past heard more next m → GoesBack config past more
   move_back (makes seat ws c) made =
       subst (GoesBack config past) (sym made.0) (record { ran = run_before config seat (map (with_reply heard.reply) ws) past; fewer = more_made seat (map (with_reply heard.reply) ws) past })
   move_back (carries seat ws onward) made =
@@ -98,7 +98,7 @@ module _ (config : Config) (start : List Entry) (first : IsBetween config start)
       further reached.earlier_past reached.earlier_control heard past c earlier reached.move run none
 
 -- ---- the whole of it
-run_past : (config : Config) (rest past : List Entry) → IsRun config (rest ++ past) → IsRun config past
+pub run_past : (config : Config) (rest past : List Entry) → IsRun config (rest ++ past) → IsRun config past
 run_past config [] past run = run
 run_past config (e ∷ rest) past run = run_past config rest past run.0
 

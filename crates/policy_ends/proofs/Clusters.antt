@@ -17,7 +17,7 @@ use Rattle.vm_journal.specs.declared.entry.What.{What}
 use Rattle.vm_journal.specs.declared.entry.What.TheVariants as what
 use Rattle.pager_model.specs.Changes.{pushed_if}
 use Rattle.pager_model.specs.Flights.{Direction, Flight, is_reading, open_flights, reading, writing}
-use Rattle.pager_model.specs.Given.{Given, by_seat, given, made_by, passes, pfn, seen_by, seen_in, seen_page}
+use Rattle.pager_model.specs.Given.{Given, by_seat, given, made_by, passes, pfn, seen_at, seen_by, seen_in, seen_page}
 use Rattle.pager_model.specs.InTurn.{is_next_block}
 use Rattle.pager_model.specs.Landings.{Outcome, landed_by, landing, went_badly, went_well}
 use Rattle.pager_model.specs.Lookups.{block_of, entry_of, shares, slot_of}
@@ -48,19 +48,22 @@ pub record IsStill (a b : Pager) : Type 0 where
 pub still_then : (a b c : Pager) → IsStill a b → IsStill b c → IsStill a c
 still_then a b c first rest = record { ring = rest.ring ∙ first.ring; valid = rest.valid ∙ first.valid; page = rest.page ∙ first.page }
 
-still_same : (a : Pager) → IsStill a a
+pub still_same : (a : Pager) → IsStill a a
 still_same a = record { ring = refl; valid = refl; page = refl }
 
-pub shared_still : (a b : Pager) → IsStill a b → (p n : ℕ) → is_shared_at b p n ≡ is_shared_at a p n
-shared_still a b still p n = ap (λ (r : ℕ → Ring). passes is_shared_seen (seen_in b p (slot_of (slice_get (r p).slots n)))) still.ring ∙ by_slot (slot_of (slice_get (a.ring p).slots n))
+pub seen_still : (a b : Pager) → IsStill a b → (p n : ℕ) → seen_at b p n ≡ seen_at a p n
+seen_still a b still p n = ap (λ (r : ℕ → Ring). seen_in b p (slot_of (slice_get (r p).slots n))) still.ring ∙ by_slot (slot_of (slice_get (a.ring p).slots n))
   where
-    by_entry : (held : Held) (o : Option Valid) → passes is_shared_seen (seen_by b held o) ≡ passes is_shared_seen (seen_by a held o)
+    by_entry : (held : Held) (o : Option Valid) → seen_by b held o ≡ seen_by a held o
     by_entry held None = refl
-    by_entry held (Some e) = ap (λ (pages : ℕ → Option Page). passes is_shared_seen (seen_page held e.frame (pages e.frame))) still.page
+    by_entry held (Some e) = ap (λ (pages : ℕ → Option Page). seen_page held e.frame (pages e.frame)) still.page
 
-    by_slot : (o : Option Held) → passes is_shared_seen (seen_in b p o) ≡ passes is_shared_seen (seen_in a p o)
+    by_slot : (o : Option Held) → seen_in b p o ≡ seen_in a p o
     by_slot None = refl
-    by_slot (Some held) = ap (λ (valid : List Valid). passes is_shared_seen (seen_by b held (entry_of valid p held.vpn))) still.valid ∙ by_entry held (entry_of a.valid p held.vpn)
+    by_slot (Some held) = ap (λ (valid : List Valid). seen_by b held (entry_of valid p held.vpn)) still.valid ∙ by_entry held (entry_of a.valid p held.vpn)
+
+pub shared_still : (a b : Pager) → IsStill a b → (p n : ℕ) → is_shared_at b p n ≡ is_shared_at a p n
+shared_still a b still p n = ap (passes is_shared_seen) (seen_still a b still p n)
 
 -- ---- writes from the modified list
 abbrev pub is_list_out : What → Bool

@@ -1,5 +1,6 @@
--- Where the rundown rests: a shared page that is held with its modify mark set is in a slot or on the modified list.
-use Rattle.std.proofs.Common.{◌≡◌, ℕ, suc, ◌+◌, ◌<◌, ◌&&◌, ◌||◌, Bool, true, false, not, cond, List, [], ◌∷◌, ◌++◌, Option, Some, None, count_by, filter, find, map, nat_eq, slice_get, refl, sym, ap, ◌∙◌, arith}
+-- Between two moves a page that is held with its modify mark set is in a slot or on the modified list; where neither has a
+-- shared page, none is dirty.
+use Rattle.std.proofs.Common.{◌≡◌, ◌⊎◌, inl, inr, ℕ, suc, ◌+◌, ◌<◌, ◌&&◌, ◌||◌, Bool, true, false, not, cond, List, [], ◌∷◌, ◌++◌, Option, Some, None, count_by, filter, find, map, nat_eq, slice_get, refl, sym, ap, ◌∙◌, arith}
 use Rattle.std.specs.List.{AllByRecursion, list_any, range_with_len}
 use Rattle.std.proofs.lemmas.Bool.{and_from, eqb-true, false≢true}
 use Rattle.std.proofs.lemmas.Option.{none-some, same_Some}
@@ -17,12 +18,12 @@ use Rattle.page_lists.specs.Lists.{count_of}
 use Rattle.pager_model.specs.Around.{past_view}
 use Rattle.pager_model.specs.Flights.{open_flights}
 use Rattle.pager_model.specs.Forget.{holds_page}
-use Rattle.pager_model.specs.Given.{passes, seen_by, seen_in, seen_page}
+use Rattle.pager_model.specs.Given.{Seen, passes, seen_at, seen_by, seen_in, seen_page}
 use Rattle.pager_model.specs.Lookups.{entry_of, has_vpn, is, is_entry, shares, slot_of}
 use Rattle.pager_model.specs.Maps.{is_private}
 use Rattle.pager_model.specs.Pager.{Pager, Valid}
 use Rattle.pager_model.specs.Run.{pager_after}
-use Rattle.pager_model.specs.Rundown.{holds_shared, is_shared_at}
+use Rattle.pager_model.specs.Rundown.{holds_shared}
 use Rattle.pager_model.specs.Swap.{is_shared_seen}
 use Rattle.pager_model.specs.Text.{dirty_pages, is_dirty, pages_from}
 use Rattle.pager_model.specs.Transfers.{writes_on}
@@ -33,6 +34,7 @@ use Rattle.pager_laws.proofs.RunsAreSound.{run_kept}
 use Rattle.page_holders.proofs.ValidEntries.{IsValidAt, valid_at_page}
 use Rattle.serial_laws.specs.Between.{IsBetween}
 use Rattle.policy_ends.specs.Clean.{IsOver}
+use Rattle.policy_ends.specs.Dirty.{StaysInSlot}
 
 -- ---- lists
 or_first : (b c : Bool) → b ≡ true → (b || c) ≡ true
@@ -44,7 +46,7 @@ or_second true c is = refl
 or_second false c is = is
 
 -- a number that counts in a list and passes
-listed_passes : (t : ℕ → Bool) (xs : List ℕ) (f : ℕ) → 0 < count_of xs f → t f ≡ true → list_any t xs ≡ true
+pub listed_passes : (t : ℕ → Bool) (xs : List ℕ) (f : ℕ) → 0 < count_of xs f → t f ≡ true → list_any t xs ≡ true
 listed_passes t [] f some passing = absurd (omega (arith, some))
 listed_passes t (x ∷ xs) f some passing = by (nat_eq x f) refl (count_cons (λ (y : ℕ). nat_eq y f) x xs) (λ more. listed_passes t xs f more passing)
   where
@@ -74,29 +76,24 @@ slot_found (o ∷ xs) v some = by (has_vpn v o) refl (count_cons (has_vpn v) o x
     by true is count rest = here o is
     by false is count rest = later (rest (omega (arith, some, count)))
 
-held_page : (g : Page) (o : Option Page) → holds_page g o ≡ true → o ≡ Some g
+pub held_page : (g : Page) (o : Option Page) → holds_page g o ≡ true → o ≡ Some g
 held_page g None same = absurd (false≢true same)
 held_page g (Some h) same = ap Some (pages_equal h g same)
 
-module _ (config : Config) (past : List Entry) (between : IsBetween config past) (over : IsOver (pager_after config past)) where
+module _ (config : Config) (past : List Entry) (between : IsBetween config past) where
   abbrev a : Pager
   a = pager_after config past
 
   kept : IsKept config (past_view past) a
   kept = run_kept config past between.formed between.run
 
-  module _ (f : ℕ) (g : Page) (holds : a.page f ≡ Some g) (shared : is_private g ≡ false) (dirty : a.modify f ≡ true) where
+  module _ (f : ℕ) (g : Page) (holds : a.page f ≡ Some g) (dirty : a.modify f ≡ true) where
     -- ---- a page that entries share stands in a slot
-    record IsShown : Type 0 where
-      pub p : ℕ
-      pub n : ℕ
-      pub there : is_shared_at a p n ≡ true
-
-    shown : 0 < shares a.valid f → IsShown
+    shown : 0 < shares a.valid f → StaysInSlot a g
     shown some = by (found_one (λ (e : Valid). nat_eq e.frame f) a.valid some)
       where
-        by_known : (e x : Valid) → e.frame ≡ f → IsForItsPage config a.map a.page e → 0 < count_by (is_entry e.proc e.vpn) a.valid → entry_of a.valid e.proc e.vpn ≡ Some x → IsShown
-        by_known e x at its some_here valid = record { p = e.proc; n = slot.slot; there = seen }
+        by_known : (e x : Valid) → e.frame ≡ f → IsForItsPage config a.map a.page e → 0 < count_by (is_entry e.proc e.vpn) a.valid → entry_of a.valid e.proc e.vpn ≡ Some x → StaysInSlot a g
+        by_known e x at its some_here valid = record { process = e.proc; slot = slot.slot; seen = there; is = seen; page = same_page }
           where
             known : IsValidAt config a e.proc e.vpn x
             known = valid_at_page config past a e.proc e.vpn x kept valid
@@ -107,13 +104,15 @@ module _ (config : Config) (past : List Entry) (between : IsBetween config past)
             slot : HasSlot (a.ring e.proc).slots e.vpn
             slot = slot_found (a.ring e.proc).slots e.vpn (let slots = (kept.entries e.proc e.vpn).slots in omega (arith, slots, some_here))
 
-            seen : is_shared_at a e.proc slot.slot ≡ true
-            seen =
-                ap (λ (o : Option (Option Held)). passes is_shared_seen (seen_in a e.proc (slot_of o))) slot.is
-                ∙ (ap (λ (o : Option Valid). passes is_shared_seen (seen_by a slot.held o)) (ap (entry_of a.valid e.proc) slot.vpn ∙ valid)
-                ∙ (ap (λ (o : Option Page). passes is_shared_seen (seen_page slot.held x.frame o)) known.holds ∙ ap (λ (h : Page). not (is_private h)) same_page ∙ ap not shared))
+            there : Seen
+            there = record { vpn = slot.held.vpn; frame = x.frame; page = known.page; pinned = slot.held.pinned }
 
-        by : (e : Valid) × (find (λ (y : Valid). nat_eq y.frame f) a.valid ≡ Some e) → IsShown
+            seen : seen_at a e.proc slot.slot ≡ Some there
+            seen =
+                ap (λ (o : Option (Option Held)). seen_in a e.proc (slot_of o)) slot.is
+                ∙ (ap (seen_by a slot.held) (ap (entry_of a.valid e.proc) slot.vpn ∙ valid) ∙ ap (seen_page slot.held x.frame) known.holds)
+
+        by : (e : Valid) × (find (λ (y : Valid). nat_eq y.frame f) a.valid ≡ Some e) → StaysInSlot a g
         by found =
             let e : Valid = found.0 in
             let at : e.frame ≡ f = eqb-true e.frame f (found_passes (λ (y : Valid). nat_eq y.frame f) a.valid e found.1) in
@@ -122,62 +121,64 @@ module _ (config : Config) (past : List Entry) (between : IsBetween config past)
             let there = found_one (is_entry e.proc e.vpn) a.valid some_here in
             by_known e there.0 at its some_here there.1
 
-    not_shared : 0 < shares a.valid f → ⊥
-    not_shared some = let there = shown some in false≢true (sym (over.0 there.p there.n) ∙ there.there)
-
-    -- ---- a page on the modified list
-    not_listed : 0 < count_of a.modified f → ⊥
-    not_listed some = false≢true (sym over.1 ∙ listed_passes (λ (h : ℕ). holds_shared (a.page h)) a.modified f some (ap holds_shared holds ∙ ap not shared))
-
     no_writes : writes_on f (open_flights past) ≡ 0
     no_writes = ap (writes_on f) between.landed
 
-    abbrev nothing : FrameState → Type 0
-    nothing s = HasShares s (shares a.valid f) → HasWrites s (writes_on f (open_flights past)) → HasPage s (a.page f) → HasMark s (a.modify f) → count_of a.modified f ≡ one_if (is state.Modified s) → ⊥
+    abbrev Somewhere : Type 0
+    Somewhere = StaysInSlot a g ⊎ (0 < count_of a.modified f)
 
-    by_state : (s : FrameState) → nothing s
-    by_state state.Active some writes page mark listed = not_shared some
-    by_state state.Free some writes page mark listed = false≢true (sym mark ∙ dirty)
-    by_state state.Modified some writes page mark listed = not_listed (omega (arith, listed))
-    by_state state.Bad some writes page mark listed = none-some g (sym page ∙ holds)
-    by_state state.ReleasePending some writes page mark listed = omega (arith, writes, no_writes)
-    by_state state.ReadError some writes page mark listed = false≢true (sym mark ∙ dirty)
-    by_state state.Writing some writes page mark listed = omega (arith, writes, no_writes)
-    by_state state.Reading some writes page mark listed = false≢true (sym mark ∙ dirty)
+    by_state : (s : FrameState) → HasShares s (shares a.valid f) → HasWrites s (writes_on f (open_flights past)) → HasPage s (a.page f) → HasMark s (a.modify f) → count_of a.modified f ≡ one_if (is state.Modified s) → Somewhere
+    by_state state.Active some writes page mark listed = inl (shown some)
+    by_state state.Free some writes page mark listed = absurd (false≢true (sym mark ∙ dirty))
+    by_state state.Modified some writes page mark listed = inr (omega (arith, listed))
+    by_state state.Bad some writes page mark listed = absurd (none-some g (sym page ∙ holds))
+    by_state state.ReleasePending some writes page mark listed = absurd (omega (arith, writes, no_writes))
+    by_state state.ReadError some writes page mark listed = absurd (false≢true (sym mark ∙ dirty))
+    by_state state.Writing some writes page mark listed = absurd (omega (arith, writes, no_writes))
+    by_state state.Reading some writes page mark listed = absurd (false≢true (sym mark ∙ dirty))
 
-    pub not_dirty : ⊥
-    not_dirty = let fits = kept.frames f in by_state (a.state f) fits.shares fits.writes fits.page fits.mark fits.on_modified
+    -- it is still valid, or its frame is on the modified list
+    pub dirty_where : StaysInSlot a g ⊎ (0 < count_of a.modified f)
+    dirty_where = let fits = kept.frames f in by_state (a.state f) fits.shares fits.writes fits.page fits.mark fits.on_modified
 
-  -- ---- so no page of a shared section is dirty
-  clean_frame : (s i : ℕ) (f : ℕ) → (holds_page (Shared (record { 0 = s }) i) (a.page f) && a.modify f) ≡ false
-  clean_frame s i f = by (holds_page (Shared (record { 0 = s }) i) (a.page f)) refl (a.modify f) refl
-    where
-      by : (b : Bool) → holds_page (Shared (record { 0 = s }) i) (a.page f) ≡ b → (c : Bool) → a.modify f ≡ c → (b && c) ≡ false
-      by false held c dirty = refl
-      by true held false dirty = refl
-      by true held true dirty = absurd (not_dirty f (Shared (record { 0 = s }) i) (held_page (Shared (record { 0 = s }) i) (a.page f) held) refl dirty)
+  -- ---- where no slot has a shared page, and the modified list has none, no page of a shared section is dirty
+  module _ (over : IsOver a) where
+    not_dirty : (f : ℕ) (g : Page) → a.page f ≡ Some g → is_private g ≡ false → a.modify f ≡ true → ⊥
+    not_dirty f g holds shared dirty = by (dirty_where f g holds dirty)
+      where
+        by : StaysInSlot a g ⊎ (0 < count_of a.modified f) → ⊥
+        by (inl stays) = false≢true (sym (over.0 stays.process stays.slot) ∙ (ap (passes is_shared_seen) stays.is ∙ (ap (λ (h : Page). not (is_private h)) stays.page ∙ ap not shared)))
+        by (inr some) = false≢true (sym over.1 ∙ listed_passes (λ (h : ℕ). holds_shared (a.page h)) a.modified f some (ap holds_shared holds ∙ ap not shared))
 
-  clean_page : (s i : ℕ) → is_dirty config a (Shared (record { 0 = s }) i) ≡ false
-  clean_page s i = none_passes (λ (f : ℕ). holds_page (Shared (record { 0 = s }) i) (a.page f) && a.modify f) (range_with_len 0 config.frames) (each (range_with_len 0 config.frames))
-    where
-      each : (xs : List ℕ) → AllByRecursion (λ (f : ℕ). (holds_page (Shared (record { 0 = s }) i) (a.page f) && a.modify f) ≡ false) xs
-      each [] = tt
-      each (f ∷ xs) = (clean_frame s i f, each xs)
+    clean_frame : (s i : ℕ) (f : ℕ) → (holds_page (Shared (record { 0 = s }) i) (a.page f) && a.modify f) ≡ false
+    clean_frame s i f = by (holds_page (Shared (record { 0 = s }) i) (a.page f)) refl (a.modify f) refl
+      where
+        by : (b : Bool) → holds_page (Shared (record { 0 = s }) i) (a.page f) ≡ b → (c : Bool) → a.modify f ≡ c → (b && c) ≡ false
+        by false held c dirty = refl
+        by true held false dirty = refl
+        by true held true dirty = absurd (not_dirty f (Shared (record { 0 = s }) i) (held_page (Shared (record { 0 = s }) i) (a.page f) held) refl dirty)
 
-  none_of : (s : ℕ) (numbers : List ℕ) (pages : List Page) → filter (is_dirty config a) pages ≡ [] → filter (is_dirty config a) (map (Shared (record { 0 = s })) numbers ++ pages) ≡ []
-  none_of s [] pages rest = rest
-  none_of s (i ∷ numbers) pages rest =
-      ap (λ (b : Bool). cond b (Shared (record { 0 = s }) i ∷ filter (is_dirty config a) (map (Shared (record { 0 = s })) numbers ++ pages)) (filter (is_dirty config a) (map (Shared (record { 0 = s })) numbers ++ pages))) (clean_page s i)
-      ∙ none_of s numbers pages rest
+    clean_page : (s i : ℕ) → is_dirty config a (Shared (record { 0 = s }) i) ≡ false
+    clean_page s i = none_passes (λ (f : ℕ). holds_page (Shared (record { 0 = s }) i) (a.page f) && a.modify f) (range_with_len 0 config.frames) (each (range_with_len 0 config.frames))
+      where
+        each : (xs : List ℕ) → AllByRecursion (λ (f : ℕ). (holds_page (Shared (record { 0 = s }) i) (a.page f) && a.modify f) ≡ false) xs
+        each [] = tt
+        each (f ∷ xs) = (clean_frame s i f, each xs)
 
-  none_from : (s : ℕ) (sections : List Section) → filter (is_dirty config a) (pages_from s sections) ≡ []
-  none_from s [] = refl
-  none_from s (section ∷ sections) = by (is_shared_kind section.kind) (none_from (s + 1) sections)
-    where
-      by : (b : Bool) → filter (is_dirty config a) (pages_from (s + 1) sections) ≡ []
-          → filter (is_dirty config a) (cond b (map (Shared (record { 0 = s })) (range_with_len 0 (section_pages section))) [] ++ pages_from (s + 1) sections) ≡ []
-      by true rest = none_of s (range_with_len 0 (section_pages section)) (pages_from (s + 1) sections) rest
-      by false rest = rest
+    none_of : (s : ℕ) (numbers : List ℕ) (pages : List Page) → filter (is_dirty config a) pages ≡ [] → filter (is_dirty config a) (map (Shared (record { 0 = s })) numbers ++ pages) ≡ []
+    none_of s [] pages rest = rest
+    none_of s (i ∷ numbers) pages rest =
+        ap (λ (b : Bool). cond b (Shared (record { 0 = s }) i ∷ filter (is_dirty config a) (map (Shared (record { 0 = s })) numbers ++ pages)) (filter (is_dirty config a) (map (Shared (record { 0 = s })) numbers ++ pages))) (clean_page s i)
+        ∙ none_of s numbers pages rest
 
-  pub none_dirty : dirty_pages config (pager_after config past) ≡ []
-  none_dirty = none_from 0 config.sections
+    none_from : (s : ℕ) (sections : List Section) → filter (is_dirty config a) (pages_from s sections) ≡ []
+    none_from s [] = refl
+    none_from s (section ∷ sections) = by (is_shared_kind section.kind) (none_from (s + 1) sections)
+      where
+        by : (b : Bool) → filter (is_dirty config a) (pages_from (s + 1) sections) ≡ []
+            → filter (is_dirty config a) (cond b (map (Shared (record { 0 = s })) (range_with_len 0 (section_pages section))) [] ++ pages_from (s + 1) sections) ≡ []
+        by true rest = none_of s (range_with_len 0 (section_pages section)) (pages_from (s + 1) sections) rest
+        by false rest = rest
+
+    pub none_dirty : dirty_pages config (pager_after config past) ≡ []
+    none_dirty = none_from 0 config.sections

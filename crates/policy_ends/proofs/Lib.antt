@@ -20,5 +20,11 @@ pub mod Unfailed
 pub mod Clusters
 pub mod Evictions
 pub mod CleanMoves
+pub mod Beyond
+pub mod FailedWrites
+pub mod WrittenClusters
+pub mod Passed
+pub mod DirtyMoves
 pub mod Ended
 pub mod CleanRuns
+pub mod DirtyRuns

@@ -10,7 +10,7 @@ use Rattle.pager_model.specs.Pager.{Pager}
 use Rattle.pager_model.specs.Rundown.{Place, is_shared_at, place_in, shared_from, shared_of_processes, shared_place}
 use Rattle.pager_model.specs.Swap.{is_shared_seen}
 use Rattle.pager_rules.proofs.Lists.{found_passes}
-use Rattle.policy_ends.specs.Clean.{IsEarlier, NoneBefore, NoneShared}
+use Rattle.policy_ends.specs.Clean.{IsEarlier}
 
 -- ---- a search through a range
 find_none : (t : ℕ → Bool) (s n : ℕ) → find t (range_with_len s n) ≡ None → (m : ℕ) → s ≤ m → m < s + n → t m ≡ false
@@ -127,54 +127,59 @@ module _ (a : Pager) where
       go (Some n) found is rest = first_here q n at found (same_Some _ at is)
       go None found is rest = first_later q at found (rest is)
 
-  -- ---- from a place on
-  module _ (config : Config) (p n : ℕ) (before : NoneBefore a p n) where
+  -- ---- from a place on: what each slot before it has, and each one without a shared page
+  module _ (config : Config) (p n : ℕ) (P : ℕ → ℕ → Type 0) (unshared : (q m : ℕ) → is_shared_at a q m ≡ false → P q m) (before : (q m : ℕ) → IsEarlier q m p n → P q m) where
     abbrev others : Option Place
     others = shared_of_processes a (range_with_len (p + 1) (length config.procs - (p + 1)))
 
-    pub all_evicted : ((q m : ℕ) → length config.procs ≤ q → is_shared_at a q m ≡ false) → shared_place config a p n ≡ None → NoneShared a
-    all_evicted absent is q m = go (shared_from a p n) refl is
+    at_process : (q m : ℕ) → q ≡ p → is_shared_at a p m ≡ false → P q m
+    at_process q m same none = unshared q m (subst (λ (r : ℕ). is_shared_at a r m ≡ false) (sym same) none)
+
+    pub all_passed : ((q m : ℕ) → length config.procs ≤ q → is_shared_at a q m ≡ false) → shared_place config a p n ≡ None → (q m : ℕ) → P q m
+    all_passed absent is q m = go (shared_from a p n) refl is
       where
-        go : (o : Option ℕ) → shared_from a p n ≡ o → place_in p o others ≡ None → is_shared_at a q m ≡ false
+        go : (o : Option ℕ) → shared_from a p n ≡ o → place_in p o others ≡ None → P q m
         go (Some k) found is = absurd (none-some _ (sym is))
         go None found is = by (compare q p)
           where
-            here : q ≡ p → (m < n) ⊎ (n ≤ m) → is_shared_at a q m ≡ false
+            here : q ≡ p → (m < n) ⊎ (n ≤ m) → P q m
             here same (inl less) = before q m (inr (same, less))
-            here same (inr least) = subst (λ (r : ℕ). is_shared_at a r m ≡ false) (sym same) (slot_none p n found m least)
+            here same (inr least) = at_process q m same (slot_none p n found m least)
 
-            later : p < q → (q < length config.procs) ⊎ (length config.procs ≤ q) → is_shared_at a q m ≡ false
-            later more (inl less) = processes_none (p + 1) (length config.procs - (p + 1)) is q m (omega (arith, more)) (omega (arith, more, less))
-            later more (inr least) = absent q m least
+            later : p < q → (q < length config.procs) ⊎ (length config.procs ≤ q) → P q m
+            later more (inl less) = unshared q m (processes_none (p + 1) (length config.procs - (p + 1)) is q m (omega (arith, more)) (omega (arith, more, less)))
+            later more (inr least) = unshared q m (absent q m least)
 
-            by : (q < p) ⊎ ((q ≡ p) ⊎ (p < q)) → is_shared_at a q m ≡ false
+            by : (q < p) ⊎ ((q ≡ p) ⊎ (p < q)) → P q m
             by (inl less) = before q m (inl less)
             by (inr (inl same)) = here same (or_later m n)
             by (inr (inr more)) = later more (or_later q (length config.procs))
 
-    pub next_place : (at : Place) → shared_place config a p n ≡ Some at → (is_shared_at a at.process at.slot ≡ true) × NoneBefore a at.process at.slot
+    pub next_place : (at : Place) → shared_place config a p n ≡ Some at → (is_shared_at a at.process at.slot ≡ true) × ((q m : ℕ) → IsEarlier q m at.process at.slot → P q m)
     next_place at is = go (shared_from a p n) refl is
       where
-        within : (k : ℕ) → ((m : ℕ) → n ≤ m → m < k → is_shared_at a p m ≡ false) → NoneBefore a p k
+        within : (k : ℕ) → ((m : ℕ) → n ≤ m → m < k → is_shared_at a p m ≡ false) → (q m : ℕ) → IsEarlier q m p k → P q m
         within k rest q m (inl less) = before q m (inl less)
         within k rest q m (inr (same, less)) = by (or_later m n)
           where
-            by : (m < n) ⊎ (n ≤ m) → is_shared_at a q m ≡ false
+            by : (m < n) ⊎ (n ≤ m) → P q m
             by (inl small) = before q m (inr (same, small))
-            by (inr least) = subst (λ (r : ℕ). is_shared_at a r m ≡ false) (sym same) (rest m least less)
+            by (inr least) = at_process q m same (rest m least less)
 
-        further : shared_from a p n ≡ None → IsFirst (p + 1) at → NoneBefore a at.process at.slot
+        further : shared_from a p n ≡ None → IsFirst (p + 1) at → (q m : ℕ) → IsEarlier q m at.process at.slot → P q m
         further none first q m earlier = by (compare q p)
           where
-            here : q ≡ p → (m < n) ⊎ (n ≤ m) → is_shared_at a q m ≡ false
+            here : q ≡ p → (m < n) ⊎ (n ≤ m) → P q m
             here same (inl less) = before q m (inr (same, less))
-            here same (inr least) = subst (λ (r : ℕ). is_shared_at a r m ≡ false) (sym same) (slot_none p n none m least)
+            here same (inr least) = at_process q m same (slot_none p n none m least)
 
-            by : (q < p) ⊎ ((q ≡ p) ⊎ (p < q)) → is_shared_at a q m ≡ false
+            by : (q < p) ⊎ ((q ≡ p) ⊎ (p < q)) → P q m
             by (inl less) = before q m (inl less)
             by (inr (inl same)) = here same (or_later m n)
-            by (inr (inr more)) = first.before q m (omega (arith, more)) earlier
+            by (inr (inr more)) = unshared q m (first.before q m (omega (arith, more)) earlier)
 
-        go : (o : Option ℕ) → shared_from a p n ≡ o → place_in p o others ≡ Some at → (is_shared_at a at.process at.slot ≡ true) × NoneBefore a at.process at.slot
-        go (Some k) found is = subst (λ (x : Place). (is_shared_at a x.process x.slot ≡ true) × NoneBefore a x.process x.slot) (same_Some (record { process = p; slot = k }) at is) (slot_there p n k found, within k (slot_first p n k found))
+        go : (o : Option ℕ) → shared_from a p n ≡ o → place_in p o others ≡ Some at → (is_shared_at a at.process at.slot ≡ true) × ((q m : ℕ) → IsEarlier q m at.process at.slot → P q m)
+        go (Some k) found is =
+            subst (λ (x : Place). (is_shared_at a x.process x.slot ≡ true) × ((q m : ℕ) → IsEarlier q m x.process x.slot → P q m)) (same_Some (record { process = p; slot = k }) at is)
+            (slot_there p n k found, within k (slot_first p n k found))
         go None found is = let first = processes_first (p + 1) (length config.procs - (p + 1)) at is in (first.there, further found first)

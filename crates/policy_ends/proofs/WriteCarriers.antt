@@ -78,7 +78,7 @@ begun_no_higher config seat (what.Out f b ∷ ws) past formed clear writes run =
 begun_no_higher config seat (other ∷ ws) past formed clear writes run = absurd (false≢true writes.0)
 
 -- ---- one lands
-not_read : {X : Type 0} (config : Config) (past : List Entry) (k : ℕ) (x : Flight) (r : Role) → AreClear past (pager_after config past) → find (starts k) (open_flights past) ≡ Some x
+pub not_read : {X : Type 0} (config : Config) (past : List Entry) (k : ℕ) (x : Flight) (r : Role) → AreClear past (pager_after config past) → find (starts k) (open_flights past) ≡ Some x
     → x.direction ≡ reading r → X
 not_read config past k x r clear found is = absurd (false≢true (sym (ap is_reading (all_found (IsClear (pager_after config past)) (starts k) (open_flights past) x clear found).0) ∙ ap is_reading is))
 
@@ -106,7 +106,7 @@ module _ (config : Config) (past : List Entry) (seat : ℕ) (f k : ℕ) (formed 
 abbrev landed_one : Config → ℕ → List Entry → Flight → Outcome → List Entry
 landed_one config seat past x o = made_by seat (landing past (pager_after config past).page x x.direction o) past
 
-landing_no_higher : (config : Config) (seat : ℕ) (past : List Entry) (x : Flight) (o : Outcome) → IsWellFormed config → AreClear past (pager_after config past)
+pub landing_no_higher : (config : Config) (seat : ℕ) (past : List Entry) (x : Flight) (o : Outcome) → IsWellFormed config → AreClear past (pager_after config past)
     → IsRun config (landed_one config seat past x o) → NoHigher config past (landed_one config seat past x o)
 landing_no_higher config seat past x o formed clear run = by x.direction o run
   where

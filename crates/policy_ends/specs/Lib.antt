@@ -2,4 +2,5 @@ pub mod Rank
 pub mod Bound
 pub mod Laws
 pub mod Clean
+pub mod Dirty
 pub mod RundownLaws

@@ -1,9 +1,10 @@
 //! Laws on ends: by the serial policy each request is answered after a bounded number of moves, since each
-//! lowers its rank; and a rundown of which no transfer failed leaves no shared page dirty. No code.
+//! lowers its rank; and the rundown leaves a shared page dirty exactly if its last write there failed or its
+//! eviction stayed stopped, and none if no transfer failed. No code.
 #![tactic(auto)]
 
 mod laws;
 mod rundowns;
 
 pub use laws::{moves_are_bounded, moves_lower};
-pub use rundowns::no_failure_no_dirt;
+pub use rundowns::{dirty_because, no_failure_no_dirt};

@@ -1,6 +1,5 @@
 ghost use Rattle.std.specs.Prelude.{◌≡◌, ◌≢◌, ◌⊎◌, [], List, ℕ, Some, IfOk, refl};
 ghost use Rattle.vm_types.specs.BlockView.{Retired};
-ghost use Rattle.outside_io.specs.KeptIsLast.{all_is_handed_on};
 ghost use Rattle.vm_types.specs.Moved.{moved};
 ghost use Rattle.replay_cli.specs.Commands.{Asks, HasInput, IsDone, Told, texts};
 ghost use Rattle.replay_cli.specs.declared.words.Command.{Command};
@@ -8,7 +7,7 @@ ghost use Rattle.program_call.specs.ProgramTells.{bytes_view, memory_view};
 
 use crate::sure_depot::SureDepot;
 use command_ends::Status;
-use outside_io::{Sink, Source};
+use outside_io::{Source, VecSink};
 use replay_cli::run_one;
 use std::alloc::Global;
 use vm_types::{Failed, NoMemory};
@@ -38,53 +37,6 @@ impl Source for BytesSource<'_> {
         self.left = rest;
         Ok(count)
     }
-}
-
-/// A vector that grows as a sink. The bytes taken are known; a write fails if memory runs out.
-#[derive(Drop)]
-pub struct BytesSink {
-    bytes: Vec<u8>,
-    faults: u64,
-}
-
-impl BytesSink {
-    /// Nothing is taken yet. Doesn't allocate.
-    pub fn new(alloc: Global) -> BytesSink
-        ensures taken { (⟦<BytesSink as Sink>⟧.seen result).taken ≡ Some [] }
-        ensures faults { (⟦<BytesSink as Sink>⟧.seen result).failures ≡ 0 }
-    {
-        BytesSink {
-            bytes: Vec::new(alloc),
-            faults: 0,
-        }
-    }
-
-    /// The bytes taken, in order. Doesn't allocate.
-    pub fn into_bytes(self) -> Vec<u8>
-        ensures { (⟦<BytesSink as Sink>⟧.seen self).taken ≡ Some result.items }
-    {
-        self.bytes
-    }
-}
-
-impl Sink for BytesSink {
-    ghost seen = { λ s. record { taken = Some s.bytes.items; kept = []; failures = s.faults; stalls = 0 } };
-
-    fn write(&mut self, piece: &[u8]) -> Result<usize, Failed> {
-        match self.bytes.extend_from_slice(piece) {
-            Ok(()) => Ok(piece.len()),
-            Err(_) => {
-                self.faults = self.faults.saturating_add(1);
-                Err(Failed)
-            }
-        }
-    }
-
-    fn flush(&mut self) -> Result<(), Failed> {
-        Ok(())
-    }
-
-    ghost kept_is_last = { λ s. all_is_handed_on s.bytes.items };
 }
 
 /// Runs the command that the words name over the bytes and over blocks in memory, and returns its
@@ -119,7 +71,7 @@ pub fn run_bytes(alloc: Global, words: &[&str], input: &[u8]) -> Result<(Status,
     ensures no_failure { IfOk result (λ run. (run.0.0 ≢ 3) × (run.0.0 ≢ 4) × (run.0.0 ≢ 6)) }
 {
     let mut source = BytesSource::new(input);
-    let mut sink = BytesSink::new(alloc);
+    let mut sink = VecSink::new(alloc);
     let mut depot = SureDepot::new(alloc);
     let status = run_one(alloc, words, &mut source, &mut sink, &mut depot);
     if status.0 == 4 {

@@ -10,5 +10,5 @@ mod sure_depot;
 mod words;
 
 pub use arguments::{Arguments, EnvArguments, ListedArguments};
-pub use bytes::{BytesSink, BytesSource, run_bytes};
+pub use bytes::{BytesSource, run_bytes};
 pub use program::{run_and_explain, run_program};

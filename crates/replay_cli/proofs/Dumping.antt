@@ -12,6 +12,7 @@ use Rattle.outside_io.specs.Views.{SinkView, SourceView}
 use Rattle.trace_reader.specs.Answer.{Answers, FaultsBy}
 use Rattle.trace_reader.specs.declared.fault.TraceFault.{TraceFault}
 use Rattle.pager_model.specs.Asked.{IsAsked}
+use Rattle.pager_model.specs.Serial.{IsSerial}
 use Rattle.pager_model.specs.Spoken.{IsRight}
 use Rattle.pager_model.specs.Text.{status_line}
 use Rattle.pager_laws.specs.Laws.{RunsAreSound}
@@ -32,14 +33,14 @@ use Rattle.replay_cli.specs.DumpAnswer.{DumpTells, IsDumpAnswer, IsDumpedRun, Is
 use Rattle.replay_cli.proofs.Serving.{not_early}
 
 -- a run up to the report's place, seen by what is seen of the depot before and after
-pub run_to_report_over : (tells : Tells) (config : Config) (past : List Entry) (depot depot' : DepotView) → depot.tells ≡ tells → IsAtReport tells.content config past
+pub run_to_report_over : (tells : Tells) (config : Config) (past : List Entry) (depot depot' : DepotView) → depot.tells ≡ tells → IsAtReport tells.content config past → IsSerial config past
     → (taken : List Retired) × (depot'.retired ≡ depot.retired ++ taken) × IsAsked tells.plan config past taken → RunsAreSound → IsRunToReport (moved depot depot') config past
-run_to_report_over tells config past depot depot' known there back sound = record {
+run_to_report_over tells config past depot depot' known there made back sound = record {
   legal = there.run;
   right = subst (λ (t : Tells). t.content ≡ true → IsRight config past) (sym known) there.right;
   in_order = there.in_order;
   answered = there.answered;
-  made = there.serial;
+  made = made;
   landed = there.landed;
   reused = there.reused;
   sound = sound config past there.formed there.run;

@@ -10,7 +10,6 @@ use Rattle.disk_trait.specs.DepotView.{DepotView}
 use Rattle.pager_model.specs.Text.{run_text}
 use Rattle.pager_laws.specs.Laws.{RunsAreSound}
 use Rattle.vm_types.specs.Moved.{moved}
-use Rattle.pager_model.specs.Serial.{IsSerial}
 use Rattle.command_ends.specs.Concludes.{IsOutcome}
 use Rattle.run_text.specs.Parts.{run_status}
 use Rattle.run_text.specs.Reported.{AreParts, IsReported}
@@ -32,8 +31,8 @@ run_ends dirty = by (nat_eq (length dirty) 0) where
 pub run_outcome : (dirty : List Page) → IsOutcome (run_status dirty)
 run_outcome dirty = elim (run_ends dirty) [ inl zero ↦ inl zero | inr five ↦ inr (inl five) ]
 
-module _ (tells : Tells) (config : Config) (taken : List Retired) (f : Finished) (entries : List Entry) (dirty : List Page)
-    (formed : IsWellFormed config) (ended : IsFinished tells config taken f)
+module _ (Makes : Config → List Entry → Type 0) (tells : Tells) (config : Config) (taken : List Retired) (f : Finished) (entries : List Entry) (dirty : List Page)
+    (formed : IsWellFormed config) (ended : IsFinished Makes tells config taken f)
     (all : entries ≡ (f.entries).items) (left : dirty ≡ (f.dirty).items) where
   pub are_parts : AreParts entries f.at ended.past ended.rest
   are_parts = record { all = all ∙ ended.all; place = ended.at }
@@ -53,11 +52,11 @@ module _ (tells : Tells) (config : Config) (taken : List Retired) (f : Finished)
       })
 
   module _ (depot depot' : DepotView) (known : depot.tells ≡ tells) (longer : depot'.retired ≡ depot.retired ++ taken) (sound : RunsAreSound) where
-    pub finished_run : IsFinishedRun (IsSerial config) (moved depot depot') config (run_status dirty) (run_text f.config ended.past ended.rest (run_status dirty))
+    pub finished_run : IsFinishedRun (Makes config) (moved depot depot') config (run_status dirty) (run_text f.config ended.past ended.rest (run_status dirty))
     finished_run = record {
       past = ended.past;
       rest = ended.rest;
-      over = run_over tells config taken (f.dirty).items ended.past ended.rest depot depot' known formed ended.over longer sound;
+      over = run_over (Makes config) tells config taken (f.dirty).items ended.past ended.rest depot depot' known formed ended.over ended.made longer sound;
       ending = ap run_status (left ∙ ended.over.left);
       lines = ap (λ (x : Config). run_text x ended.past ended.rest (run_status dirty)) ended.same;
     }

@@ -41,7 +41,7 @@ module _ (tells : Tells) (make : Make) (config : Config) (is : config ≡ made_c
     past = ended.past;
     rest = ended.rest;
     over = subst (λ (x : Config). IsRunOver (IsSerial x) (moved depot depot') x ended.past ended.rest) is
-        (run_over tells config taken (f.dirty).items ended.past ended.rest depot depot' known formed ended.over longer sound);
+        (run_over (IsSerial config) tells config taken (f.dirty).items ended.past ended.rest depot depot' known formed ended.over ended.made longer sound);
     ending = ap run_status ended.over.left ∙ ap (λ (x : Config). status_of x (ended.rest ++ ended.past)) is;
     lines = refl;
   }

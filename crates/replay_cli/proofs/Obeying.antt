@@ -7,10 +7,11 @@ use Rattle.outside_io.specs.Causes.{Rose}
 use Rattle.vm_types.specs.Moved.{moved}
 use Rattle.outside_io.specs.Views.{SinkView, SourceView}
 use Rattle.pager_model.specs.Run.{pager_after}
+use Rattle.pager_model.specs.Serial.{IsSerial}
 use Rattle.pager_model.specs.Text.{dirty_pages}
 use Rattle.trace_maker.specs.Made.{made_config}
 use Rattle.command_ends.specs.Concludes.{Concludes}
-use Rattle.command_ends.specs.Tells.{IsTrace, Tells, answered, faulty, unfinished, unread, no_memory}
+use Rattle.command_ends.specs.Tells.{IsTrace, Tells}
 use Rattle.command_ends.proofs.Concluding.{its_status, unfailed_status}
 use Rattle.command_ends.proofs.Telling as telling
 use Rattle.check_command.specs.CheckTells.{CheckTells, HasCheckInput}
@@ -22,20 +23,11 @@ use Rattle.make_summary.specs.declared.make.Make.{Make}
 use Rattle.show_command.specs.ShowTells.{HasDump, ShowTells}
 use Rattle.show_command.proofs.Showing as showing
 use Rattle.replay_cli.specs.DumpAnswer.{IsDumpAnswer}
-use Rattle.replay_cli.specs.Headline.{IsSerialAnswer}
 use Rattle.replay_cli.specs.declared.words.Command.{Command}
 use Rattle.replay_cli.specs.declared.words.Command.TheVariants.{Serial, Study, Make as MakeCommand, Check, Dump, Show}
 use Rattle.replay_cli.proofs.Asking.{head_apart, shorter}
 use Rattle.replay_cli.proofs.Finishing.{run_ends}
-
--- a status of an answer: 0 or 5, or the depot failed and it is 6
-abbrev HasEnding : DepotView → DepotView → ℕ → Type 0
-HasEnding depot depot' status = ((status ≡ 0) ⊎ (status ≡ 5)) ⊎ ((status ≡ 6) × Rose depot.failures depot'.failures)
-
-serial_ending : (depot depot' : DepotView) (config : Config) (status : ℕ) (text : List ℕ) → IsSerialAnswer (moved depot depot') config status text → HasEnding depot depot' status
-serial_ending depot depot' config status text (inl run) =
-    inl (subst (λ n. (n ≡ 0) ⊎ (n ≡ 5)) (sym run.ending) (run_ends (dirty_pages config (pager_after config (run.rest ++ run.past)))))
-serial_ending depot depot' config status text (inr none) = inr (none.ending, none.failed)
+use Rattle.replay_cli.proofs.Running.{HasEnding, Holds, IsRunStatus, is_run_status, run_holds, six, tells_holds, told_made, unfailed_ending}
 
 study_ending : (depot depot' : DepotView) (status : ℕ) → status ≡ 0 → HasEnding depot depot' status
 study_ending depot depot' status zero = inl (inl zero)
@@ -124,53 +116,8 @@ same_by before Show Show e = record { input = λ i. i; done = λ status d. d }
 same : (words : List (List ℕ)) (before : SourceView) (one two : Command) → Asks words one → Asks words two → AreSame before one two
 same words before one two a b = same_by before one two (same_name words one two a b)
 
--- what holds of the status with which a command's text goes
-record Holds (Input : Type 0) (Done : ℕ → Type 0) (before after : SourceView) (depot depot' : DepotView) (status : ℕ) : Type 0 where
-  not_four : status ≡ 4 → ⊥
-  not_one : status ≡ 1 → ⊥
-  read : status ≡ 3 → Rose before.failures after.failures
-  made : status ≡ 6 → Rose depot.failures depot'.failures
-  complete : Input → (Rose before.failures after.failures → ⊥) → (Rose depot.failures depot'.failures → ⊥) → Done status
-
--- a status of a run, or 7
-abbrev HasRun : ℕ → Type 0
-HasRun status = (status ≡ 0) ⊎ ((status ≡ 5) ⊎ (status ≡ 7))
-
-has_run : (status : ℕ) → ((status ≡ 0) ⊎ (status ≡ 5)) ⊎ (status ≡ 7) → HasRun status
-has_run status (inl (inl zero)) = inl zero
-has_run status (inl (inr five)) = inr (inl five)
-has_run status (inr seven) = inr (inr seven)
-
-six : (depot depot' : DepotView) (status : ℕ) → HasEnding depot depot' status → status ≡ 6 → Rose depot.failures depot'.failures
-six depot depot' status (inl (inl zero)) e = absurd (omega (arith, zero, e))
-six depot depot' status (inl (inr five)) e = absurd (omega (arith, five, e))
-six depot depot' status (inr none) e = none.1
-
-unfailed_ending : (depot depot' : DepotView) (status : ℕ) → (Rose depot.failures depot'.failures → ⊥) → HasEnding depot depot' status → (status ≡ 0) ⊎ (status ≡ 5)
-unfailed_ending depot depot' status made (inl ran) = ran
-unfailed_ending depot depot' status made (inr none) = absurd (made none.1)
-
-module _ (depot depot' : DepotView) {before after : SourceView} (answer : Config → ℕ → List ℕ → Type 0)
-    (ending : (config : Config) (status : ℕ) (text : List ℕ) → answer config status text → HasEnding depot depot' status) where
-  told_made : (status : ℕ) (text : List ℕ) → Tells answer before after status text → status ≡ 6 → Rose depot.failures depot'.failures
-  told_made status text (answered config own t outcome quiet reads right) e = six depot depot' status (ending config status text right) e
-  told_made status text (faulty n breach quiet shown) e = absurd (omega arith)
-  told_made status text (unfinished quiet short) e = absurd (omega arith)
-  told_made status text (unread rose faultless) e = absurd (omega arith)
-  told_made status text (no_memory quiet) e = absurd (omega arith)
-
-  tells_holds : (status : ℕ) (text : List ℕ) → Tells answer before after status text → Holds (IsTrace before) HasRun before after depot depot' status
-  tells_holds status text told = record {
-    not_four = telling.not_four status text told;
-    not_one = telling.not_one status text told;
-    read = telling.told_read status text told;
-    made = told_made status text told;
-    complete = λ trace unfailed made.
-        has_run status (telling.told_answered (λ m. (m ≡ 0) ⊎ (m ≡ 5)) (λ config n t outcome right. unfailed_ending depot depot' n made (ending config n t right)) status text told trace unfailed);
-  }
-
 module _ {before after : SourceView} {depot depot' : DepotView} where
-  told_by_make : (make : Make) (status : ℕ) (text : List ℕ) → MakeTells make (moved depot depot') status text → Holds (Unit {0}) HasRun before after depot depot' status
+  told_by_make : (make : Make) (status : ℕ) (text : List ℕ) → MakeTells make (moved depot depot') status text → Holds (Unit {0}) IsRunStatus before after depot depot' status
   told_by_make make status text (counted own t outcome right) =
       let ends = make_ending make depot depot' status text right in
       record {
@@ -178,7 +125,7 @@ module _ {before after : SourceView} {depot depot' : DepotView} where
         not_one = (telling.other_number status outcome).0;
         read = λ e. absurd ((telling.other_number status outcome).1 e);
         made = six depot depot' status ends;
-        complete = λ none unfailed failed. has_run status (inl (unfailed_ending depot depot' status failed ends));
+        complete = λ none unfailed failed. is_run_status status (inl (unfailed_ending depot depot' status failed ends));
       }
   told_by_make make status text memory_out = record {
     not_four = λ e. omega (arith, e);
@@ -217,7 +164,7 @@ module _ {before after : SourceView} {depot depot' : DepotView} where
 
   obeys_holds : (command : Command) (status : ℕ) (text : List ℕ) → Obeys command (moved before after) (moved depot depot') status text
       → Holds (HasInput command before) (IsDone command) before after depot depot' status
-  obeys_holds Serial status text obeys = tells_holds depot depot' (IsSerialAnswer (moved depot depot')) (serial_ending depot depot') status text obeys.tells
+  obeys_holds Serial status text obeys = run_holds IsSerial status text obeys
   obeys_holds (Study study) status text obeys = tells_holds depot depot' (IsStudyAnswer study) (λ config n t answer. study_ending depot depot' n answer.0) status text obeys.0
   obeys_holds (MakeCommand make) status text obeys = told_by_make make status text obeys.0
   obeys_holds Check status text obeys = told_by_check status text obeys.0

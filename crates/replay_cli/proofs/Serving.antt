@@ -1,9 +1,10 @@
--- What `serial` tells, by what reading and running answer.
-use Rattle.std.proofs.Common.{◌≡◌, ℕ, refl, arith, inl, inr}
+-- What a command that runs a trace tells, by what reading and running answer.
+use Rattle.std.proofs.Common.{◌≡◌, ℕ, List, refl, arith, inl, inr}
 use Rattle.std.specs.Prelude.{◌⊎◌, IfSome, None, Ok, Err}
 use Rattle.std.specs.declared.option.Option.{Option}
 use Rattle.vm_types.specs.declared.config.Config.{Config}
 use Rattle.vm_types.specs.Moved.{moved}
+use Rattle.vm_journal.specs.declared.entry.Entry.{Entry}
 use Rattle.disk_trait.specs.DepotView.{DepotView}
 use Rattle.outside_io.specs.Views.{SinkView, SourceView}
 use Rattle.trace_reader.specs.Answer.{Answers, FaultsBy}
@@ -17,7 +18,7 @@ use Rattle.command_ends.specs.Wrongs.{TellsWrong, wrong_of}
 use Rattle.command_ends.specs.declared.wrong.Wrong.{Wrong}
 use Rattle.command_ends.proofs.Telling.{fault_tells}
 use Rattle.command_ends.proofs.Wronging.{fault_wrong, outcome_right, seven_right}
-use Rattle.replay_cli.specs.Headline.{IsSerialAnswer, SerialTells}
+use Rattle.replay_cli.specs.Headline.{IsRunAnswer, RunTells}
 
 -- an outcome isn't that of input that is no trace or can't be read
 pub not_early : (status : ℕ) → IsOutcome status → (status ≡ 2) ⊎ (status ≡ 3) → ⊥
@@ -30,10 +31,10 @@ not_early status outcome early =
       ]
     ]
 
-module _ {before after : SourceView} {depot depot' : DepotView} {sink sink' : SinkView} {result : ℕ} where
+module _ (Makes : Config → List Entry → Type 0) {before after : SourceView} {depot depot' : DepotView} {sink sink' : SinkView} {result : ℕ} where
   -- the trace was read, and its configuration was answered
   pub concludes_run : (config : Config) → IfSome before.left (λ text. Answers (Ok config) text after.left) → FaultsBy (Ok config) before.failures after.failures
-      → EndsAnswered (IsSerialAnswer (moved depot depot') config) sink sink' result → Concludes (TellsWrong (SerialTells (moved before after) (moved depot depot')) None) sink sink' result
+      → EndsAnswered (IsRunAnswer (Makes config) (moved depot depot') config) sink sink' result → Concludes (TellsWrong (RunTells Makes (moved before after) (moved depot depot')) None) sink sink' result
   concludes_run config means counts (inl told) = record {
     status = told.status;
     text = told.text;
@@ -60,12 +61,12 @@ module _ {before after : SourceView} {depot depot' : DepotView} {sink sink' : Si
   }
 
 -- there is no configuration, and no block was made
-pub concludes_unread : {before after : SourceView} {depot : DepotView} {sink sink' : SinkView} {result : ℕ} (f : TraceFault) (wrong : Option Wrong)
+pub concludes_unread : (Makes : Config → List Entry → Type 0) {before after : SourceView} {depot : DepotView} {sink sink' : SinkView} {result : ℕ} (f : TraceFault) (wrong : Option Wrong)
     → wrong ≡ wrong_of f → IfSome before.left (λ text. Answers (Err f) text after.left) → FaultsBy (Err f) before.failures after.failures
-    → Ends sink sink' (fault_status f) (fault_told f) result → Concludes (TellsWrong (SerialTells (moved before after) (moved depot depot)) wrong) sink sink' result
-concludes_unread {depot = depot} f wrong is means counts ends = record {
+    → Ends sink sink' (fault_status f) (fault_told f) result → Concludes (TellsWrong (RunTells Makes (moved before after) (moved depot depot)) wrong) sink sink' result
+concludes_unread Makes {depot = depot} f wrong is means counts ends = record {
   status = fault_status f;
   text = fault_told f;
-  tells_it = record { told = record { tells = fault_tells (IsSerialAnswer (moved depot depot)) f means counts; keeps = λ early. refl }; says = fault_wrong f wrong is };
+  tells_it = record { told = record { tells = fault_tells (λ config. IsRunAnswer (Makes config) (moved depot depot) config) f means counts; keeps = λ early. refl }; says = fault_wrong f wrong is };
   ends = ends;
 }

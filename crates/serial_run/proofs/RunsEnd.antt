@@ -13,6 +13,7 @@ use Rattle.content_laws.proofs.EndContent.{nowhere_uncharged}
 use Rattle.pager_laws.proofs.SerialInOrder.{serial_answered}
 use Rattle.report_lines.specs.Printable.{IsPrintable}
 use Rattle.policy_ends.proofs.CleanRuns.{no_failure_no_dirt}
+use Rattle.policy_ends.proofs.DirtyRuns.{dirty_because}
 use Rattle.serial_laws.specs.Between.{IsBetween}
 use Rattle.serial_steps.specs.Moved.{IsSameBut}
 use Rattle.vm_state.specs.History.{History}
@@ -28,29 +29,31 @@ between_there tells config past there = record { formed = there.formed; run = th
 answered_there : (s : History) → IsSerial s.config s.past → IsAnswered s.config s.past
 answered_there s serial = serial_answered s.config s.past serial.control serial.reached serial.none_left
 
+-- between two moves, where every request is answered, is the report's place
+pub at_report : (tells : Bool) (config : Config) (past : List Entry) → IsBetween config past → IsAnswered config past → (tells ≡ true → IsRight config past) → IsAtReport tells config past
+at_report tells config past between all right = record {
+  formed = between.formed;
+  run = between.run;
+  right = right;
+  in_order = λ p. ([], append-nil (answered p past) ∙ all p);
+  answered = all;
+  landed = between.landed;
+  reused = between.reused;
+}
+
 -- where the policy rests is the report's place
 pub is_there : (tells : Bool) (s : History) → IsBetween s.config s.past → IsSerial s.config s.past → (tells ≡ true → IsRight s.config s.past) → IsAtReport tells s.config s.past
-is_there tells s between serial right =
-    let all = answered_there s serial in
-    record {
-      formed = between.formed;
-      run = between.run;
-      right = right;
-      serial = serial;
-      in_order = λ p. ([], append-nil (answered p s.past) ∙ all p);
-      answered = all;
-      landed = between.landed;
-      reused = between.reused;
-    }
+is_there tells s between serial right = at_report tells s.config s.past between (answered_there s serial) right
 
 -- a state that was started with the configuration and has come there
-pub is_reached : (tells : Bool) (config : Config) (first s : History) → first.config ≡ config → first.keeps ≡ true → IsSameBut first s → IsAtReport tells s.config s.past → IsReached tells config s
-is_reached tells config first s own keeps same there =
+pub is_reached : (tells : Bool) (config : Config) (first s : History) → first.config ≡ config → first.keeps ≡ true → IsSameBut first s → IsAtReport tells s.config s.past → IsSerial s.config s.past → IsReached tells config s
+is_reached tells config first s own keeps same there serial =
     let config_is : s.config ≡ config = ap (λ (x : History). x.config) same ∙ own in
     record {
       same = config_is;
       keeps = ap (λ (x : History). x.keeps) same ∙ keeps;
       there = subst (λ (k : Config). IsAtReport tells k s.past) config_is there;
+      serial = subst (λ (k : Config). IsSerial k s.past) config_is serial;
     }
 
 -- and there by its own configuration
@@ -67,7 +70,7 @@ module _ (tells : Bool) (mid s : History) (ending : Ending) (same : IsSameBut mi
   pub has_ended : IsAtReport tells mid.config mid.past → IsBetween s.config s.past → IsAnswered s.config s.past → (tells ≡ true → IsRight s.config s.past)
       → (rest : List Entry) × (s.past ≡ rest ++ mid.past) × IsRundown mid.config mid.past rest
       → ending.at ≡ length mid.past → ending.report ≡ report_of mid.config mid.past (pager_after mid.config mid.past) → IsPrintable mid.config.sections ending.report
-      → (ending.dirty).items ≡ dirty_pages s.config (pager_after s.config s.past) → HasEnded tells s ending
+      → (ending.dirty).items ≡ dirty_pages s.config (pager_after s.config s.past) → HasEnded tells mid.past s ending
   has_ended begun ended all right down at report printable dirty =
       let ran : IsRun s.config (down.0 ++ mid.past) = subst (λ (p : List Entry). IsRun s.config p) down.1 ended.run in
       let whole : IsWhole s.config mid.past down.0 = record {
@@ -77,7 +80,6 @@ module _ (tells : Bool) (mid s : History) (ending : Ending) (same : IsSameBut mi
         rundown = there (λ (k : Config). IsRundown k mid.past down.0) down.2;
       } in
       record {
-        past = mid.past;
         rest = down.0;
         all = down.1;
         landed = ended.landed;
@@ -86,7 +88,6 @@ module _ (tells : Bool) (mid s : History) (ending : Ending) (same : IsSameBut mi
           run = ran;
           right = λ told. subst (IsRight s.config) down.1 (right told);
           in_order = subst (λ (p : List Entry). IsInOrder s.config p) down.1 (λ p. ([], append-nil (answered p s.past) ∙ all p));
-          serial = there (λ (k : Config). IsSerial k mid.past) begun.serial;
           whole = whole;
         };
         at = at;
@@ -94,4 +95,5 @@ module _ (tells : Bool) (mid s : History) (ending : Ending) (same : IsSameBut mi
         printable = there (λ (k : Config). IsPrintable k.sections ending.report) printable;
         dirty = subst (λ (p : List Entry). (ending.dirty).items ≡ dirty_pages s.config (pager_after s.config p)) down.1 dirty;
         clean = no_failure_no_dirt s.config mid.past down.0 ended.formed ran whole;
+        dirty_because = dirty_because s.config mid.past down.0 ended.formed ran whole;
       }

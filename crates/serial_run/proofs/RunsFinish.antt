@@ -1,13 +1,15 @@
 -- A run that has ended, once its blocks are given back.
-use Rattle.std.proofs.Common.{◌≡◌, ◌≤◌, List, ◌++◌, length, map, reverse, sym, ap, ◌∙◌, subst, arith}
+use Rattle.std.proofs.Common.{◌≡◌, ◌≤◌, false, List, ◌++◌, length, map, reverse, sym, ap, ◌∙◌, subst, arith}
 use Rattle.vm_types.specs.BlockView.{BlockView, Tells}
 use Rattle.vm_types.specs.declared.config.Config.{Config}
 use Rattle.vm_types.specs.declared.names.BlockId.{BlockId}
 use Rattle.vm_types.specs.declared.names.Page.{Page}
 use Rattle.vm_journal.specs.declared.entry.Entry.{Entry}
 use Rattle.pager_model.specs.Asked.{IsAsked}
+use Rattle.pager_model.specs.Maps.{is_private}
 use Rattle.pager_model.specs.Report.{report_of}
 use Rattle.pager_model.specs.Run.{pager_after}
+use Rattle.pager_model.specs.Serial.{IsSerial}
 use Rattle.pager_model.specs.Text.{dirty_pages}
 use Rattle.pager_model.specs.WrittenBack.{AreWrittenBack}
 use Rattle.report_lines.specs.Printable.{IsPrintable}
@@ -22,60 +24,64 @@ use Rattle.serial_run.specs.declared.finished.Finished.{Finished}
 use Rattle.serial_run.specs.declared.run.Ending.{Ending}
 use Rattle.serial_run.proofs.AskedOnce.{asked, written}
 use Rattle.policy_ends.specs.Clean.{failures}
+use Rattle.policy_ends.specs.Dirty.{IsDirtyBecause}
 use Rattle.policy_ends.proofs.Unfailed.{failures_both}
 use Rattle.serial_run.specs.FewRefusals.{faults_of}
 use Rattle.serial_run.proofs.FewRefusals.{has_few_refusals}
 
 module _ {B : Type 0} (seen : B → BlockView) (tells : Tells) where
-  is_over : (config : Config) (s : History) (ending : Ending) (dirty : List Page) (taken : List (BlockId × B)) → s.config ≡ config → (ended : HasEnded tells.content s ending) → dirty ≡ (ending.dirty).items
+  is_over : (config : Config) (past : List Entry) (s : History) (ending : Ending) (dirty : List Page) (taken : List (BlockId × B)) → s.config ≡ config → (ended : HasEnded tells.content past s ending) → dirty ≡ (ending.dirty).items
       → map (λ (p : BlockId × B). p.0) taken ≡ blocks_of s.config → AreGivenBack seen tells s.config s.past taken
-      → IsOver tells config (map (given_back seen) taken) dirty ended.past ended.rest
-  is_over config s ending dirty taken same ended left names given =
-      let run = subst (λ (k : Config). IsWholeRun tells.content k ended.past ended.rest) same ended.run in
+      → IsOver tells config (map (given_back seen) taken) dirty past ended.rest
+  is_over config past s ending dirty taken same ended left names given =
+      let run = subst (λ (k : Config). IsWholeRun tells.content k past ended.rest) same ended.run in
       let all_asked =
-      subst (λ (k : Config). IsAsked tells.plan k (ended.rest ++ ended.past) (map (given_back seen) taken)) same
+      subst (λ (k : Config). IsAsked tells.plan k (ended.rest ++ past) (map (given_back seen) taken)) same
       (subst (λ (p : List Entry). IsAsked tells.plan s.config p (map (given_back seen) taken)) ended.all
       (asked seen tells s.config s.past taken names given)) in
-      let few = has_few_refusals tells.plan config (ended.rest ++ ended.past) (map (given_back seen) taken) run.run all_asked in
-      let failed : failures (ended.rest ++ ended.past) ≤ faults_of (map (given_back seen) taken) = few.failed in
+      let few = has_few_refusals tells.plan config (ended.rest ++ past) (map (given_back seen) taken) run.run all_asked in
+      let failed : failures (ended.rest ++ past) ≤ faults_of (map (given_back seen) taken) = few.failed in
       record {
         run = run;
-        left = left ∙ (ended.dirty ∙ ap (λ (k : Config). dirty_pages k (pager_after k (ended.rest ++ ended.past))) same);
+        left = left ∙ (ended.dirty ∙ ap (λ (k : Config). dirty_pages k (pager_after k (ended.rest ++ past))) same);
         asked = all_asked;
         written =
-            subst (λ (k : Config). AreWrittenBack tells.content k (ended.rest ++ ended.past) (map (given_back seen) taken)) same
+            subst (λ (k : Config). AreWrittenBack tells.content k (ended.rest ++ past) (map (given_back seen) taken)) same
             (subst (λ (p : List Entry). AreWrittenBack tells.content s.config p (map (given_back seen) taken)) ended.all
             (written seen tells s.config s.past taken names given ended.nowhere));
         few = few;
         complete = λ none. (
           let refused = few.refused in let of_all = few.of_all in let of_blocks = few.failed in omega (arith, none, refused, of_all, of_blocks),
-          left ∙ (ended.dirty ∙ ended.clean (omega (arith, none, failed, failures_both ended.rest ended.past))),
+          left ∙ (ended.dirty ∙ ended.clean (omega (arith, none, failed, failures_both ended.rest past))),
         );
+        dirty_because = subst (λ (k : Config). (g : Page) → is_private g ≡ false → IsDirtyBecause k ended.rest (pager_after k (ended.rest ++ past)) g) same ended.dirty_because;
       }
 
-  pub is_finished : (config : Config) (s : History) (ending : Ending) (f : Finished) (taken : List (BlockId × B)) → s.config ≡ config → HasEnded tells.content s ending
+  pub is_finished : (Makes : Config → List Entry → Type 0) (config : Config) (past : List Entry) (s : History) (ending : Ending) (f : Finished) (taken : List (BlockId × B)) → s.config ≡ config → HasEnded tells.content past s ending → Makes config past
       → f.config ≡ s.config → (f.entries).items ≡ reverse s.past → f.at ≡ ending.at → f.report ≡ ending.report → (f.dirty).items ≡ (ending.dirty).items
       → map (λ (p : BlockId × B). p.0) taken ≡ blocks_of s.config → AreGivenBack seen tells s.config s.past taken
-      → IsFinished tells config (map (given_back seen) taken) f
-  is_finished config s ending f taken same ended own entries at report left names given = record {
-    past = ended.past;
+      → IsFinished Makes tells config (map (given_back seen) taken) f
+  is_finished Makes config past s ending f taken same ended made own entries at report left names given = record {
+    past = past;
     rest = ended.rest;
-    over = is_over config s ending (f.dirty).items taken same ended left names given;
+    over = is_over config past s ending (f.dirty).items taken same ended left names given;
+    made = made;
     same = own ∙ same;
     all = entries ∙ ap reverse ended.all;
     at = at ∙ ended.at;
-    report = report ∙ (ended.report ∙ ap (λ (k : Config). report_of k ended.past (pager_after k ended.past)) same);
+    report = report ∙ (ended.report ∙ ap (λ (k : Config). report_of k past (pager_after k past)) same);
     printable = subst (IsPrintable config.sections) (sym report) (subst (λ (k : Config). IsPrintable k.sections ending.report) same ended.printable);
   }
 
-  pub is_counted : (config : Config) (s : History) (ending : Ending) (c : Counted) (taken : List (BlockId × B)) → s.config ≡ config → HasEnded tells.content s ending
+  pub is_counted : (config : Config) (past : List Entry) (s : History) (ending : Ending) (c : Counted) (taken : List (BlockId × B)) → s.config ≡ config → HasEnded tells.content past s ending → IsSerial config past
       → c.all ≡ length s.past → c.kinds ≡ tallies_of (reverse s.past) → (c.dirty).items ≡ (ending.dirty).items
       → map (λ (p : BlockId × B). p.0) taken ≡ blocks_of s.config → AreGivenBack seen tells s.config s.past taken
       → IsCounted tells config (map (given_back seen) taken) c
-  is_counted config s ending c taken same ended all kinds left names given = record {
-    past = ended.past;
+  is_counted config past s ending c taken same ended made all kinds left names given = record {
+    past = past;
     rest = ended.rest;
-    over = is_over config s ending (c.dirty).items taken same ended left names given;
+    over = is_over config past s ending (c.dirty).items taken same ended left names given;
+    made = made;
     all = all ∙ ap (λ (p : List Entry). length p) ended.all;
     kinds = kinds ∙ ap (λ (p : List Entry). tallies_of (reverse p)) ended.all;
   }

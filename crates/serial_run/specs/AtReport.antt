@@ -1,4 +1,4 @@
--- A serial run at the report's place, before the rundown. A past is a journal's list of entries, the newest first.
+-- A run at the report's place, before the rundown. A past is a journal's list of entries, the newest first.
 -- This project's own.
 use Rattle.std.specs.Prelude.{◌≡◌, Bool, true, false, List, []}
 use Rattle.vm_types.specs.Configuration.{IsWellFormed}
@@ -11,20 +11,20 @@ use Rattle.pager_model.specs.Serial.{IsSerial}
 use Rattle.pager_model.specs.Spoken.{IsRight}
 use Rattle.vm_state.specs.History.{History}
 
--- a legal run with right values where the bytes of blocks are known, which ends where the serial policy rests: each
--- process's requests are answered once and in order, no transfer is open, and no frame is in read error
+-- a legal run with right values where the bytes of blocks are known: each process's requests are answered once and in
+-- order, no transfer is open, and no frame is in read error
 pub record IsAtReport (tells : Bool) (config : Config) (past : List Entry) : Type 0 where
   pub formed : IsWellFormed config
   pub run : IsRun config past
   pub right : tells ≡ true → IsRight config past
-  pub serial : IsSerial config past
   pub in_order : IsInOrder config past
   pub answered : IsAnswered config past
   pub landed : open_flights past ≡ []
   pub reused : awaits_reuse past ≡ false
 
--- a state is there, it is of this configuration, and its entries are kept
+-- a state is there by the serial policy, it is of this configuration, and its entries are kept
 pub record IsReached (tells : Bool) (config : Config) (s : History) : Type 0 where
   pub same : s.config ≡ config
   pub keeps : s.keeps ≡ true
   pub there : IsAtReport tells config s.past
+  pub serial : IsSerial config s.past

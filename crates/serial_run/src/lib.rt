@@ -11,5 +11,5 @@ mod to_report;
 
 pub use finished::{Counted, Finished, RunFault};
 pub use giving_back::give_back;
-pub use run::{count_serial, run_serial};
+pub use run::{Ending, count_serial, end_state, run_serial};
 pub use to_report::run_to_report;

@@ -2,6 +2,7 @@ ghost use Rattle.std.specs.Prelude.{◌≡◌, ◌≤◌, ◌++◌, IfOk, IsErrO
 ghost use Rattle.disk_trait.specs.Causes.{Rose};
 ghost use Rattle.vm_types.specs.BlockView.{Retired};
 ghost use Rattle.vm_types.specs.Configuration.{IsWellFormed};
+ghost use Rattle.pager_model.specs.Serial.{IsSerial};
 ghost use Rattle.serial_steps.specs.Moved.{IsSameBut};
 ghost use Rattle.serial_run.specs.AtReport.{IsAtReport};
 ghost use Rattle.serial_run.specs.Ended.{HasEnded, IsCounted, IsFinished};
@@ -31,10 +32,10 @@ pub struct Ending {
 ///
 /// # Errors
 /// `NoMemory` if out of memory.
-fn end_state<B: Block>(alloc: Global, state: &mut State<B>) -> Result<Ending, NoMemory>
+pub fn end_state<B: Block>(alloc: Global, state: &mut State<B>) -> Result<Ending, NoMemory>
     requires { IsAtReport B.tells.content state.old.config state.old.past }
     ensures same { OnOk result (IsSameBut state.old state.new) }
-    ensures ended { IfOk result (HasEnded B.tells.content state.new) }
+    ensures ended { IfOk result (HasEnded B.tells.content state.old.past state.new) }
 {
     let at = state.entry_count();
     let report = recount(alloc, state)?;
@@ -54,7 +55,7 @@ pub fn run_serial<D: Depot>(
 ) -> Result<Finished, RunFault>
     requires formed { IsWellFormed config }
     ensures finished { IfOk result (λ f. (taken : List Retired) × ((D.seen depot.new).retired ≡ (D.seen depot.old).retired ++ taken)
-        × IsFinished D.Block.tells config taken f) }
+        × IsFinished IsSerial D.Block.tells config taken f) }
     ensures failed { IsErrOf result RunFault.DepotFault → Rose (D.seen depot.old).failures (D.seen depot.new).failures }
     ensures later { (D.seen depot.old).failures ≤ (D.seen depot.new).failures }
 {

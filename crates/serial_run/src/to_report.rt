@@ -1,8 +1,9 @@
 //! A run up to the report's place.
 
-ghost use Rattle.std.specs.Prelude.{◌≡◌, ◌≤◌, [], true, IfOk, IsErrOf, OnOk};
+ghost use Rattle.std.specs.Prelude.{◌≡◌, ◌≤◌, [], IfOk, IsErrOf, OnOk};
 ghost use Rattle.disk_trait.specs.Causes.{Rose};
 ghost use Rattle.vm_types.specs.Configuration.{IsWellFormed};
+ghost use Rattle.pager_model.specs.Serial.{IsSerial};
 ghost use Rattle.serial_steps.specs.Moved.{IsSameBut};
 ghost use Rattle.serial_run.specs.AtReport.{IsAtReport, IsReached};
 ghost use Rattle.serial_run.specs.declared.finished.RunFault.{RunFault};
@@ -36,6 +37,7 @@ pub fn answer_requests<B: Block>(alloc: Global, state: &mut State<B>) -> Result<
     requires { state.old.past ≡ [] }
     ensures same { OnOk result (IsSameBut state.old state.new) }
     ensures there { OnOk result (IsAtReport B.tells.content state.new.config state.new.past) }
+    ensures serial { OnOk result (IsSerial state.new.config state.new.past) }
 {
     state.run_law();
     reserve_answers(state);

@@ -1,5 +1,5 @@
 //! The words of a trace: how a line parts into words, and what a word may say, as a number, a name,
-//! a protection code, an operation, a service, a block. What is wrong with a word is its cause.
+//! a protection code, an operation, the name of a service, a block. What is wrong with a word is its cause.
 #![tactic(auto)]
 
 mod blocks;

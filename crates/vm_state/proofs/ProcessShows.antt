@@ -22,8 +22,10 @@ use Rattle.state_fits.specs.Parts.{Parts}
 use Rattle.state_fits.specs.Processes.{process_row}
 use Rattle.state_fits.proofs.SimpleParts.{read_process}
 use Rattle.vm_state.specs.PageReadings.{frame_of}
-use Rattle.vm_state.specs.ProcessReadings.{IsAfter, held_parts, pending_by, pending_in, slot_in, slot_with}
+use Rattle.vm_state.specs.ProcessReadings.{IsAfter, pending_in, slot_in, slot_with}
 use Rattle.vm_state.specs.Readings.{listed}
+use Rattle.page_readers.specs.Pending.{pending_by}
+use Rattle.page_readers.specs.RingSlots.{held_parts}
 use Rattle.page_readers.specs.Shown.{frame_entry}
 use Rattle.vm_state.specs.StateKept.{IsState}
 use Rattle.vm_state.proofs.Closing.{kept}

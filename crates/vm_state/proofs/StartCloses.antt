@@ -20,7 +20,7 @@ use Rattle.frame_store.proofs.Places.{get_held, held_get}
 use Rattle.state_fits.specs.Opening.{AreFirst}
 use Rattle.state_fits.specs.Parts.{Parts}
 use Rattle.state_fits.proofs.OpeningParts.{opening_parts}
-use Rattle.page_readers.specs.Laying.{HasFirsts}
+use Rattle.first_parts.specs.Laying.{HasFirsts}
 use Rattle.vm_state.specs.Made.{IsMade}
 use Rattle.vm_state.specs.StateKept.{IsState, home_in}
 

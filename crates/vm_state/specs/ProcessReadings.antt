@@ -1,13 +1,11 @@
 -- What the readers of processes and lists show. This project's own.
-use Rattle.std.specs.Prelude.{◌≡◌, ℕ, Bool, ◌+◌, ◌&&◌, List, Option, Some, None, length, nat_eq, nat_le, not, slice_get, if◌then◌else◌}
+use Rattle.std.specs.Prelude.{◌≡◌, ℕ, ◌+◌, List, Option, Some, None, length, slice_get, if◌then◌else◌}
 use Rattle.vm_types.specs.Adjust.{adjust}
 use Rattle.vm_types.specs.Ring.{Held}
 use Rattle.vm_types.specs.declared.config.Config.{Config}
-use Rattle.vm_types.specs.declared.config.Params.{Params}
 use Rattle.vm_types.specs.declared.config.ProcSpec.{ProcSpec}
 use Rattle.page_lists.specs.Lists.{count_of}
 use Rattle.page_lists.specs.declared.list_name.ListName.{ListName}
-use Rattle.state_parts.specs.declared.process_row.ProcessRow.{ProcessRow}
 use Rattle.pager_model.specs.Given.{pfn}
 use Rattle.pager_model.specs.Lookups.{entry_of, is_pending, slot_of}
 use Rattle.pager_model.specs.Pager.{Pager, Valid}
@@ -23,12 +21,6 @@ adjusted_for config a p (Some spec) = Some (adjust config.params spec (a.faults 
 abbrev pub pending_in : Config → Pager → ℕ → Option (ℕ × ℕ)
 pending_in config a p = if is_pending config (a.references p) then adjusted_for config a p (slice_get config.procs p) else None
 
--- the same, by what is kept of the process
-abbrev pub pending_by : Params → ProcSpec → ProcessRow → ℕ → Option (ℕ × ℕ)
-pending_by params spec row free =
-    if not (nat_eq params.awstime 0) && nat_le params.awstime row.references
-    then Some (adjust params spec row.faults row.limit free, row.faults) else None
-
 -- a page in a slot: its number, the frame of its valid entry, and whether it is locked, and pinned
 abbrev pub slot_by : Held → Option Valid → Option Slot
 slot_by held None = None
@@ -40,10 +32,6 @@ slot_with valid p (Some held) = slot_by held (entry_of valid p held.vpn)
 
 abbrev pub slot_in : Pager → ℕ → ℕ → Option Slot
 slot_in a p n = slot_with a.valid p (slot_of (slice_get (a.ring p).slots n))
-
--- the page number in a slot, and whether it is locked, and pinned
-abbrev pub held_parts : Held → ℕ × Bool × Bool
-held_parts held = (held.vpn, held.locked, held.pinned)
 
 -- wherever the frame stands on a list, this is what stands in the next place; none if it is the last, or on no list
 pub record IsAfter (a : Pager) (f : ℕ) (next : Option ℕ) : Type 0 where

@@ -1,22 +1,11 @@
 -- The word of a page: that of its page table entry, with the modify mark of its frame. Source: VAX Architecture
 -- Reference Manual, memory management; that the mark is kept with the frame is this project's own.
-use Rattle.std.specs.Prelude.{ℕ, Bool, Option}
+use Rattle.std.specs.Prelude.{ℕ, Option}
 use Rattle.std.specs.Option.{option_map}
 use Rattle.vm_types.specs.declared.config.Config.{Config}
-use Rattle.pte_forms.specs.Word.{word_of}
-use Rattle.pte_forms.specs.declared.pte.Place.{Place}
-use Rattle.pte_forms.specs.declared.pte.Place.TheVariants.{Valid}
-use Rattle.pte_forms.specs.declared.pte.Pte.{Pte}
 use Rattle.pager_model.specs.Pager.{Pager}
 use Rattle.state_fits.specs.Entries.{pte_of}
-
--- a valid entry has the modify mark of its frame, and another one has none
-abbrev pub place_marked : (ℕ → Bool) → Place → Place
-place_marked modify (Valid m f) = Valid (modify f.0) f
-place_marked modify other = other
-
-abbrev pub word_marked : (ℕ → Bool) → Pte → ℕ
-word_marked modify pte = word_of (record pte { place = place_marked modify pte.place })
+use Rattle.page_readers.specs.MarkedWords.{word_marked}
 
 -- of a page number of a process; none exactly if it isn't mapped
 abbrev pub word_in : Config → Pager → ℕ → ℕ → Option ℕ

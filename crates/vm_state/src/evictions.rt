@@ -26,7 +26,7 @@ impl<B: Block> State<B> {
         let page = kept.page.unwrap();
         let row = &mut self.processes[p.0 as usize];
         let pinned = give_up(&mut row.ring, row.limit, why, vpn);
-        leave(self.store.frames_mut(), f, pinned);
+        leave(self.store.frames_mut(), f, kept, pinned);
         let place = left_at(&self.firsts, f, page);
         self.tables.set(p, vpn, Pte { prot, place });
         unshare(&mut self.globals, &self.firsts, page);

@@ -10,7 +10,6 @@ mod deletions;
 mod ends;
 mod evictions;
 mod faults;
-mod first_parts;
 mod flight_readers;
 mod kept;
 mod landings;

@@ -1,46 +1,13 @@
-ghost use Rattle.std.specs.Prelude.{◌≡◌, ◌<◌, ◌≤◌, length, slice_get};
+ghost use Rattle.std.specs.Prelude.{◌≡◌, ◌<◌, length};
 ghost use Rattle.std.specs.Option.{option_map};
-ghost use Rattle.vm_types.specs.Configuration.{AreParams, IsLimited};
-ghost use Rattle.pager_model.specs.Lookups.{slot_of};
 ghost use Rattle.vm_state.specs.History.{pager};
-ghost use Rattle.vm_state.specs.ProcessReadings.{IsAfter, held_parts, pending_by, pending_in, slot_in};
+ghost use Rattle.vm_state.specs.ProcessReadings.{IsAfter, pending_in, slot_in};
 ghost use Rattle.page_readers.specs.Shown.{frame_number};
 
 use crate::state::State;
 use disk_trait::Block;
-use page_readers::{Slot, frame_in};
-use state_parts::ProcessRow;
-use vm_types::{Params, Pfn, Proc, ProcSpec};
-use working_set::{Ring, adjust};
-
-/// The limit that a pending adjustment gives, and the faults since the last one; none if none is
-/// pending.
-fn pending_by(params: &Params, spec: &ProcSpec, row: &ProcessRow, free: u32) -> Option<(u32, u64)>
-    requires params { AreParams params.now }
-    requires spec { IsLimited spec.now }
-    requires limit { row.now.limit ≤ spec.now.extent }
-    ensures { result ≡ pending_by params.now spec.now row.now free }
-{
-    if params.awstime == 0 || u64::from(params.awstime) > row.references {
-        return None;
-    }
-    Some((
-        adjust(params, spec, row.faults, row.limit, free),
-        row.faults,
-    ))
-}
-
-/// The page number in a slot (any number), and whether it is locked, and pinned; none if the slot is
-/// empty, or isn't there.
-fn held_in(ring: &Ring, n: u32) -> Option<(u32, bool, bool)>
-    ensures { result ≡ option_map held_parts (slot_of (slice_get ring.now.slots n)) }
-{
-    if n >= ring.slots() {
-        return None;
-    }
-    let vpn = ring.at(n)?;
-    Some((vpn, ring.is_locked(n), ring.pinned(n)))
-}
+use page_readers::{Slot, frame_in, held_in, pending_by};
+use vm_types::{Pfn, Proc};
 
 /// No reader allocates.
 impl<B: Block> State<B> {

@@ -5,21 +5,10 @@ use crate::state::State;
 use disk_trait::Block;
 use frame_changes::count_pin;
 use page_changes::{create_zeros, protect};
-use page_readers::frame_in;
+use page_readers::{frame_in, pin_service};
 use state_parts::{lock_range, mark_pin, page_to_pin};
 use vm_journal::{Entry, What};
 use vm_types::{Addr, Answer, Proc, Seat, Service};
-
-/// The service that pins, or unpins, the pages of a range.
-fn pin_service(pin: bool, at: Addr, pages: u32) -> Service
-    ensures { result ≡ pin_service pin at pages }
-{
-    if pin {
-        Service::Pin { at, pages }
-    } else {
-        Service::Unpin { at, pages }
-    }
-}
 
 impl<B: Block> State<B> {
     ghost use Rattle.vm_journal.specs.declared.entry.What.{What};

@@ -1,71 +1,18 @@
-ghost use Rattle.std.specs.Prelude.{◌≡◌, ◌<◌, ◌≤◌, true, Some, count_by, length, slice_get};
-ghost use Rattle.std.specs.List.{list_any};
+ghost use Rattle.std.specs.Prelude.{◌≡◌, ◌<◌, true, count_by, length, slice_get};
 ghost use Rattle.vm_types.specs.WellFormed.{IsRange, IsWellFormedService};
-ghost use Rattle.pager_model.specs.Forget.{range_of};
 ghost use Rattle.pager_model.specs.Serve.{is_in_use, is_unmapped};
 ghost use Rattle.pager_model.specs.Ring.{range_locked, range_pinned};
 ghost use Rattle.pager_model.specs.Served.{is_locked_in, is_pinned_in};
 ghost use Rattle.vm_types.specs.declared.reply.Answer.{Answer};
-ghost use Rattle.vm_state.specs.Answering.{answer_in, has_entry, limit_answer, lock_answer};
+ghost use Rattle.page_readers.specs.ServiceAnswers.{limit_answer, lock_answer};
+ghost use Rattle.vm_state.specs.Answering.{answer_in};
 ghost use Rattle.vm_state.specs.History.{pager};
 
 use crate::state::State;
 use disk_trait::Block;
-use page_readers::entry_in;
-use page_tables::Tables;
-use state_parts::{count_in, fixed_in, locked_in, pinned_in};
-use vm_types::{Addr, Answer, Proc, ProcSpec, Seat, Service};
-use working_set::Ring;
-
-/// Whether a page number of a process has an entry, if `mapped`, or else whether it has none.
-fn has_entry(tables: &Tables, p: Proc, mapped: bool, vpn: u32) -> bool
-    ensures { result ≡ has_entry tables.now p.0 mapped vpn }
-{
-    let is_there = entry_in(tables.look(p, vpn)).is_some();
-    if mapped { is_there } else { !is_there }
-}
-
-/// Whether some page of a range of a process has an entry, if `mapped`, or else whether some has none.
-fn some_entry(tables: &Tables, p: Proc, mapped: bool, at: Addr, pages: u32) -> bool
-    requires { IsRange at.0 pages }
-    ensures { result ≡ list_any (has_entry tables.now p.0 mapped) (range_of at.0 pages) }
-{
-    let first = at.0 / 512;
-    for n in 0..pages {
-        if has_entry(tables, p, mapped, first + n) {
-            return true;
-        }
-    }
-    false
-}
-
-/// The answer to a lock, or a pin, of a range that is mapped.
-fn lock_answer(ring: &Ring, spec: &ProcSpec, at: Addr, pages: u32) -> Answer
-    requires slots { length ring.now.slots ≤ 1024 }
-    requires locks { spec.now.locks ≤ 1024 }
-    ensures locked { result ≡ lock_answer ring.now (range_locked true at.0 pages ring.now) at.0 pages (Some spec.now) }
-    ensures pinned { result ≡ lock_answer ring.now (range_pinned true at.0 pages ring.now) at.0 pages (Some spec.now) }
-{
-    let count = count_in(ring, at, pages);
-    let locked = ring.locked() + count;
-    if locked > spec.locks + fixed_in(ring, at, pages) {
-        Answer::LockLimit
-    } else {
-        Answer::Count(count)
-    }
-}
-
-/// The answer to an adjustment of a limit.
-fn limit_answer(spec: &ProcSpec, limit: u32) -> Answer
-    requires { spec.now.locks ≤ 1024 }
-    ensures { result ≡ limit_answer limit (Some spec.now) }
-{
-    if limit >= spec.locks + 2 && limit <= spec.extent {
-        Answer::Good
-    } else {
-        Answer::BadLimit
-    }
-}
+use page_readers::{limit_answer, lock_answer, some_entry};
+use state_parts::{locked_in, pinned_in};
+use vm_types::{Addr, Answer, Proc, Seat, Service};
 
 impl<B: Block> State<B> {
     ghost use Rattle.vm_journal.specs.declared.entry.What.{What};

@@ -4,11 +4,10 @@ ghost use Rattle.vm_types.specs.declared.names.BlockId.{BlockId};
 ghost use Rattle.frame_store.specs.Blocks.{blocks_of};
 ghost use Rattle.vm_state.specs.Made.{IsMade};
 
-use crate::first_parts::{FirstPageParts, FirstRows, first_page_parts, first_rows};
 use crate::state::State;
 use disk_trait::Block;
+use first_parts::{FirstPageParts, FirstRows, first_page_parts, first_pages, first_rows};
 use frame_store::Store;
-use page_readers::first_pages;
 use run_record::RunRecord;
 use std::alloc::Global;
 use vm_types::{BlockId, Config, NoMemory};

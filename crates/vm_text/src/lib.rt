@@ -1,5 +1,5 @@
-//! The words of pages, frames, blocks, processes, numbers, references, services and states: each is
-//! written into a buffer of 160 bytes, and read back.
+//! The words of pages, frames, blocks, processes, numbers, references, protection codes and states, written
+//! into a buffer of 160 bytes and read back, and the names of services, written.
 #![tactic(auto)]
 
 mod names;

@@ -1,5 +1,5 @@
 -- The pin is counted no more, and then the entry.
-use Rattle.std.proofs.Common.{◌≡◌, ℕ, ◌+◌, ◌-◌, ◌<◌, ◌==◌, ◌∙◌, List, ap, arith, cond, length, length-set, set, sym}
+use Rattle.std.proofs.Common.{◌≡◌, ℕ, ◌+◌, ◌-◌, ◌==◌, ◌∙◌, ap, arith, cond, length, length-set, set}
 use Rattle.pfn_database.specs.declared.row.Row.{Row}
 use Rattle.pfn_database.specs.Frames.{row_of}
 use Rattle.pfn_database.specs.Rows.{counted_references, uncounted, unheld}

@@ -22,6 +22,6 @@ pub returns : goal.returns
 returns c =
     let a = (shown c.args.pager.now).pager in
     let whole = whole_ended _ _ _ _ _ c.print_ending-status.ensures (eqb-false _ 4 (sym c.is_cut.ensures ∙ c.if-is_cut.false)) in
-    whole_taken _ _ _ _ c.new-sink.ensures c.into_text.ensures whole
+    whole_taken _ _ _ _ c.new-sink.ensures.taken c.into_bytes.ensures whole
     ∙ shown_ending c.args.past.now.config c.args.past.now.past (shown c.args.pager.now) c.requires _ _ (c.items.ensures ∙ ap (λ (x : Config). x.sections) c.config-config.ensures)
     (c.as_slice.ensures.value ∙ (c.in_ok-dirty.ensures ∙ ap (λ (x : Config). dirty_pages x a) c.config-config.ensures))

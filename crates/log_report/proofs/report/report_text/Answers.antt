@@ -12,6 +12,6 @@ print-requires c =
 
 pub returns-in-Ok : goal.returns-in-Ok
 returns-in-Ok c =
-    whole_taken _ _ _ _ c.new-sink.ensures c.into_text.ensures c.in-Ok.ensures.bytes
+    whole_taken _ _ _ _ c.new-sink.ensures.taken c.into_bytes.ensures c.in-Ok.ensures.bytes
     ∙ shown_text c.args.past.now.config c.args.past.now.past (shown c.args.pager.now) c.requires _ _
     (c.items.ensures ∙ ap (λ (x : Config). x.sections) c.config.ensures) c.in_ok-report.ensures

@@ -7,4 +7,4 @@ pub returns-clause-reached : goal.returns-clause-reached
 returns-clause-reached g c =
     is_reached g.D.Block.Block.tells.content c.args.config c.in_ok-state.state c.answer_requests.new.state
     (ap (λ (x : History). x.config) c.in_ok-state.ensures) (ap (λ (x : History). x.keeps) c.in_ok-state.ensures)
-    c.in_ok-answer_requests.ensures.same c.in_ok-answer_requests.ensures.there
+    c.in_ok-answer_requests.ensures.same c.in_ok-answer_requests.ensures.there c.in_ok-answer_requests.ensures.serial

@@ -21,6 +21,9 @@ row-kept-requires g c = rw c.frames.ensures ((close.can c.self.invariant c.args.
 pub unwrap-page-requires : goal.unwrap-page-requires
 unwrap-page-requires g c = rw (c.row-kept.ensures.row, c.frames.ensures) ((close.can c.self.invariant c.args.seat c.args.p c.args.a c.args.f c.args.why c.args.to (may_before c.self.view_is c.requires).legal).held)
 
+pub leave-requires-clause-row : goal.leave-requires-clause-row
+leave-requires-clause-row g c = c.row-kept.ensures.row ∙ (ap (λ (fs : Frames). row_of fs c.args.f.0) c.frames.ensures ∙ sym (ap (λ (fs : Frames). row_of fs c.args.f.0) c.frames_mut.ensures.value))
+
 pub leave-requires-clause-active : goal.leave-requires-clause-active
 leave-requires-clause-active g c = rw c.frames_mut.ensures.value ((close.can c.self.invariant c.args.seat c.args.p c.args.a c.args.f c.args.why c.args.to (may_before c.self.view_is c.requires).legal).active)
 

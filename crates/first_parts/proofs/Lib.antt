@@ -1,0 +1,2 @@
+pub mod FirstPages
+pub mod Layable

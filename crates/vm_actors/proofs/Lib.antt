@@ -1,0 +1,12 @@
+pub mod Onto
+pub mod Foreign
+pub mod StillOut
+pub mod StillBegun
+pub mod OwnTurns
+pub mod OthersLanded
+pub mod TakenTurns
+pub mod Answering
+pub mod Ending
+pub mod DoneInTurns
+pub mod SeenTurns
+pub mod Rounds

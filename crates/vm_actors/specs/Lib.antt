@@ -1,0 +1,5 @@
+pub mod OwnEntries
+pub mod Doings
+pub mod Between
+pub mod Requests
+pub mod Ends
