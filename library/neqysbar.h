@@ -26,7 +26,8 @@ enum neqysbar_status {
 };
 
 /*
- * Runs a command over an input, and returns its status.
+ * Runs a command over an input, and returns its status. `replay`, which runs by threads, is no command
+ * here.
  *
  * line, line_length: the words, without the program's name. Each word is ended by a byte 0, and the
  *     last one there or at the end: "serial" with length 6, or "study\0--process\0A\0--frames\0" "8"

@@ -50,7 +50,8 @@ def run(words, data=b"", path=None):
 
     `words` are the words of the command line without the program's name, as `["serial"]` or
     `["study", "--process", "A", "--frames", "8"]`. `data` are the bytes that the program would read.
-    `path` is the library, if it isn't where this module looks.
+    `path` is the library, if it isn't where this module looks. `replay` isn't in the library: its status
+    is 1.
 
     The status is 0 to 8, and none of 3, 4 and 6. With status 7 memory ran out. A word with a zero byte
     is a ValueError; a library that isn't there is an OSError.

@@ -7,7 +7,7 @@ use Rattle.study_command.specs.CommandLine.{frames_named, if_right, process_name
 use Rattle.trace_words.specs.Number.{decimal_within}
 use Rattle.log_messages.specs.Shown.{shown}
 use Rattle.command_messages.specs.declared.faults.CommandName.{CommandName}
-use Rattle.command_messages.specs.declared.faults.CommandName.TheVariants.{Serial, Study, Make, Check, Dump, Show}
+use Rattle.command_messages.specs.declared.faults.CommandName.TheVariants.{Serial, Replay, Study, Make, Check, Dump, Show}
 use Rattle.command_messages.specs.declared.faults.LineOption.{LineOption}
 use Rattle.command_messages.specs.declared.faults.LineOption.TheVariants.{Process, Frames, Seed, Procs, Refs}
 use Rattle.command_messages.specs.declared.faults.LineFault.{LineFault}
@@ -16,6 +16,7 @@ use Rattle.command_messages.specs.declared.faults.LineFault.TheVariants.{NotText
 -- the first word of a command line
 abbrev pub command_word : CommandName → List ℕ
 command_word Serial = codes "serial"
+command_word Replay = codes "replay"
 command_word Study = codes "study"
 command_word Make = codes "make"
 command_word Check = codes "check"
@@ -93,6 +94,7 @@ range_text Refs = codes "1 to 100000"
 -- what a command takes
 abbrev pub takes_text : CommandName → List ℕ
 takes_text Serial = codes "serial takes its trace from standard input: serial < FILE"
+takes_text Replay = codes "replay takes its trace from standard input: replay < FILE"
 takes_text Study = codes "study takes --process X and --frames K, each once, and no other word"
 takes_text Make = codes "make takes --seed N, --procs P and --refs R, each once, and no other word"
 takes_text Check = codes "check takes its trace and its log from standard input: check < FILE"

@@ -5,6 +5,8 @@
 pub enum CommandName {
     /// Reads a trace and runs it.
     Serial,
+    /// Reads a trace and runs it by threads.
+    Replay,
     /// Reads a trace and says what a process's references cost.
     Study,
     /// Makes a trace and runs it.

@@ -177,6 +177,8 @@ pub fn line_fault(words: &[&str]) -> LineFault
     };
     if is(first, b"serial") {
         LineFault::Other(CommandName::Serial)
+    } else if is(first, b"replay") {
+        LineFault::Other(CommandName::Replay)
     } else if is(first, b"check") {
         LineFault::Other(CommandName::Check)
     } else if is(first, b"dump") {

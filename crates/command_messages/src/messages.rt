@@ -17,7 +17,7 @@ use trace_reader::Breach;
 use vm_text::{push_count, push_decimal, push_word};
 
 const USAGE: &[u8] =
-    b"neqysbar 1.0.0\nusage: neqysbar serial < TRACE\n           reads a trace and runs it; writes each entry, a report, the pages left dirty and the status\n       neqysbar study --process X --frames K < TRACE\n           reads a trace; writes what the references of process X, A to P, cost with K page frames, 1 to 1024\n       neqysbar make --seed N --procs P --refs R\n           reads nothing; makes a trace from the seed N, 0 to 4294967295, with P processes, 1 to 16, and R\n           references, 1 to 100000, and runs it; writes how many entries of each kind the run has\n       neqysbar check < TRACE-AND-LOG\n           reads a trace, a line LOG and a log; writes whether the log is legal, or its first line that isn't\n       neqysbar dump < TRACE > FILE\n           reads a trace and runs it up to the report; writes the dump of the page database there, in bytes\n       neqysbar show < FILE\n           reads a dump; writes what it holds, and each count in it that a recount doesn't give\nexample: neqysbar study --process A --frames 8 < examples/swapping.trace\n";
+    b"neqysbar 1.0.0\nusage: neqysbar serial < TRACE\n           reads a trace and runs it; writes each entry, a report, the pages left dirty and the status\n       neqysbar replay < TRACE\n           reads a trace and runs it with a thread for each process, the writer and the swapper; writes what\n           serial writes, of one legal run\n       neqysbar study --process X --frames K < TRACE\n           reads a trace; writes what the references of process X, A to P, cost with K page frames, 1 to 1024\n       neqysbar make --seed N --procs P --refs R\n           reads nothing; makes a trace from the seed N, 0 to 4294967295, with P processes, 1 to 16, and R\n           references, 1 to 100000, and runs it; writes how many entries of each kind the run has\n       neqysbar check < TRACE-AND-LOG\n           reads a trace, a line LOG and a log; writes whether the log is legal, or its first line that isn't\n       neqysbar dump < TRACE > FILE\n           reads a trace and runs it up to the report; writes the dump of the page database there, in bytes\n       neqysbar show < FILE\n           reads a dump; writes what it holds, and each count in it that a recount doesn't give\nexample: neqysbar study --process A --frames 8 < examples/swapping.trace\n";
 
 const EMPTY: &[u8] = b"neqysbar: the input is empty\n";
 
@@ -80,6 +80,7 @@ fn taken_by(command: CommandName) -> &'static [u8]
 {
     match command {
         CommandName::Serial => b"serial takes its trace from standard input: serial < FILE",
+        CommandName::Replay => b"replay takes its trace from standard input: replay < FILE",
         CommandName::Study =>
             b"study takes --process X and --frames K, each once, and no other word",
         CommandName::Make =>
@@ -93,7 +94,7 @@ fn taken_by(command: CommandName) -> &'static [u8]
 }
 
 // Adds what is wrong with a command line.
-fn add_said(out: &mut ArrayVec<u8, 1536>, fault: LineFault, text: &ArrayVec<u8, 80>)
+fn add_said(out: &mut ArrayVec<u8, 1792>, fault: LineFault, text: &ArrayVec<u8, 80>)
     requires { array_vec_len out.old ≤ 10 }
     ensures items { out.new.items ≡ out.old.items ++ said_text fault text.now.items }
     ensures len { array_vec_len out.new ≤ array_vec_len out.old + 370 }
@@ -119,7 +120,7 @@ fn add_said(out: &mut ArrayVec<u8, 1536>, fault: LineFault, text: &ArrayVec<u8, 
 }
 
 // The message about a command line.
-fn usage_message(fault: LineFault, text: &ArrayVec<u8, 80>) -> ArrayVec<u8, 1536>
+fn usage_message(fault: LineFault, text: &ArrayVec<u8, 80>) -> ArrayVec<u8, 1792>
     ensures { result.items ≡ usage_message fault text.now.items }
 {
     let mut out = ArrayVec::new();

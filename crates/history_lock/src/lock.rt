@@ -7,7 +7,7 @@ ghost use Rattle.history_lock.specs.Views.{unseen, longer};
 use crate::opening::Opening;
 use crate::pass::Pass;
 use crate::plays::{Glue, PassOn, Publish, Settle, Take};
-use crate::steps::{await_turn, deal};
+use crate::steps::{await_free, await_turn, deal};
 use crate::turn::Turn;
 use crate::turns::Turns;
 use crate::view::View;
@@ -72,14 +72,15 @@ impl<T: Kept + Drop> HistoryLock<T> {
         ensures same { IsSameLock pass.old pass.new }
     {
         let shared = &self.table.shared;
+        await_free(rt, shared);
         let ticket = shared.fetch_add::<Take>(&mut pass.seat, 0, 1);
         let value = await_turn(rt, shared, &mut pass.seat, ticket);
         let found = value.entries().len();
         Turn { value, found }
     }
 
-    /// Gives the value back and ends the turn. The pass has then seen the value's journal. Doesn't
-    /// wait, and doesn't allocate.
+    /// Gives the value back, ends the turn, and wakes a pass that sleeps for one. The pass has then seen the
+    /// value's journal. Doesn't wait, and doesn't allocate.
     pub fn leave(&self, pass: &mut Pass<T>, turn: Turn<T>)
         requires own { IsOf self.now pass.old }
         requires turn { HasTurn pass.old turn }
@@ -97,6 +98,7 @@ impl<T: Kept + Drop> HistoryLock<T> {
         drop(shared.exchange(&mut pass.seat, 0, Some(value)));
         shared.fetch_add::<Publish<T>>(&mut pass.seat, 2, added as u64);
         shared.fetch_add::<PassOn>(&mut pass.seat, 1, 1);
+        shared.wake_one(1);
     }
 
     /// Makes two passes one. Doesn't wait, and doesn't allocate.

@@ -15,6 +15,24 @@ use std::sync::Wait;
 use std::{mem, thread};
 use vm_journal::Kept;
 
+// Waits until no pass seems to have a ticket that isn't done. It sleeps until a turn ends, and what it found may
+// have changed when it returns.
+pub(crate) fn await_free<T: Kept, W: Wait>(
+    rt: &W,
+    shared: &Shared<Option<T>, View<T::Base>, Opening<T>, Turns<T>>,
+)
+    requires words { shared.now.table_id.words ≡ 3 }
+{
+    for _ in rt.forever() {
+        let served = shared.peek(1);
+        if shared.peek(0) == served {
+            return;
+        }
+        shared.park(rt, 1, (served % 0x1_0000_0000) as u32);
+    }
+    unreachable!()
+}
+
 // Looks at the ticket that is served until it is `ticket`, and takes the value.
 pub(crate) fn await_turn<T: Kept, W: Wait>(
     rt: &W,

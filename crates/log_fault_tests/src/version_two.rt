@@ -174,7 +174,7 @@ fn says_why_a_line_of_version_two_is_wrong(rt: HostRuntime) -> Result<(), Fail> 
         ),
     ];
     for (trace, log, lines) in table {
-        assert!(rt; explains(alloc, trace, log, lines)?);
+        assert!(rt; explains(&rt, alloc, trace, log, lines)?);
     }
     Ok(())
 }

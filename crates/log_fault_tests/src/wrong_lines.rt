@@ -7,7 +7,9 @@ use program_call::{ListedArguments, run_and_explain};
 use program_runs::{FIRST_RUN, FIRST_RUN_TEXT};
 use replay_cli::Status;
 use std::alloc::Global;
+use std::sync::Wait;
 use std::test::Fail;
+use std::thread::Threads;
 use vm_types::NoMemory;
 use worked_runs::{
     COLLISION, COLLISION_TEXT, DELETIONS, DELETIONS_TEXT, GROWING_LIMIT, GROWING_LIMIT_TEXT, LOCKS,
@@ -609,7 +611,11 @@ const IN_LEGAL_OTHERWISE: [Wrong; 4] = [
 ];
 
 // What is said beside the verdict on a trace and a log.
-fn said(alloc: Global, text: &[u8]) -> Result<(Status, Vec<u8>), NoMemory> {
+fn said<R: Threads + Wait + Sync>(
+    rt: &R,
+    alloc: Global,
+    text: &[u8],
+) -> Result<(Status, Vec<u8>), NoMemory> {
     let words: &[&[u8]] = &[b"neqysbar", b"check"];
     let mut arguments = ListedArguments::new(words);
     let mut source = MemorySource::new(Vec::from_slice(alloc, text)?, Vec::new(alloc));
@@ -617,6 +623,7 @@ fn said(alloc: Global, text: &[u8]) -> Result<(Status, Vec<u8>), NoMemory> {
     let mut messages = MemorySink::new(alloc, 2000, Vec::new(alloc), Vec::new(alloc))?;
     let mut depot = MemoryDepot::new(alloc, Vec::new(alloc));
     let ended = run_and_explain(
+        rt,
         alloc,
         &mut arguments,
         &mut source,
@@ -634,7 +641,8 @@ fn message(alloc: Global, number: usize, words: &str) -> Result<Vec<u8>, Fail> {
 }
 
 // Each line of a table in the place of the log's own.
-pub(super) fn explains(
+pub(super) fn explains<R: Threads + Wait + Sync>(
+    rt: &R,
     alloc: Global,
     trace: &str,
     log: &str,
@@ -643,7 +651,7 @@ pub(super) fn explains(
     for row in table {
         let (number, line, why) = *row;
         let text = input(alloc, trace, log, Change::Line(number, line))?;
-        let told = said(alloc, &text)?;
+        let told = said(rt, alloc, &text)?;
         let shown = line.trim_end();
         let words = format!(in alloc; ": {shown}: {why}")?;
         if told.0 != Status(8) || told.1 != message(alloc, number, &words)? {
@@ -656,9 +664,10 @@ pub(super) fn explains(
 #[test]
 fn says_why_a_line_is_wrong(rt: HostRuntime) -> Result<(), Fail> {
     let alloc = rt.alloc();
-    assert!(rt; explains(alloc, FIRST_RUN, FIRST_RUN_TEXT, &IN_FIRST_RUN)?);
+    assert!(rt; explains(&rt, alloc, FIRST_RUN, FIRST_RUN_TEXT, &IN_FIRST_RUN)?);
     assert!(rt;
         explains(
+            &rt,
             alloc,
             OUT_AND_IN_AGAIN,
             OUT_AND_IN_AGAIN_TEXT,
@@ -667,6 +676,7 @@ fn says_why_a_line_is_wrong(rt: HostRuntime) -> Result<(), Fail> {
     );
     assert!(rt;
         explains(
+            &rt,
             alloc,
             WRITTEN_TOGETHER,
             WRITTEN_TOGETHER_TEXT,
@@ -675,21 +685,31 @@ fn says_why_a_line_is_wrong(rt: HostRuntime) -> Result<(), Fail> {
     );
     assert!(rt;
         explains(
+            &rt,
             alloc,
             WAITING_FOR_A_WRITE,
             WAITING_FOR_A_WRITE_TEXT,
             &IN_WAITING_FOR_A_WRITE
         )?
     );
-    assert!(rt; explains(alloc, NEIGHBOURS, NEIGHBOURS_TEXT, &IN_NEIGHBOURS)?);
-    assert!(rt; explains(alloc, TWO_AT_MOST, TWO_AT_MOST_TEXT, &IN_TWO_AT_MOST)?);
-    assert!(rt; explains(alloc, SHARED_PAGE, SHARED_PAGE_TEXT, &IN_SHARED_PAGE)?);
-    assert!(rt; explains(alloc, GROWING_LIMIT, GROWING_LIMIT_TEXT, &IN_GROWING_LIMIT)?);
-    assert!(rt; explains(alloc, DELETIONS, DELETIONS_TEXT, &IN_DELETIONS)?);
-    assert!(rt; explains(alloc, LOCKS, LOCKS_TEXT, &IN_LOCKS)?);
-    assert!(rt; explains(alloc, COLLISION, COLLISION_TEXT, &IN_COLLISION)?);
+    assert!(rt; explains(&rt, alloc, NEIGHBOURS, NEIGHBOURS_TEXT, &IN_NEIGHBOURS)?);
+    assert!(rt; explains(&rt, alloc, TWO_AT_MOST, TWO_AT_MOST_TEXT, &IN_TWO_AT_MOST)?);
+    assert!(rt; explains(&rt, alloc, SHARED_PAGE, SHARED_PAGE_TEXT, &IN_SHARED_PAGE)?);
     assert!(rt;
         explains(
+            &rt,
+            alloc,
+            GROWING_LIMIT,
+            GROWING_LIMIT_TEXT,
+            &IN_GROWING_LIMIT
+        )?
+    );
+    assert!(rt; explains(&rt, alloc, DELETIONS, DELETIONS_TEXT, &IN_DELETIONS)?);
+    assert!(rt; explains(&rt, alloc, LOCKS, LOCKS_TEXT, &IN_LOCKS)?);
+    assert!(rt; explains(&rt, alloc, COLLISION, COLLISION_TEXT, &IN_COLLISION)?);
+    assert!(rt;
+        explains(
+            &rt,
             alloc,
             LEGAL_OTHERWISE,
             LEGAL_OTHERWISE_TEXT,
@@ -716,7 +736,7 @@ fn says_where_a_log_ends(rt: HostRuntime) -> Result<(), Fail> {
     ];
     for (lines, end, number, words) in table {
         let text = input(alloc, FIRST_RUN, FIRST_RUN_TEXT, Change::End(lines, end))?;
-        let told = said(alloc, &text)?;
+        let told = said(&rt, alloc, &text)?;
         assert_eq!(rt; told.0, Status(8));
         assert_eq!(rt; told.1, message(alloc, number, words)?);
     }

@@ -15,6 +15,7 @@ fn main(rt: HostRuntime) -> ExitCode {
     let mut messages = StdSink::new(rt.stderr());
     let mut depot = MemoryDepot::new(rt.alloc(), Vec::new(rt.alloc()));
     let status = run_and_explain(
+        &rt,
         rt.alloc(),
         &mut arguments,
         &mut source,

@@ -17,7 +17,8 @@ use crate::call::{fill, run_line};
 use std::alloc::Global;
 
 /// Runs the command that the words name over the input and over blocks in memory, and returns its
-/// status: 0 to 8, and none of 3, 4 and 6.
+/// status: 0 to 8, and none of 3, 4 and 6. It runs on one thread: `replay` is no command here, and its
+/// status 1.
 ///
 /// The words are one text: each word is ended by a byte 0, and the last one there or at the text's end.
 /// The program's own name isn't among them. If one isn't UTF-8, the command line is faulty: status 1.

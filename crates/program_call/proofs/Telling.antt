@@ -14,7 +14,8 @@ use Rattle.command_ends.specs.Wrongs.{IsWrong}
 use Rattle.command_ends.proofs.Wronging.{seven_right}
 use Rattle.replay_cli.specs.Commands.{Told}
 use Rattle.disk_trait.specs.DepotView.{DepotView}
-use Rattle.program_call.specs.ProgramTells.{ProgramTells, ran, no_words}
+use Rattle.replay_command.specs.ReplayCall.{BeginsReplay}
+use Rattle.program_call.specs.ProgramTells.{ProgramTells, WordsTold, ran, replayed, no_words}
 
 -- all words of which these are those after the program's own name
 all_words : (told : Option (List (List ℕ))) (copied : List (List ℕ)) → IfSome told (λ all. copied ≡ drop 1 all)
@@ -24,17 +25,26 @@ all_words (Some all) copied are = (all, refl, sym are)
 
 -- the words are handed over
 pub run_tells : (told : Option (List (List ℕ))) (copied words : List (List ℕ)) (source : Moved SourceView) (depot : Moved DepotView) (status : ℕ) (text : List ℕ)
-    → IfSome told (λ all. copied ≡ drop 1 all) → words ≡ copied → All IsUtf8 copied → Told words source depot status text → ProgramTells told source depot status text
-run_tells told copied words source depot status text are same utf8 tells =
+    → IfSome told (λ all. copied ≡ drop 1 all) → words ≡ copied → All IsUtf8 copied → WordsTold words source depot status text → ProgramTells told source depot status text
+run_tells told copied words source depot status text are same utf8 (inl tells) =
     let all = all_words told copied are in
-    ran all.0 words status text all.1 (inl (same ∙ sym all.2, subst (All IsUtf8) (sym all.2) utf8)) tells
+    ran all.0 words status text all.1 (inl (same ∙ sym all.2, subst (All IsUtf8) (sym all.2) utf8)) tells.0 tells.1
+run_tells told copied words source depot status text are same utf8 (inr tells) =
+    let all = all_words told copied are in
+    replayed all.0 words status text all.1 (inl (same ∙ sym all.2, subst (All IsUtf8) (sym all.2) utf8)) tells.0 tells.1
+
+-- no words begin with none
+none_begin : (words : List (List ℕ)) → words ≡ [] → BeginsReplay words → ⊥
+none_begin words none begins = absurd (no_first (sym none ∙ begins.1)) where
+  no_first : {first : List ℕ} {rest : List (List ℕ)} → [] ≡ first ∷ rest → ⊥
+  no_first e = cc
 
 -- one of them isn't UTF-8
 pub none_tells : (told : Option (List (List ℕ))) (copied words : List (List ℕ)) (source : Moved SourceView) (depot : Moved DepotView) (status : ℕ) (text : List ℕ)
     → IfSome told (λ all. copied ≡ drop 1 all) → words ≡ [] → (All IsUtf8 copied → ⊥) → Told words source depot status text → ProgramTells told source depot status text
 none_tells told copied words source depot status text are none bad tells =
     let all = all_words told copied are in
-    ran all.0 words status text all.1 (inr (none, λ utf8. bad (subst (All IsUtf8) all.2 utf8))) tells
+    ran all.0 words status text all.1 (inr (none, λ utf8. bad (subst (All IsUtf8) all.2 utf8))) (none_begin words none) tells
 
 -- memory ran out before
 pub no_words_told : {told : Option (List (List ℕ))} {source : SourceView} {depot : DepotView} {before after : SinkView} {result : ℕ} → Ends before after 7 (status_line 7) result

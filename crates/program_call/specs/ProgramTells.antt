@@ -9,13 +9,23 @@ use Rattle.vm_types.specs.Moved.{Moved}
 use Rattle.outside_io.specs.Views.{SourceView, SinkView}
 use Rattle.pager_model.specs.Text.{status_line}
 use Rattle.replay_cli.specs.Commands.{Told}
+use Rattle.replay_command.specs.ReplayCall.{BeginsReplay, ReplayTold}
 use Rattle.program_call.specs.Words.{HandsOver}
+
+-- the text that goes with a status of the command for which the words ask: of `replay`, if they begin with that, and
+-- else of one of the others
+abbrev pub WordsTold : List (List ℕ) → Moved SourceView → Moved DepotView → ℕ → List ℕ → Type 0
+WordsTold words source depot status text =
+    ((BeginsReplay words → ⊥) × Told words source depot status text) ⊎ (BeginsReplay words × ReplayTold words source depot status text)
 
 -- the text that goes with a status of the program; `known` are all words, if they are known
 pub data ProgramTells (known : Option (List (List ℕ))) (source : Moved SourceView) (depot : Moved DepotView) : ℕ → List ℕ → Type 0 where
-  -- the command that the handed over words name was run
+  -- the command was run for which the handed over words ask, which don't begin with `replay`
   ran : (all words : List (List ℕ)) (status : ℕ) (text : List ℕ) → IfSome known (λ told. all ≡ told) → HandsOver all words
-      → Told words source depot status text → ProgramTells known source depot status text
+      → (BeginsReplay words → ⊥) → Told words source depot status text → ProgramTells known source depot status text
+  -- they begin with `replay`, and it was run
+  replayed : (all words : List (List ℕ)) (status : ℕ) (text : List ℕ) → IfSome known (λ told. all ≡ told) → HandsOver all words
+      → BeginsReplay words → ReplayTold words source depot status text → ProgramTells known source depot status text
   -- memory ran out while the words were copied, nothing was read, and no block was made
   no_words : source.after ≡ source.before → depot.after ≡ depot.before → ProgramTells known source depot 7 (status_line 7)
 

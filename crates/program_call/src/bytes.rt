@@ -41,7 +41,7 @@ impl Source for BytesSource<'_> {
 
 /// Runs the command that the words name over the bytes and over blocks in memory, and returns its
 /// status and the bytes that it writes. No read and no write fails and each block is made, so the
-/// status is none of 3, 4 and 6.
+/// status is none of 3, 4 and 6. It runs on one thread: `replay` is no command here, and its status 1.
 ///
 /// # Examples
 /// A trace without requests; what comes back is the report and the status line:

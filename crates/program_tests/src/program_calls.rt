@@ -3,7 +3,9 @@ use outside_io::{MemorySink, MemorySource};
 use program_call::{EnvArguments, ListedArguments, run_and_explain, run_bytes, run_program};
 use replay_cli::Status;
 use std::alloc::Global;
+use std::sync::Wait;
 use std::test::Fail;
+use std::thread::Threads;
 use vm_types::NoMemory;
 
 const TRACE: &[u8] = b"VMTRACE 1\nFRAMES 8\nPAGEFILE 4\nPROCESS A 4 4 4 0\nBODY\nEND\n";
@@ -15,13 +17,25 @@ PROCESS A RESIDENT COUNT 0 LIMIT 4\n\
 STATUS 0\n";
 
 // What the program answers and writes, if the output's calls of these numbers fail.
-fn outcome(alloc: Global, words: &[&[u8]], fails: &[u32]) -> Result<(Status, Vec<u8>), NoMemory> {
+fn outcome<R: Threads + Wait + Sync>(
+    rt: &R,
+    alloc: Global,
+    words: &[&[u8]],
+    fails: &[u32],
+) -> Result<(Status, Vec<u8>), NoMemory> {
     let mut arguments = ListedArguments::new(words);
     let mut source = MemorySource::new(Vec::from_slice(alloc, TRACE)?, Vec::new(alloc));
     let fails = Vec::from_slice(alloc, fails)?;
     let mut output = MemorySink::new(alloc, 1000, fails, Vec::new(alloc))?;
     let mut depot = MemoryDepot::new(alloc, Vec::new(alloc));
-    let status = run_program(alloc, &mut arguments, &mut source, &mut output, &mut depot);
+    let status = run_program(
+        rt,
+        alloc,
+        &mut arguments,
+        &mut source,
+        &mut output,
+        &mut depot,
+    );
     Ok((status, Vec::from_slice(alloc, output.taken())?))
 }
 
@@ -31,17 +45,19 @@ fn outcome(alloc: Global, words: &[&[u8]], fails: &[u32]) -> Result<(Status, Vec
 fn runs_the_words(rt: HostRuntime) -> Result<(), Fail> {
     let cut = b"PFN AT 0\n".as_slice();
     let usage = b"STATUS 1\n".as_slice();
-    let table: [(&[&[u8]], &[u32], u8, &[u8]); 7] = [
+    let table: [(&[&[u8]], &[u32], u8, &[u8]); 9] = [
         (&[b"neqysbar", b"serial"], &[], 0, TEXT),
         (&[b"\xFF\xFE", b"serial"], &[], 0, TEXT),
         (&[b"neqysbar", b"serial", b"x"], &[], 1, usage),
         (&[b"neqysbar", b"serial", b"\xFF"], &[], 1, usage),
+        (&[b"neqysbar", b"replay"], &[], 0, TEXT),
+        (&[b"neqysbar", b"replay", b"x"], &[], 1, usage),
         (&[], &[], 1, usage),
         (&[b"neqysbar", b"serial"], &[6], 4, TEXT),
         (&[b"neqysbar", b"serial"], &[2], 4, cut),
     ];
     for (words, fails, status, text) in table {
-        let told = outcome(rt.alloc(), words, fails)?;
+        let told = outcome(&rt, rt.alloc(), words, fails)?;
         assert_eq!(rt; told.0, Status(status));
         assert_eq!(rt; told.1.as_slice(), text);
     }
@@ -64,7 +80,14 @@ fn takes_the_words_of_the_process(rt: HostRuntime) -> Result<(), Fail> {
     let mut source = MemorySource::new(Vec::from_slice(alloc, TRACE)?, Vec::new(alloc));
     let mut output = MemorySink::new(alloc, 1000, Vec::new(alloc), Vec::new(alloc))?;
     let mut depot = MemoryDepot::new(alloc, Vec::new(alloc));
-    let status = run_program(alloc, &mut arguments, &mut source, &mut output, &mut depot);
+    let status = run_program(
+        &rt,
+        alloc,
+        &mut arguments,
+        &mut source,
+        &mut output,
+        &mut depot,
+    );
     assert_eq!(rt; status, Status(1));
     Ok(())
 }
@@ -76,7 +99,7 @@ fn explains(rt: HostRuntime) -> Result<(), Fail> {
     let name = b"neqysbar".as_slice();
     let command = b"serial".as_slice();
     let usage =
-        b"neqysbar: no command\nneqysbar 1.0.0\nusage: neqysbar serial < TRACE\n           reads a trace and runs it; writes each entry, a report, the pages left dirty and the status\n       neqysbar study --process X --frames K < TRACE\n           reads a trace; writes what the references of process X, A to P, cost with K page frames, 1 to 1024\n       neqysbar make --seed N --procs P --refs R\n           reads nothing; makes a trace from the seed N, 0 to 4294967295, with P processes, 1 to 16, and R\n           references, 1 to 100000, and runs it; writes how many entries of each kind the run has\n       neqysbar check < TRACE-AND-LOG\n           reads a trace, a line LOG and a log; writes whether the log is legal, or its first line that isn't\n       neqysbar dump < TRACE > FILE\n           reads a trace and runs it up to the report; writes the dump of the page database there, in bytes\n       neqysbar show < FILE\n           reads a dump; writes what it holds, and each count in it that a recount doesn't give\nexample: neqysbar study --process A --frames 8 < examples/swapping.trace\n".as_slice();
+        b"neqysbar: no command\nneqysbar 1.0.0\nusage: neqysbar serial < TRACE\n           reads a trace and runs it; writes each entry, a report, the pages left dirty and the status\n       neqysbar replay < TRACE\n           reads a trace and runs it with a thread for each process, the writer and the swapper; writes what\n           serial writes, of one legal run\n       neqysbar study --process X --frames K < TRACE\n           reads a trace; writes what the references of process X, A to P, cost with K page frames, 1 to 1024\n       neqysbar make --seed N --procs P --refs R\n           reads nothing; makes a trace from the seed N, 0 to 4294967295, with P processes, 1 to 16, and R\n           references, 1 to 100000, and runs it; writes how many entries of each kind the run has\n       neqysbar check < TRACE-AND-LOG\n           reads a trace, a line LOG and a log; writes whether the log is legal, or its first line that isn't\n       neqysbar dump < TRACE > FILE\n           reads a trace and runs it up to the report; writes the dump of the page database there, in bytes\n       neqysbar show < FILE\n           reads a dump; writes what it holds, and each count in it that a recount doesn't give\nexample: neqysbar study --process A --frames 8 < examples/swapping.trace\n".as_slice();
     let table: [(&[&[u8]], &[u8], u8, &[u8]); 12] = [
         (&[name, command], b"", 2, b"neqysbar: the input is empty\n"),
         (
@@ -143,6 +166,7 @@ fn explains(rt: HostRuntime) -> Result<(), Fail> {
         let mut messages = MemorySink::new(alloc, 2000, Vec::new(alloc), Vec::new(alloc))?;
         let mut depot = MemoryDepot::new(alloc, Vec::new(alloc));
         let ended = run_and_explain(
+            &rt,
             alloc,
             &mut arguments,
             &mut source,

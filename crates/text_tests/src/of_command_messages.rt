@@ -10,11 +10,12 @@ use trace_reader::{Bound, Breach, Cause};
 fn says_what_is_wrong_with_a_command_line(rt: HostRuntime) -> Result<(), Fail> {
     let alloc = rt.alloc();
     let serial = "neqysbar: serial takes its trace from standard input: serial < FILE\n";
+    let replay = "neqysbar: replay takes its trace from standard input: replay < FILE\n";
     let check = "neqysbar: check takes its trace and its log from standard input: check < FILE\n";
     let study = "neqysbar: study takes --process X and --frames K, each once, and no other word\n";
     let make =
         "neqysbar: make takes --seed N, --procs P and --refs R, each once, and no other word\n";
-    let table: [(&[&str], &str); 16] = [
+    let table: [(&[&str], &str); 17] = [
         (&[], "neqysbar: no command\n"),
         (&["seriel"], "neqysbar: no such command: seriel\n"),
         (
@@ -22,6 +23,7 @@ fn says_what_is_wrong_with_a_command_line(rt: HostRuntime) -> Result<(), Fail> {
             "neqysbar: no such command: s\\xC3\\xA9r ial\n",
         ),
         (&["serial", "first-run.trace"], serial),
+        (&["replay", "first-run.trace"], replay),
         (&["check", "x"], check),
         (&["study"], "neqysbar: --process is missing\n"),
         (&["study", "--process=A"], "neqysbar: --frames is missing\n"),

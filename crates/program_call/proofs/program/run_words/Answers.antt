@@ -26,14 +26,14 @@ returns-clause-cut g c = no_words_cut c.end_with-in-Err.ensures
 
 pub returns-in-Ok-Some-clause-told : goal.returns-in-Ok-Some-clause-told
 returns-in-Ok-Some-clause-told g c = λ no_four.
-    let told = c.run_texts.ensures.run.told no_four in
+    let told = c.run_texts.ensures.told no_four in
     let copied = ap (map (λ word. word.items)) c.as_slice.ensures.value in
     let same = ap (map (λ (text : Bor (List ℕ)). text.now)) c.as_slice-in-Ok-Some.ensures.value ∙ (if_some _ _ _ _ c.in-Ok-Some.field-0-is c.in-Ok-Some.ensures).0 ∙ copied in
     (told.0, run_tells _ _ _ _ _ _ _ c.in-Ok.ensures same (subst (All IsUtf8) copied (if_some _ _ _ _ c.in-Ok-Some.field-0-is c.in-Ok-Some.ensures).1) told.1, told.2)
 
 pub returns-in-Ok-Some-clause-cut : goal.returns-in-Ok-Some-clause-cut
 returns-in-Ok-Some-clause-cut g c = λ four.
-    let cut = c.run_texts.ensures.run.cut four in
+    let cut = c.run_texts.ensures.cut four in
     let copied = ap (map (λ word. word.items)) c.as_slice.ensures.value in
     let same = ap (map (λ (text : Bor (List ℕ)). text.now)) c.as_slice-in-Ok-Some.ensures.value ∙ (if_some _ _ _ _ c.in-Ok-Some.field-0-is c.in-Ok-Some.ensures).0 ∙ copied in
     (cut.0, (cut.1.0, (cut.1.1.0, run_tells _ _ _ _ _ _ _ c.in-Ok.ensures same (subst (All IsUtf8) copied (if_some _ _ _ _ c.in-Ok-Some.field-0-is c.in-Ok-Some.ensures).1) cut.1.1.1, cut.1.1.2, cut.1.1.3)))

@@ -1,0 +1,3 @@
+pub mod WorkersDone
+pub mod TaskRequests
+pub mod Making

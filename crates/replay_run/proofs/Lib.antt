@@ -1,0 +1,5 @@
+pub mod WholeRun
+pub mod SeatBounds
+pub mod AnswerCounts
+pub mod Concluding
+pub mod Played
