@@ -1,6 +1,6 @@
 use Rattle.vm_state.specs.Based.{base_of}
-use Rattle.thread_tests.proofs.Seating.{empty_again, seated_after}
-use Rattle.thread_tests.proofs.desks.ask.Goals as goal
+use Rattle.transfer_tests.proofs.Seating.{empty_again, seated_after}
+use Rattle.transfer_tests.proofs.desks.ask.Goals as goal
 
 pub returns-in-Err-clause-seated : goal.returns-in-Err-clause-seated
 returns-in-Err-clause-seated g c =

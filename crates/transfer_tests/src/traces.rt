@@ -1,0 +1,31 @@
+//! Configurations of traces.
+ghost use Rattle.std.specs.Prelude.{◌≡◌, ◌<◌, IfOk, Some, length, slice_get};
+ghost use Rattle.vm_types.specs.Configuration.{IsWellFormed};
+
+use arrayvec::ArrayVec;
+use outside_io::MemorySource;
+use std::alloc::Global;
+use std::test::Fail;
+use trace_reader::read_trace;
+use vm_types::{Config, Task};
+
+/// The configuration of a trace without its last line.
+pub fn config_of(alloc: Global, trace: &str) -> Result<Config, Fail>
+    ensures { IfOk result IsWellFormed }
+{
+    let mut text = Vec::from_slice(alloc, trace.as_bytes())?;
+    text.extend_from_slice(b"END\n")?;
+    let mut source = MemorySource::new(text, Vec::new(alloc));
+    match read_trace(alloc, &mut source, &mut ArrayVec::new()) {
+        Ok(config) => Ok(config),
+        Err(_) => Err(Fail::from("a trace")),
+    }
+}
+
+/// The task at a place.
+pub fn task_at(body: &[Task], i: usize) -> Task
+    requires { i < length body.now }
+    ensures { slice_get body.now i ≡ Some result }
+{
+    body[i]
+}
