@@ -1,4 +1,5 @@
 pub mod Behind
 pub mod Forms
+pub mod Front
 pub mod LineWords
 pub mod OneToOne

@@ -14,9 +14,10 @@ use crate::read::{
     read_zero,
 };
 use crate::take::take_number;
+use crate::words::Words;
 use std::fmt;
 use vm_journal::{Entry, Kind, What};
-use vm_text::{Words, is, read_seat};
+use vm_text::{is, read_seat};
 use vm_types::{Seat, Section};
 
 /// The text is the line of no entry.

@@ -7,6 +7,7 @@ mod parts;
 mod read;
 mod requests;
 mod take;
+mod words;
 
 pub use entry_line::{add_line, line};
 pub use entry_read::{BadLine, lines_are_one_to_one, read_line};

@@ -13,8 +13,9 @@ use crate::take::{
     take_block, take_count, take_evict_why, take_frame, take_number, take_page, take_page_start,
     take_place, take_process, take_state, take_status, take_why,
 };
+use crate::words::Words;
 use vm_journal::{Role, What};
-use vm_text::{Words, is};
+use vm_text::is;
 use vm_types::{Addr, Page, Pfn, Proc, Section};
 
 fn last_place(words: &mut Words<'_>, procs: u32) -> Option<(Proc, Addr)>

@@ -8,7 +8,8 @@ ghost use Rattle.vm_text.specs.Services.{HasAnswerWords, answer_words, range_wor
 use crate::take::{
     take_address, take_count, take_op, take_page_start, take_protection, take_value,
 };
-use vm_text::{Words, bytes_of, is};
+use crate::words::Words;
+use vm_text::{bytes_of, is};
 use vm_types::{Addr, Answer, Op, Ref, Reply, Service};
 
 // Whether the address is a multiple of the bytes that the op takes.

@@ -10,11 +10,11 @@ ghost use Rattle.vm_text.specs.States.{state_word, status_word};
 ghost use Rattle.vm_journal.specs.HasLine.{IsFrameNumber};
 ghost use Rattle.vm_journal.specs.Line.{evict_word};
 
+use crate::words::Words;
 use vm_journal::EvictWhy;
 use vm_text::{
-    Words, is, read_address, read_block, read_count, read_frame, read_number, read_op, read_page,
-    read_page_start, read_place, read_process, read_protection, read_state, read_status,
-    read_value, read_why,
+    bytes_of, is, read_block, read_count, read_op, read_page, read_place, read_process,
+    read_protection, read_state, read_status, read_why,
 };
 use vm_types::{Addr, BlockId, FrameState, Mode, Op, Page, Pfn, Proc, ProcStatus, Section, Why};
 
@@ -39,8 +39,7 @@ fn read_evict_why(word: &[u8]) -> Option<EvictWhy>
 pub(crate) fn take_number(words: &mut Words<'_>) -> Option<u64>
     ensures { Takes (λ n. n < 2 ^ 64) (λ n. decimal n ∷ []) words.old words.new result }
 {
-    let word = words.next_word()?;
-    read_number(word)
+    words.next_number()
 }
 
 pub(crate) fn take_count(words: &mut Words<'_>) -> Option<u32>
@@ -53,8 +52,7 @@ pub(crate) fn take_count(words: &mut Words<'_>) -> Option<u32>
 pub(crate) fn take_frame(words: &mut Words<'_>) -> Option<Pfn>
     ensures { Takes (λ f. IsFrameNumber f.0) (λ f. frame_text f.0 ∷ []) words.old words.new result }
 {
-    let word = words.next_word()?;
-    read_frame(word)
+    words.next_frame()
 }
 
 pub(crate) fn take_process(words: &mut Words<'_>, procs: u32) -> Option<Proc>
@@ -68,15 +66,18 @@ pub(crate) fn take_process(words: &mut Words<'_>, procs: u32) -> Option<Proc>
 pub(crate) fn take_address(words: &mut Words<'_>) -> Option<Addr>
     ensures { Takes (λ a. a.0 < 2 ^ 32) (λ a. address_text a.0 ∷ []) words.old words.new result }
 {
-    let word = words.next_word()?;
-    read_address(word)
+    let address = words.next_hex(8)?;
+    Some(Addr(address))
 }
 
 pub(crate) fn take_page_start(words: &mut Words<'_>) -> Option<Addr>
     ensures { Takes (λ a. IsPageStart a.0) (λ a. address_text a.0 ∷ []) words.old words.new result }
 {
-    let word = words.next_word()?;
-    read_page_start(word)
+    let address = words.next_hex(8)?;
+    if address % 512 != 0 {
+        return None;
+    }
+    Some(Addr(address))
 }
 
 pub(crate) fn take_place(words: &mut Words<'_>, procs: u32) -> Option<(Proc, Addr)>
@@ -148,6 +149,5 @@ pub(crate) fn take_op(words: &mut Words<'_>) -> Option<(Mode, Op)>
 pub(crate) fn take_value(words: &mut Words<'_>, op: Op) -> Option<u32>
     ensures { Takes (λ value. value < 256 ^ op_bytes op) (λ value. value_text op value ∷ []) words.old words.new result }
 {
-    let word = words.next_word()?;
-    read_value(word, op)
+    words.next_hex(2 * u32::from(bytes_of(op)))
 }

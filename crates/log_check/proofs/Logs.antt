@@ -1,8 +1,9 @@
 -- What is said of a log by what was read of it.
-use Rattle.std.proofs.Common.{◌≡◌, inl, ℕ, List, [], Option, Some, None, Result, Ok, Err, refl, sym, ap, ◌∙◌, subst, lit≤}
+use Rattle.std.proofs.Common.{◌≡◌, ◌≤◌, inl, ℕ, List, [], Option, Some, None, Result, Ok, Err, length, refl, sym, ap, ◌∙◌, subst, lit≤}
 use Rattle.std.specs.Prelude.{IfSome}
 use Rattle.std.proofs.lemmas.List.Elements.{All-nil}
 use Rattle.vm_types.specs.declared.config.Config.{Config}
+use Rattle.log_history.specs.Standing.{Passed}
 use Rattle.log_model.specs.Log.{most_lines}
 use Rattle.log_model.specs.Stand.{in_entries}
 use Rattle.log_check.specs.declared.check.Step.{Step}
@@ -11,9 +12,10 @@ use Rattle.log_check.specs.declared.check_fault.CheckFault.{CheckFault}
 use Rattle.log_check.specs.declared.check_fault.CheckFault.TheVariants.{NoMemory}
 use Rattle.log_check.specs.declared.followed.Followed.{Followed}
 use Rattle.log_check.specs.declared.place.Place.{Place}
+use Rattle.log_check.specs.declared.place.Place.TheVariants.{Entries}
 use Rattle.log_check.specs.declared.verdict.Verdict.{Verdict}
 use Rattle.log_check.specs.Judged.{IsCutShort, Judges}
-use Rattle.log_check.specs.Reading.{AnswersLast, AnswersNext, HasRead}
+use Rattle.log_check.specs.Reading.{AnswersLast, AnswersNext, HasRead, IsBehind}
 
 -- what is read, if it is known
 abbrev pub ToldRead : Option (List ℕ) → Followed → Place → ℕ → Option (List ℕ) → Type 0
@@ -55,3 +57,27 @@ log_ended config None left later f place count answer read answers all same = tt
 log_ended config (Some text) left later f place count answer read answers all same =
     subst (λ (c : Config). Judges c answer text later) same
     (answers text (subst (λ (n : ℕ). HasRead text f.past place n left) all read))
+
+-- no line can be read
+pub log_failed : (config : Config) (told left later : Option (List ℕ)) (old new : Followed) (place : Place) (count : ℕ) (f : CheckFault) → ToldRead told old place count left → AnswersNext old place count left new later (Err f) → old.past.config ≡ config → ToldJudged config told (Err f) later
+log_failed config None left later old new place count f read answers same = tt
+log_failed config (Some text) left later old new place count f read answers same =
+    subst (λ (c : Config). Judges c (Err f) text later) same (answers text read)
+
+-- before the first line no line was read
+pub begun_read : (config : Config) (told : Option (List ℕ)) (s : Passed) → s ≡ record { config = config; past = [] } → IfSome told (λ text. HasRead text s Entries 0 told)
+begun_read config None s is = tt
+begun_read config (Some text) s is = record {
+  stand = in_entries [];
+  rest = text;
+  legal = record { lines = []; legal = refl; counted = refl; whole = refl };
+  stands = ap (λ (p : Passed). in_entries p.past) (sym is);
+  left_over = refl;
+}
+
+pub begun_behind : (told : Option (List ℕ)) → IfSome told (λ text. IsBehind text 0 told)
+begun_behind None = tt
+begun_behind (Some text) = record { rest = text; left_over = refl; stands = refl }
+
+pub begun_few : (config : Config) (s : Passed) → s ≡ record { config = config; past = [] } → length s.past ≤ 0
+begun_few config s is = subst (λ (p : Passed). length p.past ≤ 0) (sym is) (lit≤ tt)

@@ -5,15 +5,15 @@ use Rattle.pager_model.specs.Order.{IsInOrder}
 use Rattle.pager_model.specs.Run.{pager_after}
 use Rattle.pager_model.specs.Spoken.{ShowsReply, flat_after}
 use Rattle.pager_model.specs.Step.{IsLegal}
-use Rattle.flat_model.specs.FlatMachine.{IsFlat}
+use Rattle.log_flat.specs.Kept.{IsKept, kept}
 use Rattle.log_pager.specs.Shown.{shown}
 use Rattle.log_steps.specs.Follows.{Follows}
 use Rattle.log_check.specs.declared.followed.Followed.{Followed}
 
--- the pager's state and the flat machine are those after the entries, which are a run in order
+-- the pager's state and the bytes of pages are those after the entries, which are a run in order
 pub record IsFollowed (f : Followed) : Type 0 where
   pub follows : Follows f.past.config f.past.past (shown f.pager)
-  pub flat : IsFlat f.past.config (flat_after f.past.config f.past.past) f.flat
+  pub bytes : IsKept f.past.config (flat_after f.past.config f.past.past) (kept f.bytes)
 
 -- the entry is legal behind them
 abbrev pub MayStep : Followed → Entry → Type 0
@@ -27,13 +27,13 @@ KeepsOrder f e = IsInOrder f.past.config (e ∷ f.past.past)
 abbrev pub IsRightIn : Followed → Entry → Type 0
 IsRightIn f e = ShowsReply f.past.config (flat_after f.past.config f.past.past) (e.seat).0 e.what
 
--- one entry more, and the same flat machine
+-- one entry more, and the same bytes of pages
 pub record IsAdded (old : Followed) (e : Entry) (new : Followed) : Type 0 where
   pub past : new.past ≡ record { config = old.past.config; past = e ∷ old.past.past }
   pub pager : (shown new.pager).pager ≡ pager_after old.past.config (e ∷ old.past.past)
   pub frames : (shown new.pager).frames ≡ (shown old.pager).frames
   pub processes : (shown new.pager).processes ≡ (shown old.pager).processes
-  pub flat : new.flat ≡ old.flat
+  pub bytes : new.bytes ≡ old.bytes
 
 -- a next entry
 pub record MayEnter (f : Followed) (e : Entry) : Type 0 where

@@ -8,8 +8,9 @@ use Rattle.vm_journal.specs.declared.entry.What.{What}
 use Rattle.vm_journal.specs.declared.entry.What.TheVariants as what
 use Rattle.pager_model.specs.Flat.{FlatState, flat_reply}
 use Rattle.pager_model.specs.Spoken.{ShowsReply, flat_entry}
-use Rattle.flat_model.specs.FlatMachine.{IsFlat}
-use Rattle.flat_model.specs.declared.flat.Flat.{Flat}
+use Rattle.pager_model.specs.Pager.{Pager}
+use Rattle.log_flat.specs.Kept.{IsBeside, IsKept, kept}
+use Rattle.log_flat.specs.declared.page_bytes.PageBytes.{PageBytes}
 
 -- its reference or its service is well formed
 abbrev pub CanAnswer : What → Type 0
@@ -22,14 +23,14 @@ abbrev pub IsOfProcess : Config → ℕ → What → Type 0
 IsOfProcess config p (what.Served s answer) = p < length config.procs
 IsOfProcess config p other = Unit {0}
 
--- of whichever configuration and state the machine stood for: the entry shows the flat reply, and the machine
--- stands for the state after it; or it doesn't show that
-abbrev pub ShowsAsFlat : Flat → Flat → ℕ → What → Bool → Type 0
-ShowsAsFlat old new p w true =
-    (config : Config) (state : FlatState) → IsFlat config state old → IsOfProcess config p w → ShowsReply config state p w × IsFlat config (flat_entry config state p w) new
-ShowsAsFlat old new p w false = (config : Config) (state : FlatState) → IsFlat config state old → ShowsReply config state p w → ⊥
+-- of whichever state the bytes are, whose maps and touched pages the pager has: the entry shows the flat reply, and
+-- the bytes are those of the state after it; or it doesn't show that
+abbrev pub ShowsAsFlat : Config → Pager → PageBytes → PageBytes → ℕ → What → Bool → Type 0
+ShowsAsFlat config a old new p w true =
+    (state : FlatState) → IsKept config state (kept old) → IsBeside a state → IsOfProcess config p w → ShowsReply config state p w × IsKept config (flat_entry config state p w) (kept new)
+ShowsAsFlat config a old new p w false = (state : FlatState) → IsKept config state (kept old) → IsBeside a state → ShowsReply config state p w → ⊥
 
 -- an answered reference shows another reply than this one, the flat machine's
-abbrev pub IsRightReply : Flat → ℕ → What → Reply → Type 0
-IsRightReply old p w right =
-    (config : Config) (state : FlatState) → IsFlat config state old → (r : Ref) × (shown : Reply) × (w ≡ what.Done r shown) × (right ≡ flat_reply config state p r) × (shown ≡ right → ⊥)
+abbrev pub IsRightReply : Config → Pager → PageBytes → ℕ → What → Reply → Type 0
+IsRightReply config a old p w right =
+    (state : FlatState) → IsKept config state (kept old) → IsBeside a state → (r : Ref) × (shown : Reply) × (w ≡ what.Done r shown) × (right ≡ flat_reply config state p r) × (shown ≡ right → ⊥)

@@ -6,22 +6,22 @@ ghost use Rattle.log_steps.specs.Follows.{Follows};
 
 use crate::changes::change;
 use crate::replies::other_reply;
-use flat_model::Flat;
+use log_flat::PageBytes;
 use log_history::LogHistory;
 use log_pager::LogPager;
 use log_reasons::LineReason;
-use log_steps::fails;
+use log_steps::{fails, flat_is_followed};
 use std::alloc::Global;
 use vm_journal::Entry;
 use vm_types::{Config, NoMemory};
 
 /// What stands for the entries of a log so far: what its rows ask of them, the pager's state after
-/// them, and the flat machine after them.
+/// them, and the bytes of pages in the flat machine after them.
 #[derive(Drop)]
 pub(crate) struct Followed<'a> {
     pub(crate) past: LogHistory<'a>,
     pub(crate) pager: LogPager,
-    pub(crate) flat: Flat,
+    pub(crate) bytes: PageBytes,
 }
 
 impl<'a> Followed<'a> {
@@ -38,11 +38,11 @@ impl<'a> Followed<'a> {
     {
         let past = LogHistory::new(alloc, config)?;
         let pager = LogPager::new(alloc, config)?;
-        let flat = Flat::new(alloc, config)?;
-        Ok(Followed { past, pager, flat })
+        let bytes = PageBytes::new(alloc, config)?;
+        Ok(Followed { past, pager, bytes })
     }
 
-    /// Goes on with a legal entry; the flat machine stays as it is.
+    /// Goes on with a legal entry; the bytes of pages stay as they are.
     fn add(&mut self, e: Entry) -> Result<(), NoMemory>
         requires follows { Follows self.old.past.config self.old.past.past (shown self.old.pager) }
         requires legal { MayStep self.old e }
@@ -72,7 +72,8 @@ impl<'a> Followed<'a> {
         if !self.past.keeps_order(e) {
             return Ok(Some(LineReason::OutOfOrder));
         }
-        if let Some(right) = other_reply(&mut self.flat, e)? {
+        flat_is_followed(&self.past, &self.pager);
+        if let Some(right) = other_reply(&mut self.bytes, self.past.config(), &self.pager, e)? {
             return Ok(Some(LineReason::WrongReply(right)));
         }
         self.add(e)?;

@@ -1,10 +1,13 @@
 ghost use Rattle.std.specs.Prelude.{◌≡◌, ◌↔◌, IfOk, IfSome, IsTrue, is_none, true};
 ghost use Rattle.vm_journal.specs.declared.entry.What.TheVariants.{Done, Served};
+ghost use Rattle.pager_model.specs.OfConfig.{MapsRight};
+ghost use Rattle.log_pager.specs.Shown.{shown};
 ghost use Rattle.log_check.specs.Replies.{CanAnswer, IsRightReply, ShowsAsFlat};
 
-use flat_model::Flat;
+use log_flat::PageBytes;
+use log_pager::LogPager;
 use vm_journal::{Entry, What};
-use vm_types::{Answer, NoMemory, Proc, Ref, Reply, Service};
+use vm_types::{Answer, Config, NoMemory, Proc, Ref, Reply, Service};
 
 /// Whether they are the same reply.
 fn is_same(one: Reply, other: Reply) -> bool
@@ -13,18 +16,21 @@ fn is_same(one: Reply, other: Reply) -> bool
     one == other
 }
 
-/// The flat machine's reply, if the reply isn't that. The machine goes on to its next state.
+/// The flat machine's reply, if the reply isn't that. The bytes of pages go on to the next state.
 fn right_reply(
-    flat: &mut Flat,
+    bytes: &mut PageBytes,
+    config: &Config,
+    pager: &LogPager,
     process: Proc,
     r: Ref,
     reply: Reply,
 ) -> Result<Option<Reply>, NoMemory>
-    requires { CanAnswer (Done r reply) }
-    ensures shows { IfOk result (λ o. ShowsAsFlat flat.old flat.new process.0 (Done r reply) (is_none o)) }
-    ensures right { IfOk result (λ o. IfSome o (IsRightReply flat.old process.0 (Done r reply))) }
+    requires can { CanAnswer (Done r reply) }
+    requires maps { MapsRight config.now (shown pager.now).pager.map }
+    ensures shows { IfOk result (λ o. ShowsAsFlat config.now (shown pager.now).pager bytes.old bytes.new process.0 (Done r reply) (is_none o)) }
+    ensures right { IfOk result (λ o. IfSome o (IsRightReply config.now (shown pager.now).pager bytes.old process.0 (Done r reply))) }
 {
-    let right = flat.answer(process, r)?;
+    let right = bytes.answer(config, pager, process, r)?;
     if is_same(reply, right) {
         Ok(None)
     } else {
@@ -32,31 +38,44 @@ fn right_reply(
     }
 }
 
-/// The flat machine goes on with a service.
-fn serves(flat: &mut Flat, process: Proc, s: Service, answer: Answer)
+/// The bytes of pages go on with a service.
+fn serves(
+    bytes: &mut PageBytes,
+    config: &Config,
+    pager: &LogPager,
+    process: Proc,
+    s: Service,
+    answer: Answer,
+)
     requires { CanAnswer (Served s answer) }
-    ensures { ShowsAsFlat flat.old flat.new process.0 (Served s answer) true }
+    ensures { ShowsAsFlat config.now (shown pager.now).pager bytes.old bytes.new process.0 (Served s answer) true }
 {
     if let Answer::Good = answer {
-        flat.change(process, s);
+        bytes.change(process, s);
     }
 }
 
-/// The flat machine's reply, if an entry shows another value; if it shows none or that, the machine goes on to
-/// the state after the entry.
+/// The flat machine's reply, if an entry shows another value; if it shows none or that, the bytes of pages go on to
+/// the state after the entry. The pager has the flat machine's maps and touched pages.
 ///
 /// # Errors
-/// `NoMemory` if out of memory.
-pub(crate) fn other_reply(flat: &mut Flat, e: Entry) -> Result<Option<Reply>, NoMemory>
-    requires { CanAnswer e.what }
-    ensures shows { IfOk result (λ o. ShowsAsFlat flat.old flat.new (e.seat).0 e.what (is_none o)) }
-    ensures right { IfOk result (λ o. IfSome o (IsRightReply flat.old (e.seat).0 e.what)) }
+/// `NoMemory` if a page has no place, or if out of memory; the bytes are then not to be used again.
+pub(crate) fn other_reply(
+    bytes: &mut PageBytes,
+    config: &Config,
+    pager: &LogPager,
+    e: Entry,
+) -> Result<Option<Reply>, NoMemory>
+    requires can { CanAnswer e.what }
+    requires maps { MapsRight config.now (shown pager.now).pager.map }
+    ensures shows { IfOk result (λ o. ShowsAsFlat config.now (shown pager.now).pager bytes.old bytes.new (e.seat).0 e.what (is_none o)) }
+    ensures right { IfOk result (λ o. IfSome o (IsRightReply config.now (shown pager.now).pager bytes.old (e.seat).0 e.what)) }
 {
     let process = Proc(e.seat.0);
     match e.what {
-        What::Done { r, reply } => right_reply(flat, process, r, reply),
+        What::Done { r, reply } => right_reply(bytes, config, pager, process, r, reply),
         What::Served { s, answer } => {
-            serves(flat, process, s, answer);
+            serves(bytes, config, pager, process, s, answer);
             Ok(None)
         }
         _ => Ok(None),

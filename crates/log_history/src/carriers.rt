@@ -50,7 +50,6 @@ impl Carriers {
         requires small { (c : Carrying) → slice_get self.old seat.0 ≡ Some c → IsSmall (2 ^ 48) c }
         ensures { (c : Carrying) → slice_get self.old seat.0 ≡ Some c → self.new ≡ slice_set self.old seat.0 (carrying_with number seat.0 busy what c) }
     {
-        let row = self.rows[seat.0 as usize];
-        self.rows[seat.0 as usize] = row.after(number, seat, busy, what);
+        self.rows[seat.0 as usize].add(number, seat, busy, what);
     }
 }

@@ -94,72 +94,65 @@ impl Carrying {
         self.begun > 0 && (faulty && self.first_failed || self.failed == self.begun)
     }
 
-    /// The carrier after its seat's own entry of this number; the seat was busy before it or not.
-    pub(crate) fn after(self, number: u64, seat: Seat, busy: bool, what: What) -> Carrying
-        requires { IsSmall (2 ^ 48) self }
-        ensures { result ≡ carrying_with number seat.0 busy what self }
+    /// Goes on with its seat's own entry of this number; the seat was busy before it or not.
+    pub(crate) fn add(&mut self, number: u64, seat: Seat, busy: bool, what: What)
+        requires { IsSmall (2 ^ 48) self.old }
+        ensures { self.new ≡ carrying_with number seat.0 busy what self.old }
     {
         match what {
             What::In { .. } | What::Out { .. } => {
-                self.carried(busy, Flight::begun_by(number, seat, what))
+                self.carry(busy, Flight::begun_by(number, seat, what))
             }
-            What::InOk { .. } | What::OutOk { .. } => self.landed_well(),
-            What::InFail { k, .. } => self.landed_badly(k),
-            What::OutFail { k, .. } => self.landed_badly(k),
-            What::Done { .. } | What::Denied { .. } | What::Served { .. } => self.having_spoken(),
-            _ => self,
+            What::InOk { .. } | What::OutOk { .. } => self.land_well(),
+            What::InFail { k, .. } => self.land_badly(k),
+            What::OutFail { k, .. } => self.land_badly(k),
+            What::Done { .. } | What::Denied { .. } | What::Served { .. } => self.speak(),
+            _ => (),
         }
     }
 
     /// One more flight of a busy seat, or the first of the next carrier; the same if none begins.
-    fn carried(self, busy: bool, begun: Option<Flight>) -> Carrying
-        requires { IsSmall (2 ^ 48) self }
-        ensures { result ≡ carried busy self begun }
+    fn carry(&mut self, busy: bool, begun: Option<Flight>)
+        requires { IsSmall (2 ^ 48) self.old }
+        ensures { self.new ≡ carried busy self.old begun }
     {
         let Some(x) = begun else {
-            return self;
+            return;
         };
-        let mut next = self;
         if !busy {
-            next = Carrying::none();
-            next.first = Some(x);
+            *self = Carrying::none();
+            self.first = Some(x);
         }
-        next.last = Some(x);
-        next.begun += 1;
-        next
+        self.last = Some(x);
+        self.begun += 1;
     }
 
     /// One flight more has landed.
-    fn landed_well(self) -> Carrying
-        requires { IsSmall (2 ^ 48) self }
-        ensures { result ≡ landed_well self }
+    fn land_well(&mut self)
+        requires { IsSmall (2 ^ 48) self.old }
+        ensures { self.new ≡ landed_well self.old }
     {
-        let mut next = self;
-        next.landed += 1;
-        next
+        self.landed += 1;
     }
 
     /// The flight that began in the entry of this number has landed and failed.
-    fn landed_badly(self, k: u64) -> Carrying
-        requires { IsSmall (2 ^ 48) self }
-        ensures { result ≡ landed_badly self k }
+    fn land_badly(&mut self, k: u64)
+        requires { IsSmall (2 ^ 48) self.old }
+        ensures { self.new ≡ landed_badly self.old k }
     {
         let is_first = match self.first {
             None => false,
             Some(x) => x.start() == k,
         };
-        let mut next = self.landed_well();
-        next.failed += 1;
-        next.first_failed = self.first_failed || is_first;
-        next
+        self.land_well();
+        self.failed += 1;
+        self.first_failed = self.first_failed || is_first;
     }
 
     /// The seat has spoken since it began.
-    fn having_spoken(self) -> Carrying
-        ensures { result ≡ having_spoken self }
+    fn speak(&mut self)
+        ensures { self.new ≡ having_spoken self.old }
     {
-        let mut next = self;
-        next.spoken_since = true;
-        next
+        self.spoken_since = true;
     }
 }

@@ -1,5 +1,5 @@
 -- What a write to one of a log's tables makes of the attribute that it stands for.
-use Rattle.std.proofs.Common.{◌≡◌, ℕ, ◌+◌, ◌<◌, Bool, false, None, Option, ap, ◌∙◌, arith, vec_len}
+use Rattle.std.proofs.Common.{◌≡◌, ℕ, ◌+◌, ◌<◌, Bool, false, List, None, Option, ap, ◌∙◌, arith, vec_len}
 use Rattle.std.specs.Prelude.{slice_index_or, slice_set, length}
 use Rattle.vm_types.specs.Ring.{Ring}
 use Rattle.vm_types.specs.declared.names.Page.{Page}
@@ -17,8 +17,8 @@ module _ (s : LogPager) (f : ℕ) (below : f < vec_len s.states) where
   state_in : f < length s.states.items
   state_in = omega (arith, s.states.ok.0)
 
-  page_in : f < length s.held.items
-  page_in = omega (arith, s.held.ok.0, s.each_held)
+  page_in : f < length s.held
+  page_in = omega (arith, s.each_held)
 
   mark_in : f < length s.marks.items
   mark_in = omega (arith, s.marks.ok.0, s.each_mark)
@@ -26,17 +26,14 @@ module _ (s : LogPager) (f : ℕ) (below : f < vec_len s.states) where
   pub set_state : (x : FrameState) → at_or state.Bad (slice_set s.states.items f x) ≡ at_number (at_or state.Bad s.states.items) f x
   set_state x = written state.Bad s.states.items f x state_in
 
-  pub set_page : (x : Option Page) → at_or None (slice_set s.held.items f x) ≡ at_number (at_or None s.held.items) f x
-  set_page x = written None s.held.items f x page_in
+  pub set_page : (x : Option Page) (held : List (Option Page)) → held ≡ slice_set s.held f x → at_or None held ≡ at_number (at_or None s.held) f x
+  set_page x held is = ap (at_or None) is ∙ written None s.held f x page_in
 
   pub set_modify : (x : Bool) → at_or false (slice_set s.marks.items f x) ≡ at_number (at_or false s.marks.items) f x
   set_modify x = written false s.marks.items f x mark_in
 
   pub state_read : (x : FrameState) → x ≡ slice_index_or s.states.items f x → x ≡ at_or state.Bad s.states.items f
   state_read x is = read_at state.Bad s.states.items f x state_in is
-
-  pub page_read : (x : Option Page) → x ≡ slice_index_or s.held.items f x → x ≡ at_or None s.held.items f
-  page_read x is = read_at None s.held.items f x page_in is
 
   pub modify_read : (x : Bool) → x ≡ slice_index_or s.marks.items f x → x ≡ at_or false s.marks.items f
   modify_read x is = read_at false s.marks.items f x mark_in is

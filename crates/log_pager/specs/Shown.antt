@@ -5,7 +5,7 @@ use Rattle.vm_types.specs.Ring.{Ring}
 use Rattle.vm_types.specs.declared.names.FrameState.TheVariants as state
 use Rattle.vm_types.specs.declared.names.ProcStatus.TheVariants as status
 use Rattle.pager_model.specs.Pager.{Pager}
-use Rattle.log_tables.specs.Lying.{lies_in}
+use Rattle.log_tables.specs.Lying.{lies_by}
 use Rattle.log_pager.specs.declared.log_pager.LogPager.{LogPager}
 
 -- by number; what isn't there has the other value
@@ -28,9 +28,9 @@ shown s =
       processes = vec_len s.statuses;
       pager = record {
         state = at_or state.Bad s.states.items;
-        page = at_or None s.held.items;
+        page = at_or None s.held;
         modify = at_or false s.marks.items;
-        free = s.free.items;
+        free = s.free;
         modified = s.modified.items;
         status = at_or status.Resident s.statuses.items;
         ring = at_or no_ring s.rings.items;
@@ -39,11 +39,11 @@ shown s =
         faults = at_or 0 s.faults.items;
         collided = at_or None s.collided.items;
         map = item_at s.pages.items;
-        valid = s.valid.items;
-        charged = s.charged.items;
-        touched = s.touched.items;
-        lies = lies_in s.kinds.items s.lies.items;
-        assigned = s.assigned.items;
+        valid = s.valid;
+        charged = s.charged;
+        touched = s.touched;
+        lies = lies_by s.lies;
+        assigned = s.assigned;
       };
     }
 

@@ -15,18 +15,22 @@ ghost use Rattle.pager_model.specs.Sets.{has_page};
 
 use crate::changes::more;
 use crate::log_pager::LogPager;
-use log_tables::{is_of_section, is_own, is_paged, is_same, put_first, remove, remove_page};
+use log_tables::{PageList, is_of_section, is_own, is_paged};
 use vm_types::{BlockId, Config, FrameState, NoMemory, Op, Page, Pfn, Proc, Ref};
 
 /// A copy on reference page whose read from its section block failed is no longer charged.
-fn uncharge(charged: &mut Vec<Page>, page: Page, failed: Option<BlockId>)
-    ensures { (o : Option Flight) → option_map (λ (x : Flight). x.block) o ≡ failed → charged.new.items ≡ charged_reused o page charged.old.items }
+///
+/// # Errors
+/// `NoMemory` if out of memory; the list is then not to be used again.
+fn uncharge(charged: &mut PageList, page: Page, failed: Option<BlockId>) -> Result<(), NoMemory>
+    ensures { OnOk result ((o : Option Flight) → option_map (λ (x : Flight). x.block) o ≡ failed → charged.new ≡ charged_reused o page charged.old) }
 {
     if let Some(block) = failed {
         if is_own(page) && is_of_section(block) {
-            remove_page(charged, page);
+            charged.remove(page)?;
         }
     }
+    Ok(())
 }
 
 /// Whether an operation changes a page.
@@ -39,22 +43,15 @@ fn changes(op: Op) -> bool
     }
 }
 
-/// Whether a page is in a list.
-fn has(pages: &[Page], page: Page) -> bool
-    ensures { result ≡ has_page pages.now page }
-{
-    pages.iter().any(|other| is_same(page, *other))
-}
-
 /// A page that has a block of the page file is touched.
-fn touch(config: &Config, touched: &mut Vec<Page>, page: Option<Page>) -> Result<(), NoMemory>
-    ensures { OnOk result (touched.new.items ≡ touched_at config.now touched.old.items page) }
+fn touch(config: &Config, touched: &mut PageList, page: Option<Page>) -> Result<(), NoMemory>
+    ensures { OnOk result (touched.new ≡ touched_at config.now touched.old page) }
 {
     let Some(page) = page else {
         return Ok(());
     };
-    if is_paged(config, page) && !has(touched, page) {
-        put_first(touched, page)?;
+    if is_paged(config, page) && !touched.has(page) {
+        touched.put(page)?;
     }
     Ok(())
 }
@@ -72,11 +69,11 @@ impl LogPager {
             shown self.new ≡ with_pager (shown self.old) (after_reuse past (shown self.old).pager f.0 page)) }
     {
         let frame = f.0 as usize;
-        remove(&mut self.free, f.0);
-        put_first(&mut self.free, f.0)?;
-        uncharge(&mut self.charged, page, failed);
+        self.free.remove(f.0);
+        self.free.put(f.0)?;
+        uncharge(&mut self.charged, page, failed)?;
         self.states[frame] = FrameState::Free;
-        self.held[frame] = None;
+        self.held.set(frame, None)?;
         self.marks[frame] = false;
         Ok(())
     }

@@ -9,7 +9,7 @@ ghost use Rattle.pager_model.specs.Turn.{after_turn};
 ghost use Rattle.pager_model.specs.Zero.{after_zero, zeroed_page};
 
 use crate::log_pager::LogPager;
-use log_tables::{ValidEntry, page_behind, put_first, remove};
+use log_tables::page_behind;
 use vm_types::{Addr, Config, FrameState, NoMemory, Page, Pfn, Proc, ProcStatus};
 
 /// One more.
@@ -45,12 +45,12 @@ impl LogPager {
         let v = a.0 / 512;
         let page = self.zeroed_page(config, p, v);
         self.faults[process] = more(self.faults[process])?;
-        put_first(&mut self.valid, ValidEntry::new(p, v, f))?;
-        put_first(&mut self.charged, page)?;
+        self.valid.put(p, v, f)?;
+        self.charged.put(page)?;
         self.states[frame] = FrameState::Active;
-        self.held[frame] = Some(page);
+        self.held.set(frame, Some(page))?;
         self.marks[frame] = true;
-        remove(&mut self.free, f.0);
+        self.free.remove(f.0);
         self.rings[process].place(self.limits[process], v);
         Ok(())
     }

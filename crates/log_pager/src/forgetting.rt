@@ -9,7 +9,7 @@ ghost use Rattle.pager_model.specs.Changes.{without_assigned};
 ghost use Rattle.pager_model.specs.Forget.{forget_all, forgotten, holder, holds_page, own_pages, range_of};
 
 use crate::log_pager::LogPager;
-use log_tables::{AssignedBlock, is_same, lay, put_first, remove, remove_page};
+use log_tables::{is_same, remove};
 use vm_types::{Addr, Config, FrameState, NoMemory, Page, Proc};
 
 /// Whether a frame that holds this, if anything, holds the page.
@@ -56,13 +56,6 @@ fn holder_in(held: &[Option<Page>], page: Page) -> Option<u32>
     below(place_of(held, page), held.len())
 }
 
-/// Takes the block that is assigned to a page away.
-fn unassign(assigned: &mut Vec<AssignedBlock>, page: Page)
-    ensures { assigned.new.items ≡ without_assigned assigned.old.items page }
-{
-    assigned.retain(|given| !given.is_of(page));
-}
-
 impl LogPager {
     ghost use Rattle.log_pager.specs.Shown.{shown, with_pager};
     ghost use Rattle.log_pager.specs.Forgetting.{emptied, erased, own_forgotten};
@@ -72,7 +65,7 @@ impl LogPager {
         ensures holds { (config : ConfigValue) → config.frames ≡ (shown self.now).frames → result ≡ holder config (shown self.now).pager.page page }
         ensures within { IfSome result (λ f. f < (shown self.now).frames) }
     {
-        holder_in(&self.held, page)
+        holder_in(self.held.items(), page)
     }
 
     /// A frame is emptied and heads the free list.
@@ -81,11 +74,11 @@ impl LogPager {
         ensures { OnOk result (shown self.new ≡ with_pager (shown self.old) (emptied (shown self.old).pager (Some f))) }
     {
         let frame = f as usize;
-        remove(&mut self.free, f);
-        put_first(&mut self.free, f)?;
+        self.free.remove(f);
+        self.free.put(f)?;
         remove(&mut self.modified, f);
         self.states[frame] = FrameState::Free;
-        self.held[frame] = None;
+        self.held.set(frame, None)?;
         self.marks[frame] = false;
         Ok(())
     }
@@ -105,10 +98,10 @@ impl LogPager {
     fn erase(&mut self, page: Page) -> Result<(), NoMemory>
         ensures { OnOk result (shown self.new ≡ with_pager (shown self.old) (erased (shown self.old).pager page)) }
     {
-        lay(&self.kinds, &mut self.lies, page, None)?;
-        remove_page(&mut self.charged, page);
-        remove_page(&mut self.touched, page);
-        unassign(&mut self.assigned, page);
+        self.lies.lay(page, None)?;
+        self.charged.remove(page)?;
+        self.touched.remove(page)?;
+        self.assigned.remove(page)?;
         Ok(())
     }
 

@@ -3,18 +3,28 @@
 
 ghost use Rattle.std.specs.Prelude.{◌≡◌, ◌<◌, OnOk};
 ghost use Rattle.pager_model.specs.Back.{after_any_back, after_back, after_back_coming};
-ghost use Rattle.pager_model.specs.Changes.{pushed_if, without_entry};
+ghost use Rattle.pager_model.specs.Changes.{pushed_if};
 ghost use Rattle.pager_model.specs.Evict.{after_evict};
 ghost use Rattle.pager_model.specs.Lookups.{is};
 
 use crate::changes::more;
 use crate::log_pager::LogPager;
-use log_tables::{ValidEntry, lay_nowhere, put_first, remove, slot_lying};
+use log_tables::{FrameList, lay_nowhere, remove, slot_lying};
 use vm_journal::EvictWhy;
 use vm_types::{Addr, FrameState, NoMemory, Pfn, Proc, ProcStatus};
 
-/// Adds a frame at the end of a list, where it is to be.
-pub(crate) fn push_if(there: bool, list: &mut Vec<u32>, f: Pfn) -> Result<(), NoMemory>
+/// Adds a frame at the end of the free list, where it is to be.
+pub(crate) fn push_if(there: bool, list: &mut FrameList, f: Pfn) -> Result<(), NoMemory>
+    ensures { OnOk result (list.new ≡ pushed_if there list.old f.0) }
+{
+    if there {
+        list.push(f.0)?;
+    }
+    Ok(())
+}
+
+/// Adds a frame at the end of the modified list, where it is to be.
+pub(crate) fn add_if(there: bool, list: &mut Vec<u32>, f: Pfn) -> Result<(), NoMemory>
     ensures { OnOk result (list.new.items ≡ pushed_if there list.old.items f.0) }
 {
     if there {
@@ -34,12 +44,12 @@ impl LogPager {
     {
         let (process, frame) = (q.0 as usize, f.0 as usize);
         let v = a.0 / 512;
-        let slot = slot_lying(&self.kinds, &self.lies, self.held[frame]);
-        put_first(&mut self.valid, ValidEntry::new(q, v, f))?;
-        lay_nowhere(&self.kinds, &mut self.lies, self.held[frame])?;
+        let slot = slot_lying(&self.lies, self.held.at(frame));
+        self.valid.put(q, v, f)?;
+        lay_nowhere(&mut self.lies, self.held.at(frame))?;
         self.states[frame] = FrameState::Active;
         self.marks[frame] = true;
-        remove(&mut self.free, f.0);
+        self.free.remove(f.0);
         self.rings[process].put(slot, v);
         Ok(())
     }
@@ -53,9 +63,9 @@ impl LogPager {
         let (process, frame) = (q.0 as usize, f.0 as usize);
         let v = a.0 / 512;
         self.faults[process] = more(self.faults[process])?;
-        put_first(&mut self.valid, ValidEntry::new(q, v, f))?;
+        self.valid.put(q, v, f)?;
         self.states[frame] = FrameState::Active;
-        remove(&mut self.free, f.0);
+        self.free.remove(f.0);
         remove(&mut self.modified, f.0);
         self.rings[process].place(self.limits[process], v);
         Ok(())
@@ -98,19 +108,12 @@ impl LogPager {
         let process = p.0 as usize;
         let v = a.0 / 512;
         push_if(is_free(to), &mut self.free, f)?;
-        push_if(is_modified(to), &mut self.modified, f)?;
+        add_if(is_modified(to), &mut self.modified, f)?;
         self.states[f.0 as usize] = to;
         self.rings[process].evict(why, self.limits[process], v);
-        remove_entry(&mut self.valid, p, v);
+        self.valid.remove(p, v)?;
         Ok(())
     }
-}
-
-/// Takes the entries of a process for a page away.
-fn remove_entry(valid: &mut Vec<ValidEntry>, p: Proc, v: u32)
-    ensures { valid.new.items ≡ without_entry valid.old.items p.0 v }
-{
-    valid.retain(|entry| !entry.is_of(p, v));
 }
 
 /// Whether the state is that of a free frame.

@@ -1,29 +1,34 @@
 //! The pager's state after a part of a log.
 
-ghost use Rattle.std.specs.Prelude.{◌≡◌, ◌*◌, ◌≤◌, All, IfOk, length, map, not, filter, vec_len};
+ghost use Rattle.std.specs.Prelude.{◌≡◌, ℕ, false, ◌*◌, ◌^◌, ◌<◌, ◌≤◌, [], None, All, IfOk, length, map, not, filter, replicate, vec_len};
 ghost use Rattle.std.specs.List.{range_with_len};
 ghost use Rattle.vm_types.specs.Configuration.{IsWellFormed};
 ghost use Rattle.vm_types.specs.declared.config.ProcSpec.{ProcSpec as Spec};
 ghost use Rattle.vm_types.specs.declared.config.Section.{Section as SectionOf};
-ghost use Rattle.pager_model.specs.Opening.{first_state, is_bad, opening};
+ghost use Rattle.vm_types.specs.declared.names.Page.{Page as AnyPage};
+ghost use Rattle.vm_types.specs.PagePlaces.{item_at};
+ghost use Rattle.pager_model.specs.Maps.{first_map};
+ghost use Rattle.pager_model.specs.Opening.{first_block, first_state, is_bad, opening};
 ghost use Rattle.pager_model.specs.Sets.{has};
+ghost use Rattle.log_tables.specs.Lying.{lies_by};
 ghost use Rattle.log_tables.specs.Rings.{empty_ring};
 
 use crate::frames::push_if;
-use log_tables::{AssignedBlock, Behind, Lying, Ring, ValidEntry, pages_of};
-use std::alloc::Global;
-use vm_types::{
-    Config, FrameState, NoMemory, Page, Pfn, ProcSpec, ProcStatus, Section, SectionKind,
+use log_tables::{
+    AssignedBlocks, Behind, FrameList, HeldPages, LyingPages, PageList, Ring, ValidEntries,
+    pages_of,
 };
+use std::alloc::Global;
+use vm_types::{Config, FrameState, NoMemory, Pfn, ProcSpec, ProcStatus};
 
 /// The pager's state after a part of a log: tables by the number of a frame, of a process, and of a
 /// page's place, and lists. A method that makes a change is given what the change's entry says.
 #[derive(Drop)]
 pub struct LogPager {
     pub(crate) states: Vec<FrameState>,
-    pub(crate) held: Vec<Option<Page>>,
+    pub(crate) held: HeldPages,
     pub(crate) marks: Vec<bool>,
-    pub(crate) free: Vec<u32>,
+    pub(crate) free: FrameList,
     pub(crate) modified: Vec<u32>,
     pub(crate) statuses: Vec<ProcStatus>,
     pub(crate) rings: Vec<Ring>,
@@ -32,16 +37,13 @@ pub struct LogPager {
     pub(crate) faults: Vec<u64>,
     pub(crate) collided: Vec<Option<u64>>,
     pub(crate) pages: Vec<Option<Behind>>,
-    pub(crate) valid: Vec<ValidEntry>,
-    pub(crate) charged: Vec<Page>,
-    pub(crate) touched: Vec<Page>,
-    /// Each page at most once, and no page that lies where it lies at first.
-    pub(crate) lies: Vec<Lying>,
-    pub(crate) assigned: Vec<AssignedBlock>,
-    /// The kinds of the sections, which say where a page lies at first.
-    pub(crate) kinds: Vec<SectionKind>,
+    pub(crate) valid: ValidEntries,
+    pub(crate) charged: PageList,
+    pub(crate) touched: PageList,
+    pub(crate) lies: LyingPages,
+    pub(crate) assigned: AssignedBlocks,
     ghost few: { vec_len states ≤ 16384 },
-    ghost each_held: { vec_len held ≡ vec_len states },
+    ghost each_held: { length held ≡ vec_len states },
     ghost each_mark: { vec_len marks ≡ vec_len states },
     ghost each_ring: { vec_len rings ≡ vec_len statuses },
     ghost each_limit: { vec_len limits ≡ vec_len statuses },
@@ -89,10 +91,10 @@ fn states_of(alloc: Global, config: &Config) -> Result<Vec<FrameState>, NoMemory
 }
 
 /// The frames that are free at first, in number order.
-fn free_of(alloc: Global, config: &Config) -> Result<Vec<u32>, NoMemory>
-    ensures { IfOk result (λ free. free.items ≡ filter (λ f. not (is_bad config.now f)) (range_with_len 0 config.now.frames)) }
+fn free_of(alloc: Global, config: &Config) -> Result<FrameList, NoMemory>
+    ensures { IfOk result (λ free. free ≡ filter (λ f. not (is_bad config.now f)) (range_with_len 0 config.now.frames)) }
 {
-    let mut free = Vec::new(alloc);
+    let mut free = FrameList::new(alloc, config.frames)?;
     for f in 0..config.frames {
         push_if(!is_bad(config, f), &mut free, Pfn(f))?;
     }
@@ -122,15 +124,115 @@ fn limits_of(alloc: Global, procs: &[ProcSpec]) -> Result<Vec<u32>, NoMemory>
     Ok(limits)
 }
 
-/// The kind of each section.
-fn kinds_of(alloc: Global, sections: &[Section]) -> Result<Vec<SectionKind>, NoMemory>
-    ensures { IfOk result (λ kinds. kinds.items ≡ map (λ (section : SectionOf). section.kind) sections.now) }
+/// How many processes there are.
+fn processes_of(config: &Config) -> usize
+    requires { IsWellFormed config.now }
+    ensures count { result ≡ length config.now.procs }
+    ensures few { result < 2 ^ 32 }
 {
-    let mut kinds = Vec::new(alloc);
-    for section in sections {
-        kinds.push(section.kind)?;
-    }
-    Ok(kinds)
+    config.procs.items().len()
+}
+
+/// The tables by the number of a frame, before a log's first entry.
+#[derive(Drop)]
+struct FrameTables {
+    states: Vec<FrameState>,
+    held: HeldPages,
+    marks: Vec<bool>,
+    free: FrameList,
+    ghost each_held: { length held ≡ vec_len states },
+    ghost each_mark: { vec_len marks ≡ vec_len states },
+}
+
+/// Makes the tables by the number of a frame.
+fn frame_tables(alloc: Global, config: &Config) -> Result<FrameTables, NoMemory>
+    requires { IsWellFormed config.now }
+    ensures count { IfOk result (λ t. vec_len t.states ≡ config.now.frames) }
+    ensures states { IfOk result (λ t. t.states.items ≡ map (λ f. first_state (is_bad config.now f)) (range_with_len 0 config.now.frames)) }
+    ensures held { IfOk result (λ t. t.held ≡ replicate config.now.frames None) }
+    ensures marks { IfOk result (λ t. t.marks.items ≡ replicate config.now.frames false) }
+    ensures free { IfOk result (λ t. t.free ≡ filter (λ f. not (is_bad config.now f)) (range_with_len 0 config.now.frames)) }
+{
+    let frames = config.frames as usize;
+    let count = processes_of(config);
+    Ok(FrameTables {
+        states: states_of(alloc, config)?,
+        held: HeldPages::new(alloc, frames, count, config.sections.items())?,
+        marks: vec![in alloc; false; frames]?,
+        free: free_of(alloc, config)?,
+    })
+}
+
+/// The tables by the number of a process, before a log's first entry.
+#[derive(Drop)]
+struct ProcessTables {
+    statuses: Vec<ProcStatus>,
+    rings: Vec<Ring>,
+    limits: Vec<u32>,
+    references: Vec<u64>,
+    faults: Vec<u64>,
+    collided: Vec<Option<u64>>,
+    ghost each_ring: { vec_len rings ≡ vec_len statuses },
+    ghost each_limit: { vec_len limits ≡ vec_len statuses },
+    ghost each_references: { vec_len references ≡ vec_len statuses },
+    ghost each_faults: { vec_len faults ≡ vec_len statuses },
+    ghost each_collided: { vec_len collided ≡ vec_len statuses },
+}
+
+/// Makes the tables by the number of a process.
+fn process_tables(alloc: Global, procs: &[ProcSpec]) -> Result<ProcessTables, NoMemory>
+    requires { All (λ (spec : Spec). spec.extent ≤ 1024) procs.now }
+    ensures count { IfOk result (λ t. vec_len t.statuses ≡ length procs.now) }
+    ensures statuses { IfOk result (λ t. t.statuses.items ≡ replicate (length procs.now) ProcStatus.Resident) }
+    ensures rings { IfOk result (λ t. t.rings.items ≡ map empty_ring procs.now) }
+    ensures limits { IfOk result (λ t. t.limits.items ≡ map (λ (spec : Spec). spec.limit) procs.now) }
+    ensures references { IfOk result (λ t. t.references.items ≡ replicate (length procs.now) 0) }
+    ensures faults { IfOk result (λ t. t.faults.items ≡ replicate (length procs.now) 0) }
+    ensures collided { IfOk result (λ t. t.collided.items ≡ replicate (length procs.now) None) }
+{
+    let count = procs.len();
+    Ok(ProcessTables {
+        statuses: vec![in alloc; ProcStatus::Resident; count]?,
+        rings: rings_of(alloc, procs)?,
+        limits: limits_of(alloc, procs)?,
+        references: vec![in alloc; 0; count]?,
+        faults: vec![in alloc; 0; count]?,
+        collided: vec![in alloc; None; count]?,
+    })
+}
+
+/// The tables and lists of pages, before a log's first entry.
+#[derive(Drop)]
+struct PageTables {
+    pages: Vec<Option<Behind>>,
+    valid: ValidEntries,
+    charged: PageList,
+    touched: PageList,
+    lies: LyingPages,
+    assigned: AssignedBlocks,
+}
+
+/// Makes the tables and lists of pages.
+fn page_tables(alloc: Global, config: &Config) -> Result<PageTables, NoMemory>
+    requires { IsWellFormed config.now }
+    ensures count { IfOk result (λ t. vec_len t.pages ≡ length config.now.procs * 5120) }
+    ensures pages { IfOk result (λ t. (p v : ℕ) → item_at t.pages.items p v ≡ first_map config.now p v) }
+    ensures valid { IfOk result (λ t. t.valid ≡ []) }
+    ensures charged { IfOk result (λ t. t.charged ≡ []) }
+    ensures touched { IfOk result (λ t. t.touched ≡ []) }
+    ensures lies { IfOk result (λ t. (g : AnyPage) → lies_by t.lies g ≡ first_block config.now g) }
+    ensures assigned { IfOk result (λ t. t.assigned ≡ []) }
+{
+    let count = processes_of(config);
+    let sections = config.sections.items();
+    Ok(PageTables {
+        pages: pages_of(alloc, config)?,
+        valid: ValidEntries::new(alloc, count, config.frames as usize)?,
+        charged: PageList::new(alloc, count, sections)?,
+        touched: PageList::new(alloc, count, sections)?,
+        lies: LyingPages::new(alloc, count, sections)?,
+        assigned: AssignedBlocks::new(alloc, count, sections, config.pagefile)?,
+    })
 }
 
 impl LogPager {
@@ -148,29 +250,49 @@ impl LogPager {
           pager = opening config.now;
         }) }
     {
-        let frames = config.frames as usize;
-        let procs = config.procs.items();
-        let count = procs.len();
-        let sections = config.sections.items();
+        let by_frame = frame_tables(alloc, config)?;
+        let by_process = process_tables(alloc, config.procs.items())?;
+        let by_page = page_tables(alloc, config)?;
+        let FrameTables {
+            states,
+            held,
+            marks,
+            free,
+        } = by_frame;
+        let ProcessTables {
+            statuses,
+            rings,
+            limits,
+            references,
+            faults,
+            collided,
+        } = by_process;
+        let PageTables {
+            pages,
+            valid,
+            charged,
+            touched,
+            lies,
+            assigned,
+        } = by_page;
         Ok(LogPager {
-            states: states_of(alloc, config)?,
-            held: vec![in alloc; None; frames]?,
-            marks: vec![in alloc; false; frames]?,
-            free: free_of(alloc, config)?,
+            states,
+            held,
+            marks,
+            free,
             modified: Vec::new(alloc),
-            statuses: vec![in alloc; ProcStatus::Resident; count]?,
-            rings: rings_of(alloc, procs)?,
-            limits: limits_of(alloc, procs)?,
-            references: vec![in alloc; 0; count]?,
-            faults: vec![in alloc; 0; count]?,
-            collided: vec![in alloc; None; count]?,
-            pages: pages_of(alloc, config)?,
-            valid: Vec::new(alloc),
-            charged: Vec::new(alloc),
-            touched: Vec::new(alloc),
-            lies: Vec::new(alloc),
-            assigned: Vec::new(alloc),
-            kinds: kinds_of(alloc, sections)?,
+            statuses,
+            rings,
+            limits,
+            references,
+            faults,
+            collided,
+            pages,
+            valid,
+            charged,
+            touched,
+            lies,
+            assigned,
         })
     }
 }

@@ -7,20 +7,7 @@ ghost use Rattle.vm_types.specs.declared.names.BlockId.{BlockId as Block};
 ghost use Rattle.pager_model.specs.Maps.{proc};
 
 use crate::log_pager::LogPager;
-use log_tables::Lying;
-use vm_types::{BlockId, Page, Proc, ProcStatus};
-
-/// Whether no frame holds the page.
-fn is_out_of(held: &[Option<Page>], page: Page) -> bool
-    ensures { IsTrue result ↔ ((f : ℕ) → slice_get held.now f ≡ Some (Some page) → ⊥) }
-{
-    for other in held {
-        if *other == Some(page) {
-            return false;
-        }
-    }
-    true
-}
+use vm_types::{Page, Proc, ProcStatus};
 
 /// Whether no process is coming.
 fn none_comes(statuses: &[ProcStatus]) -> bool
@@ -32,16 +19,6 @@ fn none_comes(statuses: &[ProcStatus]) -> bool
         }
     }
     true
-}
-
-/// Whether the block is a swap block of the process.
-fn is_swap_of(block: Option<BlockId>, p: Proc) -> bool
-    ensures { IsTrue result ↔ ((n : ℕ) × (block ≡ Some (Block.Swap (proc p.0) n))) }
-{
-    match block {
-        Some(BlockId::Swap(q, _)) => q.0 == p.0,
-        Some(BlockId::Section(_, _) | BlockId::PageFile(_)) | None => false,
-    }
 }
 
 impl LogPager {
@@ -66,7 +43,7 @@ impl LogPager {
     pub fn is_out(&self, page: Page) -> bool
         ensures { IsTrue result ↔ ((f : ℕ) → (shown self.now).pager.page f ≡ Some page → ⊥) }
     {
-        is_out_of(&self.held, page)
+        self.held.is_out(page)
     }
 
     /// Whether no process is coming.
@@ -80,11 +57,6 @@ impl LogPager {
     pub fn none_is_swapped(&self, p: Proc) -> bool
         ensures { IsTrue result ↔ ((g : Held) (n : ℕ) → (shown self.now).pager.lies g ≡ Some (Block.Swap (proc p.0) n) → ⊥) }
     {
-        for lying in &self.lies {
-            if is_swap_of(self.lies(lying.page), p) {
-                return false;
-            }
-        }
-        true
+        self.lies.none_is_swapped(p)
     }
 }

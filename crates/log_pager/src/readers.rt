@@ -1,14 +1,14 @@
 //! What is read off the tables.
 #![tactic(auto, unfolding(crate::specs::Shown::shown))]
 
-ghost use Rattle.std.specs.Prelude.{◌≡◌, ◌<◌, ◌↔◌, IsTrue, count_by, find, length, slice_get};
+ghost use Rattle.std.specs.Prelude.{◌≡◌, ◌<◌, ◌↔◌, IsTrue, count_by, length, slice_get};
 ghost use Rattle.vm_types.specs.Ring.{is_pinned_slot};
-ghost use Rattle.pager_model.specs.Lookups.{IsHead, block_of, count_page, entries_at, entry_of, is_assigned_to, is_owner, page_by, shares, slot_of, slot_with};
-ghost use Rattle.pager_model.specs.Report.{is_pin_on, pins_on};
+ghost use Rattle.pager_model.specs.Lookups.{IsHead, block_of, count_page, entries_at, entry_of, is_owner, page_by, shares, slot_of, slot_with};
+ghost use Rattle.pager_model.specs.Report.{pins_on};
 ghost use Rattle.pager_model.specs.Sets.{has_page};
 
 use crate::log_pager::LogPager;
-use log_tables::{AssignedBlock, Behind, Ring, ValidEntry, is_same, lies_in, page_behind};
+use log_tables::{Behind, Ring, ValidEntry, page_behind};
 use vm_types::{BlockId, Config, FrameState, Page, Pfn, Proc, ProcStatus, page_place};
 
 impl LogPager {
@@ -42,7 +42,7 @@ impl LogPager {
     pub fn page(&self, f: Pfn) -> Option<Page>
         ensures { result ≡ (shown self.now).pager.page f.0 }
     {
-        self.held.get(f.0 as usize).copied().unwrap_or(None)
+        self.held.at(f.0 as usize)
     }
 
     /// Whether a frame's modify mark is set.
@@ -56,14 +56,14 @@ impl LogPager {
     pub fn heads_free(&self, f: Pfn) -> bool
         ensures { IsTrue result ↔ IsHead (shown self.now).pager.free f.0 }
     {
-        heads(&self.free, f)
+        heads(self.free_head(), f)
     }
 
     /// The frame that heads the free list, if one is on it.
     pub fn free_head(&self) -> Option<u32>
         ensures { result ≡ slice_get (shown self.now).pager.free 0 }
     {
-        self.free.first().copied()
+        self.free.head()
     }
 
     /// The frame that heads the modified list, if one is on it.
@@ -77,7 +77,7 @@ impl LogPager {
     pub fn heads_modified(&self, f: Pfn) -> bool
         ensures { IsTrue result ↔ IsHead (shown self.now).pager.modified f.0 }
     {
-        heads(&self.modified, f)
+        heads(self.modified_head(), f)
     }
 
     /// How many frames are free.
@@ -158,24 +158,21 @@ impl LogPager {
     pub fn entry(&self, p: Proc, v: u32) -> Option<ValidEntry>
         ensures { result ≡ entry_of (shown self.now).pager.valid p.0 v }
     {
-        self.valid.iter().copied().find(|entry| entry.is_of(p, v))
+        self.valid.at(p, v)
     }
 
     /// How many valid entries a process has for a page.
     pub fn entries(&self, p: Proc, v: u32) -> usize
         ensures { result ≡ entries_at (shown self.now).pager.valid p.0 v }
     {
-        self.valid.iter().filter(|entry| entry.is_of(p, v)).count()
+        self.valid.count(p, v)
     }
 
     /// How many valid entries there are for a frame.
     pub fn shares(&self, f: Pfn) -> usize
         ensures { result ≡ shares (shown self.now).pager.valid f.0 }
     {
-        self.valid
-            .iter()
-            .filter(|entry| entry.frame().0 == f.0)
-            .count()
+        self.valid.of_frame(f).len()
     }
 
     /// Whether the slot of a process's page is pinned.
@@ -188,21 +185,21 @@ impl LogPager {
         }
     }
 
-    /// Whether a valid entry is for a frame and its slot is pinned.
-    fn is_pin_on(&self, f: Pfn, entry: ValidEntry) -> bool
-        ensures { result ≡ is_pin_on (shown self.now).pager f.0 entry }
+    /// How many of these entries have a pinned slot.
+    fn pinned(&self, entries: &[ValidEntry]) -> usize
+        ensures { result ≡ count_by (λ e. is_pinned_slot (slot_of (slice_get ((shown self.now).pager.ring e.proc).slots (slot_with ((shown self.now).pager.ring e.proc) e.vpn)))) entries.now }
     {
-        entry.frame().0 == f.0 && self.is_pinned(entry.proc(), entry.vpn())
+        entries
+            .iter()
+            .filter(|entry| self.is_pinned(entry.proc(), entry.vpn()))
+            .count()
     }
 
     /// How many pinned slots have a valid entry for a frame.
     pub fn pins(&self, f: Pfn) -> usize
         ensures { result ≡ pins_on (shown self.now).pager f.0 }
     {
-        self.valid
-            .iter()
-            .filter(|entry| self.is_pin_on(f, **entry))
-            .count()
+        self.pinned(self.valid.of_frame(f))
     }
 
     /// How many pages are charged.
@@ -216,31 +213,28 @@ impl LogPager {
     pub fn charges(&self, page: Page) -> usize
         ensures { result ≡ count_page (shown self.now).pager.charged page }
     {
-        self.charged
-            .iter()
-            .filter(|other| is_same(page, **other))
-            .count()
+        self.charged.count(page) as usize
     }
 
     /// Whether a page is touched.
     pub fn is_touched(&self, page: Page) -> bool
         ensures { result ≡ has_page (shown self.now).pager.touched page }
     {
-        self.touched.iter().any(|other| is_same(page, *other))
+        self.touched.has(page)
     }
 
     /// The block in which a page lies.
     pub fn lies(&self, page: Page) -> Option<BlockId>
         ensures { result ≡ (shown self.now).pager.lies page }
     {
-        lies_in(&self.kinds, &self.lies, page)
+        self.lies.at(page)
     }
 
     /// The page file block that is assigned to a page.
     pub fn block_of(&self, page: Page) -> Option<u32>
         ensures { result ≡ block_of (shown self.now).pager.assigned page }
     {
-        Some(assigned_to(&self.assigned, page)?.block())
+        self.assigned.of(page)
     }
 
     /// How many page file blocks are assigned.
@@ -254,26 +248,13 @@ impl LogPager {
     pub fn owners(&self, block: BlockId) -> usize
         ensures { result ≡ count_by (is_owner block) (shown self.now).pager.assigned }
     {
-        self.assigned
-            .iter()
-            .filter(|given| given.is_at(block))
-            .count()
+        self.assigned.owners(block)
     }
 }
 
-/// Whether a frame heads a list.
-fn heads(list: &[u32], f: Pfn) -> bool
-    ensures { IsTrue result ↔ IsHead list.now f.0 }
+/// Whether the head of a list is this frame.
+fn heads(head: Option<u32>, f: Pfn) -> bool
+    ensures { IsTrue result ↔ (head ≡ Some f.0) }
 {
-    match list.first() {
-        Some(first) => *first == f.0,
-        None => false,
-    }
-}
-
-/// The first assignment to a page.
-fn assigned_to(assigned: &[AssignedBlock], page: Page) -> Option<AssignedBlock>
-    ensures { result ≡ find (is_assigned_to page) assigned.now }
-{
-    assigned.iter().copied().find(|given| given.is_of(page))
+    head == Some(f.0)
 }

@@ -1,22 +1,20 @@
 //! Reads and writes begin and land.
 #![tactic(auto, unfolding(crate::specs::Shown::shown))]
 
-ghost use Rattle.std.specs.Prelude.{◌≡◌, ◌<◌, ◌&&◌, Some, OnOk, count_by, if◌then◌else◌};
+ghost use Rattle.std.specs.Prelude.{◌≡◌, ◌<◌, ◌&&◌, Some, OnOk, if◌then◌else◌};
 ghost use Rattle.pager_model.specs.Flights.{Flight, reading};
 ghost use Rattle.pager_model.specs.In.{after_in, after_in_fault, after_in_lying, charged_with};
 ghost use Rattle.pager_model.specs.InFail.{after_in_fail};
 ghost use Rattle.pager_model.specs.InOk.{after_read, is_first_read};
 ghost use Rattle.pager_model.specs.Changes.{settled_to};
-ghost use Rattle.pager_model.specs.Lookups.{count_page, is_assigned_to};
 ghost use Rattle.pager_model.specs.Out.{after_any_out, after_out, assigned_with};
 ghost use Rattle.pager_model.specs.OutLanding.{after_out_fail, after_out_ok, marked};
 
 use crate::changes::more;
-use crate::frames::push_if;
+use crate::frames::{add_if, push_if};
 use crate::log_pager::LogPager;
 use log_tables::{
-    AssignedBlock, ValidEntry, is_of_section, is_own, is_same, lay_at, lay_nowhere, put_first,
-    remove, slot_of,
+    AssignedBlocks, PageList, is_of_section, is_own, lay_at, lay_nowhere, remove, slot_of,
 };
 use vm_journal::Role;
 use vm_types::{Addr, BlockId, Config, FrameState, NoMemory, Page, Pfn, Proc};
@@ -32,47 +30,26 @@ fn is_first(page: Option<Page>, block: BlockId) -> bool
 }
 
 /// Charges a private page that isn't charged.
-fn charge(charged: &mut Vec<Page>, page: Option<Page>) -> Result<(), NoMemory>
-    ensures { OnOk result (charged.new.items ≡ charged_with charged.old.items page) }
+fn charge(charged: &mut PageList, page: Option<Page>) -> Result<(), NoMemory>
+    ensures { OnOk result (charged.new ≡ charged_with charged.old page) }
 {
     let Some(page) = page else {
         return Ok(());
     };
-    if is_own(page) && count(charged, page) == 0 {
-        put_first(charged, page)?;
+    if is_own(page) && charged.count(page) == 0 {
+        charged.put(page)?;
     }
     Ok(())
 }
 
-/// How often a page is in a list.
-fn count(pages: &[Page], page: Page) -> usize
-    ensures { result ≡ count_page pages.now page }
-{
-    pages.iter().filter(|other| is_same(page, **other)).count()
-}
-
 /// Assigns a page file block to a private page that has none.
-fn assign(
-    assigned: &mut Vec<AssignedBlock>,
-    page: Option<Page>,
-    block: BlockId,
-) -> Result<(), NoMemory>
-    ensures { OnOk result (assigned.new.items ≡ assigned_with assigned.old.items page block) }
+fn assign(assigned: &mut AssignedBlocks, page: Option<Page>, block: BlockId) -> Result<(), NoMemory>
+    ensures { OnOk result (assigned.new ≡ assigned_with assigned.old page block) }
 {
     let (Some(page), BlockId::PageFile(n)) = (page, block) else {
         return Ok(());
     };
-    if given(assigned, page) == 0 {
-        put_first(assigned, AssignedBlock::new(page, n))?;
-    }
-    Ok(())
-}
-
-/// How many blocks a page has.
-fn given(assigned: &[AssignedBlock], page: Page) -> usize
-    ensures { result ≡ count_by (is_assigned_to page) assigned.now }
-{
-    assigned.iter().filter(|given| given.is_of(page)).count()
+    assigned.assign(page, n)
 }
 
 impl LogPager {
@@ -90,20 +67,21 @@ impl LogPager {
         self.faults[process] = more(self.faults[process])?;
         charge(&mut self.charged, page)?;
         self.states[frame] = FrameState::Reading;
-        self.held[frame] = page;
-        remove(&mut self.free, f.0);
+        self.held.set(frame, page)?;
+        self.free.remove(f.0);
         Ok(())
     }
 
     /// A read of a page begins that lies in its block.
-    fn read_lying(&mut self, f: Pfn, page: Option<Page>)
+    fn read_lying(&mut self, f: Pfn, page: Option<Page>) -> Result<(), NoMemory>
         requires { f.0 < (shown self.old).frames }
-        ensures { shown self.new ≡ with_pager (shown self.old) (after_in_lying (shown self.old).pager f.0 page) }
+        ensures { OnOk result (shown self.new ≡ with_pager (shown self.old) (after_in_lying (shown self.old).pager f.0 page)) }
     {
         let frame = f.0 as usize;
         self.states[frame] = FrameState::Reading;
-        self.held[frame] = page;
-        remove(&mut self.free, f.0);
+        self.held.set(frame, page)?;
+        self.free.remove(f.0);
+        Ok(())
     }
 
     /// A read begins, into a frame.
@@ -117,14 +95,10 @@ impl LogPager {
     {
         match role {
             Role::Fault(q, a) => self.read_faulted(config, q, a, f),
-            Role::Near(page) => {
-                self.read_lying(f, Some(page));
-                Ok(())
-            }
+            Role::Near(page) => self.read_lying(f, Some(page)),
             Role::Come(q, a) => {
                 let page = self.page_of(config, q, a.0 / 512);
-                self.read_lying(f, page);
-                Ok(())
+                self.read_lying(f, page)
             }
         }
     }
@@ -137,9 +111,9 @@ impl LogPager {
     {
         let (process, frame) = (q.0 as usize, f.0 as usize);
         let v = a.0 / 512;
-        put_first(&mut self.valid, ValidEntry::new(q, v, f))?;
+        self.valid.put(q, v, f)?;
         self.states[frame] = FrameState::Active;
-        self.marks[frame] = is_first(self.held[frame], block);
+        self.marks[frame] = is_first(self.held.at(frame), block);
         self.rings[process].place(self.limits[process], v);
         Ok(())
     }
@@ -152,8 +126,8 @@ impl LogPager {
     {
         let (process, frame) = (q.0 as usize, f.0 as usize);
         let v = a.0 / 512;
-        put_first(&mut self.valid, ValidEntry::new(q, v, f))?;
-        lay_nowhere(&self.kinds, &mut self.lies, self.held[frame])?;
+        self.valid.put(q, v, f)?;
+        lay_nowhere(&mut self.lies, self.held.at(frame))?;
         self.states[frame] = FrameState::Active;
         self.marks[frame] = true;
         self.rings[process].put(slot_of(Some(block)), v);
@@ -200,7 +174,7 @@ impl LogPager {
         ensures { OnOk result (shown self.new ≡ with_pager (shown self.old) (after_out (shown self.old).pager f.0 block)) }
     {
         let frame = f.0 as usize;
-        assign(&mut self.assigned, self.held[frame], block)?;
+        assign(&mut self.assigned, self.held.at(frame), block)?;
         self.states[frame] = FrameState::Writing;
         self.marks[frame] = false;
         remove(&mut self.modified, f.0);
@@ -237,14 +211,8 @@ impl LogPager {
         let unshared = self.shares(f) == 0;
         let modified = self.marks[frame];
         push_if(both(unshared, !modified), &mut self.free, f)?;
-        push_if(both(unshared, modified), &mut self.modified, f)?;
-        lay_at(
-            &self.kinds,
-            &mut self.lies,
-            modified,
-            self.held[frame],
-            block,
-        )?;
+        add_if(both(unshared, modified), &mut self.modified, f)?;
+        lay_at(&mut self.lies, modified, self.held.at(frame), block)?;
         self.states[frame] = landed(unshared, modified, self.states[frame]);
         Ok(())
     }

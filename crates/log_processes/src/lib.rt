@@ -9,4 +9,5 @@ mod turns;
 
 pub use processes::{limit_fails, turn_fails};
 pub use references::{denied_fails, done_fails};
+pub use refusals::refusal;
 pub use turns::in_turn_fails;

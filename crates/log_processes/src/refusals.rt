@@ -76,8 +76,8 @@ fn refusal_at(config: &Config, pager: &LogPager, p: Proc, r: Ref, behind: Behind
     )
 }
 
-/// Why a reference is refused, if it is.
-pub(crate) fn refusal(config: &Config, pager: &LogPager, p: Proc, r: Ref) -> Option<Why>
+/// Why a reference of a process (any number) is refused, if it is.
+pub fn refusal(config: &Config, pager: &LogPager, p: Proc, r: Ref) -> Option<Why>
     requires { MapsRight config.now (shown pager.now).pager.map }
     ensures { (stored : AnyPage → List ℕ) → result ≡ flat_refusal config.now (record { map = (shown pager.now).pager.map; touched = (shown pager.now).pager.touched; stored = stored }) p.0 r }
 {

@@ -5,4 +5,4 @@
 mod line;
 mod step;
 
-pub use step::fails;
+pub use step::{fails, flat_is_followed};

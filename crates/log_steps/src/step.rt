@@ -63,6 +63,15 @@ fn has_line_after(past: &LogHistory<'_>, e: Entry) -> bool
     has_line(past.config(), e)
 }
 
+/// The pager's state has the flat machine's maps and touched pages.
+pub fn flat_is_followed(past: &LogHistory<'_>, pager: &LogPager)
+    requires { Follows past.now.config past.now.past (shown pager.now) }
+    ensures { FollowsFlat past.now.config past.now.past (shown pager.now).pager }
+{
+    flat_machine_follows();
+    runs_are_of_configuration();
+}
+
 /// Why an entry isn't a legal next one after those so far, which led to this state of the pager: one of
 /// the conditions of its kind that doesn't hold, if there is one. Doesn't allocate.
 pub fn fails(past: &LogHistory<'_>, pager: &LogPager, e: Entry) -> Option<Reason>

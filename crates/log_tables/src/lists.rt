@@ -1,16 +1,15 @@
 //! Lists of pages and frames.
 
-ghost use Rattle.std.specs.Prelude.{◌≡◌, ◌∷◌, OnOk, find, slice_get};
+ghost use Rattle.std.specs.Prelude.{◌≡◌, OnOk, slice_get};
 ghost use Rattle.vm_types.specs.Same.{same_page};
 ghost use Rattle.page_lists.specs.Lists.{without};
 ghost use Rattle.pager_model.specs.Back.{block_slot, lies_of};
-ghost use Rattle.pager_model.specs.Changes.{is_section_block, lies_nowhere, without_page};
+ghost use Rattle.pager_model.specs.Changes.{is_section_block, lies_nowhere};
 ghost use Rattle.pager_model.specs.Maps.{is_paged, is_private, page_behind, paged_of, shared_of};
 ghost use Rattle.pager_model.specs.OutLanding.{lies_at};
-ghost use Rattle.pager_model.specs.Sets.{at_page};
-ghost use Rattle.log_tables.specs.Lying.{first_by, is_lying, lies_in};
+ghost use Rattle.log_tables.specs.Lying.{first_by, lies_by};
 
-use crate::lying::Lying;
+use crate::lying_pages::LyingPages;
 use vm_types::{BlockId, Config, NoMemory, Origin, Page, Proc, SecId, SectionKind};
 
 /// Whether both are the same page.
@@ -47,7 +46,7 @@ pub fn is_of_section(block: BlockId) -> bool
 
 /// Where a page lies at first, by the kinds of the sections: a page of a section with a file in its
 /// block, another one nowhere.
-fn first_block(kinds: &[SectionKind], page: Page) -> Option<BlockId>
+pub(crate) fn first_block(kinds: &[SectionKind], page: Page) -> Option<BlockId>
     ensures { result ≡ first_by kinds.now page }
 {
     match page {
@@ -111,17 +110,6 @@ pub fn page_behind(config: &Config, p: Proc, v: u32, origin: Origin) -> Page
     }
 }
 
-/// Puts an item in front.
-///
-/// # Errors
-/// `NoMemory` if out of memory.
-pub fn put_first<X: Drop>(list: &mut Vec<X>, x: X) -> Result<(), NoMemory>
-    ensures { OnOk result (list.new.items ≡ x ∷ list.old.items) }
-{
-    list.insert(0, x)?;
-    Ok(())
-}
-
 /// Takes a frame away.
 pub fn remove(list: &mut Vec<u32>, frame: u32)
     ensures { list.new.items ≡ without list.old.items frame }
@@ -129,75 +117,30 @@ pub fn remove(list: &mut Vec<u32>, frame: u32)
     list.retain(|other| *other != frame);
 }
 
-/// Takes a page away.
-pub fn remove_page(list: &mut Vec<Page>, page: Page)
-    ensures { list.new.items ≡ without_page list.old.items page }
-{
-    list.retain(|other| !is_same(page, *other));
-}
-
-/// What is said of a page that lies elsewhere than at first.
-fn lying_of(lies: &[Lying], page: Page) -> Option<Lying>
-    ensures { result ≡ find (is_lying page) lies.now }
-{
-    lies.iter().copied().find(|lying| is_same(lying.page, page))
-}
-
-/// The block in which a page lies.
-pub fn lies_in(kinds: &[SectionKind], lies: &[Lying], page: Page) -> Option<BlockId>
-    ensures { result ≡ lies_in kinds.now lies.now page }
-{
-    match lying_of(lies, page) {
-        Some(lying) => lying.block,
-        None => first_block(kinds, page),
-    }
-}
-
-/// Says where a page lies.
-///
-/// # Errors
-/// `NoMemory` if out of memory; the list is then not to be used again.
-pub fn lay(
-    kinds: &[SectionKind],
-    lies: &mut Vec<Lying>,
-    page: Page,
-    block: Option<BlockId>,
-) -> Result<(), NoMemory>
-    ensures { OnOk result (lies_in kinds.now lies.new.items ≡ at_page (lies_in kinds.now lies.old.items) page block) }
-{
-    lies.retain(|lying| !is_same(lying.page, page));
-    put_first(lies, Lying { page, block })
-}
-
 /// Says that the page, if there is one, lies nowhere.
 ///
 /// # Errors
-/// `NoMemory` if out of memory; the list is then not to be used again.
-pub fn lay_nowhere(
-    kinds: &[SectionKind],
-    lies: &mut Vec<Lying>,
-    page: Option<Page>,
-) -> Result<(), NoMemory>
-    ensures { OnOk result (lies_in kinds.now lies.new.items ≡ lies_nowhere (lies_in kinds.now lies.old.items) page) }
+/// `NoMemory` if out of memory, or if the page has no place; nothing is changed then.
+pub fn lay_nowhere(lies: &mut LyingPages, page: Option<Page>) -> Result<(), NoMemory>
+    ensures { OnOk result (lies_by lies.new ≡ lies_nowhere (lies_by lies.old) page) }
 {
     match page {
         None => Ok(()),
-        Some(page) => lay(kinds, lies, page, None),
+        Some(page) => lies.lay(page, None),
     }
 }
 
 /// Says that the page, if there is one, lies in the block, unless it was modified.
 ///
 /// # Errors
-/// `NoMemory` if out of memory; the list is then not to be used again.
+/// `NoMemory` if out of memory, or if the page has no place; nothing is changed then.
 pub fn lay_at(
-    kinds: &[SectionKind],
-    lies: &mut Vec<Lying>,
+    lies: &mut LyingPages,
     modified: bool,
     page: Option<Page>,
     block: BlockId,
 ) -> Result<(), NoMemory>
-    ensures { OnOk result (lies_in kinds.now lies.new.items ≡ lies_at (lies_in kinds.now lies.old.items) modified page block) }
+    ensures { OnOk result (lies_by lies.new ≡ lies_at (lies_by lies.old) modified page block) }
 {
     match page {
         None => Ok(()),
@@ -205,19 +148,19 @@ pub fn lay_at(
             if modified {
                 Ok(())
             } else {
-                lay(kinds, lies, page, Some(block))
+                lies.lay(page, Some(block))
             }
         }
     }
 }
 
 /// The slot in whose swap block the page, if there is one, lies.
-pub fn slot_lying(kinds: &[SectionKind], lies: &[Lying], page: Option<Page>) -> u32
-    ensures { result ≡ block_slot (lies_of (lies_in kinds.now lies.now) page) }
+pub fn slot_lying(lies: &LyingPages, page: Option<Page>) -> u32
+    ensures { result ≡ block_slot (lies_of (lies_by lies.now) page) }
 {
     match page {
         None => 0,
-        Some(page) => slot_of(lies_in(kinds, lies, page)),
+        Some(page) => slot_of(lies.at(page)),
     }
 }
 

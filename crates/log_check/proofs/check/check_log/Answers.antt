@@ -1,9 +1,29 @@
-use Rattle.std.proofs.Common.{◌∙◌, List, ℕ, ap, take, arith}
+use Rattle.std.proofs.Common.{◌∙◌, List, ℕ, ap, refl, take, arith, lit≤}
 use Rattle.std.proofs.lemmas.Result.{err_from_is_err_and}
 use Rattle.outside_io.specs.BytesLeft.{bytes_left}
+use Rattle.log_history.specs.Standing.{Passed}
 use Rattle.log_check.proofs.Fronts.{last_kept, next_kept}
-use Rattle.log_check.proofs.Logs.{log_ended, log_judged, log_unbegun}
+use Rattle.log_check.proofs.Logs.{begun_behind, begun_few, begun_read, log_ended, log_failed, log_judged, log_unbegun}
 use Rattle.log_check.proofs.check.check_log.Goals as goal
+
+pub lines-init : goal.lines-init
+lines-init g c = record {
+  same_reference = refl;
+  followed = c.in_ok-followed.ensures.followed;
+  config = ap (λ (s : Passed). s.config) c.in_ok-followed.ensures.past;
+  fewer = begun_few c.args.config.now c.in_ok-followed.followed.past c.in_ok-followed.ensures.past;
+  most = lit≤ tt;
+  read = begun_read c.args.config.now (bytes_left g.S.Source.seen c.args.lines.now) c.in_ok-followed.followed.past c.in_ok-followed.ensures.past;
+  behind = begun_behind (bytes_left g.S.Source.seen c.args.lines.now);
+  still_told = λ told. told;
+  faults = refl;
+}
+
+pub returns-in-Err-clause-text : goal.returns-in-Err-clause-text
+returns-in-Err-clause-text g c =
+    log_failed c.args.config.now (bytes_left g.S.Source.seen c.args.lines.now) (bytes_left g.S.Source.seen c.lines.lines) (bytes_left g.S.Source.seen c.take_next.new.lines)
+    c.lines.followed c.take_next.new.followed c.lines.place c.lines.count c.in-Err.fault
+    c.lines.invariant.read c.in-Err.ensures.text c.lines.invariant.config
 
 pub returns-in_err-followed-clause-text : goal.returns-in_err-followed-clause-text
 returns-in_err-followed-clause-text g c =

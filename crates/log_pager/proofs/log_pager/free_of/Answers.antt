@@ -9,7 +9,7 @@ pub loop-f-preserved : goal.loop-f-preserved
 loop-f-preserved c =
     let p : ℕ → Bool = λ f. not (is_bad c.args.config.now f) in
     c.in_ok-push_if.ensures
-    ∙ (ap (λ b. pushed_if (not b) c.loop-f.free.items c.loop-f.f) c.is_bad.ensures
+    ∙ (ap (λ b. pushed_if (not b) c.loop-f.free c.loop-f.f) c.is_bad.ensures
     ∙ (ap (λ xs. pushed_if (p c.loop-f.f) xs c.loop-f.f) c.loop-f.invariant ∙ sym (filter_more p c.loop-f.f)))
 
 pub returns : goal.returns

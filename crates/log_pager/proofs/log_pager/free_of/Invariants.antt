@@ -4,4 +4,4 @@ use Rattle.pager_model.specs.Opening.{is_bad}
 use Rattle.log_pager.proofs.log_pager.free_of.Given as goal
 
 abbrev pub invariant-loop-f : goal.invariant-loop-f
-invariant-loop-f l = l.free.items ≡ filter (λ f. not (is_bad l.fn.config f)) (map (λ (k : ℕ). k) (range_with_len 0 l.f))
+invariant-loop-f l = l.free ≡ filter (λ f. not (is_bad l.fn.config f)) (map (λ (k : ℕ). k) (range_with_len 0 l.f))

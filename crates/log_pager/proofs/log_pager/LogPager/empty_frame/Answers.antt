@@ -10,7 +10,7 @@ returns c =
     let s = c.args.self.now in
     let f = c.args.f in
     same_shown _ (shown s) _ refl refl
-    (same_pager _ _ (set_state s f c.requires _) (set_page s f c.requires _) (set_modify s f c.requires false)
-    (c.in_ok-put_first.ensures ∙ ap (λ xs. f ∷ xs) c.remove.ensures) c.remove-2.ensures
+    (same_pager _ _ (set_state s f c.requires _) (set_page s f c.requires _ _ c.in_ok-set.ensures.ok) (set_modify s f c.requires false)
+    (c.in_ok-put.ensures ∙ ap (λ xs. f ∷ xs) c.remove.ensures) c.remove-2.ensures
     refl refl refl refl refl refl
     refl refl refl refl refl refl)

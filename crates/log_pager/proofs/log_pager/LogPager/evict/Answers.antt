@@ -13,7 +13,7 @@ returns c =
     let p = c.args.p.0 in
     same_shown _ (shown s) _ refl refl
     (same_pager _ _ (set_state s f c.requires.frame _) refl refl
-    (c.in_ok-push_if.ensures ∙ ap (λ b. pushed_if b s.free.items f) c.is_free.ensures)
-    (c.in_ok-push_if-2.ensures ∙ ap (λ b. pushed_if b s.modified.items f) c.is_modified.ensures)
+    (c.in_ok-push_if.ensures ∙ ap (λ b. pushed_if b s.free f) c.is_free.ensures)
+    (c.in_ok-add_if.ensures ∙ ap (λ b. pushed_if b s.modified.items f) c.is_modified.ensures)
     refl (set_evicted s p c.requires.process _ _ _ _ _ c.index_mut-2.ensures.value c.index.ensures c.evict.ensures) refl refl refl refl
-    refl c.remove_entry.ensures refl refl refl refl)
+    refl c.in_ok-remove.ensures refl refl refl refl)

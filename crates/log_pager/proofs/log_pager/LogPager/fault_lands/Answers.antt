@@ -1,9 +1,9 @@
-use Rattle.std.proofs.Common.{◌∷◌, false, refl, ap, ◌∙◌}
+use Rattle.std.proofs.Common.{false, refl, ap, ◌∙◌}
 use Rattle.pager_model.specs.InOk.{is_first_read}
 use Rattle.pager_model.specs.Sets.{at_number}
 use Rattle.log_pager.specs.Shown.{at_or, shown}
 use Rattle.log_pager.proofs.Same.{same_shown, same_pager}
-use Rattle.log_pager.proofs.Tables.{page_read, set_modify, set_placed, set_state}
+use Rattle.log_pager.proofs.Tables.{set_modify, set_placed, set_state}
 use Rattle.log_pager.proofs.log_pager.LogPager.fault_lands.Goals as goal
 
 pub returns : goal.returns
@@ -14,6 +14,6 @@ returns c =
     let q = c.args.q.0 in
     same_shown _ (shown s) _ refl refl
     (same_pager _ _ (set_state s f c.requires.frame _) refl
-    (set_modify s f c.requires.frame c.is_first.result ∙ ap (at_number (at_or false s.marks.items) f) (c.is_first.ensures ∙ ap (λ o. is_first_read o c.args.block) (page_read s f c.requires.frame _ c.index.ensures))) refl refl
-    refl (set_placed s q c.requires.process _ _ _ _ c.index_mut-3.ensures.value c.index-2.ensures c.place.ensures) refl refl refl refl
-    refl (c.in_ok-put_first.ensures ∙ ap (λ e. e ∷ s.valid.items) c.new.ensures) refl refl refl refl)
+    (set_modify s f c.requires.frame c.is_first.result ∙ ap (at_number (at_or false s.marks.items) f) (c.is_first.ensures ∙ ap (λ o. is_first_read o c.args.block) c.at.ensures)) refl refl
+    refl (set_placed s q c.requires.process _ _ _ _ c.index_mut-3.ensures.value c.index.ensures c.place.ensures) refl refl refl refl
+    refl c.in_ok-put.ensures refl refl refl refl)

@@ -10,8 +10,8 @@ pub returns-clause-holds : goal.returns-clause-holds
 unfolding shown
 returns-clause-holds c = λ config same.
     let s = c.args.self.now in
-    let frames : length s.held.items ≡ config.frames = omega (arith, s.held.ok.0, s.each_held, same) in
+    let frames : length s.held ≡ config.frames = omega (arith, s.each_held, same) in
     c.holder_in.ensures.holds
-    ∙ (ap (position (holds_page c.args.page)) c.deref.ensures.value
-    ∙ (found_first (holds_page c.args.page) None s.held.items
-    ∙ ap (λ n. find (λ f. holds_page c.args.page (slice_index_or s.held.items f None)) (range_with_len 0 n)) frames))
+    ∙ (ap (position (holds_page c.args.page)) c.items.ensures
+    ∙ (found_first (holds_page c.args.page) None s.held
+    ∙ ap (λ n. find (λ f. holds_page c.args.page (slice_index_or s.held f None)) (range_with_len 0 n)) frames))

@@ -14,6 +14,6 @@ returns c =
     let q = c.args.q.0 in
     same_shown _ (shown s) _ refl refl
     (same_pager _ _ (set_state s f c.requires.frame _)
-    (set_page s f c.requires.frame c.page_of-page.result ∙ ap (at_number ((shown s).pager.page) f) c.page_of-page.ensures) refl c.remove.ensures refl
+    (set_page s f c.requires.frame c.page_of-page.result _ c.in_ok-set.ensures.ok ∙ ap (at_number ((shown s).pager.page) f) c.page_of-page.ensures) refl c.remove.ensures refl
     refl refl refl refl (set_faults s q c.requires.process _ _ c.index.ensures c.in_ok-self.ensures) refl
-    refl refl (c.in_ok-charge.ensures ∙ ap (charged_with s.charged.items) c.page_of-page.ensures) refl refl refl)
+    refl refl (c.in_ok-charge.ensures ∙ ap (charged_with s.charged) c.page_of-page.ensures) refl refl refl)

@@ -1,14 +1,13 @@
 use Rattle.std.proofs.Common.{◌≡◌, ◌&&◌, nat_eq, not, refl, sym, ap, ap₂, ◌∙◌}
 use Rattle.pager_model.specs.Changes.{pushed_if}
 use Rattle.pager_model.specs.Lookups.{shares}
-use Rattle.pager_model.specs.OutLanding.{lies_at}
 use Rattle.pager_model.specs.Sets.{at_number}
-use Rattle.log_tables.specs.Lying.{lies_in}
+use Rattle.log_tables.specs.Lying.{lies_by}
 use Rattle.log_pager.specs.Shown.{at_or, shown}
 use Rattle.vm_types.specs.declared.names.FrameState.TheVariants as state
-use Rattle.log_pager.proofs.Landed.{kinds_same, landed_same, lies_same}
+use Rattle.log_pager.proofs.Landed.{landed_same, lies_same}
 use Rattle.log_pager.proofs.Same.{same_shown, same_pager}
-use Rattle.log_pager.proofs.Tables.{modify_read, page_read, set_state, state_read}
+use Rattle.log_pager.proofs.Tables.{modify_read, set_state, state_read}
 use Rattle.log_pager.proofs.log_pager.LogPager.write_lands.Goals as goal
 
 pub returns : goal.returns
@@ -17,15 +16,13 @@ returns c = λ x same.
     let s = c.args.self.now in
     let f = c.args.f.0 in
     let modify = modify_read s f c.requires _ c.index-modified.ensures in
-    let page = page_read s f c.requires _ c.index.ensures in
-    let unshared : nat_eq c.shares-unshared.result 0 ≡ nat_eq (shares s.valid.items f) 0 = ap (λ n. nat_eq n 0) c.shares-unshared.ensures in
+    let unshared : nat_eq c.shares-unshared.result 0 ≡ nat_eq (shares s.valid f) 0 = ap (λ n. nat_eq n 0) c.shares-unshared.ensures in
     same_shown _ (shown s) _ refl refl
     (same_pager _ _
-    (set_state s f c.requires c.landed.result ∙ ap (at_number (at_or state.Bad s.states.items) f) (c.landed.ensures ∙ landed_same _ _ _ _ _ _ unshared modify (state_read s f c.requires _ c.index-2.ensures)))
+    (set_state s f c.requires c.landed.result ∙ ap (at_number (at_or state.Bad s.states.items) f) (c.landed.ensures ∙ landed_same _ _ _ _ _ _ unshared modify (state_read s f c.requires _ c.index.ensures)))
     refl refl
-    (c.in_ok-push_if.ensures ∙ ap (λ b. pushed_if b s.free.items f) (c.both.ensures ∙ ap₂ (λ b m. b && not m) unshared modify))
-    (c.in_ok-push_if-2.ensures ∙ ap (λ b. pushed_if b s.modified.items f) (c.both-2.ensures ∙ ap₂ (λ b m. b && m) unshared modify))
+    (c.in_ok-push_if.ensures ∙ ap (λ b. pushed_if b s.free f) (c.both.ensures ∙ ap₂ (λ b m. b && not m) unshared modify))
+    (c.in_ok-add_if.ensures ∙ ap (λ b. pushed_if b s.modified.items f) (c.both-2.ensures ∙ ap₂ (λ b m. b && m) unshared modify))
     refl refl refl refl refl refl
     refl refl refl refl
-    (kinds_same _ _ s.lies.items c.lay_at.new.lies.items (λ lies. lies_at lies c.index-modified.result.now c.index.result.now c.args.block) c.deref.ensures.value c.in_ok-lay_at.ensures
-    ∙ lies_same (lies_in s.kinds.items s.lies.items) _ _ _ _ _ _ modify page (sym same)) refl)
+    (c.in_ok-lay_at.ensures ∙ lies_same (lies_by s.lies) _ _ _ _ _ _ modify c.at.ensures (sym same)) refl)

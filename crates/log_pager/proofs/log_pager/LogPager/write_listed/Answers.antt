@@ -2,7 +2,7 @@ use Rattle.std.proofs.Common.{false, refl, ap, ◌∙◌}
 use Rattle.pager_model.specs.Out.{assigned_with}
 use Rattle.log_pager.specs.Shown.{shown}
 use Rattle.log_pager.proofs.Same.{same_shown, same_pager}
-use Rattle.log_pager.proofs.Tables.{page_read, set_modify, set_state}
+use Rattle.log_pager.proofs.Tables.{set_modify, set_state}
 use Rattle.log_pager.proofs.log_pager.LogPager.write_listed.Goals as goal
 
 pub returns : goal.returns
@@ -14,4 +14,4 @@ returns c =
     (same_pager _ _ (set_state s f c.requires _) refl (set_modify s f c.requires false) refl c.remove.ensures
     refl refl refl refl refl refl
     refl refl refl refl refl
-    (c.in_ok-assign.ensures ∙ ap (λ o. assigned_with s.assigned.items o c.args.block) (page_read s f c.requires _ c.index.ensures)))
+    (c.in_ok-assign.ensures ∙ ap (λ o. assigned_with s.assigned o c.args.block) c.at.ensures))

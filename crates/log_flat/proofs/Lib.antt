@@ -1,0 +1,4 @@
+mod Forgotten
+mod Origins
+mod Slots
+mod Told
