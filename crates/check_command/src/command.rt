@@ -1,5 +1,5 @@
 ghost use Rattle.std.specs.Prelude.{◌≡◌, ◌≢◌, ◌⊎◌, ◌≤◌};
-ghost use Rattle.outside_io.specs.Causes.{Rose};
+ghost use Rattle.vm_types.specs.Counts.{Rose};
 ghost use Rattle.command_ends.specs.Concludes.{Concludes, HasTold, WasCut};
 ghost use Rattle.command_ends.specs.Ends.{Ends};
 ghost use Rattle.command_ends.specs.Wrongs.{IsWrongText, TellsWrong};

@@ -1,7 +1,7 @@
 -- What follows from the outcome of a call, if no text goes with status 4.
 use Rattle.std.proofs.Common.{◌≡◌, ◌≢◌, ℕ, List, sym, ◌∙◌, subst, inl, inr}
 use Rattle.std.specs.Prelude.{◌⊎◌}
-use Rattle.outside_io.specs.Causes.{Rose}
+use Rattle.vm_types.specs.Counts.{Rose}
 use Rattle.outside_io.specs.Views.{SinkView}
 use Rattle.command_ends.specs.Concludes.{Concludes, HasTold, WasCut}
 

@@ -2,8 +2,8 @@
 use Rattle.std.proofs.Common.{◌≡◌, ◌≢◌, ℕ, List, [], refl, sym, ap, ◌∙◌, subst, arith, inl, inr}
 use Rattle.std.specs.Prelude.{◌⊎◌, IfSome, None, Some, Ok, Err}
 use Rattle.std.specs.declared.option.Option.{Option}
+use Rattle.vm_types.specs.Counts.{Rose}
 use Rattle.vm_types.specs.declared.config.Config.{Config}
-use Rattle.outside_io.specs.Causes.{Rose}
 use Rattle.outside_io.specs.Views.{SinkView, SourceView}
 use Rattle.trace_lines.specs.declared.breach.Breach.{Breach}
 use Rattle.trace_reader.specs.Answer.{Answers, FaultsBy, HasShown}

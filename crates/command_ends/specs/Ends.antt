@@ -1,7 +1,7 @@
 -- How a text is written with its status: whole, or cut with status 4. Source: this project's own.
 use Rattle.std.specs.Prelude.{◌≡◌, ◌⊎◌, ℕ, ◌<◌, ◌≤◌, List, length, take, is_some}
 use Rattle.std.specs.Io.KnownBytes.{Appends}
-use Rattle.outside_io.specs.Causes.{Rose}
+use Rattle.vm_types.specs.Counts.{Rose}
 use Rattle.outside_io.specs.Views.{SinkView}
 
 -- with the status the sink took the whole text and no count changed, with status 4 it took a proper

@@ -3,7 +3,7 @@ use Rattle.std.specs.Prelude.{◌≡◌, ◌⊎◌, ℕ, ◌≤◌, ◌==◌, �
 use Rattle.std.specs.List.{flat_map}
 use Rattle.std.specs.declared.option.Option.{Option}
 use Rattle.std.specs.Io.KnownBytes.{Appends}
-use Rattle.outside_io.specs.Causes.{Rose}
+use Rattle.vm_types.specs.Counts.{Rose}
 use Rattle.outside_io.specs.Views.{SinkView}
 use Rattle.trace_lines.specs.declared.breach.Breach.{Breach}
 use Rattle.log_messages.specs.LogMessage.{log_message}

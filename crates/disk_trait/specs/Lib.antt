@@ -1,4 +1,3 @@
-pub mod Causes
 pub mod Told
 pub mod Body
 pub mod DepotView

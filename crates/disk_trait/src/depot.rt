@@ -1,5 +1,5 @@
 ghost use Rattle.std.specs.Prelude.{◌≡◌, ℕ, ◌+◌, ◌<◌, ◌≤◌, [], ◌∷◌, ◌++◌, length, map, replicate, take, OnOk, OnErr, IfOk, IsErrOf};
-ghost use Rattle.disk_trait.specs.Causes.{Rose};
+ghost use Rattle.vm_types.specs.Counts.{Rose};
 ghost use Rattle.disk_trait.specs.DepotView.{DepotView, given_back};
 ghost use Rattle.disk_trait.specs.Told.{told};
 

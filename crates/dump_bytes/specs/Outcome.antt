@@ -1,7 +1,7 @@
 -- What the reading of a dump from a source answers. Source: this project's own.
 use Rattle.std.specs.Prelude.{◌≡◌, ℕ, ◌≤◌, List, [], Option, Some, Result, Ok, Err}
 use Rattle.std.specs.Io.KnownBytes.{Consumes}
-use Rattle.outside_io.specs.Causes.{Rose}
+use Rattle.vm_types.specs.Counts.{Rose}
 use Rattle.dump_bytes.specs.declared.dump.Dump.{Dump}
 use Rattle.dump_bytes.specs.declared.fault.DumpFault.{DumpFault}
 use Rattle.dump_bytes.specs.declared.fault.DumpFault.TheVariants.{NoMemory, ReadFault, Bad}

@@ -5,7 +5,7 @@ use Rattle.vm_types.specs.declared.names.Page.{Page}
 use Rattle.vm_text.specs.States.{state_word, mark_text}
 use Rattle.pager_model.specs.Text.{ended}
 use Rattle.dump_bytes.specs.declared.dump.FrameRec.{FrameRec}
-use Rattle.dump_lines.specs.Codes.{state_of}
+use Rattle.dump_lines.specs.Codes.{state_of_code}
 use Rattle.dump_lines.specs.PageText.{page_text}
 
 abbrev pub bad_text : ℕ → List ℕ
@@ -13,7 +13,7 @@ bad_text f = codes "FRAME " ++ decimal f ++ codes " BAD"
 
 abbrev pub held_text : ℕ → FrameRec → Page → List ℕ
 held_text f row page =
-    codes "FRAME " ++ decimal f ++ codes " " ++ state_word (state_of row.state) ++ codes " " ++ page_text page
+    codes "FRAME " ++ decimal f ++ codes " " ++ state_word (state_of_code row.state) ++ codes " " ++ page_text page
     ++ codes " MODIFY " ++ mark_text row.modify ++ codes " REFS " ++ decimal row.refs ++ codes " SHARES " ++ decimal row.shares
 
 abbrev pub held_line : ℕ → FrameRec → Option Page → List ℕ

@@ -6,7 +6,7 @@ use Rattle.vm_text.specs.States.{status_word}
 use Rattle.pager_model.specs.Text.{ended}
 use Rattle.dump_bytes.specs.declared.dump.SlotRec.{SlotRec}
 use Rattle.dump_bytes.specs.Dumped.{Process}
-use Rattle.dump_lines.specs.Codes.{status_of}
+use Rattle.dump_lines.specs.Codes.{status_of_code}
 
 -- how many slots are filled
 abbrev pub filled_in : List SlotRec → ℕ
@@ -14,7 +14,7 @@ filled_in slots = count_by (λ (s : SlotRec). s.filled) slots
 
 abbrev pub process_text : ℕ → Process → List ℕ
 process_text x p =
-    codes "PROCESS " ++ process_name x ++ codes " " ++ status_word (status_of p.status) ++ codes " COUNT " ++ decimal (filled_in p.slots)
+    codes "PROCESS " ++ process_name x ++ codes " " ++ status_word (status_of_code p.status) ++ codes " COUNT " ++ decimal (filled_in p.slots)
     ++ codes " LIMIT " ++ decimal p.limit ++ codes " HAND " ++ decimal p.hand
 
 -- a word if the mark is set

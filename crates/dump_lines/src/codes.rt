@@ -5,30 +5,42 @@ ghost use Rattle.dump_lines.specs.Codes as codes;
 
 use vm_types::{FrameState, ProcStatus};
 
+// The states of a frame, each at the place that its code says.
+const STATES: [FrameState; 8] = [
+    FrameState::Free,
+    FrameState::Modified,
+    FrameState::Bad,
+    FrameState::ReleasePending,
+    FrameState::ReadError,
+    FrameState::Writing,
+    FrameState::Reading,
+    FrameState::Active,
+];
+
+// The statuses of a process, each at the place that its code says.
+const STATUSES: [ProcStatus; 4] = [
+    ProcStatus::Resident,
+    ProcStatus::Leaving,
+    ProcStatus::Gone,
+    ProcStatus::Coming,
+];
+
 /// A frame's state by its code, 0 to 7.
-pub(crate) fn state_of(code: u8) -> FrameState
-    ensures { result ≡ codes.state_of code }
+pub(crate) fn state_of_code(code: u8) -> FrameState
+    ensures { result ≡ codes.state_of_code code }
 {
-    match code {
-        0 => FrameState::Free,
-        1 => FrameState::Modified,
-        2 => FrameState::Bad,
-        3 => FrameState::ReleasePending,
-        4 => FrameState::ReadError,
-        5 => FrameState::Writing,
-        6 => FrameState::Reading,
-        _ => FrameState::Active,
-    }
+    STATES
+        .get(code as usize)
+        .copied()
+        .unwrap_or(FrameState::Active)
 }
 
 /// A process's status by its code, 0 to 3.
-pub(crate) fn status_of(code: u8) -> ProcStatus
-    ensures { result ≡ codes.status_of code }
+pub(crate) fn status_of_code(code: u8) -> ProcStatus
+    ensures { result ≡ codes.status_of_code code }
 {
-    match code {
-        0 => ProcStatus::Resident,
-        1 => ProcStatus::Leaving,
-        2 => ProcStatus::Gone,
-        _ => ProcStatus::Coming,
-    }
+    STATUSES
+        .get(code as usize)
+        .copied()
+        .unwrap_or(ProcStatus::Coming)
 }

@@ -8,7 +8,7 @@ ghost use Rattle.dump_lines.specs.FrameLines.{bad_text, frame_line, frame_lines,
 ghost use Rattle.dump_lines.specs.PageText.{page_text};
 ghost use Rattle.dump_lines.specs.Printable.{HasPage, IsPrintableFrame};
 
-use crate::codes::state_of;
+use crate::codes::state_of_code;
 use arrayvec::ArrayVec;
 use command_ends::{push_counted, write_line};
 use dump_bytes::FrameRec;
@@ -41,7 +41,7 @@ fn push_held(out: &mut ArrayVec<u8, 160>, f: u32, row: FrameRec, page: Page)
     push_word(out, b"FRAME ");
     push_count(out, f);
     push_word(out, b" ");
-    push_state(out, state_of(row.state));
+    push_state(out, state_of_code(row.state));
     push_word(out, b" ");
     push_page(out, page);
     push_word(out, b" MODIFY ");
@@ -50,21 +50,13 @@ fn push_held(out: &mut ArrayVec<u8, 160>, f: u32, row: FrameRec, page: Page)
     push_counted(out, b" SHARES ", row.shares);
 }
 
-fn push_bad(out: &mut ArrayVec<u8, 160>, f: u32)
-    requires { out.old.items ≡ [] }
-    ensures items { out.new.items ≡ bad_text f }
-    ensures len { array_vec_len out.new ≤ 159 }
-{
-    push_word(out, b"FRAME ");
-    push_count(out, f);
-    push_word(out, b" BAD");
-}
-
 fn print_bad<K: Sink>(f: u32, sink: &mut K) -> Result<(), WriteFault>
     ensures { Writes (K.seen sink.old) (K.seen sink.new) result (ended (bad_text f)) }
 {
     let mut out = ArrayVec::new();
-    push_bad(&mut out, f);
+    push_word(&mut out, b"FRAME ");
+    push_count(&mut out, f);
+    push_word(&mut out, b" BAD");
     write_line(out, sink)
 }
 

@@ -8,7 +8,7 @@ ghost use Rattle.dump_bytes.specs.Dumped.{process_of};
 ghost use Rattle.dump_lines.specs.Printable.{IsPrintableProcess, IsPrintableSlot};
 ghost use Rattle.dump_lines.specs.ProcessLines.{filled_in, marked, one_process, process_lines, process_text, slot_line, slot_lines, slot_text};
 
-use crate::codes::status_of;
+use crate::codes::status_of_code;
 use arrayvec::ArrayVec;
 use command_ends::{push_counted, write_line};
 use dump_bytes::{ProcRec, SlotRec};
@@ -33,7 +33,7 @@ fn print_head<K: Sink>(x: u32, proc: &ProcRec, sink: &mut K) -> Result<(), Write
     push_word(&mut out, b"PROCESS ");
     push_process(&mut out, Proc(x));
     push_word(&mut out, b" ");
-    push_status(&mut out, status_of(proc.status));
+    push_status(&mut out, status_of_code(proc.status));
     push_counted(&mut out, b" COUNT ", count_filled(&proc.slots));
     push_counted(&mut out, b" LIMIT ", proc.limit);
     push_counted(&mut out, b" HAND ", proc.hand);

@@ -10,7 +10,7 @@ use Rattle.vm_types.specs.declared.names.Seat.{Seat}
 use Rattle.vm_types.specs.declared.reference.Ref.{Ref}
 use Rattle.vm_types.specs.declared.reply.Why.{Why}
 use Rattle.vm_journal.specs.declared.entry.What.TheVariants as what
-use Rattle.pager_model.specs.Advance.{again_block_busy, again_charging, again_collided, entry_given, fault_given, gives_again, held_given, is_busy_block, is_named, is_uncharged, mapped_given, out_given, read_given, source_of, next_answered, next_more, refused_given}
+use Rattle.pager_model.specs.Advance.{GivenNext, again_block_busy, again_charging, again_collided, entry_given, fault_given, gives_again, held_given, is_busy_block, is_named, is_uncharged, mapped_given, out_given, read_given, next_answered, next_more, refused_given, room_given}
 use Rattle.pager_model.specs.Flat.{flat_refusal}
 use Rattle.pager_model.specs.Flights.{Flight, open_flights}
 use Rattle.pager_model.specs.Forget.{holder}
@@ -26,9 +26,10 @@ use Rattle.page_readers.specs.declared.found.Found.{Found}
 use Rattle.vm_state.specs.declared.open_read.OpenRead.{OpenRead}
 use Rattle.call_begins.proofs.Branches.{if_false, if_true}
 use Rattle.call_begins.proofs.Steps.{paid_first}
-use Rattle.fault_core.specs.Cases.{IsReplacedFirst, at_entry, at_fault, at_first, at_frame, at_held, at_map, at_out, at_read, at_refusal, at_replace, at_room, vpn_of}
+use Rattle.fault_core.specs.Cases.{IsReplacedFirst, at_entry, at_fault, at_first, at_frame, at_held, at_map, at_out, at_read, at_refusal, at_replace, at_room, source_in, vpn_of}
 use Rattle.fault_core.specs.Gives.{MayGive}
 use Rattle.call_begins.specs.ReadySeat.{IsReadySeat}
+use Rattle.fault_core.specs.declared.sought.Sought.{Sought}
 use Rattle.fault_core.proofs.Branches.{entry_missing, entry_some, first_pending, first_settled, found_page, found_valid, out_busy, out_still, read_none, read_other, read_own, room_charging, room_full}
 use Rattle.fault_core.proofs.Steps.{may_as}
 
@@ -73,28 +74,17 @@ module _ (s : History) (seat : Seat) (r : Ref) where
   passes_on x is invalid = ap (entry_given s.config s.past (pager s) seat.0 r) (entry_missing (entry_of (pager s).valid seat.0 (vpn_of r)) (valid_there x is ∙ invalid))
 
   -- ---- the mapping
+  abbrev fault_by : Page → Option ℕ → GivenNext
+  fault_by g o = fault_given s.config s.past (pager s) seat.0 r g o
+
+  abbrev room_by : Page → GivenNext
+  room_by g = room_given s.config s.past (pager s) seat.0 r g
+
   pub mapped_to : (x : Found) → Some x ≡ found_in s.config (pager s) seat.0 (vpn_of r) → (page_by s.config (pager s).map seat.0 (vpn_of r) ≡ Some x.page) × (section_of x.from ≡ section_at ((pager s).map seat.0 (vpn_of r)))
   mapped_to x is = found_page s.config seat.0 (vpn_of r) (is_some (entry_of (pager s).valid seat.0 (vpn_of r))) ((pager s).map seat.0 (vpn_of r)) x is
 
-  pub faults_on : (x : Found) → Some x ≡ found_in s.config (pager s) seat.0 (vpn_of r) → at_map s seat r ≡ at_fault s seat r x.page
+  pub faults_on : (x : Found) → Some x ≡ found_in s.config (pager s) seat.0 (vpn_of r) → at_map s seat r ≡ fault_by x.page (holder s.config (pager s).page x.page)
   faults_on x is = ap (mapped_given s.config s.past (pager s) seat.0 r) (mapped_to x is).0
-
-  -- ---- the frame
-  pub held_by : (g : Page) (f : Pfn) → holder s.config (pager s).page g ≡ Some f.0 → at_fault s seat r g ≡ at_read s seat r g f.0
-  held_by g f holds = ap (fault_given s.config s.past (pager s) seat.0 r g) holds
-
-  pub held_by_none : (g : Page) → holder s.config (pager s).page g ≡ None → at_fault s seat r g ≡ at_room s seat r g
-  held_by_none g out = ap (fault_given s.config s.past (pager s) seat.0 r g) out
-
-  pub is_out : (g : Page) → holder s.config (pager s).page g ≡ None → at_held s seat r g ≡ at_out s seat r g
-  is_out g out = ap (held_given s.config s.past (pager s) seat.0 r g) out
-
-  -- ---- the charge and the limit
-  pub charging : (g : Page) → (is_uncharged s.config (pager s) g && nat_eq (length (pager s).charged) s.config.pagefile) ≡ true → at_room s seat r g ≡ gives_again again_charging
-  charging g is = room_charging s.config s.past (pager s) seat.0 r g is
-
-  pub at_limit : (g : Page) → (is_uncharged s.config (pager s) g && nat_eq (length (pager s).charged) s.config.pagefile) ≡ false → nat_le ((pager s).limit seat.0) (filled ((pager s).ring seat.0).slots) ≡ true → at_room s seat r g ≡ at_replace s seat
-  at_limit g is full = room_full s.config s.past (pager s) seat.0 r g is full
 
   -- nothing is in flight
   none_open : owed s.past ≡ 0 → open_flights s.past ≡ []
@@ -104,7 +94,7 @@ module _ (s : History) (seat : Seat) (r : Ref) where
       go [] is = refl
       go (x ∷ xs) is = absurd (omega (arith, is))
 
-  roomed : (g : Page) (o : Option ℕ) → open_flights s.past ≡ [] → fault_given s.config s.past (pager s) seat.0 r g o ≡ at_room s seat r g
+  roomed : (g : Page) (o : Option ℕ) → open_flights s.past ≡ [] → fault_by g o ≡ room_by g
   roomed g None none = refl
   roomed g (Some f) none = ap (λ (xs : List Flight). read_given s.config s.past (pager s) seat.0 r g f (find (is_read_on f) xs)) none
 
@@ -112,10 +102,10 @@ module _ (s : History) (seat : Seat) (r : Ref) where
   not_charging true n m less = ne_eqb n m (λ same. omega (arith, less, same))
   not_charging false n m less = refl
 
-  pub replaced_first : (g : Page) → IsReplacedFirst s seat.0 → at_fault s seat r g ≡ at_replace s seat
+  replaced_first : (g : Page) → IsReplacedFirst s seat.0 → fault_by g (holder s.config (pager s).page g) ≡ at_replace s seat
   replaced_first g first =
       roomed g (holder s.config (pager s).page g) (none_open first.landed)
-      ∙ at_limit g (not_charging (is_uncharged s.config (pager s) g) (length (pager s).charged) s.config.pagefile first.chargeable) first.full
+      ∙ room_full s.config s.past (pager s) seat.0 r g (not_charging (is_uncharged s.config (pager s) g) (length (pager s).charged) s.config.pagefile first.chargeable) first.full
 
   -- ---- what the entry alone says
   pub granted_answers : (valid : Bool) → IsGranted s seat.0 r valid → valid ≡ true → at_refusal s seat r ≡ given (what.Done r unsaid ∷ []) next_answered
@@ -127,33 +117,60 @@ module _ (s : History) (seat : Seat) (r : Ref) where
   pub granted_replaces : (valid : Bool) → IsGranted s seat.0 r valid → valid ≡ false → IsReplacedFirst s seat.0 → at_refusal s seat r ≡ at_replace s seat
   granted_replaces valid x is first = goes_by x.granted ∙ (passes_on x.found x.there (x.entry ∙ is) ∙ (faults_on x.found x.there ∙ replaced_first (x.found).page first))
 
-  pub below_limit : (g : Page) → (is_uncharged s.config (pager s) g && nat_eq (length (pager s).charged) s.config.pagefile) ≡ false → nat_le ((pager s).limit seat.0) (filled ((pager s).ring seat.0).slots) ≡ false → at_room s seat r g ≡ at_held s seat r g
-  below_limit g is below = if_false (is_uncharged s.config (pager s) g && nat_eq (length (pager s).charged) s.config.pagefile) _ _ is ∙ if_false (nat_le ((pager s).limit seat.0) (filled ((pager s).ring seat.0).slots)) _ _ below
+module _ (s : History) (x : Sought) where
+  abbrev is_charging : Bool
+  is_charging = is_uncharged s.config (pager s) x.page && nat_eq (length (pager s).charged) s.config.pagefile
+
+  abbrev is_full : Bool
+  is_full = nat_le ((pager s).limit (x.seat).0) (filled ((pager s).ring (x.seat).0).slots)
+
+  -- ---- the frame
+  pub held_by : (f : Pfn) → holder s.config (pager s).page x.page ≡ Some f.0 → at_fault s x ≡ at_read s x f.0
+  held_by f holds = ap (fault_given s.config s.past (pager s) (x.seat).0 x.r x.page) holds
+
+  pub held_by_none : holder s.config (pager s).page x.page ≡ None → at_fault s x ≡ at_room s x
+  held_by_none out = ap (fault_given s.config s.past (pager s) (x.seat).0 x.r x.page) out
+
+  pub is_out : holder s.config (pager s).page x.page ≡ None → at_held s x ≡ at_out s x
+  is_out out = ap (held_given s.config s.past (pager s) (x.seat).0 x.r x.page) out
+
+  -- ---- the charge and the limit
+  pub charging : is_charging ≡ true → at_room s x ≡ gives_again again_charging
+  charging is = room_charging s.config s.past (pager s) (x.seat).0 x.r x.page is
+
+  pub at_limit : is_charging ≡ false → is_full ≡ true → at_room s x ≡ at_replace s x.seat
+  at_limit is full = room_full s.config s.past (pager s) (x.seat).0 x.r x.page is full
+
+  pub below_limit : is_charging ≡ false → is_full ≡ false → at_room s x ≡ at_held s x
+  below_limit is below = if_false is_charging _ _ is ∙ if_false is_full _ _ below
 
   -- ---- the block
-  pub busy : (g : Page) (o : Option BlockId) → o ≡ source_of s.config (pager s) g ((pager s).map seat.0 (vpn_of r)) → is_busy_block s.past o ≡ true → at_out s seat r g ≡ gives_again again_block_busy
-  busy g o is there = ap (out_given s.config s.past (pager s) seat.0 r g) (sym is) ∙ out_busy s.config s.past (pager s) seat.0 r g o there
+  pub busy : (o : Option BlockId) → o ≡ source_in s x → is_busy_block s.past o ≡ true → at_out s x ≡ gives_again again_block_busy
+  busy o is there = ap (out_given s.config s.past (pager s) (x.seat).0 x.r x.page) (sym is) ∙ out_busy s.config s.past (pager s) (x.seat).0 x.r x.page o there
 
-  pub still : (g : Page) (o : Option BlockId) → o ≡ source_of s.config (pager s) g ((pager s).map seat.0 (vpn_of r)) → is_busy_block s.past o ≡ false → at_out s seat r g ≡ at_frame s seat r g o
-  still g o is there = ap (out_given s.config s.past (pager s) seat.0 r g) (sym is) ∙ out_still s.config s.past (pager s) seat.0 r g o there
+  pub still : (o d : Option BlockId) → o ≡ source_in s x → is_busy_block s.past o ≡ false → o ≡ d → at_out s x ≡ at_frame s x d
+  still o d is there same = ap (out_given s.config s.past (pager s) (x.seat).0 x.r x.page) (sym is) ∙ (out_still s.config s.past (pager s) (x.seat).0 x.r x.page o there ∙ ap (at_frame s x) same)
 
   -- ---- the collision
-  pub own_read : (g : Page) (f : Pfn) (x : OpenRead) → Some x ≡ option_map read_by (find (is_read_on f.0) (open_flights s.past)) → nat_eq (x.seat).0 seat.0 ≡ true → at_read s seat r g f.0 ≡ at_room s seat r g
-  own_read g f x is own = read_own s.config s.past (pager s) seat.0 r g f.0 x (find (is_read_on f.0) (open_flights s.past)) is own
+  module _ (f : Pfn) where
+    abbrev read_there : Option OpenRead
+    read_there = option_map read_by (find (is_read_on f.0) (open_flights s.past))
 
-  pub no_read : (g : Page) (f : Pfn) → None ≡ option_map read_by (find (is_read_on f.0) (open_flights s.past)) → at_read s seat r g f.0 ≡ at_room s seat r g
-  no_read g f is = read_none s.config s.past (pager s) seat.0 r g f.0 (find (is_read_on f.0) (open_flights s.past)) is
+    pub no_read : None ≡ read_there → at_read s x f.0 ≡ at_room s x
+    no_read is = read_none s.config s.past (pager s) (x.seat).0 x.r x.page f.0 (find (is_read_on f.0) (open_flights s.past)) is
 
-  pub named : (g : Page) (f : Pfn) (x : OpenRead) → Some x ≡ option_map read_by (find (is_read_on f.0) (open_flights s.past)) → nat_eq (x.seat).0 seat.0 ≡ false → is_named ((pager s).collided seat.0) x.start ≡ true
-      → at_read s seat r g f.0 ≡ gives_again again_collided
-  named g f x is other again = read_other s.config s.past (pager s) seat.0 r g f.0 x (find (is_read_on f.0) (open_flights s.past)) is other ∙ if_true (is_named ((pager s).collided seat.0) x.start) _ _ again
+    module _ (y : OpenRead) (is : Some y ≡ read_there) where
+      pub own_read : nat_eq (y.seat).0 (x.seat).0 ≡ true → at_read s x f.0 ≡ at_room s x
+      own_read own = read_own s.config s.past (pager s) (x.seat).0 x.r x.page f.0 y (find (is_read_on f.0) (open_flights s.past)) is own
 
-  pub collides : (g : Page) (f : Pfn) (x : OpenRead) → Some x ≡ option_map read_by (find (is_read_on f.0) (open_flights s.past)) → nat_eq (x.seat).0 seat.0 ≡ false → is_named ((pager s).collided seat.0) x.start ≡ false
-      → at_read s seat r g f.0 ≡ given (what.Collide (page_address (vpn_of r)) f x.start ∷ []) next_more
-  collides g f x is other unnamed = read_other s.config s.past (pager s) seat.0 r g f.0 x (find (is_read_on f.0) (open_flights s.past)) is other ∙ if_false (is_named ((pager s).collided seat.0) x.start) _ _ unnamed
+      module _ (other : nat_eq (y.seat).0 (x.seat).0 ≡ false) where
+        pub named : is_named ((pager s).collided (x.seat).0) y.start ≡ true → at_read s x f.0 ≡ gives_again again_collided
+        named again = read_other s.config s.past (pager s) (x.seat).0 x.r x.page f.0 y (find (is_read_on f.0) (open_flights s.past)) is other ∙ if_true (is_named ((pager s).collided (x.seat).0) y.start) _ _ again
 
-  pub may_collide : (g : Page) (f : Pfn) (x : OpenRead) → Some x ≡ option_map read_by (find (is_read_on f.0) (open_flights s.past)) → nat_eq (x.seat).0 seat.0 ≡ false → is_named ((pager s).collided seat.0) x.start ≡ false
-      → MayGive s seat (at_read s seat r g f.0) → MayAdd s (entry_by seat (what.Collide (page_address (vpn_of r)) f x.start))
-  may_collide g f x is other unnamed may =
-      let m = may_as s seat _ _ (collides g f x is other unnamed) may in
-      record { legal = m.legal.0; paid = paid_first s seat (what.Collide (page_address (vpn_of r)) f x.start) 1 (omega arith) refl refl m.room }
+        pub collides : is_named ((pager s).collided (x.seat).0) y.start ≡ false → at_read s x f.0 ≡ given (what.Collide (page_address (vpn_of x.r)) f y.start ∷ []) next_more
+        collides unnamed = read_other s.config s.past (pager s) (x.seat).0 x.r x.page f.0 y (find (is_read_on f.0) (open_flights s.past)) is other ∙ if_false (is_named ((pager s).collided (x.seat).0) y.start) _ _ unnamed
+
+        pub may_collide : is_named ((pager s).collided (x.seat).0) y.start ≡ false → MayGive s x.seat (at_read s x f.0) → MayAdd s (entry_by x.seat (what.Collide (page_address (vpn_of x.r)) f y.start))
+        may_collide unnamed may =
+            let m = may_as s x.seat _ _ (collides unnamed) may in
+            record { legal = m.legal.0; paid = paid_first s x.seat (what.Collide (page_address (vpn_of x.r)) f y.start) 1 (omega arith) refl refl m.room }

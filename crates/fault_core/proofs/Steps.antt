@@ -21,14 +21,21 @@ use Rattle.call_laws.specs.AreLegal.{IsLegalNext}
 use Rattle.lift_carriers.specs.CarrierView.{CarrierView}
 use Rattle.vm_state.specs.History.{History, MayAnswer, added, entry_by, owed}
 use Rattle.vm_state.specs.LiftsLand.{added_each}
-use Rattle.fault_core.specs.Gives.{Gives, MayGive, again_of, returned}
+use Rattle.fault_core.specs.Gives.{Gives, MayGive, MayRefer, MaySeek, again_of, returned}
 use Rattle.call_begins.proofs.Steps.{paid_first}
 use Rattle.fault_core.specs.declared.next.Next.{Next}
 use Rattle.fault_core.specs.declared.next.Next.TheVariants.{Again, Answered, More, Room}
+use Rattle.fault_core.specs.declared.sought.Sought.{Sought}
 
 -- ---- what may be made
 pub may_as : (s : History) (seat : Seat) (g g' : GivenNext) → g ≡ g' → MayGive s seat g → MayGive s seat g'
 may_as s seat g g' same may = subst (λ (x : GivenNext). MayGive s seat x) same may
+
+pub refers_as : {B : Type 0} {s : History} {seat : Seat} {r : Ref} {old : CarrierView B} (g g' : GivenNext) → g ≡ g' → MayRefer s seat r g old → MayRefer s seat r g' old
+refers_as {B} {s} {seat} {r} {old} g g' same may = subst (λ (x : GivenNext). MayRefer s seat r x old) same may
+
+pub seeks_as : {B : Type 0} {s : History} {x : Sought} {old : CarrierView B} (g g' : GivenNext) → g ≡ g' → MaySeek s x g old → MaySeek s x g' old
+seeks_as g g' same may = record { sought = may.sought; refers = refers_as g g' same may.refers }
 
 abbrev pub IsFlat : Bool → History → Seat → Ref → Reply → Type 0
 IsFlat tells s seat r shown = tells ≡ true → shown ≡ flat_reply s.config (flat_after s.config s.past) seat.0 r

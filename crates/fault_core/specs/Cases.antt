@@ -1,7 +1,6 @@
 -- The cases of a reference, one after another, on a history. This project's own.
 use Rattle.std.specs.Prelude.{◌≡◌, ℕ, ◌<◌, true, Option, length, nat_le}
 use Rattle.vm_types.specs.declared.names.BlockId.{BlockId}
-use Rattle.vm_types.specs.declared.names.Page.{Page}
 use Rattle.vm_types.specs.declared.names.Seat.{Seat}
 use Rattle.vm_types.specs.declared.reference.Ref.{Ref}
 use Rattle.pager_model.specs.Advance.{GivenNext, advance_gives, entry_given, fault_given, frame_given, held_given, mapped_given, out_given, read_given, refused_given, replace_given, room_given, source_of}
@@ -15,6 +14,7 @@ use Rattle.pager_model.specs.Transfers.{is_read_on}
 use Rattle.std.specs.Prelude.{find}
 use Rattle.vm_types.specs.Ring.{filled}
 use Rattle.vm_state.specs.History.{History, owed, pager}
+use Rattle.fault_core.specs.declared.sought.Sought.{Sought}
 
 abbrev pub vpn_of : Ref → ℕ
 vpn_of r = page_number (r.addr).0
@@ -31,26 +31,31 @@ at_entry s seat r = entry_given s.config s.past (pager s) seat.0 r (entry_of (pa
 abbrev pub at_map : History → Seat → Ref → GivenNext
 at_map s seat r = mapped_given s.config s.past (pager s) seat.0 r (page_by s.config (pager s).map seat.0 (vpn_of r))
 
-abbrev pub at_fault : History → Seat → Ref → Page → GivenNext
-at_fault s seat r g = fault_given s.config s.past (pager s) seat.0 r g (holder s.config (pager s).page g)
-
-abbrev pub at_read : History → Seat → Ref → Page → ℕ → GivenNext
-at_read s seat r g f = read_given s.config s.past (pager s) seat.0 r g f (find (is_read_on f) (open_flights s.past))
-
-abbrev pub at_room : History → Seat → Ref → Page → GivenNext
-at_room s seat r g = room_given s.config s.past (pager s) seat.0 r g
-
 abbrev pub at_replace : History → Seat → GivenNext
 at_replace s seat = replace_given s.config s.past (pager s) seat.0
 
-abbrev pub at_held : History → Seat → Ref → Page → GivenNext
-at_held s seat r g = held_given s.config s.past (pager s) seat.0 r g (holder s.config (pager s).page g)
+-- those of the page that is sought
+abbrev pub at_fault : History → Sought → GivenNext
+at_fault s x = fault_given s.config s.past (pager s) (x.seat).0 x.r x.page (holder s.config (pager s).page x.page)
 
-abbrev pub at_out : History → Seat → Ref → Page → GivenNext
-at_out s seat r g = out_given s.config s.past (pager s) seat.0 r g (source_of s.config (pager s) g ((pager s).map seat.0 (vpn_of r)))
+abbrev pub at_read : History → Sought → ℕ → GivenNext
+at_read s x f = read_given s.config s.past (pager s) (x.seat).0 x.r x.page f (find (is_read_on f) (open_flights s.past))
 
-abbrev pub at_frame : History → Seat → Ref → Page → Option BlockId → GivenNext
-at_frame s seat r g o = frame_given s.config (pager s) seat.0 r g o (pager s).free
+abbrev pub at_room : History → Sought → GivenNext
+at_room s x = room_given s.config s.past (pager s) (x.seat).0 x.r x.page
+
+abbrev pub at_held : History → Sought → GivenNext
+at_held s x = held_given s.config s.past (pager s) (x.seat).0 x.r x.page (holder s.config (pager s).page x.page)
+
+-- the block from which its page is read
+abbrev pub source_in : History → Sought → Option BlockId
+source_in s x = source_of s.config (pager s) x.page ((pager s).map (x.seat).0 (vpn_of x.r))
+
+abbrev pub at_out : History → Sought → GivenNext
+at_out s x = out_given s.config s.past (pager s) (x.seat).0 x.r x.page (source_in s x)
+
+abbrev pub at_frame : History → Sought → Option BlockId → GivenNext
+at_frame s x o = frame_given s.config (pager s) (x.seat).0 x.r x.page o (pager s).free
 
 -- whatever page is referred to, its process replaces one: nothing is in flight, not each block of the page file
 -- is charged, and the working set is as long as its limit allows

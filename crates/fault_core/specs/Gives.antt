@@ -2,6 +2,7 @@
 use Rattle.std.specs.Prelude.{◌≡◌, ℕ, true, ◌+◌, ◌≤◌, List, [], ◌∷◌, Option, Some, None, map}
 use Rattle.std.specs.Option.{option_map}
 use Rattle.vm_types.specs.BlockView.{BlockView, Tells}
+use Rattle.vm_types.specs.WellFormed.{IsWellFormedReference}
 use Rattle.vm_types.specs.declared.config.Config.{Config}
 use Rattle.vm_types.specs.declared.names.Seat.{Seat}
 use Rattle.vm_types.specs.declared.reference.Ref.{Ref}
@@ -15,14 +16,18 @@ use Rattle.pager_model.specs.Flat.{flat_reply}
 use Rattle.pager_model.specs.Given.{with_reply}
 use Rattle.pager_model.specs.Spoken.{flat_after}
 use Rattle.call_laws.specs.AreLegal.{AreLegal}
+use Rattle.call_begins.specs.MayBegin.{empty}
+use Rattle.call_begins.specs.ReadySeat.{IsReadySeat}
 use Rattle.lift_carriers.specs.CarrierView.{CarrierView}
 use Rattle.vm_state.specs.History.{History, owed}
 use Rattle.vm_state.specs.LiftsLand.{added_each}
 use Rattle.fault_core.specs.Lifted.{IsCarrying}
+use Rattle.fault_core.specs.SoughtPage.{IsSought}
 use Rattle.fault_core.specs.declared.next.AgainWhy.{AgainWhy}
 use Rattle.fault_core.specs.declared.next.AgainWhy.TheVariants.{BlockBusy, Charging, Collided, ModifiedFull, NoFrame, NotResident}
 use Rattle.fault_core.specs.declared.next.Next.{Next}
 use Rattle.fault_core.specs.declared.next.Next.TheVariants.{Again, Answered, Carry, More}
+use Rattle.fault_core.specs.declared.sought.Sought.{Sought}
 
 -- the reply that an entry shows
 abbrev pub reply_shown : What → Option Reply
@@ -66,6 +71,19 @@ IsRightNext config past p r other = Unit {0}
 pub record MayGive (s : History) (seat : Seat) (g : GivenNext) : Type 0 where
   pub legal : AreLegal s.config s.past seat.0 g.made
   pub room : owed s.past + 64 ≤ s.spare
+
+-- what may be asked of the seat of a process that refers to memory: the seat is ready, the reference is well formed, the
+-- entries that are given may be made, and the seat's carrier has no lifts
+pub record MayRefer {B : Type 0} (s : History) (seat : Seat) (r : Ref) (g : GivenNext) (old : CarrierView B) : Type 0 where
+  pub ready : IsReadySeat s seat
+  pub formed : IsWellFormedReference r
+  pub may : MayGive s seat g
+  pub carrier : old ≡ empty seat
+
+-- and of the seat whose page is sought
+pub record MaySeek {B : Type 0} (s : History) (x : Sought) (g : GivenNext) (old : CarrierView B) : Type 0 where
+  pub sought : IsSought s x
+  pub refers : MayRefer s x.seat x.r g old
 
 module _ {B : Type 0} (seen : B → BlockView) where
   -- what a call leaves of the history and of the seat's carrier, and what it returns

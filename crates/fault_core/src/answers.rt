@@ -1,26 +1,20 @@
-ghost use Rattle.std.specs.Prelude.{◌≡◌, Some};
-ghost use Rattle.vm_types.specs.WellFormed.{IsWellFormedReference};
-ghost use Rattle.call_begins.specs.MayBegin.{empty};
-ghost use Rattle.vm_state.specs.History.{pager};
-ghost use Rattle.vm_state.specs.PageReadings.{IsGranted, found_in};
-ghost use Rattle.fault_core.specs.Cases.{at_entry, at_refusal, vpn_of};
-ghost use Rattle.fault_core.specs.Gives.{Gives, MayGive};
-ghost use Rattle.call_begins.specs.ReadySeat.{IsReadySeat};
+ghost use Rattle.std.specs.Prelude.{◌≡◌};
+ghost use Rattle.pager_model.specs.Lookups.{section_of};
+ghost use Rattle.vm_state.specs.PageReadings.{IsGranted};
+ghost use Rattle.fault_core.specs.Cases.{at_refusal};
+ghost use Rattle.fault_core.specs.Gives.{Gives, MayRefer};
 
-use crate::faults::{mapped, replaces_first};
+use crate::faults::{fault, replaces_first};
 use crate::next::Next;
+use crate::sought::Sought;
 use crate::waits::replace;
 use disk_trait::Block;
-use page_readers::Found;
 use vm_state::{Carrier, State};
-use vm_types::{Proc, Ref, Reply, Seat};
+use vm_types::{BlockId, Origin, Proc, Ref, Reply, Seat};
 
 /// No adjustment is pending. The page's entry alone says mostly what comes next.
 pub fn answer<B: Block>(state: &mut State<B>, seat: Seat, r: Ref, carrier: &mut Carrier<B>) -> Next
-    requires ready { IsReadySeat state.old seat }
-    requires formed { IsWellFormedReference r }
-    requires may { MayGive state.old seat (at_refusal state.old seat r) }
-    requires carrier { carrier.old ≡ empty seat }
+    requires { MayRefer state.old seat r (at_refusal state.old seat r) carrier.old }
     ensures { Gives B.seen B.tells state.old state.new seat r (at_refusal state.old seat r) result carrier.old carrier.new }
 {
     if let Some(valid) = state.granted(Proc(seat.0), r) {
@@ -34,13 +28,20 @@ pub fn answer<B: Block>(state: &mut State<B>, seat: Seat, r: Ref, carrier: &mut 
     look(state, seat, r, carrier)
 }
 
+/// The section block of an origin.
+fn section_of(from: Origin) -> Option<BlockId>
+    ensures { result ≡ section_of from }
+{
+    match from {
+        Origin::Zero => None,
+        Origin::Section(s, i) => Some(BlockId::Section(s, i)),
+    }
+}
+
 /// It is looked what the process has at the page number.
 #[inline(never)]
 fn look<B: Block>(state: &mut State<B>, seat: Seat, r: Ref, carrier: &mut Carrier<B>) -> Next
-    requires ready { IsReadySeat state.old seat }
-    requires formed { IsWellFormedReference r }
-    requires may { MayGive state.old seat (at_refusal state.old seat r) }
-    requires carrier { carrier.old ≡ empty seat }
+    requires { MayRefer state.old seat r (at_refusal state.old seat r) carrier.old }
     ensures { Gives B.seen B.tells state.old state.new seat r (at_refusal state.old seat r) result carrier.old carrier.new }
 {
     let there = state.found(Proc(seat.0), r.addr.0 / 512);
@@ -49,28 +50,21 @@ fn look<B: Block>(state: &mut State<B>, seat: Seat, r: Ref, carrier: &mut Carrie
             state.denied(seat, r, why);
             Next::Answered(Reply::Refused(why))
         }
-        None => entry(state, seat, r, there.unwrap(), carrier),
-    }
-}
-
-/// The reference isn't refused.
-fn entry<B: Block>(
-    state: &mut State<B>,
-    seat: Seat,
-    r: Ref,
-    found: Found,
-    carrier: &mut Carrier<B>,
-) -> Next
-    requires found { Some found ≡ found_in state.old.config (pager state.old) seat.0 (vpn_of r) }
-    requires ready { IsReadySeat state.old seat }
-    requires formed { IsWellFormedReference r }
-    requires may { MayGive state.old seat (at_entry state.old seat r) }
-    requires carrier { carrier.old ≡ empty seat }
-    ensures { Gives B.seen B.tells state.old state.new seat r (at_entry state.old seat r) result carrier.old carrier.new }
-{
-    if found.valid {
-        Next::Answered(state.done(seat, r))
-    } else {
-        mapped(state, seat, r, found, carrier)
+        None => {
+            let found = there.unwrap();
+            if found.valid {
+                return Next::Answered(state.done(seat, r));
+            }
+            let behind = section_of(found.from);
+            let backing = state.backing(found.page);
+            let x = Sought {
+                seat,
+                r,
+                page: found.page,
+                behind,
+                backing,
+            };
+            fault(state, x, carrier)
+        }
     }
 }

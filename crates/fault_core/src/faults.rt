@@ -1,16 +1,10 @@
-ghost use Rattle.std.specs.Prelude.{◌≡◌, ◌<◌, ◌&&◌, true, Some, length, nat_eq, nat_le, not};
-ghost use Rattle.vm_types.specs.WellFormed.{IsWellFormedReference};
+ghost use Rattle.std.specs.Prelude.{◌≡◌, ◌<◌, ◌&&◌, true, length, nat_eq, nat_le, not};
 ghost use Rattle.vm_types.specs.Ring.{filled};
 ghost use Rattle.pager_model.specs.Advance.{is_uncharged};
-ghost use Rattle.pager_model.specs.Lookups.{section_of};
 ghost use Rattle.pager_model.specs.Maps.{is_paged};
 ghost use Rattle.vm_state.specs.History.{pager};
-ghost use Rattle.vm_state.specs.PageReadings.{found_in};
-ghost use Rattle.call_begins.specs.MayBegin.{empty};
-ghost use Rattle.fault_core.specs.Cases.{IsReplacedFirst, at_fault, at_map, at_room, vpn_of};
-ghost use Rattle.fault_core.specs.SoughtPage.{IsSought};
-ghost use Rattle.fault_core.specs.Gives.{Gives, MayGive};
-ghost use Rattle.call_begins.specs.ReadySeat.{IsReadySeat};
+ghost use Rattle.fault_core.specs.Cases.{IsReplacedFirst, at_fault, at_room};
+ghost use Rattle.fault_core.specs.Gives.{Gives, MaySeek};
 
 use crate::fetches::held;
 use crate::next::{AgainWhy, Next};
@@ -18,63 +12,17 @@ use crate::sought::Sought;
 use crate::waits::{read, replace};
 use disk_trait::Block;
 use page_changes::is_paged;
-use page_readers::Found;
 use vm_state::{Carrier, State};
-use vm_types::{BlockId, Config, Origin, Page, Proc, Ref, Seat};
-
-/// The section block of an origin.
-fn section_of(from: Origin) -> Option<BlockId>
-    ensures { result ≡ section_of from }
-{
-    match from {
-        Origin::Zero => None,
-        Origin::Section(s, i) => Some(BlockId::Section(s, i)),
-    }
-}
-
-/// The page's entry isn't valid.
-pub fn mapped<B: Block>(
-    state: &mut State<B>,
-    seat: Seat,
-    r: Ref,
-    found: Found,
-    carrier: &mut Carrier<B>,
-) -> Next
-    requires found { Some found ≡ found_in state.old.config (pager state.old) seat.0 (vpn_of r) }
-    requires ready { IsReadySeat state.old seat }
-    requires formed { IsWellFormedReference r }
-    requires may { MayGive state.old seat (at_map state.old seat r) }
-    requires carrier { carrier.old ≡ empty seat }
-    ensures { Gives B.seen B.tells state.old state.new seat r (at_map state.old seat r) result carrier.old carrier.new }
-{
-    let behind = section_of(found.from);
-    let backing = state.backing(found.page);
-    let x = Sought {
-        page: found.page,
-        behind,
-        backing,
-    };
-    fault(state, seat, r, x, carrier)
-}
+use vm_types::{Config, Proc};
 
 /// A page that is mapped isn't valid.
-fn fault<B: Block>(
-    state: &mut State<B>,
-    seat: Seat,
-    r: Ref,
-    x: Sought,
-    carrier: &mut Carrier<B>,
-) -> Next
-    requires ready { IsReadySeat state.old seat }
-    requires formed { IsWellFormedReference r }
-    requires sought { IsSought state.old seat r x }
-    requires may { MayGive state.old seat (at_fault state.old seat r x.page) }
-    requires carrier { carrier.old ≡ empty seat }
-    ensures { Gives B.seen B.tells state.old state.new seat r (at_fault state.old seat r x.page) result carrier.old carrier.new }
+pub fn fault<B: Block>(state: &mut State<B>, x: Sought, carrier: &mut Carrier<B>) -> Next
+    requires { MaySeek state.old x (at_fault state.old x) carrier.old }
+    ensures { Gives B.seen B.tells state.old state.new x.seat x.r (at_fault state.old x) result carrier.old carrier.new }
 {
     match x.backing.frame {
-        Some(f) => read(state, seat, r, x, f, carrier),
-        None => room(state, seat, r, x, carrier),
+        Some(f) => read(state, x, f, carrier),
+        None => room(state, x, carrier),
     }
 }
 
@@ -112,25 +60,15 @@ pub fn replaces_first<B: Block>(state: &State<B>, p: Proc) -> bool
 
 /// No other seat is reading the page.
 #[inline(always)]
-pub fn room<B: Block>(
-    state: &mut State<B>,
-    seat: Seat,
-    r: Ref,
-    x: Sought,
-    carrier: &mut Carrier<B>,
-) -> Next
-    requires ready { IsReadySeat state.old seat }
-    requires formed { IsWellFormedReference r }
-    requires sought { IsSought state.old seat r x }
-    requires may { MayGive state.old seat (at_room state.old seat r x.page) }
-    requires carrier { carrier.old ≡ empty seat }
-    ensures { Gives B.seen B.tells state.old state.new seat r (at_room state.old seat r x.page) result carrier.old carrier.new }
+pub fn room<B: Block>(state: &mut State<B>, x: Sought, carrier: &mut Carrier<B>) -> Next
+    requires { MaySeek state.old x (at_room state.old x) carrier.old }
+    ensures { Gives B.seen B.tells state.old state.new x.seat x.r (at_room state.old x) result carrier.old carrier.new }
 {
     if is_charging(state, x) {
         Next::Again(AgainWhy::Charging)
-    } else if is_at_limit(state, Proc(seat.0)) {
-        replace(state, seat, r, carrier)
+    } else if is_at_limit(state, Proc(x.seat.0)) {
+        replace(state, x.seat, x.r, carrier)
     } else {
-        held(state, seat, r, x, carrier)
+        held(state, x, carrier)
     }
 }

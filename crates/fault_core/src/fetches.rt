@@ -1,8 +1,7 @@
-ghost use Rattle.std.specs.Prelude.{◌≡◌, ◌+◌, ◌≤◌, ◌&&◌, ◌∷◌, [], Some, None, not, if◌then◌else◌};
+ghost use Rattle.std.specs.Prelude.{◌≡◌, ◌+◌, ◌<◌, ◌≤◌, ◌&&◌, ◌∷◌, ◌++◌, [], Some, None, length, map, not, if◌then◌else◌};
 ghost use Rattle.vm_types.specs.Configuration.{IsBlock};
-ghost use Rattle.vm_types.specs.WellFormed.{IsWellFormedReference};
 ghost use Rattle.vm_types.specs.declared.names.BlockId.{BlockId};
-ghost use Rattle.pager_model.specs.Advance.{is_busy_block, source_of};
+ghost use Rattle.pager_model.specs.Advance.{is_busy_block};
 ghost use Rattle.pager_model.specs.Forget.{holder};
 ghost use Rattle.pager_model.specs.Given.{reuse_first};
 ghost use Rattle.pager_model.specs.Lookups.{IsHead};
@@ -10,67 +9,40 @@ ghost use Rattle.pager_model.specs.Maps.{is_paged};
 ghost use Rattle.call_laws.specs.AreLegal.{AreLegal};
 ghost use Rattle.vm_state.specs.History.{owed, pager};
 ghost use Rattle.vm_state.specs.LiftsLand.{added_each};
-ghost use Rattle.call_begins.specs.MayBegin.{empty};
-ghost use Rattle.fault_core.specs.Cases.{at_frame, at_held, at_out, vpn_of};
-ghost use Rattle.fault_core.specs.SoughtPage.{IsSought, first_block};
-ghost use Rattle.fault_core.specs.Gives.{Gives, MayGive};
-ghost use Rattle.call_begins.specs.ReadySeat.{IsReadySeat};
+ghost use Rattle.call_begins.specs.Lifted.{HasBegunLifts, place_of, places_in};
+ghost use Rattle.call_begins.specs.OneRead.{one_read};
+ghost use Rattle.fault_core.specs.Cases.{at_frame, at_held, at_out};
+ghost use Rattle.fault_core.specs.SoughtPage.{first_block};
+ghost use Rattle.fault_core.specs.Gives.{Gives, MaySeek};
 
+use crate::cluster::{block_after, cluster};
 use crate::faults::is_uncharged;
 use crate::next::{AgainWhy, Next};
-use crate::reads::read_in;
 use crate::sought::Sought;
 use crate::waits::page_start;
-use call_begins::reuse_first;
+use arrayvec::ArrayVec;
+use call_begins::{read_one, reuse_first};
 use disk_trait::Block;
 use page_lists::ListName;
+use vm_journal::Role;
 use vm_state::{Carrier, State};
-use vm_types::{BlockId, Page, Pfn, Proc, Ref, Seat};
+use vm_types::{BlockId, Page, Pfn, Proc};
 
-/// There is a slot for the page.
+/// There is a slot for the page. If it is in a frame, it comes back, and the reference is answered.
 #[inline(always)]
-pub fn held<B: Block>(
-    state: &mut State<B>,
-    seat: Seat,
-    r: Ref,
-    x: Sought,
-    carrier: &mut Carrier<B>,
-) -> Next
-    requires ready { IsReadySeat state.old seat }
-    requires formed { IsWellFormedReference r }
-    requires sought { IsSought state.old seat r x }
-    requires may { MayGive state.old seat (at_held state.old seat r x.page) }
-    requires carrier { carrier.old ≡ empty seat }
-    ensures { Gives B.seen B.tells state.old state.new seat r (at_held state.old seat r x.page) result carrier.old carrier.new }
+pub fn held<B: Block>(state: &mut State<B>, x: Sought, carrier: &mut Carrier<B>) -> Next
+    requires { MaySeek state.old x (at_held state.old x) carrier.old }
+    ensures { Gives B.seen B.tells state.old state.new x.seat x.r (at_held state.old x) result carrier.old carrier.new }
 {
     match x.backing.frame {
-        Some(f) => back(state, seat, r, x, f, carrier),
-        None => fetch(state, seat, r, x, carrier),
+        Some(f) => {
+            let row = state.frame(f);
+            let start = page_start(x.r);
+            state.back(x.seat, Proc(x.seat.0), start, f, row.state);
+            Next::Answered(state.done(x.seat, x.r))
+        }
+        None => fetch(state, x, carrier),
     }
-}
-
-/// The page is in a frame: it comes back, and the reference is answered.
-#[inline(always)]
-fn back<B: Block>(
-    state: &mut State<B>,
-    seat: Seat,
-    r: Ref,
-    x: Sought,
-    f: Pfn,
-    carrier: &mut Carrier<B>,
-) -> Next
-    requires holds { holder state.old.config (pager state.old).page x.page ≡ Some f.0 }
-    requires ready { IsReadySeat state.old seat }
-    requires formed { IsWellFormedReference r }
-    requires sought { IsSought state.old seat r x }
-    requires may { MayGive state.old seat (at_held state.old seat r x.page) }
-    requires carrier { carrier.old ≡ empty seat }
-    ensures { Gives B.seen B.tells state.old state.new seat r (at_held state.old seat r x.page) result carrier.old carrier.new }
-{
-    let row = state.frame(f);
-    let start = page_start(r);
-    state.back(seat, Proc(seat.0), start, f, row.state);
-    Next::Answered(state.done(seat, r))
 }
 
 /// The block from which a page is read that isn't charged yet: that behind a private page; a shared
@@ -110,76 +82,58 @@ fn is_busy_block<B: Block>(state: &State<B>, block: Option<BlockId>) -> bool
     }
 }
 
-/// The page is out: it is read, or made of zeros.
-fn fetch<B: Block>(
-    state: &mut State<B>,
-    seat: Seat,
-    r: Ref,
-    x: Sought,
-    carrier: &mut Carrier<B>,
-) -> Next
+/// The page is out: it is read from its block, or made of zeros.
+fn fetch<B: Block>(state: &mut State<B>, x: Sought, carrier: &mut Carrier<B>) -> Next
     requires out { holder state.old.config (pager state.old).page x.page ≡ None }
-    requires ready { IsReadySeat state.old seat }
-    requires formed { IsWellFormedReference r }
-    requires sought { IsSought state.old seat r x }
-    requires may { MayGive state.old seat (at_out state.old seat r x.page) }
-    requires carrier { carrier.old ≡ empty seat }
-    ensures { Gives B.seen B.tells state.old state.new seat r (at_out state.old seat r x.page) result carrier.old carrier.new }
+    requires seeks { MaySeek state.old x (at_out state.old x) carrier.old }
+    ensures { Gives B.seen B.tells state.old state.new x.seat x.r (at_out state.old x) result carrier.old carrier.new }
 {
     let block = source(state, x);
     if is_busy_block(state, block) {
-        Next::Again(AgainWhy::BlockBusy)
-    } else {
-        frame(state, seat, r, x, block, carrier)
+        return Next::Again(AgainWhy::BlockBusy);
     }
-}
-
-/// The page is to be read from this block, or made of zeros.
-fn frame<B: Block>(
-    state: &mut State<B>,
-    seat: Seat,
-    r: Ref,
-    x: Sought,
-    block: Option<BlockId>,
-    carrier: &mut Carrier<B>,
-) -> Next
-    requires source { block ≡ source_of state.old.config (pager state.old) x.page ((pager state.old).map seat.0 (vpn_of r)) }
-    requires ready { IsReadySeat state.old seat }
-    requires formed { IsWellFormedReference r }
-    requires sought { IsSought state.old seat r x }
-    requires may { MayGive state.old seat (at_frame state.old seat r x.page block) }
-    requires carrier { carrier.old ≡ empty seat }
-    ensures { Gives B.seen B.tells state.old state.new seat r (at_frame state.old seat r x.page block) result carrier.old carrier.new }
-{
     match state.head(ListName::Free) {
         Some(f) => match block {
-            Some(b) => read_in(state, seat, r, x, b, carrier),
-            None => zero(state, seat, r, x, f, carrier),
+            Some(b) => read_in(state, x, b, carrier),
+            None => zero(state, x, f, carrier),
         },
         None => Next::Again(AgainWhy::NoFrame),
     }
 }
 
+/// The page and those that are read with it are read, from their blocks.
+fn read_in<B: Block>(state: &mut State<B>, x: Sought, b: BlockId, carrier: &mut Carrier<B>) -> Next
+    requires seeks { MaySeek state.old x (at_frame state.old x (Some b)) carrier.old }
+    requires exists { IsBlock state.old.config b }
+    requires free { 1 ≤ length (pager state.old).free }
+    ensures { Gives B.seen B.tells state.old state.new x.seat x.r (at_frame state.old x (Some b)) result carrier.old carrier.new }
+{
+    let mut pages = ArrayVec::new();
+    let length = cluster(state, x, b, &mut pages);
+    let fault = Role::Fault(Proc(x.seat.0), page_start(x.r));
+    read_one(state, x.seat, b, fault, carrier);
+    for places in 1..length {
+        match pages.as_slice()[places as usize] {
+            Some(page) => {
+                state.run_law();
+                let block = block_after(b, places);
+                read_one(state, x.seat, block, Role::Near(page), carrier);
+            }
+            None => {}
+        }
+    }
+    Next::Carry
+}
+
 /// A demand zero page gets a frame of zeros, and the reference is answered.
 #[inline(never)]
-fn zero<B: Block>(
-    state: &mut State<B>,
-    seat: Seat,
-    r: Ref,
-    x: Sought,
-    f: Pfn,
-    carrier: &mut Carrier<B>,
-) -> Next
+fn zero<B: Block>(state: &mut State<B>, x: Sought, f: Pfn, carrier: &mut Carrier<B>) -> Next
     requires head { IsHead (pager state.old).free f.0 }
-    requires ready { IsReadySeat state.old seat }
-    requires formed { IsWellFormedReference r }
-    requires sought { IsSought state.old seat r x }
-    requires may { MayGive state.old seat (at_frame state.old seat r x.page None) }
-    requires carrier { carrier.old ≡ empty seat }
-    ensures { Gives B.seen B.tells state.old state.new seat r (at_frame state.old seat r x.page None) result carrier.old carrier.new }
+    requires seeks { MaySeek state.old x (at_frame state.old x None) carrier.old }
+    ensures { Gives B.seen B.tells state.old state.new x.seat x.r (at_frame state.old x None) result carrier.old carrier.new }
 {
-    reuse_first(state, seat, f);
-    let start = page_start(r);
-    state.zero(seat, start, f);
-    Next::Answered(state.done(seat, r))
+    reuse_first(state, x.seat, f);
+    let start = page_start(x.r);
+    state.zero(x.seat, start, f);
+    Next::Answered(state.done(x.seat, x.r))
 }

@@ -7,8 +7,8 @@ ghost use Rattle.pager_model.specs.Lookups.{is_resident};
 ghost use Rattle.vm_state.specs.History.{MayAdd, added, entry_by, owed, pager};
 ghost use Rattle.call_begins.specs.MayBegin.{empty};
 ghost use Rattle.fault_core.specs.Cases.{at_first};
-ghost use Rattle.fault_core.specs.Gives.{Gives, MayGive};
-ghost use Rattle.call_begins.specs.ReadySeat.{IsIdleSeat, IsReadySeat};
+ghost use Rattle.fault_core.specs.Gives.{Gives, MayRefer};
+ghost use Rattle.call_begins.specs.ReadySeat.{IsIdleSeat};
 ghost use Rattle.fault_core.specs.declared.next.Next.{Next};
 
 use crate::answers::answer;
@@ -59,10 +59,7 @@ fn is_resident(status: ProcStatus) -> bool
 
 /// The process is resident.
 fn resident<B: Block>(state: &mut State<B>, seat: Seat, r: Ref, carrier: &mut Carrier<B>) -> Next
-    requires ready { IsReadySeat state.old seat }
-    requires formed { IsWellFormedReference r }
-    requires may { MayGive state.old seat (at_first state.old seat r) }
-    requires carrier { carrier.old ≡ empty seat }
+    requires { MayRefer state.old seat r (at_first state.old seat r) carrier.old }
     ensures { Gives B.seen B.tells state.old state.new seat r (at_first state.old seat r) result carrier.old carrier.new }
 {
     match state.pending(Proc(seat.0)) {

@@ -7,7 +7,6 @@ mod faults;
 mod fetches;
 mod handler;
 mod next;
-mod reads;
 mod sought;
 mod waits;
 

@@ -1,9 +1,12 @@
 use page_readers::Backing;
-use vm_types::{BlockId, Page};
+use vm_types::{BlockId, Page, Ref, Seat};
 
-/// A page that a process refers to: the section block behind it, if there is one, and where it is.
+/// The page of a reference that a seat makes: the section block behind it, if there is one, and where
+/// it is.
 #[derive(Clone, Copy, Debug, PartialEq, Eq)]
 pub struct Sought {
+    pub seat: Seat,
+    pub r: Ref,
     pub page: Page,
     pub behind: Option<BlockId>,
     pub backing: Backing,

@@ -3,7 +3,7 @@
 ghost use Rattle.std.specs.Prelude.{◌≡◌, ℕ, ◌+◌, All, Some, None, find, if◌then◌else◌};
 ghost use Rattle.std.specs.Option.{option_map};
 ghost use Rattle.vm_types.specs.Behind.{covers, origin_after};
-ghost use Rattle.page_tables.specs.PageTables.{HasPage, IsEntry, entry_of};
+ghost use Rattle.page_tables.specs.PageTables.{HasPage, IsEntry, pte_in};
 ghost use Rattle.vm_types.specs.PagePlaces.{changed_at};
 ghost use Rattle.pager_model.specs.Maps.{mapped_by};
 ghost use Rattle.state_fits.specs.Opening.{first_pte};
@@ -45,7 +45,7 @@ fn place_of(config: &Config, firsts: &[u32], origin: Origin) -> Place
 fn put(tables: &mut Tables, p: Proc, vpn: u32, pte: Pte)
     requires page { HasPage tables.old p.0 vpn }
     requires entry { IsEntry pte }
-    ensures changed { (q w : ℕ) → entry_of tables.new q w ≡ changed_at (entry_of tables.old) p.0 vpn (Some pte) q w }
+    ensures changed { (q w : ℕ) → pte_in tables.new q w ≡ changed_at (pte_in tables.old) p.0 vpn (Some pte) q w }
     ensures procs { tables.new.procs ≡ tables.old.procs }
 {
     match tables.look(p, vpn) {
@@ -57,8 +57,8 @@ fn put(tables: &mut Tables, p: Proc, vpn: u32, pte: Pte)
 /// Maps the pages of a mapping.
 fn lay(tables: &mut Tables, config: &Config, firsts: &[u32], mapping: &Mapping)
     requires { CanLay config.now firsts.now tables.old.procs mapping.now }
-    ensures laid { (p v : ℕ) → entry_of tables.new p v
-        ≡ (if covers p v mapping.now then Some (first_pte config.now p v (mapped_by v mapping.now)) else entry_of tables.old p v) }
+    ensures laid { (p v : ℕ) → pte_in tables.new p v
+        ≡ (if covers p v mapping.now then Some (first_pte config.now p v (mapped_by v mapping.now)) else pte_in tables.old p v) }
     ensures procs { tables.new.procs ≡ tables.old.procs }
 {
     let first = mapping.at.0 / 512;
@@ -71,9 +71,9 @@ fn lay(tables: &mut Tables, config: &Config, firsts: &[u32], mapping: &Mapping)
 
 /// Maps the pages of all mappings in tables that have nothing yet.
 pub(crate) fn lay_all(tables: &mut Tables, config: &Config, firsts: &[u32])
-    requires empty { (p v : ℕ) → entry_of tables.old p v ≡ None }
+    requires empty { (p v : ℕ) → pte_in tables.old p v ≡ None }
     requires can { All (CanLay config.now firsts.now tables.old.procs) config.now.maps }
-    ensures laid { (p v : ℕ) → entry_of tables.new p v
+    ensures laid { (p v : ℕ) → pte_in tables.new p v
         ≡ option_map (λ m. first_pte config.now p v (mapped_by v m)) (find (covers p v) config.now.maps) }
     ensures procs { tables.new.procs ≡ tables.old.procs }
 {

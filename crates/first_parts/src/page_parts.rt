@@ -5,7 +5,7 @@ ghost use Rattle.std.specs.Option.{option_map};
 ghost use Rattle.vm_types.specs.Behind.{first_behind};
 ghost use Rattle.vm_types.specs.Configuration.{IsWellFormed, section_pages};
 ghost use Rattle.vm_types.specs.declared.names.Page.{Page};
-ghost use Rattle.page_tables.specs.PageTables.{entry_of};
+ghost use Rattle.page_tables.specs.PageTables.{pte_in};
 ghost use Rattle.pager_model.specs.Maps.{first_map};
 ghost use Rattle.section_table.specs.SectionTable.{behind_of, part_of};
 ghost use Rattle.state_parts.specs.ChargedTable.{HasPagedPlaces, kept_at};
@@ -61,7 +61,7 @@ pub fn first_page_parts(
     requires formed { IsWellFormed config.now }
     requires firsts { HasFirsts config.now firsts.now }
     ensures table_procs { IfOk result (λ x. x.tables.procs ≡ length config.now.procs) }
-    ensures entries { IfOk result (λ x. (p v : ℕ) → entry_of x.tables p v ≡ option_map (first_pte config.now p v) (first_map config.now p v)) }
+    ensures entries { IfOk result (λ x. (p v : ℕ) → pte_in x.tables p v ≡ option_map (first_pte config.now p v) (first_map config.now p v)) }
     ensures section_procs { IfOk result (λ x. x.sections.procs ≡ length config.now.procs) }
     ensures kinds { IfOk result (λ x. x.sections.parts ≡ map part_of config.now.sections) }
     ensures behind { IfOk result (λ x. (p v : ℕ) → behind_of x.sections p v ≡ first_behind config.now p v) }
@@ -89,7 +89,7 @@ fn first_tables(alloc: Global, config: &Config, firsts: &[u32]) -> Result<Tables
     requires formed { IsWellFormed config.now }
     requires firsts { HasFirsts config.now firsts.now }
     ensures procs { IfOk result (λ t. t.procs ≡ length config.now.procs) }
-    ensures entries { IfOk result (λ t. (p v : ℕ) → entry_of t p v ≡ option_map (first_pte config.now p v) (first_map config.now p v)) }
+    ensures entries { IfOk result (λ t. (p v : ℕ) → pte_in t p v ≡ option_map (first_pte config.now p v) (first_map config.now p v)) }
 {
     let mut tables = Tables::new(alloc, config.procs.items().len() as u32)?;
     lay_all(&mut tables, config, firsts);

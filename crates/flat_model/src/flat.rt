@@ -3,7 +3,6 @@
 
 ghost use Rattle.std.specs.Prelude.{◌≡◌, ◌&&◌, count_by, filter, nat_eq, IfOk};
 ghost use Rattle.vm_types.specs.Configuration.{IsWellFormed};
-ghost use Rattle.vm_types.specs.Same.{same_page};
 ghost use Rattle.vm_types.specs.WellFormed.{IsWellFormedReference, IsWellFormedService};
 ghost use Rattle.pager_model.specs.Flat.{flat_start, is_change};
 ghost use Rattle.pager_model.specs.FlatService.{is_private_in};
@@ -17,6 +16,7 @@ use crate::tables::Tables;
 use std::alloc::Global;
 use vm_types::{
     Addr, Config, NoMemory, Op, Origin, Page, Proc, Ref, Reply, Section, Service, Why, allowed,
+    is_same_page,
 };
 
 /// A page that was referred to, and its bytes.
@@ -43,17 +43,6 @@ fn changes(op: Op) -> bool
     }
 }
 
-fn is_same(one: Page, other: Page) -> bool
-    ensures { result ≡ same_page one other }
-{
-    match (one, other) {
-        (Page::Private(p, v), Page::Private(q, w)) => p.0 == q.0 && v == w,
-        (Page::Shared(s, i), Page::Shared(t, j)) => s.0 == t.0 && i == j,
-        (Page::Private(_, _), Page::Shared(_, _)) | (Page::Shared(_, _), Page::Private(_, _)) =>
-            false,
-    }
-}
-
 /// Whether a page is charged to the page file.
 fn is_charged(sections: &[Section], page: Page) -> bool
     ensures { result ≡ is_paged_in sections.now page }
@@ -69,7 +58,7 @@ fn place_of(stored: &[Stored], page: Page) -> Option<usize>
     ensures { IsPlace stored.now page result }
 {
     for (place, entry) in stored.iter().enumerate() {
-        if is_same(entry.page, page) {
+        if is_same_page(entry.page, page) {
             return Some(place);
         }
     }

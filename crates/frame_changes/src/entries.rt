@@ -1,6 +1,6 @@
 ghost use Rattle.std.specs.Prelude.{◌≡◌, ◌≢◌, ◌<◌, ◌+◌, ◌-◌, ◌^◌, ◌==◌, if◌then◌else◌, true, length, IfSome, slice_set, Some};
 ghost use Rattle.page_lists.specs.Lists.{without};
-ghost use Rattle.pfn_database.specs.Rows.{FitsSlot, counted_references, uncounted};
+ghost use Rattle.pfn_database.specs.Rows.{FitsSlotIndex, counted_references, uncounted};
 ghost use Rattle.pfn_database.specs.Frames.{row_of, IsConsistent};
 ghost use Rattle.pager_model.specs.Changes.{pushed_if};
 ghost use Rattle.pager_model.specs.Evict.{evicted_to};
@@ -18,7 +18,7 @@ pub fn enter(frames: &mut Pfns, f: Pfn, page: Page, slot: u32, modify: bool)
     requires usable { ((row_of frames.old f.0).state ≢ FrameState.Bad)
         × ((row_of frames.old f.0).state ≢ FrameState.ReadError) }
     requires page { IfSome (row_of frames.old f.0).page (λ held. held ≡ page) }
-    requires slot { FitsSlot (Some page) slot }
+    requires slot { FitsSlotIndex (Some page) slot }
     requires shares { (row_of frames.old f.0).shares < 2 ^ 32 - 1 }
     ensures rows { let row = row_of frames.old f.0 in
         frames.new.rows ≡ slice_set frames.old.rows f.0

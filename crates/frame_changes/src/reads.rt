@@ -1,6 +1,6 @@
 ghost use Rattle.std.specs.Prelude.{◌≡◌, ◌<◌, ◌+◌, false, None, Some, [], ◌∷◌, ◌++◌, length, slice_get, slice_set};
 ghost use Rattle.page_lists.specs.Lists.{without};
-ghost use Rattle.pfn_database.specs.Rows.{FitsSlot, counted_references, uncounted};
+ghost use Rattle.pfn_database.specs.Rows.{FitsSlotIndex, counted_references, uncounted};
 ghost use Rattle.pfn_database.specs.Frames.{row_of, IsConsistent};
 
 use crate::entries::enter;
@@ -39,7 +39,7 @@ pub fn end_read(frames: &mut Pfns, f: Pfn, page: Page, slot: u32, modify: bool)
     requires reading { (row_of frames.old f.0).state ≡ FrameState.Reading }
     requires flights { (row_of frames.old f.0).flights ≡ 1 }
     requires page { (row_of frames.old f.0).page ≡ Some page }
-    requires slot { FitsSlot (Some page) slot }
+    requires slot { FitsSlotIndex (Some page) slot }
     ensures rows { let row = row_of frames.old f.0 in
         frames.new.rows ≡ slice_set frames.old.rows f.0
         (record row {

@@ -4,7 +4,7 @@ use Rattle.std.specs.Prelude.{IsSome, swap_remove}
 use Rattle.std.proofs.lemmas.Option.{get_or_from_slice_get, slice_get_read, slice_get_within}
 use Rattle.vm_types.specs.declared.names.BlockId.{BlockId}
 use Rattle.frame_store.specs.Blocks.{held_at, number_in}
-use Rattle.frame_store.specs.Home.{HomeView, IsHome, blocks_in}
+use Rattle.frame_store.specs.Home.{HomeView, IsHomeTable, blocks_in}
 use Rattle.frame_store.proofs.Changed.{noted_below}
 use Rattle.frame_store.proofs.Kept.{block_at_place, length_in, out_of_place, placed_at, put_blocks, put_count, put_laid, put_many, taken_blocks, taken_count, taken_laid, taken_many}
 use Rattle.frame_store.proofs.Places.{get_held, held_below, held_some, number_finds, placed}
@@ -12,7 +12,7 @@ use Rattle.frame_store.proofs.Places.{get_held, held_below, held_some, number_fi
 pub homes_equal : {B : Type 0} (h k : HomeView B) → h.ids ≡ k.ids → h.blocks ≡ k.blocks → h ≡ k
 homes_equal h k ids blocks = λ i. record { ids = ids i; blocks = blocks i }
 
-module _ {B : Type 0} {ids : List BlockId} {number : BlockId → ℕ} {space : ℕ} {home : List (BlockId × B)} {places : List (Option ℕ)} (kept : IsHome home places ids number space) (b : BlockId) (n : ℕ) (is : n ≡ number b) where
+module _ {B : Type 0} {ids : List BlockId} {number : BlockId → ℕ} {space : ℕ} {home : List (BlockId × B)} {places : List (Option ℕ)} (kept : IsHomeTable home places ids number space) (b : BlockId) (n : ℕ) (is : n ≡ number b) where
   all_many : length (blocks_in home places) ≡ length ids
   all_many = length_in home places ∙ kept.many
 
@@ -64,10 +64,10 @@ module _ {B : Type 0} {ids : List BlockId} {number : BlockId → ℕ} {space : �
           after_is : slice_set (slice_set places (number q.0) (Some k)) n None ≡ after
           after_is = ap (λ i. slice_set (slice_set places i (Some k)) n None) (sym moved)
 
-          pub take_kept : (room : ℕ) → room ≡ space → IsHome new after ids number room
+          pub take_kept : (room : ℕ) → room ≡ space → IsHomeTable new after ids number room
           take_kept room same =
-              subst (λ ys. IsHome new ys ids number room) after_is
-              (subst (λ xs. IsHome xs (slice_set (slice_set places (number q.0) (Some k)) n None) ids number room) (sym items)
+              subst (λ ys. IsHomeTable new ys ids number room) after_is
+              (subst (λ xs. IsHomeTable xs (slice_set (slice_set places (number q.0) (Some k)) n None) ids number room) (sym items)
               (record {
                 laid = taken_laid kept.laid n k last x block.0 q at block.1 end long;
                 many = taken_many kept.laid n k last x block.0 q at block.1 end long ∙ kept.many;
@@ -106,10 +106,10 @@ module _ {B : Type 0} {ids : List BlockId} {number : BlockId → ℕ} {space : �
         omega (arith, fewer, count, many, enough)
 
     module _ (x : B) (len : ℕ) (new : List (BlockId × B)) (long : len ≡ length home) (items : new ≡ home ++ (b, x) ∷ []) where
-      pub put_kept : (room : ℕ) → room ≡ space → IsHome new (slice_set places n (Some len)) ids number room
+      pub put_kept : (room : ℕ) → room ≡ space → IsHomeTable new (slice_set places n (Some len)) ids number room
       put_kept room same =
-          subst (λ ys. IsHome new ys ids number room) (ap (λ i. slice_set places n (Some i)) (sym long))
-          (subst (λ xs. IsHome xs (slice_set places n (Some (length home))) ids number room) (sym items)
+          subst (λ ys. IsHomeTable new ys ids number room) (ap (λ i. slice_set places n (Some i)) (sym long))
+          (subst (λ xs. IsHomeTable xs (slice_set places n (Some (length home))) ids number room) (sym items)
           (record {
             laid = put_laid kept.laid n b x no_place named (sym is);
             many = put_many kept.laid n b x no_place named (sym is) ∙ kept.many;

@@ -27,7 +27,7 @@ pub record IsLaid {B : Type 0} (home : List (BlockId × B)) (places : List (Opti
 
 -- and each name has one place for its block, found by the name, as many blocks lie there as have a place, and
 -- there is room for all
-pub record IsHome {B : Type 0} (home : List (BlockId × B)) (places : List (Option ℕ)) (ids : List BlockId) (number : BlockId → ℕ) (space : ℕ) : Type 0 where
+pub record IsHomeTable {B : Type 0} (home : List (BlockId × B)) (places : List (Option ℕ)) (ids : List BlockId) (number : BlockId → ℕ) (space : ℕ) : Type 0 where
   pub laid : IsLaid home places ids number
   pub many : length places ≡ length ids
   pub count : length home ≡ count_by is_some places

@@ -3,7 +3,7 @@
 ghost use Rattle.std.specs.Prelude.{◌≡◌, ◌<◌, ◌≤◌, ◌^◌, Some, None, IsSome, IfOk, All, map, length, is_some, slice_get, slice_set, vec_capacity, vec_len};
 ghost use Rattle.std.specs.List.{range_with_len};
 ghost use Rattle.vm_types.specs.declared.names.BlockId.{BlockId};
-ghost use Rattle.frame_store.specs.Home.{IsHome, blocks_in};
+ghost use Rattle.frame_store.specs.Home.{IsHomeTable, blocks_in};
 ghost use Rattle.frame_store.specs.Numbers.{listed_by, number_by};
 
 use crate::numbers::Numbers;
@@ -22,7 +22,7 @@ pub(crate) struct Home<B: Drop> {
 
 impl<B: Drop> Model for Home<B> {
     ghost use Rattle.std.specs.Prelude.{vec_len, vec_capacity};
-    ghost use Rattle.frame_store.specs.Home.{HomeView, IsHome, blocks_in};
+    ghost use Rattle.frame_store.specs.Home.{HomeView, IsHomeTable, blocks_in};
     ghost use Rattle.frame_store.specs.Numbers.{listed_by, number_by};
 
     ghost Value = { HomeView B };
@@ -32,7 +32,7 @@ impl<B: Drop> Model for Home<B> {
       blocks = blocks_in h.blocks.items h.places.items;
     } };
 
-    ghost invariant = { λ h. IsHome h.blocks.items h.places.items
+    ghost invariant = { λ h. IsHomeTable h.blocks.items h.places.items
         (listed_by h.numbers.sections.items h.numbers.file h.numbers.swaps.items (vec_len h.places))
         (number_by h.numbers.sections.items h.numbers.file h.numbers.swaps.items) (vec_capacity h.blocks) };
 }
@@ -134,7 +134,7 @@ fn sorted<B: Drop>(
     mut blocks: Vec<(BlockId, B)>,
     mut places: Vec<Option<u32>>,
 ) -> Vec<(BlockId, B)>
-    requires home { IsHome blocks.items places.items
+    requires home { IsHomeTable blocks.items places.items
         (listed_by numbers.now.sections.items numbers.now.file numbers.now.swaps.items (vec_len places))
         (number_by numbers.now.sections.items numbers.now.file numbers.now.swaps.items) (vec_capacity blocks) }
     requires all { All IsSome (blocks_in blocks.items places.items) }

@@ -1,7 +1,7 @@
 -- What a verdict on a log says of its text. This project's own.
 use Rattle.std.specs.Prelude.{◌≡◌, ◌≢◌, ◌⊎◌, ℕ, ◌≤◌, List, [], ◌++◌, All, Option, Some, IfSome, Result, Ok, Err, length}
+use Rattle.vm_types.specs.Counts.{Rose}
 use Rattle.vm_types.specs.declared.config.Config.{Config}
-use Rattle.outside_io.specs.Causes.{Rose}
 use Rattle.outside_io.specs.LineText.{line_text}
 use Rattle.pager_model.specs.Text.{ended}
 use Rattle.log_model.specs.Log.{BeginsLegal, IsAtFault, IsLegalLog, IsTooLong, most_lines}

@@ -8,13 +8,12 @@ ghost use Rattle.log_history.specs.Landed.{failure_in};
 ghost use Rattle.log_history.specs.declared.count.Count.{Count};
 ghost use Rattle.log_history.specs.Counting.{AreOthers, IsCountSet, count_of};
 
-use crate::blocks::is_same;
 use crate::count::Count;
 use crate::flights::Flights;
 use std::alloc::Global;
 use std::marker::Model;
 use vm_journal::What;
-use vm_types::{BlockId, NoMemory};
+use vm_types::{BlockId, NoMemory, is_same_block};
 
 /// Of each block that has failed the count of failures that its last failed transfer left.
 #[derive(Debug, Drop)]
@@ -81,7 +80,7 @@ fn place_of(counts: &[Count], block: BlockId) -> usize
     ensures found { (x : Count) → slice_get counts.now result ≡ Some x → same_block block x.block ≡ true }
 {
     for (i, x) in counts.iter().enumerate() {
-        if is_same(block, x.block) {
+        if is_same_block(block, x.block) {
             return i;
         }
     }

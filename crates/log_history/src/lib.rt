@@ -2,7 +2,6 @@
 //! keeping it.
 #![tactic(auto)]
 
-mod blocks;
 mod carriers;
 mod carrying;
 mod count;

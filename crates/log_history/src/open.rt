@@ -3,10 +3,9 @@ ghost use Rattle.std.specs.List.{list_any};
 ghost use Rattle.pager_model.specs.Flights.{is_busy, without_flight};
 ghost use Rattle.pager_model.specs.Transfers.{has_come, is_on_block, is_by, reads_on, starts, writes_on};
 
-use crate::blocks::is_same;
 use crate::flight::Flight;
 use std::alloc::Global;
-use vm_types::{BlockId, NoMemory, Pfn, Proc, Seat};
+use vm_types::{BlockId, NoMemory, Pfn, Proc, Seat, is_same_block};
 
 /// The flight that began in the entry of this number.
 pub(crate) fn find_start(flights: &[Flight], k: u64) -> Option<Flight>
@@ -53,7 +52,10 @@ pub(crate) fn count_frame(flights: &[Flight], f: Pfn) -> usize
 pub(crate) fn count_on(flights: &[Flight], block: BlockId) -> usize
     ensures { result ≡ count_by (is_on_block block) flights.now }
 {
-    flights.iter().filter(|x| is_same(block, x.block())).count()
+    flights
+        .iter()
+        .filter(|x| is_same_block(block, x.block()))
+        .count()
 }
 
 /// Whether one brings back a page of the process.

@@ -1,3 +1,4 @@
 pub mod Shown
+pub mod Texts
 pub mod ReasonText
 pub mod LogMessage

@@ -1,7 +1,8 @@
 //! The message about a line of a log.
 
-ghost use Rattle.std.specs.Prelude.{◌≡◌, ◌+◌, ◌≤◌, ◌++◌, codes, decimal, length};
+ghost use Rattle.std.specs.Prelude.{◌≡◌, ◌≤◌, ◌++◌, codes, decimal, length};
 ghost use Rattle.arrayvec.specs.ArrayVec.{array_vec_len};
+ghost use Rattle.log_messages.specs.Texts.{Adds};
 ghost use Rattle.log_messages.specs.LogMessage.{line_part, log_message, next_text, reply_text, why_text};
 
 use crate::said::push_reason;
@@ -14,8 +15,7 @@ use vm_types::Reply;
 // Adds the reply that would have been right.
 fn add_reply(out: &mut ArrayVec<u8, 1024>, reply: Reply)
     requires { array_vec_len out.old ≤ 800 }
-    ensures items { out.new.items ≡ out.old.items ++ reply_text reply }
-    ensures len { array_vec_len out.new ≤ array_vec_len out.old + 12 }
+    ensures { Adds out.old.items out.new.items (reply_text reply) 12 }
 {
     match reply {
         Reply::Value(value) => push_hex(out, value, 8),
@@ -29,8 +29,7 @@ fn add_reply(out: &mut ArrayVec<u8, 1024>, reply: Reply)
 fn add_numbered(out: &mut ArrayVec<u8, 1024>, words: &[u8], number: u64)
     requires room { array_vec_len out.old ≤ 800 }
     requires short { length words.now ≤ 60 }
-    ensures items { out.new.items ≡ out.old.items ++ (words.now ++ decimal number) }
-    ensures len { array_vec_len out.new ≤ array_vec_len out.old + 80 }
+    ensures { Adds out.old.items out.new.items (words.now ++ decimal number) 80 }
 {
     push_word(out, words);
     push_decimal(out, number);
@@ -39,8 +38,7 @@ fn add_numbered(out: &mut ArrayVec<u8, 1024>, words: &[u8], number: u64)
 // Adds the line that comes next, by its first bytes, or that none does.
 fn add_next(out: &mut ArrayVec<u8, 1024>, right: &ArrayVec<u8, 80>)
     requires { array_vec_len out.old ≤ 600 }
-    ensures items { out.new.items ≡ out.old.items ++ next_text right.now.items }
-    ensures len { array_vec_len out.new ≤ array_vec_len out.old + 380 }
+    ensures { Adds out.old.items out.new.items (next_text right.now.items) 380 }
 {
     let bytes = right.as_slice();
     if bytes.is_empty() {
@@ -54,8 +52,7 @@ fn add_next(out: &mut ArrayVec<u8, 1024>, right: &ArrayVec<u8, 80>)
 // Adds that a reply is another one.
 fn add_other_reply(out: &mut ArrayVec<u8, 1024>, reply: Reply)
     requires { array_vec_len out.old ≤ 600 }
-    ensures items { out.new.items ≡ out.old.items ++ (codes "the right reply is another one, " ++ reply_text reply) }
-    ensures len { array_vec_len out.new ≤ array_vec_len out.old + 60 }
+    ensures { Adds out.old.items out.new.items (codes "the right reply is another one, " ++ reply_text reply) 60 }
 {
     push_word(out, b"the right reply is another one, ");
     add_reply(out, reply);
@@ -64,8 +61,7 @@ fn add_other_reply(out: &mut ArrayVec<u8, 1024>, reply: Reply)
 // Adds why a line of a log isn't a legal next one.
 fn add_why(out: &mut ArrayVec<u8, 1024>, why: &LineReason)
     requires { array_vec_len out.old ≤ 600 }
-    ensures items { out.new.items ≡ out.old.items ++ why_text why.now }
-    ensures len { array_vec_len out.new ≤ array_vec_len out.old + 380 }
+    ensures { Adds out.old.items out.new.items (why_text why.now) 380 }
 {
     match why {
         LineReason::Ended => push_word(out, b"the log is right as far as it goes"),
@@ -84,8 +80,7 @@ fn add_why(out: &mut ArrayVec<u8, 1024>, why: &LineReason)
 // Adds the line of a log with these first bytes, or that it is missing.
 fn add_line(out: &mut ArrayVec<u8, 1024>, why: &LineReason, text: &ArrayVec<u8, 80>)
     requires { array_vec_len out.old ≤ 100 }
-    ensures items { out.new.items ≡ out.old.items ++ line_part why.now text.now.items }
-    ensures len { array_vec_len out.new ≤ array_vec_len out.old + 330 }
+    ensures { Adds out.old.items out.new.items (line_part why.now text.now.items) 330 }
 {
     match why {
         LineReason::Ended => push_word(out, b" is missing"),

@@ -1,6 +1,7 @@
 //! Which words go with a condition, and what would have been right.
 
-ghost use Rattle.std.specs.Prelude.{◌≡◌, ◌≤◌, length};
+ghost use Rattle.std.specs.Prelude.{◌≡◌};
+ghost use Rattle.log_messages.specs.Texts.{AreWords};
 ghost use Rattle.log_messages.specs.ReasonText.{frame_words, more_right, page_words, process_words, right_of, seat_words, service_words, transfer_words};
 
 use crate::right::Right;
@@ -8,8 +9,7 @@ use log_reasons::Reason;
 
 // The words of a condition of the seat and its turn, or of one of those below.
 pub(crate) fn seat_words(reason: Reason) -> &'static [u8]
-    ensures value { result.now ≡ seat_words reason }
-    ensures short { length result.now ≤ 80 }
+    ensures { AreWords result.now (seat_words reason) 80 }
 {
     match reason {
         Reason::OutOfBounds => b"a number of the line is out of its bounds",
@@ -31,8 +31,7 @@ pub(crate) fn seat_words(reason: Reason) -> &'static [u8]
 
 // The words of a condition of the process, or of one of those below.
 fn process_words(reason: Reason) -> &'static [u8]
-    ensures value { result.now ≡ process_words reason }
-    ensures short { length result.now ≤ 80 }
+    ensures { AreWords result.now (process_words reason) 80 }
 {
     match reason {
         Reason::NoSuchProcess(_) => b"there are only so many processes, %",
@@ -56,8 +55,7 @@ fn process_words(reason: Reason) -> &'static [u8]
 
 // The words of a condition of the frame, or of one of those below.
 fn frame_words(reason: Reason) -> &'static [u8]
-    ensures value { result.now ≡ frame_words reason }
-    ensures short { length result.now ≤ 80 }
+    ensures { AreWords result.now (frame_words reason) 80 }
 {
     match reason {
         Reason::NotAtFreeHead(_) => b"the frame doesn't head the free list; % does",
@@ -78,8 +76,7 @@ fn frame_words(reason: Reason) -> &'static [u8]
 
 // The words of a condition of the page, or of one of those below.
 fn page_words(reason: Reason) -> &'static [u8]
-    ensures value { result.now ≡ page_words reason }
-    ensures short { length result.now ≤ 80 }
+    ensures { AreWords result.now (page_words reason) 80 }
 {
     match reason {
         Reason::NotMapped => b"the page isn't mapped",
@@ -108,8 +105,7 @@ fn page_words(reason: Reason) -> &'static [u8]
 
 // The words of a condition of the block and the transfer, or of one of those below.
 fn transfer_words(reason: Reason) -> &'static [u8]
-    ensures value { result.now ≡ transfer_words reason }
-    ensures short { length result.now ≤ 80 }
+    ensures { AreWords result.now (transfer_words reason) 80 }
 {
     match reason {
         Reason::NoSuchBlock => b"there is no such block",
@@ -138,8 +134,7 @@ fn transfer_words(reason: Reason) -> &'static [u8]
 
 // The words of a condition of the service, or of one of those below.
 fn service_words(reason: Reason) -> &'static [u8]
-    ensures value { result.now ≡ service_words reason }
-    ensures short { length result.now ≤ 80 }
+    ensures { AreWords result.now (service_words reason) 80 }
 {
     match reason {
         Reason::NoSuchAnswer => b"the service has no such answer",

@@ -1,3 +1,4 @@
+pub mod Entering
 pub mod Forgetting
 pub mod Roles
 pub mod Shown

@@ -9,8 +9,8 @@ ghost use Rattle.pager_model.specs.Changes.{without_assigned};
 ghost use Rattle.pager_model.specs.Forget.{forget_all, forgotten, holder, holds_page, own_pages, range_of};
 
 use crate::log_pager::LogPager;
-use log_tables::{is_same, remove};
-use vm_types::{Addr, Config, FrameState, NoMemory, Page, Proc};
+use log_tables::remove;
+use vm_types::{Addr, Config, FrameState, NoMemory, Page, Proc, is_same_page};
 
 /// Whether a frame that holds this, if anything, holds the page.
 fn holds(page: Page, held: Option<Page>) -> bool
@@ -18,7 +18,7 @@ fn holds(page: Page, held: Option<Page>) -> bool
 {
     match held {
         None => false,
-        Some(other) => is_same(other, page),
+        Some(other) => is_same_page(other, page),
     }
 }
 

@@ -34,7 +34,38 @@ pub(crate) fn add_if(there: bool, list: &mut Vec<u32>, f: Pfn) -> Result<(), NoM
 }
 
 impl LogPager {
+    ghost use Rattle.log_pager.specs.Entering.{in_ring, in_slot};
     ghost use Rattle.log_pager.specs.Shown.{shown, with_pager};
+
+    /// The page in a frame becomes valid, in the place that the process's ring has for it.
+    pub(crate) fn enter_ring(&mut self, q: Proc, a: Addr, f: Pfn) -> Result<(), NoMemory>
+        requires process { q.0 < (shown self.old).processes }
+        requires frame { f.0 < (shown self.old).frames }
+        ensures { OnOk result (shown self.new ≡ with_pager (shown self.old) (in_ring (shown self.old).pager q.0 a.0 f.0)) }
+    {
+        let (process, frame) = (q.0 as usize, f.0 as usize);
+        let v = a.0 / 512;
+        self.valid.put(q, v, f)?;
+        self.states[frame] = FrameState::Active;
+        self.rings[process].place(self.limits[process], v);
+        Ok(())
+    }
+
+    /// The page in a frame becomes valid in this slot, as a modified one that lies nowhere.
+    pub(crate) fn enter_slot(&mut self, q: Proc, a: Addr, f: Pfn, slot: u32) -> Result<(), NoMemory>
+        requires process { q.0 < (shown self.old).processes }
+        requires frame { f.0 < (shown self.old).frames }
+        ensures { OnOk result (shown self.new ≡ with_pager (shown self.old) (in_slot (shown self.old).pager q.0 a.0 f.0 slot)) }
+    {
+        let (process, frame) = (q.0 as usize, f.0 as usize);
+        let v = a.0 / 512;
+        self.valid.put(q, v, f)?;
+        lay_nowhere(&mut self.lies, self.held.at(frame))?;
+        self.states[frame] = FrameState::Active;
+        self.marks[frame] = true;
+        self.rings[process].put(slot, v);
+        Ok(())
+    }
 
     /// A page of a coming process comes back.
     fn back_coming(&mut self, q: Proc, a: Addr, f: Pfn) -> Result<(), NoMemory>
@@ -42,15 +73,9 @@ impl LogPager {
         requires frame { f.0 < (shown self.old).frames }
         ensures { OnOk result (shown self.new ≡ with_pager (shown self.old) (after_back_coming (shown self.old).pager q.0 a.0 f.0)) }
     {
-        let (process, frame) = (q.0 as usize, f.0 as usize);
-        let v = a.0 / 512;
-        let slot = slot_lying(&self.lies, self.held.at(frame));
-        self.valid.put(q, v, f)?;
-        lay_nowhere(&mut self.lies, self.held.at(frame))?;
-        self.states[frame] = FrameState::Active;
-        self.marks[frame] = true;
+        let slot = slot_lying(&self.lies, self.held.at(f.0 as usize));
         self.free.remove(f.0);
-        self.rings[process].put(slot, v);
+        self.enter_slot(q, a, f, slot)?;
         Ok(())
     }
 
@@ -60,14 +85,11 @@ impl LogPager {
         requires frame { f.0 < (shown self.old).frames }
         ensures { OnOk result (shown self.new ≡ with_pager (shown self.old) (after_back (shown self.old).pager q.0 a.0 f.0)) }
     {
-        let (process, frame) = (q.0 as usize, f.0 as usize);
-        let v = a.0 / 512;
+        let process = q.0 as usize;
         self.faults[process] = more(self.faults[process])?;
-        self.valid.put(q, v, f)?;
-        self.states[frame] = FrameState::Active;
         self.free.remove(f.0);
         remove(&mut self.modified, f.0);
-        self.rings[process].place(self.limits[process], v);
+        self.enter_ring(q, a, f)?;
         Ok(())
     }
 

@@ -18,7 +18,7 @@ use log_tables::{
     AssignedBlocks, Behind, FrameList, HeldPages, LyingPages, PageList, Ring, ValidEntries,
     pages_of,
 };
-use std::alloc::Global;
+use std::alloc::{AllocError, Global};
 use vm_types::{Config, FrameState, NoMemory, Pfn, ProcSpec, ProcStatus};
 
 /// The pager's state after a part of a log: tables by the number of a frame, of a process, and of a
@@ -114,14 +114,10 @@ fn rings_of(alloc: Global, procs: &[ProcSpec]) -> Result<Vec<Ring>, NoMemory>
 }
 
 /// The limit of each process at first.
-fn limits_of(alloc: Global, procs: &[ProcSpec]) -> Result<Vec<u32>, NoMemory>
+fn limits_of(alloc: Global, procs: &[ProcSpec]) -> Result<Vec<u32>, AllocError>
     ensures { IfOk result (λ limits. limits.items ≡ map (λ (spec : Spec). spec.limit) procs.now) }
 {
-    let mut limits = Vec::new(alloc);
-    for spec in procs {
-        limits.push(spec.limit)?;
-    }
-    Ok(limits)
+    procs.iter().map(|spec| spec.limit).collect(alloc)
 }
 
 /// How many processes there are.
@@ -253,46 +249,24 @@ impl LogPager {
         let by_frame = frame_tables(alloc, config)?;
         let by_process = process_tables(alloc, config.procs.items())?;
         let by_page = page_tables(alloc, config)?;
-        let FrameTables {
-            states,
-            held,
-            marks,
-            free,
-        } = by_frame;
-        let ProcessTables {
-            statuses,
-            rings,
-            limits,
-            references,
-            faults,
-            collided,
-        } = by_process;
-        let PageTables {
-            pages,
-            valid,
-            charged,
-            touched,
-            lies,
-            assigned,
-        } = by_page;
         Ok(LogPager {
-            states,
-            held,
-            marks,
-            free,
+            states: by_frame.states,
+            held: by_frame.held,
+            marks: by_frame.marks,
+            free: by_frame.free,
             modified: Vec::new(alloc),
-            statuses,
-            rings,
-            limits,
-            references,
-            faults,
-            collided,
-            pages,
-            valid,
-            charged,
-            touched,
-            lies,
-            assigned,
+            statuses: by_process.statuses,
+            rings: by_process.rings,
+            limits: by_process.limits,
+            references: by_process.references,
+            faults: by_process.faults,
+            collided: by_process.collided,
+            pages: by_page.pages,
+            valid: by_page.valid,
+            charged: by_page.charged,
+            touched: by_page.touched,
+            lies: by_page.lies,
+            assigned: by_page.assigned,
         })
     }
 }

@@ -6,6 +6,7 @@ ghost use Rattle.vm_types.specs.Ring.{is_pinned_slot};
 ghost use Rattle.pager_model.specs.Lookups.{IsHead, block_of, count_page, entries_at, entry_of, is_owner, page_by, shares, slot_of, slot_with};
 ghost use Rattle.pager_model.specs.Report.{pins_on};
 ghost use Rattle.pager_model.specs.Sets.{has_page};
+ghost use Rattle.log_pager.specs.Shown.{at_or};
 
 use crate::log_pager::LogPager;
 use log_tables::{Behind, Ring, ValidEntry, page_behind};
@@ -32,10 +33,7 @@ impl LogPager {
     pub fn state(&self, f: Pfn) -> FrameState
         ensures { result ≡ (shown self.now).pager.state f.0 }
     {
-        self.states
-            .get(f.0 as usize)
-            .copied()
-            .unwrap_or(FrameState::Bad)
+        at_or(&self.states, f.0, FrameState::Bad)
     }
 
     /// The page that a frame holds.
@@ -49,7 +47,7 @@ impl LogPager {
     pub fn is_modified(&self, f: Pfn) -> bool
         ensures { result ≡ (shown self.now).pager.modify f.0 }
     {
-        self.marks.get(f.0 as usize).copied().unwrap_or(false)
+        at_or(&self.marks, f.0, false)
     }
 
     /// Whether a frame heads the free list.
@@ -98,38 +96,35 @@ impl LogPager {
     pub fn status(&self, p: Proc) -> ProcStatus
         ensures { result ≡ (shown self.now).pager.status p.0 }
     {
-        self.statuses
-            .get(p.0 as usize)
-            .copied()
-            .unwrap_or(ProcStatus::Resident)
+        at_or(&self.statuses, p.0, ProcStatus::Resident)
     }
 
     /// The working set limit of a process.
     pub fn limit_of(&self, p: Proc) -> u32
         ensures { result ≡ (shown self.now).pager.limit p.0 }
     {
-        self.limits.get(p.0 as usize).copied().unwrap_or(0)
+        at_or(&self.limits, p.0, 0)
     }
 
     /// A process's references since its limit was last adjusted.
     pub fn references(&self, p: Proc) -> u64
         ensures { result ≡ (shown self.now).pager.references p.0 }
     {
-        self.references.get(p.0 as usize).copied().unwrap_or(0)
+        at_or(&self.references, p.0, 0)
     }
 
     /// A process's faults since its limit was last adjusted.
     pub fn faults(&self, p: Proc) -> u64
         ensures { result ≡ (shown self.now).pager.faults p.0 }
     {
-        self.faults.get(p.0 as usize).copied().unwrap_or(0)
+        at_or(&self.faults, p.0, 0)
     }
 
     /// The read that the process's last collision named.
     pub fn collided(&self, p: Proc) -> Option<u64>
         ensures { result ≡ (shown self.now).pager.collided p.0 }
     {
-        self.collided.get(p.0 as usize).copied().unwrap_or(None)
+        at_or(&self.collided, p.0, None)
     }
 
     /// The working set list of a process that is there.
@@ -250,6 +245,13 @@ impl LogPager {
     {
         self.assigned.owners(block)
     }
+}
+
+/// The item of this number, or the other value where there is none.
+fn at_or<T: Copy>(items: &[T], n: u32, other: T) -> T
+    ensures { result ≡ at_or other items.now n }
+{
+    items.get(n as usize).copied().unwrap_or(other)
 }
 
 /// Whether the head of a list is this frame.

@@ -13,9 +13,7 @@ ghost use Rattle.pager_model.specs.OutLanding.{after_out_fail, after_out_ok, mar
 use crate::changes::more;
 use crate::frames::{add_if, push_if};
 use crate::log_pager::LogPager;
-use log_tables::{
-    AssignedBlocks, PageList, is_of_section, is_own, lay_at, lay_nowhere, remove, slot_of,
-};
+use log_tables::{AssignedBlocks, PageList, is_of_section, is_own, lay_at, remove, slot_of};
 use vm_journal::Role;
 use vm_types::{Addr, BlockId, Config, FrameState, NoMemory, Page, Pfn, Proc};
 
@@ -109,12 +107,9 @@ impl LogPager {
         requires frame { f.0 < (shown self.old).frames }
         ensures { OnOk result (shown self.new ≡ with_pager (shown self.old) (after_read (shown self.old).pager f.0 block (reading (Role.Fault q a)))) }
     {
-        let (process, frame) = (q.0 as usize, f.0 as usize);
-        let v = a.0 / 512;
-        self.valid.put(q, v, f)?;
-        self.states[frame] = FrameState::Active;
+        let frame = f.0 as usize;
         self.marks[frame] = is_first(self.held.at(frame), block);
-        self.rings[process].place(self.limits[process], v);
+        self.enter_ring(q, a, f)?;
         Ok(())
     }
 
@@ -124,13 +119,7 @@ impl LogPager {
         requires frame { f.0 < (shown self.old).frames }
         ensures { OnOk result (shown self.new ≡ with_pager (shown self.old) (after_read (shown self.old).pager f.0 block (reading (Role.Come q a)))) }
     {
-        let (process, frame) = (q.0 as usize, f.0 as usize);
-        let v = a.0 / 512;
-        self.valid.put(q, v, f)?;
-        lay_nowhere(&mut self.lies, self.held.at(frame))?;
-        self.states[frame] = FrameState::Active;
-        self.marks[frame] = true;
-        self.rings[process].put(slot_of(Some(block)), v);
+        self.enter_slot(q, a, f, slot_of(Some(block)))?;
         Ok(())
     }
 

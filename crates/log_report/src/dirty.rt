@@ -2,7 +2,6 @@
 
 ghost use Rattle.std.specs.Prelude.{◌≡◌, ◌≤◌, ◌++◌, ◌&&◌, All, IfOk, OnOk, filter, length};
 ghost use Rattle.vm_types.specs.Configuration.{IsWellFormed, section_pages};
-ghost use Rattle.vm_types.specs.Same.{same_page};
 ghost use Rattle.vm_types.specs.declared.config.Section.{Section as SectionOf};
 ghost use Rattle.pager_model.specs.Forget.{holds_page};
 ghost use Rattle.pager_model.specs.Text.{dirty_pages, is_dirty, pages_from};
@@ -11,19 +10,7 @@ ghost use Rattle.log_report.specs.SharedPages.{shared_pages_of};
 
 use log_pager::LogPager;
 use std::alloc::Global;
-use vm_types::{Config, NoMemory, Page, Pfn, SecId, Section, is_shared_kind};
-
-/// Whether both are the same page.
-fn is_same(one: Page, other: Page) -> bool
-    ensures { result ≡ same_page one other }
-{
-    match (one, other) {
-        (Page::Private(p, v), Page::Private(q, w)) => p.0 == q.0 && v == w,
-        (Page::Shared(s, i), Page::Shared(t, j)) => s.0 == t.0 && i == j,
-        (Page::Private(_, _), Page::Shared(_, _)) | (Page::Shared(_, _), Page::Private(_, _)) =>
-            false,
-    }
-}
+use vm_types::{Config, NoMemory, Page, Pfn, SecId, Section, is_same_page, is_shared_kind};
 
 /// Whether this is the page that is held.
 fn holds(page: Page, held: Option<Page>) -> bool
@@ -31,7 +18,7 @@ fn holds(page: Page, held: Option<Page>) -> bool
 {
     match held {
         None => false,
-        Some(other) => is_same(other, page),
+        Some(other) => is_same_page(other, page),
     }
 }
 

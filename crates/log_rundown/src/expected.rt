@@ -1,5 +1,4 @@
 ghost use Rattle.std.specs.Prelude.{◌≡◌, ◌*◌, nat_eq};
-ghost use Rattle.vm_types.specs.Same.{same_block, same_state};
 ghost use Rattle.pager_model.specs.Rundown.{writer_of};
 ghost use Rattle.log_laws.specs.Underway.{is_made, landed_as, same_made, shown_as};
 ghost use Rattle.log_rundown.specs.Chosen.{eviction_as};
@@ -9,34 +8,13 @@ use crate::eviction::Eviction;
 use crate::write::Write;
 use log_history::{Flight, LogHistory};
 use vm_journal::{Entry, EvictWhy, What};
-use vm_types::{Addr, BlockId, Config, FrameState, Pfn, Proc, Seat};
+use vm_types::{Addr, Config, Pfn, Proc, Seat, is_same_block, is_same_state};
 
 /// Whether it is the modified page writer's seat.
 fn is_writer(config: &Config, seat: Seat) -> bool
     ensures { result ≡ nat_eq seat.0 (writer_of config.now) }
 {
     seat.0 as usize == config.procs.items().len()
-}
-
-/// Whether both are the same block.
-fn is_same(b: BlockId, c: BlockId) -> bool
-    ensures { result ≡ same_block b c }
-{
-    match (b, c) {
-        (BlockId::Section(s, i), BlockId::Section(t, j)) => s.0 == t.0 && i == j,
-        (BlockId::PageFile(i), BlockId::PageFile(j)) => i == j,
-        (BlockId::Swap(p, n), BlockId::Swap(q, m)) => p.0 == q.0 && n == m,
-        (BlockId::Section(..), BlockId::PageFile(_) | BlockId::Swap(..)) => false,
-        (BlockId::PageFile(_), BlockId::Section(..) | BlockId::Swap(..)) => false,
-        (BlockId::Swap(..), BlockId::Section(..) | BlockId::PageFile(_)) => false,
-    }
-}
-
-/// Whether both are the same state.
-fn is_same_state(a: FrameState, b: FrameState) -> bool
-    ensures { result ≡ same_state a b }
-{
-    a == b
 }
 
 /// Whether the address is the first one of the page of this number.
@@ -65,7 +43,7 @@ fn is_same_write(w: Write, what: What) -> bool
     ensures { result ≡ same_made (write_as w) what }
 {
     match what {
-        What::Out { f, block } => w.frame.0 == f.0 && is_same(w.block, block),
+        What::Out { f, block } => w.frame.0 == f.0 && is_same_block(w.block, block),
         _ => false,
     }
 }

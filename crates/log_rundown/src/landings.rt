@@ -1,4 +1,4 @@
-ghost use Rattle.std.specs.Prelude.{◌≡◌, ◌∷◌, ◌&&◌, IfOk, if◌then◌else◌};
+ghost use Rattle.std.specs.Prelude.{◌≡◌, ◌&&◌, IfOk, if◌then◌else◌};
 ghost use Rattle.std.specs.Option.{option_map};
 ghost use Rattle.log_laws.specs.Underway.{after_landings, step_landings};
 ghost use Rattle.log_rundown.specs.Standing.{cleaning_as, onward_as, standing_as};
@@ -45,31 +45,6 @@ fn both(one: bool, other: bool) -> bool
     one && other
 }
 
-/// Where an entry leads to in a cluster in which this flight lands next, and then the rest; none if it
-/// can't come next.
-fn step_landing(
-    alloc: Global,
-    past: &LogHistory<'_>,
-    x: Flight,
-    rest: &[Flight],
-    all: bool,
-    onward: Onward,
-    e: Entry,
-) -> Result<Option<Standing>, NoMemory>
-    ensures { IfOk result (λ o. option_map standing_as o
-        ≡ step_landings past.now.config past.now.past (x ∷ rest.now) all (onward_as onward) e) }
-{
-    match landed_as(past, x, e) {
-        Some(failed) => {
-            let left = copy_flights(alloc, rest)?;
-            let every = both(all, failed);
-            let at = after_landings(left, every, onward);
-            Ok(Some(at))
-        }
-        None => Ok(None),
-    }
-}
-
 /// Where an entry leads to in a cluster whose flights land in this order; none if it can't come next.
 ///
 /// # Errors
@@ -85,11 +60,14 @@ pub(crate) fn step_landings(
     ensures { IfOk result (λ o. option_map standing_as o
         ≡ step_landings past.now.config past.now.past flights.now all (onward_as onward) e) }
 {
-    match flights.split_first() {
-        Some((first, rest)) => {
-            let at = step_landing(alloc, past, *first, rest, all, onward, e)?;
-            Ok(at)
-        }
-        None => Ok(None),
-    }
+    let Some((first, rest)) = flights.split_first() else {
+        return Ok(None);
+    };
+    let Some(failed) = landed_as(past, *first, e) else {
+        return Ok(None);
+    };
+    let left = copy_flights(alloc, rest)?;
+    let every = both(all, failed);
+    let at = after_landings(left, every, onward);
+    Ok(Some(at))
 }

@@ -62,28 +62,6 @@ fn after_outs(
     Ok(Standing::InOuts(rest, onward))
 }
 
-/// Where an entry leads to in a cluster whose next write is this one, and then the rest; none if it can't
-/// come next.
-fn step_out(
-    alloc: Global,
-    past: &LogHistory<'_>,
-    first: Write,
-    rest: &[Write],
-    onward: Onward,
-    e: Entry,
-) -> Result<Option<Standing>, NoMemory>
-    requires { length past.now.past + 1 < 2 ^ 48 }
-    ensures { IfOk result (λ o. option_map standing_as o
-        ≡ step_outs past.now.config past.now.past (writes_as (first ∷ rest.now)) (onward_as onward) e) }
-{
-    let config = past.config();
-    if !is_begun(config, first, e) {
-        return Ok(None);
-    }
-    let at = after_outs(alloc, past, rest, onward, e)?;
-    Ok(Some(at))
-}
-
 /// Where an entry leads to in a cluster whose next writes are these; none if it can't come next.
 ///
 /// # Errors
@@ -99,11 +77,12 @@ pub(crate) fn step_outs(
     ensures { IfOk result (λ o. option_map standing_as o
         ≡ step_outs past.now.config past.now.past (writes_as writes.now) (onward_as onward) e) }
 {
-    match writes.split_first() {
-        Some((first, rest)) => {
-            let at = step_out(alloc, past, *first, rest, onward, e)?;
-            Ok(at)
-        }
-        None => Ok(None),
+    let Some((first, rest)) = writes.split_first() else {
+        return Ok(None);
+    };
+    if !is_begun(past.config(), *first, e) {
+        return Ok(None);
     }
+    let at = after_outs(alloc, past, rest, onward, e)?;
+    Ok(Some(at))
 }

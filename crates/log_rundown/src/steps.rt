@@ -5,7 +5,6 @@ ghost use Rattle.log_laws.specs.Underway.{between_moves, is_made, plan_of, step_
 ghost use Rattle.log_pager.specs.Shown.{shown};
 ghost use Rattle.log_rundown.specs.Chosen.{eviction_as, move_as};
 ghost use Rattle.log_rundown.specs.Standing.{onward_as, standing_as};
-ghost use Rattle.log_rundown.specs.declared.choice.Choice.TheVariants.{WritesBefore, WritesRound};
 
 use crate::choice::Choice;
 use crate::cleaning::Cleaning;
@@ -67,49 +66,6 @@ fn step_eviction(config: &Config, x: Eviction, slot: u32, e: Entry) -> Option<St
     }
 }
 
-/// Where an entry leads to if a cluster is written next for the page in a slot; none if it can't come
-/// next.
-fn step_before(
-    alloc: Global,
-    past: &LogHistory<'_>,
-    pager: &LogPager,
-    process: Proc,
-    slot: u32,
-    e: Entry,
-) -> Result<Option<Standing>, NoMemory>
-    requires { length past.now.past + 1 < 2 ^ 48 }
-    ensures { IfOk result (λ o. option_map standing_as o
-        ≡ step_plan past.now.config past.now.past (plan_of (move_as past.now.config (shown pager.now).pager (WritesBefore process slot))) e) }
-{
-    let config = past.config();
-    let writes = cluster_writes(alloc, config, pager)?;
-    let onward = again(process, slot);
-    let at = step_outs(alloc, past, &writes, onward, e)?;
-    Ok(at)
-}
-
-/// Where an entry leads to if a cluster of a round is written next; none if it can't come next.
-fn step_round(
-    alloc: Global,
-    past: &LogHistory<'_>,
-    pager: &LogPager,
-    following: u32,
-    left: usize,
-    e: Entry,
-) -> Result<Option<Standing>, NoMemory>
-    requires { length past.now.past + 1 < 2 ^ 48 }
-    ensures { IfOk result (λ o. option_map standing_as o
-        ≡ step_plan past.now.config past.now.past (plan_of (move_as past.now.config (shown pager.now).pager (WritesRound following left))) e) }
-{
-    let config = past.config();
-    let writes = cluster_writes(alloc, config, pager)?;
-    let count = writes.len();
-    let rest = left.saturating_sub(count);
-    let onward = in_round(following, rest);
-    let at = step_outs(alloc, past, &writes, onward, e)?;
-    Ok(at)
-}
-
 /// Where an entry leads to if this is the next move; none if it can't come next.
 ///
 /// # Errors
@@ -127,17 +83,20 @@ pub(crate) fn step_choice(
 {
     match choice {
         Choice::EvictsPage(x, slot) => {
-            let config = past.config();
-            let at = step_eviction(config, x, slot, e);
+            let at = step_eviction(past.config(), x, slot, e);
             Ok(at)
         }
         Choice::WritesBefore(process, slot) => {
-            let before = step_before(alloc, past, pager, process, slot, e)?;
-            Ok(before)
+            let writes = cluster_writes(alloc, past.config(), pager)?;
+            let onward = again(process, slot);
+            let at = step_outs(alloc, past, &writes, onward, e)?;
+            Ok(at)
         }
         Choice::WritesRound(following, left) => {
-            let within = step_round(alloc, past, pager, following, left, e)?;
-            Ok(within)
+            let writes = cluster_writes(alloc, past.config(), pager)?;
+            let onward = in_round(following, left.saturating_sub(writes.len()));
+            let at = step_outs(alloc, past, &writes, onward, e)?;
+            Ok(at)
         }
         Choice::Rests => Ok(None),
     }

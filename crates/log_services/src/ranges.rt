@@ -17,6 +17,14 @@ use log_pager::LogPager;
 use log_reasons::Reason;
 use vm_types::{Addr, Config, Page, Pfn, Proc};
 
+/// Pages of a process, from an address on.
+#[derive(Clone, Copy)]
+pub(crate) struct Range {
+    pub(crate) process: Proc,
+    pub(crate) at: Addr,
+    pub(crate) pages: u32,
+}
+
 /// Whether a page of a process is mapped.
 fn is_mapped(config: &Config, pager: &LogPager, p: Proc, v: u32) -> bool
     ensures yes { result ≡ true → (g : AnyPage) × (page_by config.now (shown pager.now).pager.map p.0 v ≡ Some g) }
@@ -40,14 +48,14 @@ fn is_unmapped_at(config: &Config, pager: &LogPager, p: Proc, v: u32) -> bool
 }
 
 /// The first page of a range that isn't mapped.
-fn first_unmapped(config: &Config, pager: &LogPager, p: Proc, at: Addr, pages: u32) -> Option<u32>
-    requires { IsRange at.0 pages }
-    ensures found { IfSome result (λ v. (in_range at.0 pages v ≡ true) × (page_by config.now (shown pager.now).pager.map p.0 v ≡ None)) }
-    ensures none { IsNone result → AreMapped config.now (shown pager.now).pager p.0 at.0 pages }
+fn first_unmapped(config: &Config, pager: &LogPager, range: Range) -> Option<u32>
+    requires { IsRange (range.at).0 range.pages }
+    ensures found { IfSome result (λ v. (in_range (range.at).0 range.pages v ≡ true) × (page_by config.now (shown pager.now).pager.map (range.process).0 v ≡ None)) }
+    ensures none { IsNone result → AreMapped config.now (shown pager.now).pager (range.process).0 (range.at).0 range.pages }
 {
-    let first = at.0 / 512;
-    for n in 0..pages {
-        if is_unmapped_at(config, pager, p, first + n) {
+    let first = range.at.0 / 512;
+    for n in 0..range.pages {
+        if is_unmapped_at(config, pager, range.process, first + n) {
             return Some(first + n);
         }
     }
@@ -55,14 +63,14 @@ fn first_unmapped(config: &Config, pager: &LogPager, p: Proc, at: Addr, pages: u
 }
 
 /// The first page of a range that is mapped.
-fn first_mapped(config: &Config, pager: &LogPager, p: Proc, at: Addr, pages: u32) -> Option<u32>
-    requires { IsRange at.0 pages }
-    ensures found { IfSome result (λ v. (in_range at.0 pages v ≡ true) × ((g : AnyPage) × (page_by config.now (shown pager.now).pager.map p.0 v ≡ Some g))) }
-    ensures none { IsNone result → IsInUse config.now (shown pager.now).pager p.0 at.0 pages → ⊥ }
+fn first_mapped(config: &Config, pager: &LogPager, range: Range) -> Option<u32>
+    requires { IsRange (range.at).0 range.pages }
+    ensures found { IfSome result (λ v. (in_range (range.at).0 range.pages v ≡ true) × ((g : AnyPage) × (page_by config.now (shown pager.now).pager.map (range.process).0 v ≡ Some g))) }
+    ensures none { IsNone result → IsInUse config.now (shown pager.now).pager (range.process).0 (range.at).0 range.pages → ⊥ }
 {
-    let first = at.0 / 512;
-    for n in 0..pages {
-        if is_mapped(config, pager, p, first + n) {
+    let first = range.at.0 / 512;
+    for n in 0..range.pages {
+        if is_mapped(config, pager, range.process, first + n) {
             return Some(first + n);
         }
     }
@@ -70,72 +78,48 @@ fn first_mapped(config: &Config, pager: &LogPager, p: Proc, at: Addr, pages: u32
 }
 
 /// Why not each page of a range is mapped.
-pub(crate) fn mapped_fails(
-    config: &Config,
-    pager: &LogPager,
-    p: Proc,
-    at: Addr,
-    pages: u32,
-) -> Option<Reason>
-    requires { IsRange at.0 pages }
-    ensures legal { IsNone result ↔ AreMapped config.now (shown pager.now).pager p.0 at.0 pages }
-    ensures said { IfSome result (MappedFails config.now (shown pager.now).pager p.0 at.0 pages) }
+pub(crate) fn mapped_fails(config: &Config, pager: &LogPager, range: Range) -> Option<Reason>
+    requires { IsRange (range.at).0 range.pages }
+    ensures legal { IsNone result ↔ AreMapped config.now (shown pager.now).pager (range.process).0 (range.at).0 range.pages }
+    ensures said { IfSome result (MappedFails config.now (shown pager.now).pager (range.process).0 (range.at).0 range.pages) }
 {
-    match first_unmapped(config, pager, p, at, pages) {
+    match first_unmapped(config, pager, range) {
         Some(v) => Some(Reason::RangePageUnmapped(v)),
         None => None,
     }
 }
 
 /// Why no page of a range isn't mapped.
-pub(crate) fn some_unmapped_fails(
-    config: &Config,
-    pager: &LogPager,
-    p: Proc,
-    at: Addr,
-    pages: u32,
-) -> Option<Reason>
-    requires { IsRange at.0 pages }
-    ensures legal { IsNone result ↔ IsUnmapped config.now (shown pager.now).pager p.0 at.0 pages }
-    ensures said { IfSome result (SomeUnmappedFails config.now (shown pager.now).pager p.0 at.0 pages) }
+pub(crate) fn some_unmapped_fails(config: &Config, pager: &LogPager, range: Range) -> Option<Reason>
+    requires { IsRange (range.at).0 range.pages }
+    ensures legal { IsNone result ↔ IsUnmapped config.now (shown pager.now).pager (range.process).0 (range.at).0 range.pages }
+    ensures said { IfSome result (SomeUnmappedFails config.now (shown pager.now).pager (range.process).0 (range.at).0 range.pages) }
 {
-    match first_unmapped(config, pager, p, at, pages) {
+    match first_unmapped(config, pager, range) {
         Some(_) => None,
         None => Some(Reason::RangeIsMapped),
     }
 }
 
 /// Why some page of a range is mapped.
-pub(crate) fn unmapped_fails(
-    config: &Config,
-    pager: &LogPager,
-    p: Proc,
-    at: Addr,
-    pages: u32,
-) -> Option<Reason>
-    requires { IsRange at.0 pages }
-    ensures legal { IsNone result ↔ ((v : ℕ) → in_range at.0 pages v ≡ true → (shown pager.now).pager.map p.0 v ≡ None) }
-    ensures said { IfSome result (UnmappedFails config.now (shown pager.now).pager p.0 at.0 pages) }
+pub(crate) fn unmapped_fails(config: &Config, pager: &LogPager, range: Range) -> Option<Reason>
+    requires { IsRange (range.at).0 range.pages }
+    ensures legal { IsNone result ↔ ((v : ℕ) → in_range (range.at).0 range.pages v ≡ true → (shown pager.now).pager.map (range.process).0 v ≡ None) }
+    ensures said { IfSome result (UnmappedFails config.now (shown pager.now).pager (range.process).0 (range.at).0 range.pages) }
 {
-    match first_mapped(config, pager, p, at, pages) {
+    match first_mapped(config, pager, range) {
         Some(v) => Some(Reason::RangePageMapped(v)),
         None => None,
     }
 }
 
 /// Why no page of a range is mapped.
-pub(crate) fn in_use_fails(
-    config: &Config,
-    pager: &LogPager,
-    p: Proc,
-    at: Addr,
-    pages: u32,
-) -> Option<Reason>
-    requires { IsRange at.0 pages }
-    ensures legal { IsNone result ↔ IsInUse config.now (shown pager.now).pager p.0 at.0 pages }
-    ensures said { IfSome result (InUseFails config.now (shown pager.now).pager p.0 at.0 pages) }
+pub(crate) fn in_use_fails(config: &Config, pager: &LogPager, range: Range) -> Option<Reason>
+    requires { IsRange (range.at).0 range.pages }
+    ensures legal { IsNone result ↔ IsInUse config.now (shown pager.now).pager (range.process).0 (range.at).0 range.pages }
+    ensures said { IfSome result (InUseFails config.now (shown pager.now).pager (range.process).0 (range.at).0 range.pages) }
 {
-    match first_mapped(config, pager, p, at, pages) {
+    match first_mapped(config, pager, range) {
         Some(_) => None,
         None => Some(Reason::RangeNotInUse),
     }
@@ -150,13 +134,13 @@ fn is_valid_at(pager: &LogPager, p: Proc, v: u32) -> bool
 }
 
 /// Whether no page of a range is valid.
-pub(crate) fn none_is_valid(pager: &LogPager, p: Proc, at: Addr, pages: u32) -> bool
-    requires { IsRange at.0 pages }
-    ensures { IsTrue result ↔ ((v : ℕ) → in_range at.0 pages v ≡ true → entries_at (shown pager.now).pager.valid p.0 v ≡ 0) }
+pub(crate) fn none_is_valid(pager: &LogPager, range: Range) -> bool
+    requires { IsRange (range.at).0 range.pages }
+    ensures { IsTrue result ↔ ((v : ℕ) → in_range (range.at).0 range.pages v ≡ true → entries_at (shown pager.now).pager.valid (range.process).0 v ≡ 0) }
 {
-    let first = at.0 / 512;
-    for n in 0..pages {
-        if is_valid_at(pager, p, first + n) {
+    let first = range.at.0 / 512;
+    for n in 0..range.pages {
+        if is_valid_at(pager, range.process, first + n) {
             return false;
         }
     }
@@ -164,40 +148,34 @@ pub(crate) fn none_is_valid(pager: &LogPager, p: Proc, at: Addr, pages: u32) -> 
 }
 
 /// Whether the page number is one of the range's.
-fn is_in_range(at: Addr, pages: u32, v: u32) -> bool
-    ensures { result ≡ in_range at.0 pages v }
+fn is_in_range(range: Range, v: u32) -> bool
+    ensures { result ≡ in_range (range.at).0 range.pages v }
 {
-    let first = at.0 / 512;
-    first <= v && v - first < pages
+    let first = range.at.0 / 512;
+    first <= v && v - first < range.pages
 }
 
 /// Whether a frame holds a private page of a process's range, and has a flight.
-fn flies(past: &LogHistory<'_>, pager: &LogPager, p: Proc, at: Addr, pages: u32, f: Pfn) -> bool
-    ensures { IsTrue result ↔ ((v : ℕ) × (in_range at.0 pages v ≡ true) × ((shown pager.now).pager.page f.0 ≡ Some (AnyPage.Private (proc p.0) v))
+fn flies(past: &LogHistory<'_>, pager: &LogPager, range: Range, f: Pfn) -> bool
+    ensures { IsTrue result ↔ ((v : ℕ) × (in_range (range.at).0 range.pages v ≡ true) × ((shown pager.now).pager.page f.0 ≡ Some (AnyPage.Private (proc (range.process).0) v))
         × (reads_on f.0 (open_flights past.now.past) + writes_on f.0 (open_flights past.now.past) ≡ 0 → ⊥)) }
 {
     match pager.page(f) {
         Some(Page::Private(q, v)) => {
-            q.0 == p.0 && is_in_range(at, pages, v) && past.flights_on(f) != 0
+            q.0 == range.process.0 && is_in_range(range, v) && past.flights_on(f) != 0
         }
         Some(Page::Shared(_, _)) | None => false,
     }
 }
 
 /// Whether no frame with a private page of a process's range has a flight.
-pub(crate) fn none_flies(
-    past: &LogHistory<'_>,
-    pager: &LogPager,
-    p: Proc,
-    at: Addr,
-    pages: u32,
-) -> bool
+pub(crate) fn none_flies(past: &LogHistory<'_>, pager: &LogPager, range: Range) -> bool
     requires { (shown pager.now).frames ≤ 16384 }
-    ensures { IsTrue result ↔ ((v f : ℕ) → in_range at.0 pages v ≡ true → (shown pager.now).pager.page f ≡ Some (AnyPage.Private (proc p.0) v)
+    ensures { IsTrue result ↔ ((v f : ℕ) → in_range (range.at).0 range.pages v ≡ true → (shown pager.now).pager.page f ≡ Some (AnyPage.Private (proc (range.process).0) v)
         → reads_on f (open_flights past.now.past) + writes_on f (open_flights past.now.past) ≡ 0) }
 {
     for f in 0..pager.frames() {
-        if flies(past, pager, p, at, pages, Pfn(f as u32)) {
+        if flies(past, pager, range, Pfn(f as u32)) {
             return false;
         }
     }

@@ -3,233 +3,86 @@
 ghost use Rattle.std.specs.Prelude.{◌≡◌, ◌↔◌, ◌⊎◌, ◌<◌, ◌≤◌, IfSome, IsNone, IsTrue, length};
 ghost use Rattle.vm_types.specs.WellFormed.{IsRange, IsServiceOf, IsWellFormedService};
 ghost use Rattle.pager_model.specs.Served.{IsDelete, IsServed, IsServedFault, IsService, may_fail};
-ghost use Rattle.pager_model.specs.Own.{IsOwn};
-ghost use Rattle.log_reasons.specs.OwnReasons.{OwnFails};
-ghost use Rattle.log_reasons.specs.ServedReasons.{DeleteFails, ServedFails, ServedFaultFails, ServiceFails, VersionFails};
+ghost use Rattle.log_reasons.specs.ServedReasons.{DeleteFails, ServedFails, ServedFaultFails, ServiceFails};
 ghost use Rattle.log_pager.specs.Shown.{shown};
 
 use crate::limits::{bad_limit_fails, limit_fails};
-use crate::locking::{
-    locking_fails, over_locking_fails, over_pinning_fails, pinning_fails, purge_fails,
-    unlocking_fails, unpinning_fails,
-};
+use crate::locking::{counted_fails, lock_limit_fails, purge_fails};
 use crate::own::own_fails;
 use crate::ranges::{
-    in_use_fails, mapped_fails, none_flies, none_is_valid, some_unmapped_fails, unmapped_fails,
+    Range, in_use_fails, mapped_fails, none_flies, none_is_valid, some_unmapped_fails,
+    unmapped_fails,
 };
 use log_history::LogHistory;
 use log_pager::LogPager;
 use log_reasons::Reason;
-use vm_types::{Addr, Answer, Proc, ProcStatus, Seat, Service, Version};
+use vm_types::{Answer, Proc, ProcStatus, Seat, Service, Version};
 
 /// Why a range may not be deleted.
-fn delete_fails(
-    past: &LogHistory<'_>,
-    pager: &LogPager,
-    p: Proc,
-    at: Addr,
-    pages: u32,
-) -> Option<Reason>
-    requires range { IsRange at.0 pages }
+fn delete_fails(past: &LogHistory<'_>, pager: &LogPager, range: Range) -> Option<Reason>
+    requires range { IsRange (range.at).0 range.pages }
     requires frames { (shown pager.now).frames ≤ 16384 }
-    ensures legal { IsNone result ↔ IsDelete past.now.config past.now.past (shown pager.now).pager p.0 at.0 pages }
-    ensures said { IfSome result (DeleteFails past.now.config past.now.past (shown pager.now).pager p.0 at.0 pages) }
+    ensures legal { IsNone result ↔ IsDelete past.now.config past.now.past (shown pager.now).pager (range.process).0 (range.at).0 range.pages }
+    ensures said { IfSome result (DeleteFails past.now.config past.now.past (shown pager.now).pager (range.process).0 (range.at).0 range.pages) }
 {
-    if let Some(reason) = mapped_fails(past.config(), pager, p, at, pages) {
+    if let Some(reason) = mapped_fails(past.config(), pager, range) {
         return Some(reason);
     }
-    if !none_is_valid(pager, p, at, pages) {
+    if !none_is_valid(pager, range) {
         return Some(Reason::RangePageValid);
     }
-    if !none_flies(past, pager, p, at, pages) {
+    if !none_flies(past, pager, range) {
         return Some(Reason::RangePageInFlight);
     }
     None
 }
 
-/// Why a creation of pages isn't answered so.
-fn created_fails(
-    past: &LogHistory<'_>,
-    pager: &LogPager,
-    p: Proc,
-    at: Addr,
-    pages: u32,
-    _prot: u8,
-    answer: Answer,
-) -> Option<Reason>
-    requires { IsRange at.0 pages }
-    ensures legal { IsNone result ↔ IsService past.now.config past.now.past (shown pager.now).pager p.0 (Service.Create at pages _prot) answer }
-    ensures said { IfSome result (ServiceFails past.now.config past.now.past (shown pager.now).pager p.0 (Service.Create at pages _prot) answer) }
-{
-    match answer {
-        Answer::Good => unmapped_fails(past.config(), pager, p, at, pages),
-        Answer::InUse => in_use_fails(past.config(), pager, p, at, pages),
-        _ => Some(Reason::NoSuchAnswer),
-    }
-}
-
-/// Why a deletion of pages isn't answered so.
-fn deleted_fails(
-    past: &LogHistory<'_>,
-    pager: &LogPager,
-    p: Proc,
-    at: Addr,
-    pages: u32,
-    answer: Answer,
-) -> Option<Reason>
-    requires range { IsRange at.0 pages }
+/// Why a service isn't answered by that it was done, without a count.
+fn good_fails(past: &LogHistory<'_>, pager: &LogPager, process: Proc, s: Service) -> Option<Reason>
+    requires formed { IsWellFormedService s }
+    requires process { process.0 < (shown pager.now).processes }
     requires frames { (shown pager.now).frames ≤ 16384 }
-    ensures legal { IsNone result ↔ IsService past.now.config past.now.past (shown pager.now).pager p.0 (Service.Delete at pages) answer }
-    ensures said { IfSome result (ServiceFails past.now.config past.now.past (shown pager.now).pager p.0 (Service.Delete at pages) answer) }
+    ensures legal { IsNone result ↔ IsService past.now.config past.now.past (shown pager.now).pager process.0 s Answer.Good }
+    ensures said { IfSome result (ServiceFails past.now.config past.now.past (shown pager.now).pager process.0 s Answer.Good) }
 {
-    match answer {
-        Answer::Good => delete_fails(past, pager, p, at, pages),
-        Answer::Unmapped => some_unmapped_fails(past.config(), pager, p, at, pages),
+    let config = past.config();
+    match s {
+        Service::Create { at, pages, prot: _ } => {
+            unmapped_fails(config, pager, Range { process, at, pages })
+        }
+        Service::Delete { at, pages } => delete_fails(past, pager, Range { process, at, pages }),
+        Service::Protect { at, pages, prot: _ } => {
+            mapped_fails(config, pager, Range { process, at, pages })
+        }
+        Service::Purge { at, pages } => purge_fails(pager, Range { process, at, pages }),
+        Service::Adjust { limit } => limit_fails(config, process, limit),
         _ => Some(Reason::NoSuchAnswer),
     }
 }
 
-/// Why a change of protection isn't answered so.
-fn protected_fails(
+/// Why a service isn't refused for a page of its range that isn't mapped.
+fn refused_fails(
     past: &LogHistory<'_>,
     pager: &LogPager,
-    p: Proc,
-    at: Addr,
-    pages: u32,
-    _prot: u8,
-    answer: Answer,
+    process: Proc,
+    s: Service,
 ) -> Option<Reason>
-    requires { IsRange at.0 pages }
-    ensures legal { IsNone result ↔ IsService past.now.config past.now.past (shown pager.now).pager p.0 (Service.Protect at pages _prot) answer }
-    ensures said { IfSome result (ServiceFails past.now.config past.now.past (shown pager.now).pager p.0 (Service.Protect at pages _prot) answer) }
+    requires { IsWellFormedService s }
+    ensures legal { IsNone result ↔ IsService past.now.config past.now.past (shown pager.now).pager process.0 s Answer.Unmapped }
+    ensures said { IfSome result (ServiceFails past.now.config past.now.past (shown pager.now).pager process.0 s Answer.Unmapped) }
 {
-    match answer {
-        Answer::Good => mapped_fails(past.config(), pager, p, at, pages),
-        Answer::Unmapped => some_unmapped_fails(past.config(), pager, p, at, pages),
-        _ => Some(Reason::NoSuchAnswer),
-    }
-}
-
-/// Why a locking of pages isn't answered so.
-fn locked_fails(
-    past: &LogHistory<'_>,
-    pager: &LogPager,
-    p: Proc,
-    at: Addr,
-    pages: u32,
-    answer: Answer,
-) -> Option<Reason>
-    requires range { IsRange at.0 pages }
-    requires process { p.0 < (shown pager.now).processes }
-    ensures legal { IsNone result ↔ IsService past.now.config past.now.past (shown pager.now).pager p.0 (Service.Lock at pages) answer }
-    ensures said { IfSome result (ServiceFails past.now.config past.now.past (shown pager.now).pager p.0 (Service.Lock at pages) answer) }
-{
-    match answer {
-        Answer::Count(n) => locking_fails(past.config(), pager, p, at, pages, n),
-        Answer::Unmapped => some_unmapped_fails(past.config(), pager, p, at, pages),
-        Answer::LockLimit => over_locking_fails(past.config(), pager, p, at, pages),
-        _ => Some(Reason::NoSuchAnswer),
-    }
-}
-
-/// Why an unlocking of pages isn't answered so.
-fn unlocked_fails(
-    past: &LogHistory<'_>,
-    pager: &LogPager,
-    p: Proc,
-    at: Addr,
-    pages: u32,
-    answer: Answer,
-) -> Option<Reason>
-    requires range { IsRange at.0 pages }
-    requires process { p.0 < (shown pager.now).processes }
-    ensures legal { IsNone result ↔ IsService past.now.config past.now.past (shown pager.now).pager p.0 (Service.Unlock at pages) answer }
-    ensures said { IfSome result (ServiceFails past.now.config past.now.past (shown pager.now).pager p.0 (Service.Unlock at pages) answer) }
-{
-    match answer {
-        Answer::Count(n) => unlocking_fails(past.config(), pager, p, at, pages, n),
-        Answer::Unmapped => some_unmapped_fails(past.config(), pager, p, at, pages),
-        _ => Some(Reason::NoSuchAnswer),
-    }
-}
-
-/// Why a pinning of pages isn't answered so.
-fn pinned_fails(
-    past: &LogHistory<'_>,
-    pager: &LogPager,
-    p: Proc,
-    at: Addr,
-    pages: u32,
-    answer: Answer,
-) -> Option<Reason>
-    requires range { IsRange at.0 pages }
-    requires process { p.0 < (shown pager.now).processes }
-    ensures legal { IsNone result ↔ IsService past.now.config past.now.past (shown pager.now).pager p.0 (Service.Pin at pages) answer }
-    ensures said { IfSome result (ServiceFails past.now.config past.now.past (shown pager.now).pager p.0 (Service.Pin at pages) answer) }
-{
-    match answer {
-        Answer::Count(n) => pinning_fails(past.config(), pager, p, at, pages, n),
-        Answer::Unmapped => some_unmapped_fails(past.config(), pager, p, at, pages),
-        Answer::LockLimit => over_pinning_fails(past.config(), pager, p, at, pages),
-        _ => Some(Reason::NoSuchAnswer),
-    }
-}
-
-/// Why an unpinning of pages isn't answered so.
-fn unpinned_fails(
-    past: &LogHistory<'_>,
-    pager: &LogPager,
-    p: Proc,
-    at: Addr,
-    pages: u32,
-    answer: Answer,
-) -> Option<Reason>
-    requires range { IsRange at.0 pages }
-    requires process { p.0 < (shown pager.now).processes }
-    ensures legal { IsNone result ↔ IsService past.now.config past.now.past (shown pager.now).pager p.0 (Service.Unpin at pages) answer }
-    ensures said { IfSome result (ServiceFails past.now.config past.now.past (shown pager.now).pager p.0 (Service.Unpin at pages) answer) }
-{
-    match answer {
-        Answer::Count(n) => unpinning_fails(past.config(), pager, p, at, pages, n),
-        Answer::Unmapped => some_unmapped_fails(past.config(), pager, p, at, pages),
-        _ => Some(Reason::NoSuchAnswer),
-    }
-}
-
-/// Why a purge of pages isn't answered so.
-fn purged_fails(
-    _past: &LogHistory<'_>,
-    pager: &LogPager,
-    p: Proc,
-    at: Addr,
-    pages: u32,
-    answer: Answer,
-) -> Option<Reason>
-    requires { p.0 < (shown pager.now).processes }
-    ensures legal { IsNone result ↔ IsService _past.now.config _past.now.past (shown pager.now).pager p.0 (Service.Purge at pages) answer }
-    ensures said { IfSome result (ServiceFails _past.now.config _past.now.past (shown pager.now).pager p.0 (Service.Purge at pages) answer) }
-{
-    match answer {
-        Answer::Good => purge_fails(pager, p, at, pages),
-        _ => Some(Reason::NoSuchAnswer),
-    }
-}
-
-/// Why an adjustment of a limit isn't answered so.
-fn limited_fails(
-    past: &LogHistory<'_>,
-    _pager: &LogPager,
-    p: Proc,
-    limit: u32,
-    answer: Answer,
-) -> Option<Reason>
-    ensures legal { IsNone result ↔ IsService past.now.config past.now.past (shown _pager.now).pager p.0 (Service.Adjust limit) answer }
-    ensures said { IfSome result (ServiceFails past.now.config past.now.past (shown _pager.now).pager p.0 (Service.Adjust limit) answer) }
-{
-    match answer {
-        Answer::Good => limit_fails(past.config(), p, limit),
-        Answer::BadLimit => bad_limit_fails(past.config(), p, limit),
-        _ => Some(Reason::NoSuchAnswer),
+    match s {
+        Service::Delete { at, pages }
+        | Service::Protect { at, pages, prot: _ }
+        | Service::Lock { at, pages }
+        | Service::Unlock { at, pages }
+        | Service::Pin { at, pages }
+        | Service::Unpin { at, pages } => {
+            some_unmapped_fails(past.config(), pager, Range { process, at, pages })
+        }
+        Service::Create { .. } | Service::Purge { .. } | Service::Adjust { .. } => {
+            Some(Reason::NoSuchAnswer)
+        }
     }
 }
 
@@ -237,30 +90,32 @@ fn limited_fails(
 fn service_fails(
     past: &LogHistory<'_>,
     pager: &LogPager,
-    p: Proc,
+    process: Proc,
     s: Service,
     answer: Answer,
 ) -> Option<Reason>
     requires formed { IsWellFormedService s }
-    requires process { p.0 < (shown pager.now).processes }
+    requires process { process.0 < (shown pager.now).processes }
     requires frames { (shown pager.now).frames ≤ 16384 }
-    ensures legal { IsNone result ↔ IsService past.now.config past.now.past (shown pager.now).pager p.0 s answer }
-    ensures said { IfSome result (ServiceFails past.now.config past.now.past (shown pager.now).pager p.0 s answer) }
+    ensures legal { IsNone result ↔ IsService past.now.config past.now.past (shown pager.now).pager process.0 s answer }
+    ensures said { IfSome result (ServiceFails past.now.config past.now.past (shown pager.now).pager process.0 s answer) }
 {
-    match s {
-        Service::Create { at, pages, prot } => created_fails(
-            past, pager, p, at, pages, prot, answer,
-        ),
-        Service::Delete { at, pages } => deleted_fails(past, pager, p, at, pages, answer),
-        Service::Protect { at, pages, prot } => {
-            protected_fails(past, pager, p, at, pages, prot, answer)
-        }
-        Service::Lock { at, pages } => locked_fails(past, pager, p, at, pages, answer),
-        Service::Unlock { at, pages } => unlocked_fails(past, pager, p, at, pages, answer),
-        Service::Purge { at, pages } => purged_fails(past, pager, p, at, pages, answer),
-        Service::Pin { at, pages } => pinned_fails(past, pager, p, at, pages, answer),
-        Service::Unpin { at, pages } => unpinned_fails(past, pager, p, at, pages, answer),
-        Service::Adjust { limit } => limited_fails(past, pager, p, limit, answer),
+    match answer {
+        Answer::Good => good_fails(past, pager, process, s),
+        Answer::Count(n) => counted_fails(past, pager, process, s, n),
+        Answer::Unmapped => refused_fails(past, pager, process, s),
+        Answer::LockLimit => lock_limit_fails(past, pager, process, s),
+        Answer::InUse => match s {
+            Service::Create { at, pages, prot: _ } => {
+                in_use_fails(past.config(), pager, Range { process, at, pages })
+            }
+            _ => Some(Reason::NoSuchAnswer),
+        },
+        Answer::BadLimit => match s {
+            Service::Adjust { limit } => bad_limit_fails(past.config(), process, limit),
+            _ => Some(Reason::NoSuchAnswer),
+        },
+        Answer::DiskFault => Some(Reason::NoSuchAnswer),
     }
 }
 
@@ -319,30 +174,6 @@ fn served_fault_fails(
     None
 }
 
-/// Why a service of a resident process isn't answered so, if not by a failure.
-fn own_service_fails(
-    past: &LogHistory<'_>,
-    pager: &LogPager,
-    p: Proc,
-    s: Service,
-    answer: Answer,
-) -> Option<Reason>
-    requires formed { IsWellFormedService s }
-    requires processes { (shown pager.now).processes ≡ length past.now.config.procs }
-    requires frames { (shown pager.now).frames ≤ 16384 }
-    ensures legal { IsNone result ↔ (IsOwn past.now.config (shown pager.now).pager p.0 × IsService past.now.config past.now.past (shown pager.now).pager p.0 s answer × IsServiceOf past.now.config.version s) }
-    ensures said { IfSome result (λ r. OwnFails past.now.config (shown pager.now).pager p.0 r
-        ⊎ (VersionFails past.now.config s r ⊎ ServiceFails past.now.config past.now.past (shown pager.now).pager p.0 s answer r)) }
-{
-    if let Some(reason) = own_fails(past.config(), pager, p) {
-        return Some(reason);
-    }
-    if !is_of_version(past.config().version, s) {
-        return Some(Reason::NotOfVersion);
-    }
-    service_fails(past, pager, p, s, answer)
-}
-
 /// Why a service isn't answered so, if it isn't. Doesn't allocate.
 pub fn served_fails(
     past: &LogHistory<'_>,
@@ -359,6 +190,15 @@ pub fn served_fails(
 {
     match answer {
         Answer::DiskFault => served_fault_fails(past, pager, seat, s),
-        _ => own_service_fails(past, pager, Proc(seat.0), s, answer),
+        _ => {
+            let p = Proc(seat.0);
+            if let Some(reason) = own_fails(past.config(), pager, p) {
+                return Some(reason);
+            }
+            if !is_of_version(past.config().version, s) {
+                return Some(Reason::NotOfVersion);
+            }
+            service_fails(past, pager, p, s, answer)
+        }
     }
 }

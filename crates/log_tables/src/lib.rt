@@ -25,8 +25,7 @@ pub use held::Held;
 pub use held_pages::HeldPages;
 pub use laying::{clear_range, pages_of, protect_range, zero_range};
 pub use lists::{
-    is_of_section, is_own, is_paged, is_same, lay_at, lay_nowhere, page_behind, remove, slot_lying,
-    slot_of,
+    is_of_section, is_own, is_paged, lay_at, lay_nowhere, page_behind, remove, slot_lying, slot_of,
 };
 pub use lying_pages::LyingPages;
 pub use page_list::PageList;

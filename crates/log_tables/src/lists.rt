@@ -1,7 +1,6 @@
 //! Lists of pages and frames.
 
 ghost use Rattle.std.specs.Prelude.{◌≡◌, OnOk, slice_get};
-ghost use Rattle.vm_types.specs.Same.{same_page};
 ghost use Rattle.page_lists.specs.Lists.{without};
 ghost use Rattle.pager_model.specs.Back.{block_slot, lies_of};
 ghost use Rattle.pager_model.specs.Changes.{is_section_block, lies_nowhere};
@@ -11,18 +10,6 @@ ghost use Rattle.log_tables.specs.Lying.{first_by, lies_by};
 
 use crate::lying_pages::LyingPages;
 use vm_types::{BlockId, Config, NoMemory, Origin, Page, Proc, SecId, SectionKind};
-
-/// Whether both are the same page.
-pub fn is_same(one: Page, other: Page) -> bool
-    ensures { result ≡ same_page one other }
-{
-    match (one, other) {
-        (Page::Private(p, v), Page::Private(q, w)) => p.0 == q.0 && v == w,
-        (Page::Shared(s, i), Page::Shared(t, j)) => s.0 == t.0 && i == j,
-        (Page::Private(_, _), Page::Shared(_, _)) | (Page::Shared(_, _), Page::Private(_, _)) =>
-            false,
-    }
-}
 
 /// Whether the page is a process's own.
 pub fn is_own(page: Page) -> bool

@@ -9,7 +9,7 @@ ghost use Rattle.log_tables.specs.PageTables.{item_of};
 
 use crate::lists::first_block;
 use crate::page_table::PageTable;
-use std::alloc::Global;
+use std::alloc::{AllocError, Global};
 use std::marker::Model;
 use vm_types::{BlockId, NoMemory, Page, Proc, Section, SectionKind};
 
@@ -57,14 +57,10 @@ fn is_swap_of(block: Option<BlockId>, p: Proc) -> bool
 }
 
 /// The kind of each section.
-fn kinds_of(alloc: Global, sections: &[Section]) -> Result<Vec<SectionKind>, NoMemory>
+fn kinds_of(alloc: Global, sections: &[Section]) -> Result<Vec<SectionKind>, AllocError>
     ensures { IfOk result (λ kinds. kinds.items ≡ map (λ (section : SectionOf). section.kind) sections.now) }
 {
-    let mut kinds = Vec::new(alloc);
-    for section in sections {
-        kinds.push(section.kind)?;
-    }
-    Ok(kinds)
+    sections.iter().map(|section| section.kind).collect(alloc)
 }
 
 /// Takes a page into the list of those that were said to lie in a swap block, if it is to be there and isn't.

@@ -1,1 +1,2 @@
+mod PartsInLine
 mod Tallies

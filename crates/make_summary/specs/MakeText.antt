@@ -1,5 +1,6 @@
 -- The lines of a made trace's run: how many entries of each kind it has. Source: this project's own.
 use Rattle.std.specs.Prelude.{ℕ, Bool, true, false, ◌+◌, List, ◌++◌, length, count_by, codes, decimal, if◌then◌else◌}
+use Rattle.std.specs.Borrow.{Bor}
 use Rattle.vm_journal.specs.declared.entry.Entry.{Entry}
 use Rattle.vm_journal.specs.declared.entry.Kind.{Kind}
 use Rattle.vm_journal.specs.declared.entry.Kind.TheVariants as kind
@@ -59,6 +60,10 @@ counted counts w = record {
   turns = counts.turns + (if is_kind kind.Turn w then 1 else 0);
   limits = counts.limits + (if is_kind kind.Limit w then 1 else 0);
 }
+
+-- a word and its number
+abbrev pub part_text : Bor (List ℕ) × ℕ → List ℕ
+part_text part = part.0.now ++ decimal part.1
 
 -- which trace was made
 abbrev pub made_line : Make → List ℕ

@@ -1,9 +1,11 @@
-ghost use Rattle.std.specs.Prelude.{◌≡◌, ◌+◌, ◌≤◌, ◌++◌, List, length, decimal};
+ghost use Rattle.std.specs.Prelude.{◌≡◌, ◌+◌, ◌≤◌, ◌++◌, All, List, length, decimal};
 ghost use Rattle.arrayvec.specs.ArrayVec.{array_vec_len};
 ghost use Rattle.outside_io.specs.Writes.{Writes};
 ghost use Rattle.vm_journal.specs.declared.entry.Entry.{Entry};
 ghost use Rattle.run_record.specs.Tallies.{tallies_of};
-ghost use Rattle.make_summary.specs.MakeText.{answered_line, entries_line, made_line, make_lines, managed_line, paged_line, summary_lines};
+ghost use Rattle.std.specs.List.{flat_map};
+ghost use Rattle.pager_model.specs.Text.{ended};
+ghost use Rattle.make_summary.specs.MakeText.{answered_line, entries_line, made_line, make_lines, managed_line, paged_line, part_text, summary_lines};
 
 use crate::counts::{Counts, counts_in};
 use crate::make::Make;
@@ -22,57 +24,70 @@ fn push_number(out: &mut ArrayVec<u8, 160>, word: &[u8], number: u64)
     push_decimal(out, number);
 }
 
+/// Writes a line of words, each with its number.
+fn print_numbers<K: Sink>(parts: &[(&[u8], u64)], sink: &mut K) -> Result<(), WriteFault>
+    requires few { length parts.now ≤ 5 }
+    requires short { All (λ part. length part.0.now ≤ 8) parts.now }
+    ensures { Writes (K.seen sink.old) (K.seen sink.new) result (ended (flat_map part_text parts.now)) }
+{
+    let mut out = ArrayVec::new();
+    for part in parts {
+        push_number(&mut out, part.0, part.1);
+    }
+    write_line(out, sink)
+}
+
 /// Which trace was made.
 fn print_made<K: Sink>(make: Make, sink: &mut K) -> Result<(), WriteFault>
     ensures { Writes (K.seen sink.old) (K.seen sink.new) result (made_line make) }
 {
-    let mut out = ArrayVec::new();
-    push_number(&mut out, b"MADE ", u64::from(make.seed));
-    push_number(&mut out, b" ", u64::from(make.procs));
-    push_number(&mut out, b" ", u64::from(make.refs));
-    write_line(out, sink)
+    let seed = u64::from(make.seed);
+    let procs = u64::from(make.procs);
+    let refs = u64::from(make.refs);
+    print_numbers(&[(b"MADE ", seed), (b" ", procs), (b" ", refs)], sink)
 }
 
 /// How many references were answered, and how many refused.
 fn print_answered<K: Sink>(counts: &Counts, sink: &mut K) -> Result<(), WriteFault>
     ensures { Writes (K.seen sink.old) (K.seen sink.new) result (answered_line counts.now) }
 {
-    let mut out = ArrayVec::new();
-    push_number(&mut out, b"DONE ", counts.done);
-    push_number(&mut out, b" DENIED ", counts.denied);
-    write_line(out, sink)
+    print_numbers(
+        &[(b"DONE ", counts.done), (b" DENIED ", counts.denied)],
+        sink,
+    )
 }
 
 /// How many pages came into frames and left working sets, and how many transfers began.
 fn print_paged<K: Sink>(counts: &Counts, sink: &mut K) -> Result<(), WriteFault>
     ensures { Writes (K.seen sink.old) (K.seen sink.new) result (paged_line counts.now) }
 {
-    let mut out = ArrayVec::new();
-    push_number(&mut out, b"ZERO ", counts.zeros);
-    push_number(&mut out, b" BACK ", counts.backs);
-    push_number(&mut out, b" IN ", counts.reads);
-    push_number(&mut out, b" OUT ", counts.writes);
-    push_number(&mut out, b" EVICT ", counts.evictions);
-    write_line(out, sink)
+    print_numbers(
+        &[
+            (b"ZERO ", counts.zeros),
+            (b" BACK ", counts.backs),
+            (b" IN ", counts.reads),
+            (b" OUT ", counts.writes),
+            (b" EVICT ", counts.evictions),
+        ],
+        sink,
+    )
 }
 
 /// How often a process changed its status, and how often a limit was adjusted.
 fn print_managed<K: Sink>(counts: &Counts, sink: &mut K) -> Result<(), WriteFault>
     ensures { Writes (K.seen sink.old) (K.seen sink.new) result (managed_line counts.now) }
 {
-    let mut out = ArrayVec::new();
-    push_number(&mut out, b"TURN ", counts.turns);
-    push_number(&mut out, b" LIMIT ", counts.limits);
-    write_line(out, sink)
+    print_numbers(
+        &[(b"TURN ", counts.turns), (b" LIMIT ", counts.limits)],
+        sink,
+    )
 }
 
 /// How many entries there are.
 fn print_all<K: Sink>(all: u64, sink: &mut K) -> Result<(), WriteFault>
     ensures { Writes (K.seen sink.old) (K.seen sink.new) result (entries_line all) }
 {
-    let mut out = ArrayVec::new();
-    push_number(&mut out, b"ENTRIES ", all);
-    write_line(out, sink)
+    print_numbers(&[(b"ENTRIES ", all)], sink)
 }
 
 /// The lines, by the counts of the entries, and of all of them.

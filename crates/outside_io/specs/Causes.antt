@@ -1,14 +1,6 @@
--- Counts of faults, and when an answer has its cause in one. A count is at most 2^64 - 1 and stays
--- there. Source: this project's own.
-use Rattle.std.specs.Prelude.{ℕ, ◌+◌, ◌-◌, ◌^◌, ◌≤◌, min, Result, OnErr}
-
--- one more, up to the count's end
-abbrev pub raised : ℕ → ℕ
-raised count = min (count + 1) (2 ^ 64 - 1)
-
--- the count has risen; one that stands at its end counts as risen
-abbrev pub Rose : ℕ → ℕ → Type 0
-Rose before now = raised before ≤ now
+-- When an answer has its cause in a count of faults. Source: this project's own.
+use Rattle.std.specs.Prelude.{ℕ, ◌≤◌, Result, OnErr}
+use Rattle.vm_types.specs.Counts.{Rose}
 
 -- a count never falls, and an `Err` comes only where it rose
 pub record HasCause {T E : Type 0} (before now : ℕ) (result : Result T E) : Type 0 where

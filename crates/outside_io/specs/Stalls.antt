@@ -1,7 +1,7 @@
 -- When a sink stalls: it takes nothing of a piece that isn't empty. Source: this project's own.
 use Rattle.std.specs.Prelude.{ℕ, Bool, false, ◌&&◌, ◌==◌, nat_lt, List, length, Result, Ok, Err, if◌then◌else◌}
+use Rattle.vm_types.specs.Counts.{raised}
 use Rattle.vm_types.specs.declared.faults.Failed.{Failed}
-use Rattle.outside_io.specs.Causes.{raised}
 
 -- whether this answer to a write of the piece is a stall
 abbrev pub is_stall : Result ℕ Failed → List ℕ → Bool

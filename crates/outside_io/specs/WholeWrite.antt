@@ -1,7 +1,7 @@
 -- What the write of a whole text does to a sink, by its answer. Source: this project's own.
 use Rattle.std.specs.Prelude.{◌≡◌, ℕ, ◌<◌, List, length, take, Option, Result, Ok, Err}
 use Rattle.std.specs.Io.KnownBytes.{Appends}
-use Rattle.outside_io.specs.Causes.{raised, Rose}
+use Rattle.vm_types.specs.Counts.{raised, Rose}
 use Rattle.outside_io.specs.declared.whole.WriteFault.{WriteFault}
 use Rattle.outside_io.specs.declared.whole.WriteFault.TheVariants.{Failed, NoneTaken}
 

@@ -1,7 +1,8 @@
 ghost use Rattle.std.specs.Prelude.{◌≡◌, ◌+◌, ◌≤◌, [], min, length, Some, is_err, OnOk, OnErr, IfOk, if◌then◌else◌};
 ghost use Rattle.std.specs.Io.{WritesAtMost};
 ghost use Rattle.std.specs.Io.KnownBytes.{Keeps, WriteAppends};
-ghost use Rattle.outside_io.specs.Causes.{HasCause, raised};
+ghost use Rattle.vm_types.specs.Counts.{raised};
+ghost use Rattle.outside_io.specs.Causes.{HasCause};
 ghost use Rattle.outside_io.specs.Stalls.{stalls_after};
 ghost use Rattle.outside_io.specs.Listed.{is_listed};
 ghost use Rattle.outside_io.specs.KeptIsLast.{all_is_handed_on};

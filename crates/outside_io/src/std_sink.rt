@@ -1,7 +1,8 @@
 ghost use Rattle.std.specs.Prelude.{◌≡◌, ◌≢◌, ◌<◌, ◌≤◌, ◌++◌, [], length, drop, ℕ, is_some, is_err, nat_lt, OnOk, OnErr, IsErr};
 ghost use Rattle.std.specs.Io.{WritesAtMost};
 ghost use Rattle.std.specs.Io.KnownBytes.{Keeps, WriteAppends, append_known};
-ghost use Rattle.outside_io.specs.Causes.{HasCause, raised};
+ghost use Rattle.vm_types.specs.Counts.{raised};
+ghost use Rattle.outside_io.specs.Causes.{HasCause};
 ghost use Rattle.outside_io.specs.Stalls.{stalls_after};
 ghost use Rattle.outside_io.specs.KeptIsLast.{kept_is_last_known};
 

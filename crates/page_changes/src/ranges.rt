@@ -2,7 +2,7 @@ ghost use Rattle.std.specs.Prelude.{◌≡◌, ◌<◌, ◌+◌, ◌*◌, ◌^�
 ghost use Rattle.std.specs.Option.{option_map};
 ghost use Rattle.vm_types.specs.WellFormed.{IsCode, IsRange};
 ghost use Rattle.vm_types.specs.PagePlaces.{changed_at};
-ghost use Rattle.page_tables.specs.PageTables.{IsMapped, entry_of};
+ghost use Rattle.page_tables.specs.PageTables.{IsMapped, pte_in};
 ghost use Rattle.section_table.specs.SectionTable.{behind_of};
 ghost use Rattle.pager_model.specs.FlatService.{in_range};
 ghost use Rattle.state_fits.specs.Serving.{ranged, with_code};
@@ -18,7 +18,7 @@ pub fn protect(tables: &mut Tables, p: Proc, at: Addr, pages: u32, prot: u8)
     requires range { IsRange at.0 pages }
     requires code { IsCode prot }
     requires mapped { (v : ℕ) → in_range at.0 pages v ≡ true → IsMapped tables.old p.0 v }
-    ensures changed { (q w : ℕ) → entry_of tables.new q w ≡ ranged (option_map (with_code prot)) p.0 at.0 pages (entry_of tables.old) q w }
+    ensures changed { (q w : ℕ) → pte_in tables.new q w ≡ ranged (option_map (with_code prot)) p.0 at.0 pages (pte_in tables.old) q w }
     ensures procs { tables.new.procs ≡ tables.old.procs }
 {
     let first = at.0 / 512;
@@ -31,7 +31,7 @@ pub fn protect(tables: &mut Tables, p: Proc, at: Addr, pages: u32, prot: u8)
 fn set_code(tables: &mut Tables, p: Proc, vpn: u32, prot: u8)
     requires code { IsCode prot }
     requires mapped { IsMapped tables.old p.0 vpn }
-    ensures changed { (q w : ℕ) → entry_of tables.new q w ≡ changed_at (entry_of tables.old) p.0 vpn (option_map (with_code prot) (entry_of tables.old p.0 vpn)) q w }
+    ensures changed { (q w : ℕ) → pte_in tables.new q w ≡ changed_at (pte_in tables.old) p.0 vpn (option_map (with_code prot) (pte_in tables.old p.0 vpn)) q w }
     ensures procs { tables.new.procs ≡ tables.old.procs }
 {
     if let Look::Entry(pte) = tables.look(p, vpn) {
@@ -52,9 +52,9 @@ pub fn create_zeros(
     requires range { IsRange at.0 pages }
     requires code { IsCode prot }
     requires process { (p.0 < tables.old.procs) × (p.0 < sections.old.procs) }
-    requires absent { (v : ℕ) → in_range at.0 pages v ≡ true → entry_of tables.old p.0 v ≡ None }
+    requires absent { (v : ℕ) → in_range at.0 pages v ≡ true → pte_in tables.old p.0 v ≡ None }
     requires free { (v : ℕ) → in_range at.0 pages v ≡ true → behind_of sections.old p.0 v ≡ None }
-    ensures changed { (q w : ℕ) → entry_of tables.new q w ≡ ranged (λ old. Some (record { prot = prot; place = Place.DemandZero })) p.0 at.0 pages (entry_of tables.old) q w }
+    ensures changed { (q w : ℕ) → pte_in tables.new q w ≡ ranged (λ old. Some (record { prot = prot; place = Place.DemandZero })) p.0 at.0 pages (pte_in tables.old) q w }
     ensures procs { tables.new.procs ≡ tables.old.procs }
     ensures behind { (q w : ℕ) → behind_of sections.new q w ≡ ranged (λ old. Some Origin.Zero) p.0 at.0 pages (behind_of sections.old) q w }
     ensures sections { (sections.new.procs ≡ sections.old.procs) × (sections.new.parts ≡ sections.old.parts) }

@@ -1,7 +1,7 @@
 ghost use Rattle.std.specs.Prelude.{◌≡◌, ℕ, ◌<◌, None, Some, length};
 ghost use Rattle.std.specs.Option.{option_map};
 ghost use Rattle.page_file.specs.Blocks.{Blocks};
-ghost use Rattle.page_tables.specs.PageTables.{entry_of};
+ghost use Rattle.page_tables.specs.PageTables.{pte_in};
 ghost use Rattle.pager_model.specs.Changes.{swap_slot};
 ghost use Rattle.pager_model.specs.Maps.{is_paged, page_behind};
 ghost use Rattle.section_table.specs.SectionTable.{behind_of};
@@ -76,7 +76,7 @@ pub fn is_paged(config: &Config, page: Page) -> bool
 /// which has the number, does.
 pub fn hold_page(tables: &mut Tables, globals: &mut Globals, f: Pfn, page: Page, number: u32)
     requires { MayHold tables.old globals.old f.0 number page }
-    ensures entries { (q w : ℕ) → entry_of tables.new q w ≡ entry_held page f.0 (entry_of tables.old) q w }
+    ensures entries { (q w : ℕ) → pte_in tables.new q w ≡ entry_held page f.0 (pte_in tables.old) q w }
     ensures procs { tables.new.procs ≡ tables.old.procs }
     ensures globals { globals.new ≡ held_at page number f.0 globals.old }
 {

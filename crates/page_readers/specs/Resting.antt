@@ -10,7 +10,7 @@ use Rattle.vm_types.specs.declared.names.BlockId.TheVariants as block
 use Rattle.vm_types.specs.declared.names.Page.{Page}
 use Rattle.vm_types.specs.declared.names.Page.TheVariants.{Private, Shared}
 use Rattle.page_file.specs.Blocks.{Blocks, assigned_blocks}
-use Rattle.page_tables.specs.PageTables.{IsEntry, IsMapped, PageTables, entry_of}
+use Rattle.page_tables.specs.PageTables.{IsEntry, IsMapped, PageTables, pte_in}
 use Rattle.pte_forms.specs.declared.pte.Pte.{Pte}
 use Rattle.pager_model.specs.Maps.{proc}
 use Rattle.section_table.specs.SectionTable.{SectionTable, behind_of}
@@ -31,7 +31,7 @@ pub record CanRest (config : Config) (firsts : List ℕ) (pages : ChargedTable) 
   pub charged : IsSome (kept_at pages (Private (proc p) v))
   pub behind : IsSome (behind_of sections p v)
   pub numbered : (b : Origin) → behind_of sections p v ≡ Some b → IsNumberedOrigin config firsts b
-  pub entry : (c : ChargedPage) (b : Origin) (pte : Pte) → kept_at pages (Private (proc p) v) ≡ Some c → behind_of sections p v ≡ Some b → entry_of tables p v ≡ Some pte → IsEntry (record pte { place = resting_place config b c.lies })
+  pub entry : (c : ChargedPage) (b : Origin) (pte : Pte) → kept_at pages (Private (proc p) v) ≡ Some c → behind_of sections p v ≡ Some b → pte_in tables p v ≡ Some pte → IsEntry (record pte { place = resting_place config b c.lies })
 
 abbrev pub MayRest : Config → List ℕ → ChargedTable → SectionTable → PageTables → Page → Type 0
 MayRest config firsts pages sections tables (Private p v) = CanRest config firsts pages sections tables p.0 v
@@ -44,9 +44,9 @@ pub record IsAtRest (config : Config) (pages : ChargedTable) (sections : Section
   pub pte : Pte
   pub kept : kept_at pages (Private (proc p) v) ≡ Some charged
   pub origin : behind_of sections p v ≡ Some behind
-  pub entry : entry_of old p v ≡ Some pte
+  pub entry : pte_in old p v ≡ Some pte
   pub procs : new.procs ≡ old.procs
-  pub changed : (q w : ℕ) → entry_of new q w ≡ changed_at (entry_of old) p v (Some (record pte { place = resting_place config behind charged.lies })) q w
+  pub changed : (q w : ℕ) → pte_in new q w ≡ changed_at (pte_in old) p v (Some (record pte { place = resting_place config behind charged.lies })) q w
 
 -- no entry names the frame of a shared page
 abbrev pub Rests : Config → ChargedTable → SectionTable → PageTables → PageTables → Page → Type 0

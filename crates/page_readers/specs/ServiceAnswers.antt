@@ -6,7 +6,7 @@ use Rattle.vm_types.specs.Ring.{Ring, fixed}
 use Rattle.vm_types.specs.declared.config.ProcSpec.{ProcSpec}
 use Rattle.vm_types.specs.declared.reply.Answer.{Answer}
 use Rattle.vm_types.specs.declared.reply.Answer.TheVariants as answer
-use Rattle.page_tables.specs.PageTables.{PageTables, entry_of}
+use Rattle.page_tables.specs.PageTables.{PageTables, pte_in}
 use Rattle.pager_model.specs.Served.{is_slot_in}
 
 -- the valid pages of the range, if no more are locked or pinned than may be in the ring that there would be
@@ -21,5 +21,5 @@ limit_answer n (Some spec) = if nat_le (spec.locks + 2) n && nat_le n spec.exten
 
 -- whether the page number has an entry, or whether it has none
 abbrev pub has_entry : PageTables → ℕ → Bool → ℕ → Bool
-has_entry tables p true v = is_some (entry_of tables p v)
-has_entry tables p false v = not (is_some (entry_of tables p v))
+has_entry tables p true v = is_some (pte_in tables p v)
+has_entry tables p false v = not (is_some (pte_in tables p v))

@@ -8,7 +8,7 @@ use Rattle.pte_forms.specs.Word.{word_of}
 use Rattle.pte_forms.specs.declared.pte.Pte.{Pte}
 use Rattle.page_tables.proofs.Entries.{map_changed, mapped_place, entries_are_kept, word_of_entry}
 use Rattle.page_tables.specs.Packed.{ArePacked, IsKeptWord, absent, entries_in, kept_by, word_in}
-use Rattle.page_tables.specs.PageTables.{AreEntries, IsMapped, PageTables, entry_of}
+use Rattle.page_tables.specs.PageTables.{AreEntries, IsMapped, PageTables, pte_in}
 
 abbrev pub tables_in : ℕ → List ℕ → PageTables
 tables_in procs words = record { procs = procs; entries = entries_in words }
@@ -34,7 +34,7 @@ module _ (procs : ℕ) (words : List ℕ) (packed : ArePacked procs words) where
   entries_in_tables t is = subst (λ (s : PageTables). AreEntries s) is (entries_are_kept procs words packed)
 
   pub word_in_tables : (t : PageTables) → tables_in procs words ≡ t → (p v place : ℕ) → page_place p v ≡ Some place
-      → word_in words place ≡ option_map word_of (entry_of t p v)
+      → word_in words place ≡ option_map word_of (pte_in t p v)
   word_in_tables t is p v place at = rw (← is) (word_of_entry procs words p v place packed at)
 
 module _ (t : PageTables) (procs : ℕ) (words : List ℕ) (is : tables_in procs words ≡ t) (p v place : ℕ) (at : page_place p v ≡ Some place) where
@@ -42,5 +42,5 @@ module _ (t : PageTables) (procs : ℕ) (words : List ℕ) (is : tables_in procs
   mapped_in mapped = mapped_place words p v place at (subst (λ (s : PageTables). IsMapped s p v) (sym is) mapped)
 
   pub changed_with : (word : ℕ) (x : Option Pte) → place < length words → kept_by word ≡ x
-      → (q w : ℕ) → entry_of (tables_in procs (set words place word)) q w ≡ changed_at (entry_of t) p v x q w
+      → (q w : ℕ) → pte_in (tables_in procs (set words place word)) q w ≡ changed_at (pte_in t) p v x q w
   changed_with word x within stands q w = rw (← is) (map_changed words p v place word x at within stands q w)

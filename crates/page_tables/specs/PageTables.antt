@@ -15,18 +15,18 @@ pub record PageTables : Type 0 where
   pub entries : List (Option Pte)
 
 -- the entry of a page of a process; none for a page that isn't mapped
-abbrev pub entry_of : PageTables → ℕ → ℕ → Option Pte
-entry_of tables p v = item_at tables.entries p v
+abbrev pub pte_in : PageTables → ℕ → ℕ → Option Pte
+pte_in tables p v = item_at tables.entries p v
 
 abbrev pub look_at : Option Pte → Look
 look_at None = Absent
 look_at (Some pte) = Entry pte
 
 abbrev pub look_of : PageTables → ℕ → ℕ → Look
-look_of tables p v = look_at (entry_of tables p v)
+look_of tables p v = look_at (pte_in tables p v)
 
 abbrev pub IsMapped : PageTables → ℕ → ℕ → Type 0
-IsMapped tables p v = IsSome (entry_of tables p v)
+IsMapped tables p v = IsSome (pte_in tables p v)
 
 -- the process is one of the tables', and the page one that may be mapped
 pub record HasPage (tables : PageTables) (p v : ℕ) : Type 0 where
@@ -51,4 +51,4 @@ pub record IsEntry (pte : Pte) : Type 0 where
 
 -- each entry of the tables is one that they may have
 abbrev pub AreEntries : PageTables → Type 0
-AreEntries tables = (p v : ℕ) → IfSome (entry_of tables p v) IsEntry
+AreEntries tables = (p v : ℕ) → IfSome (pte_in tables p v) IsEntry

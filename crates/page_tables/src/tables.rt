@@ -31,7 +31,7 @@ impl Model for Tables {
 }
 
 impl Tables {
-    ghost use Rattle.page_tables.specs.PageTables.{AreEntries, HasPage, IsEntry, IsMapped, entry_of, look_of};
+    ghost use Rattle.page_tables.specs.PageTables.{AreEntries, HasPage, IsEntry, IsMapped, pte_in, look_of};
 
     /// The tables of so many processes (any number; 16 at most in a configuration), in which no page
     /// has an entry. No other call allocates.
@@ -40,7 +40,7 @@ impl Tables {
     /// `NoMemory` if out of memory.
     pub fn new(alloc: Global, procs: u32) -> Result<Tables, NoMemory>
         ensures procs { IfOk result (λ t. t.procs ≡ procs) }
-        ensures empty { IfOk result (λ t. (p v : ℕ) → entry_of t p v ≡ None) }
+        ensures empty { IfOk result (λ t. (p v : ℕ) → pte_in t p v ≡ None) }
     {
         Ok(Tables {
             procs,
@@ -61,7 +61,7 @@ impl Tables {
 
     /// The word of the page's entry; none exactly if the page has no entry.
     pub fn word(&self, p: Proc, vpn: u32) -> Option<u32>
-        ensures value { result ≡ option_map word_of (entry_of self.now p.0 vpn) }
+        ensures value { result ≡ option_map word_of (pte_in self.now p.0 vpn) }
         ensures entries { AreEntries self.now }
     {
         let words = self.words.as_slice();
@@ -75,7 +75,7 @@ impl Tables {
     pub fn set(&mut self, p: Proc, vpn: u32, pte: Pte)
         requires mapped { IsMapped self.old p.0 vpn }
         requires entry { IsEntry pte }
-        ensures changed { (q w : ℕ) → entry_of self.new q w ≡ changed_at (entry_of self.old) p.0 vpn (Some pte) q w }
+        ensures changed { (q w : ℕ) → pte_in self.new q w ≡ changed_at (pte_in self.old) p.0 vpn (Some pte) q w }
         ensures procs { self.new.procs ≡ self.old.procs }
     {
         let index = page_place(p, vpn).unwrap();
@@ -85,9 +85,9 @@ impl Tables {
     /// Gives a page of one of the processes its entry.
     pub fn map(&mut self, p: Proc, vpn: u32, pte: Pte)
         requires page { HasPage self.old p.0 vpn }
-        requires absent { entry_of self.old p.0 vpn ≡ None }
+        requires absent { pte_in self.old p.0 vpn ≡ None }
         requires entry { IsEntry pte }
-        ensures changed { (q w : ℕ) → entry_of self.new q w ≡ changed_at (entry_of self.old) p.0 vpn (Some pte) q w }
+        ensures changed { (q w : ℕ) → pte_in self.new q w ≡ changed_at (pte_in self.old) p.0 vpn (Some pte) q w }
         ensures procs { self.new.procs ≡ self.old.procs }
     {
         let place = page_place(p, vpn).unwrap();
@@ -97,7 +97,7 @@ impl Tables {
     /// Takes the entry of a mapped page away.
     pub fn unmap(&mut self, p: Proc, vpn: u32)
         requires { IsMapped self.old p.0 vpn }
-        ensures changed { (q w : ℕ) → entry_of self.new q w ≡ changed_at (entry_of self.old) p.0 vpn None q w }
+        ensures changed { (q w : ℕ) → pte_in self.new q w ≡ changed_at (pte_in self.old) p.0 vpn None q w }
         ensures procs { self.new.procs ≡ self.old.procs }
     {
         let place = page_place(p, vpn).unwrap();

@@ -8,7 +8,7 @@ use Rattle.vm_types.specs.declared.names.Page.TheVariants.{Private, Shared}
 use Rattle.page_lists.specs.Lists.{count_of, without}
 use Rattle.page_lists.proofs.Counts.{count_of-cons, count_of-push, count_of-without}
 use Rattle.pfn_database.specs.declared.row.Row.{Row}
-use Rattle.pfn_database.specs.Rows.{IsRow, IsOneOf, FitsModify, FitsPage, FitsSlot, FitsReferences, counted_references, shared, bad_row, empty_row, unshared, held, unheld, state_in_transfer}
+use Rattle.pfn_database.specs.Rows.{IsRow, IsOneOf, FitsModify, FitsPage, FitsSlotIndex, FitsReferences, counted_references, shared, bad_row, empty_row, unshared, held, unheld, state_in_transfer}
 use Rattle.vm_types.specs.declared.names.Page.{Page}
 use Rattle.pfn_database.specs.Frames.{Frames, row_of, is_free, is_modified, IsConsistent}
 
@@ -129,14 +129,14 @@ pub unshared_off : (row : Row) → row.state ≡ Active → (is_free (unshared r
 unshared_off row active = rw active (left_off _)
 
 -- no slot is one for each page
-pub FitsSlot-none : (page : Option Page) → FitsSlot page 0
-FitsSlot-none None = tt
-FitsSlot-none (Some (Private p v)) = tt
-FitsSlot-none (Some (Shared s i)) = refl
+pub FitsSlotIndex-none : (page : Option Page) → FitsSlotIndex page 0
+FitsSlotIndex-none None = tt
+FitsSlotIndex-none (Some (Private p v)) = tt
+FitsSlotIndex-none (Some (Shared s i)) = refl
 
 -- each row stays one
 module _ (row : Row) (good : IsRow row) where
-  pub IsRow-active : (page : Page) (slot : ℕ) → FitsSlot (Some page) slot → IsRow (record row { state = Active; page = Some page; slot = slot })
+  pub IsRow-active : (page : Page) (slot : ℕ) → FitsSlotIndex (Some page) slot → IsRow (record row { state = Active; page = Some page; slot = slot })
   IsRow-active page slot fits = record {
     refs = good.refs;
     flights = good.flights;
@@ -155,7 +155,7 @@ module _ (row : Row) (good : IsRow row) where
         flights = good.flights;
         modify = rw free at good.modify;
         page = refl;
-        slot = rw zeros.1 (FitsSlot-none (Some page));
+        slot = rw zeros.1 (FitsSlotIndex-none (Some page));
         shared = λ _. zeros;
         listed = λ h. absurd (not_listed Reading refl refl (λ e. cc) h);
       }
@@ -257,7 +257,7 @@ module _ (row : Row) (good : IsRow row) where
         flights = good.flights;
         modify = settled_modify row.modify;
         page = settled_page row.modify row.page held;
-        slot = FitsSlot-none row.page;
+        slot = FitsSlotIndex-none row.page;
         shared = λ _. (none, refl);
         listed = λ _. idle;
       }
@@ -302,7 +302,7 @@ module _ (row : Row) (good : IsRow row) where
         flights = good.flights;
         modify = rw active (left_modify (eqb row.flights 1) row.modify);
         page = rw active (left_page (eqb row.flights 1) row.page held);
-        slot = FitsSlot-none row.page;
+        slot = FitsSlotIndex-none row.page;
         shared = λ _. (omega arith, refl);
         listed = λ h. absurd (left_listed (eqb row.flights 1) (rw active at h));
       }))

@@ -68,10 +68,10 @@ abbrev pub unheld : Row → Row
 unheld row = record row { refs = row.refs - 1 }
 
 -- a shared page has no ring slot
-abbrev pub FitsSlot : Option Page → ℕ → Type 0
-FitsSlot (Some (Shared section index)) slot = slot ≡ 0
-FitsSlot (Some (Private process page)) slot = ⊤
-FitsSlot None slot = ⊤
+abbrev pub FitsSlotIndex : Option Page → ℕ → Type 0
+FitsSlotIndex (Some (Shared section index)) slot = slot ≡ 0
+FitsSlotIndex (Some (Private process page)) slot = ⊤
+FitsSlotIndex None slot = ⊤
 
 -- what every row keeps
 pub record IsRow (row : Row) : Type 0 where
@@ -79,7 +79,7 @@ pub record IsRow (row : Row) : Type 0 where
   pub flights : row.flights ≤ 1
   pub modify : FitsModify row.state row.modify
   pub page : FitsPage row.state row.page
-  pub slot : FitsSlot row.page row.slot
+  pub slot : FitsSlotIndex row.page row.slot
   pub shared : row.state ≢ Active → (row.shares ≡ 0) × (row.slot ≡ 0)
   pub listed : IsOneOf (Free ∷ Modified ∷ Bad ∷ []) row.state → row.flights ≡ 0
 

@@ -1,6 +1,6 @@
 ghost use Rattle.std.specs.Prelude.{◌≡◌, ◌≢◌, ◌<◌, ◌+◌, ◌-◌, ◌^◌, ◌==◌, true, false, if◌then◌else◌, [], ◌∷◌, ◌++◌, length, drop, All, IfOk, IfSome, option_map, slice_get, slice_set, slice_index_or, Some};
 ghost use Rattle.page_lists.specs.Lists.{list_of, without, count_of, cells_of, IsOnNone, IsNext};
-ghost use Rattle.pfn_database.specs.Rows.{IsOneOf, states_in_use, FitsModify, FitsSlot, bad_row, empty_row, counted_references, held, unheld, shared, unshared, state_in_transfer};
+ghost use Rattle.pfn_database.specs.Rows.{IsOneOf, states_in_use, FitsModify, FitsSlotIndex, bad_row, empty_row, counted_references, held, unheld, shared, unshared, state_in_transfer};
 ghost use Rattle.pfn_database.specs.Kept.{joined, kept_of};
 ghost use Rattle.pfn_database.specs.Frames.{row_of, lists_of, is_free, is_modified, opening, number, IsConsistent};
 
@@ -116,7 +116,7 @@ impl Pfns {
         requires usable { ((row_of self.old f.0).state ≢ FrameState.Bad)
             × ((row_of self.old f.0).state ≢ FrameState.ReadError) }
         requires page { IfSome (row_of self.old f.0).page (λ held. held ≡ page) }
-        requires slot { FitsSlot (Some page) slot }
+        requires slot { FitsSlotIndex (Some page) slot }
         ensures rows { self.new.rows ≡ slice_set self.old.rows f.0
             (record (row_of self.old f.0) {
               state = FrameState.Active;

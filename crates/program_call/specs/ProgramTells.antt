@@ -4,8 +4,8 @@ use Rattle.std.specs.declared.option.Option.{Option}
 use Rattle.std.specs.Io.KnownBytes.{Appends}
 use Rattle.vm_types.specs.BlockView.{Retired}
 use Rattle.disk_trait.specs.DepotView.{DepotView}
-use Rattle.outside_io.specs.Causes.{Rose}
 use Rattle.vm_types.specs.Moved.{Moved}
+use Rattle.vm_types.specs.Counts.{Rose}
 use Rattle.outside_io.specs.Views.{SourceView, SinkView}
 use Rattle.pager_model.specs.Text.{status_line}
 use Rattle.replay_cli.specs.Commands.{Told}

@@ -1,11 +1,11 @@
 ghost use Rattle.std.specs.Prelude.{◌≡◌, ◌≢◌, ◌⊎◌, ◌≤◌, [], List, ℕ, Some, map};
 ghost use Rattle.std.specs.Io.KnownBytes.{Keeps};
-ghost use Rattle.outside_io.specs.Causes.{Rose};
 ghost use Rattle.vm_types.specs.Moved.{moved};
 ghost use Rattle.command_ends.specs.Concludes.{HasTold, WasCut};
 ghost use Rattle.command_ends.specs.Wrongs.{IsWrong, IsWrongText};
 ghost use Rattle.command_ends.specs.declared.wrong.Wrong.{Wrong};
 ghost use Rattle.std.specs.declared.option.Option.{Option};
+ghost use Rattle.vm_types.specs.Counts.{Rose};
 ghost use Rattle.command_messages.specs.LineFaults.{Holds, Quotes};
 ghost use Rattle.command_messages.specs.Messages.{IsSaid, message_of};
 ghost use Rattle.command_messages.specs.declared.faults.LineFault.{LineFault};

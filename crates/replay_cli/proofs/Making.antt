@@ -19,7 +19,7 @@ use Rattle.serial_run.specs.declared.finished.Counted.{Counted}
 use Rattle.trace_maker.specs.Made.{made_config}
 use Rattle.replay_cli.specs.MakeAnswer.{IsCountedRun, IsMakeAnswer, MakeTells, made, no_memory}
 use Rattle.make_summary.specs.MakeText.{make_lines}
-use Rattle.replay_cli.specs.Headline.{IsRunOver, status_of}
+use Rattle.replay_cli.specs.Headline.{IsRunOver, finished_status}
 use Rattle.make_summary.specs.declared.make.Make.{Make}
 use Rattle.replay_cli.proofs.Overs.{run_over}
 
@@ -42,6 +42,6 @@ module _ (tells : Tells) (make : Make) (config : Config) (is : config ≡ made_c
     rest = ended.rest;
     over = subst (λ (x : Config). IsRunOver (IsSerial x) (moved depot depot') x ended.past ended.rest) is
         (run_over (IsSerial config) tells config taken (f.dirty).items ended.past ended.rest depot depot' known formed ended.over ended.made longer sound);
-    ending = ap run_status ended.over.left ∙ ap (λ (x : Config). status_of x (ended.rest ++ ended.past)) is;
+    ending = ap run_status ended.over.left ∙ ap (λ (x : Config). finished_status x (ended.rest ++ ended.past)) is;
     lines = refl;
   }

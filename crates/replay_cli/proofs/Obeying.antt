@@ -3,8 +3,8 @@ use Rattle.std.proofs.Common.{◌≡◌, ◌≢◌, ℕ, List, [], ◌∷◌, �
 use Rattle.std.specs.Prelude.{◌⊎◌}
 use Rattle.vm_types.specs.declared.config.Config.{Config}
 use Rattle.disk_trait.specs.DepotView.{DepotView}
-use Rattle.outside_io.specs.Causes.{Rose}
 use Rattle.vm_types.specs.Moved.{moved}
+use Rattle.vm_types.specs.Counts.{Rose}
 use Rattle.outside_io.specs.Views.{SinkView, SourceView}
 use Rattle.pager_model.specs.Run.{pager_after}
 use Rattle.pager_model.specs.Serial.{IsSerial}

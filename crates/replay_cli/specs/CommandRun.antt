@@ -1,7 +1,7 @@
 -- What a call of the program does, by what is seen of its ends before and after. Source: this project's own.
 use Rattle.std.specs.Prelude.{◌≡◌, ◌≢◌, ◌⊎◌, ℕ, ◌≤◌, List, [], ◌∷◌, codes, is_some}
-use Rattle.outside_io.specs.Causes.{Rose}
 use Rattle.vm_types.specs.Moved.{Moved}
+use Rattle.vm_types.specs.Counts.{Rose}
 use Rattle.outside_io.specs.Views.{SinkView, SourceView}
 use Rattle.command_ends.specs.Concludes.{HasTold, WasCut}
 use Rattle.replay_cli.specs.Commands.{Asks, HasInput, HasOptionWords, IsDone, Told}

@@ -4,10 +4,10 @@ use Rattle.std.specs.Prelude.{◌≡◌, ◌⊎◌, ℕ, true, false, List, [], 
 use Rattle.std.specs.Io.KnownBytes.{Appends}
 use Rattle.vm_types.specs.BlockView.{Retired}
 use Rattle.vm_types.specs.Moved.{Moved}
+use Rattle.vm_types.specs.Counts.{Rose}
 use Rattle.vm_types.specs.declared.names.Page.{Page}
 use Rattle.vm_types.specs.declared.config.Config.{Config}
 use Rattle.vm_journal.specs.declared.entry.Entry.{Entry}
-use Rattle.disk_trait.specs.Causes.{Rose}
 use Rattle.disk_trait.specs.DepotView.{DepotView}
 use Rattle.outside_io.specs.Views.{SinkView, SourceView}
 use Rattle.pager_model.specs.Asked.{IsAsked}
@@ -58,8 +58,8 @@ pub record IsRunOver (Makes : List Entry → Type 0) (depot : Moved DepotView) (
   pub written : AreWrittenBack (depot.before.tells).content config (rest ++ past) taken
 
 -- The status of a run: 5 if it left a shared page dirty, and else 0.
-abbrev pub status_of : Config → List Entry → ℕ
-status_of config past = if nat_eq (length (dirty_pages config (pager_after config past))) 0 then 0 else 5
+abbrev pub finished_status : Config → List Entry → ℕ
+finished_status config past = if nat_eq (length (dirty_pages config (pager_after config past))) 0 then 0 else 5
 
 -- The text of one finished run: a line for each entry up to the report, the report, a line for each entry after
 -- it, a line for each page left dirty, and the status line.
@@ -67,7 +67,7 @@ pub record IsFinishedRun (Makes : List Entry → Type 0) (depot : Moved DepotVie
   pub past : List Entry
   pub rest : List Entry
   pub over : IsRunOver Makes depot config past rest
-  pub ending : status ≡ status_of config (rest ++ past)
+  pub ending : status ≡ finished_status config (rest ++ past)
   pub lines : text ≡ run_text config past rest status
 
 -- A block could not be made, for the depot failed: the text is the status line alone.

@@ -8,7 +8,7 @@ use Rattle.pager_model.specs.Serial.{IsSerial}
 use Rattle.pager_model.specs.Text.{status_line}
 use Rattle.trace_maker.specs.Made.{made_config}
 use Rattle.command_ends.specs.Concludes.{IsOutcome}
-use Rattle.replay_cli.specs.Headline.{HasNoBlocks, IsRunOver, status_of}
+use Rattle.replay_cli.specs.Headline.{HasNoBlocks, IsRunOver, finished_status}
 use Rattle.make_summary.specs.MakeText.{make_lines}
 use Rattle.make_summary.specs.declared.make.Make.{Make}
 
@@ -17,7 +17,7 @@ pub record IsCountedRun (make : Make) (depot : Moved DepotView) (status : ℕ) (
   pub past : List Entry
   pub rest : List Entry
   pub over : IsRunOver (IsSerial (made_config make.seed make.procs make.refs)) depot (made_config make.seed make.procs make.refs) past rest
-  pub ending : status ≡ status_of (made_config make.seed make.procs make.refs) (rest ++ past)
+  pub ending : status ≡ finished_status (made_config make.seed make.procs make.refs) (rest ++ past)
   pub lines : text ≡ make_lines make (reverse (rest ++ past)) ++ status_line status
 
 abbrev pub IsMakeAnswer : Make → Moved DepotView → ℕ → List ℕ → Type 0

@@ -4,7 +4,7 @@ ghost use Rattle.std.specs.Prelude.{◌≡◌, ◌≤◌, List, IfOk, IsErrOf};
 ghost use Rattle.vm_journal.specs.declared.entry.Entry.{Entry};
 ghost use Rattle.vm_types.specs.Moved.{moved};
 ghost use Rattle.vm_types.specs.Configuration.{IsWellFormed};
-ghost use Rattle.disk_trait.specs.Causes.{Rose};
+ghost use Rattle.vm_types.specs.Counts.{Rose};
 ghost use Rattle.dump_bytes.specs.Bounds.{IsDump};
 ghost use Rattle.dump_bytes.specs.Dumped.{dumped};
 ghost use Rattle.dump_bytes.specs.Text.{dump_text};

@@ -2,8 +2,8 @@
 use Rattle.std.proofs.Common.{◌≡◌, ◌≢◌, ℕ, List, sym, ◌∙◌, refl, subst, arith, inl, inr}
 use Rattle.std.specs.Prelude.{◌⊎◌}
 use Rattle.vm_types.specs.Moved.{Moved, moved}
+use Rattle.vm_types.specs.Counts.{Rose}
 use Rattle.disk_trait.specs.DepotView.{DepotView}
-use Rattle.outside_io.specs.Causes.{Rose}
 use Rattle.outside_io.specs.Views.{SinkView, SourceView}
 use Rattle.command_ends.specs.Concludes.{Concludes, HasTold}
 use Rattle.command_ends.specs.Tells.{IsTrace}

@@ -2,8 +2,8 @@
 -- Source: this project's own.
 use Rattle.std.specs.Prelude.{◌≡◌, ◌≢◌, ◌⊎◌, ℕ, ◌≤◌, List, [], ◌∷◌, codes, is_some}
 use Rattle.vm_types.specs.Moved.{Moved}
+use Rattle.vm_types.specs.Counts.{Rose}
 use Rattle.disk_trait.specs.DepotView.{DepotView}
-use Rattle.outside_io.specs.Causes.{Rose}
 use Rattle.outside_io.specs.Views.{SinkView, SourceView}
 use Rattle.pager_model.specs.Text.{status_line}
 use Rattle.command_ends.specs.Concludes.{HasTold, WasCut}

@@ -1,7 +1,7 @@
 ghost use Rattle.std.specs.Prelude.{◌≡◌, ◌≤◌, ◌++◌, IfOk, IsErrOf, List};
-ghost use Rattle.disk_trait.specs.Causes.{Rose};
 ghost use Rattle.vm_types.specs.BlockView.{Retired};
 ghost use Rattle.vm_types.specs.Configuration.{IsWellFormed};
+ghost use Rattle.vm_types.specs.Counts.{Rose};
 ghost use Rattle.serial_run.specs.Ended.{IsFinished};
 ghost use Rattle.serial_run.specs.declared.finished.RunFault.{RunFault};
 ghost use Rattle.replay_run.specs.Replayed.{IsThreaded};

@@ -1,17 +1,10 @@
 ghost use Rattle.std.specs.Prelude.{◌≡◌, ◌^◌, ◌<◌, IfOk, length, map};
-ghost use Rattle.vm_types.specs.Same.{same_state};
 ghost use Rattle.pager_model.specs.Report.{all_states, in_state};
 ghost use Rattle.report_lines.specs.Rows.{frame_view};
 
 use crate::report::FrameRow;
 use std::alloc::Global;
-use vm_types::{FrameState, Listed, NoMemory};
-
-fn is_same(one: FrameState, other: FrameState) -> bool
-    ensures { result ≡ same_state one other }
-{
-    one as u8 == other as u8
-}
+use vm_types::{FrameState, Listed, NoMemory, is_same_state};
 
 /// How many frames are in a state.
 fn count_in(rows: &[FrameRow], state: FrameState) -> u32
@@ -20,7 +13,7 @@ fn count_in(rows: &[FrameRow], state: FrameState) -> u32
 {
     let mut count = 0;
     for row in rows {
-        if is_same(row.state, state) {
+        if is_same_state(row.state, state) {
             count += 1;
         }
     }

@@ -5,9 +5,9 @@ use Rattle.std.proofs.lemmas.List.FromFn.{map-range_with_len_more}
 use Rattle.std.proofs.lemmas.List.{map-append}
 use Rattle.std.proofs.lemmas.List.Elements.{All-push}
 use Rattle.vm_types.specs.BlockView.{BlockView, Tells}
+use Rattle.vm_types.specs.Counts.{Rose}
 use Rattle.vm_types.specs.declared.config.Config.{Config}
 use Rattle.vm_types.specs.declared.names.BlockId.{BlockId}
-use Rattle.disk_trait.specs.Causes.{Rose}
 use Rattle.disk_trait.specs.Told.{told}
 use Rattle.pager_model.specs.CountedBlock.{plan_of, told_plan}
 use Rattle.run_blocks.specs.Adds.{Adds, AreFirst, AreMade, names_of}

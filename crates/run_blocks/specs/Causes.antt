@@ -1,6 +1,6 @@
 -- Why making blocks fails. This project's own.
 use Rattle.std.specs.Prelude.{ℕ, ◌≤◌, Result, IsErrOf}
-use Rattle.disk_trait.specs.Causes.{Rose}
+use Rattle.vm_types.specs.Counts.{Rose}
 use Rattle.disk_trait.specs.declared.depot.MakeFault.{MakeFault}
 use Rattle.disk_trait.specs.declared.depot.MakeFault.TheVariants.{Failed}
 

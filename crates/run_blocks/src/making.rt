@@ -2,9 +2,9 @@ ghost use Rattle.std.specs.Prelude.{◌≡◌, ◌+◌, ◌≤◌, ◌<◌, ◌+
 ghost use Rattle.std.specs.List.{range_with_len};
 ghost use Rattle.vm_types.specs.Configuration.{IsWellFormed};
 ghost use Rattle.vm_types.specs.SectionBlocks.{section_block_count};
+ghost use Rattle.vm_types.specs.Counts.{Rose};
 ghost use Rattle.vm_types.specs.declared.config.Section.{Section};
 ghost use Rattle.vm_types.specs.declared.names.BlockId.{BlockId};
-ghost use Rattle.disk_trait.specs.Causes.{Rose};
 ghost use Rattle.frame_store.specs.Blocks.{blocks_of, file_blocks, section_block, section_blocks, swap_block, swap_blocks};
 ghost use Rattle.vm_state.specs.Made.{IsMade};
 ghost use Rattle.run_blocks.specs.Adds.{Adds, AreFirst};

@@ -1,9 +1,9 @@
-ghost use Rattle.std.specs.Prelude.{◌≡◌, ◌+◌, ◌^◌, ◌<◌, ◌++◌, List, length, All};
+ghost use Rattle.std.specs.Prelude.{◌≡◌, ◌+◌, ◌^◌, ◌<◌, List, length, All};
 ghost use Rattle.vm_text.specs.Named.{AreNames, IsPrintablePage};
 ghost use Rattle.vm_journal.specs.HasLine.{HasLine};
 ghost use Rattle.vm_journal.specs.declared.entry.Entry.{Entry};
 ghost use Rattle.outside_io.specs.Writes.{Writes};
-ghost use Rattle.pager_model.specs.Text.{run_text, status_line};
+ghost use Rattle.pager_model.specs.Text.{run_text};
 ghost use Rattle.report_lines.specs.Printable.{IsPrintable};
 ghost use Rattle.command_ends.specs.Ends.{Ends};
 ghost use Rattle.run_text.specs.Parts.{parts_text, run_status};
@@ -48,31 +48,6 @@ fn run_status(dirty: &[Page]) -> u8
     if dirty.is_empty() { 0 } else { 5 }
 }
 
-/// Writes these parts and the status. Doesn't allocate.
-fn end_parts<K: Sink>(
-    before: &[Entry],
-    report: &Report,
-    after: &[Entry],
-    dirty: &[Page],
-    procs: u32,
-    names: &[Section],
-    sink: &mut K,
-) -> Status
-    requires numbers { length before.now + length after.now + 1 < 2 ^ 64 }
-    requires names { AreNames procs names.now }
-    requires before_lines { All (HasLine procs names.now) before.now }
-    requires report { IsPrintable names.now report.now }
-    requires after_lines { All (HasLine procs names.now) after.now }
-    requires dirty { All (IsPrintablePage names.now) dirty.now }
-    ensures { Ends (K.seen sink.old) (K.seen sink.new) (run_status dirty.now)
-        (parts_text procs names.now before.now report.now after.now dirty.now ++ status_line (run_status dirty.now)) result.0 }
-{
-    match print_parts(before, report, after, dirty, procs, names, sink) {
-        Err(_) => Status(4),
-        Ok(()) => end_with(run_status(dirty), sink),
-    }
-}
-
 /// Writes the text of a finished run, whole lines in each write of a whole text: the lines of the first
 /// `at` entries, the report, the lines of the other entries, a line for each page of a shared section
 /// that is still held with its modify bit set, and the status. `entries` has the oldest first, `at` is
@@ -94,5 +69,8 @@ pub fn print_run<K: Sink>(
     let names = config.sections.items();
     let procs = config.procs.items().len() as u32;
     let (before, after) = entries.split_at(at as usize);
-    end_parts(before, report, after, dirty, procs, names, sink)
+    match print_parts(before, report, after, dirty, procs, names, sink) {
+        Err(_) => Status(4),
+        Ok(()) => end_with(run_status(dirty), sink),
+    }
 }

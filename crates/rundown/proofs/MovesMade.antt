@@ -6,9 +6,11 @@ use Rattle.pager_model.specs.Moves.{Control as ControlIs, Move, rests}
 use Rattle.pager_model.specs.Order.{IsAnswered}
 use Rattle.pager_model.specs.Rundown.{Place as PlaceIs, cleaning_move, later_move, place_move, rounds_move, shared_place}
 use Rattle.serial_laws.specs.Between.{IsBetween}
+use Rattle.call_begins.specs.MayBegin.{empty}
+use Rattle.lift_carriers.specs.CarrierView.{CarrierView}
 use Rattle.vm_state.specs.History.{History, pager}
 use Rattle.serial_steps.specs.Moved.{IsSameBut, MovesTo}
-use Rattle.rundown.specs.Cleans.{CanClean, Cleans, move_at}
+use Rattle.rundown.specs.Cleans.{CanClean, Cleans, move_at, writer_seat}
 use Rattle.rundown.specs.Places.{IsThere}
 use Rattle.rundown.specs.declared.places.Place.{Place}
 
@@ -47,8 +49,9 @@ pub cleaned_last : (tells : Bool) (s t : History) (at next : PlaceIs) (o : Optio
 cleaned_last tells s t at next o is cleans = moves_as tells s t (later_move s.config s.past (pager s) at) (move_at s next false rests) o (next_found s at next is) (cleans_last tells s t next false o cleans)
 
 -- ---- nothing was made at a place
-pub can_still : (s t : History) → t ≡ s → CanClean s → CanClean t
-can_still s t same can = subst CanClean (sym same) can
+pub can_still : {B : Type 0} (s t : History) (c d : CarrierView B) → t ≡ s → d ≡ c → CanClean s c → CanClean t d
+can_still s t c d same kept can =
+    subst (λ (x : History). CanClean x d) (sym same) (record { steady = can.steady; answered = can.answered; carrier = kept ∙ can.carrier })
 
 pub there_still : (s t : History) (at : Place) → t ≡ s → IsThere s at → IsThere t at
 there_still s t at same there = subst (λ (x : History). IsThere x at) (sym same) there
@@ -63,10 +66,11 @@ cleaned_later tells s t after at failed o cleans moved =
 pub spare_only : (s t : History) → IsSameBut s t → t.past ≡ s.past → t ≡ record s { spare = t.spare }
 spare_only s t same past = same ∙ ap (λ (p : List Entry). record s { past = p; spare = t.spare }) past
 
-pub can_clean : (s t : History) → IsSameBut s t → t.past ≡ s.past → IsBetween s.config s.past → IsAnswered s.config s.past → 64 ≤ t.spare → CanClean t
-can_clean s t same past between answered room = record {
+pub can_clean : {B : Type 0} (s t : History) (c : CarrierView B) → IsSameBut s t → t.past ≡ s.past → IsBetween s.config s.past → IsAnswered s.config s.past → 64 ≤ t.spare → c ≡ empty (writer_seat s) → CanClean t c
+can_clean s t c same past between answered room carrier = record {
   steady = record { between = subst (λ (x : History). IsBetween x.config x.past) (sym (spare_only s t same past)) between; room = room };
   answered = subst (λ (x : History). IsAnswered x.config x.past) (sym (spare_only s t same past)) answered;
+  carrier = carrier ∙ ap (λ (x : History). empty (writer_seat x)) (sym (spare_only s t same past));
 }
 
 from_spare : (tells : Bool) (s after : History) (k : ℕ) (m : Move) (o : Option ControlIs) → MovesTo tells (record s { spare = k }) after m o → MovesTo tells s after m o

@@ -25,6 +25,7 @@ use Rattle.call_begins.proofs.Branches.{if_false, if_true}
 use Rattle.call_begins.proofs.Steps.{paid_first}
 use Rattle.serial_laws.specs.Between.{IsBetween}
 use Rattle.serial_laws.proofs.Turns.{free_seat}
+use Rattle.lift_carriers.specs.CarrierView.{CarrierView}
 use Rattle.vm_state.specs.History.{History, MayAdd, added, entry_by, pager}
 use Rattle.vm_swapper.specs.SeenSlots.{IsPlaced, seen_as}
 use Rattle.vm_swapper.specs.declared.seen.Seen.{Seen}
@@ -96,8 +97,8 @@ module _ (s : History) (at : Place) (x : Seen) (is : Some (seen_as x) ≡ seen_a
   same_what : evicted ≡ eviction s.past (pager s) (at.process).0 x.vpn (x.frame).0 evict.Rundown
   same_what = ap (λ (z : FrameState). what.Evict at.process (page_address x.vpn) x.frame evict.Rundown z) goes
 
-  pub may_evict : CanClean s → IsThere s at → IsPlaced s.config x → MayAdd s (entry_by seat evicted)
-  may_evict can found placed = record {
+  pub may_evict : {B : Type 0} (c : CarrierView B) → CanClean s c → IsThere s at → IsPlaced s.config x → MayAdd s (entry_by seat evicted)
+  may_evict c can found placed = record {
     legal =
         subst (λ (w : What). IsLegal s.config s.past (pager s) (entry_by seat w)) (sym same_what)
         (subst (λ (y : Seat). IsLegal s.config s.past (pager s) (entry_by y (eviction s.past (pager s) (at.process).0 x.vpn (x.frame).0 evict.Rundown))) (sym own)

@@ -5,6 +5,8 @@ use Rattle.pager_model.specs.Given.{seen_at}
 use Rattle.pager_model.specs.Moves.{After, Control as ControlIs, Move, carries, goes}
 use Rattle.pager_model.specs.Order.{IsAnswered}
 use Rattle.pager_model.specs.Rundown.{Place as PlaceIs, clean_move, writer_of, written_for_need}
+use Rattle.call_begins.specs.MayBegin.{empty}
+use Rattle.lift_carriers.specs.CarrierView.{CarrierView}
 use Rattle.vm_state.specs.History.{History, pager}
 use Rattle.serial_steps.specs.CarriedOn.{IsCarriedOn}
 use Rattle.serial_steps.specs.Moved.{IsMoved, IsSteady}
@@ -13,10 +15,11 @@ use Rattle.serial_steps.specs.Moved.{IsMoved, IsSteady}
 abbrev pub writer_seat : History → Seat
 writer_seat s = record { 0 = writer_of s.config }
 
--- between two moves of the rundown, with room for what one makes
-pub record CanClean (s : History) : Type 0 where
+-- between two moves of the rundown, with room for what one makes, and the writer's carrier has no lifts
+pub record CanClean {B : Type 0} (s : History) (c : CarrierView B) : Type 0 where
   pub steady : IsSteady s
   pub answered : IsAnswered s.config s.past
+  pub carrier : c ≡ empty (writer_seat s)
 
 -- the seat's flights have landed, and each of them failed or not: the policy goes on where that leads
 abbrev pub HasLanded : Bool → History → History → ℕ → Bool → Type 0

@@ -1,8 +1,7 @@
 ghost use Rattle.std.specs.Prelude.{◌≡◌};
 ghost use Rattle.std.specs.Option.{option_map};
-ghost use Rattle.call_begins.specs.MayBegin.{empty};
 ghost use Rattle.rundown.specs.Cleanings.{control_at};
-ghost use Rattle.rundown.specs.Cleans.{CanClean, Cleans, writer_seat};
+ghost use Rattle.rundown.specs.Cleans.{CanClean, Cleans};
 ghost use Rattle.rundown.specs.Places.{IsThere, place_as};
 
 use crate::cleaning::Cleaning;
@@ -25,9 +24,8 @@ pub fn clean_at<B: Block>(
     failed: bool,
     carrier: &mut Carrier<B>,
 ) -> Option<Cleaning>
-    requires can { CanClean state.old }
+    requires can { CanClean state.old carrier.old }
     requires there { IsThere state.old at }
-    requires carrier { carrier.old ≡ empty (writer_seat state.old) }
     ensures carrier { carrier.new ≡ carrier.old }
     ensures cleans { Cleans B.tells.content state.old state.new (place_as at) failed (option_map control_at result) }
 {

@@ -9,7 +9,7 @@ ghost use Rattle.call_begins.specs.MayBegin.{empty};
 ghost use Rattle.serial_laws.specs.Between.{IsBetween};
 ghost use Rattle.serial_steps.specs.Moved.{IsSameBut, MovesTo};
 ghost use Rattle.rundown.specs.Cleanings.{control_at};
-ghost use Rattle.rundown.specs.Cleans.{CanClean, move_at, writer_seat};
+ghost use Rattle.rundown.specs.Cleans.{CanClean};
 ghost use Rattle.rundown.specs.Places.{IsThere, place_as};
 
 use crate::cleaning::Cleaning;
@@ -22,14 +22,9 @@ use vm_state::{Carrier, State};
 use vm_types::{NoMemory, Proc};
 
 /// What is made at the next place after this one, where no carrier has failed yet.
-fn clean_later<B: Block>(
-    state: &mut State<B>,
-    at: Place,
-    carrier: &mut Carrier<B>,
-) -> Option<Cleaning>
-    requires can { CanClean state.old }
+fn clean_on<B: Block>(state: &mut State<B>, at: Place, carrier: &mut Carrier<B>) -> Option<Cleaning>
+    requires can { CanClean state.old carrier.old }
     requires there { IsThere state.old at }
-    requires carrier { carrier.old ≡ empty (writer_seat state.old) }
     ensures carrier { carrier.new ≡ carrier.old }
     ensures moved { MovesTo B.tells.content state.old state.new
         (later_move state.old.config state.old.past (pager state.old) (place_as at)) (option_map control_at result) }
@@ -40,28 +35,8 @@ fn clean_later<B: Block>(
     }
 }
 
-/// What is made at a place, or else at the next one.
-fn clean_from<B: Block>(
-    state: &mut State<B>,
-    at: Place,
-    failed: bool,
-    carrier: &mut Carrier<B>,
-) -> Option<Cleaning>
-    requires can { CanClean state.old }
-    requires there { IsThere state.old at }
-    requires carrier { carrier.old ≡ empty (writer_seat state.old) }
-    ensures carrier { carrier.new ≡ carrier.old }
-    ensures moved { MovesTo B.tells.content state.old state.new
-        (move_at state.old (place_as at) failed (later_move state.old.config state.old.past (pager state.old) (place_as at)))
-        (option_map control_at result) }
-{
-    match clean_at(state, at, failed, carrier) {
-        Some(next) => Some(next),
-        None => clean_later(state, at, carrier),
-    }
-}
-
-/// What is made from a slot of a process (any numbers) on, whose carrier has failed or not.
+/// What is made at the first place from a slot of a process (any numbers) on, whose carrier has failed or
+/// not, or else at the next one.
 fn evict_from<B: Block>(
     state: &mut State<B>,
     p: Proc,
@@ -69,14 +44,16 @@ fn evict_from<B: Block>(
     failed: bool,
     carrier: &mut Carrier<B>,
 ) -> Option<Cleaning>
-    requires can { CanClean state.old }
-    requires carrier { carrier.old ≡ empty (writer_seat state.old) }
+    requires { CanClean state.old carrier.old }
     ensures carrier { carrier.new ≡ carrier.old }
     ensures moved { MovesTo B.tells.content state.old state.new
         (cleaning_move state.old.config state.old.past (pager state.old) (evicting p.0 n failed)) (option_map control_at result) }
 {
     match shared_place(state, p, n) {
-        Some(at) => clean_from(state, at, failed, carrier),
+        Some(at) => match clean_at(state, at, failed, carrier) {
+            Some(next) => Some(next),
+            None => clean_on(state, at, carrier),
+        },
         None => write_rounds(state, ROUNDS, 0, carrier),
     }
 }

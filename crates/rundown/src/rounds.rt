@@ -1,5 +1,7 @@
-ghost use Rattle.std.specs.Prelude.{◌≡◌};
+ghost use Rattle.std.specs.Prelude.{◌≡◌, ℕ};
 ghost use Rattle.std.specs.Option.{option_map};
+ghost use Rattle.pager_model.specs.Cleaning.{rounds};
+ghost use Rattle.pager_model.specs.Moves.{cleaning, control};
 ghost use Rattle.pager_model.specs.Rundown.{round_move, rounds_move};
 ghost use Rattle.vm_state.specs.History.{pager};
 ghost use Rattle.call_begins.specs.MayBegin.{empty};
@@ -16,25 +18,17 @@ use vm_state::{Carrier, State};
 /// How many rounds of writing there are.
 pub const ROUNDS: u32 = 2;
 
-/// One cluster of a round is written. Its last lifts may pass the number that is left. Doesn't allocate.
-fn write_round<B: Block>(
-    state: &mut State<B>,
-    following: u32,
-    left: u32,
-    carrier: &mut Carrier<B>,
-) -> Cleaning
+/// One cluster of a round is written. Says how many lifts are left in the round then: the cluster's may be
+/// more than are left now. Doesn't allocate.
+fn write_round<B: Block>(state: &mut State<B>, left: u32, carrier: &mut Carrier<B>) -> u32
     requires steady { IsSteady state.old }
     requires carrier { carrier.old ≡ empty (writer_seat state.old) }
     ensures carrier { carrier.new ≡ carrier.old }
-    ensures moved { IsMoved B.tells.content state.old state.new
-        (round_move state.old.config (pager state.old) following left) (control_at result) }
+    ensures moved { (following : ℕ) → IsMoved B.tells.content state.old state.new
+        (round_move state.old.config (pager state.old) following left) (control (cleaning (rounds following result))) }
 {
     let cluster = write_one_cluster(state, carrier);
-    let rest = left.saturating_sub(cluster.writes);
-    Cleaning::Rounds {
-        following,
-        left: rest,
-    }
+    left.saturating_sub(cluster.writes)
 }
 
 /// A round goes on while it has lifts left, and then the next one begins, with as many lifts as pages
@@ -56,11 +50,19 @@ pub fn write_rounds<B: Block>(
         return None;
     }
     if left > 0 {
-        return Some(write_round(state, following, left, carrier));
+        let rest = write_round(state, left, carrier);
+        return Some(Cleaning::Rounds {
+            following,
+            left: rest,
+        });
     }
     if following == 0 {
         return None;
     }
     let listed = state.modified_len();
-    Some(write_round(state, following - 1, listed, carrier))
+    let unwritten = write_round(state, listed, carrier);
+    Some(Cleaning::Rounds {
+        following: following - 1,
+        left: unwritten,
+    })
 }

@@ -1,8 +1,8 @@
 ghost use Rattle.std.specs.Prelude.{◌≡◌, ◌≤◌, [], All, IfOk, IsErrOf, map, true};
 ghost use Rattle.std.specs.List.{range_with_len};
-ghost use Rattle.disk_trait.specs.Causes.{Rose};
 ghost use Rattle.disk_trait.specs.declared.depot.MakeFault.{MakeFault};
 ghost use Rattle.vm_types.specs.Configuration.{IsWellFormed};
+ghost use Rattle.vm_types.specs.Counts.{Rose};
 ghost use Rattle.vm_types.specs.declared.names.BlockId.{BlockId};
 ghost use Rattle.frame_store.specs.Blocks.{blocks_of};
 ghost use Rattle.vm_state.specs.History.{pager};

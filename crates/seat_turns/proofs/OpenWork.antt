@@ -1,5 +1,6 @@
 -- What write clusters, swaps and turns leave of a seat that had nothing open.
-use Rattle.std.proofs.Common.{◌≡◌, inr, ℕ, ◌<◌, Bool, true, false, List, [], ◌∷◌, Option, Some, length, refl, sym, ◌∙◌, subst, arith}
+use Rattle.std.proofs.Common.{◌≡◌, inr, ℕ, ◌<◌, Bool, true, false, List, [], ◌∷◌, Option, Some, length, refl, sym, ap, ◌∙◌, subst, arith}
+use Rattle.std.proofs.lemmas.Bool.{false≢true}
 use Rattle.std.specs.Option.{option_map}
 use Rattle.vm_types.specs.BlockView.{BlockView, Tells}
 use Rattle.vm_types.specs.Configuration.{IsWellFormed}
@@ -41,7 +42,7 @@ use Rattle.seat_laws.specs.FreeSeat.{IsFreeSeat}
 use Rattle.seat_laws.proofs.FreeSeats.{none_are_still, not_busy, quiet_are_still}
 use Rattle.seat_turns.specs.Begun.{CarriesFor, IsBegunFor, IsNoFault}
 use Rattle.seat_turns.specs.Steps.{HasTurned, is_reads, turned_by}
-use Rattle.seat_turns.specs.Worked.{HasWorked}
+use Rattle.seat_turns.specs.Worked.{HasTried, HasWorked, MayStart}
 use Rattle.seat_turns.specs.declared.turned.Turned.TheVariants.{Waits}
 use Rattle.seat_turns.proofs.NoFaults.{BeginNoFaults, begin_no_faults}
 use Rattle.seat_turns.proofs.Unspoken.{none_unspoken, quiet_unspoken}
@@ -118,6 +119,64 @@ worked_after {B} {seen} {tells} s u t seat c same worked = subst (λ (x : Histor
 
 pub nothing_worked : {B : Type 0} {seen : B → BlockView} {tells : Tells} (s : History) (seat : Seat) → IsFreeSeat s seat → (c : CarrierView B) → c ≡ empty seat → HasWorked seen tells s s seat c
 nothing_worked s seat free c is = still_worked s s seat free [] refl tt tt c is
+
+-- ---- by an empty carrier's own seat
+pub may_start : {B : Type 0} (s : History) (seat : Seat) (c : CarrierView B) → IsFreeSeat s seat → c ≡ empty seat → MayStart s c
+may_start {B} s seat c free is = record { free = subst (λ (x : Seat). IsFreeSeat s x) (sym own) free; carrier = is ∙ ap empty (sym own) }
+  where
+    own : c.seat ≡ seat
+    own = ap (λ (x : CarrierView B). x.seat) is
+
+pub starts_again : {B : Type 0} (s t : History) (c d : CarrierView B) → t ≡ s → d ≡ c → MayStart s c → MayStart t d
+starts_again {B} s t c d same kept start = subst (λ (x : CarrierView B). MayStart t x) (sym kept) (subst (λ (u : History). MayStart u c) (sym same) start)
+
+module _ {B : Type 0} (s : History) (c : CarrierView B) (start : MayStart s c) (seat : Seat) (is : seat ≡ c.seat) where
+  pub free_at : IsFreeSeat s seat
+  free_at = subst (λ (x : Seat). IsFreeSeat s x) (sym is) start.free
+
+  pub empty_at : c ≡ empty seat
+  empty_at = start.carrier ∙ ap empty (sym is)
+
+module _ {B : Type 0} {seen : B → BlockView} {tells : Tells} (s : History) (c : CarrierView B) (start : MayStart s c) where
+  pub nothing_tried : (some : Bool) → HasTried seen tells s s c c some
+  nothing_tried some = record { worked = nothing_worked s c.seat start.free c start.carrier; none = λ no. (refl, refl) }
+
+  module _ (seat : Seat) (is : seat ≡ c.seat) (t : History) where
+    tried : (d : CarrierView B) (some : Bool) → HasWorked seen tells s t seat d → (some ≡ false → (t ≡ s) × (d ≡ c)) → HasTried seen tells s t c d some
+    tried d some worked none = record { worked = subst (λ (x : Seat). HasWorked seen tells s t x d) is worked; none = none }
+
+    some_tried : (d : CarrierView B) → HasWorked seen tells s t seat d → HasTried seen tells s t c d true
+    some_tried d worked = tried d true worked (λ no. absurd (false≢true (sym no)))
+
+    pub turn_tried : (some : Bool) → HasWorked seen tells s t seat (empty {B = B} seat) → (some ≡ false → t ≡ s) → HasTried seen tells s t c c some
+    turn_tried some worked none = tried c some (subst (λ (x : CarrierView B). HasWorked seen tells s t seat x) (sym (empty_at s c start seat is)) worked) (λ no. (none no, refl))
+
+    module _ (reason : Reason) (d : CarrierView B) where
+      pub begin_tried : (begin : Begin) → Begins seen tells s t seat (begin_gives s.config (pager s) reason) begin c d → HasTried seen tells s t c d true
+      begin_tried begin begins = some_tried d (begin_worked s t seat (free_at s c start seat is) reason c d (empty_at s c start seat is) begin begins)
+
+      pub begin_none_tried : Begins seen tells s t seat (begin_gives s.config (pager s) reason) Nothing c d → HasTried seen tells s t c d false
+      begin_none_tried begins =
+          tried d false (begin_worked s t seat (free_at s c start seat is) reason c d (empty_at s c start seat is) Nothing begins)
+          (λ no. nothing_begun s t seat (free_at s c start seat is) reason c d (empty_at s c start seat is) begins)
+
+    module _ (d : CarrierView B) (g : GivenSwap) (shape : SwapShape g.answer g.made) (none : BeginNoFaults g.made) where
+      pub swap_tried : (swap : Swap) → Swaps seen tells s t seat g swap c d → HasTried seen tells s t c d true
+      swap_tried swap swaps = some_tried d (swap_worked s t seat (free_at s c start seat is) c d (empty_at s c start seat is) g shape none swap swaps)
+
+      pub same_swapped : (why : SwapWhy) → Swaps seen tells s t seat g (Again why) c d → (t ≡ s) × (d ≡ c)
+      same_swapped why swaps = again_swapped s t seat (free_at s c start seat is) c d (empty_at s c start seat is) g shape none why swaps
+
+      pub swap_none_tried : (why : SwapWhy) → Swaps seen tells s t seat g (Again why) c d → HasTried seen tells s t c d false
+      swap_none_tried why swaps =
+          tried d false (swap_worked s t seat (free_at s c start seat is) c d (empty_at s c start seat is) g shape none (Again why) swaps) (λ no. same_swapped why swaps)
+
+module _ {B : Type 0} {seen : B → BlockView} {tells : Tells} where
+  pub tried_after : (s u t : History) (c e d : CarrierView B) (some : Bool) → (u ≡ s) × (e ≡ c) → HasTried seen tells u t e d some → HasTried seen tells s t c d some
+  tried_after s u t c e d some same has = subst (λ (x : CarrierView B). HasTried seen tells s t x d some) same.1 (subst (λ (x : History). HasTried seen tells x t e d some) same.0 has)
+
+  pub worked_at : (u t : History) (seat : Seat) (c d : CarrierView B) (some : Bool) → c ≡ empty seat → HasTried seen tells u t c d some → HasWorked seen tells u t seat d
+  worked_at u t seat c d some is has = subst (λ (x : Seat). HasWorked seen tells u t x d) (ap (λ (x : CarrierView B). x.seat) is) has.worked
 
 -- ---- turns of a status
 module _ (s : History) (seat : Seat) (free : IsFreeSeat s seat) (formed : IsWellFormed s.config) (run : IsRun s.config s.past) where

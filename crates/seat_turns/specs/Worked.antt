@@ -1,7 +1,10 @@
 -- What a seat that had nothing open does for any process, and what its landing leaves. This project's own.
-use Rattle.std.specs.Prelude.{◌≡◌, ◌⊎◌, ℕ, Bool, true, false, List, [], length}
+use Rattle.std.specs.Prelude.{◌≡◌, ◌⊎◌, ℕ, ◌<◌, Bool, true, false, List, [], length}
 use Rattle.vm_types.specs.BlockView.{BlockView, Tells}
+use Rattle.vm_types.specs.WellFormed.{IsRequestOf, IsWellFormedRequest}
+use Rattle.vm_types.specs.declared.names.Proc.{Proc}
 use Rattle.vm_types.specs.declared.names.Seat.{Seat}
+use Rattle.vm_types.specs.declared.service.Request.{Request}
 use Rattle.vm_journal.specs.declared.entry.What.{What}
 use Rattle.pager_model.specs.Flights.{awaits_reuse}
 use Rattle.pager_model.specs.Landings.{Outcome, all_bad, carrier_of, first_bad, landed_by}
@@ -9,9 +12,11 @@ use Rattle.lift_carriers.specs.CarrierView.{CarrierView}
 use Rattle.vm_state.specs.Based.{base_of}
 use Rattle.vm_state.specs.History.{History}
 use Rattle.vm_state.specs.LiftsLand.{added_each}
+use Rattle.call_begins.specs.MayBegin.{empty}
 use Rattle.carried_landings.specs.Outside.{AllWait, AreOut}
+use Rattle.seat_laws.specs.FreeSeat.{IsFreeSeat}
 use Rattle.seat_turns.specs.Begun.{CarriesFor, IsNoFault}
-use Rattle.seat_turns.specs.Steps.{AreUnspoken}
+use Rattle.seat_turns.specs.Steps.{AreUnspoken, seat_of}
 
 -- what was out has landed: the seat has nothing open, and no reuse is due
 pub record HasLandedOut (s t : History) (seat : Seat) : Type 0 where
@@ -29,6 +34,20 @@ pub record WasLost (s t : History) (seat : ℕ) (own : Bool) : Type 0 where
   pub landed : t.past ≡ landed_by s.config seat (carrier_of seat s.past) outcomes s.past
   pub failed : (all_bad outcomes ≡ true) ⊎ ((own ≡ true) × (first_bad outcomes ≡ true))
 
+-- the carrier is empty, and its seat may make a call
+pub record MayStart {B : Type 0} (s : History) (c : CarrierView B) : Type 0 where
+  pub free : IsFreeSeat s c.seat
+  pub carrier : c ≡ empty c.seat
+
+-- the next step for a request of a process may be made: its seat has nothing open, and the state isn't halted
+pub record MayStep {B : Type 0} (s : History) (p : Proc) (x : Request) (c : CarrierView B) : Type 0 where
+  pub process : p.0 < length s.config.procs
+  pub formed : IsWellFormedRequest x
+  pub known : IsRequestOf s.config.version x
+  pub free : IsFreeSeat s (seat_of p)
+  pub running : s.halted ≡ false
+  pub carrier : c ≡ empty (seat_of p)
+
 module _ {B : Type 0} (seen : B → BlockView) (tells : Tells) where
   -- it has made entries, if any, that answer nothing; what it has begun is in its carrier, and begins with no read of a
   -- page fault
@@ -40,3 +59,8 @@ module _ {B : Type 0} (seen : B → BlockView) (tells : Tells) where
     pub out : AreOut seen tells (base_of t) t.past seat c
     pub waits : AllWait c.lifts
     pub begun : (c.lifts ≡ [] → ⊥) → CarriesFor t.past seat.0 IsNoFault
+
+  -- its seat has worked, if there was anything to do; else all is as before
+  pub record HasTried (s t : History) (old new : CarrierView B) (some : Bool) : Type 0 where
+    pub worked : HasWorked s t old.seat new
+    pub none : some ≡ false → (t ≡ s) × (new ≡ old)

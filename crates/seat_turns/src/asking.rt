@@ -1,11 +1,8 @@
 ghost use Rattle.std.specs.Prelude.{◌≡◌, ◌<◌, [], Some, false, length};
-ghost use Rattle.vm_types.specs.WellFormed.{IsServiceOf, IsWellFormedReference, IsWellFormedService};
 ghost use Rattle.vm_types.specs.declared.service.Request.{Request};
-ghost use Rattle.call_begins.specs.MayBegin.{empty};
-ghost use Rattle.seat_laws.specs.FreeSeat.{IsFreeSeat};
 ghost use Rattle.seat_turns.specs.Begun.{IsBegunFor};
 ghost use Rattle.seat_turns.specs.Steps.{HasTurned, is_reads, seat_of, turned_by};
-ghost use Rattle.seat_turns.specs.Worked.{HasWorked};
+ghost use Rattle.seat_turns.specs.Worked.{HasTried, MayStart, MayStep};
 
 use crate::swapping::{bring_back, find_frame};
 use crate::turned::{Spoken, Turned};
@@ -23,48 +20,49 @@ pub(crate) fn worked(some: bool) -> Turned
     if some { Turned::Made } else { Turned::Waits }
 }
 
-/// Does what a reference waits for, if there is anything to do. Returns whether there is.
-fn refer_again<B: Block>(
-    state: &mut State<B>,
-    seat: Seat,
-    p: Proc,
-    why: AgainWhy,
-    carrier: &mut Carrier<B>,
-) -> bool
-    requires free { IsFreeSeat state.old seat }
-    requires process { p.0 < length state.old.config.procs }
-    requires carrier { carrier.old ≡ empty seat }
-    ensures worked { HasWorked B.seen B.tells state.old state.new seat carrier.new }
-    ensures none { result ≡ false → (state.new ≡ state.old) × (carrier.new ≡ carrier.old) }
-{
+/// What another step waits for that the seat can work for itself.
+#[derive(Clone, Copy)]
+enum Need {
+    /// The process has to be resident.
+    Process,
+    /// The modified list is too long.
+    Room,
+    /// A frame has to be free.
+    Frame,
+    /// Nothing: only another seat can end the wait.
+    Nothing,
+}
+
+/// What a reference waits for.
+fn reference_needs(why: AgainWhy) -> Need {
     match why {
-        AgainWhy::NotResident => bring_back(state, seat, p, carrier),
-        AgainWhy::ModifiedFull => write_for_room(state, seat, carrier),
-        AgainWhy::NoFrame => find_frame(state, seat, p, carrier),
-        AgainWhy::Collided => false,
-        AgainWhy::BlockBusy => false,
-        AgainWhy::Charging => false,
+        AgainWhy::NotResident => Need::Process,
+        AgainWhy::ModifiedFull => Need::Room,
+        AgainWhy::NoFrame => Need::Frame,
+        AgainWhy::Collided | AgainWhy::BlockBusy | AgainWhy::Charging => Need::Nothing,
     }
 }
 
-/// Does what a service waits for, if there is anything to do. Returns whether there is.
-fn serve_again<B: Block>(
-    state: &mut State<B>,
-    seat: Seat,
-    p: Proc,
-    why: ServeWhy,
-    carrier: &mut Carrier<B>,
-) -> bool
-    requires free { IsFreeSeat state.old seat }
-    requires process { p.0 < length state.old.config.procs }
-    requires carrier { carrier.old ≡ empty seat }
-    ensures worked { HasWorked B.seen B.tells state.old state.new seat carrier.new }
-    ensures none { result ≡ false → (state.new ≡ state.old) × (carrier.new ≡ carrier.old) }
-{
+/// What a service waits for.
+fn service_needs(why: ServeWhy) -> Need {
     match why {
-        ServeWhy::NotResident => bring_back(state, seat, p, carrier),
-        ServeWhy::ModifiedFull => write_for_room(state, seat, carrier),
-        ServeWhy::InFlight => false,
+        ServeWhy::NotResident => Need::Process,
+        ServeWhy::ModifiedFull => Need::Room,
+        ServeWhy::InFlight => Need::Nothing,
+    }
+}
+
+/// Does what a process's step waits for, if there is anything to do. Returns whether there is.
+fn meet<B: Block>(state: &mut State<B>, p: Proc, need: Need, carrier: &mut Carrier<B>) -> bool
+    requires start { MayStart state.old carrier.old }
+    requires process { p.0 < length state.old.config.procs }
+    ensures { HasTried B.seen B.tells state.old state.new carrier.old carrier.new result }
+{
+    match need {
+        Need::Process => bring_back(state, p, carrier),
+        Need::Room => write_for_room(state, carrier),
+        Need::Frame => find_frame(state, p, carrier),
+        Need::Nothing => false,
     }
 }
 
@@ -75,11 +73,7 @@ pub(crate) fn refer_next<B: Block>(
     p: Proc,
     r: Ref,
 ) -> Turned
-    requires process { p.0 < length state.old.config.procs }
-    requires formed { IsWellFormedReference r }
-    requires free { IsFreeSeat state.old (seat_of p) }
-    requires running { state.old.halted ≡ false }
-    requires carrier { carrier.old ≡ empty (seat_of p) }
+    requires step { MayStep state.old p (Request.Reference r) carrier.old }
     ensures turned { HasTurned B.seen B.tells state.old state.new (seat_of p) (Some (Request.Reference r)) result carrier.new }
     ensures begun { (carrier.new.lifts ≡ [] → ⊥) → IsBegunFor state.new.past p.0 (Request.Reference r) (is_reads result) }
 {
@@ -88,7 +82,7 @@ pub(crate) fn refer_next<B: Block>(
         Next::Answered(reply) => Turned::Spoke(Spoken::Reply(reply)),
         Next::Carry => Turned::Reads,
         Next::More => Turned::Made,
-        Next::Again(why) => worked(refer_again(state, seat, p, why, carrier)),
+        Next::Again(why) => worked(meet(state, p, reference_needs(why), carrier)),
         Next::Room => unreachable!(),
     }
 }
@@ -100,12 +94,7 @@ pub(crate) fn serve_next<B: Block>(
     p: Proc,
     s: Service,
 ) -> Turned
-    requires process { p.0 < length state.old.config.procs }
-    requires formed { IsWellFormedService s }
-    requires known { IsServiceOf state.old.config.version s }
-    requires free { IsFreeSeat state.old (seat_of p) }
-    requires running { state.old.halted ≡ false }
-    requires carrier { carrier.old ≡ empty (seat_of p) }
+    requires step { MayStep state.old p (Request.Service s) carrier.old }
     ensures turned { HasTurned B.seen B.tells state.old state.new (seat_of p) (Some (Request.Service s)) result carrier.new }
     ensures begun { (carrier.new.lifts ≡ [] → ⊥) → IsBegunFor state.new.past p.0 (Request.Service s) false }
 {
@@ -113,7 +102,7 @@ pub(crate) fn serve_next<B: Block>(
     match serve(state, seat, p, s) {
         ServeNext::Answered(answer) => Turned::Spoke(Spoken::Answer(answer)),
         ServeNext::More => Turned::Made,
-        ServeNext::Again(why) => worked(serve_again(state, seat, p, why, carrier)),
+        ServeNext::Again(why) => worked(meet(state, p, service_needs(why), carrier)),
         ServeNext::Room => unreachable!(),
     }
 }

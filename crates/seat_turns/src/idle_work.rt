@@ -5,11 +5,11 @@ ghost use Rattle.pager_model.specs.Swap.{leave_gives, swap_again, swap_in_flight
 ghost use Rattle.vm_state.specs.Based.{base_of};
 ghost use Rattle.vm_state.specs.History.{pager};
 ghost use Rattle.call_begins.specs.MayBegin.{empty};
-ghost use Rattle.vm_swapper.specs.declared.swap.SwapWhy.{SwapWhy};
 ghost use Rattle.carried_landings.specs.Outside.{AreOut, NoneWaits};
 ghost use Rattle.seat_laws.specs.FreeSeat.{IsFreeSeat};
 ghost use Rattle.seat_turns.specs.Rests.{IsSwapped, IsWritten};
 ghost use Rattle.seat_turns.specs.Steps.{HasTurned, swapper_seat, writer_seat};
+ghost use Rattle.seat_turns.specs.Worked.{MayStart};
 ghost use Rattle.seat_turns.specs.declared.turned.Turned.{Turned};
 
 use crate::asking::worked;
@@ -18,7 +18,7 @@ use crate::processes::{lowest_leaving, processes};
 use crate::room::has_room;
 use crate::swapping::turn_victim;
 use crate::turned::Turned;
-use crate::working::leave_again;
+use crate::working::write_for_room;
 use disk_trait::Block;
 use modified_writer::{Begin, Reason, begin};
 use vm_state::{Carrier, State};
@@ -99,39 +99,23 @@ pub fn write_in_turn<B: Block>(state: &mut State<B>, carrier: &mut Carrier<B>) -
 }
 
 /// The lowest process that is leaving goes on to leave.
-fn leave_lowest<B: Block>(
-    state: &mut State<B>,
-    seat: Seat,
-    q: Proc,
-    carrier: &mut Carrier<B>,
-) -> Turned
-    requires free { IsFreeSeat state.old seat }
+fn leave_lowest<B: Block>(state: &mut State<B>, q: Proc, carrier: &mut Carrier<B>) -> Turned
+    requires start { MayStart state.old carrier.old }
     requires running { state.old.halted ≡ false }
     requires process { q.0 < length state.old.config.procs }
     requires leaving { (pager state.old).status q.0 ≡ status.Leaving }
-    requires carrier { carrier.old ≡ empty seat }
-    ensures turned { HasTurned B.seen B.tells state.old state.new seat None result carrier.new }
+    ensures turned { HasTurned B.seen B.tells state.old state.new carrier.old.seat None result carrier.new }
     ensures rests { result ≡ Turned.Rests → (leave_gives state.old.config state.old.past (pager state.old) q.0).answer ≡ swap_again swap_in_flight }
 {
-    match leave_some(state, seat, q, carrier) {
+    match leave_some(state, carrier.seat(), q, carrier) {
         Swap::Carry => Turned::Made,
         Swap::More => Turned::Made,
         Swap::Settled => Turned::Made,
-        Swap::Again(why) => {
-            if is_in_flight(why) {
-                return Turned::Rests;
-            }
-            worked(leave_again(state, seat, why, carrier))
-        }
+        Swap::Again(SwapWhy::InFlight) => Turned::Rests,
+        Swap::Again(SwapWhy::ModifiedFull) => worked(write_for_room(state, carrier)),
+        Swap::Again(SwapWhy::NoFrame) => Turned::Waits,
         Swap::Room => unreachable!(),
     }
-}
-
-/// Whether a process waits for its transfers.
-fn is_in_flight(why: SwapWhy) -> bool
-    ensures { result ≡ true → why ≡ SwapWhy.InFlight }
-{
-    matches!(why, SwapWhy::InFlight)
 }
 
 /// The swapper's step: the lowest process that is leaving goes on; if none is, and fewer frames are free
@@ -144,7 +128,7 @@ fn swap_next<B: Block>(state: &mut State<B>, seat: Seat, carrier: &mut Carrier<B
     ensures rests { result ≡ Turned.Rests → IsSwapped state.old.config state.old.past (pager state.old) }
 {
     if let Some(q) = lowest_leaving(state, None) {
-        return leave_lowest(state, seat, q, carrier);
+        return leave_lowest(state, q, carrier);
     }
     if state.free_len() >= state.config().params.freelim {
         return Turned::Rests;

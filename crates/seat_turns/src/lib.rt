@@ -6,7 +6,6 @@
 mod asking;
 mod idle_work;
 mod landing;
-mod losing;
 mod processes;
 mod refusing;
 mod room;

@@ -17,7 +17,7 @@ fn is_resident(s: ProcStatus) -> bool
 
 /// Whether a reference is still to be met: its process isn't resident, or its page is mapped, and has
 /// no valid entry.
-pub(crate) fn is_unmet<B: Block>(state: &State<B>, p: Proc, r: Ref) -> bool
+fn is_unmet<B: Block>(state: &State<B>, p: Proc, r: Ref) -> bool
     requires { p.0 < length state.now.config.procs }
     ensures { IsTrue result → IsUnmet state.now.config (pager state.now) p.0 r }
 {
@@ -30,6 +30,15 @@ pub(crate) fn is_unmet<B: Block>(state: &State<B>, p: Proc, r: Ref) -> bool
     }
 }
 
+/// Whether a reference is refused: what was out for it was lost, and it is still to be met.
+pub(crate) fn is_denied<B: Block>(state: &State<B>, p: Proc, r: Ref, lost: bool) -> bool
+    requires process { p.0 < length state.now.config.procs }
+    ensures lost { result ≡ true → lost ≡ true }
+    ensures unmet { IsTrue result → IsUnmet state.now.config (pager state.now) p.0 r }
+{
+    if lost { is_unmet(state, p, r) } else { false }
+}
+
 /// Whether a service is one that may meet a failed transfer of a resident process.
 fn may_fail(s: Service) -> bool
     ensures { result ≡ may_fail s }
@@ -37,12 +46,16 @@ fn may_fail(s: Service) -> bool
     matches!(s, Service::Delete { .. } | Service::Purge { .. })
 }
 
-/// Whether a service may still be refused for a lost transfer: its process isn't resident, or it is one
-/// that waits for transfers.
-pub(crate) fn is_unserved<B: Block>(state: &State<B>, p: Proc, s: Service) -> bool
-    requires { p.0 < length state.now.config.procs }
-    ensures { result ≡ true → ((pager state.now).status p.0 ≡ status.Resident → ⊥) ⊎ (may_fail s ≡ true) }
+/// Whether a service is refused for a lost transfer: all that was out for it was lost, and its process
+/// isn't resident, or it is one that waits for transfers.
+pub(crate) fn is_failed<B: Block>(state: &State<B>, p: Proc, s: Service, lost: bool) -> bool
+    requires process { p.0 < length state.now.config.procs }
+    ensures lost { result ≡ true → lost ≡ true }
+    ensures waits { result ≡ true → ((pager state.now).status p.0 ≡ status.Resident → ⊥) ⊎ (may_fail s ≡ true) }
 {
+    if !lost {
+        return false;
+    }
     if !is_resident(state.status(p)) {
         return true;
     }

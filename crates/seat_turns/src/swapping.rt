@@ -6,7 +6,7 @@ ghost use Rattle.vm_state.specs.History.{pager};
 ghost use Rattle.call_begins.specs.MayBegin.{empty};
 ghost use Rattle.vm_swapper.specs.Victims.{process_number};
 ghost use Rattle.seat_laws.specs.FreeSeat.{IsFreeSeat};
-ghost use Rattle.seat_turns.specs.Worked.{HasWorked};
+ghost use Rattle.seat_turns.specs.Worked.{HasTried, HasWorked, MayStart};
 
 use crate::processes::{coming_process, lowest_leaving};
 use crate::working::{leave, write_for_room};
@@ -36,23 +36,16 @@ pub(crate) fn turn_victim<B: Block>(state: &mut State<B>, seat: Seat, but: Optio
 
 /// Works for a frame that a process needs: pages are written, or another process leaves. Returns whether
 /// there was anything to do.
-pub(crate) fn find_frame<B: Block>(
-    state: &mut State<B>,
-    seat: Seat,
-    p: Proc,
-    carrier: &mut Carrier<B>,
-) -> bool
-    requires free { IsFreeSeat state.old seat }
-    requires carrier { carrier.old ≡ empty seat }
-    ensures worked { HasWorked B.seen B.tells state.old state.new seat carrier.new }
-    ensures none { result ≡ false → (state.new ≡ state.old) × (carrier.new ≡ carrier.old) }
+pub(crate) fn find_frame<B: Block>(state: &mut State<B>, p: Proc, carrier: &mut Carrier<B>) -> bool
+    requires start { MayStart state.old carrier.old }
+    ensures { HasTried B.seen B.tells state.old state.new carrier.old carrier.new result }
 {
     if state.modified_len() > 0 {
-        return write_for_room(state, seat, carrier);
+        return write_for_room(state, carrier);
     }
     match lowest_leaving(state, Some(p)) {
-        Some(q) => leave(state, seat, q, carrier),
-        None => turn_victim(state, seat, Some(p)),
+        Some(q) => leave(state, q, carrier),
+        None => turn_victim(state, carrier.seat(), Some(p)),
     }
 }
 
@@ -85,62 +78,35 @@ fn turn_gone<B: Block>(state: &mut State<B>, seat: Seat, p: Proc) -> bool
     }
 }
 
-/// Does what a process that comes waits for, if there is anything to do. Returns whether there is.
-fn come_again<B: Block>(
-    state: &mut State<B>,
-    seat: Seat,
-    p: Proc,
-    why: SwapWhy,
-    carrier: &mut Carrier<B>,
-) -> bool
-    requires free { IsFreeSeat state.old seat }
-    requires carrier { carrier.old ≡ empty seat }
-    ensures worked { HasWorked B.seen B.tells state.old state.new seat carrier.new }
-    ensures none { result ≡ false → (state.new ≡ state.old) × (carrier.new ≡ carrier.old) }
-{
-    match why {
-        SwapWhy::NoFrame => find_frame(state, seat, p, carrier),
-        SwapWhy::InFlight => false,
-        SwapWhy::ModifiedFull => false,
-    }
-}
-
 /// A process that is coming comes on. Returns whether it could, or a frame was worked for.
-fn come<B: Block>(state: &mut State<B>, seat: Seat, p: Proc, carrier: &mut Carrier<B>) -> bool
-    requires free { IsFreeSeat state.old seat }
+fn come<B: Block>(state: &mut State<B>, p: Proc, carrier: &mut Carrier<B>) -> bool
+    requires start { MayStart state.old carrier.old }
     requires process { p.0 < length state.old.config.procs }
     requires coming { (pager state.old).status p.0 ≡ status.Coming }
-    requires carrier { carrier.old ≡ empty seat }
-    ensures worked { HasWorked B.seen B.tells state.old state.new seat carrier.new }
-    ensures none { result ≡ false → (state.new ≡ state.old) × (carrier.new ≡ carrier.old) }
+    ensures { HasTried B.seen B.tells state.old state.new carrier.old carrier.new result }
 {
-    match come_some(state, seat, p, carrier) {
+    match come_some(state, carrier.seat(), p, carrier) {
         Swap::Carry => true,
         Swap::More => true,
         Swap::Settled => true,
-        Swap::Again(why) => come_again(state, seat, p, why, carrier),
+        Swap::Again(SwapWhy::NoFrame) => find_frame(state, p, carrier),
+        Swap::Again(SwapWhy::InFlight) => false,
+        Swap::Again(SwapWhy::ModifiedFull) => false,
         Swap::Room => unreachable!(),
     }
 }
 
 /// Works for a process of the configuration that isn't resident, so that it will be: by its status.
 /// Returns whether there was anything to do.
-pub(crate) fn bring_back<B: Block>(
-    state: &mut State<B>,
-    seat: Seat,
-    p: Proc,
-    carrier: &mut Carrier<B>,
-) -> bool
-    requires free { IsFreeSeat state.old seat }
+pub(crate) fn bring_back<B: Block>(state: &mut State<B>, p: Proc, carrier: &mut Carrier<B>) -> bool
+    requires start { MayStart state.old carrier.old }
     requires process { p.0 < length state.old.config.procs }
-    requires carrier { carrier.old ≡ empty seat }
-    ensures worked { HasWorked B.seen B.tells state.old state.new seat carrier.new }
-    ensures none { result ≡ false → (state.new ≡ state.old) × (carrier.new ≡ carrier.old) }
+    ensures { HasTried B.seen B.tells state.old state.new carrier.old carrier.new result }
 {
     match state.status(p) {
         ProcStatus::Resident => false,
-        ProcStatus::Leaving => leave(state, seat, p, carrier),
-        ProcStatus::Gone => turn_gone(state, seat, p),
-        ProcStatus::Coming => come(state, seat, p, carrier),
+        ProcStatus::Leaving => leave(state, p, carrier),
+        ProcStatus::Gone => turn_gone(state, carrier.seat(), p),
+        ProcStatus::Coming => come(state, p, carrier),
     }
 }

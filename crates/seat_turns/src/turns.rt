@@ -10,12 +10,13 @@ ghost use Rattle.seat_turns.specs.declared.turned.Turned.{Turned};
 
 use crate::asking::{refer_next, serve_next};
 use crate::landing::land_out;
-use crate::losing::{refuse_or_refer, refuse_or_serve};
+use crate::refusing::{is_denied, is_failed};
 use crate::room::has_room;
-use crate::turned::Turned;
+use crate::turned::{Spoken, Turned};
 use disk_trait::Block;
+use vm_services::refuse_service;
 use vm_state::{Carrier, State};
-use vm_types::{Proc, Ref, Seat, Service};
+use vm_types::{Answer, Proc, Ref, Reply, Seat, Service, Why};
 
 /// What the seat of a process does for a reference while it has the state: what it has out, which was
 /// carried, lands. Then, if the state wasn't halted and there is room, the reference is refused if what
@@ -44,8 +45,9 @@ pub fn refer_in_turn<B: Block>(
     if !has_room(state) {
         return Turned::Short;
     }
-    if lost {
-        return refuse_or_refer(state, carrier, p, r);
+    if is_denied(state, p, r, lost) {
+        fault_core::refuse(state, seat, p, r);
+        return Turned::Spoke(Spoken::Reply(Reply::Refused(Why::DiskFault)));
     }
     refer_next(state, carrier, p, r)
 }
@@ -75,8 +77,9 @@ pub fn serve_in_turn<B: Block>(
     if !has_room(state) {
         return Turned::Short;
     }
-    if lost {
-        return refuse_or_serve(state, carrier, p, s);
+    if is_failed(state, p, s, lost) {
+        refuse_service(state, seat, p, s);
+        return Turned::Spoke(Spoken::Answer(Answer::DiskFault));
     }
     serve_next(state, carrier, p, s)
 }

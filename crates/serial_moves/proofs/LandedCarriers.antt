@@ -7,7 +7,8 @@ use Rattle.vm_types.specs.declared.names.Seat.{Seat}
 use Rattle.vm_journal.specs.declared.entry.Entry.{Entry}
 use Rattle.pager_model.specs.Flights.{open_flights}
 use Rattle.pager_model.specs.Landings.{carrier_of}
-use Rattle.pager_model.specs.Policy.{unless_all_failed, unless_first_failed}
+use Rattle.pager_model.specs.Moves.{Control as ControlIs}
+use Rattle.pager_model.specs.Policy.{Ends as EndsIs, ends_part, ends_request, unless_all_failed, unless_first_failed}
 use Rattle.pager_model.specs.Run.{IsRun}
 use Rattle.call_begins.specs.Lifted.{HasBegunLifts, place_of}
 use Rattle.call_begins.specs.MayBegin.{empty}
@@ -22,8 +23,6 @@ use Rattle.serial_steps.specs.Moved.{IsSameBut}
 use Rattle.serial_steps.proofs.CarriersLand.{all_of_part, all_of_request, first_too, goes_there, legal_there, not_all, not_first, refused_on}
 use Rattle.serial_moves.specs.Controls.{control_in, ends_in}
 use Rattle.serial_moves.specs.declared.control.Control.{Control}
-use Rattle.serial_moves.specs.declared.control.Ends.{Ends}
-use Rattle.serial_moves.specs.declared.control.Ends.TheVariants.{Part, Request}
 
 -- ---- what the landing asks for, and what it leaves
 module _ {B : Type 0} {seen : B → BlockView} {tells : Tells} (s : History) (seat : Seat) (old : CarrierView B)
@@ -46,25 +45,25 @@ module _ {B : Type 0} {seen : B → BlockView} {tells : Tells} (s : History) (se
 -- ---- where the policy goes on
 module _ (s t : History) (seat : Seat) (answer : CarrierLanded) (landed : HaveLanded s.config seat.0 s.past t.past answer) (same : IsSameBut s t) (tells : Bool) (next : Control) where
   -- the carrier of a part of the work, or of a request
-  pub some_landed : (ends : Ends) → answer.all_failed ≡ false → IsCarriedOn tells s t seat.0 (unless_all_failed (ends_in ends) (control_in next)) (control_in next)
-  some_landed ends is = goes_there s t seat answer landed same tells (unless_all_failed (ends_in ends) (control_in next)) (control_in next) (not_all s t seat answer landed same (ends_in ends) (control_in next) is)
+  pub some_landed : answer.all_failed ≡ false → IsCarriedOn tells s t seat.0 (unless_all_failed (ends_in next.doing) (control_in next)) (control_in next)
+  some_landed is = goes_there s t seat answer landed same tells (unless_all_failed (ends_in next.doing) (control_in next)) (control_in next) (not_all s t seat answer landed same (ends_in next.doing) (control_in next) is)
 
-  pub part_failed : (ends : Ends) (other : Control) → ends ≡ Part other → answer.all_failed ≡ true → IsCarriedOn tells s t seat.0 (unless_all_failed (ends_in ends) (control_in next)) (control_in other)
-  part_failed ends other part is =
-      subst (λ (x : Ends). IsCarriedOn tells s t seat.0 (unless_all_failed (ends_in x) (control_in next)) (control_in other)) (sym part)
-      (goes_there s t seat answer landed same tells (unless_all_failed (ends_in (Part other)) (control_in next)) (control_in other) (all_of_part s t seat answer landed same (control_in other) (control_in next) is))
+  pub part_failed : (other : ControlIs) → ends_in next.doing ≡ ends_part other → answer.all_failed ≡ true → IsCarriedOn tells s t seat.0 (unless_all_failed (ends_in next.doing) (control_in next)) other
+  part_failed other part is =
+      subst (λ (x : EndsIs). IsCarriedOn tells s t seat.0 (unless_all_failed x (control_in next)) other) (sym part)
+      (goes_there s t seat answer landed same tells (unless_all_failed (ends_part other) (control_in next)) other (all_of_part s t seat answer landed same other (control_in next) is))
 
-  pub request_failed : (ends : Ends) (after : History) (result : Result Control NoMemory) → ends ≡ Request → answer.all_failed ≡ true → IfOk result (λ (c : Control). IsRefusedThere tells t after (control_in c))
-      → IfOk result (λ (c : Control). IsCarriedOn tells s after seat.0 (unless_all_failed (ends_in ends) (control_in next)) (control_in c))
-  request_failed ends after result request is refused =
-      subst (λ (x : Ends). IfOk result (λ (c : Control). IsCarriedOn tells s after seat.0 (unless_all_failed (ends_in x) (control_in next)) (control_in c))) (sym request)
-      (IfOk-weaker result (λ (c : Control). IsRefusedThere tells t after (control_in c)) (λ (c : Control). IsCarriedOn tells s after seat.0 (unless_all_failed (ends_in Request) (control_in next)) (control_in c))
-      (λ c there. refused_on s t seat answer landed same tells (unless_all_failed (ends_in Request) (control_in next)) after (control_in c) (all_of_request s t seat answer landed same (control_in next) is) there) refused)
+  pub request_failed : (after : History) (result : Result Control NoMemory) → ends_in next.doing ≡ ends_request → answer.all_failed ≡ true → IfOk result (λ (c : Control). IsRefusedThere tells t after (control_in c))
+      → IfOk result (λ (c : Control). IsCarriedOn tells s after seat.0 (unless_all_failed (ends_in next.doing) (control_in next)) (control_in c))
+  request_failed after result request is refused =
+      subst (λ (x : EndsIs). IfOk result (λ (c : Control). IsCarriedOn tells s after seat.0 (unless_all_failed x (control_in next)) (control_in c))) (sym request)
+      (IfOk-weaker result (λ (c : Control). IsRefusedThere tells t after (control_in c)) (λ (c : Control). IsCarriedOn tells s after seat.0 (unless_all_failed ends_request (control_in next)) (control_in c))
+      (λ c there. refused_on s t seat answer landed same tells (unless_all_failed ends_request (control_in next)) after (control_in c) (all_of_request s t seat answer landed same (control_in next) is) there) refused)
 
-  pub request_legal : (ends : Ends) → ends ≡ Request → answer.all_failed ≡ true → MayRefuse s.config s.past seat.0 (unless_all_failed (ends_in ends) (control_in next)) → IsRun t.config t.past → IsRefusedLegally t.config t.past seat.0
-  request_legal ends request is may run =
-      legal_there s t seat answer landed same (unless_all_failed (ends_in Request) (control_in next))
-      (subst (λ (x : Ends). MayRefuse s.config s.past seat.0 (unless_all_failed (ends_in x) (control_in next))) request may) run
+  pub request_legal : ends_in next.doing ≡ ends_request → answer.all_failed ≡ true → MayRefuse s.config s.past seat.0 (unless_all_failed (ends_in next.doing) (control_in next)) → IsRun t.config t.past → IsRefusedLegally t.config t.past seat.0
+  request_legal request is may run =
+      legal_there s t seat answer landed same (unless_all_failed ends_request (control_in next))
+      (subst (λ (x : EndsIs). MayRefuse s.config s.past seat.0 (unless_all_failed x (control_in next))) request may) run
       (all_of_request s t seat answer landed same (control_in next) is)
 
   -- the reads of a reference

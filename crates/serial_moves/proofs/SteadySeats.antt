@@ -1,5 +1,5 @@
 -- What a seat may begin between two moves of the serial policy, and what is left where it makes nothing.
-use Rattle.std.proofs.Common.{◌≡◌, ℕ, ◌+◌, ◌*◌, ◌<◌, ◌≤◌, Bool, cond, List, [], Option, IfOk, length, refl, sym, ap, ◌∙◌, subst, arith}
+use Rattle.std.proofs.Common.{◌≡◌, ◌+◌, ◌*◌, ◌<◌, ◌≤◌, Bool, cond, List, [], Option, IfOk, length, refl, sym, ap, ◌∙◌, subst, arith}
 use Rattle.std.specs.declared.result.Result.{Result}
 use Rattle.vm_types.specs.declared.faults.NoMemory.{NoMemory}
 use Rattle.vm_types.specs.declared.names.Seat.{Seat}
@@ -11,6 +11,8 @@ use Rattle.call_begins.specs.ReadySeat.{IsIdleSeat}
 use Rattle.vm_state.specs.History.{History, owed}
 use Rattle.vm_state.specs.LiftsLand.{added_each}
 use Rattle.serial_steps.specs.Moved.{IsMoveHere, IsMoved, IsResting, IsSameBut, IsSteady}
+use Rattle.lift_carriers.specs.CarrierView.{CarrierView}
+use Rattle.serial_moves.specs.Carriers.{MayMove}
 use Rattle.serial_moves.specs.Controls.{Moves}
 use Rattle.serial_moves.specs.declared.control.Control.{Control}
 
@@ -43,11 +45,9 @@ rests_there s t m same is = record {
 }
 
 -- the next call begins where nothing was made
-pub steady_there : (s t : History) → t ≡ s → IsSteady s → IsSteady t
-steady_there s t same steady = subst IsSteady (sym same) steady
-
-pub seat_there : (s t : History) (seat : ℕ) → t ≡ s → seat < length s.config.procs → seat < length t.config.procs + 2
-seat_there s t seat same process = subst (λ (x : History). seat < length x.config.procs + 2) (sym same) (let less = process in omega (arith, less))
+pub may_there : {B : Type 0} (s t : History) (seat : Seat) (c d : CarrierView B) → t ≡ s → d ≡ c → MayMove s seat c → MayMove t seat d
+may_there s t seat c d same kept may =
+    subst (λ (x : History). MayMove x seat d) (sym same) (record { steady = may.steady; there = may.there; carrier = kept ∙ may.carrier })
 
 -- this move is that one on the history where the next call begins, and so what the next call leads to is what this move leads to
 module _ (s t : History) (same : t ≡ s) (n : Move) (m : History → Move) (is : n ≡ m s) where

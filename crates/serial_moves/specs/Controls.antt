@@ -1,8 +1,8 @@
 -- Where the code of the serial policy is, in the words of its table. This project's own.
-use Rattle.std.specs.Prelude.{◌≡◌, ℕ, Bool, Option, IfSome}
+use Rattle.std.specs.Prelude.{◌≡◌, ℕ, Bool, false, Option, IfSome}
 use Rattle.std.specs.Option.{option_map}
 use Rattle.vm_types.specs.declared.names.Proc.{Proc}
-use Rattle.pager_model.specs.Moves.{Control as ControlIs, Doing as DoingIs, Move, asking, freeing, saving}
+use Rattle.pager_model.specs.Moves.{Control as ControlIs, Doing as DoingIs, Move, asking, control, freeing, saving}
 use Rattle.pager_model.specs.Policy.{Ends as EndsIs, asking_move, ends_part, ends_request}
 use Rattle.serial_laws.specs.Controlled.{IsLeft}
 use Rattle.serial_steps.specs.Moved.{MovesTo}
@@ -10,8 +10,6 @@ use Rattle.vm_state.specs.History.{History, pager}
 use Rattle.serial_moves.specs.declared.control.Control.{Control}
 use Rattle.serial_moves.specs.declared.control.Doing.{Doing}
 use Rattle.serial_moves.specs.declared.control.Doing.TheVariants.{Asking, Freeing, Saving}
-use Rattle.serial_moves.specs.declared.control.Ends.{Ends}
-use Rattle.serial_moves.specs.declared.control.Ends.TheVariants.{Part, Request}
 use Rattle.serial_moves.specs.declared.control.AfterAnswer.{AfterAnswer}
 use Rattle.serial_moves.specs.declared.control.AfterAnswer.TheVariants.{Made, Over}
 
@@ -26,9 +24,11 @@ doing_in (Freeing begun p) = freeing begun p.0
 abbrev pub control_in : Control → ControlIs
 control_in c = record { doing = doing_in c.doing; leaving = option_map number_of c.leaving }
 
-abbrev pub ends_in : Ends → EndsIs
-ends_in Request = ends_request
-ends_in (Part c) = ends_part (control_in c)
+-- what a carrier of it ends of which each lift failed: the request, or a part of the work after an answer
+abbrev pub ends_in : Doing → EndsIs
+ends_in Asking = ends_request
+ends_in (Saving begun p) = ends_part (control (freeing false p.0))
+ends_in (Freeing begun p) = ends_part (control asking)
 
 -- the policy's move, in the code's words
 abbrev pub Moves : Bool → History → History → Move → Option Control → Type 0

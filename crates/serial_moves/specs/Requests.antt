@@ -4,15 +4,24 @@ use Rattle.vm_types.specs.declared.config.Task.{Task}
 use Rattle.vm_types.specs.declared.names.Proc.{Proc}
 use Rattle.vm_types.specs.declared.names.ProcStatus.TheVariants as status
 use Rattle.vm_types.specs.declared.reference.Ref.{Ref}
+use Rattle.vm_types.specs.declared.service.Request.{Request}
 use Rattle.vm_types.specs.declared.service.Request.TheVariants as request
 use Rattle.pager_model.specs.Moves.{Move, asking, rests}
-use Rattle.pager_model.specs.Policy.{come_move_by, ends_request, finding_move}
+use Rattle.pager_model.specs.Policy.{asked_move, come_move_by, ends_request, finding_move, resident_move}
 use Rattle.pager_model.specs.Swap.{come_gives}
 use Rattle.vm_state.specs.History.{History, pager}
 
 -- the process comes back
 abbrev pub come_move : History → ℕ → Move
 come_move s p = come_move_by s.config s.past (pager s) p (come_gives s.config s.past (pager s) p).made (come_gives s.config s.past (pager s) p).answer
+
+-- it is resident, and asks for this
+abbrev pub resident_for : History → ℕ → Request → Move
+resident_for s p asked = resident_move s.config s.past (pager s) p asked
+
+-- it asks for this, after this one that is being left
+abbrev pub asked_for : History → Option ℕ → Task → Move
+asked_for s leaving task = asked_move s.config s.past (pager s) leaving (task.proc).0 task.request
 
 -- a frame is found for it
 abbrev pub finding_for : History → ℕ → Move

@@ -1,21 +1,19 @@
-ghost use Rattle.std.specs.Prelude.{◌≡◌, ◌<◌, ◌&&◌, ℕ, true, None, IfOk, OnErr, IfSome, length};
+ghost use Rattle.std.specs.Prelude.{◌≡◌, ◌<◌, ◌&&◌, ℕ, true, None, IfOk, OnErr, IfSome};
 ghost use Rattle.std.specs.Option.{option_map};
 ghost use Rattle.pager_model.specs.Moves.{asking, control, freeing};
 ghost use Rattle.pager_model.specs.Policy.{asking_move, ends_part, freeing_move, is_freeing, is_saving, saving_move, swapper_of};
 ghost use Rattle.vm_state.specs.History.{pager};
 ghost use Rattle.serial_laws.specs.Controlled.{IsLeft};
-ghost use Rattle.call_begins.specs.MayBegin.{empty};
-ghost use Rattle.serial_moves.specs.Carriers.{AreIdle};
-ghost use Rattle.serial_steps.specs.CarriedOn.{IsCarriedOn, IsLoaded, MayRefuse, after_saving};
-ghost use Rattle.serial_moves.specs.Controls.{ComesTo, Moves, control_in, number_of};
+ghost use Rattle.serial_moves.specs.Carriers.{AreIdle, MayFollow};
+ghost use Rattle.serial_moves.specs.Controls.{ComesTo, Moves, number_of};
 ghost use Rattle.serial_moves.specs.Finders.{IsFinder, found_move};
 ghost use Rattle.serial_steps.specs.Moved.{IsMoveHere, IsSteady};
 
 use crate::carrying::carry_on;
-use crate::control::{AfterAnswer, Control, Doing, Ends};
+use crate::control::{AfterAnswer, Control, Doing, Step};
 use crate::finding::{Finder, find_frame, processes, who_finds};
 use crate::leaving::leave;
-use crate::requests::{ASKING, ask};
+use crate::requests::ask;
 use crate::tasks::next_task;
 use disk_trait::Block;
 use modified_writer::{Begin, Reason, begin};
@@ -31,7 +29,7 @@ pub fn ask_next<B: Block>(
     state: &mut State<B>,
     leaving: Option<Proc>,
     carriers: &mut [Carrier<B>],
-) -> Result<Option<Control>, NoMemory>
+) -> Step
     requires steady { IsSteady state.old }
     requires left { IfSome leaving (λ q. IsLeft state.old.config (pager state.old) q.0) }
     requires carriers { AreIdle state.old carriers.old }
@@ -96,10 +94,8 @@ pub fn free<B: Block>(
     p: Proc,
     carriers: &mut [Carrier<B>],
 ) -> Result<AfterAnswer, NoMemory>
-    requires steady { IsSteady state.old }
-    requires process { p.0 < length state.old.config.procs }
+    requires may { MayFollow state.old p carriers.old }
     requires left { IfSome leaving (λ q. IsLeft state.old.config (pager state.old) q.0) }
-    requires carriers { AreIdle state.old carriers.old }
     requires here { IsMoveHere state.old (freeing_move state.old.config state.old.past (pager state.old) (option_map number_of leaving) begun p.0) }
     ensures carriers { carriers.new ≡ carriers.old }
     ensures comes { IfOk result (ComesTo B.tells.content state.old state.new
@@ -113,26 +109,12 @@ pub fn free<B: Block>(
     };
     match leaving {
         Some(q) => {
-            let next = leave(
-                state,
-                seat,
-                q,
-                Ends::Part(ASKING),
-                doing,
-                &mut carriers[seat.0 as usize],
-            )?;
+            let next = leave(state, seat, q, doing, &mut carriers[seat.0 as usize])?;
             Ok(AfterAnswer::Made(next))
         }
         None => match finder(state, begun, p) {
             Some(found) => {
-                let next = find_frame(
-                    state,
-                    seat,
-                    found,
-                    Ends::Part(ASKING),
-                    doing,
-                    &mut carriers[seat.0 as usize],
-                )?;
+                let next = find_frame(state, seat, found, doing, &mut carriers[seat.0 as usize])?;
                 Ok(AfterAnswer::Made(next))
             }
             None => Ok(AfterAnswer::Over(None)),
@@ -158,9 +140,7 @@ pub fn save<B: Block>(
     p: Proc,
     carriers: &mut [Carrier<B>],
 ) -> Result<AfterAnswer, NoMemory>
-    requires steady { IsSteady state.old }
-    requires process { p.0 < length state.old.config.procs }
-    requires carriers { AreIdle state.old carriers.old }
+    requires may { MayFollow state.old p carriers.old }
     requires here { IsMoveHere state.old (saving_move state.old.config state.old.past (pager state.old) begun p.0) }
     ensures carriers { carriers.new ≡ carriers.old }
     ensures comes { IfOk result (ComesTo B.tells.content state.old state.new
@@ -173,43 +153,17 @@ pub fn save<B: Block>(
     let seat = Seat(processes(state));
     match begin(state, seat, Reason::High, &mut carriers[seat.0 as usize]) {
         Begin::Carry => {
-            let next = save_on(state, seat, p, &mut carriers[seat.0 as usize])?;
+            let saving = Control {
+                doing: Doing::Saving {
+                    begun: true,
+                    process: p,
+                },
+                leaving: None,
+            };
+            let next = carry_on(state, seat, saving, &mut carriers[seat.0 as usize])?;
             Ok(AfterAnswer::Made(Some(next)))
         }
         Begin::Nothing => free(state, None, false, p, carriers),
         Begin::Room => unreachable!(),
     }
-}
-
-/// The writer's cluster is carried and lands.
-///
-/// # Errors
-/// `NoMemory` if out of memory: room for fewer than 64 entries is left then.
-fn save_on<B: Block>(
-    state: &mut State<B>,
-    seat: Seat,
-    p: Proc,
-    carrier: &mut Carrier<B>,
-) -> Result<Control, NoMemory>
-    requires loaded { IsLoaded B.seen B.tells state.old seat carrier.old }
-    requires may { MayRefuse state.old.config state.old.past seat.0 (after_saving p.0) }
-    ensures carrier { carrier.new ≡ empty seat }
-    ensures carried { IfOk result (λ c. IsCarriedOn B.tells.content state.old state.new seat.0 (after_saving p.0) (control_in c)) }
-    ensures memory { OnErr result (state.new.spare < 64) }
-{
-    let failed = Control {
-        doing: Doing::Freeing {
-            begun: false,
-            process: p,
-        },
-        leaving: None,
-    };
-    let next = Control {
-        doing: Doing::Saving {
-            begun: true,
-            process: p,
-        },
-        leaving: None,
-    };
-    carry_on(state, seat, Ends::Part(failed), next, carrier)
 }

@@ -1,4 +1,4 @@
-use vm_types::Proc;
+use vm_types::{NoMemory, Proc};
 
 /// Where the serial policy is between two moves, up to the report's place.
 #[derive(Clone, Copy, Debug, PartialEq, Eq)]
@@ -19,14 +19,8 @@ pub struct Control {
     pub leaving: Option<Proc>,
 }
 
-/// What a carrier ends of which each lift failed.
-#[derive(Clone, Copy, Debug, PartialEq, Eq)]
-pub enum Ends {
-    /// The request, which is refused.
-    Request,
-    /// A part of the work after an answer: the policy goes on here.
-    Part(Control),
-}
+/// The next step: where the policy goes on; none if it rests.
+pub type Step = Result<Option<Control>, NoMemory>;
 
 /// What the work after an answer comes to.
 #[derive(Clone, Copy, Debug, PartialEq, Eq)]

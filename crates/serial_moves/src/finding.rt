@@ -1,21 +1,21 @@
-ghost use Rattle.std.specs.Prelude.{◌≡◌, ◌+◌, ◌<◌, ◌≤◌, ℕ, IfOk, OnErr, IfSome, length};
+ghost use Rattle.std.specs.Prelude.{◌≡◌, ◌<◌, ◌≤◌, ℕ, IfOk, OnErr, IfSome, length};
 ghost use Rattle.std.specs.Option.{option_map};
 ghost use Rattle.pager_model.specs.Lookups.{is_leaving};
 ghost use Rattle.pager_model.specs.Moves.{Doing as DoingIs, Move};
 ghost use Rattle.pager_model.specs.Policy.{Ends as EndsIs, finding_move, leaving_other};
 ghost use Rattle.vm_state.specs.History.{pager};
-ghost use Rattle.call_begins.specs.MayBegin.{empty};
+ghost use Rattle.serial_moves.specs.Carriers.{MayMove};
 ghost use Rattle.serial_moves.specs.Controls.{Moves, doing_in, ends_in, number_of};
 ghost use Rattle.serial_moves.specs.Finders.{IsFinder, finding_by, found_move, is_other_leaving};
-ghost use Rattle.serial_steps.specs.Moved.{IsMoveHere, IsSteady};
+ghost use Rattle.serial_steps.specs.Moved.{IsMoveHere};
 
 use crate::carrying::write_for_room;
-use crate::control::{Control, Doing, Ends};
+use crate::control::{Control, Doing, Step};
 use crate::leaving::leave;
 use disk_trait::Block;
 use vm_state::{Carrier, State};
 use vm_swapper::victim;
-use vm_types::{NoMemory, Proc, ProcStatus, Seat};
+use vm_types::{Proc, ProcStatus, Seat};
 
 /// Who finds a frame.
 #[derive(Clone, Copy, Debug, PartialEq, Eq)]
@@ -97,18 +97,15 @@ pub fn find_frame<B: Block>(
     state: &mut State<B>,
     seat: Seat,
     finder: Finder,
-    ends: Ends,
     doing: Doing,
     carrier: &mut Carrier<B>,
-) -> Result<Option<Control>, NoMemory>
-    requires steady { IsSteady state.old }
-    requires seat { seat.0 < length state.old.config.procs + 2 }
-    requires carrier { carrier.old ≡ empty seat }
+) -> Step
+    requires may { MayMove state.old seat carrier.old }
     requires there { IsFinder state.old finder }
-    requires here { IsMoveHere state.old (finding_by state.old.config state.old.past (pager state.old) seat.0 (ends_in ends) (doing_in doing) finder) }
+    requires here { IsMoveHere state.old (finding_by state.old.config state.old.past (pager state.old) seat.0 (ends_in doing) (doing_in doing) finder) }
     ensures carrier { carrier.new ≡ carrier.old }
     ensures moved { IfOk result (Moves B.tells.content state.old state.new
-        (finding_by state.old.config state.old.past (pager state.old) seat.0 (ends_in ends) (doing_in doing) finder)) }
+        (finding_by state.old.config state.old.past (pager state.old) seat.0 (ends_in doing) (doing_in doing) finder)) }
     ensures memory { OnErr result (state.new.spare < 64) }
 {
     match finder {
@@ -117,9 +114,9 @@ pub fn find_frame<B: Block>(
                 doing,
                 leaving: None,
             };
-            Ok(Some(write_for_room(state, seat, ends, next, carrier)?))
+            Ok(Some(write_for_room(state, seat, next, carrier)?))
         }
-        Finder::Leaving(q) => leave(state, seat, q, ends, doing, carrier),
+        Finder::Leaving(q) => leave(state, seat, q, doing, carrier),
         Finder::Victim(q) => {
             state.turn(seat, q, ProcStatus::Leaving);
             Ok(Some(Control {

@@ -11,5 +11,5 @@ mod moves;
 mod requests;
 mod tasks;
 
-pub use control::{Control, Doing, Ends};
+pub use control::{Control, Doing};
 pub use moves::make_move;

@@ -1,34 +1,28 @@
-ghost use Rattle.std.specs.Prelude.{◌≡◌, ◌+◌, ◌<◌, None, IfOk, OnErr, IfSome, length};
+ghost use Rattle.std.specs.Prelude.{◌≡◌, ◌<◌, None, IfOk, OnErr, IfSome, length};
 ghost use Rattle.std.specs.Option.{option_map};
 ghost use Rattle.vm_types.specs.WellFormed.{IsRequestOf, IsServiceOf, IsWellFormedReference, IsWellFormedRequest, IsWellFormedService};
 ghost use Rattle.vm_types.specs.declared.names.ProcStatus.TheVariants as status;
 ghost use Rattle.vm_types.specs.declared.reference.Ref.{Ref};
 ghost use Rattle.vm_types.specs.declared.service.Request.{Request};
 ghost use Rattle.pager_model.specs.Lookups.{is_coming, is_resident};
-ghost use Rattle.pager_model.specs.Policy.{asked_move, coming_process, gone_move, resident_move};
+ghost use Rattle.pager_model.specs.Policy.{coming_process, gone_move};
 ghost use Rattle.vm_state.specs.History.{pager};
-ghost use Rattle.call_begins.specs.MayBegin.{empty};
+ghost use Rattle.serial_moves.specs.Carriers.{MayMove};
 ghost use Rattle.serial_moves.specs.Controls.{Moves, number_of};
 ghost use Rattle.serial_steps.specs.Moved.{IsMoveHere, IsSteady};
 ghost use Rattle.serial_laws.specs.Controlled.{IsLeft};
-ghost use Rattle.serial_moves.specs.Requests.{IsResidentReference, come_move, finding_for};
+ghost use Rattle.serial_moves.specs.Requests.{IsResidentReference, asked_for, come_move, finding_for, resident_for};
 
-use crate::carrying::{answered, carry_on, carry_reads, write_for_room};
-use crate::control::{Control, Doing, Ends};
+use crate::carrying::{ASKING, answered, carry_on, carry_reads, write_for_room};
+use crate::control::{Control, Doing, Step};
 use crate::finding::{find_frame, processes, who_finds};
 use crate::leaving::leave;
 use disk_trait::Block;
 use fault_core::{AgainWhy, Next, advance};
-use vm_services::{ServeNext, ServeWhy, serve};
+use vm_services::{ServeNext, ServeWhy};
 use vm_state::{Carrier, State};
 use vm_swapper::{Swap, SwapWhy, come_some};
-use vm_types::{NoMemory, Proc, ProcStatus, Ref, Request, Seat, Service, Task};
-
-/// At the next request, and nothing is left.
-pub const ASKING: Control = Control {
-    doing: Doing::Asking,
-    leaving: None,
-};
+use vm_types::{Proc, ProcStatus, Ref, Request, Seat, Service, Task};
 
 /// Whether a process with this status is coming back.
 fn is_coming(status: ProcStatus) -> bool
@@ -74,22 +68,17 @@ fn gone<B: Block>(state: &mut State<B>, seat: Seat) -> Option<Control>
 ///
 /// # Errors
 /// `NoMemory` if out of memory: room for fewer than 64 entries is left then.
-fn come<B: Block>(
-    state: &mut State<B>,
-    seat: Seat,
-    carrier: &mut Carrier<B>,
-) -> Result<Option<Control>, NoMemory>
-    requires steady { IsSteady state.old }
+fn come<B: Block>(state: &mut State<B>, seat: Seat, carrier: &mut Carrier<B>) -> Step
+    requires may { MayMove state.old seat carrier.old }
     requires process { seat.0 < length state.old.config.procs }
     requires coming { (pager state.old).status seat.0 ≡ status.Coming }
-    requires carrier { carrier.old ≡ empty seat }
     requires here { IsMoveHere state.old (come_move state.old seat.0) }
     ensures carrier { carrier.new ≡ carrier.old }
     ensures moved { IfOk result (Moves B.tells.content state.old state.new (come_move state.old seat.0)) }
     ensures memory { OnErr result (state.new.spare < 64) }
 {
     match come_some(state, seat, Proc(seat.0), carrier) {
-        Swap::Carry => Ok(Some(carry_on(state, seat, Ends::Request, ASKING, carrier)?)),
+        Swap::Carry => Ok(Some(carry_on(state, seat, ASKING, carrier)?)),
         Swap::More => Ok(Some(ASKING)),
         Swap::Settled => Ok(Some(ASKING)),
         Swap::Again(why) => match why {
@@ -106,21 +95,15 @@ fn come<B: Block>(
 /// # Errors
 /// `NoMemory` if out of memory: room for fewer than 64 entries is left then.
 #[inline(always)]
-fn find_for_request<B: Block>(
-    state: &mut State<B>,
-    seat: Seat,
-    carrier: &mut Carrier<B>,
-) -> Result<Option<Control>, NoMemory>
-    requires steady { IsSteady state.old }
-    requires seat { seat.0 < length state.old.config.procs + 2 }
-    requires carrier { carrier.old ≡ empty seat }
+fn find_for_request<B: Block>(state: &mut State<B>, seat: Seat, carrier: &mut Carrier<B>) -> Step
+    requires may { MayMove state.old seat carrier.old }
     requires here { IsMoveHere state.old (finding_for state.old seat.0) }
     ensures carrier { carrier.new ≡ carrier.old }
     ensures moved { IfOk result (Moves B.tells.content state.old state.new (finding_for state.old seat.0)) }
     ensures memory { OnErr result (state.new.spare < 64) }
 {
     match who_finds(state, Proc(seat.0)) {
-        Some(found) => find_frame(state, seat, found, Ends::Request, Doing::Asking, carrier),
+        Some(found) => find_frame(state, seat, found, Doing::Asking, carrier),
         None => Ok(None),
     }
 }
@@ -130,31 +113,23 @@ fn find_for_request<B: Block>(
 /// # Errors
 /// `NoMemory` if out of memory: room for fewer than 64 entries is left then.
 #[inline(always)]
-fn refer<B: Block>(
-    state: &mut State<B>,
-    seat: Seat,
-    p: Proc,
-    r: Ref,
-    carrier: &mut Carrier<B>,
-) -> Result<Option<Control>, NoMemory>
-    requires steady { IsSteady state.old }
-    requires own { seat.0 ≡ p.0 }
+fn refer<B: Block>(state: &mut State<B>, seat: Seat, r: Ref, carrier: &mut Carrier<B>) -> Step
+    requires may { MayMove state.old seat carrier.old }
     requires process { seat.0 < length state.old.config.procs }
     requires formed { IsWellFormedReference r }
-    requires carrier { carrier.old ≡ empty seat }
-    requires here { IsMoveHere state.old (resident_move state.old.config state.old.past (pager state.old) seat.0 (Request.Reference r)) }
+    requires here { IsMoveHere state.old (resident_for state.old seat.0 (Request.Reference r)) }
     ensures carrier { carrier.new ≡ carrier.old }
-    ensures moved { IfOk result (Moves B.tells.content state.old state.new
-        (resident_move state.old.config state.old.past (pager state.old) seat.0 (Request.Reference r))) }
+    ensures moved { IfOk result (Moves B.tells.content state.old state.new (resident_for state.old seat.0 (Request.Reference r))) }
     ensures memory { OnErr result (state.new.spare < 64) }
 {
+    let p = Proc(seat.0);
     match advance(state, seat, p, r, carrier) {
         Next::Answered(_) => return Ok(Some(answered(p))),
-        Next::Carry => return Ok(Some(carry_reads(state, seat, ASKING, carrier)?)),
+        Next::Carry => return Ok(Some(carry_reads(state, seat, carrier)?)),
         Next::More => return Ok(Some(ASKING)),
         Next::Again(why) => match why {
             AgainWhy::ModifiedFull => {
-                return Ok(Some(write_for_room(state, seat, Ends::Request, ASKING, carrier)?));
+                return Ok(Some(write_for_room(state, seat, ASKING, carrier)?));
             }
             AgainWhy::NoFrame => return find_for_request(state, seat, carrier),
             _ => return Ok(None),
@@ -167,36 +142,22 @@ fn refer<B: Block>(
 ///
 /// # Errors
 /// `NoMemory` if out of memory: room for fewer than 64 entries is left then.
-fn serve_next<B: Block>(
-    state: &mut State<B>,
-    seat: Seat,
-    p: Proc,
-    s: Service,
-    carrier: &mut Carrier<B>,
-) -> Result<Option<Control>, NoMemory>
-    requires steady { IsSteady state.old }
-    requires own { seat.0 ≡ p.0 }
+fn serve<B: Block>(state: &mut State<B>, seat: Seat, s: Service, carrier: &mut Carrier<B>) -> Step
+    requires may { MayMove state.old seat carrier.old }
     requires process { seat.0 < length state.old.config.procs }
     requires formed { IsWellFormedService s }
     requires known { IsServiceOf state.old.config.version s }
-    requires carrier { carrier.old ≡ empty seat }
-    requires here { IsMoveHere state.old (resident_move state.old.config state.old.past (pager state.old) seat.0 (Request.Service s)) }
+    requires here { IsMoveHere state.old (resident_for state.old seat.0 (Request.Service s)) }
     ensures carrier { carrier.new ≡ carrier.old }
-    ensures moved { IfOk result (Moves B.tells.content state.old state.new
-        (resident_move state.old.config state.old.past (pager state.old) seat.0 (Request.Service s))) }
+    ensures moved { IfOk result (Moves B.tells.content state.old state.new (resident_for state.old seat.0 (Request.Service s))) }
     ensures memory { OnErr result (state.new.spare < 64) }
 {
-    match serve(state, seat, p, s) {
+    let p = Proc(seat.0);
+    match vm_services::serve(state, seat, p, s) {
         ServeNext::Answered(_) => Ok(Some(answered(p))),
         ServeNext::More => Ok(Some(ASKING)),
         ServeNext::Again(why) => match why {
-            ServeWhy::ModifiedFull => Ok(Some(write_for_room(
-                state,
-                seat,
-                Ends::Request,
-                ASKING,
-                carrier,
-            )?)),
+            ServeWhy::ModifiedFull => Ok(Some(write_for_room(state, seat, ASKING, carrier)?)),
             _ => Ok(None),
         },
         ServeNext::Room => unreachable!(),
@@ -208,38 +169,25 @@ fn serve_next<B: Block>(
 ///
 /// # Errors
 /// `NoMemory` if out of memory: room for fewer than 64 entries is left then.
-fn by_status<B: Block>(
-    state: &mut State<B>,
-    seat: Seat,
-    task: Task,
-    carrier: &mut Carrier<B>,
-) -> Result<Option<Control>, NoMemory>
-    requires steady { IsSteady state.old }
-    requires own { seat.0 ≡ (task.proc).0 }
-    requires process { seat.0 < length state.old.config.procs }
+#[inline(never)]
+fn by_status<B: Block>(state: &mut State<B>, task: Task, carrier: &mut Carrier<B>) -> Step
+    requires may { MayMove state.old (record { 0 = (task.proc).0 }) carrier.old }
+    requires process { (task.proc).0 < length state.old.config.procs }
     requires formed { IsWellFormedRequest task.request }
     requires known { IsRequestOf state.old.config.version task.request }
     requires rare { (pager state.old).status (task.proc).0 ≡ status.Resident → (r : Ref) → task.request ≡ Request.Reference r → ⊥ }
-    requires carrier { carrier.old ≡ empty seat }
-    requires here { IsMoveHere state.old (asked_move state.old.config state.old.past (pager state.old) None seat.0 task.request) }
+    requires here { IsMoveHere state.old (asked_for state.old None task) }
     ensures carrier { carrier.new ≡ carrier.old }
-    ensures moved { IfOk result (Moves B.tells.content state.old state.new
-        (asked_move state.old.config state.old.past (pager state.old) None seat.0 task.request)) }
+    ensures moved { IfOk result (Moves B.tells.content state.old state.new (asked_for state.old None task)) }
     ensures memory { OnErr result (state.new.spare < 64) }
 {
+    let seat = Seat(task.proc.0);
     match state.status(task.proc) {
         ProcStatus::Resident => match task.request {
             Request::Reference(_) => unreachable!(),
-            Request::Service(s) => serve_next(state, seat, task.proc, s, carrier),
+            Request::Service(s) => serve(state, seat, s, carrier),
         },
-        ProcStatus::Leaving => leave(
-            state,
-            seat,
-            task.proc,
-            Ends::Request,
-            Doing::Asking,
-            carrier,
-        ),
+        ProcStatus::Leaving => leave(state, seat, task.proc, Doing::Asking, carrier),
         ProcStatus::Gone => Ok(gone(state, seat)),
         ProcStatus::Coming => come(state, seat, carrier),
     }
@@ -274,38 +222,6 @@ fn resident_reference<B: Block>(state: &State<B>, leaving: Option<Proc>, task: T
     }
 }
 
-/// The next step for a request: a process that is being left comes first. A reference of a resident
-/// process isn't here if nothing is left.
-///
-/// # Errors
-/// `NoMemory` if out of memory: room for fewer than 64 entries is left then.
-#[inline(never)]
-fn ask_other<B: Block>(
-    state: &mut State<B>,
-    leaving: Option<Proc>,
-    task: Task,
-    carrier: &mut Carrier<B>,
-) -> Result<Option<Control>, NoMemory>
-    requires steady { IsSteady state.old }
-    requires process { (task.proc).0 < length state.old.config.procs }
-    requires formed { IsWellFormedRequest task.request }
-    requires known { IsRequestOf state.old.config.version task.request }
-    requires left { IfSome leaving (λ q. IsLeft state.old.config (pager state.old) q.0) }
-    requires rare { leaving ≡ None → (pager state.old).status (task.proc).0 ≡ status.Resident → (r : Ref) → task.request ≡ Request.Reference r → ⊥ }
-    requires carrier { carrier.old ≡ empty (record { 0 = (task.proc).0 }) }
-    requires here { IsMoveHere state.old (asked_move state.old.config state.old.past (pager state.old) (option_map number_of leaving) (task.proc).0 task.request) }
-    ensures carrier { carrier.new ≡ carrier.old }
-    ensures moved { IfOk result (Moves B.tells.content state.old state.new
-        (asked_move state.old.config state.old.past (pager state.old) (option_map number_of leaving) (task.proc).0 task.request)) }
-    ensures memory { OnErr result (state.new.spare < 64) }
-{
-    let seat = Seat(task.proc.0);
-    match leaving {
-        Some(q) => leave(state, seat, q, Ends::Request, Doing::Asking, carrier),
-        None => by_status(state, seat, task, carrier),
-    }
-}
-
 /// The next step for a request: a process that is being left comes first.
 ///
 /// # Errors
@@ -316,21 +232,23 @@ pub fn ask<B: Block>(
     leaving: Option<Proc>,
     task: Task,
     carrier: &mut Carrier<B>,
-) -> Result<Option<Control>, NoMemory>
-    requires steady { IsSteady state.old }
+) -> Step
+    requires may { MayMove state.old (record { 0 = (task.proc).0 }) carrier.old }
     requires process { (task.proc).0 < length state.old.config.procs }
     requires formed { IsWellFormedRequest task.request }
     requires known { IsRequestOf state.old.config.version task.request }
     requires left { IfSome leaving (λ q. IsLeft state.old.config (pager state.old) q.0) }
-    requires carrier { carrier.old ≡ empty (record { 0 = (task.proc).0 }) }
-    requires here { IsMoveHere state.old (asked_move state.old.config state.old.past (pager state.old) (option_map number_of leaving) (task.proc).0 task.request) }
+    requires here { IsMoveHere state.old (asked_for state.old (option_map number_of leaving) task) }
     ensures carrier { carrier.new ≡ carrier.old }
-    ensures moved { IfOk result (Moves B.tells.content state.old state.new
-        (asked_move state.old.config state.old.past (pager state.old) (option_map number_of leaving) (task.proc).0 task.request)) }
+    ensures moved { IfOk result (Moves B.tells.content state.old state.new (asked_for state.old (option_map number_of leaving) task)) }
     ensures memory { OnErr result (state.new.spare < 64) }
 {
+    let seat = Seat(task.proc.0);
     if let Some(r) = resident_reference(state, leaving, task) {
-        return refer(state, Seat(task.proc.0), task.proc, r, carrier);
+        return refer(state, seat, r, carrier);
     }
-    ask_other(state, leaving, task, carrier)
+    match leaving {
+        Some(q) => leave(state, seat, q, Doing::Asking, carrier),
+        None => by_status(state, task, carrier),
+    }
 }

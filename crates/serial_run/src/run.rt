@@ -1,7 +1,7 @@
 ghost use Rattle.std.specs.Prelude.{◌≡◌, ◌≤◌, ◌++◌, IfOk, IsErrOf, List, OnOk};
-ghost use Rattle.disk_trait.specs.Causes.{Rose};
 ghost use Rattle.vm_types.specs.BlockView.{Retired};
 ghost use Rattle.vm_types.specs.Configuration.{IsWellFormed};
+ghost use Rattle.vm_types.specs.Counts.{Rose};
 ghost use Rattle.pager_model.specs.Serial.{IsSerial};
 ghost use Rattle.serial_steps.specs.Moved.{IsSameBut};
 ghost use Rattle.serial_run.specs.AtReport.{IsAtReport};

@@ -1,8 +1,8 @@
 //! A run up to the report's place.
 
 ghost use Rattle.std.specs.Prelude.{◌≡◌, ◌≤◌, [], IfOk, IsErrOf, OnOk};
-ghost use Rattle.disk_trait.specs.Causes.{Rose};
 ghost use Rattle.vm_types.specs.Configuration.{IsWellFormed};
+ghost use Rattle.vm_types.specs.Counts.{Rose};
 ghost use Rattle.pager_model.specs.Serial.{IsSerial};
 ghost use Rattle.serial_steps.specs.Moved.{IsSameBut};
 ghost use Rattle.serial_run.specs.AtReport.{IsAtReport, IsReached};

@@ -2,7 +2,7 @@
 use Rattle.std.specs.Prelude.{◌≡◌, ◌⊎◌, ℕ, ◌≤◌, List, [], ◌++◌, None, Some, IfSome}
 use Rattle.std.specs.declared.option.Option.{Option}
 use Rattle.std.specs.Io.KnownBytes.{Consumes}
-use Rattle.outside_io.specs.Causes.{Rose}
+use Rattle.vm_types.specs.Counts.{Rose}
 use Rattle.outside_io.specs.Views.{SinkView, SourceView}
 use Rattle.pager_model.specs.Text.{status_line}
 use Rattle.command_ends.specs.Ends.{Ends}

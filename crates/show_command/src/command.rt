@@ -1,6 +1,6 @@
 ghost use Rattle.std.specs.Prelude.{◌≡◌, ◌≢◌, ◌⊎◌, ◌≤◌, ◌++◌, List, ℕ};
 ghost use Rattle.std.specs.declared.option.Option.{Option};
-ghost use Rattle.outside_io.specs.Causes.{Rose};
+ghost use Rattle.vm_types.specs.Counts.{Rose};
 ghost use Rattle.outside_io.specs.Writes.{Writes};
 ghost use Rattle.pager_model.specs.Text.{status_line};
 ghost use Rattle.command_ends.specs.Concludes.{Concludes, HasTold, WasCut};
@@ -71,12 +71,8 @@ fn end_dump<K: Sink>(alloc: Global, dump: &Dump, sink: &mut K) -> Status
     }
 }
 
-// The outcome of the command.
-fn conclude<S: Source, K: Sink>(
-    alloc: Global,
-    source: &mut S,
-    sink: &mut K,
-) -> (Status, Option<Wrong>)
+// Reads a dump, and tells what there is to tell of it.
+fn tell<S: Source, K: Sink>(alloc: Global, source: &mut S, sink: &mut K) -> (Status, Option<Wrong>)
     ensures outcome { Concludes (TellsWrong (ShowTells (S.seen source.old) (S.seen source.new)) result.1)
         (K.seen sink.old) (K.seen sink.new) result.0.0 }
     ensures kept { (input : Option (List ℕ)) (kept : List ℕ) → IsWrongText result.1 input kept }
@@ -123,5 +119,5 @@ pub fn show_dump<S: Source, K: Sink>(
     ensures kept { (input : Option (List ℕ)) (kept : List ℕ) → IsWrongText result.1 input kept }
     ensures faults_later { (S.seen source.old).failures ≤ (S.seen source.new).failures }
 {
-    conclude(alloc, source, sink)
+    tell(alloc, source, sink)
 }

@@ -18,7 +18,7 @@ use Rattle.vm_types.specs.declared.names.Seat.{Seat}
 use Rattle.vm_journal.specs.declared.entry.Entry.{Entry}
 use Rattle.vm_journal.specs.declared.entry.What.TheVariants as what
 use Rattle.pfn_database.specs.Frames.{row_of}
-use Rattle.pfn_database.specs.Rows.{FitsSlot}
+use Rattle.pfn_database.specs.Rows.{FitsSlotIndex}
 use Rattle.pfn_database.specs.declared.row.Row.{Row}
 use Rattle.state_parts.specs.ChargedTable.{kept_at}
 use Rattle.state_parts.specs.declared.charged_page.ChargedPage.{ChargedPage}
@@ -67,7 +67,7 @@ pub record CanBackComing (p v f : ℕ) (parts : Parts) (x : ProcessRow) : Type 0
   pub lies : charged.lies ≡ Some (block.Swap (proc p) slot)
   pub few : slot < 1024
   pub empty : IsEmptySlot x.ring slot
-  pub fits : (g : Page) → (row_of parts.frames f).page ≡ Some g → FitsSlot (Some g) slot
+  pub fits : (g : Page) → (row_of parts.frames f).page ≡ Some g → FitsSlotIndex (Some g) slot
 
 usable : (s : FrameState) → may_come_back s ≡ true → (s ≡ state.Bad → ⊥) × (s ≡ state.ReadError → ⊥)
 usable s may = (λ is. false≢true (ap may_come_back (sym is) ∙ may), λ is. false≢true (ap may_come_back (sym is) ∙ may))
@@ -132,7 +132,7 @@ module _ (config : Config) (past : List Entry) (a : Pager) (seat : Seat) (q : Pr
           exists = let same = ap (λ (y : ProcessRow). length y.ring.slots) is in omega (arith, same, within);
           empty = ap (λ (y : ProcessRow). slice_index_or y.ring.slots back.slot None) is ∙ get_or_from_slice_get (a.ring q.0).slots back.slot None None (empty config past a seat q address f from parts before right legal fit back);
         };
-        fits = λ g held. subst (λ (h : Page). FitsSlot (Some h) back.slot) (let here = sym (ap (λ (r : Row). r.page) row) ∙ held in let own = page_own config past a seat q address f from parts before right legal fit back in let same : Private q v ≡ g = cc (here, own, back.holds) in same) tt;
+        fits = λ g held. subst (λ (h : Page). FitsSlotIndex (Some h) back.slot) (let here = sym (ap (λ (r : Row). r.page) row) ∙ held in let own = page_own config past a seat q address f from parts before right legal fit back in let same : Private q v ≡ g = cc (here, own, back.holds) in same) tt;
       }
     where
       back : IsBackComing config a q.0 address.0 f.0 from

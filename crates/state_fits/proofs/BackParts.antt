@@ -25,7 +25,7 @@ use Rattle.vm_journal.specs.declared.entry.What.TheVariants as what
 use Rattle.global_pages.specs.GlobalPages.{GlobalPages}
 use Rattle.page_lists.specs.Lists.{without}
 use Rattle.page_lists.proofs.Counts.{without-absent}
-use Rattle.page_tables.specs.PageTables.{PageTables, entry_of}
+use Rattle.page_tables.specs.PageTables.{PageTables, pte_in}
 use Rattle.pfn_database.specs.Frames.{Frames, row_of}
 use Rattle.pfn_database.specs.declared.row.Row.{Row}
 use Rattle.pte_forms.specs.declared.pte.Place.TheVariants as place
@@ -117,12 +117,12 @@ module _ (config : Config) (past : List Entry) (a : Pager) (seat : Seat) (q : Pr
       → x ≡ slice_index_or parts.processes q.0 x → (x.status ≡ status.Coming → ⊥)
       → (row_of parts.frames f.0).page ≡ Some g
       → choose x.ring x.limit ≡ Empty slot
-      → entry_of parts.tables q.0 v ≡ Some pte
+      → pte_in parts.tables q.0 v ≡ Some pte
       → frames'.rows ≡ slice_set parts.frames.rows f.0 (entered_row g (row_of parts.frames f.0).modify (page_slot g slot) (row_of parts.frames f.0))
       → frames'.free ≡ without parts.frames.free f.0
       → frames'.modified ≡ without parts.frames.modified f.0
       → tables'.procs ≡ parts.tables.procs
-      → ((r w : ℕ) → entry_of tables' r w ≡ changed_at (entry_of parts.tables) q.0 v (Some (record pte { place = place.Valid false (pfn f.0) })) r w)
+      → ((r w : ℕ) → pte_in tables' r w ≡ changed_at (pte_in parts.tables) q.0 v (Some (record pte { place = place.Valid false (pfn f.0) })) r w)
       → PartsFit config (e ∷ past) (after config past a e) (record parts {
         frames = frames';
         processes = slice_set parts.processes q.0 (record x { ring = placed x.ring x.limit v; faults = x.faults + 1 });
@@ -243,12 +243,12 @@ module _ (config : Config) (past : List Entry) (a : Pager) (seat : Seat) (q : Pr
       → x ≡ slice_index_or parts.processes q.0 x → x.status ≡ status.Coming
       → (row_of parts.frames f.0).page ≡ Some g
       → kept_at parts.pages (Private q v) ≡ Some c → c.lies ≡ Some (block.Swap r n)
-      → entry_of parts.tables q.0 v ≡ Some pte
+      → pte_in parts.tables q.0 v ≡ Some pte
       → frames'.rows ≡ slice_set parts.frames.rows f.0 (entered_row g true n (row_of parts.frames f.0))
       → frames'.free ≡ without parts.frames.free f.0
       → frames'.modified ≡ without parts.frames.modified f.0
       → tables'.procs ≡ parts.tables.procs
-      → ((s w : ℕ) → entry_of tables' s w ≡ changed_at (entry_of parts.tables) q.0 v (Some (record pte { place = place.Valid false (pfn f.0) })) s w)
+      → ((s w : ℕ) → pte_in tables' s w ≡ changed_at (pte_in parts.tables) q.0 v (Some (record pte { place = place.Valid false (pfn f.0) })) s w)
       → IsTableSet parts.pages pages' (Private q v) (Some (record c { lies = None }))
       → swaps'.procs ≡ parts.swaps.procs
       → ((s m : ℕ) → swapped_at swaps' s m ≡ changed_at (swapped_at parts.swaps) q.0 n None s m)

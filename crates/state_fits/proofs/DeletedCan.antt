@@ -11,7 +11,7 @@ use Rattle.vm_types.specs.declared.names.Page.TheVariants.{Private}
 use Rattle.vm_types.specs.Same.{same_page}
 use Rattle.vm_journal.specs.declared.entry.Entry.{Entry}
 use Rattle.page_file.specs.Blocks.{IsAssignedBlock, assigned_blocks}
-use Rattle.page_tables.specs.PageTables.{IsMapped, entry_of as pte_in}
+use Rattle.page_tables.specs.PageTables.{IsMapped, pte_in}
 use Rattle.pfn_database.specs.Frames.{row_of}
 use Rattle.pfn_database.specs.Rows.{IsOneOf}
 use Rattle.pfn_database.specs.declared.row.Row.{Row}

@@ -18,7 +18,7 @@ use Rattle.vm_types.specs.declared.names.Page.TheVariants.{Private, Shared}
 use Rattle.vm_types.specs.declared.names.ProcStatus.TheVariants as status
 use Rattle.vm_types.specs.declared.names.ProcStatus.{ProcStatus}
 use Rattle.vm_journal.specs.declared.entry.Entry.{Entry}
-use Rattle.page_tables.specs.PageTables.{PageTables, entry_of as pte_in}
+use Rattle.page_tables.specs.PageTables.{PageTables, pte_in}
 use Rattle.pte_forms.specs.declared.pte.Pte.{Pte}
 use Rattle.section_table.specs.SectionTable.{SectionTable, behind_of}
 use Rattle.pager_laws.proofs.DeleteKept.{deleted, unshared, untouched}
@@ -27,7 +27,7 @@ use Rattle.pager_model.specs.Around.{quiet}
 use Rattle.pager_model.specs.FlatService.{in_range, map_range}
 use Rattle.pager_model.specs.Flights.{Flight, is_busy, open_flights}
 use Rattle.pager_model.specs.Forget.{after_delete, forget_all, forgotten, headed, holder, own_pages, put_at, range_of, unlisted, with_private}
-use Rattle.pager_model.specs.Lookups.{count_page, entries_at, entry_of as valid_of, is_assigned_to, is_entry, page_at, page_by}
+use Rattle.pager_model.specs.Lookups.{count_page, entries_at, entry_of, is_assigned_to, is_entry, page_at, page_by}
 use Rattle.pager_model.specs.Maps.{Map, Mapped, is_private, page_behind, page_number, proc}
 use Rattle.pager_model.specs.Own.{IsOwn}
 use Rattle.pager_model.specs.Pager.{Pager, Valid}
@@ -57,11 +57,11 @@ module _ (config : Config) (past : List Entry) (a : Pager) (p v : ℕ) (parts : 
 
   unmapped_pte : None ≡ pte_of config map' a.valid a.page a.lies p v
   unfolding pte_of
-  unmapped_pte = sym (ap (λ (o : Option Mapped). pte_at config p v (holder config a.page) a.lies (valid_of a.valid p v) o) (changed_here a.map p v None))
+  unmapped_pte = sym (ap (λ (o : Option Mapped). pte_at config p v (holder config a.page) a.lies (entry_of a.valid p v) o) (changed_here a.map p v None))
 
   pte_there : (q w : ℕ) → (nat_eq p q && nat_eq v w) ≡ false → pte_of config map' a.valid a.page a.lies q w ≡ pte_of config a.map a.valid a.page a.lies q w
   unfolding pte_of
-  pte_there q w apart = ap (λ (o : Option Mapped). pte_at config q w (holder config a.page) a.lies (valid_of a.valid q w) o) (changed_there a.map p v q w None apart)
+  pte_there q w apart = ap (λ (o : Option Mapped). pte_at config q w (holder config a.page) a.lies (entry_of a.valid q w) o) (changed_there a.map p v q w None apart)
 
   pub unmapped_parts : (tables' : PageTables) → tables'.procs ≡ (parts.tables).procs → ((q w : ℕ) → pte_in tables' q w ≡ changed_at (pte_in parts.tables) p v None q w)
       → (sections' : SectionTable) → sections'.procs ≡ (parts.sections).procs → sections'.parts ≡ (parts.sections).parts → ((q w : ℕ) → behind_of sections' q w ≡ changed_at (behind_of parts.sections) p v None q w)

@@ -16,7 +16,7 @@ use Rattle.vm_types.specs.declared.names.SecId.{SecId}
 use Rattle.global_pages.specs.GlobalPages.{GlobalPages}
 use Rattle.page_lists.proofs.Counts.{without-absent}
 use Rattle.page_lists.specs.Lists.{count_of, without}
-use Rattle.page_tables.specs.PageTables.{PageTables, entry_of}
+use Rattle.page_tables.specs.PageTables.{PageTables, pte_in}
 use Rattle.pfn_database.specs.Frames.{Frames}
 use Rattle.pfn_database.specs.Rows.{empty_row}
 use Rattle.pte_forms.specs.declared.pte.Place.{Place}
@@ -25,7 +25,7 @@ use Rattle.pager_laws.proofs.ComingKept.{idle_entry}
 use Rattle.pager_model.specs.Around.{PastView}
 use Rattle.pager_model.specs.Forget.{holder, holds_page}
 use Rattle.pager_model.specs.Given.{pfn}
-use Rattle.pager_model.specs.Lookups.{entry_of as valid_of, is_entry, page_by, shares}
+use Rattle.pager_model.specs.Lookups.{entry_of, is_entry, page_by, shares}
 use Rattle.pager_model.specs.Maps.{Mapped, is_private, page_behind, proc}
 use Rattle.pager_model.specs.OfConfig.{HoldsRight}
 use Rattle.pager_model.specs.Pager.{Pager}
@@ -83,8 +83,8 @@ module _ (config : Config) (o : PastView) (a : Pager) (f : ℕ) (g : Page) (kept
 
   -- ---- the page tables
   pub tables_rested : (p v : ℕ) (old now : PageTables) (pte : Pte) (b : Origin) → g ≡ Private (proc p) v → page_by config a.map p v ≡ Some g
-      → TablesFit (pte_of config a.map a.valid a.page a.lies) (length config.procs) old → entry_of old p v ≡ Some pte → origin_of a.map p v ≡ Some b → now.procs ≡ old.procs
-      → ((q w : ℕ) → entry_of now q w ≡ changed_at (entry_of old) p v (Some (record pte { place = resting_place config b (a.lies g) })) q w)
+      → TablesFit (pte_of config a.map a.valid a.page a.lies) (length config.procs) old → pte_in old p v ≡ Some pte → origin_of a.map p v ≡ Some b → now.procs ≡ old.procs
+      → ((q w : ℕ) → pte_in now q w ≡ changed_at (pte_in old) p v (Some (record pte { place = resting_place config b (a.lies g) })) q w)
       → TablesFit (pte_of config a.map a.valid page' a.lies) (length config.procs) now
   tables_rested p v old now pte b private own fit read behind procs changed =
       tables_set (pte_of config a.map a.valid a.page a.lies) (pte_of config a.map a.valid page' a.lies) (length config.procs) old now p v (Some (record pte { place = resting_place config b (a.lies g) })) fit procs changed
@@ -94,7 +94,7 @@ module _ (config : Config) (o : PastView) (a : Pager) (f : ℕ) (g : Page) (kept
       found : (m : Mapped) × (a.map p v ≡ Some m) × (page_behind config p v m.origin ≡ Private (proc p) v)
       found = mapped_there config a.map p v (Private (proc p) v) (own ∙ ap Some private)
 
-      none : valid_of a.valid p v ≡ None
+      none : entry_of a.valid p v ≡ None
       none = find_none_from_count (is_entry p v) a.valid (idle_entry config a kept.held_once p v f g own holds unshared kept.valid)
 
       was : Some pte ≡ Some (record { prot = (found.0).prot; place = place_by config (Private (proc p) v) (found.0).origin None (holder config a.page (Private (proc p) v)) (a.lies (Private (proc p) v)) })

@@ -7,15 +7,15 @@ use Rattle.vm_types.specs.declared.names.Page.{Page}
 use Rattle.vm_types.specs.declared.names.Page.TheVariants.{Private, Shared}
 use Rattle.vm_journal.specs.declared.entry.Entry.{Entry}
 use Rattle.global_pages.specs.GlobalPages.{GlobalPages, IsGlobalPage, count_of}
-use Rattle.page_tables.specs.PageTables.{IsEntry, IsMapped, entry_of}
+use Rattle.page_tables.specs.PageTables.{IsEntry, IsMapped, pte_in}
 use Rattle.pfn_database.specs.Frames.{row_of}
-use Rattle.pfn_database.specs.Rows.{FitsSlot}
+use Rattle.pfn_database.specs.Rows.{FitsSlotIndex}
 use Rattle.pfn_database.specs.declared.row.Row.{Row}
 use Rattle.pte_forms.specs.declared.pte.Place.TheVariants as place
 use Rattle.pte_forms.specs.declared.pte.Pte.{Pte}
 use Rattle.pager_model.specs.Around.{past_view}
 use Rattle.pager_model.specs.Flights.{open_flights}
-use Rattle.pager_model.specs.Lookups.{entry_of as valid_of, is, page_by, shares}
+use Rattle.pager_model.specs.Lookups.{entry_of, is, page_by, shares}
 use Rattle.pager_model.specs.OfConfig.{IsOfConfig}
 use Rattle.pager_model.specs.Pager.{Pager}
 use Rattle.pager_rules.specs.Kept.{IsKept}
@@ -45,9 +45,9 @@ pub record CanEnter (config : Config) (p v f : ℕ) (parts : Parts) : Type 0 whe
   pub shares : (row_of parts.frames f).shares < 2 ^ 32 - 1
   pub global : (g : Page) → (row_of parts.frames f).page ≡ Some g → CanShare config parts.globals g
   pub mapped : IsMapped parts.tables p v
-  pub entry : (pte : Pte) → entry_of parts.tables p v ≡ Some pte → IsEntry (record pte { place = place.Valid false (record { 0 = f }) })
+  pub entry : (pte : Pte) → pte_in parts.tables p v ≡ Some pte → IsEntry (record pte { place = place.Valid false (record { 0 = f }) })
 
-pub fits_page_slot : (g : Page) (slot : ℕ) → FitsSlot (Some g) (page_slot g slot)
+pub fits_page_slot : (g : Page) (slot : ℕ) → FitsSlotIndex (Some g) (page_slot g slot)
 fits_page_slot (Private p v) slot = tt
 fits_page_slot (Shared s i) slot = refl
 
@@ -71,7 +71,7 @@ module _ (config : Config) (past : List Entry) (a : Pager) (p v f : ℕ) (g : Pa
   can_enter =
       let read = row_read a.state a.page a.modify a.valid a.ring (open_flights past) config.frames a.free a.modified parts.frames f fit.frames in
       let found = mapped_right config a p v g right own in
-      let known = fit.tables.each p v ∙ pte_known config a.map a.valid a.page a.lies p v found.0 g found.1 found.2 (valid_of a.valid p v) refl in
+      let known = fit.tables.each p v ∙ pte_known config a.map a.valid a.page a.lies p v found.0 g found.1 found.2 (entry_of a.valid p v) refl in
       record {
         below = omega (arith, less, fit.frames.count);
         held = subst IsSome (sym (ap (λ (row : Row). row.page) read ∙ holds)) refl;

@@ -9,7 +9,7 @@ use Rattle.vm_types.specs.declared.names.FrameState.TheVariants as state
 use Rattle.vm_types.specs.declared.names.Page.{Page}
 use Rattle.vm_types.specs.declared.names.Page.TheVariants.{Private, Shared}
 use Rattle.global_pages.specs.GlobalPages.{GlobalPages}
-use Rattle.page_tables.specs.PageTables.{PageTables, entry_of}
+use Rattle.page_tables.specs.PageTables.{PageTables, pte_in}
 use Rattle.pfn_database.specs.Frames.{Frames, row_of}
 use Rattle.pfn_database.specs.Rows.{counted_references, uncounted}
 use Rattle.pfn_database.specs.declared.row.Row.{Row}
@@ -81,8 +81,8 @@ module _ (config : Config) (o : PastView) (a : Pager) (p v f slot : ℕ) (g : Pa
       (λ h apart. entered_there a.state (at_number a.state f state.Active) a.page a.page a.modify modify' a.valid a.ring (at_number a.ring p new) flights p v f h apart (at_number_other a.state f state.Active h apart) refl (unmarked h apart) (slot_there h apart) (pins_entered a.valid a.ring p v f slot new put ((kept.entries p v).slots ∙ not_valid) h))
 
   pub tables_entered : (lies' : Page → Option BlockId) (old now : PageTables) (pte : Pte) → ((q w : ℕ) → (nat_eq p q && nat_eq v w) ≡ false → lies' (Private (proc q) w) ≡ a.lies (Private (proc q) w))
-      → TablesFit (pte_of config a.map a.valid a.page a.lies) (length config.procs) old → entry_of old p v ≡ Some pte → now.procs ≡ old.procs
-      → ((q w : ℕ) → entry_of now q w ≡ changed_at (entry_of old) p v (Some (record pte { place = place.Valid false (pfn f) })) q w)
+      → TablesFit (pte_of config a.map a.valid a.page a.lies) (length config.procs) old → pte_in old p v ≡ Some pte → now.procs ≡ old.procs
+      → ((q w : ℕ) → pte_in now q w ≡ changed_at (pte_in old) p v (Some (record pte { place = place.Valid false (pfn f) })) q w)
       → TablesFit (pte_of config a.map more a.page lies') (length config.procs) now
   tables_entered lies' old now pte elsewhere fit read procs changed =
       let found = mapped_there config a.map p v g own in

@@ -19,7 +19,7 @@ use Rattle.vm_journal.specs.declared.entry.EvictWhy.{EvictWhy}
 use Rattle.vm_journal.specs.declared.entry.EvictWhy.TheVariants as evict
 use Rattle.vm_journal.specs.declared.entry.What.TheVariants as what
 use Rattle.global_pages.specs.GlobalPages.{GlobalPages, IsGlobalPage, count_of}
-use Rattle.page_tables.specs.PageTables.{IsEntry, IsMapped, entry_of}
+use Rattle.page_tables.specs.PageTables.{IsEntry, IsMapped, pte_in}
 use Rattle.pfn_database.specs.Frames.{row_of}
 use Rattle.pfn_database.specs.Rows.{uncounted}
 use Rattle.pfn_database.specs.declared.row.Row.{Row}
@@ -70,7 +70,7 @@ pub record CanEvict (config : Config) (why : EvictWhy) (p v f : ℕ) (parts : Pa
   pub held : IsSome (row_of parts.frames f).page
   pub global : (g : Page) → (row_of parts.frames f).page ≡ Some g → HasShare config parts.globals g
   pub mapped : IsMapped parts.tables p v
-  pub entry : (g : Page) (pte : Pte) → (row_of parts.frames f).page ≡ Some g → entry_of parts.tables p v ≡ Some pte → IsEntry (record pte { place = place_left config f g })
+  pub entry : (g : Page) (pte : Pte) → (row_of parts.frames f).page ≡ Some g → pte_in parts.tables p v ≡ Some pte → IsEntry (record pte { place = place_left config f g })
 
 victim_of : (config : Config) (past : List Entry) (a : Pager) (seat p address f : ℕ) (to : FrameState) (why : EvictWhy) → IsEvict why config past a seat p address f to → why ≡ evict.Replace → (n : ℕ) × (choose (a.ring p) (a.limit p) ≡ Victim n)
 victim_of config past a seat p address f to evict.Replace legal is = (legal.1.slot, legal.1.chosen)

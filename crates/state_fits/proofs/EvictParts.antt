@@ -21,7 +21,7 @@ use Rattle.global_pages.specs.GlobalPages.{GlobalPages}
 use Rattle.working_set.specs.Slots.{pin_at}
 use Rattle.state_parts.specs.Victim.{slot_given}
 use Rattle.state_parts.specs.declared.process_row.ProcessRow.{ProcessRow}
-use Rattle.page_tables.specs.PageTables.{PageTables, entry_of}
+use Rattle.page_tables.specs.PageTables.{PageTables, pte_in}
 use Rattle.pfn_database.specs.Frames.{Frames, row_of}
 use Rattle.pfn_database.specs.Rows.{counted_references, uncounted}
 use Rattle.pfn_database.specs.declared.row.Row.{Row}
@@ -155,8 +155,8 @@ module _ (config : Config) (past : List Entry) (a : Pager) (p v f slot : ℕ) (t
       row_there
 
   -- ---- the page tables
-  tables_left : (old now : PageTables) (pte : Pte) (g : Page) → TablesFit (pte_of config a.map a.valid a.page a.lies) (length config.procs) old → a.page f ≡ Some g → entry_of old p v ≡ Some pte → now.procs ≡ old.procs
-      → ((q w : ℕ) → entry_of now q w ≡ changed_at (entry_of old) p v (Some (record pte { place = place_left config f g })) q w)
+  tables_left : (old now : PageTables) (pte : Pte) (g : Page) → TablesFit (pte_of config a.map a.valid a.page a.lies) (length config.procs) old → a.page f ≡ Some g → pte_in old p v ≡ Some pte → now.procs ≡ old.procs
+      → ((q w : ℕ) → pte_in now q w ≡ changed_at (pte_in old) p v (Some (record pte { place = place_left config f g })) q w)
       → TablesFit (pte_of config a.map fewer a.page a.lies) (length config.procs) now
   tables_left old now pte g fit held read procs changed =
       let own : page_by config a.map p v ≡ Some g = its.1 ∙ (sym holds ∙ held) in
@@ -220,12 +220,12 @@ module _ (config : Config) (past : List Entry) (a : Pager) (seat : Seat) (q : Pr
   pub evict_parts : (x : ProcessRow) (g : Page) (pte : Pte) (frames' : Frames) (tables' : PageTables)
       → x ≡ slice_index_or parts.processes q.0 x
       → (row_of parts.frames f.0).page ≡ Some g
-      → entry_of parts.tables q.0 v ≡ Some pte
+      → pte_in parts.tables q.0 v ≡ Some pte
       → frames'.rows ≡ slice_set parts.frames.rows f.0 (left_row (gone.evicted.held).pinned (row_of parts.frames f.0))
       → frames'.free ≡ pushed_if (is state.Free (left_row (gone.evicted.held).pinned (row_of parts.frames f.0)).state) parts.frames.free f.0
       → frames'.modified ≡ pushed_if (is state.Modified (left_row (gone.evicted.held).pinned (row_of parts.frames f.0)).state) parts.frames.modified f.0
       → tables'.procs ≡ parts.tables.procs
-      → ((r w : ℕ) → entry_of tables' r w ≡ changed_at (entry_of parts.tables) q.0 v (Some (record pte { place = place_left config f.0 g })) r w)
+      → ((r w : ℕ) → pte_in tables' r w ≡ changed_at (pte_in parts.tables) q.0 v (Some (record pte { place = place_left config f.0 g })) r w)
       → PartsFit config (e ∷ past) (after config past a e) (record parts {
         frames = frames';
         processes = slice_set parts.processes q.0 (record x { ring = evicted_ring why x.ring x.limit v });

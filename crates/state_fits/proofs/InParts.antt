@@ -18,7 +18,7 @@ use Rattle.vm_journal.specs.declared.entry.Role.{Role}
 use Rattle.vm_journal.specs.declared.entry.Role.TheVariants as role
 use Rattle.vm_journal.specs.declared.entry.What.TheVariants as what
 use Rattle.page_lists.specs.Lists.{without}
-use Rattle.page_tables.specs.PageTables.{PageTables, entry_of as pte_in}
+use Rattle.page_tables.specs.PageTables.{PageTables, pte_in}
 use Rattle.page_file.specs.Blocks.{Blocks}
 use Rattle.global_pages.specs.GlobalPages.{GlobalPages}
 use Rattle.pfn_database.specs.Frames.{Frames, row_of}

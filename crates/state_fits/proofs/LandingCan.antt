@@ -21,7 +21,7 @@ use Rattle.vm_journal.specs.declared.entry.Role.{Role}
 use Rattle.vm_journal.specs.declared.entry.Role.TheVariants as role
 use Rattle.vm_journal.specs.declared.entry.What.TheVariants as what
 use Rattle.working_set.specs.Slots.{IsEmptySlot}
-use Rattle.page_tables.specs.PageTables.{IsEntry, IsMapped, entry_of as pte_in}
+use Rattle.page_tables.specs.PageTables.{IsEntry, IsMapped, pte_in}
 use Rattle.global_pages.specs.GlobalPages.{count_of}
 use Rattle.pte_forms.specs.declared.pte.Place.TheVariants as place
 use Rattle.pte_forms.specs.declared.pte.Pte.{Pte}

@@ -9,7 +9,7 @@ use Rattle.vm_types.specs.declared.config.Config.{Config}
 use Rattle.vm_types.specs.declared.names.Page.{Page}
 use Rattle.vm_journal.specs.declared.entry.Entry.{Entry}
 use Rattle.pte_forms.specs.declared.pte.Pte.{Pte}
-use Rattle.page_tables.specs.PageTables.{PageTables, entry_of}
+use Rattle.page_tables.specs.PageTables.{PageTables, pte_in}
 use Rattle.pfn_database.specs.declared.row.Row.{Row}
 use Rattle.pfn_database.specs.Frames.{Frames, row_of}
 use Rattle.pfn_database.specs.Rows.{bad_row}
@@ -76,14 +76,14 @@ changed_there f p v q w x apart = rw apart refl
 
 -- one page's entry is set
 pub tables_set : (pte pte' : ℕ → ℕ → Option Pte) (n : ℕ) (old new : PageTables) (p v : ℕ) (x : Option Pte)
-    → TablesFit pte n old → new.procs ≡ old.procs → ((q w : ℕ) → entry_of new q w ≡ changed_at (entry_of old) p v x q w)
+    → TablesFit pte n old → new.procs ≡ old.procs → ((q w : ℕ) → pte_in new q w ≡ changed_at (pte_in old) p v x q w)
     → x ≡ pte' p v → ((q w : ℕ) → (nat_eq p q && nat_eq v w) ≡ false → pte' q w ≡ pte q w) → TablesFit pte' n new
 tables_set pte pte' n old new p v x fit procs changed here there =
     record {
       procs = procs ∙ fit.procs;
-      each = at_page_each (λ q w. entry_of new q w ≡ pte' q w) p v
-          (changed p v ∙ (changed_here (entry_of old) p v x ∙ here))
-          (λ q w apart. changed q w ∙ (changed_there (entry_of old) p v q w x apart ∙ (fit.each q w ∙ sym (there q w apart))));
+      each = at_page_each (λ q w. pte_in new q w ≡ pte' q w) p v
+          (changed p v ∙ (changed_here (pte_in old) p v x ∙ here))
+          (λ q w apart. changed q w ∙ (changed_there (pte_in old) p v q w x apart ∙ (fit.each q w ∙ sym (there q w apart))));
     }
 
 pub tables_same : (pte pte' : ℕ → ℕ → Option Pte) (n : ℕ) (tables : PageTables) → TablesFit pte n tables → ((p v : ℕ) → pte' p v ≡ pte p v) → TablesFit pte' n tables

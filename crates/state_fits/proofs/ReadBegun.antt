@@ -14,7 +14,7 @@ use Rattle.vm_types.specs.declared.names.Proc.{Proc}
 use Rattle.vm_types.specs.declared.names.SecId.{SecId}
 use Rattle.vm_journal.specs.declared.entry.Entry.{Entry}
 use Rattle.page_lists.specs.Lists.{without}
-use Rattle.page_tables.specs.PageTables.{PageTables, entry_of as pte_in}
+use Rattle.page_tables.specs.PageTables.{PageTables, pte_in}
 use Rattle.global_pages.specs.GlobalPages.{GlobalPages}
 use Rattle.pte_forms.specs.declared.pte.Place.TheVariants as place
 use Rattle.pfn_database.specs.Frames.{Frames, row_of}
@@ -24,7 +24,7 @@ use Rattle.pager_model.specs.Around.{past_view}
 use Rattle.pager_model.specs.Flights.{Flight, is_reading, open_flights}
 use Rattle.pager_model.specs.Forget.{holder}
 use Rattle.pager_model.specs.Given.{pfn}
-use Rattle.pager_model.specs.Lookups.{IsHead, entries_at, entry_of as valid_of, has_vpn, own_page, shares}
+use Rattle.pager_model.specs.Lookups.{IsHead, entries_at, entry_of, has_vpn, own_page, shares}
 use Rattle.pager_model.specs.Maps.{Map, Mapped, is_private, page_behind, proc}
 use Rattle.pager_model.specs.Pager.{Pager, Valid}
 use Rattle.pager_model.specs.Sets.{at_number}
@@ -46,11 +46,11 @@ use Rattle.state_fits.proofs.RingSlots.{absent}
 use Rattle.state_fits.proofs.HeldGlobals.{globals_held, holder_stays}
 
 -- the entry of a mapped page that isn't valid
-pub pte_away : (config : Config) (map : Map) (valid : List Valid) (page : ℕ → Option Page) (lies : Page → Option BlockId) (p v : ℕ) (m : Mapped) (g : Page) → map p v ≡ Some m → page_behind config p v m.origin ≡ g → valid_of valid p v ≡ None
+pub pte_away : (config : Config) (map : Map) (valid : List Valid) (page : ℕ → Option Page) (lies : Page → Option BlockId) (p v : ℕ) (m : Mapped) (g : Page) → map p v ≡ Some m → page_behind config p v m.origin ≡ g → entry_of valid p v ≡ None
     → pte_of config map valid page lies p v ≡ Some (record { prot = m.prot; place = place_away config g m.origin (holder config page g) (lies g) })
 unfolding pte_of
 pte_away config map valid page lies p v m g mapped behind none =
-    ap (λ (o : Option Mapped). pte_at config p v (holder config page) lies (valid_of valid p v) o) mapped
+    ap (λ (o : Option Mapped). pte_at config p v (holder config page) lies (entry_of valid p v) o) mapped
     ∙ (ap (λ (o : Option Valid). pte_at config p v (holder config page) lies o (Some m)) none
     ∙ ap (λ (h : Page). Some (record { prot = m.prot; place = place_away config h m.origin (holder config page h) (lies h) })) behind)
 
@@ -129,7 +129,7 @@ module _ (config : Config) (past : List Entry) (a : Pager) (y : Flight) (x : Pag
       by : (g : Page) → x ≡ g → ((q w : ℕ) → pte_in table' q w ≡ entry_held g f (pte_in table) q w) → TablesFit (pte_of config a.map a.valid page' a.lies) n table'
       by (Private p v) is changed =
           let found = mapped_there config a.map p.0 v (Private p v) (subst (λ (g : Page). own_page config a.map g ≡ Some g) is (own (ap is_private is))) in
-          let invalid : valid_of a.valid p.0 v ≡ None = find_none_from_count _ a.valid (none p v is) in
+          let invalid : entry_of a.valid p.0 v ≡ None = find_none_from_count _ a.valid (none p v is) in
           let old = pte_away config a.map a.valid a.page a.lies p.0 v found.0 (Private p v) found.1 found.2 invalid in
           let new = pte_away config a.map a.valid page' a.lies p.0 v found.0 (Private p v) found.1 found.2 invalid in
           tables_set (pte_of config a.map a.valid a.page a.lies) (pte_of config a.map a.valid page' a.lies) n table table' p.0 v _ fit procs changed

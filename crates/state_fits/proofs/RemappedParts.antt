@@ -12,14 +12,14 @@ use Rattle.vm_types.specs.declared.names.BlockId.{BlockId}
 use Rattle.vm_types.specs.declared.names.Page.{Page}
 use Rattle.vm_types.specs.declared.names.Page.TheVariants.{Private}
 use Rattle.vm_journal.specs.declared.entry.Entry.{Entry}
-use Rattle.page_tables.specs.PageTables.{PageTables, entry_of as pte_in}
+use Rattle.page_tables.specs.PageTables.{PageTables, pte_in}
 use Rattle.pte_forms.specs.declared.pte.Place.TheVariants as place
 use Rattle.pte_forms.specs.declared.pte.Pte.{Pte}
 use Rattle.section_table.specs.SectionTable.{SectionTable, behind_of}
 use Rattle.pager_model.specs.Around.{past_view}
 use Rattle.pager_model.specs.FlatService.{demand_zero, in_range, map_range, with_prot}
 use Rattle.pager_model.specs.Forget.{holder, remapped}
-use Rattle.pager_model.specs.Lookups.{entry_of as valid_of, page_at, page_by}
+use Rattle.pager_model.specs.Lookups.{entry_of, page_at, page_by}
 use Rattle.pager_model.specs.Maps.{Map, Mapped, proc}
 use Rattle.pager_model.specs.Pager.{Pager, Valid}
 use Rattle.pager_rules.specs.Kept.{IsKept}
@@ -44,7 +44,7 @@ module _ (config : Config) (past : List Entry) (a : Pager) (p address pages : �
 
     coded_pte : (q w : ℕ) → pte_of config coded a.valid a.page a.lies q w ≡ ranged (option_map (with_code prot)) p address pages (pte_of config a.map a.valid a.page a.lies) q w
     unfolding pte_of
-    coded_pte q w = code_at q w (nat_eq p q && in_range address pages w) (valid_of a.valid q w) (holder config a.page) a.lies (a.map q w)
+    coded_pte q w = code_at q w (nat_eq p q && in_range address pages w) (entry_of a.valid q w) (holder config a.page) a.lies (a.map q w)
 
     coded_origin : (b : Bool) (o : Option Mapped) → option_map (λ (m : Mapped). m.origin) (cond b (option_map (with_prot prot) o) o) ≡ option_map (λ (m : Mapped). m.origin) o
     coded_origin false o = refl
@@ -88,10 +88,10 @@ module _ (config : Config) (past : List Entry) (a : Pager) (p address pages : �
     unmapped : (q w : ℕ) → a.map q w ≡ None → page_by config a.map q w ≡ None
     unmapped q w none = ap (page_at config q w) none
 
-    not_valid : (q w : ℕ) → a.map q w ≡ None → valid_of a.valid q w ≡ None
-    not_valid q w none = go (valid_of a.valid q w) refl
+    not_valid : (q w : ℕ) → a.map q w ≡ None → entry_of a.valid q w ≡ None
+    not_valid q w none = go (entry_of a.valid q w) refl
       where
-        go : (o : Option Valid) → valid_of a.valid q w ≡ o → o ≡ None
+        go : (o : Option Valid) → entry_of a.valid q w ≡ o → o ≡ None
         go None is = refl
         go (Some e) is = let at = valid_at_page config past a q w e kept is in absurd (none-some at.page (sym (unmapped q w none) ∙ at.mapped))
 
@@ -103,7 +103,7 @@ module _ (config : Config) (past : List Entry) (a : Pager) (p address pages : �
     lies_nowhere q w none = no_block_lies (a.lies (Private (proc q) w))
         (λ b lies. let one = (kept.pages (Private (proc q) w)).lying b refl lies in none-some (Private (proc q) w) (sym (unmapped q w none) ∙ (kept.pages (Private (proc q) w)).mapped (omega (arith, one)) refl))
 
-    zero_at : (q w : ℕ) → a.map q w ≡ None → pte_at config q w (holder config a.page) a.lies (valid_of a.valid q w) (Some (demand_zero prot)) ≡ zero_pte
+    zero_at : (q w : ℕ) → a.map q w ≡ None → pte_at config q w (holder config a.page) a.lies (entry_of a.valid q w) (Some (demand_zero prot)) ≡ zero_pte
     zero_at q w none = rw (not_valid q w none, not_held q w none, lies_nowhere q w none) refl
 
     inside : (q w : ℕ) → (nat_eq p q && in_range address pages w) ≡ true → a.map q w ≡ None
@@ -116,7 +116,7 @@ module _ (config : Config) (past : List Entry) (a : Pager) (p address pages : �
     zeroed_pte q w = go (nat_eq p q && in_range address pages w) refl
       where
         go : (b : Bool) → (nat_eq p q && in_range address pages w) ≡ b
-            → pte_at config q w (holder config a.page) a.lies (valid_of a.valid q w) (cond b (Some (demand_zero prot)) (a.map q w)) ≡ cond b zero_pte (pte_at config q w (holder config a.page) a.lies (valid_of a.valid q w) (a.map q w))
+            → pte_at config q w (holder config a.page) a.lies (entry_of a.valid q w) (cond b (Some (demand_zero prot)) (a.map q w)) ≡ cond b zero_pte (pte_at config q w (holder config a.page) a.lies (entry_of a.valid q w) (a.map q w))
         go true is = zero_at q w (inside q w is)
         go false is = refl
 

@@ -24,7 +24,7 @@ use Rattle.vm_journal.specs.declared.entry.Entry.{Entry}
 use Rattle.vm_journal.specs.declared.entry.What.TheVariants as what
 use Rattle.global_pages.specs.GlobalPages.{IsGlobalPage}
 use Rattle.page_file.specs.Blocks.{assigned_blocks}
-use Rattle.page_tables.specs.PageTables.{IsEntry, IsMapped, entry_of}
+use Rattle.page_tables.specs.PageTables.{IsEntry, IsMapped, pte_in}
 use Rattle.pfn_database.specs.Frames.{row_of}
 use Rattle.pfn_database.specs.Rows.{IsOneOf}
 use Rattle.pfn_database.specs.declared.row.Row.{Row}
@@ -37,7 +37,7 @@ use Rattle.pager_laws.proofs.ReuseKept.{no_due, uncharged_own}
 use Rattle.pager_model.specs.Around.{page_view, past_view}
 use Rattle.pager_model.specs.Changes.{is_section_block, without_page}
 use Rattle.pager_model.specs.Flights.{Flight, failed_flight, open_flights}
-use Rattle.pager_model.specs.Lookups.{block_of, count_page, entry_of as valid_of, is, is_assigned_to}
+use Rattle.pager_model.specs.Lookups.{block_of, count_page, entry_of, is, is_assigned_to}
 use Rattle.pager_model.specs.Maps.{Mapped, is_private, proc}
 use Rattle.pager_model.specs.OfConfig.{IsOfConfig, IsOrigin}
 use Rattle.pager_model.specs.Pager.{Assigned, Pager}
@@ -74,7 +74,7 @@ pub record CanRest (config : Config) (p v : ℕ) (parts : Parts) : Type 0 where
   pub mapped : IsMapped parts.tables p v
   pub charged : IsSome (kept_at parts.pages (Private (proc p) v))
   pub behind : IsSome (behind_of parts.sections p v)
-  pub entry : (c : ChargedPage) (b : Origin) (pte : Pte) → kept_at parts.pages (Private (proc p) v) ≡ Some c → behind_of parts.sections p v ≡ Some b → entry_of parts.tables p v ≡ Some pte → IsEntry (record pte { place = resting_place config b c.lies })
+  pub entry : (c : ChargedPage) (b : Origin) (pte : Pte) → kept_at parts.pages (Private (proc p) v) ≡ Some c → behind_of parts.sections p v ≡ Some b → pte_in parts.tables p v ≡ Some pte → IsEntry (record pte { place = resting_place config b c.lies })
   pub proc : p < parts.pages.procs
   pub place : IsSome (region_place v)
 
@@ -115,7 +115,7 @@ module _ (config : Config) (past : List Entry) (a : Pager) (seat : Seat) (f : Pf
   reuse_private p v is =
       let own_page = own config past a seat f g parts before right legal fit p v is in
       let found = mapped_right config a p.0 v g right own_page in
-      let known = fit.tables.each p.0 v ∙ pte_known config a.map a.valid a.page a.lies p.0 v found.0 g found.1 found.2 (valid_of a.valid p.0 v) refl in
+      let known = fit.tables.each p.0 v ∙ pte_known config a.map a.valid a.page a.lies p.0 v found.0 g found.1 found.2 (entry_of a.valid p.0 v) refl in
       let behind_is : behind_of parts.sections p.0 v ≡ Some (found.0).origin = fit.sections.each p.0 v ∙ ap (option_map (λ (m : Mapped). m.origin)) found.1 in
       let one = one_charge config past a seat f g parts before right legal fit p v is in
       let has = has_from_count a.charged (Private p v) (let same = ap (count_page a.charged) is in omega (arith, one, same)) in

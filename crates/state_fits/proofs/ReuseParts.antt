@@ -16,7 +16,7 @@ use Rattle.vm_journal.specs.declared.entry.What.TheVariants as what
 use Rattle.global_pages.specs.GlobalPages.{GlobalPages}
 use Rattle.page_file.specs.Blocks.{Blocks}
 use Rattle.page_lists.specs.Lists.{without}
-use Rattle.page_tables.specs.PageTables.{PageTables, entry_of}
+use Rattle.page_tables.specs.PageTables.{PageTables, pte_in}
 use Rattle.pfn_database.specs.Frames.{Frames}
 use Rattle.pfn_database.specs.Rows.{empty_row}
 use Rattle.pte_forms.specs.declared.pte.Pte.{Pte}
@@ -159,23 +159,23 @@ module _ (config : Config) (past : List Entry) (a : Pager) (seat : Seat) (f : Pf
     pub lies_is : (c : ChargedPage) → kept_at parts.pages (Private p v) ≡ Some c → c.lies ≡ a.lies g
     lies_is c read = charged_lies a.charged a.touched a.lies a.assigned (Private p v) c (sym (fit.pages.each (Private p v)) ∙ read) ∙ ap a.lies (sym private)
 
-    rested : (c : ChargedPage) (b : Origin) (pte : Pte) (tables' : PageTables) → kept_at parts.pages (Private p v) ≡ Some c → behind_of parts.sections p.0 v ≡ Some b → entry_of parts.tables p.0 v ≡ Some pte → tables'.procs ≡ parts.tables.procs
-        → ((q w : ℕ) → entry_of tables' q w ≡ changed_at (entry_of parts.tables) p.0 v (Some (record pte { place = resting_place config b c.lies })) q w)
+    rested : (c : ChargedPage) (b : Origin) (pte : Pte) (tables' : PageTables) → kept_at parts.pages (Private p v) ≡ Some c → behind_of parts.sections p.0 v ≡ Some b → pte_in parts.tables p.0 v ≡ Some pte → tables'.procs ≡ parts.tables.procs
+        → ((q w : ℕ) → pte_in tables' q w ≡ changed_at (pte_in parts.tables) p.0 v (Some (record pte { place = resting_place config b c.lies })) q w)
         → TablesFit (pte_of config a.map a.valid page' a.lies) (length config.procs) tables'
     rested c b pte tables' kept behind entry procs changed =
         tables_rested config (past_view past) a f.0 g before holds idle.shares still p.0 v parts.tables tables' pte b private own fit.tables entry (sym (fit.sections.each p.0 v) ∙ behind) procs
-        (λ q w. changed q w ∙ ap (λ (o : Option BlockId). changed_at (entry_of parts.tables) p.0 v (Some (record pte { place = resting_place config b o })) q w) (lies_is c kept))
+        (λ q w. changed q w ∙ ap (λ (o : Option BlockId). changed_at (pte_in parts.tables) p.0 v (Some (record pte { place = resting_place config b o })) q w) (lies_is c kept))
 
     pub reuse_private_parts : (c : ChargedPage) (b : Origin) (pte : Pte) (frames' : Frames) (tables' : PageTables) → is_failed_first parts.failed g ≡ false → IsEmptied frames'
-        → kept_at parts.pages (Private p v) ≡ Some c → behind_of parts.sections p.0 v ≡ Some b → entry_of parts.tables p.0 v ≡ Some pte → tables'.procs ≡ parts.tables.procs
-        → ((q w : ℕ) → entry_of tables' q w ≡ changed_at (entry_of parts.tables) p.0 v (Some (record pte { place = resting_place config b c.lies })) q w)
+        → kept_at parts.pages (Private p v) ≡ Some c → behind_of parts.sections p.0 v ≡ Some b → pte_in parts.tables p.0 v ≡ Some pte → tables'.procs ≡ parts.tables.procs
+        → ((q w : ℕ) → pte_in tables' q w ≡ changed_at (pte_in parts.tables) p.0 v (Some (record pte { place = resting_place config b c.lies })) q w)
         → PartsFit config (e ∷ past) (after config past a e) (record parts { frames = frames'; tables = tables'; failed = None })
     reuse_private_parts c b pte frames' tables' other emptied kept behind entry procs changed =
         whole a.charged frames' tables' parts.pages parts.globals parts.file (charged_is false other) emptied (rested c b pte tables' kept behind entry procs changed) fit.pages globals_same fit.file
 
     pub reuse_uncharged_parts : (c : ChargedPage) (b : Origin) (pte : Pte) (frames' : Frames) (tables' : PageTables) (pages' : ChargedTable) → is_failed_first parts.failed g ≡ true → IsEmptied frames'
-        → kept_at parts.pages (Private p v) ≡ Some c → behind_of parts.sections p.0 v ≡ Some b → entry_of parts.tables p.0 v ≡ Some pte → tables'.procs ≡ parts.tables.procs
-        → ((q w : ℕ) → entry_of tables' q w ≡ changed_at (entry_of parts.tables) p.0 v (Some (record pte { place = resting_place config b c.lies })) q w)
+        → kept_at parts.pages (Private p v) ≡ Some c → behind_of parts.sections p.0 v ≡ Some b → pte_in parts.tables p.0 v ≡ Some pte → tables'.procs ≡ parts.tables.procs
+        → ((q w : ℕ) → pte_in tables' q w ≡ changed_at (pte_in parts.tables) p.0 v (Some (record pte { place = resting_place config b c.lies })) q w)
         → IsTableSet parts.pages pages' (Private p v) None
         → PartsFit config (e ∷ past) (after config past a e) (record parts { frames = frames'; tables = tables'; pages = pages'; file = record parts.file { charged = parts.file.charged - 1 }; failed = None })
     reuse_uncharged_parts c b pte frames' tables' pages' first emptied kept behind entry procs changed pages_changed =

@@ -7,14 +7,14 @@ use Rattle.vm_types.specs.WellFormed.{IsCode, IsRange}
 use Rattle.vm_types.specs.declared.config.Config.{Config}
 use Rattle.vm_types.specs.declared.names.Page.{Page}
 use Rattle.vm_journal.specs.declared.entry.Entry.{Entry}
-use Rattle.page_tables.specs.PageTables.{IsEntry, IsMapped, entry_of as pte_in, HasPage as HasEntryPage}
+use Rattle.page_tables.specs.PageTables.{IsEntry, IsMapped, pte_in, HasPage as HasEntryPage}
 use Rattle.pte_forms.specs.declared.pte.Place.TheVariants as place
 use Rattle.pte_forms.specs.declared.pte.Pte.{Pte}
 use Rattle.section_table.specs.SectionTable.{behind_of, HasPage as HasSectionPage}
 use Rattle.pager_laws.proofs.OfConfigKept.{in_service}
 use Rattle.pager_model.specs.FlatService.{in_range}
 use Rattle.pager_model.specs.Forget.{holder}
-use Rattle.pager_model.specs.Lookups.{entry_of as valid_of, page_by}
+use Rattle.pager_model.specs.Lookups.{entry_of, page_by}
 use Rattle.pager_model.specs.Maps.{Mapped}
 use Rattle.pager_model.specs.Pager.{Pager}
 use Rattle.state_parts.specs.ChargedTable.{HasPage as HasChargedPage}
@@ -52,7 +52,7 @@ module _ (config : Config) (past : List Entry) (a : Pager) (parts : Parts) (fit 
 
   pub unmapped_entry : a.map p v ≡ None → pte_in parts.tables p v ≡ None
   unfolding pte_of
-  unmapped_entry none = fit.tables.each p v ∙ ap (λ (o : Option Mapped). pte_at config p v (holder config a.page) a.lies (valid_of a.valid p v) o) none
+  unmapped_entry none = fit.tables.each p v ∙ ap (λ (o : Option Mapped). pte_at config p v (holder config a.page) a.lies (entry_of a.valid p v) o) none
 
   pub unmapped_behind : a.map p v ≡ None → behind_of parts.sections p v ≡ None
   unmapped_behind none = fit.sections.each p v ∙ ap (option_map (λ (m : Mapped). m.origin)) none

@@ -11,7 +11,7 @@ use Rattle.vm_types.specs.declared.service.Service.{Service}
 use Rattle.vm_types.specs.declared.service.Service.TheVariants as service
 use Rattle.vm_journal.specs.declared.entry.Entry.{Entry}
 use Rattle.vm_journal.specs.declared.entry.What.TheVariants as what
-use Rattle.page_tables.specs.PageTables.{PageTables, entry_of as pte_in}
+use Rattle.page_tables.specs.PageTables.{PageTables, pte_in}
 use Rattle.pte_forms.specs.declared.pte.Place.TheVariants as place
 use Rattle.pte_forms.specs.declared.pte.Pte.{Pte}
 use Rattle.section_table.specs.SectionTable.{SectionTable, behind_of}

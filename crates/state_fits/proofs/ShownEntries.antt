@@ -9,7 +9,7 @@ use Rattle.vm_types.specs.declared.names.Page.TheVariants.{Private, Shared}
 use Rattle.vm_types.specs.declared.names.SecId.{SecId}
 use Rattle.global_pages.specs.GlobalPages.{GlobalPages}
 use Rattle.pte_forms.specs.declared.pte.Pte.{Pte}
-use Rattle.page_tables.specs.PageTables.{PageTables, entry_of as pte_in}
+use Rattle.page_tables.specs.PageTables.{PageTables, pte_in}
 use Rattle.pager_model.specs.Forget.{holder}
 use Rattle.pager_model.specs.Given.{pfn}
 use Rattle.pager_model.specs.Lookups.{entry_of, page_at, page_by, shares}

@@ -21,7 +21,7 @@ use Rattle.vm_types.specs.declared.names.Seat.{Seat}
 use Rattle.vm_journal.specs.declared.entry.Entry.{Entry}
 use Rattle.vm_journal.specs.declared.entry.What.TheVariants as what
 use Rattle.page_lists.specs.Lists.{without}
-use Rattle.page_tables.specs.PageTables.{PageTables, entry_of as pte_in}
+use Rattle.page_tables.specs.PageTables.{PageTables, pte_in}
 use Rattle.pte_forms.specs.declared.pte.Place.TheVariants as place
 use Rattle.pte_forms.specs.declared.pte.Pte.{Pte}
 use Rattle.pfn_database.specs.Frames.{Frames, row_of}
@@ -34,7 +34,7 @@ use Rattle.pager_model.specs.Forget.{holder}
 use Rattle.pager_laws.proofs.OfConfigKept.{page_right}
 use Rattle.pager_laws.proofs.StepKept.{step_kept}
 use Rattle.global_pages.specs.GlobalPages.{GlobalPages, count_of}
-use Rattle.pager_model.specs.Lookups.{shares, entries_at, entry_of as valid_of, has_vpn, is_entry, page_at, page_by, count_page}
+use Rattle.pager_model.specs.Lookups.{shares, entries_at, entry_of, has_vpn, is_entry, page_at, page_by, count_page}
 use Rattle.pager_model.specs.Maps.{Mapped, is_paged, page_behind, page_number, proc, shared_of}
 use Rattle.pager_model.specs.OfConfig.{IsOfConfig}
 use Rattle.pager_model.specs.Pager.{Pager, Valid}
@@ -232,7 +232,7 @@ module _ (config : Config) (past : List Entry) (a : Pager) (seat : Seat) (addres
   pub zero_pte : (m : Mapped) → a.map p v ≡ Some m → pte_of config a.map (valid_at p v f.0 ∷ a.valid) page' a.lies p v ≡ Some (record { prot = m.prot; place = place.Valid false f })
   unfolding pte_of
   zero_pte m is =
-      ap (λ (o : Option Mapped). pte_at config p v (holder config page') a.lies (valid_of (valid_at p v f.0 ∷ a.valid) p v) o) is
+      ap (λ (o : Option Mapped). pte_at config p v (holder config page') a.lies (entry_of (valid_at p v f.0 ∷ a.valid) p v) o) is
       ∙ ap (λ (o : Option Valid). pte_at config p v (holder config page') a.lies o (Some m)) (find_cons_yes (is_entry p v) (valid_at p v f.0) a.valid (and_from _ _ (nat_eq_refl p) (nat_eq_refl v)))
 
   tables : (tables' : PageTables) (old : Pte) → tables'.procs ≡ (parts.tables).procs → ((q w : ℕ) → pte_in tables' q w ≡ changed_at (pte_in parts.tables) p v (Some (record { prot = old.prot; place = place.Valid false f })) q w)

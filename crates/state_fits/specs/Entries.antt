@@ -13,11 +13,11 @@ use Rattle.vm_types.specs.declared.names.Page.TheVariants.{Private, Shared}
 use Rattle.pte_forms.specs.declared.pte.Place.{Place}
 use Rattle.pte_forms.specs.declared.pte.Place.TheVariants as place
 use Rattle.pte_forms.specs.declared.pte.Pte.{Pte}
-use Rattle.page_tables.specs.PageTables.{PageTables, entry_of}
+use Rattle.page_tables.specs.PageTables.{PageTables, pte_in}
 use Rattle.section_table.specs.SectionTable.{SectionTable, behind_of, part_of}
 use Rattle.pager_model.specs.Given.{pfn}
 use Rattle.pager_model.specs.Forget.{holder}
-use Rattle.pager_model.specs.Lookups.{entry_of as valid_of}
+use Rattle.pager_model.specs.Lookups.{entry_of}
 use Rattle.pager_model.specs.Maps.{Map, Mapped, page_behind}
 use Rattle.pager_model.specs.Pager.{Valid}
 pub use Rattle.page_holders.specs.SectionNumbers.{section_page_number}
@@ -57,11 +57,11 @@ pte_at config p v holds lies valid (Some m) =
     Some (pte_by config (page_behind config p v m.origin) m valid (holds (page_behind config p v m.origin)) (lies (page_behind config p v m.origin)))
 
 unfoldable pub pte_of : Config → Map → List Valid → (ℕ → Option Page) → (Page → Option BlockId) → ℕ → ℕ → Option Pte
-pte_of config map valid page lies p v = pte_at config p v (holder config page) lies (valid_of valid p v) (map p v)
+pte_of config map valid page lies p v = pte_at config p v (holder config page) lies (entry_of valid p v) (map p v)
 
 pub record TablesFit (pte : ℕ → ℕ → Option Pte) (n : ℕ) (tables : PageTables) : Type 0 where
   pub procs : tables.procs ≡ n
-  pub each : (p v : ℕ) → entry_of tables p v ≡ pte p v
+  pub each : (p v : ℕ) → pte_in tables p v ≡ pte p v
 
 abbrev pub origin_of : Map → ℕ → ℕ → Option Origin
 origin_of map p v = option_map (λ (m : Mapped). m.origin) (map p v)

@@ -8,7 +8,7 @@ use Rattle.vm_types.specs.declared.config.ProcSpec.{ProcSpec}
 use Rattle.vm_types.specs.declared.names.Page.{Page}
 use Rattle.vm_types.specs.declared.names.ProcStatus.TheVariants as status
 use Rattle.pte_forms.specs.declared.pte.Pte.{Pte}
-use Rattle.page_tables.specs.PageTables.{entry_of}
+use Rattle.page_tables.specs.PageTables.{pte_in}
 use Rattle.pfn_database.specs.Frames.{opening as opening_frames}
 use Rattle.section_table.specs.SectionTable.{behind_of, part_of}
 use Rattle.pager_model.specs.Maps.{Mapped, first_map, page_behind}
@@ -37,7 +37,7 @@ pub record AreFirst (config : Config) (parts : Parts) : Type 0 where
   pub processes : parts.processes ≡ map first_row config.procs
   pub spoken : parts.spoken ≡ replicate (length config.procs) unspoken
   pub table_procs : (parts.tables).procs ≡ length config.procs
-  pub entries : (p v : ℕ) → entry_of parts.tables p v ≡ option_map (first_pte config p v) (first_map config p v)
+  pub entries : (p v : ℕ) → pte_in parts.tables p v ≡ option_map (first_pte config p v) (first_map config p v)
   pub section_procs : (parts.sections).procs ≡ length config.procs
   pub kinds : (parts.sections).parts ≡ map part_of config.sections
   pub behind : (p v : ℕ) → behind_of parts.sections p v ≡ first_behind config p v

@@ -1,5 +1,5 @@
 ghost use Rattle.std.specs.Prelude.{◌≡◌, ◌+◌, ◌^◌, ◌<◌, true, length, OnOk, OnErr, IsErrOf};
-ghost use Rattle.disk_trait.specs.Causes.{Rose};
+ghost use Rattle.vm_types.specs.Counts.{Rose};
 
 use disk_trait::{Block, Depot, MakeFault, MemoryDepot, NeverFails};
 use file_depot::FileDepot;

@@ -3,6 +3,7 @@ use Rattle.std.specs.Prelude.{ℕ, ◌+◌, ◌*◌, ◌==◌, Bool, ◌&&◌, n
 use Rattle.std.specs.List.{list_any}
 use Rattle.vm_types.specs.declared.config.Config.{Config}
 use Rattle.vm_types.specs.declared.config.Mapping.{Mapping}
+use Rattle.vm_types.specs.declared.config.Origin.{Origin}
 use Rattle.vm_types.specs.declared.config.Origin.TheVariants as origin
 use Rattle.trace_words.specs.declared.cause.Cause.TheVariants.{OutOfRange, Repeated}
 use Rattle.trace_words.specs.Judged.{◌>>=◌, owed}
@@ -25,12 +26,15 @@ mapped config m =
     owed (is_inside (m.at).0 m.pages) (bounded 3 OutOfRange Regions)
     (owed (not (list_any (λ before. overlaps before m) config.maps)) (at_word 3 Repeated) (Ok (Map m)))
 
+abbrev pub mapping : ℕ → ℕ → ℕ → Origin → ℕ → Mapping
+mapping p at pages from prot = record { proc = record { 0 = p }; at = record { 0 = at }; pages = pages; from = from; prot = prot }
+
 -- MAPZERO x addr n prot
 abbrev pub mapzero_line : Config → List (List ℕ) → Result Says Breach
 mapzero_line config (x ∷ addr ∷ n ∷ prot ∷ []) =
     marked 2 Free (process config.procs x) >>= λ p. marked 3 (Multiple 512) (aligned 512 addr) >>= λ at.
     ranged 4 1 4096 n >>= λ pages. marked 5 Free (protection prot) >>= λ code.
-    mapped config (record { proc = record { 0 = p }; at = record { 0 = at }; pages = pages; from = origin.Zero; prot = code })
+    mapped config (mapping p at pages origin.Zero code)
 mapzero_line config other = Err (miscounted 2 4 other)
 
 -- MAPSEC x addr n name first prot
@@ -40,5 +44,5 @@ mapsec_line config (x ∷ addr ∷ n ∷ name ∷ first ∷ prot ∷ []) =
     ranged 4 1 4096 n >>= λ pages. marked 5 Free (section config.sections name) >>= λ s.
     marked 6 (Pages (pages_at config.sections s)) (decimal first) >>= λ page. marked 7 Free (protection prot) >>= λ code.
     owed (nat_le (page + pages) (pages_at config.sections s)) (bounded 6 OutOfRange (Pages (pages_at config.sections s)))
-    (mapped config (record { proc = record { 0 = p }; at = record { 0 = at }; pages = pages; from = origin.Section (record { 0 = s }) page; prot = code }))
+    (mapped config (mapping p at pages (origin.Section (record { 0 = s }) page) code))
 mapsec_line config other = Err (miscounted 2 6 other)

@@ -12,6 +12,7 @@ use Rattle.vm_types.specs.declared.reference.Width.{Width}
 use Rattle.vm_types.specs.declared.reference.Width.TheVariants.{Four}
 use Rattle.vm_types.specs.declared.reference.Op.{Op as What}
 use Rattle.vm_types.specs.declared.reference.Op.TheVariants as what
+use Rattle.vm_types.specs.declared.service.Service.{Service as Asked}
 use Rattle.vm_types.specs.declared.service.Service.TheVariants as asked
 use Rattle.vm_types.specs.declared.service.Request.{Request as Wanted}
 use Rattle.vm_types.specs.declared.service.Request.TheVariants as wanted
@@ -118,20 +119,42 @@ coded_range_of config x (addr ∷ n ∷ prot ∷ []) =
     owed (is_inside at pages) (bounded 3 OutOfRange Regions) (Ok (record { proc = p; at = at; pages = pages; prot = code }))
 coded_range_of config x other = Err (miscounted 3 3 other)
 
+-- the service of this name, of what it takes: an address, a count, which is of pages or the limit, and a protection
+abbrev pub made : ServiceName → ℕ → ℕ → ℕ → Asked
+made Create at count prot = asked.Create (record { 0 = at }) count prot
+made Protect at count prot = asked.Protect (record { 0 = at }) count prot
+made Delete at count prot = asked.Delete (record { 0 = at }) count
+made Lock at count prot = asked.Lock (record { 0 = at }) count
+made Unlock at count prot = asked.Unlock (record { 0 = at }) count
+made Purge at count prot = asked.Purge (record { 0 = at }) count
+made Pin at count prot = asked.Pin (record { 0 = at }) count
+made Unpin at count prot = asked.Unpin (record { 0 = at }) count
+made Adjust at count prot = asked.Adjust count
+
+abbrev pub served : Config → ℕ → Asked → Result Says Breach
+served config p service = asked_by config p (wanted.Service service)
+
 -- x ADJWSL limit
 abbrev pub adjust_line : Config → List ℕ → List (List ℕ) → Result Says Breach
-adjust_line config x (limit ∷ []) = marked 1 Free (process config.procs x) >>= λ p. counted 3 limit >>= λ n. asked_by config p (wanted.Service (asked.Adjust n))
+adjust_line config x (limit ∷ []) = marked 1 Free (process config.procs x) >>= λ p. counted 3 limit >>= λ n. served config p (asked.Adjust n)
 adjust_line config x other = Err (miscounted 3 1 other)
 
+-- a service of a range and a protection, or of a range alone
+abbrev pub coded_line : Config → List ℕ → ServiceName → List (List ℕ) → Result Says Breach
+coded_line config x name args = coded_range_of config x args >>= λ r. served config r.proc (made name r.at r.pages r.prot)
+
+abbrev pub ranged_line : Config → List ℕ → ServiceName → List (List ℕ) → Result Says Breach
+ranged_line config x name args = range_of config x args >>= λ r. served config r.proc (made name r.at r.pages 0)
+
 abbrev pub service_line : Config → List ℕ → ServiceName → List (List ℕ) → Result Says Breach
-service_line config x Create args = coded_range_of config x args >>= λ r. asked_by config r.proc (wanted.Service (asked.Create (record { 0 = r.at }) r.pages r.prot))
-service_line config x Protect args = coded_range_of config x args >>= λ r. asked_by config r.proc (wanted.Service (asked.Protect (record { 0 = r.at }) r.pages r.prot))
-service_line config x Delete args = range_of config x args >>= λ r. asked_by config r.proc (wanted.Service (asked.Delete (record { 0 = r.at }) r.pages))
-service_line config x Lock args = range_of config x args >>= λ r. asked_by config r.proc (wanted.Service (asked.Lock (record { 0 = r.at }) r.pages))
-service_line config x Unlock args = range_of config x args >>= λ r. asked_by config r.proc (wanted.Service (asked.Unlock (record { 0 = r.at }) r.pages))
-service_line config x Purge args = range_of config x args >>= λ r. asked_by config r.proc (wanted.Service (asked.Purge (record { 0 = r.at }) r.pages))
-service_line config x Pin args = range_of config x args >>= λ r. asked_by config r.proc (wanted.Service (asked.Pin (record { 0 = r.at }) r.pages))
-service_line config x Unpin args = range_of config x args >>= λ r. asked_by config r.proc (wanted.Service (asked.Unpin (record { 0 = r.at }) r.pages))
+service_line config x Create args = coded_line config x Create args
+service_line config x Protect args = coded_line config x Protect args
+service_line config x Delete args = ranged_line config x Delete args
+service_line config x Lock args = ranged_line config x Lock args
+service_line config x Unlock args = ranged_line config x Unlock args
+service_line config x Purge args = ranged_line config x Purge args
+service_line config x Pin args = ranged_line config x Pin args
+service_line config x Unpin args = ranged_line config x Unpin args
 service_line config x Adjust args = adjust_line config x args
 
 -- the services that pin and unpin pages are of version 2

@@ -84,8 +84,8 @@ fn by_first<'a>(part: &Part, seen: &Seen, first: &[u8], text: &'a [u8]) -> Resul
     by_keyword(part, seen, keyword, text)
 }
 
-/// The line without a byte 13 at its end.
-pub(crate) fn content(line: &[u8]) -> &[u8]
+/// The line without a byte 13 at its end. Doesn't allocate.
+pub fn content(line: &[u8]) -> &[u8]
     ensures { result.now ≡ content line.now }
 {
     let count = line.len();

@@ -22,7 +22,7 @@ mod seen;
 
 pub use breach::{Bound, Breach};
 pub use first_line::plain_request;
-pub use judging::judge;
+pub use judging::{content, judge};
 pub use keywords::Keyword;
 pub use line::Line;
 pub use params::Param;

@@ -5,7 +5,7 @@ ghost use Rattle.std.specs.List.{list_any};
 ghost use Rattle.trace_words.specs.Split.{listed};
 ghost use Rattle.trace_lines.specs.Keys.{page_key};
 ghost use Rattle.trace_lines.specs.Lookups.{is_inside};
-ghost use Rattle.trace_lines.specs.Mappings.{overlaps, mapped, mapzero_line, mapsec_line};
+ghost use Rattle.trace_lines.specs.Mappings.{overlaps, mapped, mapping, mapzero_line, mapsec_line};
 ghost use Rattle.trace_lines.specs.Says.{said};
 ghost use Rattle.trace_lines.specs.Seen.{IsSeen, IsBounded};
 
@@ -60,6 +60,19 @@ fn mapped<'a>(config: &Config, seen: &Seen, m: Mapping) -> Result<Line<'a>, Brea
     Ok(Line::Map(m))
 }
 
+fn mapping(p: u32, at: u32, pages: u32, from: Origin, prot: u8) -> Mapping
+    ensures { result ≡ mapping p at pages from prot }
+{
+    let (proc, at) = (Proc(p), Addr(at));
+    Mapping {
+        proc,
+        at,
+        pages,
+        from,
+        prot,
+    }
+}
+
 pub(crate) fn mapzero<'a>(
     config: &Config,
     seen: &Seen,
@@ -76,17 +89,7 @@ pub(crate) fn mapzero<'a>(
     let at = marked(3, Bound::Multiple(512), aligned(512, addr))?;
     let pages = ranged(4, 1, 4096, n)?;
     let prot = marked(5, Bound::Free, protection(prot))?;
-    mapped(
-        config,
-        seen,
-        Mapping {
-            proc: Proc(p),
-            at: Addr(at),
-            pages,
-            from: Origin::Zero,
-            prot,
-        },
-    )
+    mapped(config, seen, mapping(p, at, pages, Origin::Zero, prot))
 }
 
 pub(crate) fn mapsec<'a>(config: &Config, seen: &Seen, args: &Words<'a>) -> Result<Line<'a>, Breach>
@@ -108,15 +111,6 @@ pub(crate) fn mapsec<'a>(config: &Config, seen: &Seen, args: &Words<'a>) -> Resu
     if first as usize + pages as usize > room {
         return Err(Breach::bounded(6, Cause::OutOfRange, Bound::Pages(room)));
     }
-    mapped(
-        config,
-        seen,
-        Mapping {
-            proc: Proc(p),
-            at: Addr(at),
-            pages,
-            from: Origin::Section(SecId(s as u32), first),
-            prot,
-        },
-    )
+    let from = Origin::Section(SecId(s as u32), first);
+    mapped(config, seen, mapping(p, at, pages, from, prot))
 }

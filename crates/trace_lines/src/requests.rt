@@ -3,14 +3,14 @@ ghost use Rattle.vm_types.specs.Configuration.{all_pins};
 ghost use Rattle.trace_words.specs.Split.{listed};
 ghost use Rattle.trace_words.specs.VerbWords.{verb_of};
 ghost use Rattle.trace_words.specs.Words.{words};
-ghost use Rattle.trace_lines.specs.Requests.{params_agree, has_frames, frames_bound, unmet, body_line, end_line, asked_by, referred, read_line, reference_line, adjust_line, service_line, is_word_of, verb_in, by_verb, request_line};
+ghost use Rattle.trace_lines.specs.Requests.{params_agree, has_frames, frames_bound, unmet, body_line, end_line, asked_by, referred, read_line, reference_line, adjust_line, service_line, made, served, is_word_of, verb_in, by_verb, request_line};
 ghost use Rattle.trace_lines.specs.Says.{said};
 
 use crate::breach::{Bound, Breach, counted, marked, miscounted};
 use crate::line::Line;
 use crate::lookups::{aligned, process};
 use crate::ranges::{bytes_of, coded_range_of, range_of, write_of};
-use trace_words::{Access, Cause, ServiceName, Verb, Words, next_word, verb_of, words_of};
+use trace_words::{Access, Cause, OpName, ServiceName, Verb, Words, next_word, verb_of, words_of};
 use vm_types::{
     Addr, Config, Mode, Op, Params, Proc, ProcSpec, Ref, Request, Service, Task, Version, Width,
 };
@@ -146,26 +146,45 @@ fn read<'a>(
     referred(config, p, mode, at, Op::Read(width))
 }
 
-fn reference<'a>(
-    config: &Config,
-    x: &[u8],
-    mode: Mode,
-    access: Access,
-    args: &Words,
-) -> Result<Line<'a>, Breach>
-    ensures { said result ≡ reference_line config.now x.now mode access (listed args.now) }
+fn reference<'a>(config: &Config, x: &[u8], op: OpName, args: &Words) -> Result<Line<'a>, Breach>
+    ensures { said result ≡ reference_line config.now x.now op.mode op.access (listed args.now) }
 {
-    match access {
-        Access::Read(width) => read(config, x, mode, width, args),
+    match op.access {
+        Access::Read(width) => read(config, x, op.mode, width, args),
         Access::Write(width) => {
             let w = write_of(config, x, width, args)?;
-            referred(config, w.proc, mode, w.at, Op::Write(width, w.value))
+            referred(config, w.proc, op.mode, w.at, Op::Write(width, w.value))
         }
         Access::Add => {
             let w = write_of(config, x, Width::Four, args)?;
-            referred(config, w.proc, mode, w.at, Op::Add(w.value))
+            referred(config, w.proc, op.mode, w.at, Op::Add(w.value))
         }
     }
+}
+
+// The service of this name, of what it takes: an address, a count, which is of pages or the limit, and a
+// protection.
+fn made(name: ServiceName, at: u32, count: u32, prot: u8) -> Service
+    ensures { result ≡ made name at count prot }
+{
+    let (at, pages) = (Addr(at), count);
+    match name {
+        ServiceName::Create => Service::Create { at, pages, prot },
+        ServiceName::Protect => Service::Protect { at, pages, prot },
+        ServiceName::Delete => Service::Delete { at, pages },
+        ServiceName::Lock => Service::Lock { at, pages },
+        ServiceName::Unlock => Service::Unlock { at, pages },
+        ServiceName::Purge => Service::Purge { at, pages },
+        ServiceName::Pin => Service::Pin { at, pages },
+        ServiceName::Unpin => Service::Unpin { at, pages },
+        ServiceName::Adjust => Service::Adjust { limit: count },
+    }
+}
+
+fn served<'a>(config: &Config, p: u32, service: Service) -> Result<Line<'a>, Breach>
+    ensures { said result ≡ served config.now p service }
+{
+    asked_by(config, p, Request::Service(service))
 }
 
 fn adjust<'a>(config: &Config, x: &[u8], args: &Words) -> Result<Line<'a>, Breach>
@@ -176,7 +195,7 @@ fn adjust<'a>(config: &Config, x: &[u8], args: &Words) -> Result<Line<'a>, Breac
     };
     let p = marked(1, Bound::Free, process(config.procs.items(), x))?;
     let limit = counted(3, limit)?;
-    asked_by(config, p, Request::Service(Service::Adjust { limit }))
+    served(config, p, Service::Adjust { limit })
 }
 
 fn service<'a>(
@@ -188,77 +207,20 @@ fn service<'a>(
     ensures { said result ≡ service_line config.now x.now name (listed args.now) }
 {
     match name {
-        ServiceName::Create => {
-            let r = coded_range_of(config, x, args)?;
-            let at = Addr(r.at);
-            let (pages, prot) = (r.pages, r.prot);
-            asked_by(
-                config,
-                r.proc,
-                Request::Service(Service::Create { at, pages, prot }),
-            )
-        }
-        ServiceName::Protect => {
-            let r = coded_range_of(config, x, args)?;
-            let at = Addr(r.at);
-            let (pages, prot) = (r.pages, r.prot);
-            asked_by(
-                config,
-                r.proc,
-                Request::Service(Service::Protect { at, pages, prot }),
-            )
-        }
-        ServiceName::Delete => {
-            let r = range_of(config, x, args)?;
-            let (at, pages) = (Addr(r.at), r.pages);
-            asked_by(
-                config,
-                r.proc,
-                Request::Service(Service::Delete { at, pages }),
-            )
-        }
-        ServiceName::Lock => {
-            let r = range_of(config, x, args)?;
-            let (at, pages) = (Addr(r.at), r.pages);
-            asked_by(
-                config,
-                r.proc,
-                Request::Service(Service::Lock { at, pages }),
-            )
-        }
-        ServiceName::Unlock => {
-            let r = range_of(config, x, args)?;
-            let (at, pages) = (Addr(r.at), r.pages);
-            asked_by(
-                config,
-                r.proc,
-                Request::Service(Service::Unlock { at, pages }),
-            )
-        }
-        ServiceName::Purge => {
-            let r = range_of(config, x, args)?;
-            let (at, pages) = (Addr(r.at), r.pages);
-            asked_by(
-                config,
-                r.proc,
-                Request::Service(Service::Purge { at, pages }),
-            )
-        }
-        ServiceName::Pin => {
-            let r = range_of(config, x, args)?;
-            let (at, pages) = (Addr(r.at), r.pages);
-            asked_by(config, r.proc, Request::Service(Service::Pin { at, pages }))
-        }
-        ServiceName::Unpin => {
-            let r = range_of(config, x, args)?;
-            let (at, pages) = (Addr(r.at), r.pages);
-            asked_by(
-                config,
-                r.proc,
-                Request::Service(Service::Unpin { at, pages }),
-            )
-        }
         ServiceName::Adjust => adjust(config, x, args),
+        ServiceName::Create | ServiceName::Protect => {
+            let r = coded_range_of(config, x, args)?;
+            served(config, r.proc, made(name, r.at, r.pages, r.prot))
+        }
+        ServiceName::Delete
+        | ServiceName::Lock
+        | ServiceName::Unlock
+        | ServiceName::Purge
+        | ServiceName::Pin
+        | ServiceName::Unpin => {
+            let r = range_of(config, x, args)?;
+            served(config, r.proc, made(name, r.at, r.pages, 0))
+        }
     }
 }
 
@@ -311,7 +273,7 @@ fn by_verb<'a>(
             marked(1, Bound::Free, process(config.procs.items(), x))?;
             Err(Breach::at_word(2, Cause::UnknownWord))
         }
-        Some(Verb::Op(op)) => reference(config, x, op.mode, op.access, args),
+        Some(Verb::Op(op)) => reference(config, x, op, args),
         Some(Verb::Service(name)) => service(config, x, name, args),
     }
 }

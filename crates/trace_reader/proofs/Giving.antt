@@ -1,11 +1,11 @@
 -- What holds of the value of each step, and of words.
 use Rattle.std.proofs.Common.{◌≡◌, ℕ, suc, ◌+◌, ◌*◌, ◌%◌, ◌^◌, ◌<◌, ◌≤◌, ◌-◌, ◌⊎◌, Bool, true, false, eqb, leb, ltb, ◌&&◌, ◌||◌, cond, List, [], ◌∷◌, length, All, Option, Some, None, Result, Ok, Err, refl, ap, ◌∙◌, arith, lit<, inl, inr}
 use native.Mathlib.Numerals.{unary_clauses}
-use Rattle.std.specs.Prelude.{IfOk, IfSome, slice_get, slice_index, codes, bytes_eq}
+use Rattle.std.specs.Prelude.{IfOk, IfSome, slice_get, slice_index, bytes_eq}
 use Rattle.std.specs.List.{list_all, position, position_or_len}
 use Rattle.std.specs.Option.{option_map_or}
 use Rattle.std.proofs.Math.Nat.{mul-le-mul_right, pow-le-pow_right}
-use Rattle.std.proofs.lemmas.Bool.{and_parts, leb-true, ltb-true, eqb-true, eqb-false}
+use Rattle.std.proofs.lemmas.Bool.{and_parts, leb-true, ltb-true, eqb-true}
 use Rattle.std.proofs.lemmas.List.Elements.{All-nil, All-cons}
 use Rattle.vm_types.specs.Configuration.{IsLetter, IsNameByte, IsName, IsSectionPage, HasPages, section_pages}
 use Rattle.vm_types.specs.Kinds.{is_paged_kind, paged_of}
@@ -19,8 +19,8 @@ use Rattle.trace_words.specs.Judged.{◌>>=◌, owed}
 use Rattle.trace_words.specs.Letter.{letter}
 use Rattle.trace_words.specs.Name.{is_capital, is_name_byte, is_name}
 use Rattle.trace_words.specs.Number.{decimal, within, decimal_within, hexadecimal, hexadecimal_digit, decimal_digit, spelled, has_length}
-use Rattle.trace_words.specs.Protection.{kernel_code, executive_code, other_code, protection}
-use Rattle.trace_words.specs.Words.{is}
+use Rattle.trace_words.specs.Protection.{protection}
+use Rattle.trace_words.proofs.Codes.{IsNamed, protection_named}
 use Rattle.trace_lines.specs.declared.breach.Bound.{Bound}
 use Rattle.trace_lines.specs.declared.breach.Breach.{Breach}
 use Rattle.trace_lines.specs.Breaches.{marked}
@@ -150,34 +150,8 @@ name_gives word e =
 
 -- protection codes
 
-choose : (test : Bool) (n : ℕ) (rest : Option ℕ) → IsCode n → IfSome rest IsCode → IfSome (cond test (Some n) rest) IsCode
-choose true n rest p q = p
-choose false n rest p q = q
-
-code : (n : ℕ) → ltb n 16 ≡ true → eqb n 1 ≡ false → IsCode n
-code n small named = record { small = ltb-true n 16 small; named = eqb-false n 1 named }
-
-kernel_gives : (w : List ℕ) → IfSome (kernel_code w) IsCode
-kernel_gives w =
-    choose (is w (codes "NA")) 0 _ (code 0 refl refl) (choose (is w (codes "KW")) 2 _ (code 2 refl refl) (choose (is w (codes "KR")) 3 _ (code 3 refl refl)
-    (choose (is w (codes "ERKW")) 6 _ (code 6 refl refl) (choose (is w (codes "SRKW")) 10 _ (code 10 refl refl) (choose (is w (codes "URKW")) 14 None (code 14 refl refl) tt)))))
-
-executive_gives : (w : List ℕ) → IfSome (executive_code w) IsCode
-executive_gives w =
-    choose (is w (codes "EW")) 5 _ (code 5 refl refl) (choose (is w (codes "ER")) 7 _ (code 7 refl refl)
-    (choose (is w (codes "SREW")) 9 _ (code 9 refl refl) (choose (is w (codes "UREW")) 13 None (code 13 refl refl) tt)))
-
-other_gives : (w : List ℕ) → IfSome (other_code w) IsCode
-other_gives w =
-    choose (is w (codes "UW")) 4 _ (code 4 refl refl) (choose (is w (codes "SW")) 8 _ (code 8 refl refl) (choose (is w (codes "SR")) 11 _ (code 11 refl refl)
-    (choose (is w (codes "URSW")) 12 _ (code 12 refl refl) (choose (is w (codes "UR")) 15 None (code 15 refl refl) tt))))
-
-or_else : (o : Option ℕ) (rest : Result ℕ Cause) → IfSome o IsCode → IfOk rest IsCode → IfOk (option_map_or Ok o rest) IsCode
-or_else None rest p q = q
-or_else (Some n) rest p q = p
-
 pub protection_gives : (w : List ℕ) → IfOk (protection w) IsCode
-protection_gives w = or_else (kernel_code w) _ (kernel_gives w) (or_else (executive_code w) _ (executive_gives w) (or_else (other_code w) (Err _) (other_gives w) tt))
+protection_gives w = weaker (protection w) (IsNamed w) IsCode (protection_named w) (λ code h. h.0)
 
 -- ranges
 

@@ -1,8 +1,8 @@
 -- What an answer of the reader of a log's front says. Source: this project's own.
 use Rattle.std.specs.Prelude.{◌≡◌, ℕ, ◌+◌, ◌-◌, ◌≤◌, Bool, true, false, List, [], ◌∷◌, ◌++◌, length, drop, Option, Some, Result, Ok, Err, IsOk, IfSome}
 use Rattle.vm_types.specs.Configuration.{IsWellFormed}
+use Rattle.vm_types.specs.Counts.{Rose}
 use Rattle.vm_types.specs.declared.config.Config.{Config}
-use Rattle.outside_io.specs.Causes.{Rose}
 use Rattle.outside_io.specs.declared.lines.Line.TheVariants.{Text}
 use Rattle.outside_io.specs.HandedOut.{HandsOut, Takes}
 use Rattle.trace_lines.specs.declared.part.Part.{Part}

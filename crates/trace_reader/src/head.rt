@@ -19,7 +19,7 @@ use crate::read::Reader;
 use arrayvec::ArrayVec;
 use outside_io::{Line, Lines, Source, keep_front};
 use std::alloc::Global;
-use trace_lines::{Breach, Place, judge};
+use trace_lines::{Breach, Place, content, judge};
 use trace_words::{Cause, is, next_word};
 use vm_types::Config;
 
@@ -33,22 +33,10 @@ enum AfterEnd {
     Unknown,
 }
 
-// The line without a byte 13 at its end.
-fn without_return(line: &[u8]) -> &[u8]
-    ensures { result.now ≡ content line.now }
-{
-    let count = line.len();
-    if count > 0 && line[count - 1] == b'\r' {
-        line.split_at(count - 1).0
-    } else {
-        line
-    }
-}
-
 fn by_words(line: &[u8]) -> AfterEnd
     ensures { said_by_words result ≡ by_log_word (words (content line.now)) }
 {
-    let Some((first, rest)) = next_word(without_return(line)) else {
+    let Some((first, rest)) = next_word(content(line)) else {
         return AfterEnd::Unknown;
     };
     if !is(first, b"LOG") {

@@ -25,6 +25,7 @@ use Rattle.vm_text.specs.Names.{process_name, address_text}
 use Rattle.vm_text.specs.References.{op_text, reference_words}
 use Rattle.vm_text.specs.Services.{protection_name, service_name, operands, service_words}
 use Rattle.trace_words.specs.Number.{hexadecimal}
+use Rattle.trace_words.proofs.Codes.{protection_read}
 use Rattle.trace_lines.specs.declared.keywords.Keyword.TheVariants as keyword
 use Rattle.trace_lines.specs.declared.part.Part.{Part}
 use Rattle.trace_lines.specs.declared.places.Place.{Place}
@@ -38,7 +39,7 @@ use Rattle.trace_spelling.specs.Lines.{Line, request_words}
 use Rattle.trace_spelling.specs.Lines as lines
 use Rattle.trace_spelling.proofs.Numbers.{number_read, within_read, hexadecimal_read}
 use Rattle.trace_spelling.proofs.Printing.{IsShortWord, literal, number_word, hex_word}
-use Rattle.trace_spelling.proofs.Words.{letter_word, op_read, op_word, service_read, service_word, protection_read, protection_word}
+use Rattle.trace_spelling.proofs.Words.{letter_word, op_read, op_word, service_read, service_word, protection_word}
 use Rattle.trace_spelling.proofs.Leading.{IsLine, line_of, Leads, leads_line, leads_each}
 use Rattle.trace_spelling.proofs.Lists.{member, count_before}
 use Rattle.trace_spelling.proofs.Headers.{keyword_says}

@@ -15,6 +15,7 @@ use Rattle.vm_types.specs.declared.config.Section.{Section}
 use Rattle.vm_types.specs.declared.config.Version.{Version}
 use Rattle.vm_text.specs.Names.{process_name, section_name, address_text, name_of}
 use Rattle.vm_text.specs.Services.{protection_name}
+use Rattle.trace_words.proofs.Codes.{protection_read}
 use Rattle.trace_lines.specs.declared.keywords.Keyword.TheVariants as keyword
 use Rattle.trace_lines.specs.declared.part.Part.{Part}
 use Rattle.trace_lines.specs.Declarations.{are_ordered}
@@ -24,7 +25,7 @@ use Rattle.trace_lines.specs.Says as says
 use Rattle.trace_spelling.specs.Lines.{process_line, process_lines, map_words, map_line}
 use Rattle.trace_spelling.proofs.Numbers.{number_read, within_read, hexadecimal_read}
 use Rattle.trace_spelling.proofs.Printing.{IsShortWord, literal, number_word, hex_word, name_word}
-use Rattle.trace_spelling.proofs.Words.{letter_read, letter_word, name_passes, protection_read, protection_word}
+use Rattle.trace_spelling.proofs.Words.{letter_read, letter_word, name_passes, protection_word}
 use Rattle.trace_spelling.proofs.Leading.{line_of, Leads, leads_none, leads_line, leads_append, leads_each}
 use Rattle.trace_spelling.proofs.Lists.{same_bytes, member, none_before, count_before, sum_before, parted, position_at}
 use Rattle.trace_spelling.proofs.Headers.{keyword_says, declaring}

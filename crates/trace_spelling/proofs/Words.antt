@@ -27,7 +27,6 @@ use Rattle.trace_words.specs.Letter.{letter}
 use Rattle.trace_words.specs.Name.{is_capital, is_name_byte, is_name}
 use Rattle.trace_words.specs.Number.{hexadecimal_digit}
 use Rattle.trace_words.specs.Pairs.{paired, pairs}
-use Rattle.trace_words.specs.Protection.{protection}
 use Rattle.trace_words.specs.VerbWords.{verb_of}
 use Rattle.trace_lines.specs.Requests.{verb_in}
 use Rattle.trace_spelling.specs.Lines.{pairs_text}
@@ -69,25 +68,6 @@ name_passes word is =
     (passes_each is_name_byte word (λ i lt. name_byte_passes (get_or word i 0) (is.bytes i 0 lt)))
 
 -- protection codes
-
-pub protection_read : (code : ℕ) → IsCode code → protection (protection_name code) ≡ Ok code
-protection_read zero h = refl
-protection_read (suc zero) h = absurd (h.named refl)
-protection_read (suc (suc zero)) h = refl
-protection_read (suc (suc (suc zero))) h = refl
-protection_read (suc (suc (suc (suc zero)))) h = refl
-protection_read (suc (suc (suc (suc (suc zero))))) h = refl
-protection_read (suc (suc (suc (suc (suc (suc zero)))))) h = refl
-protection_read (suc (suc (suc (suc (suc (suc (suc zero))))))) h = refl
-protection_read (suc (suc (suc (suc (suc (suc (suc (suc zero)))))))) h = refl
-protection_read (suc (suc (suc (suc (suc (suc (suc (suc (suc zero))))))))) h = refl
-protection_read (suc (suc (suc (suc (suc (suc (suc (suc (suc (suc zero)))))))))) h = refl
-protection_read (suc (suc (suc (suc (suc (suc (suc (suc (suc (suc (suc zero))))))))))) h = refl
-protection_read (suc (suc (suc (suc (suc (suc (suc (suc (suc (suc (suc (suc zero)))))))))))) h = refl
-protection_read (suc (suc (suc (suc (suc (suc (suc (suc (suc (suc (suc (suc (suc zero))))))))))))) h = refl
-protection_read (suc (suc (suc (suc (suc (suc (suc (suc (suc (suc (suc (suc (suc (suc zero)))))))))))))) h = refl
-protection_read (suc (suc (suc (suc (suc (suc (suc (suc (suc (suc (suc (suc (suc (suc (suc zero))))))))))))))) h = refl
-protection_read (suc (suc (suc (suc (suc (suc (suc (suc (suc (suc (suc (suc (suc (suc (suc (suc c)))))))))))))))) h = absurd (omega (arith, h.small))
 
 pub protection_word : (code : ℕ) → IsCode code → IsShortWord 4 (protection_name code)
 protection_word zero h = literal 4 _ refl refl refl

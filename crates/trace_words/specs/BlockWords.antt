@@ -51,27 +51,27 @@ abbrev pub section_parts : Option (List ℕ × List ℕ) → Result Named Cause
 section_parts None = Err UnknownWord
 section_parts (Some parts) = owed (is_name parts.0) UnknownWord (plain_number parts.1 >>= λ page. Ok (Section parts.0 page))
 
-abbrev pub section_block : List ℕ → Result Named Cause
-section_block rest = section_parts (cut_at 47 rest)
+abbrev pub section_block_name : List ℕ → Result Named Cause
+section_block_name rest = section_parts (cut_at 47 rest)
 
 -- A/n
 abbrev pub swap_parts : Option (List ℕ × List ℕ) → Result Named Cause
 swap_parts None = Err UnknownWord
 swap_parts (Some parts) = letter parts.0 >>= λ p. plain_number parts.1 >>= λ slot. Ok (Swap p slot)
 
-abbrev pub swap_block : List ℕ → Result Named Cause
-swap_block rest = swap_parts (cut_at 47 rest)
+abbrev pub swap_block_name : List ℕ → Result Named Cause
+swap_block_name rest = swap_parts (cut_at 47 rest)
 
-abbrev pub page_file_block : List ℕ → Result Named Cause
-page_file_block rest = plain_number rest >>= λ block. Ok (PageFile block)
+abbrev pub page_file_block_name : List ℕ → Result Named Cause
+page_file_block_name rest = plain_number rest >>= λ block. Ok (PageFile block)
 
 -- by what stands before the colon
 abbrev pub of_kind : Option (List ℕ × List ℕ) → Result Named Cause
 of_kind None = Err UnknownWord
 of_kind (Some parts) =
-    if is parts.0 (codes "S") then section_block parts.1
-    else if is parts.0 (codes "P") then page_file_block parts.1
-    else if is parts.0 (codes "X") then swap_block parts.1
+    if is parts.0 (codes "S") then section_block_name parts.1
+    else if is parts.0 (codes "P") then page_file_block_name parts.1
+    else if is parts.0 (codes "X") then swap_block_name parts.1
     else Err UnknownWord
 
 -- S:NAME/n, P:n and X:A/n

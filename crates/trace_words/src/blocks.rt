@@ -1,6 +1,6 @@
 ghost use Rattle.std.specs.Prelude.{◌≡◌};
 ghost use Rattle.std.specs.List.{list_all};
-ghost use Rattle.trace_words.specs.BlockWords.{is_digit, is_plain, plain_number, named, section_block, page_file_block, swap_block, block_name};
+ghost use Rattle.trace_words.specs.BlockWords.{is_digit, is_plain, plain_number, named, section_block_name, page_file_block_name, swap_block_name, block_name};
 
 use crate::cause::Cause;
 use crate::letters::letter;
@@ -48,8 +48,8 @@ fn plain_number(word: &[u8]) -> Result<u32, Cause>
     }
 }
 
-fn section_block(rest: &[u8]) -> Result<BlockName<'_>, Cause>
-    ensures { named result ≡ section_block rest.now }
+fn section_block_name(rest: &[u8]) -> Result<BlockName<'_>, Cause>
+    ensures { named result ≡ section_block_name rest.now }
 {
     let Some((name, page)) = cut(rest, b'/') else {
         return Err(Cause::UnknownWord);
@@ -61,8 +61,8 @@ fn section_block(rest: &[u8]) -> Result<BlockName<'_>, Cause>
     Ok(BlockName::Section(name, page))
 }
 
-fn swap_block(rest: &[u8]) -> Result<BlockName<'_>, Cause>
-    ensures { named result ≡ swap_block rest.now }
+fn swap_block_name(rest: &[u8]) -> Result<BlockName<'_>, Cause>
+    ensures { named result ≡ swap_block_name rest.now }
 {
     let Some((name, slot)) = cut(rest, b'/') else {
         return Err(Cause::UnknownWord);
@@ -72,8 +72,8 @@ fn swap_block(rest: &[u8]) -> Result<BlockName<'_>, Cause>
     Ok(BlockName::Swap(proc, slot))
 }
 
-fn page_file_block(rest: &[u8]) -> Result<BlockName<'_>, Cause>
-    ensures { named result ≡ page_file_block rest.now }
+fn page_file_block_name(rest: &[u8]) -> Result<BlockName<'_>, Cause>
+    ensures { named result ≡ page_file_block_name rest.now }
 {
     let block = plain_number(rest)?;
     Ok(BlockName::PageFile(block))
@@ -90,11 +90,11 @@ pub fn block_name(word: &[u8]) -> Result<BlockName<'_>, Cause>
         return Err(Cause::UnknownWord);
     };
     if is(kind, b"S") {
-        section_block(rest)
+        section_block_name(rest)
     } else if is(kind, b"P") {
-        page_file_block(rest)
+        page_file_block_name(rest)
     } else if is(kind, b"X") {
-        swap_block(rest)
+        swap_block_name(rest)
     } else {
         Err(Cause::UnknownWord)
     }

@@ -24,6 +24,7 @@ use Rattle.vm_services.specs.declared.next.ServeNext.TheVariants.{Again, Answere
 -- what is given for a service of a resident process may be made, if there is room
 pub may_serve : (s : History) (seat : Seat) (x : Service) → IsReadySeat s seat → IsServiceOf s.config.version x → IsWellFormedService x → owed s.past + 64 ≤ s.spare → MayServe s seat (at_service s seat x)
 may_serve s seat x ready known formed room = record {
+  ready = ready;
   legal = subst (λ (g : GivenServe). AreLegal s.config s.past seat.0 g.made) (if_true (is_resident ((pager s).status seat.0)) _ _ (ap is_resident ready.resident)) (serve_legal s.config s.past seat.0 (ready_of s seat ready) x known formed);
   room = room;
 }

@@ -7,6 +7,7 @@ use Rattle.vm_journal.specs.declared.entry.What.{What}
 use Rattle.vm_journal.specs.declared.entry.What.TheVariants as what
 use Rattle.pager_model.specs.Serve.{GivenServe, ServeIs, ServeWhy as Reason, serve_again, serve_answered, serve_in_flight, serve_modified_full, serve_more, serve_not_resident}
 use Rattle.call_laws.specs.AreLegal.{AreLegal}
+use Rattle.call_begins.specs.ReadySeat.{IsReadySeat}
 use Rattle.vm_state.specs.History.{History, owed}
 use Rattle.vm_state.specs.LiftsLand.{added_each}
 use Rattle.vm_services.specs.declared.next.ServeNext.{ServeNext}
@@ -41,7 +42,9 @@ pub record Serves (before after : History) (seat : Seat) (g : GivenServe) (next 
   pub history : after ≡ added_each seat g.made before
   pub answer : Some next ≡ returned g.answer (last_answer g.made)
 
--- the entries that are given may be made: each is legal after those before it, and there is room for them
+-- the entries that are given may be made: the seat's process is ready for a service, each entry is legal after those
+-- before it, and there is room for them
 pub record MayServe (s : History) (seat : Seat) (g : GivenServe) : Type 0 where
+  pub ready : IsReadySeat s seat
   pub legal : AreLegal s.config s.past seat.0 g.made
   pub room : owed s.past + 64 ≤ s.spare

@@ -4,7 +4,6 @@ ghost use Rattle.vm_types.specs.declared.service.Service.{Service};
 ghost use Rattle.pager_model.specs.Serve.{is_unmapped};
 ghost use Rattle.vm_state.specs.History.{pager};
 ghost use Rattle.vm_services.specs.Cases.{at_delete, at_rest, at_service};
-ghost use Rattle.call_begins.specs.ReadySeat.{IsReadySeat};
 ghost use Rattle.vm_services.specs.Serves.{MayServe, Serves};
 
 use crate::evictions::evict;
@@ -18,7 +17,6 @@ use vm_types::{Addr, Answer, Proc, Seat, Service};
 
 /// Deletes the pages of a range, if each is mapped.
 pub fn delete<B: Block>(state: &mut State<B>, seat: Seat, at: Addr, pages: u32) -> ServeNext
-    requires ready { IsReadySeat state.old seat }
     requires range { IsRange at.0 pages }
     requires may { MayServe state.old seat (at_service state.old seat (Service.Delete at pages)) }
     ensures { Serves state.old state.new seat (at_service state.old seat (Service.Delete at pages)) result }
@@ -33,7 +31,6 @@ pub fn delete<B: Block>(state: &mut State<B>, seat: Seat, at: Addr, pages: u32) 
 
 /// Each page of the range is mapped: the lowest valid one is evicted.
 fn delete_mapped<B: Block>(state: &mut State<B>, seat: Seat, at: Addr, pages: u32) -> ServeNext
-    requires ready { IsReadySeat state.old seat }
     requires range { IsRange at.0 pages }
     requires may { MayServe state.old seat (at_delete state.old seat at pages) }
     ensures { Serves state.old state.new seat (at_delete state.old seat at pages) result }
@@ -46,7 +43,6 @@ fn delete_mapped<B: Block>(state: &mut State<B>, seat: Seat, at: Addr, pages: u3
 
 /// No page of the range is valid: its transfers are waited for, and then it is deleted.
 fn delete_rest<B: Block>(state: &mut State<B>, seat: Seat, at: Addr, pages: u32) -> ServeNext
-    requires ready { IsReadySeat state.old seat }
     requires range { IsRange at.0 pages }
     requires may { MayServe state.old seat (at_rest state.old seat at pages) }
     ensures { Serves state.old state.new seat (at_rest state.old seat at pages) result }

@@ -1,6 +1,5 @@
 ghost use Rattle.std.specs.Prelude.{◌≡◌};
 ghost use Rattle.vm_services.specs.Cases.{at_evict};
-ghost use Rattle.call_begins.specs.ReadySeat.{IsReadySeat};
 ghost use Rattle.vm_services.specs.Serves.{MayServe, Serves};
 
 use crate::next::{ServeNext, ServeWhy};
@@ -12,8 +11,7 @@ use vm_types::{Addr, Proc, Seat};
 
 /// Evicts a valid page, unless its frame has to wait for the modified list.
 pub fn evict<B: Block>(state: &mut State<B>, seat: Seat, vpn: u32, why: EvictWhy) -> ServeNext
-    requires ready { IsReadySeat state.old seat }
-    requires may { MayServe state.old seat (at_evict state.old seat vpn why) }
+    requires { MayServe state.old seat (at_evict state.old seat vpn why) }
     ensures { Serves state.old state.new seat (at_evict state.old seat vpn why) result }
 {
     match state.valid_frame(Proc(seat.0), vpn) {

@@ -2,7 +2,6 @@ ghost use Rattle.std.specs.Prelude.{◌≡◌};
 ghost use Rattle.vm_types.specs.WellFormed.{IsRange};
 ghost use Rattle.vm_types.specs.declared.service.Service.{Service};
 ghost use Rattle.vm_services.specs.Cases.{at_service};
-ghost use Rattle.call_begins.specs.ReadySeat.{IsReadySeat};
 ghost use Rattle.vm_services.specs.Serves.{MayServe, Serves};
 
 use crate::evictions::evict;
@@ -15,7 +14,6 @@ use vm_types::{Addr, Answer, Proc, Seat, Service};
 
 /// Purges a range: its lowest valid page that isn't locked is evicted, until there is none.
 pub fn purge<B: Block>(state: &mut State<B>, seat: Seat, at: Addr, pages: u32) -> ServeNext
-    requires ready { IsReadySeat state.old seat }
     requires range { IsRange at.0 pages }
     requires may { MayServe state.old seat (at_service state.old seat (Service.Purge at pages)) }
     ensures { Serves state.old state.new seat (at_service state.old seat (Service.Purge at pages)) result }

@@ -6,7 +6,7 @@ ghost use Rattle.pager_model.specs.Lookups.{is_resident};
 ghost use Rattle.pager_model.specs.Serve.{serve_gives};
 ghost use Rattle.vm_state.specs.History.{MayAdd, added, entry_by, owed, pager};
 ghost use Rattle.vm_services.specs.Cases.{at_service};
-ghost use Rattle.call_begins.specs.ReadySeat.{IsIdleSeat, IsReadySeat};
+ghost use Rattle.call_begins.specs.ReadySeat.{IsIdleSeat};
 ghost use Rattle.vm_services.specs.Serves.{MayServe, Serves};
 ghost use Rattle.vm_services.specs.declared.next.ServeNext.{ServeNext};
 
@@ -51,7 +51,6 @@ fn is_resident(status: ProcStatus) -> bool
 
 /// The process is resident.
 fn resident<B: Block>(state: &mut State<B>, seat: Seat, s: Service) -> ServeNext
-    requires ready { IsReadySeat state.old seat }
     requires formed { IsWellFormedService s }
     requires may { MayServe state.old seat (at_service state.old seat s) }
     ensures { Serves state.old state.new seat (at_service state.old seat s) result }

@@ -13,7 +13,7 @@ use Rattle.vm_types.specs.declared.names.Page.{Page}
 use Rattle.vm_types.specs.declared.reply.Answer.TheVariants as answer
 use Rattle.vm_journal.specs.declared.entry.Entry.{Entry}
 use Rattle.pager_model.specs.Forget.{holder, range_of}
-use Rattle.pager_model.specs.Lookups.{entry_of as valid_of}
+use Rattle.pager_model.specs.Lookups.{entry_of}
 use Rattle.pager_model.specs.Maps.{Map, Mapped}
 use Rattle.pager_model.specs.Pager.{Pager, Valid}
 use Rattle.pager_model.specs.Run.{pager_after}
@@ -32,7 +32,7 @@ entry_there : (config : Config) (m : Map) (valid : List Valid) (page : ℕ → O
 unfolding pte_of
 entry_there config m valid page lies p v = by (m p v)
   where
-    by : (o : Option Mapped) → is_some (pte_at config p v (holder config page) lies (valid_of valid p v) o) ≡ is_some o
+    by : (o : Option Mapped) → is_some (pte_at config p v (holder config page) lies (entry_of valid p v) o) ≡ is_some o
     by None = refl
     by (Some x) = refl
 

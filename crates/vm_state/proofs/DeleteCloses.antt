@@ -14,7 +14,7 @@ use Rattle.run_record.specs.RunRecord.{Recorded}
 use Rattle.vm_journal.specs.declared.entry.Entry.{Entry}
 use Rattle.vm_journal.specs.declared.entry.What.TheVariants as what
 use Rattle.page_file.specs.Blocks.{Blocks, IsAssignedBlock, assigned_blocks}
-use Rattle.page_tables.specs.PageTables.{IsMapped, PageTables, entry_of as pte_in}
+use Rattle.page_tables.specs.PageTables.{IsMapped, PageTables, pte_in}
 use Rattle.pfn_database.specs.Frames.{Frames, row_of}
 use Rattle.pfn_database.specs.Rows.{IsOneOf}
 use Rattle.pte_forms.specs.declared.pte.Pte.{Pte}

@@ -20,7 +20,7 @@ use Rattle.vm_types.specs.declared.reply.Reply.TheVariants as reply
 use Rattle.vm_text.specs.References.{Answers}
 use Rattle.vm_journal.specs.declared.entry.Entry.{Entry}
 use Rattle.vm_journal.specs.declared.entry.What.TheVariants as what
-use Rattle.page_tables.specs.PageTables.{look_of, entry_of as pte_in}
+use Rattle.page_tables.specs.PageTables.{look_of, pte_in}
 use Rattle.page_tables.specs.declared.look.Look.{Look}
 use Rattle.pfn_database.specs.Frames.{Frames, row_of}
 use Rattle.pfn_database.specs.Rows.{FitsModify}

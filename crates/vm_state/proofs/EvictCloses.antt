@@ -15,7 +15,7 @@ use Rattle.vm_journal.specs.declared.entry.Entry.{Entry}
 use Rattle.vm_journal.specs.declared.entry.EvictWhy.{EvictWhy}
 use Rattle.vm_journal.specs.declared.entry.What.TheVariants as what
 use Rattle.global_pages.specs.GlobalPages.{GlobalPages}
-use Rattle.page_tables.specs.PageTables.{PageTables, entry_of as pte_in}
+use Rattle.page_tables.specs.PageTables.{PageTables, pte_in}
 use Rattle.pte_forms.specs.declared.pte.Place.{Place}
 use Rattle.pte_forms.specs.declared.pte.Pte.{Pte}
 use Rattle.pfn_database.specs.Frames.{Frames, row_of}

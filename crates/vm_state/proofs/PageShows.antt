@@ -18,7 +18,7 @@ use Rattle.vm_journal.specs.declared.entry.Entry.{Entry}
 use Rattle.pte_forms.specs.declared.pte.Place.{Place}
 use Rattle.pte_forms.specs.declared.pte.Place.TheVariants as place
 use Rattle.pte_forms.specs.declared.pte.Pte.{Pte}
-use Rattle.page_tables.specs.PageTables.{entry_of as pte_in}
+use Rattle.page_tables.specs.PageTables.{pte_in}
 use Rattle.section_table.specs.SectionTable.{behind_of}
 use Rattle.global_pages.specs.GlobalPages.{frame_of as global_frame}
 use Rattle.pager_model.specs.Advance.{lies_in}

@@ -12,7 +12,7 @@ use Rattle.page_lists.specs.Lists.{IsNext, count_of}
 use Rattle.page_lists.specs.declared.list_name.ListName.{ListName}
 use Rattle.page_lists.specs.declared.list_name.ListName.TheVariants as name
 use Rattle.pfn_database.specs.Frames.{lists_of}
-use Rattle.page_tables.specs.PageTables.{entry_of as pte_in}
+use Rattle.page_tables.specs.PageTables.{pte_in}
 use Rattle.pager_model.specs.Lookups.{entry_of, slot_of}
 use Rattle.pager_model.specs.Pager.{Pager, Valid}
 use Rattle.pager_model.specs.Run.{pager_after}

@@ -15,7 +15,7 @@ use Rattle.vm_types.specs.declared.service.Service.TheVariants as service
 use Rattle.vm_journal.specs.declared.entry.Entry.{Entry}
 use Rattle.vm_journal.specs.declared.entry.What.TheVariants as what
 use Rattle.pfn_database.specs.Frames.{Frames}
-use Rattle.page_tables.specs.PageTables.{PageTables, entry_of}
+use Rattle.page_tables.specs.PageTables.{PageTables, pte_in}
 use Rattle.pte_forms.specs.declared.pte.Place.TheVariants as place
 use Rattle.pte_forms.specs.declared.pte.Pte.{Pte}
 use Rattle.section_table.specs.SectionTable.{SectionTable, behind_of}
@@ -74,13 +74,13 @@ module _ {B : Type 0} {seen : B → BlockView} {tells : Tells} {config : Config}
         rw (is, marked) (answered_closes (service.Unlock at pages) (answer.Count n) legal paid store.frames _ (unlocked_parts config past (pager_after config past) seat fields before.parts y read_y at pages n legal x read))
 
     pub protected_closes : (at : Addr) (pages prot : ℕ) (tables' : PageTables) → tables'.procs ≡ (fields.tables).procs
-        → ((q w : ℕ) → entry_of tables' q w ≡ ranged (option_map (with_code prot)) seat.0 at.0 pages (entry_of fields.tables) q w)
+        → ((q w : ℕ) → pte_in tables' q w ≡ ranged (option_map (with_code prot)) seat.0 at.0 pages (pte_in fields.tables) q w)
         → Closes (service.Protect at pages prot) answer.Good (record fields { tables = tables'; spoken = said })
     protected_closes at pages prot tables' procs changed legal paid =
         rw is (answered_closes (service.Protect at pages prot) answer.Good legal paid store.frames _ (protected_parts config past (pager_after config past) seat fields before.parts y read_y at pages prot legal tables' procs changed))
 
     pub created_closes : (at : Addr) (pages prot : ℕ) (tables' : PageTables) → tables'.procs ≡ (fields.tables).procs
-        → ((q w : ℕ) → entry_of tables' q w ≡ ranged (λ (old : Option Pte). Some (record { prot = prot; place = place.DemandZero })) seat.0 at.0 pages (entry_of fields.tables) q w)
+        → ((q w : ℕ) → pte_in tables' q w ≡ ranged (λ (old : Option Pte). Some (record { prot = prot; place = place.DemandZero })) seat.0 at.0 pages (pte_in fields.tables) q w)
         → (sections' : SectionTable) → sections'.procs ≡ (fields.sections).procs → sections'.parts ≡ (fields.sections).parts
         → ((q w : ℕ) → behind_of sections' q w ≡ ranged (λ (old : Option Origin). Some origin.Zero) seat.0 at.0 pages (behind_of fields.sections) q w)
         → Closes (service.Create at pages prot) answer.Good (record fields { tables = tables'; sections = sections'; spoken = said })

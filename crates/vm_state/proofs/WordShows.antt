@@ -9,7 +9,7 @@ use Rattle.pte_forms.specs.Word.{word_of}
 use Rattle.pte_forms.specs.declared.pte.Place.{Place}
 use Rattle.pte_forms.specs.declared.pte.Place.TheVariants.{Valid as Valid_place}
 use Rattle.pte_forms.specs.declared.pte.Pte.{Pte}
-use Rattle.page_tables.specs.PageTables.{entry_of as pte_in}
+use Rattle.page_tables.specs.PageTables.{pte_in}
 use Rattle.pfn_database.specs.Frames.{row_of}
 use Rattle.pfn_database.specs.declared.row.Row.{Row}
 use Rattle.pager_model.specs.Lookups.{entry_of}

@@ -20,7 +20,7 @@ use Rattle.vm_journal.specs.declared.entry.What.TheVariants as what
 use Rattle.global_pages.specs.GlobalPages.{GlobalPages, count_of}
 use Rattle.page_lists.specs.Lists.{without}
 use Rattle.page_file.specs.Blocks.{Blocks}
-use Rattle.page_tables.specs.PageTables.{PageTables, IsEntry, entry_of as pte_in}
+use Rattle.page_tables.specs.PageTables.{PageTables, IsEntry, pte_in}
 use Rattle.pte_forms.specs.declared.pte.Place.TheVariants as place
 use Rattle.pte_forms.specs.declared.pte.Pte.{Pte}
 use Rattle.pfn_database.specs.Frames.{Frames, row_of}

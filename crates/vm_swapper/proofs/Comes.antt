@@ -1,30 +1,16 @@
--- The cases of a step of a process that comes back, as the readers of a state show them.
-use Rattle.std.proofs.Common.{◌≡◌, ℕ, false, List, Some, None, length, nat_eq, sym, ap, ◌∙◌}
+-- The reads of a process that comes back, as the readers of a state show them.
+use Rattle.std.proofs.Common.{◌≡◌, ℕ, false, List, length, nat_eq, sym, ap, ◌∙◌}
 use Rattle.vm_types.specs.Adjust.{lesser}
 use Rattle.pager_model.specs.Given.{Target, given, reads_made}
-use Rattle.pager_model.specs.Swap.{come_free, come_out, swap_carry}
+use Rattle.pager_model.specs.Swap.{swap_carry}
 use Rattle.call_begins.proofs.Branches.{if_false}
 use Rattle.vm_state.specs.History.{History, pager}
-use Rattle.vm_swapper.specs.Cases.{at_back, at_come, at_out, at_reads, at_resident}
-use Rattle.vm_swapper.specs.Looks.{first}
+use Rattle.vm_swapper.specs.Cases.{at_reads}
 use Rattle.vm_swapper.specs.Runs.{address_at, gathered, reads_from}
-use Rattle.vm_swapper.specs.declared.looks.Look.TheVariants as look
 use Rattle.vm_swapper.proofs.Gathered.{reads_are}
 
 module _ (s : History) (p : ℕ) where
-  pub free_found : (n : ℕ) → Some n ≡ first s.config s.past (pager s) p look.OnFree → at_come s p ≡ at_back s p n
-  free_found n is = ap (come_free s.config s.past (pager s) p) (sym is)
-
-  pub free_none : None ≡ first s.config s.past (pager s) p look.OnFree → at_come s p ≡ at_out s p
-  free_none is = ap (come_free s.config s.past (pager s) p) (sym is)
-
-  pub out_found : (n : ℕ) → Some n ≡ first s.config s.past (pager s) p look.Out → at_out s p ≡ at_reads s p n
-  out_found n is = ap (come_out s.config s.past (pager s) p) (sym is)
-
-  pub out_none : None ≡ first s.config s.past (pager s) p look.Out → at_out s p ≡ at_resident s p
-  out_none is = ap (come_out s.config s.past (pager s) p) (sym is)
-
-  -- ---- the reads of a run
+  -- the reads of a run
   pub reads_of : (n free most : ℕ) (addresses : List ℕ) → free ≡ length (pager s).free → nat_eq free 0 ≡ false → addresses ≡ gathered (address_at s.config (pager s) p) n most → most ≡ lesser s.config.params.pfc (length (pager s).free)
       → at_reads s p n ≡ given (reads_made (pager s).page (pager s).free (reads_from p n addresses)) swap_carry
   reads_of n free most addresses is some items most_is =

@@ -1,6 +1,7 @@
 -- What a step leaves, by what was given for it.
 use Rattle.std.proofs.Common.{◌≡◌, List, [], ◌∷◌, refl, sym, subst, arith}
 use Rattle.vm_types.specs.BlockView.{BlockView, Tells}
+use Rattle.vm_types.specs.declared.names.Proc.{Proc}
 use Rattle.vm_types.specs.declared.names.Seat.{Seat}
 use Rattle.vm_journal.specs.declared.entry.What.{What}
 use Rattle.pager_model.specs.Given.{given}
@@ -25,8 +26,8 @@ may_work s seat may formed run = record {
   seat_there = let there = may.there in omega (arith, there);
 }
 
-pub may_as : (s : History) (seat : Seat) (g g' : GivenSwap) → g ≡ g' → MaySwap s seat g → MaySwap s seat g'
-may_as s seat g g' same may = subst (λ (x : GivenSwap). MaySwap s seat x) same may
+pub may_as : {B : Type 0} {s : History} {seat : Seat} {p : Proc} {old : CarrierView B} (g g' : GivenSwap) → g ≡ g' → MaySwap s seat p g old → MaySwap s seat p g' old
+may_as {B} {s} {seat} {p} {old} g g' same may = subst (λ (x : GivenSwap). MaySwap s seat p x old) same may
 
 -- room isn't an answer of the rule
 pub never_room : (is : SwapIs) → Room ≡ returned is → ⊥

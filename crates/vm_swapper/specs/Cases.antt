@@ -1,20 +1,12 @@
 -- The cases of a step of a process that leaves, or comes back, one after another, on a history. This project's own.
 use Rattle.std.specs.Prelude.{ℕ, Some}
 use Rattle.pager_model.specs.Given.{given, seen_at}
-use Rattle.pager_model.specs.Swap.{GivenSwap, back_page, come_gives, come_out, leave_gives, leave_page, leave_saved, leave_unsaved, lying_in, swap_more, turned_gone, turned_resident}
+use Rattle.pager_model.specs.Swap.{GivenSwap, back_page, come_gives, come_out, leave_gives, leave_page, leave_unsaved, lying_in, swap_more, turned_gone, turned_resident}
 use Rattle.vm_state.specs.History.{History, pager}
-use Rattle.vm_swapper.specs.Looks.{first}
-use Rattle.vm_swapper.specs.declared.looks.Look.TheVariants as look
 
 -- ---- leaving
 abbrev pub at_leave : History → ℕ → GivenSwap
 at_leave s p = leave_gives s.config s.past (pager s) p
-
-abbrev pub at_private : History → ℕ → GivenSwap
-at_private s p = leave_saved s.config s.past (pager s) p (first s.config s.past (pager s) p look.Saved)
-
-abbrev pub at_unsaved : History → ℕ → GivenSwap
-at_unsaved s p = leave_unsaved s.config s.past (pager s) p (first s.config s.past (pager s) p look.Unsaved)
 
 abbrev pub at_slot : History → ℕ → ℕ → GivenSwap
 at_slot s p n = leave_page s.config s.past (pager s) p (seen_at (pager s) p n)
@@ -28,9 +20,6 @@ at_gone s p = turned_gone (pager s) p
 -- ---- coming
 abbrev pub at_come : History → ℕ → GivenSwap
 at_come s p = come_gives s.config s.past (pager s) p
-
-abbrev pub at_out : History → ℕ → GivenSwap
-at_out s p = come_out s.config s.past (pager s) p (first s.config s.past (pager s) p look.Out)
 
 abbrev pub at_back : History → ℕ → ℕ → GivenSwap
 at_back s p n = given (back_page s.config (pager s) p (lying_in (pager s) p n)) swap_more

@@ -11,6 +11,8 @@ use Rattle.pager_model.specs.Given.{Seen, Target, address_of, pfn, seen_at}
 use Rattle.pager_model.specs.Maps.{proc}
 use Rattle.pager_model.specs.Pager.{Pager}
 use Rattle.pager_model.specs.Swap.{is_out_page, is_to_save, lying_in}
+use Rattle.vm_swapper.specs.declared.runs.Wanted.{Wanted}
+use Rattle.vm_swapper.specs.declared.runs.Wanted.TheVariants as wanted
 
 -- what is found from a place on, up to the first one where nothing is, and in so many places at most
 abbrev pub and_then : {Y : Type 0} → Option Y → List Y → List Y
@@ -36,6 +38,11 @@ address_if config a (Some g) = if is_out_page config a g then Some (address_of g
 
 abbrev pub address_at : Config → Pager → ℕ → ℕ → Option ℕ
 address_at config a p n = address_if config a (lying_in a p n)
+
+-- what is wanted of a slot
+abbrev pub wanted_at : Config → List Entry → Pager → ℕ → Wanted → ℕ → Option ℕ
+wanted_at config past a p wanted.Frame = λ (n : ℕ). frame_at past a p n
+wanted_at config past a p wanted.Address = λ (n : ℕ). address_at config a p n
 
 -- these frames are written to the swap blocks of the slots from this one on
 abbrev pub writes_from : ℕ → ℕ → List ℕ → List What

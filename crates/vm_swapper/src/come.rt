@@ -4,12 +4,12 @@ ghost use Rattle.vm_types.specs.Adjust.{lesser};
 ghost use Rattle.vm_types.specs.declared.names.ProcStatus.TheVariants as status;
 ghost use Rattle.call_begins.specs.MayBegin.{MayBegin, empty};
 ghost use Rattle.vm_state.specs.History.{owed, pager};
-ghost use Rattle.vm_swapper.specs.Cases.{at_back, at_come, at_out, at_reads, at_resident};
+ghost use Rattle.vm_swapper.specs.Cases.{at_back, at_come, at_reads, at_resident};
 ghost use Rattle.vm_swapper.specs.Swaps.{MaySwap, Swaps};
 ghost use Rattle.vm_swapper.specs.declared.swap.Swap.{Swap};
 
 use crate::looks::{Look, first};
-use crate::runs::addresses_from;
+use crate::runs::{Run, Wanted, gathered};
 use crate::slots::address_of;
 use crate::swap::{Swap, SwapWhy};
 use crate::transfers::read_all;
@@ -44,29 +44,19 @@ pub fn come_some<B: Block>(
     come(state, seat, p, carrier)
 }
 
-/// A page that is on the free list comes back first.
+/// A page that is on the free list comes back first, then those that are out are read. A process with no
+/// such page is resident.
 fn come<B: Block>(state: &mut State<B>, seat: Seat, p: Proc, carrier: &mut Carrier<B>) -> Swap
-    requires process { p.0 < length state.old.config.procs }
-    requires may { MaySwap state.old seat (at_come state.old p.0) }
-    requires carrier { carrier.old ≡ empty seat }
+    requires { MaySwap state.old seat p (at_come state.old p.0) carrier.old }
     ensures { Swaps B.seen B.tells state.old state.new seat (at_come state.old p.0) result carrier.old carrier.new }
 {
-    match first(state, p, Look::OnFree) {
-        Some(n) => back_at(state, seat, p, n, carrier),
-        None => come_out(state, seat, p, carrier),
-    }
-}
-
-/// No page comes back from the free list: those that are out are read.
-fn come_out<B: Block>(state: &mut State<B>, seat: Seat, p: Proc, carrier: &mut Carrier<B>) -> Swap
-    requires process { p.0 < length state.old.config.procs }
-    requires may { MaySwap state.old seat (at_out state.old p.0) }
-    requires carrier { carrier.old ≡ empty seat }
-    ensures { Swaps B.seen B.tells state.old state.new seat (at_out state.old p.0) result carrier.old carrier.new }
-{
-    match first(state, p, Look::Out) {
-        Some(n) => read_from(state, seat, p, n, carrier),
-        None => turn_resident(state, seat, p, carrier),
+    if let Some(n) = first(state, p, Look::OnFree) {
+        back_at(state, seat, p, n, carrier)
+    } else if let Some(n) = first(state, p, Look::Out) {
+        let run = Run { seat, p, slot: n };
+        read_from(state, run, carrier)
+    } else {
+        turn_resident(state, seat, p, carrier)
     }
 }
 
@@ -78,8 +68,7 @@ fn back_at<B: Block>(
     n: u32,
     carrier: &mut Carrier<B>,
 ) -> Swap
-    requires may { MaySwap state.old seat (at_back state.old p.0 n) }
-    requires carrier { carrier.old ≡ empty seat }
+    requires { MaySwap state.old seat p (at_back state.old p.0 n) carrier.old }
     ensures { Swaps B.seen B.tells state.old state.new seat (at_back state.old p.0 n) result carrier.old carrier.new }
 {
     state.run_law();
@@ -98,19 +87,11 @@ fn lesser(m: u32, n: u32) -> u32
     if m <= n { m } else { n }
 }
 
-/// The pages that lie in the swap blocks of the slots from this one on are read, as far as frames are
-/// free.
-fn read_from<B: Block>(
-    state: &mut State<B>,
-    seat: Seat,
-    p: Proc,
-    n: u32,
-    carrier: &mut Carrier<B>,
-) -> Swap
-    requires slot { n < 1024 }
-    requires may { MaySwap state.old seat (at_reads state.old p.0 n) }
-    requires carrier { carrier.old ≡ empty seat }
-    ensures { Swaps B.seen B.tells state.old state.new seat (at_reads state.old p.0 n) result carrier.old carrier.new }
+/// The pages that lie in the swap blocks of a run are read, as far as frames are free.
+fn read_from<B: Block>(state: &mut State<B>, run: Run, carrier: &mut Carrier<B>) -> Swap
+    requires slot { run.slot < 1024 }
+    requires may { MaySwap state.old run.seat run.p (at_reads state.old (run.p).0 run.slot) carrier.old }
+    ensures { Swaps B.seen B.tells state.old state.new run.seat (at_reads state.old (run.p).0 run.slot) result carrier.old carrier.new }
 {
     state.run_law();
     let free = state.free_len();
@@ -118,8 +99,8 @@ fn read_from<B: Block>(
         return Swap::Again(SwapWhy::NoFrame);
     }
     let most = lesser(state.config().params.pfc, free);
-    let addresses = addresses_from(state, p, n, most);
-    read_all(state, seat, p, n, addresses.as_slice(), carrier);
+    let addresses = gathered(state, run, most, Wanted::Address);
+    read_all(state, run, addresses.as_slice(), carrier);
     Swap::Carry
 }
 
@@ -130,8 +111,7 @@ fn turn_resident<B: Block>(
     p: Proc,
     carrier: &mut Carrier<B>,
 ) -> Swap
-    requires may { MaySwap state.old seat (at_resident state.old p.0) }
-    requires carrier { carrier.old ≡ empty seat }
+    requires { MaySwap state.old seat p (at_resident state.old p.0) carrier.old }
     ensures { Swaps B.seen B.tells state.old state.new seat (at_resident state.old p.0) result carrier.old carrier.new }
 {
     if state.has_come(p) {

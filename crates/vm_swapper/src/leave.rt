@@ -3,12 +3,12 @@ ghost use Rattle.pager_model.specs.Swap.{leave_gives};
 ghost use Rattle.vm_types.specs.declared.names.ProcStatus.TheVariants as status;
 ghost use Rattle.call_begins.specs.MayBegin.{MayBegin, empty};
 ghost use Rattle.vm_state.specs.History.{owed, pager};
-ghost use Rattle.vm_swapper.specs.Cases.{at_gone, at_leave, at_private, at_slot, at_unsaved, at_writes};
+ghost use Rattle.vm_swapper.specs.Cases.{at_gone, at_leave, at_slot, at_writes};
 ghost use Rattle.vm_swapper.specs.Swaps.{MaySwap, Swaps};
 ghost use Rattle.vm_swapper.specs.declared.swap.Swap.{Swap};
 
 use crate::looks::{Look, first};
-use crate::runs::frames_from;
+use crate::runs::{Run, Wanted, gathered};
 use crate::seen::see;
 use crate::swap::{Swap, SwapWhy};
 use crate::transfers::write_all;
@@ -45,52 +45,21 @@ pub fn leave_some<B: Block>(
     leave(state, seat, p, carrier)
 }
 
-/// A shared page is evicted first.
+/// A shared page is evicted first, then a page that is saved; then those that aren't saved are written. A
+/// process with no such page is gone.
 fn leave<B: Block>(state: &mut State<B>, seat: Seat, p: Proc, carrier: &mut Carrier<B>) -> Swap
-    requires process { p.0 < length state.old.config.procs }
-    requires may { MaySwap state.old seat (at_leave state.old p.0) }
-    requires carrier { carrier.old ≡ empty seat }
+    requires { MaySwap state.old seat p (at_leave state.old p.0) carrier.old }
     ensures { Swaps B.seen B.tells state.old state.new seat (at_leave state.old p.0) result carrier.old carrier.new }
 {
-    match first(state, p, Look::Shared) {
-        Some(n) => evict_at(state, seat, p, n, carrier),
-        None => leave_private(state, seat, p, carrier),
-    }
-}
-
-/// No shared page is in a slot: a page that is saved is evicted next.
-fn leave_private<B: Block>(
-    state: &mut State<B>,
-    seat: Seat,
-    p: Proc,
-    carrier: &mut Carrier<B>,
-) -> Swap
-    requires process { p.0 < length state.old.config.procs }
-    requires may { MaySwap state.old seat (at_private state.old p.0) }
-    requires carrier { carrier.old ≡ empty seat }
-    ensures { Swaps B.seen B.tells state.old state.new seat (at_private state.old p.0) result carrier.old carrier.new }
-{
-    match first(state, p, Look::Saved) {
-        Some(n) => evict_at(state, seat, p, n, carrier),
-        None => leave_unsaved(state, seat, p, carrier),
-    }
-}
-
-/// No page that may be evicted is in a slot: those that aren't saved are written.
-fn leave_unsaved<B: Block>(
-    state: &mut State<B>,
-    seat: Seat,
-    p: Proc,
-    carrier: &mut Carrier<B>,
-) -> Swap
-    requires process { p.0 < length state.old.config.procs }
-    requires may { MaySwap state.old seat (at_unsaved state.old p.0) }
-    requires carrier { carrier.old ≡ empty seat }
-    ensures { Swaps B.seen B.tells state.old state.new seat (at_unsaved state.old p.0) result carrier.old carrier.new }
-{
-    match first(state, p, Look::Unsaved) {
-        Some(n) => write_from(state, seat, p, n, carrier),
-        None => turn_gone(state, seat, p, carrier),
+    if let Some(n) = first(state, p, Look::Shared) {
+        evict_at(state, seat, p, n, carrier)
+    } else if let Some(n) = first(state, p, Look::Saved) {
+        evict_at(state, seat, p, n, carrier)
+    } else if let Some(n) = first(state, p, Look::Unsaved) {
+        let run = Run { seat, p, slot: n };
+        write_from(state, run, carrier)
+    } else {
+        turn_gone(state, seat, p, carrier)
     }
 }
 
@@ -102,9 +71,7 @@ fn evict_at<B: Block>(
     n: u32,
     carrier: &mut Carrier<B>,
 ) -> Swap
-    requires process { p.0 < length state.old.config.procs }
-    requires may { MaySwap state.old seat (at_slot state.old p.0 n) }
-    requires carrier { carrier.old ≡ empty seat }
+    requires { MaySwap state.old seat p (at_slot state.old p.0 n) carrier.old }
     ensures { Swaps B.seen B.tells state.old state.new seat (at_slot state.old p.0 n) result carrier.old carrier.new }
 {
     match see(state, p, n) {
@@ -123,31 +90,21 @@ fn evict_at<B: Block>(
     }
 }
 
-/// The private pages in the slots from this one on are written to the swap blocks.
-fn write_from<B: Block>(
-    state: &mut State<B>,
-    seat: Seat,
-    p: Proc,
-    n: u32,
-    carrier: &mut Carrier<B>,
-) -> Swap
-    requires process { p.0 < length state.old.config.procs }
-    requires slot { n < 1024 }
-    requires may { MaySwap state.old seat (at_writes state.old p.0 n) }
-    requires carrier { carrier.old ≡ empty seat }
-    ensures { Swaps B.seen B.tells state.old state.new seat (at_writes state.old p.0 n) result carrier.old carrier.new }
+/// The private pages in the slots of a run are written to the swap blocks.
+fn write_from<B: Block>(state: &mut State<B>, run: Run, carrier: &mut Carrier<B>) -> Swap
+    requires slot { run.slot < 1024 }
+    requires may { MaySwap state.old run.seat run.p (at_writes state.old (run.p).0 run.slot) carrier.old }
+    ensures { Swaps B.seen B.tells state.old state.new run.seat (at_writes state.old (run.p).0 run.slot) result carrier.old carrier.new }
 {
     state.run_law();
-    let frames = frames_from(state, p, n, state.config().params.wrtcluster);
-    write_all(state, seat, p, n, frames.as_slice(), carrier);
+    let frames = gathered(state, run, state.config().params.wrtcluster, Wanted::Frame);
+    write_all(state, run, frames.as_slice(), carrier);
     Swap::Carry
 }
 
 /// A process without pages but pinned ones is gone; one whose pages are in flight waits for them.
 fn turn_gone<B: Block>(state: &mut State<B>, seat: Seat, p: Proc, carrier: &mut Carrier<B>) -> Swap
-    requires process { p.0 < length state.old.config.procs }
-    requires may { MaySwap state.old seat (at_gone state.old p.0) }
-    requires carrier { carrier.old ≡ empty seat }
+    requires { MaySwap state.old seat p (at_gone state.old p.0) carrier.old }
     ensures { Swaps B.seen B.tells state.old state.new seat (at_gone state.old p.0) result carrier.old carrier.new }
 {
     if state.unpinned(p) > 0 {

@@ -1,7 +1,6 @@
 ghost use Rattle.std.specs.Prelude.{◌≡◌, ◌<◌, ◌&&◌, IfSome, Some, find, length, not};
 ghost use Rattle.std.specs.List.{range_with_len};
 ghost use Rattle.std.specs.Option.{option_map};
-ghost use Rattle.pager_model.specs.Lookups.{is_coming, is_resident};
 ghost use Rattle.pager_model.specs.Swap.{earlier, earliest, is_but, last_spoken, may_leave, processes_where, victim_gives};
 ghost use Rattle.vm_state.specs.History.{pager};
 ghost use Rattle.vm_swapper.specs.Victims.{leaves_coming, leaves_resident, process_number};
@@ -41,31 +40,15 @@ fn is_but(but: Option<Proc>, q: Proc) -> bool
     }
 }
 
-/// Whether a process with this status is in memory.
-fn is_resident(status: ProcStatus) -> bool
-    ensures { result ≡ is_resident status }
-{
-    matches!(status, ProcStatus::Resident)
-}
-
-/// Whether a process with this status is coming back.
-fn is_coming(status: ProcStatus) -> bool
-    ensures { result ≡ is_coming status }
-{
-    matches!(status, ProcStatus::Coming)
-}
-
 /// Whether a process of the configuration may turn to leaving: it is resident or coming, its seat has
 /// no open transfer, and none of its pages is being read back.
 fn may_leave<B: Block>(state: &State<B>, q: Proc) -> bool
     requires { q.0 < length state.now.config.procs }
     ensures { result ≡ may_leave state.now.past (pager state.now) q.0 }
 {
-    let status = state.status(q);
-    if is_resident(status) || is_coming(status) {
-        !state.busy(Seat(q.0)) && !state.has_come(q)
-    } else {
-        false
+    match state.status(q) {
+        ProcStatus::Resident | ProcStatus::Coming => !state.busy(Seat(q.0)) && !state.has_come(q),
+        ProcStatus::Leaving | ProcStatus::Gone => false,
     }
 }
 
@@ -74,11 +57,7 @@ fn leaves_resident<B: Block>(state: &State<B>, but: Option<Proc>, q: Proc) -> bo
     requires { q.0 < length state.now.config.procs }
     ensures { result ≡ leaves_resident state.now.past (pager state.now) (option_map process_number but) q.0 }
 {
-    if is_but(but, q) {
-        false
-    } else {
-        may_leave(state, q) && is_resident(state.status(q))
-    }
+    !is_but(but, q) && (may_leave(state, q) && matches!(state.status(q), ProcStatus::Resident))
 }
 
 /// Whether it is another process, which is coming and may leave.
@@ -86,11 +65,7 @@ fn leaves_coming<B: Block>(state: &State<B>, but: Option<Proc>, q: Proc) -> bool
     requires { q.0 < length state.now.config.procs }
     ensures { result ≡ leaves_coming state.now.past (pager state.now) (option_map process_number but) q.0 }
 {
-    if is_but(but, q) {
-        false
-    } else {
-        may_leave(state, q) && is_coming(state.status(q))
-    }
+    !is_but(but, q) && (may_leave(state, q) && matches!(state.status(q), ProcStatus::Coming))
 }
 
 /// The number of the last spoken entry of a process of the configuration, or 0.

@@ -13,3 +13,4 @@ pub mod PagePlaces
 pub mod Behind
 pub mod BlockView
 pub mod Moved
+pub mod Counts

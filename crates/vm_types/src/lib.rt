@@ -13,6 +13,7 @@ mod pool_name;
 mod reference;
 mod reply;
 mod ring_choice;
+mod same;
 mod service;
 
 pub use access::allowed;
@@ -29,4 +30,5 @@ pub use pool_name::PoolName;
 pub use reference::{Mode, Op, Ref, Width};
 pub use reply::{Answer, Reply, Why};
 pub use ring_choice::Choice;
+pub use same::{is_same_block, is_same_page, is_same_state};
 pub use service::{Request, Service};

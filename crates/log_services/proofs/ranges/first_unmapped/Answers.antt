@@ -7,5 +7,5 @@ use Rattle.log_services.proofs.ranges.first_unmapped.Goals as goal
 
 pub loop-n-preserved : goal.loop-n-preserved
 loop-n-preserved c =
-    one_more (λ (v : ℕ). (g : Page) × (page_by c.args.config.now (shown c.args.pager.now).pager.map c.args.p.0 v ≡ Some g)) (c.args.at.0 / 512) c.loop-n.n c.loop-n.invariant
+    one_more (λ (v : ℕ). (g : Page) × (page_by c.args.config.now (shown c.args.pager.now).pager.map c.args.range.process.0 v ≡ Some g)) (c.args.range.at.0 / 512) c.loop-n.n c.loop-n.invariant
     (c.is_unmapped_at.ensures.no c.if-is_unmapped_at.false)

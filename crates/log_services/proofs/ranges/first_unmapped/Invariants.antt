@@ -6,4 +6,4 @@ use Rattle.log_services.proofs.ranges.first_unmapped.Given as goal
 
 -- those so far are mapped
 abbrev pub invariant-loop-n : goal.invariant-loop-n
-invariant-loop-n l = (v : ℕ) → l.fn.at.0 / 512 ≤ v → v < l.fn.at.0 / 512 + l.n → (g : Page) × (page_by l.config (shown l.pager).pager.map l.p.0 v ≡ Some g)
+invariant-loop-n l = (v : ℕ) → l.range.at.0 / 512 ≤ v → v < l.range.at.0 / 512 + l.n → (g : Page) × (page_by l.config (shown l.pager).pager.map l.range.process.0 v ≡ Some g)

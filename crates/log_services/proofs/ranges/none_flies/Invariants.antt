@@ -10,5 +10,5 @@ use Rattle.log_services.proofs.ranges.none_flies.Given as goal
 -- none of the frames so far with a page of the range has a flight
 abbrev pub invariant-loop-f : goal.invariant-loop-f
 invariant-loop-f l =
-    (v f : ℕ) → f < l.f → in_range l.at.0 l.pages v ≡ true → (shown l.pager).pager.page f ≡ Some (Private (proc l.p.0) v)
+    (v f : ℕ) → f < l.f → in_range l.range.at.0 l.range.pages v ≡ true → (shown l.pager).pager.page f ≡ Some (Private (proc l.range.process.0) v)
     → reads_on f (open_flights l.past.past) + writes_on f (open_flights l.past.past) ≡ 0

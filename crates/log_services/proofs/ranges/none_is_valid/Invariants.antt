@@ -5,4 +5,4 @@ use Rattle.log_services.proofs.ranges.none_is_valid.Given as goal
 
 -- none of those so far is valid
 abbrev pub invariant-loop-n : goal.invariant-loop-n
-invariant-loop-n l = (v : ℕ) → l.fn.at.0 / 512 ≤ v → v < l.fn.at.0 / 512 + l.n → entries_at (shown l.pager).pager.valid l.p.0 v ≡ 0
+invariant-loop-n l = (v : ℕ) → l.range.at.0 / 512 ≤ v → v < l.range.at.0 / 512 + l.n → entries_at (shown l.pager).pager.valid l.range.process.0 v ≡ 0

@@ -5,6 +5,6 @@ use Rattle.log_services.proofs.ranges.unmapped_fails.Goals as goal
 
 pub returns-in-None-clause-legal : goal.returns-in-None-clause-legal
 returns-in-None-clause-legal c = (
-  λ t. none_in_use c.args.config.now (shown c.args.pager.now).pager c.args.p.0 c.args.at.0 c.args.pages (c.in-None.ensures.none refl),
+  λ t. none_in_use c.args.config.now (shown c.args.pager.now).pager c.args.range.process.0 c.args.range.at.0 c.args.range.pages (c.in-None.ensures.none refl),
   λ all. refl,
 )

@@ -2,8 +2,8 @@ use Rattle.std.proofs.Common.{length, take, subst, sym, ◌∙◌, inl, inr, ari
 use Rattle.std.proofs.KnownBytes.{Appends-kept}
 use Rattle.std.specs.Prelude.{◌⊎◌}
 use Rattle.std.specs.Io.KnownBytes.{Appends}
-use Rattle.outside_io.specs.Causes.{Rose}
 use Rattle.vm_types.specs.Moved.{moved}
+use Rattle.vm_types.specs.Counts.{Rose}
 use Rattle.command_ends.specs.Wrongs.{IsWrong}
 use Rattle.program_call.specs.ProgramTells.{ProgramTells}
 use Rattle.program_call.proofs.Telling.{whole_but_kept}

@@ -18,7 +18,7 @@ pub evict-requires-after_bounds : goal.evict-requires-after_bounds
 evict-requires-after_bounds g c κs within =
     may_evict c.args.state.now c.args.at c.in-Some.x c.in-Some.ensures.seen c.writer-seat.result c.writer-seat.ensures c.goes_to-to.result
     (c.goes_to-to.ensures ∙ (ap (λ (z : Row). evicted_to z.shares z.flights z.modify) c.frame-row.ensures ∙ row_goes c.args.state.now ((c.in-Some.x).frame).0))
-    (sym c.is_stopped.ensures ∙ c.if-not-is_stopped.true) c.requires.can c.requires.there c.in-Some.ensures.placed
+    (sym c.is_stopped.ensures ∙ c.if-not-is_stopped.true) c.args.carrier.now c.requires.can c.requires.there c.in-Some.ensures.placed
 
 pub returns-then-not-is_stopped-clause-cleans : goal.returns-then-not-is_stopped-clause-cleans
 returns-then-not-is_stopped-clause-cleans g c =

@@ -10,13 +10,9 @@ use Rattle.rundown.specs.declared.cleaning.Cleaning.{Cleaning}
 use Rattle.rundown.proofs.MovesMade.{can_clean, moves_as, moves_from, moves_same, spare_only}
 use Rattle.rundown.proofs.moves.make_move.Goals as goal
 
-pub evict_from-requires-clause-can : goal.evict_from-requires-clause-can
-evict_from-requires-clause-can g c κs within =
-    can_clean c.args.state.now c.prepare.new.state c.prepare.ensures.same c.prepare.ensures.past c.requires.between c.requires.answered c.in_ok-prepare.ensures.room
-
-pub evict_from-requires-clause-carrier : goal.evict_from-requires-clause-carrier
-evict_from-requires-clause-carrier g c κs within =
-    c.requires.carrier ∙ ap (λ (x : History). empty (record { 0 = length x.config.procs })) (sym (spare_only c.args.state.now c.prepare.new.state c.prepare.ensures.same c.prepare.ensures.past))
+pub evict_from-requires-after_bounds : goal.evict_from-requires-after_bounds
+evict_from-requires-after_bounds g c κs within =
+    can_clean c.args.state.now c.prepare.new.state c.args.carrier.now c.prepare.ensures.same c.prepare.ensures.past c.requires.between c.requires.answered c.in_ok-prepare.ensures.room c.requires.carrier
 
 pub returns-in-Evicting-clause-moved : goal.returns-in-Evicting-clause-moved
 returns-in-Evicting-clause-moved g c =
@@ -31,7 +27,7 @@ returns-in-Evicting-clause-same g c =
 
 pub write_rounds-requires-clause-steady : goal.write_rounds-requires-clause-steady
 write_rounds-requires-clause-steady g c κs within =
-    (can_clean c.args.state.now c.prepare.new.state c.prepare.ensures.same c.prepare.ensures.past c.requires.between c.requires.answered c.in_ok-prepare.ensures.room).steady
+    (can_clean c.args.state.now c.prepare.new.state c.args.carrier.now c.prepare.ensures.same c.prepare.ensures.past c.requires.between c.requires.answered c.in_ok-prepare.ensures.room c.requires.carrier).steady
 
 pub write_rounds-requires-clause-carrier : goal.write_rounds-requires-clause-carrier
 write_rounds-requires-clause-carrier g c κs within =

@@ -1,5 +1,4 @@
-use Rattle.std.proofs.Common.{◌∙◌, arith, sym}
-use Rattle.rundown.specs.Cleanings.{control_at}
+use Rattle.std.proofs.Common.{◌∙◌, ◌-◌, arith, sym}
 use Rattle.rundown.proofs.RoundsGo.{goes_on, last_over, moved_as, next_begins, none_listed, resting}
 use Rattle.rundown.proofs.rounds.write_rounds.Goals as goal
 
@@ -9,8 +8,8 @@ returns-then-not-is_shared_listed-clause-moved g c =
 
 pub returns-then-left-gt0-clause-moved : goal.returns-then-left-gt0-clause-moved
 returns-then-left-gt0-clause-moved g c =
-    moved_as g.B.Block.tells.content c.args.state.now c.write_round.new.state _ _ (control_at c.write_round.result)
-    (goes_on c.args.state.now c.args.following c.args.left (sym c.if-not-is_shared_listed.false ∙ c.is_shared_listed.ensures) c.if-left-gt0.true) c.write_round.ensures.moved
+    moved_as g.B.Block.tells.content c.args.state.now c.write_round-rest.new.state _ _ _
+    (goes_on c.args.state.now c.args.following c.args.left (sym c.if-not-is_shared_listed.false ∙ c.is_shared_listed.ensures) c.if-left-gt0.true) (c.write_round-rest.ensures.moved c.args.following)
 
 pub returns-then-following-eq0-clause-moved : goal.returns-then-following-eq0-clause-moved
 returns-then-following-eq0-clause-moved g c =
@@ -18,6 +17,6 @@ returns-then-following-eq0-clause-moved g c =
 
 pub returns-clause-moved : goal.returns-clause-moved
 returns-clause-moved g c =
-    moved_as g.B.Block.tells.content c.args.state.now c.write_round-2.new.state _ _ (control_at c.write_round-2.result)
+    moved_as g.B.Block.tells.content c.args.state.now c.write_round-unwritten.new.state _ _ _
     (next_begins c.args.state.now c.args.following c.args.left (sym c.if-not-is_shared_listed.false ∙ c.is_shared_listed.ensures) c.modified_len-listed.result c.if-left-gt0.false
-    (let some = c.if-following-eq0.false in omega (arith, some)) c.modified_len-listed.ensures) c.write_round-2.ensures.moved
+    (let some = c.if-following-eq0.false in omega (arith, some)) c.modified_len-listed.ensures) (c.write_round-unwritten.ensures.moved (c.args.following - 1))

@@ -5,48 +5,51 @@ use Rattle.seat_laws.proofs.FreeSeats.{idle_seat}
 use Rattle.seat_turns.specs.Steps.{HasTurned, seat_of}
 use Rattle.seat_turns.specs.declared.turned.Turned.{Turned}
 use Rattle.seat_turns.proofs.Referring.{serve_again_same, serve_more_turned, served_turned, still_free}
-use Rattle.seat_turns.proofs.OpenWork.{ended_begun_service, ended_turned}
+use Rattle.seat_turns.proofs.OpenWork.{ended_begun_service, ended_turned, may_start, worked_at}
 use Rattle.seat_turns.proofs.Worked.{no_lifts}
 use Rattle.seat_turns.proofs.asking.serve_next.Goals as goal
 
 pub serve-requires-clause-idle : goal.serve-requires-clause-idle
-serve-requires-clause-idle g c κs within = idle_seat c.args.state.now (seat_of c.args.p) c.requires.free c.requires.process
+serve-requires-clause-idle g c κs within = idle_seat c.args.state.now (seat_of c.args.p) c.requires.step.free c.requires.step.process
 
 pub returns-in-Answered-clause-turned : goal.returns-in-Answered-clause-turned
 returns-in-Answered-clause-turned g c =
-    served_turned c.args.state.now c.serve.new.state (seat_of c.args.p) c.args.s c.requires.free c.requires.running c.args.carrier.now c.requires.carrier c.in-Answered.answer (c.in-Answered.ensures.gives c.requires.free.room)
+    served_turned c.args.state.now c.serve.new.state (seat_of c.args.p) c.args.s c.requires.step.free c.requires.step.running c.args.carrier.now c.requires.step.carrier c.in-Answered.answer (c.in-Answered.ensures.gives c.requires.step.free.room)
 
 pub returns-in-Answered-clause-begun : goal.returns-in-Answered-clause-begun
-returns-in-Answered-clause-begun g c = λ some. absurd (some (no_lifts (seat_of c.args.p) c.args.carrier.now c.requires.carrier))
+returns-in-Answered-clause-begun g c = λ some. absurd (some (no_lifts (seat_of c.args.p) c.args.carrier.now c.requires.step.carrier))
 
 pub returns-in-More-clause-turned : goal.returns-in-More-clause-turned
 returns-in-More-clause-turned g c =
-    serve_more_turned c.args.state.now c.serve.new.state (seat_of c.args.p) c.args.s c.requires.free c.requires.running c.args.carrier.now c.requires.carrier (c.in-More.ensures.gives c.requires.free.room)
+    serve_more_turned c.args.state.now c.serve.new.state (seat_of c.args.p) c.args.s c.requires.step.free c.requires.step.running c.args.carrier.now c.requires.step.carrier (c.in-More.ensures.gives c.requires.step.free.room)
 
 pub returns-in-More-clause-begun : goal.returns-in-More-clause-begun
-returns-in-More-clause-begun g c = λ some. absurd (some (no_lifts (seat_of c.args.p) c.args.carrier.now c.requires.carrier))
+returns-in-More-clause-begun g c = λ some. absurd (some (no_lifts (seat_of c.args.p) c.args.carrier.now c.requires.step.carrier))
 
-pub serve_again-requires-clause-free : goal.serve_again-requires-clause-free
-serve_again-requires-clause-free g c κs within =
-    still_free c.args.state.now c.serve.new.state (seat_of c.args.p)
-    (serve_again_same c.args.state.now c.serve.new.state (seat_of c.args.p) c.args.s c.in-Again.why (c.in-Again.ensures.gives c.requires.free.room))
-    c.requires.free
+pub meet-requires-clause-start : goal.meet-requires-clause-start
+meet-requires-clause-start g c κs within =
+    may_start c.serve.new.state (seat_of c.args.p) c.args.carrier.now
+    (still_free c.args.state.now c.serve.new.state (seat_of c.args.p)
+    (serve_again_same c.args.state.now c.serve.new.state (seat_of c.args.p) c.args.s c.in-Again.why (c.in-Again.ensures.gives c.requires.step.free.room))
+    c.requires.step.free)
+    c.requires.step.carrier
 
-pub serve_again-requires-clause-process : goal.serve_again-requires-clause-process
-serve_again-requires-clause-process g c κs within =
+pub meet-requires-clause-process : goal.meet-requires-clause-process
+meet-requires-clause-process g c κs within =
     subst (λ (s : History). (c.args.p).0 < length s.config.procs)
-    (sym (serve_again_same c.args.state.now c.serve.new.state (seat_of c.args.p) c.args.s c.in-Again.why (c.in-Again.ensures.gives c.requires.free.room)))
-    c.requires.process
+    (sym (serve_again_same c.args.state.now c.serve.new.state (seat_of c.args.p) c.args.s c.in-Again.why (c.in-Again.ensures.gives c.requires.step.free.room)))
+    c.requires.step.process
 
 pub returns-in-Again-clause-turned : goal.returns-in-Again-clause-turned
 returns-in-Again-clause-turned g c =
-    subst (λ (x : Turned). HasTurned g.B.Block.seen g.B.Block.tells c.args.state.now c.serve_again.new.state (seat_of c.args.p) (Some (request.Service c.args.s)) x c.serve_again.new.carrier) (sym c.worked.ensures)
-    (ended_turned c.args.state.now c.serve.new.state c.serve_again.new.state (seat_of c.args.p) c.requires.free c.requires.running
-    (serve_again_same c.args.state.now c.serve.new.state (seat_of c.args.p) c.args.s c.in-Again.why (c.in-Again.ensures.gives c.requires.free.room))
-    c.serve_again.result c.args.carrier.now c.serve_again.new.carrier c.requires.carrier c.serve_again.ensures.worked c.serve_again.ensures.none (Some (request.Service c.args.s)))
+    subst (λ (x : Turned). HasTurned g.B.Block.seen g.B.Block.tells c.args.state.now c.meet.new.state (seat_of c.args.p) (Some (request.Service c.args.s)) x c.meet.new.carrier) (sym c.worked.ensures)
+    (ended_turned c.args.state.now c.serve.new.state c.meet.new.state (seat_of c.args.p) c.requires.step.free c.requires.step.running
+    (serve_again_same c.args.state.now c.serve.new.state (seat_of c.args.p) c.args.s c.in-Again.why (c.in-Again.ensures.gives c.requires.step.free.room))
+    c.meet.result c.args.carrier.now c.meet.new.carrier c.requires.step.carrier
+    (worked_at c.serve.new.state c.meet.new.state (seat_of c.args.p) c.args.carrier.now c.meet.new.carrier c.meet.result c.requires.step.carrier c.meet.ensures) c.meet.ensures.none (Some (request.Service c.args.s)))
 
 pub returns-in-Again-clause-begun : goal.returns-in-Again-clause-begun
 returns-in-Again-clause-begun g c = λ some.
-    ended_begun_service c.args.state.now c.serve.new.state c.serve_again.new.state (seat_of c.args.p)
-    (serve_again_same c.args.state.now c.serve.new.state (seat_of c.args.p) c.args.s c.in-Again.why (c.in-Again.ensures.gives c.requires.free.room))
-    c.serve_again.new.carrier c.serve_again.ensures.worked c.args.s some
+    ended_begun_service c.args.state.now c.serve.new.state c.meet.new.state (seat_of c.args.p)
+    (serve_again_same c.args.state.now c.serve.new.state (seat_of c.args.p) c.args.s c.in-Again.why (c.in-Again.ensures.gives c.requires.step.free.room))
+    c.meet.new.carrier (worked_at c.serve.new.state c.meet.new.state (seat_of c.args.p) c.args.carrier.now c.meet.new.carrier c.meet.result c.requires.step.carrier c.meet.ensures) c.args.s some

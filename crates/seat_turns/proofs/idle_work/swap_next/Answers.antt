@@ -1,13 +1,23 @@
 use Rattle.std.proofs.Common.{inl, inr, None, refl, ap, sym, subst, arith}
 use Rattle.vm_types.specs.declared.config.Config.{Config}
+use Rattle.vm_types.specs.declared.names.Seat.{Seat}
 use Rattle.lift_carriers.specs.CarrierView.{CarrierView}
 use Rattle.vm_state.specs.History.{pager}
 use Rattle.call_begins.specs.MayBegin.{empty}
 use Rattle.seat_turns.specs.Steps.{HasTurned}
 use Rattle.seat_turns.specs.declared.turned.Turned.TheVariants.{Made, Rests}
 use Rattle.seat_turns.proofs.Resting.{swapped_lowest, swapped_none}
+use Rattle.seat_turns.proofs.OpenWork.{may_start}
 use Rattle.seat_turns.proofs.Worked.{waits_turned, worked_turned}
 use Rattle.seat_turns.proofs.idle_work.swap_next.Goals as goal
+
+pub leave_lowest-requires-clause-start : goal.leave_lowest-requires-clause-start
+leave_lowest-requires-clause-start g c κs within = may_start c.args.state.now c.args.seat c.args.carrier.now c.requires.free c.requires.carrier
+
+pub returns-in-Some-clause-turned : goal.returns-in-Some-clause-turned
+returns-in-Some-clause-turned g c =
+    subst (λ (x : Seat). HasTurned g.B.Block.seen g.B.Block.tells c.args.state.now c.leave_lowest.new.state x None c.leave_lowest.result c.leave_lowest.new.carrier)
+    (ap (λ (x : CarrierView g.row.B.Denot). x.seat) c.requires.carrier) c.leave_lowest.ensures.turned
 
 pub returns-in-Some-clause-rests : goal.returns-in-Some-clause-rests
 returns-in-Some-clause-rests g c = λ is.

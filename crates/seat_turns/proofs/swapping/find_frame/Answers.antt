@@ -1,11 +1,8 @@
-use Rattle.std.proofs.Common.{refl, sym, subst}
-use Rattle.lift_carriers.specs.CarrierView.{CarrierView}
-use Rattle.seat_turns.specs.Worked.{HasWorked}
+use Rattle.seat_turns.proofs.OpenWork.{free_at, turn_tried}
 use Rattle.seat_turns.proofs.swapping.find_frame.Goals as goal
 
-pub returns-in-None-clause-worked : goal.returns-in-None-clause-worked
-returns-in-None-clause-worked g c =
-    subst (λ (x : CarrierView g.row.B.Denot). HasWorked g.B.Block.seen g.B.Block.tells c.args.state.now c.turn_victim.new.state c.args.seat x) (sym c.requires.carrier) c.turn_victim.ensures.worked
+pub turn_victim-requires-clause-free : goal.turn_victim-requires-clause-free
+turn_victim-requires-clause-free g c κs within = free_at c.args.state.now c.args.carrier.now c.requires.start c.seat.result c.seat.ensures
 
-pub returns-in-None-clause-none : goal.returns-in-None-clause-none
-returns-in-None-clause-none g c = λ is. (c.turn_victim.ensures.none is, refl)
+pub returns-in-None : goal.returns-in-None
+returns-in-None g c = turn_tried c.args.state.now c.args.carrier.now c.requires.start c.seat.result c.seat.ensures c.turn_victim.new.state c.turn_victim.result c.turn_victim.ensures.worked c.turn_victim.ensures.none

@@ -1,20 +1,17 @@
 use Rattle.pager_model.specs.WriteCluster.{reason_need}
-use Rattle.modified_writer.specs.declared.begun.Begin.TheVariants.{Carry, Nothing}
+use Rattle.modified_writer.specs.declared.begun.Begin.TheVariants.{Carry}
 use Rattle.seat_laws.proofs.FreeSeats.{may_begin}
-use Rattle.seat_turns.proofs.OpenWork.{begin_worked, nothing_begun}
+use Rattle.seat_turns.proofs.OpenWork.{begin_none_tried, begin_tried, empty_at, free_at}
 use Rattle.seat_turns.proofs.working.write_for_room.Goals as goal
 
 pub begin-requires-clause-idle : goal.begin-requires-clause-idle
-begin-requires-clause-idle g c κs within = may_begin c.args.state.now c.args.seat c.requires.free
+begin-requires-clause-idle g c κs within = may_begin c.args.state.now c.seat.result (free_at c.args.state.now c.args.carrier.now c.requires.start c.seat.result c.seat.ensures)
 
-pub returns-in-Carry-clause-worked : goal.returns-in-Carry-clause-worked
-returns-in-Carry-clause-worked g c =
-    begin_worked c.args.state.now c.begin.new.state c.args.seat c.requires.free reason_need c.args.carrier.now c.begin.new.carrier c.requires.carrier Carry (c.in-Carry.ensures.gives c.requires.free.room)
+pub begin-requires-clause-carrier : goal.begin-requires-clause-carrier
+begin-requires-clause-carrier g c κs within = empty_at c.args.state.now c.args.carrier.now c.requires.start c.seat.result c.seat.ensures
 
-pub returns-in-Nothing-clause-worked : goal.returns-in-Nothing-clause-worked
-returns-in-Nothing-clause-worked g c =
-    begin_worked c.args.state.now c.begin.new.state c.args.seat c.requires.free reason_need c.args.carrier.now c.begin.new.carrier c.requires.carrier Nothing (c.in-Nothing.ensures.gives c.requires.free.room)
+pub returns-in-Carry : goal.returns-in-Carry
+returns-in-Carry g c = begin_tried c.args.state.now c.args.carrier.now c.requires.start c.seat.result c.seat.ensures c.begin.new.state reason_need c.begin.new.carrier Carry (c.in-Carry.ensures.gives c.requires.start.free.room)
 
-pub returns-in-Nothing-clause-none : goal.returns-in-Nothing-clause-none
-returns-in-Nothing-clause-none g c = λ is.
-    nothing_begun c.args.state.now c.begin.new.state c.args.seat c.requires.free reason_need c.args.carrier.now c.begin.new.carrier c.requires.carrier (c.in-Nothing.ensures.gives c.requires.free.room)
+pub returns-in-Nothing : goal.returns-in-Nothing
+returns-in-Nothing g c = begin_none_tried c.args.state.now c.args.carrier.now c.requires.start c.seat.result c.seat.ensures c.begin.new.state reason_need c.begin.new.carrier (c.in-Nothing.ensures.gives c.requires.start.free.room)

@@ -20,9 +20,12 @@ ask-requires-clause-formed g c κs within = (task_formed c.args.state.now.config
 pub ask-requires-clause-known : goal.ask-requires-clause-known
 ask-requires-clause-known g c κs within = (task_formed c.args.state.now.config c.args.state.now.past c.in-Some.task c.requires.steady.between.formed (sym c.in-Some.ensures)).2
 
-pub ask-requires-clause-carrier : goal.ask-requires-clause-carrier
-ask-requires-clause-carrier g c κs within =
-    empty_at c.args.state.now c.args.carriers.now c.requires.carriers (c.in-Some.task.proc).0 c.index-carriers-task.result (task_seat c.args.state.now c.in-Some.task c.requires.steady (sym c.in-Some.ensures))
+pub ask-requires-clause-may : goal.ask-requires-clause-may
+ask-requires-clause-may g c κs within = record {
+  steady = c.requires.steady;
+  there = task_seat c.args.state.now c.in-Some.task c.requires.steady (sym c.in-Some.ensures);
+  carrier = empty_at c.args.state.now c.args.carriers.now c.requires.carriers (c.in-Some.task.proc).0 c.index-carriers-task.result (task_seat c.args.state.now c.in-Some.task c.requires.steady (sym c.in-Some.ensures));
+}
 
 pub ask-requires-clause-here : goal.ask-requires-clause-here
 ask-requires-clause-here g c κs within =

@@ -6,20 +6,20 @@ use Rattle.serial_moves.proofs.answers.free.Goals as goal
 
 -- ---- the process that is being left
 pub bounds-carriers-seat : goal.bounds-carriers-seat
-bounds-carriers-seat g c = carrier_there c.args.state.now c.args.carriers.now c.requires.carriers (c.processes.result + 1) (let count = c.processes.ensures.count in omega (arith, count))
+bounds-carriers-seat g c = carrier_there c.args.state.now c.args.carriers.now c.requires.may.carriers (c.processes.result + 1) (let count = c.processes.ensures.count in omega (arith, count))
 
-pub leave-requires-clause-seat : goal.leave-requires-clause-seat
-leave-requires-clause-seat g c κs within = let count = c.processes.ensures.count in omega (arith, count)
+pub leave-requires-clause-may : goal.leave-requires-clause-may
+leave-requires-clause-may g c κs within = record {
+  steady = c.requires.may.steady;
+  there = let count = c.processes.ensures.count in omega (arith, count);
+  carrier = empty_at c.args.state.now c.args.carriers.now c.requires.may.carriers (c.processes.result + 1) c.index-carriers-seat.result (let count = c.processes.ensures.count in omega (arith, count));
+}
 
 pub leave-requires-clause-process : goal.leave-requires-clause-process
 leave-requires-clause-process g c κs within = (left_there c.args.state.now.config (pager c.args.state.now) c.args.leaving c.in-Some.q c.in-Some.is c.requires.left).0
 
 pub leave-requires-clause-leaving : goal.leave-requires-clause-leaving
 leave-requires-clause-leaving g c κs within = (left_there c.args.state.now.config (pager c.args.state.now) c.args.leaving c.in-Some.q c.in-Some.is c.requires.left).1
-
-pub leave-requires-clause-carrier : goal.leave-requires-clause-carrier
-leave-requires-clause-carrier g c κs within =
-    empty_at c.args.state.now c.args.carriers.now c.requires.carriers (c.processes.result + 1) c.index-carriers-seat.result (let count = c.processes.ensures.count in omega (arith, count))
 
 pub leave-requires-clause-here : goal.leave-requires-clause-here
 leave-requires-clause-here g c κs within =
@@ -28,10 +28,10 @@ leave-requires-clause-here g c κs within =
     c.requires.here
 
 pub returns-in_err-next-in-Some-clause-carriers : goal.returns-in_err-next-in-Some-clause-carriers
-returns-in_err-next-in-Some-clause-carriers g c = kept_at c.args.state.now c.args.carriers.now c.requires.carriers (c.processes.result + 1) c.index-carriers-seat.result c.leave.new.carrier c.leave.ensures.carrier
+returns-in_err-next-in-Some-clause-carriers g c = kept_at c.args.state.now c.args.carriers.now c.requires.may.carriers (c.processes.result + 1) c.index-carriers-seat.result c.leave.new.carrier c.leave.ensures.carrier
 
 pub returns-in_ok-next-in-Some-clause-carriers : goal.returns-in_ok-next-in-Some-clause-carriers
-returns-in_ok-next-in-Some-clause-carriers g c = kept_at c.args.state.now c.args.carriers.now c.requires.carriers (c.processes.result + 1) c.index-carriers-seat.result c.leave.new.carrier c.leave.ensures.carrier
+returns-in_ok-next-in-Some-clause-carriers g c = kept_at c.args.state.now c.args.carriers.now c.requires.may.carriers (c.processes.result + 1) c.index-carriers-seat.result c.leave.new.carrier c.leave.ensures.carrier
 
 pub returns-in_ok-next-in-Some-clause-comes : goal.returns-in_ok-next-in-Some-clause-comes
 returns-in_ok-next-in-Some-clause-comes g c =
@@ -42,14 +42,14 @@ returns-in_ok-next-in-Some-clause-comes g c =
 -- ---- a frame is found
 pub bounds-carriers-seat-in-Some-finder : goal.bounds-carriers-seat-in-Some-finder
 bounds-carriers-seat-in-Some-finder g c =
-    carrier_there c.args.state.now c.args.carriers.now c.requires.carriers (c.processes.result + 1) (let count = c.processes.ensures.count in omega (arith, count))
+    carrier_there c.args.state.now c.args.carriers.now c.requires.may.carriers (c.processes.result + 1) (let count = c.processes.ensures.count in omega (arith, count))
 
-pub find_frame-requires-clause-seat : goal.find_frame-requires-clause-seat
-find_frame-requires-clause-seat g c κs within = let count = c.processes.ensures.count in omega (arith, count)
-
-pub find_frame-requires-clause-carrier : goal.find_frame-requires-clause-carrier
-find_frame-requires-clause-carrier g c κs within =
-    empty_at c.args.state.now c.args.carriers.now c.requires.carriers (c.processes.result + 1) c.index-carriers-seat-in-Some-finder.result (let count = c.processes.ensures.count in omega (arith, count))
+pub find_frame-requires-clause-may : goal.find_frame-requires-clause-may
+find_frame-requires-clause-may g c κs within = record {
+  steady = c.requires.may.steady;
+  there = let count = c.processes.ensures.count in omega (arith, count);
+  carrier = empty_at c.args.state.now c.args.carriers.now c.requires.may.carriers (c.processes.result + 1) c.index-carriers-seat-in-Some-finder.result (let count = c.processes.ensures.count in omega (arith, count));
+}
 
 pub find_frame-requires-clause-there : goal.find_frame-requires-clause-there
 find_frame-requires-clause-there g c κs within = c.in-Some-finder.ensures.there
@@ -63,11 +63,11 @@ find_frame-requires-clause-here g c κs within =
 
 pub returns-in_err-next-in-Some-finder-clause-carriers : goal.returns-in_err-next-in-Some-finder-clause-carriers
 returns-in_err-next-in-Some-finder-clause-carriers g c =
-    kept_at c.args.state.now c.args.carriers.now c.requires.carriers (c.processes.result + 1) c.index-carriers-seat-in-Some-finder.result c.find_frame.new.carrier c.find_frame.ensures.carrier
+    kept_at c.args.state.now c.args.carriers.now c.requires.may.carriers (c.processes.result + 1) c.index-carriers-seat-in-Some-finder.result c.find_frame.new.carrier c.find_frame.ensures.carrier
 
 pub returns-in_ok-next-in-Some-finder-clause-carriers : goal.returns-in_ok-next-in-Some-finder-clause-carriers
 returns-in_ok-next-in-Some-finder-clause-carriers g c =
-    kept_at c.args.state.now c.args.carriers.now c.requires.carriers (c.processes.result + 1) c.index-carriers-seat-in-Some-finder.result c.find_frame.new.carrier c.find_frame.ensures.carrier
+    kept_at c.args.state.now c.args.carriers.now c.requires.may.carriers (c.processes.result + 1) c.index-carriers-seat-in-Some-finder.result c.find_frame.new.carrier c.find_frame.ensures.carrier
 
 pub returns-in_ok-next-in-Some-finder-clause-comes : goal.returns-in_ok-next-in-Some-finder-clause-comes
 returns-in_ok-next-in-Some-finder-clause-comes g c =

@@ -17,86 +17,84 @@ returns-then-not-is_saving-clause-comes g c =
 
 -- ---- a cluster begins
 pub bounds-carriers-seat : goal.bounds-carriers-seat
-bounds-carriers-seat g c = carrier_there c.args.state.now c.args.carriers.now c.requires.carriers c.processes.result (let count = c.processes.ensures.count in omega (arith, count))
+bounds-carriers-seat g c = carrier_there c.args.state.now c.args.carriers.now c.requires.may.carriers c.processes.result (let count = c.processes.ensures.count in omega (arith, count))
 
 pub begin-requires-clause-idle : goal.begin-requires-clause-idle
-begin-requires-clause-idle g c κs within = may_begin c.args.state.now (record { 0 = c.processes.result }) c.requires.steady (let count = c.processes.ensures.count in omega (arith, count))
+begin-requires-clause-idle g c κs within = may_begin c.args.state.now (record { 0 = c.processes.result }) c.requires.may.steady (let count = c.processes.ensures.count in omega (arith, count))
 
 pub begin-requires-clause-carrier : goal.begin-requires-clause-carrier
 begin-requires-clause-carrier g c κs within =
-    empty_at c.args.state.now c.args.carriers.now c.requires.carriers c.processes.result c.index-carriers-seat.result (let count = c.processes.ensures.count in omega (arith, count))
+    empty_at c.args.state.now c.args.carriers.now c.requires.may.carriers c.processes.result c.index-carriers-seat.result (let count = c.processes.ensures.count in omega (arith, count))
 
 -- ---- and is carried
 pub bounds-carriers-seat-in-Carry : goal.bounds-carriers-seat-in-Carry
 bounds-carriers-seat-in-Carry g c =
-    written_there c.args.state.now c.args.carriers.now c.requires.carriers c.processes.result c.begin.new.carrier (let count = c.processes.ensures.count in omega (arith, count))
+    written_there c.args.state.now c.args.carriers.now c.requires.may.carriers c.processes.result c.begin.new.carrier (let count = c.processes.ensures.count in omega (arith, count))
 
-pub save_on-requires-clause-loaded : goal.save_on-requires-clause-loaded
-save_on-requires-clause-loaded g c κs within =
-    save_loaded_at c.args.state.now c.begin.new.state (record { 0 = c.processes.result }) _ c.begin.new.carrier c.args.begun (c.args.p).0 c.requires.steady (sym c.is_saving.ensures ∙ c.if-not-is_saving.false) c.processes.ensures.count
-    (empty_at c.args.state.now c.args.carriers.now c.requires.carriers c.processes.result c.index-carriers-seat.result (let count = c.processes.ensures.count in omega (arith, count)))
-    (c.in-Carry.ensures.gives (enough_room c.args.state.now c.requires.steady)) _
-    (read_again c.args.state.now c.args.carriers.now c.requires.carriers c.processes.result c.begin.new.carrier c.index-carriers-seat-in-Carry.result (let count = c.processes.ensures.count in omega (arith, count)))
+pub carry_on-requires-clause-loaded : goal.carry_on-requires-clause-loaded
+carry_on-requires-clause-loaded g c κs within =
+    save_loaded_at c.args.state.now c.begin.new.state (record { 0 = c.processes.result }) _ c.begin.new.carrier c.args.begun (c.args.p).0 c.requires.may.steady (sym c.is_saving.ensures ∙ c.if-not-is_saving.false) c.processes.ensures.count
+    (empty_at c.args.state.now c.args.carriers.now c.requires.may.carriers c.processes.result c.index-carriers-seat.result (let count = c.processes.ensures.count in omega (arith, count)))
+    (c.in-Carry.ensures.gives (enough_room c.args.state.now c.requires.may.steady)) _
+    (read_again c.args.state.now c.args.carriers.now c.requires.may.carriers c.processes.result c.begin.new.carrier c.index-carriers-seat-in-Carry.result (let count = c.processes.ensures.count in omega (arith, count)))
 
-pub save_on-requires-clause-may : goal.save_on-requires-clause-may
-save_on-requires-clause-may g c κs within =
-    save_may c.args.state.now c.begin.new.state (record { 0 = c.processes.result }) _ c.begin.new.carrier c.args.begun (c.args.p).0 c.requires.steady (sym c.is_saving.ensures ∙ c.if-not-is_saving.false) c.processes.ensures.count
-    (empty_at c.args.state.now c.args.carriers.now c.requires.carriers c.processes.result c.index-carriers-seat.result (let count = c.processes.ensures.count in omega (arith, count)))
-    (c.in-Carry.ensures.gives (enough_room c.args.state.now c.requires.steady)) c.requires.here
+pub carry_on-requires-clause-may : goal.carry_on-requires-clause-may
+carry_on-requires-clause-may g c κs within =
+    save_may c.args.state.now c.begin.new.state (record { 0 = c.processes.result }) _ c.begin.new.carrier c.args.begun (c.args.p).0 c.requires.may.steady (sym c.is_saving.ensures ∙ c.if-not-is_saving.false) c.processes.ensures.count
+    (empty_at c.args.state.now c.args.carriers.now c.requires.may.carriers c.processes.result c.index-carriers-seat.result (let count = c.processes.ensures.count in omega (arith, count)))
+    (c.in-Carry.ensures.gives (enough_room c.args.state.now c.requires.may.steady)) c.requires.here
 
 pub returns-in_err-next-in-Carry-clause-carriers : goal.returns-in_err-next-in-Carry-clause-carriers
 returns-in_err-next-in-Carry-clause-carriers g c =
-    emptied_again c.args.state.now c.args.carriers.now c.requires.carriers c.processes.result c.begin.new.carrier c.save_on.new.carrier (let count = c.processes.ensures.count in omega (arith, count)) c.save_on.ensures.carrier
+    emptied_again c.args.state.now c.args.carriers.now c.requires.may.carriers c.processes.result c.begin.new.carrier c.carry_on.new.carrier (let count = c.processes.ensures.count in omega (arith, count)) c.carry_on.ensures.carrier
 
 pub returns-in_ok-next-in-Carry-clause-carriers : goal.returns-in_ok-next-in-Carry-clause-carriers
 returns-in_ok-next-in-Carry-clause-carriers g c =
-    emptied_again c.args.state.now c.args.carriers.now c.requires.carriers c.processes.result c.begin.new.carrier c.save_on.new.carrier (let count = c.processes.ensures.count in omega (arith, count)) c.save_on.ensures.carrier
+    emptied_again c.args.state.now c.args.carriers.now c.requires.may.carriers c.processes.result c.begin.new.carrier c.carry_on.new.carrier (let count = c.processes.ensures.count in omega (arith, count)) c.carry_on.ensures.carrier
 
 pub returns-in_ok-next-in-Carry-clause-comes : goal.returns-in_ok-next-in-Carry-clause-comes
 returns-in_ok-next-in-Carry-clause-comes g c =
-    save_moved c.args.state.now c.begin.new.state (record { 0 = c.processes.result }) _ c.begin.new.carrier c.args.begun (c.args.p).0 c.requires.steady (sym c.is_saving.ensures ∙ c.if-not-is_saving.false) c.processes.ensures.count
-    (empty_at c.args.state.now c.args.carriers.now c.requires.carriers c.processes.result c.index-carriers-seat.result (let count = c.processes.ensures.count in omega (arith, count)))
-    (c.in-Carry.ensures.gives (enough_room c.args.state.now c.requires.steady)) c.save_on.new.state _ c.in_ok-next-in-Carry.ensures.carried
+    save_moved c.args.state.now c.begin.new.state (record { 0 = c.processes.result }) _ c.begin.new.carrier c.args.begun (c.args.p).0 c.requires.may.steady (sym c.is_saving.ensures ∙ c.if-not-is_saving.false) c.processes.ensures.count
+    (empty_at c.args.state.now c.args.carriers.now c.requires.may.carriers c.processes.result c.index-carriers-seat.result (let count = c.processes.ensures.count in omega (arith, count)))
+    (c.in-Carry.ensures.gives (enough_room c.args.state.now c.requires.may.steady)) c.carry_on.new.state _ c.in_ok-next-in-Carry.ensures.carried
 
 -- ---- or nothing is written
-pub free-requires-in-Nothing-clause-steady : goal.free-requires-in-Nothing-clause-steady
-free-requires-in-Nothing-clause-steady g c κs within =
-    still_steady c.args.state.now c.begin.new.state (record { 0 = c.processes.result }) _ c.begin.new.carrier c.args.begun (c.args.p).0 c.requires.steady (sym c.is_saving.ensures ∙ c.if-not-is_saving.false)
-    (c.in-Nothing.ensures.gives (enough_room c.args.state.now c.requires.steady))
-
-pub free-requires-in-Nothing-clause-process : goal.free-requires-in-Nothing-clause-process
-free-requires-in-Nothing-clause-process g c κs within =
-    subst (λ (x : History). (c.args.p).0 < length x.config.procs)
-    (sym (unchanged c.args.state.now c.begin.new.state (record { 0 = c.processes.result }) _ c.begin.new.carrier c.args.begun (c.args.p).0 c.requires.steady (sym c.is_saving.ensures ∙ c.if-not-is_saving.false)
-    (c.in-Nothing.ensures.gives (enough_room c.args.state.now c.requires.steady)))) c.requires.process
-
-pub free-requires-in-Nothing-clause-carriers : goal.free-requires-in-Nothing-clause-carriers
-free-requires-in-Nothing-clause-carriers g c κs within =
-    idle_then c.args.state.now c.args.carriers.now c.requires.carriers c.begin.new.state _
-    (ap (λ (x : History). x.config)
-    (unchanged c.args.state.now c.begin.new.state (record { 0 = c.processes.result }) _ c.begin.new.carrier c.args.begun (c.args.p).0 c.requires.steady (sym c.is_saving.ensures ∙ c.if-not-is_saving.false)
-    (c.in-Nothing.ensures.gives (enough_room c.args.state.now c.requires.steady))))
-    (kept_at c.args.state.now c.args.carriers.now c.requires.carriers c.processes.result c.index-carriers-seat.result c.begin.new.carrier
-    (as_before c.args.state.now c.begin.new.state (record { 0 = c.processes.result }) _ c.begin.new.carrier c.args.begun (c.args.p).0 c.requires.steady (sym c.is_saving.ensures ∙ c.if-not-is_saving.false)
-    (c.in-Nothing.ensures.gives (enough_room c.args.state.now c.requires.steady))))
+pub free-requires-in-Nothing-clause-may : goal.free-requires-in-Nothing-clause-may
+free-requires-in-Nothing-clause-may g c κs within = record {
+  steady =
+      still_steady c.args.state.now c.begin.new.state (record { 0 = c.processes.result }) _ c.begin.new.carrier c.args.begun (c.args.p).0 c.requires.may.steady (sym c.is_saving.ensures ∙ c.if-not-is_saving.false)
+      (c.in-Nothing.ensures.gives (enough_room c.args.state.now c.requires.may.steady));
+  process =
+      subst (λ (x : History). (c.args.p).0 < length x.config.procs)
+      (sym (unchanged c.args.state.now c.begin.new.state (record { 0 = c.processes.result }) _ c.begin.new.carrier c.args.begun (c.args.p).0 c.requires.may.steady (sym c.is_saving.ensures ∙ c.if-not-is_saving.false)
+      (c.in-Nothing.ensures.gives (enough_room c.args.state.now c.requires.may.steady)))) c.requires.may.process;
+  carriers =
+      idle_then c.args.state.now c.args.carriers.now c.requires.may.carriers c.begin.new.state _
+      (ap (λ (x : History). x.config)
+      (unchanged c.args.state.now c.begin.new.state (record { 0 = c.processes.result }) _ c.begin.new.carrier c.args.begun (c.args.p).0 c.requires.may.steady (sym c.is_saving.ensures ∙ c.if-not-is_saving.false)
+      (c.in-Nothing.ensures.gives (enough_room c.args.state.now c.requires.may.steady))))
+      (kept_at c.args.state.now c.args.carriers.now c.requires.may.carriers c.processes.result c.index-carriers-seat.result c.begin.new.carrier
+      (as_before c.args.state.now c.begin.new.state (record { 0 = c.processes.result }) _ c.begin.new.carrier c.args.begun (c.args.p).0 c.requires.may.steady (sym c.is_saving.ensures ∙ c.if-not-is_saving.false)
+      (c.in-Nothing.ensures.gives (enough_room c.args.state.now c.requires.may.steady))));
+}
 
 pub free-requires-in-Nothing-clause-here : goal.free-requires-in-Nothing-clause-here
 free-requires-in-Nothing-clause-here g c κs within =
-    goes_here c.args.state.now c.begin.new.state (record { 0 = c.processes.result }) _ c.begin.new.carrier c.args.begun (c.args.p).0 c.requires.steady (sym c.is_saving.ensures ∙ c.if-not-is_saving.false)
-    (c.in-Nothing.ensures.gives (enough_room c.args.state.now c.requires.steady)) c.requires.here
+    goes_here c.args.state.now c.begin.new.state (record { 0 = c.processes.result }) _ c.begin.new.carrier c.args.begun (c.args.p).0 c.requires.may.steady (sym c.is_saving.ensures ∙ c.if-not-is_saving.false)
+    (c.in-Nothing.ensures.gives (enough_room c.args.state.now c.requires.may.steady)) c.requires.here
 
 pub returns-in-Nothing-clause-carriers : goal.returns-in-Nothing-clause-carriers
 returns-in-Nothing-clause-carriers g c =
     c.free-in-Nothing.ensures.carriers
-    ∙ kept_at c.args.state.now c.args.carriers.now c.requires.carriers c.processes.result c.index-carriers-seat.result c.begin.new.carrier
-    (as_before c.args.state.now c.begin.new.state (record { 0 = c.processes.result }) _ c.begin.new.carrier c.args.begun (c.args.p).0 c.requires.steady (sym c.is_saving.ensures ∙ c.if-not-is_saving.false)
-    (c.in-Nothing.ensures.gives (enough_room c.args.state.now c.requires.steady)))
+    ∙ kept_at c.args.state.now c.args.carriers.now c.requires.may.carriers c.processes.result c.index-carriers-seat.result c.begin.new.carrier
+    (as_before c.args.state.now c.begin.new.state (record { 0 = c.processes.result }) _ c.begin.new.carrier c.args.begun (c.args.p).0 c.requires.may.steady (sym c.is_saving.ensures ∙ c.if-not-is_saving.false)
+    (c.in-Nothing.ensures.gives (enough_room c.args.state.now c.requires.may.steady)))
 
 pub returns-in-Nothing-clause-comes : goal.returns-in-Nothing-clause-comes
 returns-in-Nothing-clause-comes g c =
-    goes_comes c.args.state.now c.begin.new.state (record { 0 = c.processes.result }) _ c.begin.new.carrier c.args.begun (c.args.p).0 c.requires.steady (sym c.is_saving.ensures ∙ c.if-not-is_saving.false)
-    (c.in-Nothing.ensures.gives (enough_room c.args.state.now c.requires.steady)) c.free-in-Nothing.new.state c.free-in-Nothing.result c.free-in-Nothing.ensures.comes
+    goes_comes c.args.state.now c.begin.new.state (record { 0 = c.processes.result }) _ c.begin.new.carrier c.args.begun (c.args.p).0 c.requires.may.steady (sym c.is_saving.ensures ∙ c.if-not-is_saving.false)
+    (c.in-Nothing.ensures.gives (enough_room c.args.state.now c.requires.may.steady)) c.free-in-Nothing.new.state c.free-in-Nothing.result c.free-in-Nothing.ensures.comes
 
 -- ---- there is room
 pub unreachable-requires : goal.unreachable-requires
-unreachable-requires g c = never_room (begin_gives c.args.state.now.config (pager c.args.state.now) reason_high).answer (c.in-Room.ensures.gives (enough_room c.args.state.now c.requires.steady)).answer
+unreachable-requires g c = never_room (begin_gives c.args.state.now.config (pager c.args.state.now) reason_high).answer (c.in-Room.ensures.gives (enough_room c.args.state.now c.requires.may.steady)).answer

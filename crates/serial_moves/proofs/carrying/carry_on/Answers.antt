@@ -1,3 +1,7 @@
+use Rattle.std.proofs.Common.{ap, sym, ◌∙◌}
+use Rattle.pager_model.specs.Moves.{asking, control}
+use Rattle.pager_model.specs.Policy.{ends_part}
+use Rattle.serial_moves.specs.Controls.{control_in, ends_in}
 use Rattle.serial_moves.proofs.LandedCarriers.{emptied, landed_here, none_open, own_lifts, own_whole, part_failed, request_failed, request_legal, some_landed}
 use Rattle.serial_moves.proofs.carrying.carry_on.Goals as goal
 
@@ -14,25 +18,34 @@ pub refuse-requires-clause-legal : goal.refuse-requires-clause-legal
 refuse-requires-clause-legal g c κs within =
     request_legal c.args.state.now c.carry_and_land-landed.new.state c.args.seat c.carry_and_land-landed.result
     (landed_here c.args.state.now c.args.seat c.args.carrier.now c.requires.loaded _ _ c.carry_and_land-landed.ensures.landed) c.carry_and_land-landed.ensures.same
-    g.B.Block.tells.content c.args.next c.args.ends c.in-Request.is c.if-landed.true c.requires.may c.run_law.ensures.run
+    g.B.Block.tells.content c.args.next (ap ends_in c.in-Asking.is) c.if-landed.true c.requires.may c.run_law.ensures.run
 
-pub returns-in-Request-clause-carrier : goal.returns-in-Request-clause-carrier
-returns-in-Request-clause-carrier g c = emptied c.args.state.now c.args.seat c.args.carrier.now c.requires.loaded _ c.carry_and_land-landed.ensures.carrier
+pub returns-in-Asking-clause-carrier : goal.returns-in-Asking-clause-carrier
+returns-in-Asking-clause-carrier g c = emptied c.args.state.now c.args.seat c.args.carrier.now c.requires.loaded _ c.carry_and_land-landed.ensures.carrier
 
-pub returns-in-Request-clause-carried : goal.returns-in-Request-clause-carried
-returns-in-Request-clause-carried g c =
+pub returns-in-Asking-clause-carried : goal.returns-in-Asking-clause-carried
+returns-in-Asking-clause-carried g c =
     request_failed c.args.state.now c.carry_and_land-landed.new.state c.args.seat c.carry_and_land-landed.result
     (landed_here c.args.state.now c.args.seat c.args.carrier.now c.requires.loaded _ _ c.carry_and_land-landed.ensures.landed) c.carry_and_land-landed.ensures.same
-    g.B.Block.tells.content c.args.next c.args.ends c.refuse.new.state c.refuse.result c.in-Request.is c.if-landed.true c.refuse.ensures.refused
+    g.B.Block.tells.content c.args.next c.refuse.new.state c.refuse.result (ap ends_in c.in-Asking.is) c.if-landed.true c.refuse.ensures.refused
 
-pub returns-in-Part-clause-carrier : goal.returns-in-Part-clause-carrier
-returns-in-Part-clause-carrier g c = emptied c.args.state.now c.args.seat c.args.carrier.now c.requires.loaded _ c.carry_and_land-landed.ensures.carrier
+pub returns-in-Saving-clause-carrier : goal.returns-in-Saving-clause-carrier
+returns-in-Saving-clause-carrier g c = emptied c.args.state.now c.args.seat c.args.carrier.now c.requires.loaded _ c.carry_and_land-landed.ensures.carrier
 
-pub returns-in-Part-clause-carried : goal.returns-in-Part-clause-carried
-returns-in-Part-clause-carried g c =
+pub returns-in-Saving-clause-carried : goal.returns-in-Saving-clause-carried
+returns-in-Saving-clause-carried g c =
     part_failed c.args.state.now c.carry_and_land-landed.new.state c.args.seat c.carry_and_land-landed.result
     (landed_here c.args.state.now c.args.seat c.args.carrier.now c.requires.loaded _ _ c.carry_and_land-landed.ensures.landed) c.carry_and_land-landed.ensures.same
-    g.B.Block.tells.content c.args.next c.args.ends c.in-Part.other c.in-Part.is c.if-landed.true
+    g.B.Block.tells.content c.args.next (control_in c.saved.result) (ap ends_in c.in-Saving.is ∙ ap ends_part (sym c.saved.ensures)) c.if-landed.true
+
+pub returns-in-Freeing-clause-carrier : goal.returns-in-Freeing-clause-carrier
+returns-in-Freeing-clause-carrier g c = emptied c.args.state.now c.args.seat c.args.carrier.now c.requires.loaded _ c.carry_and_land-landed.ensures.carrier
+
+pub returns-in-Freeing-clause-carried : goal.returns-in-Freeing-clause-carried
+returns-in-Freeing-clause-carried g c =
+    part_failed c.args.state.now c.carry_and_land-landed.new.state c.args.seat c.carry_and_land-landed.result
+    (landed_here c.args.state.now c.args.seat c.args.carrier.now c.requires.loaded _ _ c.carry_and_land-landed.ensures.landed) c.carry_and_land-landed.ensures.same
+    g.B.Block.tells.content c.args.next (control asking) (ap ends_in c.in-Freeing.is) c.if-landed.true
 
 pub returns-else-landed-clause-carrier : goal.returns-else-landed-clause-carrier
 returns-else-landed-clause-carrier g c = emptied c.args.state.now c.args.seat c.args.carrier.now c.requires.loaded _ c.carry_and_land-landed.ensures.carrier
@@ -41,4 +54,4 @@ pub returns-else-landed-clause-carried : goal.returns-else-landed-clause-carried
 returns-else-landed-clause-carried g c =
     some_landed c.args.state.now c.carry_and_land-landed.new.state c.args.seat c.carry_and_land-landed.result
     (landed_here c.args.state.now c.args.seat c.args.carrier.now c.requires.loaded _ _ c.carry_and_land-landed.ensures.landed) c.carry_and_land-landed.ensures.same
-    g.B.Block.tells.content c.args.next c.args.ends c.if-landed.false
+    g.B.Block.tells.content c.args.next c.if-landed.false

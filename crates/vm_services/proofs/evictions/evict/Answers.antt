@@ -24,7 +24,7 @@ pub evict-requires-after_bounds : goal.evict-requires-after_bounds
 evict-requires-after_bounds g c κs within =
     may_evict c.args.state.now c.args.seat c.args.vpn c.args.why c.requires.ready c.in-Some.f c.in-Some.ensures
     c.goes_to-to.result (c.goes_to-to.ensures ∙ (ap (λ (z : Row). evicted_to z.shares z.flights z.modify) c.frame-row.ensures ∙ row_goes c.args.state.now (c.in-Some.f).0))
-    (sym c.is_stopped.ensures ∙ c.if-is_stopped.false) c.requires.may
+    (sym c.is_stopped.ensures ∙ c.if-is_stopped.false) c.requires
 
 pub returns-then-is_stopped : goal.returns-then-is_stopped
 returns-then-is_stopped g c =

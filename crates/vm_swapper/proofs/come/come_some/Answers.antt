@@ -3,12 +3,14 @@ use Rattle.call_laws.proofs.ComeLegal.{come_legal}
 use Rattle.vm_swapper.proofs.Makes.{may_work, never_room}
 use Rattle.vm_swapper.proofs.come.come_some.Goals as goal
 
-pub come-requires-clause-may : goal.come-requires-clause-may
-come-requires-clause-may g c κs within = record {
+pub come-requires-after_bounds : goal.come-requires-after_bounds
+come-requires-after_bounds g c κs within = record {
+  process = c.requires.process;
   legal =
       come_legal c.args.state.now.config c.args.state.now.past (c.args.seat).0 (c.args.p).0 (may_work c.args.state.now c.args.seat c.requires.idle c.run_law.ensures.formed c.run_law.ensures.run)
       c.requires.process c.requires.coming;
   room = let spare = c.spare.ensures in let owed = c.owed.ensures in let paid = c.run_law.ensures.paid in omega (arith, spare, owed, paid);
+  carrier = c.requires.carrier;
 }
 
 pub returns-clause-room : goal.returns-clause-room

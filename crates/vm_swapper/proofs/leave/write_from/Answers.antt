@@ -6,10 +6,10 @@ use Rattle.vm_swapper.proofs.leave.write_from.Goals as goal
 
 pub write_all-requires-clause-may : goal.write_all-requires-clause-may
 write_all-requires-clause-may g c κs within =
-    (may_as _ _ _ _ (writes_of c.args.state.now (c.args.p).0 c.args.n _ c.as_slice.result.now (c.as_slice.ensures.value ∙ c.frames_from-frames.ensures) (ap (λ (x : Config). (x.params).wrtcluster) c.config.ensures)) c.requires.may).legal
+    (may_as _ _ (writes_of c.args.state.now ((c.args.run).p).0 (c.args.run).slot _ c.as_slice.result.now (c.as_slice.ensures.value ∙ c.gathered-frames.ensures) (ap (λ (x : Config). (x.params).wrtcluster) c.config.ensures)) c.requires.may).legal
 
 pub returns : goal.returns
 returns g c =
-    carries c.args.state.now _ c.args.seat _ _ _ _
-    (writes_of c.args.state.now (c.args.p).0 c.args.n _ c.as_slice.result.now (c.as_slice.ensures.value ∙ c.frames_from-frames.ensures) (ap (λ (x : Config). (x.params).wrtcluster) c.config.ensures))
+    carries c.args.state.now _ (c.args.run).seat _ _ _ _
+    (writes_of c.args.state.now ((c.args.run).p).0 (c.args.run).slot _ c.as_slice.result.now (c.as_slice.ensures.value ∙ c.gathered-frames.ensures) (ap (λ (x : Config). (x.params).wrtcluster) c.config.ensures))
     c.write_all.ensures.made c.write_all.ensures.lifts

@@ -3,7 +3,7 @@ use Rattle.std.specs.List.{range_with_len}
 use Rattle.std.proofs.lemmas.List.{length-map}
 use Rattle.vm_types.specs.declared.names.BlockId.{BlockId}
 use Rattle.frame_store.specs.Blocks.{blocks_of}
-use Rattle.frame_store.specs.Home.{IsHome, blocks_in}
+use Rattle.frame_store.specs.Home.{IsHomeTable, blocks_in}
 use Rattle.frame_store.specs.Numbers.{listed_by, number_by}
 use Rattle.frame_store.proofs.Counts.{count_is, few_blocks}
 use Rattle.frame_store.proofs.Ordered.{blocks_in_order, first_count, first_laid, first_long, first_order}
@@ -55,7 +55,7 @@ invariant_of-result g c =
     let fewer = few_blocks c.args.config.now c.requires.formed in
     let few : length ids < 2 ^ 32 = omega (arith, all, fewer) in
     let room : length ids ≤ c.args.blocks.cap = omega (arith, named, c.args.blocks.ok) in
-    let home_is : IsHome home (map Some (range_with_len 0 n)) ids number c.args.blocks.cap =
+    let home_is : IsHomeTable home (map Some (range_with_len 0 n)) ids number c.args.blocks.cap =
     record {
       laid = first_laid home ids number are c.in_ok-numbers.ensures.numbers n size;
       many = long ∙ (sym size ∙ sym named);
@@ -64,5 +64,5 @@ invariant_of-result g c =
       room = room;
       few = few;
     } in
-    subst (λ xs. IsHome home xs (listed_by numbers.sections.items numbers.file numbers.swaps.items (vec_len c.in_ok-places.places)) number c.args.blocks.cap) (sym c.in_ok-places.ensures)
-    (subst (λ names. IsHome home (map Some (range_with_len 0 n)) names number c.args.blocks.cap) (sym listed) home_is)
+    subst (λ xs. IsHomeTable home xs (listed_by numbers.sections.items numbers.file numbers.swaps.items (vec_len c.in_ok-places.places)) number c.args.blocks.cap) (sym c.in_ok-places.ensures)
+    (subst (λ names. IsHomeTable home (map Some (range_with_len 0 n)) names number c.args.blocks.cap) (sym listed) home_is)

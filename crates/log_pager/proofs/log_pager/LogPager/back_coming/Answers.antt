@@ -1,22 +1,21 @@
-use Rattle.std.proofs.Common.{refl, true, ap, ◌∙◌}
+use Rattle.std.proofs.Common.{ℕ, refl, ap, ◌∙◌}
 use Rattle.pager_model.specs.Back.{block_slot, lies_of}
-use Rattle.pager_model.specs.Changes.{lies_nowhere}
+use Rattle.pager_model.specs.Maps.{page_number}
+use Rattle.pager_model.specs.Ring.{slotted}
+use Rattle.pager_model.specs.Sets.{at_number}
 use Rattle.log_tables.specs.Lying.{lies_by}
-use Rattle.log_pager.specs.Shown.{shown}
-use Rattle.log_pager.proofs.Same.{same_shown, same_pager}
-use Rattle.log_pager.proofs.Tables.{set_modify, set_slotted, set_state}
+use Rattle.log_pager.specs.Shown.{shown, with_pager}
+use Rattle.log_pager.proofs.Same.{same_pager}
 use Rattle.log_pager.proofs.log_pager.LogPager.back_coming.Goals as goal
 
 pub returns : goal.returns
 unfolding shown
 returns c =
     let s = c.args.self.now in
-    let f = c.args.f.0 in
     let q = c.args.q.0 in
-    same_shown _ (shown s) _ refl refl
-    (same_pager _ _ (set_state s f c.requires.frame _) refl (set_modify s f c.requires.frame true) c.remove.ensures refl
-    refl (set_slotted s q c.requires.process _ _ _ _ _ c.index_mut-3.ensures.value c.put-2.ensures
-    (c.slot_lying-slot.ensures ∙ ap (λ o. block_slot (lies_of (lies_by s.lies) o)) c.at.ensures))
-    refl refl refl refl
-    refl c.in_ok-put.ensures refl refl
-    (c.in_ok-lay_nowhere.ensures ∙ ap (lies_nowhere (lies_by s.lies)) c.at-2.ensures) refl)
+    let v = page_number c.args.a.0 in
+    let ring = (shown s).pager.ring in
+    let slot = c.slot_lying-slot.ensures ∙ ap (λ o. block_slot (lies_of (lies_by s.lies) o)) c.at.ensures in
+    c.in_ok-enter_slot.ensures
+    ∙ ap (with_pager (shown s)) (same_pager _ _ refl refl refl c.remove.ensures refl
+    refl (ap (λ (n : ℕ). at_number ring q (slotted (ring q) n v)) slot) refl refl refl refl refl refl refl refl refl refl)

@@ -1,20 +1,11 @@
-use Rattle.std.proofs.Common.{refl, true, ap, ◌∙◌}
-use Rattle.pager_model.specs.Changes.{lies_nowhere}
-use Rattle.log_tables.specs.Lying.{lies_by}
-use Rattle.log_pager.specs.Shown.{shown}
-use Rattle.log_pager.proofs.Same.{same_shown, same_pager}
-use Rattle.log_pager.proofs.Tables.{set_modify, set_slotted, set_state}
+use Rattle.std.proofs.Common.{ℕ, ap, ◌∙◌}
+use Rattle.log_pager.specs.Entering.{in_slot}
+use Rattle.log_pager.specs.Shown.{shown, with_pager}
 use Rattle.log_pager.proofs.log_pager.LogPager.come_lands.Goals as goal
 
 pub returns : goal.returns
 unfolding shown
 returns c =
     let s = c.args.self.now in
-    let f = c.args.f.0 in
-    let q = c.args.q.0 in
-    same_shown _ (shown s) _ refl refl
-    (same_pager _ _ (set_state s f c.requires.frame _) refl (set_modify s f c.requires.frame true) refl refl
-    refl (set_slotted s q c.requires.process _ _ _ _ _ c.index_mut-3.ensures.value c.put-2.ensures c.slot_of.ensures)
-    refl refl refl refl
-    refl c.in_ok-put.ensures refl refl
-    (c.in_ok-lay_nowhere.ensures ∙ ap (lies_nowhere (lies_by s.lies)) c.at.ensures) refl)
+    c.in_ok-enter_slot.ensures
+    ∙ ap (λ (n : ℕ). with_pager (shown s) (in_slot (shown s).pager c.args.q.0 c.args.a.0 c.args.f.0 n)) c.slot_of.ensures

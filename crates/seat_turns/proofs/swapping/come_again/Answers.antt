@@ -1,8 +1,0 @@
-use Rattle.seat_turns.proofs.OpenWork.{nothing_worked}
-use Rattle.seat_turns.proofs.swapping.come_again.Goals as goal
-
-pub returns-in-InFlight-clause-worked : goal.returns-in-InFlight-clause-worked
-returns-in-InFlight-clause-worked g c = nothing_worked c.args.state.now c.args.seat c.requires.free c.args.carrier.now c.requires.carrier
-
-pub returns-in-ModifiedFull-clause-worked : goal.returns-in-ModifiedFull-clause-worked
-returns-in-ModifiedFull-clause-worked g c = nothing_worked c.args.state.now c.args.seat c.requires.free c.args.carrier.now c.requires.carrier
