@@ -20,13 +20,13 @@ use Rattle.command_ends.specs.Ends.{Ends}
 use Rattle.command_ends.specs.FaultText.{fault_status, fault_told}
 use Rattle.command_ends.specs.Wrongs.{IsWrong, IsWrongText, TellsWrong, wrong_of}
 use Rattle.command_ends.specs.declared.wrong.Wrong.{Wrong}
-use Rattle.command_ends.proofs.Wronging.{fault_wrong}
+use Rattle.command_ends.proofs.Wronging.{fault_text_kept, fault_wrong, told_alone}
 use Rattle.outside_io.specs.LineText.{line_text}
 use Rattle.log_check.specs.Judged.{KeepsFault}
 use Rattle.check_command.specs.Answers.{Answer, CountsBy, IsRead, KeepsText, Says}
 use Rattle.check_command.specs.CheckText.{legal, at_fault, too_long}
 use Rattle.check_command.specs.CheckTells.{CheckTells, answered, faulty, unfinished, unread, no_memory}
-use Rattle.check_command.specs.Verdicts.{verdict_status, verdict_text, wrong_in_log}
+use Rattle.check_command.specs.Verdicts.{EndsJudged, verdict_status, verdict_text, wrong_in_log}
 
 if_some : (P Q : List ℕ → Type 0) (told : Option (List ℕ)) → ((text : List ℕ) → P text → Q text) → IfSome told P → IfSome told Q
 if_some P Q None f h = tt
@@ -94,7 +94,7 @@ own_text (Err TooMany) input kept keeps = tt
 own_text (Err ReadFault) input kept keeps = tt
 own_text (Err NoMemory) input kept keeps = tt
 
-pub verdict_text_kept : (verdict : Result Verdict CheckFault) (wrong : Option Wrong) (input : Option (List ℕ)) (kept : List ℕ) → wrong ≡ wrong_in_log verdict → KeepsText (Ok verdict) input kept
+verdict_text_kept : (verdict : Result Verdict CheckFault) (wrong : Option Wrong) (input : Option (List ℕ)) (kept : List ℕ) → wrong ≡ wrong_in_log verdict → KeepsText (Ok verdict) input kept
     → IsWrongText wrong input kept
 verdict_text_kept verdict wrong input kept is keeps = subst (λ w. IsWrongText w input kept) (sym is) (own_text verdict input kept keeps)
 
@@ -118,11 +118,27 @@ module _ {before after : SourceView} where
   verdict_tells (Err NoMemory) says counts = no_memory counts
 
   -- the outcome of a trace that gives no configuration, and that of a log
-  pub concludes_fault : {sink sink' : SinkView} {result : ℕ} (f : TraceFault) (wrong : Option Wrong) → wrong ≡ wrong_of f → IfSome before.left (λ text. IsRead (Says (Err f) text) after.left)
+  concludes_fault : {sink sink' : SinkView} {result : ℕ} (f : TraceFault) (wrong : Option Wrong) → wrong ≡ wrong_of f → IfSome before.left (λ text. IsRead (Says (Err f) text) after.left)
       → CountsBy (Err f) before.failures after.failures → Ends sink sink' (fault_status f) (fault_told f) result → Concludes (TellsWrong (CheckTells before after) wrong) sink sink' result
   concludes_fault f wrong is means counts ends = record { status = fault_status f; text = fault_told f; tells_it = record { told = head_tells f means counts; says = fault_wrong f wrong is }; ends = ends }
 
-  pub concludes_verdict : {sink sink' : SinkView} {result : ℕ} (verdict : Result Verdict CheckFault) (wrong : Option Wrong) → wrong ≡ wrong_in_log verdict → IfSome before.left (λ text. IsRead (Says (Ok verdict) text) after.left)
+  concludes_verdict : {sink sink' : SinkView} {result : ℕ} (verdict : Result Verdict CheckFault) (wrong : Option Wrong) → wrong ≡ wrong_in_log verdict → IfSome before.left (λ text. IsRead (Says (Ok verdict) text) after.left)
       → CountsBy (Ok verdict) before.failures after.failures → Ends sink sink' (verdict_status verdict) (verdict_text verdict) result → Concludes (TellsWrong (CheckTells before after) wrong) sink sink' result
   concludes_verdict verdict wrong is says counts ends =
       record { status = verdict_status verdict; text = verdict_text verdict; tells_it = record { told = verdict_tells verdict says counts; says = subst (λ w. IsWrong w (verdict_status verdict) (verdict_text verdict)) (sym is) (verdict_wrong verdict) }; ends = ends }
+
+  pub concludes_judged : {sink sink' : SinkView} {result : ℕ} (judged : Answer) (wrong : Option Wrong) → IfSome before.left (λ text. IsRead (Says judged text) after.left)
+      → CountsBy judged before.failures after.failures → EndsJudged judged sink sink' result wrong → Concludes (TellsWrong (CheckTells before after) wrong) sink sink' result
+  concludes_judged (Ok verdict) wrong says counts ends = concludes_verdict verdict wrong ends.1 says counts ends.0
+  concludes_judged (Err fault) wrong says counts ends = concludes_fault fault wrong ends.1 says counts ends.0
+
+  -- what is told alone
+  pub judged_alone : {sink sink' : SinkView} {result : ℕ} (judged : Answer) (wrong : Option Wrong) → IfSome before.left (λ text. IsRead (Says judged text) after.left)
+      → CountsBy judged before.failures after.failures → EndsJudged judged sink sink' result wrong → Concludes (CheckTells before after) sink sink' result
+  judged_alone judged wrong says counts ends = told_alone (concludes_judged judged wrong says counts ends)
+
+-- and the first bytes of its faulty line
+pub judged_text_kept : (sink sink' : SinkView) (result : ℕ) (judged : Answer) (wrong : Option Wrong) (input : Option (List ℕ)) (kept : List ℕ) → EndsJudged judged sink sink' result wrong
+    → KeepsText judged input kept → IsWrongText wrong input kept
+judged_text_kept sink sink' result (Ok verdict) wrong input kept ends keeps = verdict_text_kept verdict wrong input kept ends.1 keeps
+judged_text_kept sink sink' result (Err fault) wrong input kept ends keeps = fault_text_kept fault wrong input kept ends.1 keeps

@@ -4,7 +4,7 @@ ghost use Rattle.command_ends.specs.Concludes.{Concludes, HasTold, WasCut};
 ghost use Rattle.command_ends.specs.Ends.{Ends};
 ghost use Rattle.command_ends.specs.Wrongs.{IsWrongText, TellsWrong};
 ghost use Rattle.check_command.specs.CheckTells.{CheckTells, HasCheckInput};
-ghost use Rattle.check_command.specs.Verdicts.{verdict_status, verdict_text, wrong_in_log};
+ghost use Rattle.check_command.specs.Verdicts.{EndsJudged, verdict_status, verdict_text, wrong_in_log};
 
 use crate::ending::{end_at_fault, end_legal, end_too_long};
 use crate::judging::judge_source;
@@ -13,6 +13,7 @@ use command_ends::{Status, Wrong, end_fault, end_with, wrong_of};
 use log_check::{CheckFault, Verdict};
 use outside_io::{Sink, Source};
 use std::alloc::Global;
+use trace_reader::TraceFault;
 
 // Writes the verdict, or why there is none, and the status.
 fn end_verdict<K: Sink>(verdict: &Result<Verdict, CheckFault>, sink: &mut K) -> Status
@@ -40,23 +41,15 @@ fn wrong_in_log(verdict: Result<Verdict, CheckFault>) -> Option<Wrong>
     }
 }
 
-// The outcome of the command.
-fn conclude<S: Source, K: Sink>(
-    alloc: Global,
-    source: &mut S,
+// Writes the verdict, or what is wrong with the trace before the log, and the status.
+fn conclude<K: Sink>(
+    judged: Result<Result<Verdict, CheckFault>, TraceFault>,
     sink: &mut K,
-    kept: &mut ArrayVec<u8, 80>,
 ) -> (Status, Option<Wrong>)
-    ensures outcome { Concludes (TellsWrong (CheckTells (S.seen source.old) (S.seen source.new)) result.1)
-        (K.seen sink.old) (K.seen sink.new) result.0.0 }
-    ensures kept { IsWrongText result.1 (S.seen source.old).left kept.new.items }
-    ensures faults_later { (S.seen source.old).failures ≤ (S.seen source.new).failures }
+    ensures { EndsJudged judged (K.seen sink.old) (K.seen sink.new) result.0.0 result.1 }
 {
-    match judge_source(alloc, source, kept) {
-        Ok(verdict) => {
-            let status = end_verdict(&verdict, sink);
-            (status, wrong_in_log(verdict))
-        }
+    match judged {
+        Ok(verdict) => (end_verdict(&verdict, sink), wrong_in_log(verdict)),
         Err(fault) => (end_fault(fault, sink), wrong_of(fault)),
     }
 }
@@ -98,5 +91,5 @@ pub fn check<S: Source, K: Sink>(
     ensures kept { IsWrongText result.1 (S.seen source.old).left kept.new.items }
     ensures faults_later { (S.seen source.old).failures ≤ (S.seen source.new).failures }
 {
-    conclude(alloc, source, sink, kept)
+    conclude(judge_source(alloc, source, kept), sink)
 }

@@ -19,32 +19,37 @@ rule_text word OutOfRange = codes "the number is out of its range"
 rule_text word Unaligned = codes "the address isn't a multiple of the page size or of the width of the reference"
 rule_text word Repeated = codes "this was declared before"
 
--- a text with a number, and one with the same number twice
+-- from where to where a number is
+abbrev pub from_to : ℕ → ℕ → List ℕ
+from_to low high = codes "the number is from " ++ decimal low ++ codes " to " ++ decimal high
+
+-- a text with a number
 abbrev pub with_one : List ℕ → ℕ → List ℕ → List ℕ
 with_one front n back = front ++ decimal n ++ back
 
-abbrev pub with_two : List ℕ → ℕ → List ℕ → ℕ → List ℕ
-with_two front n middle m = front ++ decimal n ++ middle ++ decimal m
+-- what a value is, and what follows from it with the same number
+abbrev pub with_so : List ℕ → ℕ → List ℕ → List ℕ
+with_so name n so = name ++ codes " is " ++ decimal n ++ codes ", so " ++ so ++ codes " " ++ decimal n
 
 -- what may stand in the place of a word, with the numbers that are at play; of a word that may be anything the
 -- rule that it breaks
 abbrev pub bound_text : List ℕ → Bound → List ℕ
 bound_text rule Free = rule
-bound_text rule (Within low high) = with_two (codes "the number is from ") low (codes " to ") high
+bound_text rule (Within low high) = from_to low high
 bound_text rule (Multiple bytes) = with_one (codes "the address has 1 to 8 hexadecimal digits, and is a multiple of ") bytes []
 bound_text rule (Next p) = codes "processes are declared in the order of their letters, from A on"
-bound_text rule (BelowFrames n) = with_two (codes "FRAMES is ") n (codes ", so the frame's number is below ") n
+bound_text rule (BelowFrames n) = with_so (codes "FRAMES") n (codes "the frame's number is below")
 bound_text rule (Bytes n) = with_one (codes "the section has ") n (codes " bytes, and those from this place on lie in it")
 bound_text rule (Pages n) = with_one (codes "the section has ") n (codes " pages, and those from this page on are among them")
 bound_text rule Regions = codes "the pages lie in P0 pages 0 to 4095, or in the last 1024 pages of P1"
-bound_text rule (Locks n) = with_two (codes "the limit is ") n (codes ", so the locks and 2 are at most ") n
-bound_text rule (Quota n) = with_two (codes "the limit is ") n (codes ", so the quota is at least ") n
-bound_text rule (Extent n) = with_two (codes "the quota is ") n (codes ", so the extent is at least ") n
-bound_text rule (LoLimit n) = with_two (codes "HILIMIT is ") n (codes ", so LOLIMIT is at most ") n
-bound_text rule (HiLimit n) = with_two (codes "WAITLIMIT is ") n (codes ", so HILIMIT is at most ") n
-bound_text rule (FreeLim n) = with_two (codes "FREEGOAL is ") n (codes ", so FREELIM is at most ") n
-bound_text rule (Frames n) = with_two (codes "FRAMES is ") n (codes ", so each extent, the bad frames and 2 are at most ") n
-bound_text rule (FramesAndLocks n) = with_two (codes "FRAMES is ") n (codes ", so each extent, the bad frames, the locks of all processes and 2 are at most ") n
+bound_text rule (Locks n) = with_so (codes "the limit") n (codes "the locks and 2 are at most")
+bound_text rule (Quota n) = with_so (codes "the limit") n (codes "the quota is at least")
+bound_text rule (Extent n) = with_so (codes "the quota") n (codes "the extent is at least")
+bound_text rule (LoLimit n) = with_so (codes "HILIMIT") n (codes "LOLIMIT is at most")
+bound_text rule (HiLimit n) = with_so (codes "WAITLIMIT") n (codes "HILIMIT is at most")
+bound_text rule (FreeLim n) = with_so (codes "FREEGOAL") n (codes "FREELIM is at most")
+bound_text rule (Frames n) = with_so (codes "FRAMES") n (codes "each extent, the bad frames and 2 are at most")
+bound_text rule (FramesAndLocks n) = with_so (codes "FRAMES") n (codes "each extent, the bad frames, the locks of all processes and 2 are at most")
 
 abbrev pub breach_text : Breach → List ℕ
 breach_text breach = bound_text (rule_text breach.word breach.cause) breach.bound

@@ -6,6 +6,7 @@ mod faults;
 mod line;
 mod marks;
 mod messages;
+mod options;
 mod reasons;
 
 pub use faults::{CommandName, LineFault, LineOption};

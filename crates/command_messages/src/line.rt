@@ -1,32 +1,19 @@
 //! Finds what is wrong with a command line.
 
-ghost use Rattle.std.specs.Prelude.{◌≡◌, ◌<◌, ◌≤◌, ◌∷◌, [], ℕ, List, IfSome, IfNone, MatchOption, false, get_or, is_some, length, map, true};
-ghost use Rattle.command_messages.specs.LineFaults.{HasInside, Holds, IsBadAt, IsMissing, IsOptionWord, Quotes, command_with, command_word, option_word, takes};
+ghost use Rattle.std.specs.Prelude.{◌≡◌, ◌<◌, ◌∷◌, [], ℕ, List, IfSome, IfNone, MatchOption, false, get_or, is_some, length, map, true};
+ghost use Rattle.command_messages.specs.LineFaults.{HasInside, Holds, IsBadAt, IsMissing, IsOptionWord, Quotes, command_with, command_word, takes};
 ghost use Rattle.command_messages.specs.declared.faults.CommandName.{CommandName};
 ghost use Rattle.study_command.specs.CommandLine.{if_right, process_named};
 ghost use Rattle.trace_words.specs.Number.{decimal_within};
 ghost use Rattle.command_messages.specs.declared.faults.LineFault.{LineFault};
 
 use crate::faults::{CommandName, LineFault, LineOption};
+use crate::options::words_of;
 use arrayvec::ArrayVec;
 use outside_io::keep_front;
 use study_command::first_word;
 use trace_words::decimal_within;
 use vm_text::{after, is};
-
-// The option's word.
-pub(crate) fn option_word(option: LineOption) -> &'static [u8]
-    ensures value { result.now ≡ option_word option }
-    ensures short { length result.now ≤ 9 }
-{
-    match option {
-        LineOption::Process => b"--process",
-        LineOption::Frames => b"--frames",
-        LineOption::Seed => b"--seed",
-        LineOption::Procs => b"--procs",
-        LineOption::Refs => b"--refs",
-    }
-}
 
 // Whether it is a letter, A to P.
 fn is_process(value: &[u8]) -> bool
@@ -68,7 +55,7 @@ fn takes(option: LineOption, value: &[u8]) -> bool
 fn inside<'a>(option: LineOption, word: &'a [u8]) -> Option<&'a [u8]>
     ensures { MatchOption result ((value : List ℕ) → HasInside option word.now value → ⊥) (λ value. HasInside option word.now value.now) }
 {
-    match after(word, option_word(option)) {
+    match after(word, words_of(option).name) {
         Some([b'=', value @ ..]) => Some(value),
         _ => None,
     }
@@ -81,7 +68,7 @@ fn is_option_word(option: LineOption, word: &[u8]) -> bool
 {
     match inside(option, word) {
         Some(_) => true,
-        None => is(word, option_word(option)),
+        None => is(word, words_of(option).name),
     }
 }
 
@@ -116,7 +103,7 @@ fn is_bad_at(option: LineOption, words: &[&str], place: usize) -> bool
     let word = word_at(words, place);
     match inside(option, word) {
         Some(value) => !takes(option, value),
-        None => is(word, option_word(option)) && !takes(option, word_at(words, place + 1)),
+        None => is(word, words_of(option).name) && !takes(option, word_at(words, place + 1)),
     }
 }
 

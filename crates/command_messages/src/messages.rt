@@ -2,12 +2,13 @@
 
 ghost use Rattle.std.specs.Prelude.{◌≡◌, ◌+◌, ◌≤◌, ◌++◌, length, true, None};
 ghost use Rattle.arrayvec.specs.ArrayVec.{array_vec_len};
-ghost use Rattle.command_messages.specs.LineFaults.{range_text, said_text, takes_text};
+ghost use Rattle.log_messages.specs.Texts.{Adds, AreWords};
+ghost use Rattle.command_messages.specs.LineFaults.{said_text, takes_text};
 ghost use Rattle.command_messages.specs.Messages.{IsSaid, dump_message, fault_message, line_message, message_of, status_message, usage_message, usage_text, wrong_message};
 
-use crate::faults::{CommandName, LineFault, LineOption};
-use crate::line::option_word;
+use crate::faults::{CommandName, LineFault};
 use crate::marks::push_mark;
+use crate::options::words_of;
 use crate::reasons::push_reason;
 use arrayvec::ArrayVec;
 use command_ends::Wrong;
@@ -59,24 +60,9 @@ fn dump_message(bytes: u64) -> ArrayVec<u8, 512>
     out
 }
 
-// What an option may be.
-fn range_of(option: LineOption) -> &'static [u8]
-    ensures value { result.now ≡ range_text option }
-    ensures short { length result.now ≤ 100 }
-{
-    match option {
-        LineOption::Process => b"A to P",
-        LineOption::Frames => b"1 to 1024",
-        LineOption::Seed => b"0 to 4294967295",
-        LineOption::Procs => b"1 to 16",
-        LineOption::Refs => b"1 to 100000",
-    }
-}
-
 // What a command takes.
 fn taken_by(command: CommandName) -> &'static [u8]
-    ensures value { result.now ≡ takes_text command }
-    ensures short { length result.now ≤ 100 }
+    ensures { AreWords result.now (takes_text command) 100 }
 {
     match command {
         CommandName::Serial => b"serial takes its trace from standard input: serial < FILE",
@@ -96,8 +82,7 @@ fn taken_by(command: CommandName) -> &'static [u8]
 // Adds what is wrong with a command line.
 fn add_said(out: &mut ArrayVec<u8, 1792>, fault: LineFault, text: &ArrayVec<u8, 80>)
     requires { array_vec_len out.old ≤ 10 }
-    ensures items { out.new.items ≡ out.old.items ++ said_text fault text.now.items }
-    ensures len { array_vec_len out.new ≤ array_vec_len out.old + 370 }
+    ensures { Adds out.old.items out.new.items (said_text fault text.now.items) 370 }
 {
     match fault {
         LineFault::NotText => push_word(out, b"a word isn't UTF-8"),
@@ -107,13 +92,14 @@ fn add_said(out: &mut ArrayVec<u8, 1792>, fault: LineFault, text: &ArrayVec<u8, 
             push_shown(out, text.as_slice());
         }
         LineFault::Missing(option) => {
-            push_word(out, option_word(option));
+            push_word(out, words_of(option).name);
             push_word(out, b" is missing");
         }
         LineFault::BadValue(option) => {
-            push_word(out, option_word(option));
+            let words = words_of(option);
+            push_word(out, words.name);
             push_word(out, b" is ");
-            push_word(out, range_of(option));
+            push_word(out, words.range);
         }
         LineFault::Other(command) => push_word(out, taken_by(command)),
     }

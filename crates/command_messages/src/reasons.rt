@@ -1,8 +1,9 @@
 //! Why a line of an input is at fault, in words.
 
-ghost use Rattle.std.specs.Prelude.{◌≡◌, ◌+◌, ◌≤◌, ◌++◌, length};
+ghost use Rattle.std.specs.Prelude.{◌≡◌, ◌+◌, ◌≤◌, length};
 ghost use Rattle.arrayvec.specs.ArrayVec.{array_vec_len};
-ghost use Rattle.command_messages.specs.Reasons.{begins, bound_text, breach_text, first_reason, is_dump, is_log, is_marked, is_wide, later_reason, reason_text, rule_text, with_one, with_two};
+ghost use Rattle.log_messages.specs.Texts.{Adds, AreWords};
+ghost use Rattle.command_messages.specs.Reasons.{begins, bound_text, breach_text, first_reason, from_to, is_dump, is_log, is_marked, is_wide, later_reason, reason_text, rule_text, with_one, with_so};
 
 use arrayvec::ArrayVec;
 use trace_reader::{Bound, Breach, Cause};
@@ -10,8 +11,7 @@ use vm_text::{after, push_decimal, push_word};
 
 // The rule that the word of this number breaks.
 fn rule_of(word: u8, cause: Cause) -> &'static [u8]
-    ensures value { result.now ≡ rule_text word cause }
-    ensures short { length result.now ≤ 100 }
+    ensures { AreWords result.now (rule_text word cause) 100 }
 {
     match cause {
         Cause::LineTooLong => b"the line has more than 255 bytes",
@@ -41,38 +41,48 @@ fn push_one(out: &mut ArrayVec<u8, 640>, front: &[u8], n: u64, back: &[u8])
     requires front { length front.now ≤ 70 }
     requires back { length back.now ≤ 60 }
     requires room { array_vec_len out.old ≤ 40 }
-    ensures items { out.new.items ≡ out.old.items ++ with_one front.now n back.now }
-    ensures len { array_vec_len out.new ≤ array_vec_len out.old + 150 }
+    ensures { Adds out.old.items out.new.items (with_one front.now n back.now) 150 }
 {
     push_word(out, front);
     push_decimal(out, n);
     push_word(out, back);
 }
 
-// Adds a text with two numbers.
-fn push_two(out: &mut ArrayVec<u8, 640>, front: &[u8], n: u32, middle: &[u8], m: u32)
-    requires front { length front.now ≤ 30 }
-    requires middle { length middle.now ≤ 80 }
-    requires room { array_vec_len out.old ≤ 40 }
-    ensures items { out.new.items ≡ out.old.items ++ with_two front.now n middle.now m }
-    ensures len { array_vec_len out.new ≤ array_vec_len out.old + 150 }
+// Adds from where to where a number is.
+fn push_range(out: &mut ArrayVec<u8, 640>, low: u32, high: u32)
+    requires { array_vec_len out.old ≤ 40 }
+    ensures { Adds out.old.items out.new.items (from_to low high) 150 }
 {
-    push_word(out, front);
+    push_word(out, b"the number is from ");
+    push_decimal(out, u64::from(low));
+    push_word(out, b" to ");
+    push_decimal(out, u64::from(high));
+}
+
+// Adds what a value is, and what follows from it with the same number.
+fn push_so(out: &mut ArrayVec<u8, 640>, name: &[u8], n: u32, so: &[u8])
+    requires short { length name.now + length so.now ≤ 90 }
+    requires room { array_vec_len out.old ≤ 40 }
+    ensures { Adds out.old.items out.new.items (with_so name.now n so.now) 150 }
+{
+    push_word(out, name);
+    push_word(out, b" is ");
     push_decimal(out, u64::from(n));
-    push_word(out, middle);
-    push_decimal(out, u64::from(m));
+    push_word(out, b", so ");
+    push_word(out, so);
+    push_word(out, b" ");
+    push_decimal(out, u64::from(n));
 }
 
 // Adds what may stand in the place of a word, or the rule that it breaks if that is anything.
 fn push_bound(out: &mut ArrayVec<u8, 640>, rule: &[u8], bound: Bound)
     requires rule { length rule.now ≤ 100 }
     requires room { array_vec_len out.old ≤ 40 }
-    ensures items { out.new.items ≡ out.old.items ++ bound_text rule.now bound }
-    ensures len { array_vec_len out.new ≤ array_vec_len out.old + 150 }
+    ensures { Adds out.old.items out.new.items (bound_text rule.now bound) 150 }
 {
     match bound {
         Bound::Free => push_word(out, rule),
-        Bound::Within(low, high) => push_two(out, b"the number is from ", low, b" to ", high),
+        Bound::Within(low, high) => push_range(out, low, high),
         Bound::Multiple(bytes) => push_one(
             out,
             b"the address has 1 to 8 hexadecimal digits, and is a multiple of ",
@@ -83,13 +93,7 @@ fn push_bound(out: &mut ArrayVec<u8, 640>, rule: &[u8], bound: Bound)
             out,
             b"processes are declared in the order of their letters, from A on",
         ),
-        Bound::BelowFrames(n) => push_two(
-            out,
-            b"FRAMES is ",
-            n,
-            b", so the frame's number is below ",
-            n,
-        ),
+        Bound::BelowFrames(n) => push_so(out, b"FRAMES", n, b"the frame's number is below"),
         Bound::Bytes(n) => push_one(
             out,
             b"the section has ",
@@ -106,31 +110,23 @@ fn push_bound(out: &mut ArrayVec<u8, 640>, rule: &[u8], bound: Bound)
             out,
             b"the pages lie in P0 pages 0 to 4095, or in the last 1024 pages of P1",
         ),
-        Bound::Locks(n) => push_two(
+        Bound::Locks(n) => push_so(out, b"the limit", n, b"the locks and 2 are at most"),
+        Bound::Quota(n) => push_so(out, b"the limit", n, b"the quota is at least"),
+        Bound::Extent(n) => push_so(out, b"the quota", n, b"the extent is at least"),
+        Bound::LoLimit(n) => push_so(out, b"HILIMIT", n, b"LOLIMIT is at most"),
+        Bound::HiLimit(n) => push_so(out, b"WAITLIMIT", n, b"HILIMIT is at most"),
+        Bound::FreeLim(n) => push_so(out, b"FREEGOAL", n, b"FREELIM is at most"),
+        Bound::Frames(n) => push_so(
             out,
-            b"the limit is ",
+            b"FRAMES",
             n,
-            b", so the locks and 2 are at most ",
-            n,
+            b"each extent, the bad frames and 2 are at most",
         ),
-        Bound::Quota(n) => push_two(out, b"the limit is ", n, b", so the quota is at least ", n),
-        Bound::Extent(n) => push_two(out, b"the quota is ", n, b", so the extent is at least ", n),
-        Bound::LoLimit(n) => push_two(out, b"HILIMIT is ", n, b", so LOLIMIT is at most ", n),
-        Bound::HiLimit(n) => push_two(out, b"WAITLIMIT is ", n, b", so HILIMIT is at most ", n),
-        Bound::FreeLim(n) => push_two(out, b"FREEGOAL is ", n, b", so FREELIM is at most ", n),
-        Bound::Frames(n) => push_two(
+        Bound::FramesAndLocks(n) => push_so(
             out,
-            b"FRAMES is ",
+            b"FRAMES",
             n,
-            b", so each extent, the bad frames and 2 are at most ",
-            n,
-        ),
-        Bound::FramesAndLocks(n) => push_two(
-            out,
-            b"FRAMES is ",
-            n,
-            b", so each extent, the bad frames, the locks of all processes and 2 are at most ",
-            n,
+            b"each extent, the bad frames, the locks of all processes and 2 are at most",
         ),
     }
 }
@@ -138,8 +134,7 @@ fn push_bound(out: &mut ArrayVec<u8, 640>, rule: &[u8], bound: Bound)
 // Adds the rule that a line breaks, with the bound that is at play.
 fn push_breach(out: &mut ArrayVec<u8, 640>, breach: Breach)
     requires { array_vec_len out.old ≤ 40 }
-    ensures items { out.new.items ≡ out.old.items ++ breach_text breach }
-    ensures len { array_vec_len out.new ≤ array_vec_len out.old + 150 }
+    ensures { Adds out.old.items out.new.items (breach_text breach) 150 }
 {
     let rule = rule_of(breach.word, breach.cause);
     push_bound(out, rule, breach.bound);
@@ -172,8 +167,7 @@ fn is_log(text: &[u8]) -> bool
 // Adds why a first line is at fault.
 fn push_first(out: &mut ArrayVec<u8, 640>, breach: Breach, text: &[u8])
     requires { array_vec_len out.old ≤ 40 }
-    ensures items { out.new.items ≡ out.old.items ++ first_reason (breach_text breach) text.now }
-    ensures len { array_vec_len out.new ≤ array_vec_len out.old + 150 }
+    ensures { Adds out.old.items out.new.items (first_reason (breach_text breach) text.now) 150 }
 {
     if begins(b"\xEF\xBB\xBF", text) {
         push_word(
@@ -203,8 +197,7 @@ fn push_first(out: &mut ArrayVec<u8, 640>, breach: Breach, text: &[u8])
 // Adds why a later line is at fault.
 fn push_later(out: &mut ArrayVec<u8, 640>, breach: Breach, text: &[u8])
     requires { array_vec_len out.old ≤ 40 }
-    ensures items { out.new.items ≡ out.old.items ++ later_reason (breach_text breach) text.now }
-    ensures len { array_vec_len out.new ≤ array_vec_len out.old + 150 }
+    ensures { Adds out.old.items out.new.items (later_reason (breach_text breach) text.now) 150 }
 {
     if text.len() == 3 && begins(b"LOG", text) {
         push_word(
@@ -219,8 +212,7 @@ fn push_later(out: &mut ArrayVec<u8, 640>, breach: Breach, text: &[u8])
 /// Adds why a line of this number is at fault, in at most 150 bytes.
 pub(crate) fn push_reason(out: &mut ArrayVec<u8, 640>, number: u32, breach: Breach, text: &[u8])
     requires { array_vec_len out.old ≤ 40 }
-    ensures items { out.new.items ≡ out.old.items ++ reason_text number breach text.now }
-    ensures len { array_vec_len out.new ≤ array_vec_len out.old + 150 }
+    ensures { Adds out.old.items out.new.items (reason_text number breach text.now) 150 }
 {
     if number == 1 {
         push_first(out, breach, text);

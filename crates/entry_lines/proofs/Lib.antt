@@ -3,3 +3,4 @@ pub mod Forms
 pub mod Front
 pub mod LineWords
 pub mod OneToOne
+pub mod Printable

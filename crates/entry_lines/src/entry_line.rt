@@ -1,14 +1,10 @@
 ghost use Rattle.std.specs.Prelude.{◌≡◌, ◌+◌, ◌≤◌, ◌++◌, []};
 ghost use Rattle.arrayvec.specs.ArrayVec.{array_vec_len};
 ghost use Rattle.vm_text.specs.Named.{AreNames};
-ghost use Rattle.vm_text.specs.Spaced.{spaced};
-ghost use Rattle.vm_journal.specs.HasLine.{HasLine, WhatHasLine};
-ghost use Rattle.vm_journal.specs.Line.{line_text, kind_of, kind_word, part_words};
+ghost use Rattle.vm_journal.specs.HasLine.{HasLine};
+ghost use Rattle.vm_journal.specs.Line.{line_text, kind_of, kind_word};
 
-use crate::parts::{
-    add_back, add_collide, add_denied, add_done, add_evict, add_failed, add_flight, add_in,
-    add_limit, add_out, add_reuse, add_served, add_turn, add_zero,
-};
+use crate::parts::push_parts;
 use arrayvec::ArrayVec;
 use vm_journal::{Entry, What};
 use vm_text::{push_decimal, push_seat, push_word};
@@ -73,36 +69,5 @@ fn push_kind<const CAP: usize>(out: &mut ArrayVec<u8, CAP>, what: &What)
         What::Evict { .. } => push_word(out, b"EVICT"),
         What::Limit { .. } => push_word(out, b"LIMIT"),
         What::Turn { .. } => push_word(out, b"TURN"),
-    }
-}
-
-// The words behind an entry's kind, each behind a blank.
-fn push_parts<const CAP: usize>(
-    out: &mut ArrayVec<u8, CAP>,
-    what: &What,
-    procs: u32,
-    names: &[Section],
-)
-    requires names { AreNames procs names.now }
-    requires has_line { WhatHasLine procs names.now what.now }
-    requires room { array_vec_len out.old + 76 ≤ CAP }
-    ensures items { out.new.items ≡ out.old.items ++ spaced (part_words names.now what.now) }
-    ensures len { array_vec_len out.new ≤ array_vec_len out.old + 75 }
-{
-    match *what {
-        What::Done { r, reply } => add_done(out, r, reply),
-        What::Denied { r, why } => add_denied(out, r, why),
-        What::Served { s, answer } => add_served(out, s, answer),
-        What::Reuse { f, page } => add_reuse(out, f, page, procs, names),
-        What::Zero { a, f } => add_zero(out, a, f),
-        What::Back { p, a, f, from } => add_back(out, p, a, f, from),
-        What::Collide { a, f, k } => add_collide(out, a, f, k),
-        What::In { f, block, role } => add_in(out, f, block, role, procs, names),
-        What::InOk { f, k } | What::OutOk { f, k } => add_flight(out, f, k),
-        What::InFail { f, k, c, d } | What::OutFail { f, k, c, d } => add_failed(out, f, k, c, d),
-        What::Out { f, block } => add_out(out, f, block, procs, names),
-        What::Evict { p, a, f, why, to } => add_evict(out, p, a, f, why, to),
-        What::Limit { n, faults } => add_limit(out, n, faults),
-        What::Turn { p, status } => add_turn(out, p, status),
     }
 }

@@ -17,7 +17,7 @@ use crate::take::take_number;
 use crate::words::Words;
 use std::fmt;
 use vm_journal::{Entry, Kind, What};
-use vm_text::{is, read_seat};
+use vm_text::read_seat;
 use vm_types::{Seat, Section};
 
 /// The text is the line of no entry.
@@ -34,40 +34,24 @@ impl fmt::Display for BadLine {
 fn read_kind(word: &[u8]) -> Option<Kind>
     ensures { Reads (λ _. Unit {0}) kind_word word.now result }
 {
-    if is(word, b"DONE") {
-        Some(Kind::Done)
-    } else if is(word, b"ZERO") {
-        Some(Kind::Zero)
-    } else if is(word, b"EVICT") {
-        Some(Kind::Evict)
-    } else if is(word, b"BACK") {
-        Some(Kind::Back)
-    } else if is(word, b"IN") {
-        Some(Kind::In)
-    } else if is(word, b"INOK") {
-        Some(Kind::InOk)
-    } else if is(word, b"OUT") {
-        Some(Kind::Out)
-    } else if is(word, b"OUTOK") {
-        Some(Kind::OutOk)
-    } else if is(word, b"REUSE") {
-        Some(Kind::Reuse)
-    } else if is(word, b"TURN") {
-        Some(Kind::Turn)
-    } else if is(word, b"DENIED") {
-        Some(Kind::Denied)
-    } else if is(word, b"SERVED") {
-        Some(Kind::Served)
-    } else if is(word, b"LIMIT") {
-        Some(Kind::Limit)
-    } else if is(word, b"COLLIDE") {
-        Some(Kind::Collide)
-    } else if is(word, b"INFAIL") {
-        Some(Kind::InFail)
-    } else if is(word, b"OUTFAIL") {
-        Some(Kind::OutFail)
-    } else {
-        None
+    match word {
+        b"DONE" => Some(Kind::Done),
+        b"ZERO" => Some(Kind::Zero),
+        b"EVICT" => Some(Kind::Evict),
+        b"BACK" => Some(Kind::Back),
+        b"IN" => Some(Kind::In),
+        b"INOK" => Some(Kind::InOk),
+        b"OUT" => Some(Kind::Out),
+        b"OUTOK" => Some(Kind::OutOk),
+        b"REUSE" => Some(Kind::Reuse),
+        b"TURN" => Some(Kind::Turn),
+        b"DENIED" => Some(Kind::Denied),
+        b"SERVED" => Some(Kind::Served),
+        b"LIMIT" => Some(Kind::Limit),
+        b"COLLIDE" => Some(Kind::Collide),
+        b"INFAIL" => Some(Kind::InFail),
+        b"OUTFAIL" => Some(Kind::OutFail),
+        _ => None,
     }
 }
 

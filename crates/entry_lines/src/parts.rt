@@ -2,17 +2,18 @@
 ghost use Rattle.std.specs.Prelude.{◌≡◌, ◌+◌, ◌<◌, ◌≤◌, ◌++◌, ◌∷◌, [], decimal};
 ghost use Rattle.arrayvec.specs.ArrayVec.{array_vec_len};
 ghost use Rattle.vm_types.specs.WellFormed.{IsWellFormedService};
-ghost use Rattle.vm_text.specs.Named.{AreNames, IsNamedPage, IsNamedBlock};
-ghost use Rattle.vm_text.specs.Names.{process_name, address_text, frame_text, page_text, block_text};
+ghost use Rattle.vm_text.specs.Named.{AreNames, IsPrintableBlock};
+ghost use Rattle.vm_text.specs.Names.{process_name, address_text, frame_text, block_text};
 ghost use Rattle.vm_text.specs.References.{operand_words, reference_words, reply_words, why_word};
 ghost use Rattle.vm_text.specs.Services.{service_words, answer_words};
 ghost use Rattle.vm_text.specs.Spaced.{spaced};
 ghost use Rattle.vm_text.specs.States.{state_word, status_word};
-ghost use Rattle.vm_journal.specs.HasLine.{RoleHasWords};
-ghost use Rattle.vm_journal.specs.Line.{role_words, evict_word};
+ghost use Rattle.vm_journal.specs.HasLine.{WhatHasLine};
+ghost use Rattle.vm_journal.specs.Line.{role_words, evict_word, part_words};
+ghost use Rattle.entry_lines.specs.Printable.{IsPrintableRole};
 
 use arrayvec::ArrayVec;
-use vm_journal::{EvictWhy, Role};
+use vm_journal::{EvictWhy, Role, What};
 use vm_text::{
     push_address, push_block, push_count, push_decimal, push_frame, push_op, push_page, push_place,
     push_process, push_protection, push_service_name, push_state, push_status, push_value,
@@ -41,20 +42,34 @@ fn add_number<const CAP: usize>(out: &mut ArrayVec<u8, CAP>, number: u64)
     push_decimal(out, number);
 }
 
-fn add_block<const CAP: usize>(
-    out: &mut ArrayVec<u8, CAP>,
-    block: BlockId,
-    procs: u32,
-    names: &[Section],
-)
-    requires names { AreNames procs names.now }
-    requires block { IsNamedBlock procs names.now block }
+fn add_block<const CAP: usize>(out: &mut ArrayVec<u8, CAP>, block: BlockId, names: &[Section])
+    requires block { IsPrintableBlock names.now block }
     requires room { array_vec_len out.old + 29 ≤ CAP }
     ensures items { out.new.items ≡ out.old.items ++ spaced (block_text names.now block ∷ []) }
     ensures len { array_vec_len out.new ≤ array_vec_len out.old + 29 }
 {
     out.push(b' ');
     push_block(out, block, names);
+}
+
+fn add_process<const CAP: usize>(out: &mut ArrayVec<u8, CAP>, p: Proc)
+    requires few { p.0 < 16 }
+    requires room { array_vec_len out.old + 2 ≤ CAP }
+    ensures items { out.new.items ≡ out.old.items ++ spaced (process_name p.0 ∷ []) }
+    ensures len { array_vec_len out.new ≤ array_vec_len out.old + 2 }
+{
+    out.push(b' ');
+    push_process(out, p);
+}
+
+fn add_address_frame<const CAP: usize>(out: &mut ArrayVec<u8, CAP>, a: Addr, f: Pfn)
+    requires { array_vec_len out.old + 21 ≤ CAP }
+    ensures items { out.new.items ≡ out.old.items ++ spaced (address_text a.0 ∷ frame_text f.0 ∷ []) }
+    ensures len { array_vec_len out.new ≤ array_vec_len out.old + 21 }
+{
+    out.push(b' ');
+    push_address(out, a);
+    add_frame(out, f);
 }
 
 // A process, an address and a frame.
@@ -64,11 +79,8 @@ fn add_mapped<const CAP: usize>(out: &mut ArrayVec<u8, CAP>, p: Proc, a: Addr, f
     ensures items { out.new.items ≡ out.old.items ++ spaced (process_name p.0 ∷ address_text a.0 ∷ frame_text f.0 ∷ []) }
     ensures len { array_vec_len out.new ≤ array_vec_len out.old + 23 }
 {
-    out.push(b' ');
-    push_process(out, p);
-    out.push(b' ');
-    push_address(out, a);
-    add_frame(out, f);
+    add_process(out, p);
+    add_address_frame(out, a, f);
 }
 
 // The value that is written or added.
@@ -101,7 +113,7 @@ fn add_reference<const CAP: usize>(out: &mut ArrayVec<u8, CAP>, r: Ref)
     add_operand(out, r.op);
 }
 
-pub(crate) fn add_done<const CAP: usize>(out: &mut ArrayVec<u8, CAP>, r: Ref, reply: Reply)
+fn add_done<const CAP: usize>(out: &mut ArrayVec<u8, CAP>, r: Ref, reply: Reply)
     requires { array_vec_len out.old + 31 ≤ CAP }
     ensures items { out.new.items ≡ out.old.items ++ spaced (reference_words r ++ reply_words r.op reply) }
     ensures len { array_vec_len out.new ≤ array_vec_len out.old + 31 }
@@ -116,7 +128,7 @@ pub(crate) fn add_done<const CAP: usize>(out: &mut ArrayVec<u8, CAP>, r: Ref, re
     }
 }
 
-pub(crate) fn add_denied<const CAP: usize>(out: &mut ArrayVec<u8, CAP>, r: Ref, why: Why)
+fn add_denied<const CAP: usize>(out: &mut ArrayVec<u8, CAP>, r: Ref, why: Why)
     requires { array_vec_len out.old + 35 ≤ CAP }
     ensures items { out.new.items ≡ out.old.items ++ spaced (reference_words r ++ why_word why ∷ []) }
     ensures len { array_vec_len out.new ≤ array_vec_len out.old + 35 }
@@ -186,7 +198,7 @@ fn add_answer<const CAP: usize>(out: &mut ArrayVec<u8, CAP>, answer: Answer)
     }
 }
 
-pub(crate) fn add_served<const CAP: usize>(out: &mut ArrayVec<u8, CAP>, s: Service, answer: Answer)
+fn add_served<const CAP: usize>(out: &mut ArrayVec<u8, CAP>, s: Service, answer: Answer)
     requires formed { IsWellFormedService s }
     requires room { array_vec_len out.old + 46 ≤ CAP }
     ensures items { out.new.items ≡ out.old.items ++ spaced (service_words s ++ answer_words answer) }
@@ -196,69 +208,8 @@ pub(crate) fn add_served<const CAP: usize>(out: &mut ArrayVec<u8, CAP>, s: Servi
     add_answer(out, answer);
 }
 
-pub(crate) fn add_reuse<const CAP: usize>(
-    out: &mut ArrayVec<u8, CAP>,
-    f: Pfn,
-    page: Page,
-    procs: u32,
-    names: &[Section],
-)
-    requires names { AreNames procs names.now }
-    requires page { IsNamedPage procs names.now page }
-    requires room { array_vec_len out.old + 39 ≤ CAP }
-    ensures items { out.new.items ≡ out.old.items ++ spaced (frame_text f.0 ∷ page_text names.now page ∷ []) }
-    ensures len { array_vec_len out.new ≤ array_vec_len out.old + 39 }
-{
-    add_frame(out, f);
-    out.push(b' ');
-    push_page(out, page, names);
-}
-
-pub(crate) fn add_zero<const CAP: usize>(out: &mut ArrayVec<u8, CAP>, a: Addr, f: Pfn)
-    requires { array_vec_len out.old + 21 ≤ CAP }
-    ensures items { out.new.items ≡ out.old.items ++ spaced (address_text a.0 ∷ frame_text f.0 ∷ []) }
-    ensures len { array_vec_len out.new ≤ array_vec_len out.old + 21 }
-{
-    out.push(b' ');
-    push_address(out, a);
-    add_frame(out, f);
-}
-
-pub(crate) fn add_back<const CAP: usize>(
-    out: &mut ArrayVec<u8, CAP>,
-    p: Proc,
-    a: Addr,
-    f: Pfn,
-    from: FrameState,
-)
-    requires few { p.0 < 16 }
-    requires room { array_vec_len out.old + 33 ≤ CAP }
-    ensures items { out.new.items ≡ out.old.items
-        ++ spaced (process_name p.0 ∷ address_text a.0 ∷ frame_text f.0 ∷ state_word from ∷ []) }
-    ensures len { array_vec_len out.new ≤ array_vec_len out.old + 33 }
-{
-    add_mapped(out, p, a, f);
-    out.push(b' ');
-    push_state(out, from);
-}
-
-pub(crate) fn add_collide<const CAP: usize>(out: &mut ArrayVec<u8, CAP>, a: Addr, f: Pfn, k: u64)
-    requires { array_vec_len out.old + 42 ≤ CAP }
-    ensures items { out.new.items ≡ out.old.items ++ spaced (address_text a.0 ∷ frame_text f.0 ∷ decimal k ∷ []) }
-    ensures len { array_vec_len out.new ≤ array_vec_len out.old + 42 }
-{
-    add_zero(out, a, f);
-    add_number(out, k);
-}
-
-fn add_role<const CAP: usize>(
-    out: &mut ArrayVec<u8, CAP>,
-    role: Role,
-    procs: u32,
-    names: &[Section],
-)
-    requires names { AreNames procs names.now }
-    requires role { RoleHasWords procs names.now role }
+fn add_role<const CAP: usize>(out: &mut ArrayVec<u8, CAP>, role: Role, names: &[Section])
+    requires role { IsPrintableRole names.now role }
     requires room { array_vec_len out.old + 33 ≤ CAP }
     ensures items { out.new.items ≡ out.old.items ++ spaced (role_words names.now role) }
     ensures len { array_vec_len out.new ≤ array_vec_len out.old + 33 }
@@ -280,45 +231,18 @@ fn add_role<const CAP: usize>(
 }
 
 #[inline(always)]
-pub(crate) fn add_out<const CAP: usize>(
-    out: &mut ArrayVec<u8, CAP>,
-    f: Pfn,
-    block: BlockId,
-    procs: u32,
-    names: &[Section],
-)
-    requires names { AreNames procs names.now }
-    requires block { IsNamedBlock procs names.now block }
+fn add_out<const CAP: usize>(out: &mut ArrayVec<u8, CAP>, f: Pfn, block: BlockId, names: &[Section])
+    requires block { IsPrintableBlock names.now block }
     requires room { array_vec_len out.old + 41 ≤ CAP }
     ensures items { out.new.items ≡ out.old.items ++ spaced (frame_text f.0 ∷ block_text names.now block ∷ []) }
     ensures len { array_vec_len out.new ≤ array_vec_len out.old + 41 }
 {
     add_frame(out, f);
-    add_block(out, block, procs, names);
-}
-
-pub(crate) fn add_in<const CAP: usize>(
-    out: &mut ArrayVec<u8, CAP>,
-    f: Pfn,
-    block: BlockId,
-    role: Role,
-    procs: u32,
-    names: &[Section],
-)
-    requires names { AreNames procs names.now }
-    requires block { IsNamedBlock procs names.now block }
-    requires role { RoleHasWords procs names.now role }
-    requires room { array_vec_len out.old + 74 ≤ CAP }
-    ensures items { out.new.items ≡ out.old.items
-        ++ spaced (frame_text f.0 ∷ block_text names.now block ∷ role_words names.now role) }
-    ensures len { array_vec_len out.new ≤ array_vec_len out.old + 74 }
-{
-    add_out(out, f, block, procs, names);
-    add_role(out, role, procs, names);
+    add_block(out, block, names);
 }
 
 // A frame, and the number of the entry that began its transfer.
-pub(crate) fn add_flight<const CAP: usize>(out: &mut ArrayVec<u8, CAP>, f: Pfn, k: u64)
+fn add_flight<const CAP: usize>(out: &mut ArrayVec<u8, CAP>, f: Pfn, k: u64)
     requires { array_vec_len out.old + 33 ≤ CAP }
     ensures items { out.new.items ≡ out.old.items ++ spaced (frame_text f.0 ∷ decimal k ∷ []) }
     ensures len { array_vec_len out.new ≤ array_vec_len out.old + 33 }
@@ -328,13 +252,7 @@ pub(crate) fn add_flight<const CAP: usize>(out: &mut ArrayVec<u8, CAP>, f: Pfn, 
 }
 
 // A transfer that failed, and its block's count of failures before and after it.
-pub(crate) fn add_failed<const CAP: usize>(
-    out: &mut ArrayVec<u8, CAP>,
-    f: Pfn,
-    k: u64,
-    c: u64,
-    d: u64,
-)
+fn add_failed<const CAP: usize>(out: &mut ArrayVec<u8, CAP>, f: Pfn, k: u64, c: u64, d: u64)
     requires { array_vec_len out.old + 75 ≤ CAP }
     ensures items { out.new.items ≡ out.old.items
         ++ spaced (frame_text f.0 ∷ decimal k ∷ decimal c ∷ decimal d ∷ []) }
@@ -345,43 +263,22 @@ pub(crate) fn add_failed<const CAP: usize>(
     add_number(out, d);
 }
 
-fn push_evict_why<const CAP: usize>(out: &mut ArrayVec<u8, CAP>, why: EvictWhy)
-    requires { array_vec_len out.old + 7 ≤ CAP }
-    ensures items { out.new.items ≡ out.old.items ++ evict_word why }
-    ensures len { array_vec_len out.new ≤ array_vec_len out.old + 7 }
+// Why a page leaves the working set.
+fn add_evict_why<const CAP: usize>(out: &mut ArrayVec<u8, CAP>, why: EvictWhy)
+    requires { array_vec_len out.old + 8 ≤ CAP }
+    ensures items { out.new.items ≡ out.old.items ++ spaced (evict_word why ∷ []) }
+    ensures len { array_vec_len out.new ≤ array_vec_len out.old + 8 }
 {
     match why {
-        EvictWhy::Replace => push_word(out, b"REPLACE"),
-        EvictWhy::Purge => push_word(out, b"PURGE"),
-        EvictWhy::Delete => push_word(out, b"DELETE"),
-        EvictWhy::Leave => push_word(out, b"LEAVE"),
-        EvictWhy::Rundown => push_word(out, b"RUNDOWN"),
+        EvictWhy::Replace => push_word(out, b" REPLACE"),
+        EvictWhy::Purge => push_word(out, b" PURGE"),
+        EvictWhy::Delete => push_word(out, b" DELETE"),
+        EvictWhy::Leave => push_word(out, b" LEAVE"),
+        EvictWhy::Rundown => push_word(out, b" RUNDOWN"),
     }
 }
 
-// A page's process, address and frame, why it leaves the working set, and its frame's state then.
-pub(crate) fn add_evict<const CAP: usize>(
-    out: &mut ArrayVec<u8, CAP>,
-    p: Proc,
-    a: Addr,
-    f: Pfn,
-    why: EvictWhy,
-    to: FrameState,
-)
-    requires few { p.0 < 16 }
-    requires room { array_vec_len out.old + 41 ≤ CAP }
-    ensures items { out.new.items ≡ out.old.items
-        ++ spaced (process_name p.0 ∷ address_text a.0 ∷ frame_text f.0 ∷ evict_word why ∷ state_word to ∷ []) }
-    ensures len { array_vec_len out.new ≤ array_vec_len out.old + 41 }
-{
-    add_mapped(out, p, a, f);
-    out.push(b' ');
-    push_evict_why(out, why);
-    out.push(b' ');
-    push_state(out, to);
-}
-
-pub(crate) fn add_limit<const CAP: usize>(out: &mut ArrayVec<u8, CAP>, n: u32, faults: u64)
+fn add_limit<const CAP: usize>(out: &mut ArrayVec<u8, CAP>, n: u32, faults: u64)
     requires { array_vec_len out.old + 32 ≤ CAP }
     ensures items { out.new.items ≡ out.old.items ++ spaced (decimal n ∷ decimal faults ∷ []) }
     ensures len { array_vec_len out.new ≤ array_vec_len out.old + 32 }
@@ -391,14 +288,62 @@ pub(crate) fn add_limit<const CAP: usize>(out: &mut ArrayVec<u8, CAP>, n: u32, f
     add_number(out, faults);
 }
 
-pub(crate) fn add_turn<const CAP: usize>(out: &mut ArrayVec<u8, CAP>, p: Proc, status: ProcStatus)
+fn add_turn<const CAP: usize>(out: &mut ArrayVec<u8, CAP>, p: Proc, status: ProcStatus)
     requires few { p.0 < 16 }
     requires room { array_vec_len out.old + 11 ≤ CAP }
     ensures items { out.new.items ≡ out.old.items ++ spaced (process_name p.0 ∷ status_word status ∷ []) }
     ensures len { array_vec_len out.new ≤ array_vec_len out.old + 11 }
 {
-    out.push(b' ');
-    push_process(out, p);
+    add_process(out, p);
     out.push(b' ');
     push_status(out, status);
+}
+
+pub(crate) fn push_parts<const CAP: usize>(
+    out: &mut ArrayVec<u8, CAP>,
+    what: &What,
+    procs: u32,
+    names: &[Section],
+)
+    requires names { AreNames procs names.now }
+    requires has_line { WhatHasLine procs names.now what.now }
+    requires room { array_vec_len out.old + 76 ≤ CAP }
+    ensures items { out.new.items ≡ out.old.items ++ spaced (part_words names.now what.now) }
+    ensures len { array_vec_len out.new ≤ array_vec_len out.old + 75 }
+{
+    match *what {
+        What::Done { r, reply } => add_done(out, r, reply),
+        What::Denied { r, why } => add_denied(out, r, why),
+        What::Served { s, answer } => add_served(out, s, answer),
+        What::Reuse { f, page } => {
+            add_frame(out, f);
+            out.push(b' ');
+            push_page(out, page, names);
+        }
+        What::Zero { a, f } => add_address_frame(out, a, f),
+        What::Back { p, a, f, from } => {
+            add_mapped(out, p, a, f);
+            out.push(b' ');
+            push_state(out, from);
+        }
+        What::Collide { a, f, k } => {
+            add_address_frame(out, a, f);
+            add_number(out, k);
+        }
+        What::In { f, block, role } => {
+            add_out(out, f, block, names);
+            add_role(out, role, names);
+        }
+        What::InOk { f, k } | What::OutOk { f, k } => add_flight(out, f, k),
+        What::InFail { f, k, c, d } | What::OutFail { f, k, c, d } => add_failed(out, f, k, c, d),
+        What::Out { f, block } => add_out(out, f, block, names),
+        What::Evict { p, a, f, why, to } => {
+            add_mapped(out, p, a, f);
+            add_evict_why(out, why);
+            out.push(b' ');
+            push_state(out, to);
+        }
+        What::Limit { n, faults } => add_limit(out, n, faults),
+        What::Turn { p, status } => add_turn(out, p, status),
+    }
 }

@@ -2,19 +2,19 @@
 ghost use Rattle.std.specs.Prelude.{◌≡◌, ◌^◌, ◌<◌, ◌≤◌, [], ◌∷◌, decimal};
 ghost use Rattle.vm_text.specs.Named.{AreNames, IsNamedPage, IsPlace};
 ghost use Rattle.vm_text.specs.Names.{frame_text, page_text, place_text};
-ghost use Rattle.vm_text.specs.Readings.{Reads};
+ghost use Rattle.vm_text.specs.Readings.{Reads, Takes};
 ghost use Rattle.vm_journal.specs.declared.entry.Kind.TheVariants as kind;
 ghost use Rattle.vm_journal.specs.HasLine.{IsEntryNumber, IsFrameNumber, RoleHasWords};
-ghost use Rattle.vm_journal.specs.Line.{part_words, role_words};
+ghost use Rattle.vm_journal.specs.Line.{evict_word, part_words, role_words};
 ghost use Rattle.entry_lines.specs.OfKind.{IsOfKind};
 
 use crate::requests::{last_answer, take_reference, take_reply, take_service};
 use crate::take::{
-    take_block, take_count, take_evict_why, take_frame, take_number, take_page, take_page_start,
-    take_place, take_process, take_state, take_status, take_why,
+    take_block, take_count, take_frame, take_number, take_page, take_page_start, take_place,
+    take_process, take_state, take_status, take_why,
 };
 use crate::words::Words;
-use vm_journal::{Role, What};
+use vm_journal::{EvictWhy, Role, What};
 use vm_text::is;
 use vm_types::{Addr, Page, Pfn, Proc, Section};
 
@@ -173,6 +173,27 @@ pub(crate) fn read_out_fail(words: &mut Words<'_>, procs: u32, names: &[Section]
 {
     let (f, k, c, d) = last_failed(words)?;
     Some(What::OutFail { f, k, c, d })
+}
+
+// Why a page leaves the working set, by its word.
+fn read_evict_why(word: &[u8]) -> Option<EvictWhy>
+    ensures { Reads (λ _. Unit {0}) evict_word word.now result }
+{
+    match word {
+        b"REPLACE" => Some(EvictWhy::Replace),
+        b"PURGE" => Some(EvictWhy::Purge),
+        b"DELETE" => Some(EvictWhy::Delete),
+        b"LEAVE" => Some(EvictWhy::Leave),
+        b"RUNDOWN" => Some(EvictWhy::Rundown),
+        _ => None,
+    }
+}
+
+fn take_evict_why(words: &mut Words<'_>) -> Option<EvictWhy>
+    ensures { Takes (λ _. Unit {0}) (λ why. evict_word why ∷ []) words.old words.new result }
+{
+    let word = words.next_word()?;
+    read_evict_why(word)
 }
 
 pub(crate) fn read_evict(words: &mut Words<'_>, procs: u32, names: &[Section]) -> Option<What>

@@ -3,38 +3,18 @@ ghost use Rattle.std.specs.Prelude.{◌≡◌, ◌^◌, ◌<◌, ◌≤◌, [], 
 ghost use Rattle.vm_types.specs.WellFormed.{IsCode, op_bytes};
 ghost use Rattle.vm_text.specs.Named.{AreNames, IsPageStart, IsPlace, IsNamedPage, IsNamedBlock};
 ghost use Rattle.vm_text.specs.Names.{process_name, address_text, frame_text, place_text, page_text, block_text};
-ghost use Rattle.vm_text.specs.Readings.{Reads, Takes};
+ghost use Rattle.vm_text.specs.Readings.{Takes};
 ghost use Rattle.vm_text.specs.References.{bare, op_text, value_text, why_word};
 ghost use Rattle.vm_text.specs.Services.{protection_name};
 ghost use Rattle.vm_text.specs.States.{state_word, status_word};
 ghost use Rattle.vm_journal.specs.HasLine.{IsFrameNumber};
-ghost use Rattle.vm_journal.specs.Line.{evict_word};
 
 use crate::words::Words;
-use vm_journal::EvictWhy;
 use vm_text::{
-    bytes_of, is, read_block, read_count, read_op, read_page, read_place, read_process,
+    bytes_of, read_block, read_count, read_op, read_page, read_place, read_process,
     read_protection, read_state, read_status, read_why,
 };
 use vm_types::{Addr, BlockId, FrameState, Mode, Op, Page, Pfn, Proc, ProcStatus, Section, Why};
-
-fn read_evict_why(word: &[u8]) -> Option<EvictWhy>
-    ensures { Reads (λ _. Unit {0}) evict_word word.now result }
-{
-    if is(word, b"REPLACE") {
-        Some(EvictWhy::Replace)
-    } else if is(word, b"PURGE") {
-        Some(EvictWhy::Purge)
-    } else if is(word, b"DELETE") {
-        Some(EvictWhy::Delete)
-    } else if is(word, b"LEAVE") {
-        Some(EvictWhy::Leave)
-    } else if is(word, b"RUNDOWN") {
-        Some(EvictWhy::Rundown)
-    } else {
-        None
-    }
-}
 
 pub(crate) fn take_number(words: &mut Words<'_>) -> Option<u64>
     ensures { Takes (λ n. n < 2 ^ 64) (λ n. decimal n ∷ []) words.old words.new result }
@@ -123,13 +103,6 @@ pub(crate) fn take_why(words: &mut Words<'_>) -> Option<Why>
 {
     let word = words.next_word()?;
     read_why(word)
-}
-
-pub(crate) fn take_evict_why(words: &mut Words<'_>) -> Option<EvictWhy>
-    ensures { Takes (λ _. Unit {0}) (λ why. evict_word why ∷ []) words.old words.new result }
-{
-    let word = words.next_word()?;
-    read_evict_why(word)
 }
 
 pub(crate) fn take_protection(words: &mut Words<'_>) -> Option<u8>

@@ -141,7 +141,7 @@ fn reach<B: Block>(state: &State<B>, x: Sought) -> u32
 
 /// Whether the faulting page is read alone, whatever may follow it: too few frames are free for another
 /// page, or a cluster reaches no further.
-fn is_alone<B: Block>(state: &State<B>, x: Sought) -> bool
+pub fn is_alone<B: Block>(state: &State<B>, x: Sought) -> bool
     requires { (is_paged state.now.config x.page && not (x.backing).charged) ≡ is_uncharged state.now.config (pager state.now) x.page }
     ensures { result ≡ (nat_lt (length (pager state.now).free) 3 || nat_lt (reach_of state.now.config (pager state.now) x.page) 2) }
 {
@@ -175,13 +175,10 @@ pub fn cluster<B: Block>(
     ensures length { result ≡ cluster_length (window state.now.config (pager state.now) x.page b)
         state.now.config.params.pfc (length (pager state.now).free) }
 {
-    pages.push(Some(x.page));
-    if is_alone(state, x) {
-        return 1;
-    }
     let pfc = state.config().params.pfc;
     let reach = reach(state, x);
     let mut out = ArrayVec::<bool, 8>::new();
+    pages.push(Some(x.page));
     out.push(true);
     let mut places = 1;
     let mut more = goes_on(true, places, reach);

@@ -15,7 +15,7 @@ ghost use Rattle.fault_core.specs.Cases.{at_frame, at_held, at_out};
 ghost use Rattle.fault_core.specs.SoughtPage.{first_block};
 ghost use Rattle.fault_core.specs.Gives.{Gives, MaySeek};
 
-use crate::cluster::{block_after, cluster};
+use crate::cluster::{block_after, cluster, is_alone};
 use crate::faults::is_uncharged;
 use crate::next::{AgainWhy, Next};
 use crate::sought::Sought;
@@ -108,9 +108,13 @@ fn read_in<B: Block>(state: &mut State<B>, x: Sought, b: BlockId, carrier: &mut 
     requires free { 1 ≤ length (pager state.old).free }
     ensures { Gives B.seen B.tells state.old state.new x.seat x.r (at_frame state.old x (Some b)) result carrier.old carrier.new }
 {
+    let fault = Role::Fault(Proc(x.seat.0), page_start(x.r));
+    if is_alone(state, x) {
+        read_one(state, x.seat, b, fault, carrier);
+        return Next::Carry;
+    }
     let mut pages = ArrayVec::new();
     let length = cluster(state, x, b, &mut pages);
-    let fault = Role::Fault(Proc(x.seat.0), page_start(x.r));
     read_one(state, x.seat, b, fault, carrier);
     for places in 1..length {
         match pages.as_slice()[places as usize] {
@@ -126,7 +130,6 @@ fn read_in<B: Block>(state: &mut State<B>, x: Sought, b: BlockId, carrier: &mut 
 }
 
 /// A demand zero page gets a frame of zeros, and the reference is answered.
-#[inline(never)]
 fn zero<B: Block>(state: &mut State<B>, x: Sought, f: Pfn, carrier: &mut Carrier<B>) -> Next
     requires head { IsHead (pager state.old).free f.0 }
     requires seeks { MaySeek state.old x (at_frame state.old x None) carrier.old }

@@ -1,6 +1,6 @@
 -- The pages of a mapping can be laid into the page tables.
 use Rattle.std.proofs.Common.{◌≡◌, ℕ, ◌+◌, ◌<◌, ◌^◌, Bool, true, false, cond, List, slice_get, arith}
-use Rattle.vm_types.specs.Behind.{origin_after}
+use Rattle.vm_types.specs.Behind.{FitsPages, origin_after}
 use Rattle.vm_types.specs.Configuration.{HasPages, IsSectionPage}
 use Rattle.vm_types.specs.WellFormed.{IsCode}
 use Rattle.vm_types.specs.declared.config.Config.{Config}
@@ -12,7 +12,7 @@ use Rattle.pte_forms.specs.declared.pte.Place.{Place}
 use Rattle.pte_forms.specs.declared.pte.Place.TheVariants as place
 use Rattle.pager_model.specs.Maps.{shared_of}
 use Rattle.state_fits.specs.Entries.{section_page_number}
-use Rattle.first_parts.specs.Laying.{CanLay, CanPlace, FitsPages, HasFirsts, first_place}
+use Rattle.first_parts.specs.Laying.{CanLay, CanPlace, HasFirsts, first_place}
 
 module _ (config : Config) (firsts : List ℕ) (have : HasFirsts config firsts) (few : (s i : ℕ) → IsSectionPage config.sections s i → section_page_number config s i < 2 ^ 21) (pages k : ℕ) (less : k < pages) where
   place_after : (o : Origin) → HasPages config.sections o pages → CanPlace config firsts (origin_after o k)

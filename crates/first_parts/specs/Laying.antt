@@ -27,10 +27,6 @@ abbrev pub CanPlace : Config → List ℕ → Origin → Type 0
 CanPlace config firsts origin.Zero = Unit {0}
 CanPlace config firsts (origin.Section s i) = HasFirsts config firsts × IsSectionPage config.sections s.0 i × (section_page_number config s.0 i < 2 ^ 21)
 
-abbrev pub FitsPages : Origin → ℕ → Type 0
-FitsPages origin.Zero pages = Unit {0}
-FitsPages (origin.Section s first) pages = first + pages < 2 ^ 32
-
 -- a mapping of one of so many processes, of pages that there are
 pub record CanLay (config : Config) (firsts : List ℕ) (procs : ℕ) (m : Mapping) : Type 0 where
   pub proc : (m.proc).0 < procs

@@ -2,27 +2,16 @@
 
 ghost use Rattle.std.specs.Prelude.{◌≡◌, ℕ, ◌+◌, All, Some, None, find, if◌then◌else◌};
 ghost use Rattle.std.specs.Option.{option_map};
-ghost use Rattle.vm_types.specs.Behind.{covers, origin_after};
+ghost use Rattle.vm_types.specs.Behind.{covers};
 ghost use Rattle.page_tables.specs.PageTables.{HasPage, IsEntry, pte_in};
 ghost use Rattle.vm_types.specs.PagePlaces.{changed_at};
 ghost use Rattle.pager_model.specs.Maps.{mapped_by};
 ghost use Rattle.state_fits.specs.Opening.{first_pte};
-ghost use Rattle.first_parts.specs.Laying.{CanLay, CanPlace, FitsPages, first_place};
+ghost use Rattle.first_parts.specs.Laying.{CanLay, CanPlace, first_place};
 
 use page_tables::{Look, Tables};
 use pte_forms::{Place, Pte};
-use vm_types::{Config, Mapping, Origin, Proc, SectionKind};
-
-/// The origin so many pages on.
-fn origin_at(origin: Origin, pages: u32) -> Origin
-    requires { FitsPages origin pages }
-    ensures { result ≡ origin_after origin pages }
-{
-    match origin {
-        Origin::Zero => Origin::Zero,
-        Origin::Section(s, first) => Origin::Section(s, first + pages),
-    }
-}
+use vm_types::{Config, Mapping, Origin, Proc, SectionKind, origin_after};
 
 /// What the entry of a page shows that was never in a frame, by what is behind it.
 fn place_of(config: &Config, firsts: &[u32], origin: Origin) -> Place
@@ -63,7 +52,7 @@ fn lay(tables: &mut Tables, config: &Config, firsts: &[u32], mapping: &Mapping)
 {
     let first = mapping.at.0 / 512;
     for k in 0..mapping.pages {
-        let place = place_of(config, firsts, origin_at(mapping.from, k));
+        let place = place_of(config, firsts, origin_after(mapping.from, k));
         let prot = mapping.prot;
         put(tables, mapping.proc, first + k, Pte { prot, place });
     }

@@ -14,8 +14,8 @@ use Rattle.vm_types.specs.declared.config.Origin.TheVariants as origin
 use Rattle.vm_types.specs.declared.config.Section.{Section}
 use Rattle.pager_model.specs.Maps.{covers, page_number}
 use Rattle.std.specs.Option.{option_map}
-use Rattle.vm_types.specs.Behind.{origin_after}
-use Rattle.flat_model.specs.Behind.{behind_by, CanLay, FitsPage}
+use Rattle.vm_types.specs.Behind.{FitsPages, origin_after}
+use Rattle.flat_model.specs.Behind.{behind_by, CanLay}
 use Rattle.flat_model.specs.Usable.{IsUsable, IsOrigin, pages_of, end_of, limit_of}
 
 pub found_passes : {X : Type 0} (p : X → Bool) (xs : List X) (x : X) → find p xs ≡ Some x → p x ≡ true
@@ -81,7 +81,7 @@ one_of_sum f xs k x e =
     let same = ap f (get_or_from_slice_get xs k x x e) in
     omega arith
 
-fits_sections : (sections : List Section) (from : Origin) (pages : ℕ) → sum_by section_pages sections ≤ 16384 → HasPages sections from pages → FitsPage from pages
+fits_sections : (sections : List Section) (from : Origin) (pages : ℕ) → sum_by section_pages sections ≤ 16384 → HasPages sections from pages → FitsPages from pages
 fits_sections sections origin.Zero pages few has = tt
 fits_sections sections (origin.Section s first) pages few has =
     let part = one_of_sum section_pages sections s.0 has.0 has.1 in

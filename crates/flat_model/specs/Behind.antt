@@ -1,12 +1,10 @@
 -- What the flat machine keeps of a page's mapping, by the page's place. This project's own.
-use Rattle.std.specs.Prelude.{◌≡◌, ℕ, ◌+◌, ◌*◌, ◌^◌, ◌&&◌, ◌<◌, ◌≤◌, List, Option, Some, nat_eq, if◌then◌else◌}
+use Rattle.std.specs.Prelude.{◌≡◌, ℕ, ◌+◌, ◌*◌, ◌&&◌, ◌≤◌, List, Option, Some, nat_eq, if◌then◌else◌}
 use Rattle.std.specs.Option.{option_map}
-use Rattle.vm_types.specs.Behind.{covers, origin_by}
+use Rattle.vm_types.specs.Behind.{FitsPages, covers, origin_by}
 use Rattle.vm_types.specs.PagePlaces.{item_at}
 use Rattle.vm_types.specs.WellFormed.{IsRange}
 use Rattle.vm_types.specs.declared.config.Mapping.{Mapping}
-use Rattle.vm_types.specs.declared.config.Origin.{Origin}
-use Rattle.vm_types.specs.declared.config.Origin.TheVariants as origin
 use Rattle.pager_model.specs.FlatService.{in_range}
 use Rattle.pager_model.specs.Maps.{Mapped}
 use Rattle.flat_model.specs.declared.behind.Behind.{Behind}
@@ -22,16 +20,11 @@ behind_by v m = record { origin = origin_by v m; prot = m.prot }
 abbrev pub mapped_in : List (Option Behind) → ℕ → ℕ → Option Mapped
 mapped_in pages p v = option_map as_mapped (item_at pages p v)
 
--- the number of the section's page so many pages on can be said
-abbrev pub FitsPage : Origin → ℕ → Type 0
-FitsPage origin.Zero pages = Unit {0}
-FitsPage (origin.Section s first) pages = first + pages < 2 ^ 32
-
 -- a table of so many places has one for each page of the mapping
 pub record CanLay (places : ℕ) (m : Mapping) : Type 0 where
   pub range : IsRange (m.at).0 m.pages
   pub room : 5120 * (m.proc).0 + 5120 ≤ places
-  pub fits : FitsPage m.from m.pages
+  pub fits : FitsPages m.from m.pages
 
 -- the mapping's pages are mapped to what it says, and all others to what they were
 abbrev pub IsLaid : Mapping → (ℕ → ℕ → Option Behind) → (ℕ → ℕ → Option Behind) → Type 0

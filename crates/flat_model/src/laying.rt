@@ -2,23 +2,12 @@
 
 ghost use Rattle.std.specs.Prelude.{◌≡◌, ℕ, ◌+◌, ◌*◌, ◌<◌, ◌≤◌, All, length, find, if◌then◌else◌};
 ghost use Rattle.std.specs.Option.{option_map};
-ghost use Rattle.vm_types.specs.Behind.{covers, origin_after};
+ghost use Rattle.vm_types.specs.Behind.{covers};
 ghost use Rattle.vm_types.specs.PagePlaces.{item_at};
-ghost use Rattle.flat_model.specs.Behind.{CanLay, CanChange, FitsPage, IsLaid, IsChangedIn, behind_by, protected_by};
+ghost use Rattle.flat_model.specs.Behind.{CanLay, CanChange, IsLaid, IsChangedIn, behind_by, protected_by};
 
 use crate::behind::Behind;
-use vm_types::{Addr, Mapping, Origin, Proc, page_place};
-
-/// The origin so many pages on.
-fn origin_on(origin: Origin, pages: u32) -> Origin
-    requires { FitsPage origin pages }
-    ensures { result ≡ origin_after origin pages }
-{
-    match origin {
-        Origin::Zero => Origin::Zero,
-        Origin::Section(s, first) => Origin::Section(s, first + pages),
-    }
-}
+use vm_types::{Addr, Mapping, Proc, origin_after, page_place};
 
 /// Maps each page of a mapping to what the mapping says.
 fn lay(pages: &mut [Option<Behind>], mapping: &Mapping)
@@ -29,7 +18,7 @@ fn lay(pages: &mut [Option<Behind>], mapping: &Mapping)
     for k in 0..mapping.pages {
         let place = page_place(mapping.proc, first + k).unwrap();
         pages[place] = Some(Behind {
-            origin: origin_on(mapping.from, k),
+            origin: origin_after(mapping.from, k),
             prot: mapping.prot,
         });
     }

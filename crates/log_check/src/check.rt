@@ -1,4 +1,4 @@
-ghost use Rattle.std.specs.Prelude.{◌≡◌, ◌+◌, ◌≤◌, ◌<◌, List, ℕ, IfOk, IfSome, IsSome, length};
+ghost use Rattle.std.specs.Prelude.{◌≡◌, ◌+◌, ◌≤◌, ◌<◌, List, [], ℕ, IfOk, IfSome, IsSome, length};
 ghost use Rattle.vm_types.specs.Configuration.{IsWellFormed};
 ghost use Rattle.outside_io.specs.BytesLeft.{bytes_left};
 ghost use Rattle.log_check.specs.Followed.{IsFollowed};
@@ -110,6 +110,40 @@ fn judge_last<S: Source>(
     }
 }
 
+/// Reads the lines one after the other from the first, and judges them; `kept` gets the first bytes of
+/// the line at which the log is at fault.
+fn judge<S: Source>(
+    alloc: Global,
+    followed: &mut Followed<'_>,
+    lines: &mut Lines<'_, S>,
+    kept: &mut ArrayVec<u8, 80>,
+) -> Result<Verdict, CheckFault>
+    requires followed { IsFollowed followed.old }
+    requires unread { followed.old.past ≡ record { config = followed.old.past.config; past = [] } }
+    ensures text { IfSome (bytes_left S.seen lines.old) (λ text. Judges followed.old.past.config result text (bytes_left S.seen lines.new)) }
+    ensures kept { KeepsFault result (bytes_left S.seen lines.old) kept.new.items }
+    ensures known { IsSome (S.seen lines.old.source.now).left → IsSome (S.seen lines.new.source.now).left }
+    ensures faults { CountsBy result (S.seen lines.old.source.now).failures (S.seen lines.new.source.now).failures }
+    ensures faults_later { (S.seen lines.old.source.now).failures ≤ (S.seen lines.new.source.now).failures }
+    ensures same_reference { lines.new.source.ghost_name ≡ lines.old.source.ghost_name }
+{
+    let mut place = Place::Entries;
+    let mut out = ArrayVec::new();
+    'lines: for count in 0..MOST_LINES {
+        match take_next(alloc, followed, place, lines, &mut out, count) {
+            Ok(Step::On(next)) => place = next,
+            Ok(Step::Judged(verdict)) => {
+                keep_front(kept, out.as_slice());
+                return Ok(verdict);
+            }
+            Err(fault) => return Err(fault),
+        }
+    }
+    let answer = judge_last(followed, &place, lines, &mut out);
+    keep_front(kept, out.as_slice());
+    answer
+}
+
 /// Whether the lines are a legal log of a configuration, up to the first that isn't a legal next one or
 /// to their end, and why it isn't. The time for a line doesn't grow with the log, and of its lines none is kept but
 /// the first 80 bytes of the one at which it is at fault, in `kept`.
@@ -133,19 +167,5 @@ pub fn check_log<S: Source>(
     ensures same_reference { lines.new.source.ghost_name ≡ lines.old.source.ghost_name }
 {
     let mut followed = Followed::new(alloc, config)?;
-    let mut place = Place::Entries;
-    let mut out = ArrayVec::new();
-    'lines: for count in 0..MOST_LINES {
-        match take_next(alloc, &mut followed, place, lines, &mut out, count) {
-            Ok(Step::On(next)) => place = next,
-            Ok(Step::Judged(verdict)) => {
-                keep_front(kept, out.as_slice());
-                return Ok(verdict);
-            }
-            Err(fault) => return Err(fault),
-        }
-    }
-    let answer = judge_last(&followed, &place, lines, &mut out);
-    keep_front(kept, out.as_slice());
-    answer
+    judge(alloc, &mut followed, lines, kept)
 }

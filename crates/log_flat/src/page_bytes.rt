@@ -92,16 +92,8 @@ impl PageBytes {
         requires { IsWellFormedService s }
         ensures { ChangesAsFlat self.old self.new p.0 s }
     {
-        match s {
-            Service::Delete { at, pages } => self.forget(p, at, pages),
-            Service::Create { .. }
-            | Service::Protect { .. }
-            | Service::Lock { .. }
-            | Service::Unlock { .. }
-            | Service::Pin { .. }
-            | Service::Unpin { .. }
-            | Service::Purge { .. }
-            | Service::Adjust { .. } => {}
+        if let Service::Delete { at, pages } = s {
+            self.forget(p, at, pages);
         }
     }
 }

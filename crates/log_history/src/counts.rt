@@ -1,4 +1,6 @@
-ghost use Rattle.std.specs.Prelude.{◌≡◌, ◌<◌, ◌≤◌, ℕ, [], true, List, None, length, slice_get, Some, OnOk, OnErr};
+//! Of each block that has failed the count of failures that its last failed transfer left.
+
+ghost use Rattle.std.specs.Prelude.{◌≡◌, ◌<◌, ◌≤◌, ℕ, true, List, None, length, slice_get, Some, OnOk, OnErr};
 ghost use Rattle.vm_types.specs.Same.{same_block};
 ghost use Rattle.vm_types.specs.declared.names.BlockId.{BlockId};
 ghost use Rattle.vm_journal.specs.declared.entry.Entry.{Entry};
@@ -10,68 +12,8 @@ ghost use Rattle.log_history.specs.Counting.{AreOthers, IsCountSet, count_of};
 
 use crate::count::Count;
 use crate::flights::Flights;
-use std::alloc::Global;
-use std::marker::Model;
 use vm_journal::What;
 use vm_types::{BlockId, NoMemory, is_same_block};
-
-/// Of each block that has failed the count of failures that its last failed transfer left.
-#[derive(Debug, Drop)]
-pub(crate) struct Counts {
-    counts: Vec<Count>,
-}
-
-impl Model for Counts {
-    ghost use Rattle.std.specs.Prelude.{List};
-    ghost use Rattle.log_history.specs.declared.count.Count.{Count};
-
-    ghost Value = { List Count };
-
-    ghost view = { λ c. c.counts.items };
-}
-
-impl Counts {
-    /// No block has failed. Doesn't allocate.
-    pub(crate) fn new(alloc: Global) -> Counts
-        ensures { result ≡ [] }
-    {
-        Counts {
-            counts: Vec::new(alloc),
-        }
-    }
-
-    /// The count of a block, 0 if it hasn't failed.
-    pub(crate) fn of(&self, block: BlockId) -> u64
-        ensures { result ≡ count_of block self.now }
-    {
-        count_in(&self.counts, block)
-    }
-
-    /// The counts after an entry, before which these flights were open.
-    ///
-    /// # Errors
-    /// `NoMemory` if out of memory; the counts are then as before.
-    pub(crate) fn add(&mut self, flights: &Flights, what: What) -> Result<(), NoMemory>
-        ensures ok { OnOk result ((past : List Entry) → flights.now ≡ open_flights past → (b : BlockId) → count_of b self.new ≡ with_count b past what (count_of b self.old)) }
-        ensures err { OnErr result (self.new ≡ self.old) }
-        ensures quiet { failure_in what ≡ None → self.new ≡ self.old }
-    {
-        if let Some((k, faults)) = failure_in(what) {
-            if let Some(x) = flights.find(k) {
-                self.set(x.block(), faults)?;
-            }
-        }
-        Ok(())
-    }
-
-    /// Sets the count of a block.
-    fn set(&mut self, block: BlockId, faults: u64) -> Result<(), NoMemory>
-        ensures ok { OnOk result (IsCountSet block faults self.old self.new) }
-        ensures err { OnErr result (self.new ≡ self.old) }
-    {
-        set_in(&mut self.counts, block, faults)
-    }
-}
 
 /// The place of the block's count; the length if there is none.
 fn place_of(counts: &[Count], block: BlockId) -> usize
@@ -87,8 +29,8 @@ fn place_of(counts: &[Count], block: BlockId) -> usize
     counts.len()
 }
 
-/// The count of the block, 0 if there is none.
-fn count_in(counts: &[Count], block: BlockId) -> u64
+/// The count of the block, 0 if it hasn't failed.
+pub(crate) fn count_in(counts: &[Count], block: BlockId) -> u64
     ensures { result ≡ count_of block counts.now }
 {
     let i = place_of(counts, block);
@@ -123,4 +65,25 @@ fn failure_in(what: What) -> Option<(u64, u64)>
         What::OutFail { k, d, .. } => Some((k, d)),
         _ => None,
     }
+}
+
+/// The counts after an entry, before which these flights were open.
+///
+/// # Errors
+/// `NoMemory` if out of memory; the counts are then as before.
+pub(crate) fn count_failure(
+    counts: &mut Vec<Count>,
+    flights: &Flights,
+    what: What,
+) -> Result<(), NoMemory>
+    ensures ok { OnOk result ((past : List Entry) → flights.now ≡ open_flights past → (b : BlockId) → count_of b counts.new.items ≡ with_count b past what (count_of b counts.old.items)) }
+    ensures err { OnErr result (counts.new.items ≡ counts.old.items) }
+    ensures quiet { failure_in what ≡ None → counts.new.items ≡ counts.old.items }
+{
+    if let Some((k, faults)) = failure_in(what) {
+        if let Some(x) = flights.find(k) {
+            set_in(counts, x.block(), faults)?;
+        }
+    }
+    Ok(())
 }

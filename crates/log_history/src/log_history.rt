@@ -2,8 +2,10 @@ ghost use Rattle.std.specs.Prelude.{◌≡◌, ◌+◌, ◌<◌, ◌^◌, [], �
 ghost use Rattle.vm_types.specs.Configuration.{IsWellFormed};
 ghost use Rattle.pager_model.specs.Flights.{open_flights};
 
-use crate::carriers::Carriers;
-use crate::counts::Counts;
+use crate::carriers::{carry, no_carriers};
+use crate::carrying::Carrying;
+use crate::count::Count;
+use crate::counts::count_failure;
 use crate::flight::Flight;
 use crate::flights::Flights;
 use crate::orders::Orders;
@@ -21,8 +23,10 @@ pub struct LogHistory<'a> {
     pub(crate) count: u64,
     pub(crate) flights: Flights,
     pub(crate) failed: Option<Flight>,
-    pub(crate) carriers: Carriers,
-    pub(crate) counts: Counts,
+    /// The last carrier of each seat.
+    pub(crate) carriers: Vec<Carrying>,
+    /// Of each block that has failed the count of failures that its last failed transfer left.
+    pub(crate) counts: Vec<Count>,
     pub(crate) orders: Orders<'a>,
 }
 
@@ -33,7 +37,7 @@ impl<'a> Model for LogHistory<'a> {
 
     ghost view = { λ s. record { config = s.config.now; past = s.past.entries } };
 
-    ghost invariant = { λ s. StandsFor s.config.now s.past.entries s.count s.flights s.failed s.carriers s.counts s.orders };
+    ghost invariant = { λ s. StandsFor s.config.now s.past.entries s.count s.flights s.failed s.carriers.items s.counts.items s.orders };
 }
 
 impl<'a> LogHistory<'a> {
@@ -54,8 +58,8 @@ impl<'a> LogHistory<'a> {
             count: 0,
             flights: Flights::new(alloc),
             failed: None,
-            carriers: Carriers::new(alloc, procs + 2)?,
-            counts: Counts::new(alloc),
+            carriers: no_carriers(alloc, procs + 2)?,
+            counts: Vec::new(alloc),
             orders: Orders::new(alloc, config.body.items(), procs)?,
         })
     }
@@ -74,9 +78,9 @@ impl<'a> LogHistory<'a> {
         let failed = self.flights.failed_by(e.what);
         let busy = self.flights.is_busy(e.seat);
         let number = self.count + 1;
-        self.counts.add(&self.flights, e.what)?;
+        count_failure(&mut self.counts, &self.flights, e.what)?;
         self.flights.add(number, e.seat, e.what)?;
-        self.carriers.add(number, e.seat, busy, e.what);
+        carry(&mut self.carriers, number, e.seat, busy, e.what);
         self.orders.add(e.seat, e.what);
         self.failed = failed;
         self.count = number;

@@ -5,7 +5,9 @@ ghost use Rattle.pager_model.specs.Flights.{awaits_reuse, failed_flight, is_busy
 ghost use Rattle.pager_model.specs.Order.{IsAnswered, IsInOrder};
 ghost use Rattle.pager_model.specs.Transfers.{has_come, is_on_block, reads_on, starts, writes_on};
 
+use crate::carriers::carrier_at;
 use crate::carrying::Carrying;
+use crate::counts::count_in;
 use crate::flight::Flight;
 use crate::log_history::LogHistory;
 use crate::spoken;
@@ -105,7 +107,7 @@ impl<'a> LogHistory<'a> {
         requires { seat.0 < length self.now.config.procs + 2 }
         ensures { result ≡ carrying seat.0 self.now.past }
     {
-        self.carriers.at(seat)
+        carrier_at(&self.carriers, seat)
     }
 
     /// Whether the last carrier of a process, the writer or the swapper is lost, and its seat hasn't
@@ -114,7 +116,7 @@ impl<'a> LogHistory<'a> {
         requires { seat.0 < length self.now.config.procs + 2 }
         ensures { IsTrue result ↔ HasLost self.now.past seat.0 }
     {
-        let row = self.carriers.at(seat);
+        let row = carrier_at(&self.carriers, seat);
         row.is_lost() && !row.has_spoken()
     }
 
@@ -122,7 +124,7 @@ impl<'a> LogHistory<'a> {
     pub fn last_count(&self, block: BlockId) -> u64
         ensures { result ≡ last_count block self.now.past }
     {
-        self.counts.of(block)
+        count_in(&self.counts, block)
     }
 
     /// Whether what each process has been answered is still the first of what it asks for, with one

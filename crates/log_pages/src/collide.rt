@@ -9,11 +9,22 @@ ghost use Rattle.pager_model.specs.Transfers.{starts};
 ghost use Rattle.log_reasons.specs.RowReasons.{CollideFails, NamedFails, OtherReadFails};
 ghost use Rattle.log_pager.specs.Shown.{shown};
 
+use crate::holding::held_fails;
 use log_history::LogHistory;
 use log_pager::LogPager;
 use log_reasons::Reason;
 use log_services::own_fails;
 use vm_types::{Addr, Config, Pfn, Proc, Seat};
+
+/// A fault that meets a read: of which seat and at which address the fault is, into which frame the read
+/// goes, and the number of the entry that began it. Any numbers.
+#[derive(Clone, Copy)]
+pub struct Collision {
+    pub seat: Seat,
+    pub at: Addr,
+    pub frame: Pfn,
+    pub read: u64,
+}
 
 /// Why the transfer that entry k began isn't another seat's open read into the frame.
 fn other_read_fails(past: &LogHistory<'_>, p: Proc, f: Pfn, k: u64) -> Option<Reason>
@@ -44,13 +55,8 @@ fn named_fails(config: &Config, pager: &LogPager, p: Proc, v: u32, f: Pfn, k: u6
         × ((shown pager.now).pager.collided p.0 ≡ Some k → ⊥)) }
     ensures said { IfSome result (NamedFails config.now (shown pager.now).pager p.0 v f.0 k) }
 {
-    let mapped = pager.page_of(config, p, v);
-    if mapped.is_none() {
-        return Some(Reason::NotMapped);
-    }
-    let held = pager.page(f);
-    if held != mapped {
-        return Some(Reason::HoldsOtherPage(held));
+    if let Some(reason) = held_fails(config, pager, p, v, f) {
+        return Some(reason);
     }
     if pager.collided(p) == Some(k) {
         return Some(Reason::CollisionIsNamed);
@@ -58,24 +64,17 @@ fn named_fails(config: &Config, pager: &LogPager, p: Proc, v: u32, f: Pfn, k: u6
     None
 }
 
-/// Why the collision of a seat with a read into a frame isn't legal.
-pub fn collide_fails(
-    past: &LogHistory<'_>,
-    pager: &LogPager,
-    seat: Seat,
-    a: Addr,
-    f: Pfn,
-    k: u64,
-) -> Option<Reason>
-    ensures legal { IsNone result ↔ IsCollide past.now.config past.now.past (shown pager.now).pager seat.0 a.0 f.0 k }
-    ensures said { IfSome result (CollideFails past.now.config past.now.past (shown pager.now).pager seat.0 a.0 f.0 k) }
+/// Why the collision of a seat's fault with a read isn't legal.
+pub fn collide_fails(past: &LogHistory<'_>, pager: &LogPager, c: Collision) -> Option<Reason>
+    ensures legal { IsNone result ↔ IsCollide past.now.config past.now.past (shown pager.now).pager (c.seat).0 (c.at).0 (c.frame).0 c.read }
+    ensures said { IfSome result (CollideFails past.now.config past.now.past (shown pager.now).pager (c.seat).0 (c.at).0 (c.frame).0 c.read) }
 {
-    let p = Proc(seat.0);
+    let p = Proc(c.seat.0);
     if let Some(reason) = own_fails(past.config(), pager, p) {
         return Some(reason);
     }
-    if let Some(reason) = other_read_fails(past, p, f, k) {
+    if let Some(reason) = other_read_fails(past, p, c.frame, c.read) {
         return Some(reason);
     }
-    named_fails(past.config(), pager, p, a.0 / 512, f, k)
+    named_fails(past.config(), pager, p, c.at.0 / 512, c.frame, c.read)
 }

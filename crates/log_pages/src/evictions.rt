@@ -3,13 +3,13 @@
 ghost use Rattle.std.specs.Prelude.{◌≡◌, ◌↔◌, ◌⊎◌, ◌+◌, ◌<◌, ◌≤◌, ℕ, false, true, Some, IfSome, IsNone, IsTrue, length, slice_get};
 ghost use Rattle.vm_types.specs.Ring.{Held as HeldPage, choose, filled, is_fixed};
 ghost use Rattle.vm_types.specs.declared.names.Page.{Page as AnyPage};
-ghost use Rattle.pager_model.specs.Evict.{IsDropped, IsEvict, IsLeavingEvict, IsReplace, IsRundownEvict, IsTaken, Waits, evicted_to};
+ghost use Rattle.pager_model.specs.Evict.{IsDropped, IsEvict, IsLeavingEvict, IsRundownEvict, IsTaken, Waits, evicted_to};
 ghost use Rattle.pager_model.specs.Flights.{open_flights};
 ghost use Rattle.pager_model.specs.Lookups.{slot_with};
-ghost use Rattle.pager_model.specs.Maps.{is_private};
+ghost use Rattle.pager_model.specs.Maps.{is_private, page_number};
 ghost use Rattle.pager_model.specs.Order.{IsAnswered, IsInOrder};
 ghost use Rattle.pager_model.specs.Transfers.{reads_on, writes_on};
-ghost use Rattle.log_reasons.specs.EvictReasons.{DroppedFails, EvictFails, FullFails, LeavingFails, LooseFails, ReplaceFails, RundownFails, TakenFails, UnpinnedFails, VictimFails, WaitsFails, WriterFails, victim_slot};
+ghost use Rattle.log_reasons.specs.EvictReasons.{DroppedFails, EvictFails, FullFails, LeavingFails, LooseFails, RundownFails, TakenFails, UnpinnedFails, VictimFails, WaitsFails, WriterFails, victim_slot};
 ghost use Rattle.log_reasons.specs.RowReasons.{SeatFails, StatusFails};
 ghost use Rattle.log_pager.specs.Shown.{shown};
 
@@ -20,6 +20,18 @@ use log_services::{is_private, own_fails};
 use log_tables::Ring;
 use vm_journal::EvictWhy;
 use vm_types::{Addr, BlockId, Choice, FrameState, Page, Pfn, Proc, ProcStatus, Seat};
+
+/// A page that leaves a working set: which seat's entry it is, of which process and at which address the
+/// page is, in which frame, why it leaves, and to which state the frame goes. Any numbers.
+#[derive(Clone, Copy)]
+pub struct Eviction {
+    pub seat: Seat,
+    pub process: Proc,
+    pub at: Addr,
+    pub frame: Pfn,
+    pub why: EvictWhy,
+    pub to: FrameState,
+}
 
 /// Where a frame goes, by how many entries share it, how many flights it has, and its modify mark.
 fn evicted_to(shares: usize, flights: usize, modified: bool) -> FrameState
@@ -37,25 +49,19 @@ fn evicted_to(shares: usize, flights: usize, modified: bool) -> FrameState
 }
 
 /// Why a process's page isn't valid in the frame, or that doesn't go to this state.
-fn taken_fails(
-    past: &LogHistory<'_>,
-    pager: &LogPager,
-    p: Proc,
-    v: u32,
-    f: Pfn,
-    to: FrameState,
-) -> Option<Reason>
-    ensures legal { IsNone result ↔ IsTaken past.now.past (shown pager.now).pager p.0 v f.0 to }
-    ensures said { IfSome result (TakenFails past.now.past (shown pager.now).pager p.0 v f.0 to) }
+fn taken_fails(past: &LogHistory<'_>, pager: &LogPager, e: Eviction) -> Option<Reason>
+    ensures legal { IsNone result ↔ IsTaken past.now.past (shown pager.now).pager (e.process).0 (page_number (e.at).0) (e.frame).0 e.to }
+    ensures said { IfSome result (TakenFails past.now.past (shown pager.now).pager (e.process).0 (page_number (e.at).0) (e.frame).0 e.to) }
 {
-    match pager.entry(p, v) {
+    let f = e.frame;
+    match pager.entry(e.process, e.at.0 / 512) {
         None => Some(Reason::PageNotValid),
         Some(entry) => {
             if entry.frame().0 != f.0 {
                 return Some(Reason::ValidInOtherFrame(entry.frame()));
             }
             let goes = evicted_to(pager.shares(f), past.flights_on(f), pager.is_modified(f));
-            if to != goes {
+            if e.to != goes {
                 return Some(Reason::GoesElsewhere(goes));
             }
             None
@@ -126,33 +132,29 @@ fn victim_fails(ring: &Ring, limit: u32, v: u32) -> Option<Reason>
     Some(Reason::NotTheVictim(victim_slot(ring.choose(limit))))
 }
 
-/// Why a page may not be replaced.
-fn replace_fails(
-    past: &LogHistory<'_>,
-    pager: &LogPager,
-    p: Proc,
-    a: Addr,
-    f: Pfn,
-    to: FrameState,
-) -> Option<Reason>
+/// Why a page of the seat's own process may not be replaced.
+fn replace_fails(past: &LogHistory<'_>, pager: &LogPager, e: Eviction) -> Option<Reason>
     requires { (shown pager.now).processes ≡ length past.now.config.procs }
-    ensures legal { IsNone result ↔ IsReplace past.now.config past.now.past (shown pager.now).pager p.0 a.0 f.0 to }
-    ensures said { IfSome result (ReplaceFails past.now.config past.now.past (shown pager.now).pager p.0 a.0 f.0 to) }
+    ensures legal { IsNone result ↔ IsEvict EvictWhy.Replace past.now.config past.now.past (shown pager.now).pager (e.seat).0 (e.process).0 (e.at).0 (e.frame).0 e.to }
+    ensures said { IfSome result (EvictFails EvictWhy.Replace past.now.config past.now.past (shown pager.now).pager (e.seat).0 (e.process).0 (e.at).0 (e.frame).0 e.to) }
 {
-    let v = a.0 / 512;
+    let p = e.process;
+    if let Some(reason) = seat_fails(e.seat, p) {
+        return Some(reason);
+    }
     if let Some(reason) = own_fails(past.config(), pager, p) {
         return Some(reason);
     }
     if let Some(reason) = full_fails(pager, p) {
         return Some(reason);
     }
-    if let Some(reason) = victim_fails(pager.ring(p), pager.limit_of(p), v) {
+    if let Some(reason) = victim_fails(pager.ring(p), pager.limit_of(p), e.at.0 / 512) {
         return Some(reason);
     }
-    if let Some(reason) = taken_fails(past, pager, p, v, f, to) {
+    if let Some(reason) = taken_fails(past, pager, e) {
         return Some(reason);
     }
-    waits_fails(past, pager, to)
+    waits_fails(past, pager, e.to)
 }
 
 /// Why a page may not leave its slot: it is purged, and locked or pinned.
@@ -172,31 +174,25 @@ fn loose_fails(ring: &Ring, v: u32, purged: bool) -> Option<Reason>
     }
 }
 
-/// Why a page may not be purged, or leave for its deletion.
-fn dropped_fails(
-    past: &LogHistory<'_>,
-    pager: &LogPager,
-    p: Proc,
-    a: Addr,
-    f: Pfn,
-    purged: bool,
-    to: FrameState,
-) -> Option<Reason>
+/// Why a page of the seat's own process may not be purged, or leave for its deletion.
+fn drop_fails(past: &LogHistory<'_>, pager: &LogPager, e: Eviction, purged: bool) -> Option<Reason>
     requires { (shown pager.now).processes ≡ length past.now.config.procs }
-    ensures legal { IsNone result ↔ IsDropped past.now.config past.now.past (shown pager.now).pager p.0 a.0 f.0 purged to }
-    ensures said { IfSome result (DroppedFails past.now.config past.now.past (shown pager.now).pager p.0 a.0 f.0 purged to) }
+    ensures legal { IsNone result ↔ (((e.process).0 ≡ (e.seat).0) × IsDropped past.now.config past.now.past (shown pager.now).pager (e.process).0 (e.at).0 (e.frame).0 purged e.to) }
+    ensures said { IfSome result (λ r. SeatFails (e.seat).0 (e.process).0 r ⊎ DroppedFails past.now.config past.now.past (shown pager.now).pager (e.process).0 (e.at).0 (e.frame).0 purged e.to r) }
 {
-    let v = a.0 / 512;
-    if let Some(reason) = own_fails(past.config(), pager, p) {
+    if let Some(reason) = seat_fails(e.seat, e.process) {
         return Some(reason);
     }
-    if let Some(reason) = taken_fails(past, pager, p, v, f, to) {
+    if let Some(reason) = own_fails(past.config(), pager, e.process) {
         return Some(reason);
     }
-    if let Some(reason) = loose_fails(pager.ring(p), v, purged) {
+    if let Some(reason) = taken_fails(past, pager, e) {
         return Some(reason);
     }
-    waits_fails(past, pager, to)
+    if let Some(reason) = loose_fails(pager.ring(e.process), e.at.0 / 512, purged) {
+        return Some(reason);
+    }
+    waits_fails(past, pager, e.to)
 }
 
 /// Whether the page in a frame, if it is private, lies in the block, unmodified and without a
@@ -247,19 +243,13 @@ fn leaves_fails(pager: &LogPager, p: Proc) -> Option<Reason>
 }
 
 /// Why a page of a leaving process may not leave.
-fn leaving_fails(
-    past: &LogHistory<'_>,
-    pager: &LogPager,
-    p: Proc,
-    a: Addr,
-    f: Pfn,
-    to: FrameState,
-) -> Option<Reason>
-    requires { p.0 < (shown pager.now).processes }
-    ensures legal { IsNone result ↔ IsLeavingEvict past.now.config past.now.past (shown pager.now).pager p.0 a.0 f.0 to }
-    ensures said { IfSome result (LeavingFails past.now.config past.now.past (shown pager.now).pager p.0 a.0 f.0 to) }
+fn leaving_fails(past: &LogHistory<'_>, pager: &LogPager, e: Eviction) -> Option<Reason>
+    requires { (e.process).0 < (shown pager.now).processes }
+    ensures legal { IsNone result ↔ IsLeavingEvict past.now.config past.now.past (shown pager.now).pager (e.process).0 (e.at).0 (e.frame).0 e.to }
+    ensures said { IfSome result (LeavingFails past.now.config past.now.past (shown pager.now).pager (e.process).0 (e.at).0 (e.frame).0 e.to) }
 {
-    let v = a.0 / 512;
+    let p = e.process;
+    let v = e.at.0 / 512;
     let block = BlockId::Swap(p, pager.ring(p).slot_with(v));
     if let Some(reason) = leaves_fails(pager, p) {
         return Some(reason);
@@ -267,13 +257,13 @@ fn leaving_fails(
     if let Some(reason) = unpinned_fails(pager.ring(p), v) {
         return Some(reason);
     }
-    if let Some(reason) = taken_fails(past, pager, p, v, f, to) {
+    if let Some(reason) = taken_fails(past, pager, e) {
         return Some(reason);
     }
-    if !is_written(past, pager, f, block) {
+    if !is_written(past, pager, e.frame, block) {
         return Some(Reason::NotYetWritten);
     }
-    waits_fails(past, pager, to)
+    waits_fails(past, pager, e.to)
 }
 
 /// Why the seat isn't the writer's after the last answer, or the page is private.
@@ -296,26 +286,18 @@ fn writer_fails(past: &LogHistory<'_>, pager: &LogPager, seat: Seat, f: Pfn) -> 
 }
 
 /// Why a shared page of a process may not leave in the rundown.
-fn rundown_fails(
-    past: &LogHistory<'_>,
-    pager: &LogPager,
-    seat: Seat,
-    p: Proc,
-    a: Addr,
-    f: Pfn,
-    to: FrameState,
-) -> Option<Reason>
+fn rundown_fails(past: &LogHistory<'_>, pager: &LogPager, e: Eviction) -> Option<Reason>
     requires { IsInOrder past.now.config past.now.past }
-    ensures legal { IsNone result ↔ IsRundownEvict past.now.config past.now.past (shown pager.now).pager seat.0 p.0 a.0 f.0 to }
-    ensures said { IfSome result (RundownFails past.now.config past.now.past (shown pager.now).pager seat.0 p.0 a.0 f.0 to) }
+    ensures legal { IsNone result ↔ IsRundownEvict past.now.config past.now.past (shown pager.now).pager (e.seat).0 (e.process).0 (e.at).0 (e.frame).0 e.to }
+    ensures said { IfSome result (RundownFails past.now.config past.now.past (shown pager.now).pager (e.seat).0 (e.process).0 (e.at).0 (e.frame).0 e.to) }
 {
-    if let Some(reason) = writer_fails(past, pager, seat, f) {
+    if let Some(reason) = writer_fails(past, pager, e.seat, e.frame) {
         return Some(reason);
     }
-    if let Some(reason) = taken_fails(past, pager, p, a.0 / 512, f, to) {
+    if let Some(reason) = taken_fails(past, pager, e) {
         return Some(reason);
     }
-    waits_fails(past, pager, to)
+    waits_fails(past, pager, e.to)
 }
 
 /// Why a process isn't the seat's.
@@ -329,69 +311,19 @@ fn seat_fails(seat: Seat, p: Proc) -> Option<Reason>
     None
 }
 
-/// Why a page of the seat's own process may not be replaced.
-fn own_replace_fails(
-    past: &LogHistory<'_>,
-    pager: &LogPager,
-    seat: Seat,
-    p: Proc,
-    a: Addr,
-    f: Pfn,
-    to: FrameState,
-) -> Option<Reason>
-    requires { (shown pager.now).processes ≡ length past.now.config.procs }
-    ensures legal { IsNone result ↔ IsEvict EvictWhy.Replace past.now.config past.now.past (shown pager.now).pager seat.0 p.0 a.0 f.0 to }
-    ensures said { IfSome result (EvictFails EvictWhy.Replace past.now.config past.now.past (shown pager.now).pager seat.0 p.0 a.0 f.0 to) }
-{
-    if let Some(reason) = seat_fails(seat, p) {
-        return Some(reason);
-    }
-    replace_fails(past, pager, p, a, f, to)
-}
-
-/// Why a page of the seat's own process may not be purged, or leave for its deletion.
-fn own_dropped_fails(
-    past: &LogHistory<'_>,
-    pager: &LogPager,
-    seat: Seat,
-    p: Proc,
-    a: Addr,
-    f: Pfn,
-    purged: bool,
-    to: FrameState,
-) -> Option<Reason>
-    requires { (shown pager.now).processes ≡ length past.now.config.procs }
-    ensures legal { IsNone result ↔ ((p.0 ≡ seat.0) × IsDropped past.now.config past.now.past (shown pager.now).pager p.0 a.0 f.0 purged to) }
-    ensures said { IfSome result (λ r. SeatFails seat.0 p.0 r ⊎ DroppedFails past.now.config past.now.past (shown pager.now).pager p.0 a.0 f.0 purged to r) }
-{
-    if let Some(reason) = seat_fails(seat, p) {
-        return Some(reason);
-    }
-    dropped_fails(past, pager, p, a, f, purged, to)
-}
-
 /// Why a page may not leave a working set.
-pub fn evict_fails(
-    past: &LogHistory<'_>,
-    pager: &LogPager,
-    seat: Seat,
-    p: Proc,
-    a: Addr,
-    f: Pfn,
-    why: EvictWhy,
-    to: FrameState,
-) -> Option<Reason>
+pub fn evict_fails(past: &LogHistory<'_>, pager: &LogPager, e: Eviction) -> Option<Reason>
     requires processes { (shown pager.now).processes ≡ length past.now.config.procs }
-    requires process { p.0 < (shown pager.now).processes }
+    requires process { (e.process).0 < (shown pager.now).processes }
     requires order { IsInOrder past.now.config past.now.past }
-    ensures legal { IsNone result ↔ IsEvict why past.now.config past.now.past (shown pager.now).pager seat.0 p.0 a.0 f.0 to }
-    ensures said { IfSome result (EvictFails why past.now.config past.now.past (shown pager.now).pager seat.0 p.0 a.0 f.0 to) }
+    ensures legal { IsNone result ↔ IsEvict e.why past.now.config past.now.past (shown pager.now).pager (e.seat).0 (e.process).0 (e.at).0 (e.frame).0 e.to }
+    ensures said { IfSome result (EvictFails e.why past.now.config past.now.past (shown pager.now).pager (e.seat).0 (e.process).0 (e.at).0 (e.frame).0 e.to) }
 {
-    match why {
-        EvictWhy::Replace => own_replace_fails(past, pager, seat, p, a, f, to),
-        EvictWhy::Purge => own_dropped_fails(past, pager, seat, p, a, f, true, to),
-        EvictWhy::Delete => own_dropped_fails(past, pager, seat, p, a, f, false, to),
-        EvictWhy::Leave => leaving_fails(past, pager, p, a, f, to),
-        EvictWhy::Rundown => rundown_fails(past, pager, seat, p, a, f, to),
+    match e.why {
+        EvictWhy::Replace => replace_fails(past, pager, e),
+        EvictWhy::Purge => drop_fails(past, pager, e, true),
+        EvictWhy::Delete => drop_fails(past, pager, e, false),
+        EvictWhy::Leave => leaving_fails(past, pager, e),
+        EvictWhy::Rundown => rundown_fails(past, pager, e),
     }
 }

@@ -4,8 +4,9 @@
 
 mod collide;
 mod evictions;
+mod holding;
 mod pages;
 
-pub use collide::collide_fails;
-pub use evictions::evict_fails;
+pub use collide::{Collision, collide_fails};
+pub use evictions::{Eviction, evict_fails};
 pub use pages::{back_fails, reuse_fails, zero_fails};

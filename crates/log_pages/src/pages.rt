@@ -5,7 +5,7 @@ ghost use Rattle.std.specs.Prelude.{◌≡◌, ◌↔◌, ◌<◌, ℕ, Some, If
 ghost use Rattle.pager_model.specs.Back.{IsAnyBack, IsBack, IsBackComing, may_come_back};
 ghost use Rattle.pager_model.specs.Flights.{Flight, failed_flight};
 ghost use Rattle.pager_model.specs.Lookups.{count_page, entries_at, page_by};
-ghost use Rattle.pager_model.specs.Maps.{proc};
+ghost use Rattle.pager_model.specs.Maps.{page_number, proc};
 ghost use Rattle.pager_model.specs.Reuse.{IsReuse};
 ghost use Rattle.pager_model.specs.Zero.{IsDemandZero, IsZero, is_zero_origin, zeroed_page};
 ghost use Rattle.vm_types.specs.declared.names.BlockId.{BlockId as Block};
@@ -13,12 +13,22 @@ ghost use Rattle.vm_types.specs.declared.names.Page.{Page as AnyPage};
 ghost use Rattle.log_reasons.specs.RowReasons.{BackFails, ComingBackFails, ResidentBackFails, ReuseFails, StayFails, SwappedFails, ZeroFails, ZerosFail};
 ghost use Rattle.log_pager.specs.Shown.{shown};
 
+use crate::holding::held_fails;
 use log_history::LogHistory;
 use log_pager::LogPager;
 use log_reasons::Reason;
 use log_services::{empty_head_fails, own_fails, room_fails};
 use log_tables::{Behind, is_paged};
 use vm_types::{Addr, BlockId, Config, FrameState, Origin, Page, Pfn, Proc, ProcStatus, Seat};
+
+/// A page that comes back: of which process and at which address it is, and its frame and that one's state.
+#[derive(Clone, Copy)]
+struct Back {
+    process: Proc,
+    at: Addr,
+    frame: Pfn,
+    from: FrameState,
+}
 
 /// Whether it is the frame of this seat's read, which has just failed.
 fn has_failed(past: &LogHistory<'_>, seat: Seat, f: Pfn) -> bool
@@ -132,59 +142,41 @@ fn may_come_back(from: FrameState) -> bool
 }
 
 /// Why a page isn't in a frame of this state, or is valid.
-fn stay_fails(
-    config: &Config,
-    pager: &LogPager,
-    p: Proc,
-    v: u32,
-    f: Pfn,
-    from: FrameState,
-) -> Option<Reason>
-    ensures legal { IsNone result ↔ ((page : AnyPage) × (page_by config.now (shown pager.now).pager.map p.0 v ≡ Some page) × ((shown pager.now).pager.page f.0 ≡ Some page)
-        × (entries_at (shown pager.now).pager.valid p.0 v ≡ 0) × ((shown pager.now).pager.state f.0 ≡ from)) }
-    ensures said { IfSome result (StayFails config.now (shown pager.now).pager p.0 v f.0 from) }
+fn stay_fails(config: &Config, pager: &LogPager, back: Back) -> Option<Reason>
+    ensures legal { IsNone result ↔ ((page : AnyPage) × (page_by config.now (shown pager.now).pager.map (back.process).0 (page_number (back.at).0) ≡ Some page) × ((shown pager.now).pager.page (back.frame).0 ≡ Some page)
+        × (entries_at (shown pager.now).pager.valid (back.process).0 (page_number (back.at).0) ≡ 0) × ((shown pager.now).pager.state (back.frame).0 ≡ back.from)) }
+    ensures said { IfSome result (StayFails config.now (shown pager.now).pager (back.process).0 (page_number (back.at).0) (back.frame).0 back.from) }
 {
-    let mapped = pager.page_of(config, p, v);
-    if mapped.is_none() {
-        return Some(Reason::NotMapped);
+    let v = back.at.0 / 512;
+    if let Some(reason) = held_fails(config, pager, back.process, v, back.frame) {
+        return Some(reason);
     }
-    let held = pager.page(f);
-    if held != mapped {
-        return Some(Reason::HoldsOtherPage(held));
-    }
-    if pager.entries(p, v) != 0 {
+    if pager.entries(back.process, v) != 0 {
         return Some(Reason::PageIsValid);
     }
-    let state = pager.state(f);
-    if state != from {
+    let state = pager.state(back.frame);
+    if state != back.from {
         return Some(Reason::InOtherState(state));
     }
     None
 }
 
 /// Why a page of a resident process may not come back.
-fn back_resident_fails(
-    config: &Config,
-    pager: &LogPager,
-    p: Proc,
-    a: Addr,
-    f: Pfn,
-    from: FrameState,
-) -> Option<Reason>
+fn back_resident_fails(config: &Config, pager: &LogPager, back: Back) -> Option<Reason>
     requires { (shown pager.now).processes ≡ length config.now.procs }
-    ensures legal { IsNone result ↔ IsBack config.now (shown pager.now).pager p.0 a.0 f.0 from }
-    ensures said { IfSome result (ResidentBackFails config.now (shown pager.now).pager p.0 a.0 f.0 from) }
+    ensures legal { IsNone result ↔ IsBack config.now (shown pager.now).pager (back.process).0 (back.at).0 (back.frame).0 back.from }
+    ensures said { IfSome result (ResidentBackFails config.now (shown pager.now).pager (back.process).0 (back.at).0 (back.frame).0 back.from) }
 {
-    if let Some(reason) = own_fails(config, pager, p) {
+    if let Some(reason) = own_fails(config, pager, back.process) {
         return Some(reason);
     }
-    if let Some(reason) = stay_fails(config, pager, p, a.0 / 512, f, from) {
+    if let Some(reason) = stay_fails(config, pager, back) {
         return Some(reason);
     }
-    if !may_come_back(from) {
+    if !may_come_back(back.from) {
         return Some(Reason::MayNotComeBack);
     }
-    room_fails(pager, p)
+    room_fails(pager, back.process)
 }
 
 /// Whether the block is a swap block of the process.
@@ -198,26 +190,20 @@ fn is_swap_of(block: Option<BlockId>, p: Proc) -> bool
 }
 
 /// Why a page doesn't come from the free list, or doesn't lie in a swap block of the process.
-fn swapped_fails(
-    config: &Config,
-    pager: &LogPager,
-    p: Proc,
-    v: u32,
-    from: FrameState,
-) -> Option<Reason>
-    requires { (page : AnyPage) × (page_by config.now (shown pager.now).pager.map p.0 v ≡ Some page) }
-    ensures legal { IsNone result ↔ ((from ≡ FrameState.Free) × ((page : AnyPage) × (n : ℕ) × (page_by config.now (shown pager.now).pager.map p.0 v ≡ Some page)
-        × ((shown pager.now).pager.lies page ≡ Some (Block.Swap (proc p.0) n)))) }
-    ensures said { IfSome result (SwappedFails config.now (shown pager.now).pager p.0 v from) }
+fn swapped_fails(config: &Config, pager: &LogPager, back: Back) -> Option<Reason>
+    requires { (page : AnyPage) × (page_by config.now (shown pager.now).pager.map (back.process).0 (page_number (back.at).0) ≡ Some page) }
+    ensures legal { IsNone result ↔ ((back.from ≡ FrameState.Free) × ((page : AnyPage) × (n : ℕ) × (page_by config.now (shown pager.now).pager.map (back.process).0 (page_number (back.at).0) ≡ Some page)
+        × ((shown pager.now).pager.lies page ≡ Some (Block.Swap (proc (back.process).0) n)))) }
+    ensures said { IfSome result (SwappedFails config.now (shown pager.now).pager (back.process).0 (page_number (back.at).0) back.from) }
 {
-    if from != FrameState::Free {
+    if back.from != FrameState::Free {
         return Some(Reason::NotFromFree);
     }
-    match pager.page_of(config, p, v) {
+    match pager.page_of(config, back.process, back.at.0 / 512) {
         None => None,
         Some(page) => {
             let lies = pager.lies(page);
-            if !is_swap_of(lies, p) {
+            if !is_swap_of(lies, back.process) {
                 return Some(Reason::LiesElsewhere(lies));
             }
             None
@@ -226,22 +212,15 @@ fn swapped_fails(
 }
 
 /// Why a page of a coming process may not come back.
-fn back_coming_fails(
-    config: &Config,
-    pager: &LogPager,
-    p: Proc,
-    a: Addr,
-    f: Pfn,
-    from: FrameState,
-) -> Option<Reason>
-    requires { (shown pager.now).pager.status p.0 ≡ ProcStatus.Coming }
-    ensures legal { IsNone result ↔ IsBackComing config.now (shown pager.now).pager p.0 a.0 f.0 from }
-    ensures said { IfSome result (ComingBackFails config.now (shown pager.now).pager p.0 a.0 f.0 from) }
+fn back_coming_fails(config: &Config, pager: &LogPager, back: Back) -> Option<Reason>
+    requires { (shown pager.now).pager.status (back.process).0 ≡ ProcStatus.Coming }
+    ensures legal { IsNone result ↔ IsBackComing config.now (shown pager.now).pager (back.process).0 (back.at).0 (back.frame).0 back.from }
+    ensures said { IfSome result (ComingBackFails config.now (shown pager.now).pager (back.process).0 (back.at).0 (back.frame).0 back.from) }
 {
-    if let Some(reason) = stay_fails(config, pager, p, a.0 / 512, f, from) {
+    if let Some(reason) = stay_fails(config, pager, back) {
         return Some(reason);
     }
-    swapped_fails(config, pager, p, a.0 / 512, from)
+    swapped_fails(config, pager, back)
 }
 
 /// Why a page that is still in a frame may not come back to a process.
@@ -258,11 +237,17 @@ pub fn back_fails(
     ensures legal { IsNone result ↔ IsAnyBack config.now (shown pager.now).pager seat.0 p.0 a.0 f.0 from }
     ensures said { IfSome result (BackFails config.now (shown pager.now).pager seat.0 p.0 a.0 f.0 from) }
 {
+    let back = Back {
+        process: p,
+        at: a,
+        frame: f,
+        from,
+    };
     if pager.status(p) == ProcStatus::Coming {
-        return back_coming_fails(config, pager, p, a, f, from);
+        return back_coming_fails(config, pager, back);
     }
     if p.0 != seat.0 {
         return Some(Reason::NotOwnProcess);
     }
-    back_resident_fails(config, pager, p, a, f, from)
+    back_resident_fails(config, pager, back)
 }

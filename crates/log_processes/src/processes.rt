@@ -163,25 +163,6 @@ fn resident_fails(_past: &LogHistory<'_>, pager: &LogPager, p: Proc) -> Option<R
     None
 }
 
-/// Why a process that is there may not change to a status.
-fn turned_fails(
-    past: &LogHistory<'_>,
-    pager: &LogPager,
-    p: Proc,
-    status: ProcStatus,
-) -> Option<Reason>
-    requires { p.0 < (shown pager.now).processes }
-    ensures legal { IsNone result ↔ IsTurned past.now.past (shown pager.now).pager p.0 status }
-    ensures said { IfSome result (TurnedFails past.now.past (shown pager.now).pager p.0 status) }
-{
-    match status {
-        ProcStatus::Leaving => leaving_fails(past, pager, p),
-        ProcStatus::Gone => gone_fails(past, pager, p),
-        ProcStatus::Coming => coming_fails(past, pager, p),
-        ProcStatus::Resident => resident_fails(past, pager, p),
-    }
-}
-
 /// Why a process may not change to a status.
 pub fn turn_fails(
     past: &LogHistory<'_>,
@@ -197,5 +178,10 @@ pub fn turn_fails(
     if processes <= p.0 as usize {
         return Some(Reason::NoSuchProcess(processes));
     }
-    turned_fails(past, pager, p, status)
+    match status {
+        ProcStatus::Leaving => leaving_fails(past, pager, p),
+        ProcStatus::Gone => gone_fails(past, pager, p),
+        ProcStatus::Coming => coming_fails(past, pager, p),
+        ProcStatus::Resident => resident_fails(past, pager, p),
+    }
 }

@@ -15,7 +15,7 @@ ghost use Rattle.pager_model.specs.Maps.{Mapped, page_number};
 ghost use Rattle.pager_model.specs.OfConfig.{MapsRight};
 ghost use Rattle.pager_model.specs.Pager.{Valid};
 ghost use Rattle.pager_model.specs.Spoken.{flat_after};
-ghost use Rattle.log_reasons.specs.DeniedReasons.{DeniedFails, DeniedFaultFails, FlatDeniedFails, LostFails, LostForFails, RefusedFails, RoleForFails, WaitsForFails, WayForFails};
+ghost use Rattle.log_reasons.specs.DeniedReasons.{DeniedFails, DeniedFaultFails, FlatDeniedFails, LostFails, LostForFails, RoleForFails, WaitsForFails, WayForFails};
 ghost use Rattle.log_reasons.specs.ProcessReasons.{AnsweredFails, DoneFails};
 ghost use Rattle.log_pager.specs.Shown.{shown};
 ghost use Rattle.log_processes.specs.FollowsFlat.{FollowsFlat};
@@ -97,7 +97,7 @@ fn flat_refusal_of(past: &LogHistory<'_>, pager: &LogPager, p: Proc, r: Ref) -> 
     refusal(past.config(), pager, p, r)
 }
 
-/// Why a reference isn't refused with the flat machine's words.
+/// Why a reference of a process isn't refused for the flat machine's reason.
 fn refused_fails(
     past: &LogHistory<'_>,
     pager: &LogPager,
@@ -105,11 +105,14 @@ fn refused_fails(
     r: Ref,
     why: Why,
 ) -> Option<Reason>
-    requires { FollowsFlat past.now.config past.now.past (shown pager.now).pager }
-    ensures legal { IsNone result ↔ ((is_pending past.now.config ((shown pager.now).pager.references p.0) ≡ false)
-        × (flat_refusal past.now.config (flat_after past.now.config past.now.past) p.0 r ≡ Some why)) }
-    ensures said { IfSome result (RefusedFails past.now.config past.now.past (shown pager.now).pager p.0 r why) }
+    requires flat { FollowsFlat past.now.config past.now.past (shown pager.now).pager }
+    requires why { IsFlatWhy why }
+    ensures legal { IsNone result ↔ IsDenied past.now.config past.now.past (shown pager.now).pager p.0 r why }
+    ensures said { IfSome result (FlatDeniedFails past.now.config past.now.past (shown pager.now).pager p.0 r why) }
 {
+    if let Some(reason) = own_fails(past.config(), pager, p) {
+        return Some(reason);
+    }
     let references = pager.references(p);
     if is_pending(past.config(), references) {
         return Some(Reason::AdjustmentIsPending(references));
@@ -119,26 +122,6 @@ fn refused_fails(
         return Some(Reason::RefusedOtherwise(right));
     }
     None
-}
-
-/// Why a reference isn't refused for the flat machine's reason.
-fn flat_denied_fails(
-    past: &LogHistory<'_>,
-    pager: &LogPager,
-    seat: Seat,
-    r: Ref,
-    why: Why,
-) -> Option<Reason>
-    requires flat { FollowsFlat past.now.config past.now.past (shown pager.now).pager }
-    requires why { IsFlatWhy why }
-    ensures legal { IsNone result ↔ IsDenied past.now.config past.now.past (shown pager.now).pager seat.0 r why }
-    ensures said { IfSome result (FlatDeniedFails past.now.config past.now.past (shown pager.now).pager seat.0 r why) }
-{
-    let p = Proc(seat.0);
-    if let Some(reason) = own_fails(past.config(), pager, p) {
-        return Some(reason);
-    }
-    refused_fails(past, pager, p, r, why)
 }
 
 /// Whether an address is the first one of the page of another.
@@ -250,10 +233,11 @@ pub fn denied_fails(
     ensures legal { IsNone result ↔ IsDenial past.now.config past.now.past (shown pager.now).pager seat.0 r why }
     ensures said { IfSome result (DeniedFails why past.now.config past.now.past (shown pager.now).pager seat.0 r) }
 {
+    let p = Proc(seat.0);
     match why {
         Why::DiskFault => denied_fault_fails(past, pager, seat, r),
-        Why::Unmapped => flat_denied_fails(past, pager, seat, r, Why::Unmapped),
-        Why::Protected => flat_denied_fails(past, pager, seat, r, Why::Protected),
-        Why::PageFileFull => flat_denied_fails(past, pager, seat, r, Why::PageFileFull),
+        Why::Unmapped => refused_fails(past, pager, p, r, Why::Unmapped),
+        Why::Protected => refused_fails(past, pager, p, r, Why::Protected),
+        Why::PageFileFull => refused_fails(past, pager, p, r, Why::PageFileFull),
     }
 }

@@ -1,34 +1,16 @@
 //! Why an entry isn't in turn: the three rules of seats.
 
-ghost use Rattle.std.specs.Prelude.{◌≡◌, ◌↔◌, ◌⊎◌, ◌+◌, ◌<◌, true, Some, IfSome, IsNone, length, nat_eq};
+ghost use Rattle.std.specs.Prelude.{◌≡◌, ◌↔◌, ◌⊎◌, ◌+◌, ◌<◌, true, Some, IfSome, IsNone, length};
 ghost use Rattle.pager_model.specs.Carrier.{carrying};
 ghost use Rattle.pager_model.specs.Flights.{Flight as OpenFlight, awaits_reuse, begun_by, failed_flight, is_busy, open_flights, reading, writing};
-ghost use Rattle.pager_model.specs.InTurn.{InTurn, MayJoin, is_flight_work, is_next_block, is_reuse_of};
+ghost use Rattle.pager_model.specs.InTurn.{InTurn, MayJoin, is_flight_work, is_reuse_of};
 ghost use Rattle.log_reasons.specs.SeatReasons.{FlightWorkFails, InTurnFails, JoinsFail, MayJoinFails, ReuseNextFails};
 
+use block_order::is_next_block;
 use log_history::{Carrying, Flight, LogHistory};
 use log_reasons::Reason;
 use vm_journal::{Entry, Role, What};
 use vm_types::{BlockId, Config, Seat};
-
-/// Whether a block is the one after the other.
-fn is_next_block(one: BlockId, next: BlockId) -> bool
-    ensures { result ≡ is_next_block one next }
-{
-    match (one, next) {
-        (BlockId::PageFile(m), BlockId::PageFile(n)) => is_one_more(m, n),
-        (BlockId::Swap(p, m), BlockId::Swap(q, n)) => p.0 == q.0 && is_one_more(m, n),
-        (BlockId::Section(s, i), BlockId::Section(t, j)) => s.0 == t.0 && is_one_more(i, j),
-        _ => false,
-    }
-}
-
-/// Whether the second number is the first one's successor.
-fn is_one_more(m: u32, n: u32) -> bool
-    ensures { result ≡ nat_eq n (m + 1) }
-{
-    u64::from(n) == u64::from(m) + 1
-}
 
 /// Whether a seat with an open flight may make the entry.
 fn is_flight_work(what: What) -> bool

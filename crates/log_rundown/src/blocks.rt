@@ -1,54 +1,13 @@
-ghost use Rattle.std.specs.Prelude.{◌≡◌, ◌+◌, Some, nat_eq};
+ghost use Rattle.std.specs.Prelude.{◌≡◌, Some};
 ghost use Rattle.vm_types.specs.declared.names.BlockId.TheVariants.{PageFile};
-ghost use Rattle.pager_model.specs.InTurn.{is_next_block};
 ghost use Rattle.pager_model.specs.Lookups.{block_of};
-ghost use Rattle.pager_model.specs.WriteCluster.{block_out, filed_block, if_next, is_free_block, lowest_free, new_block, paged_block};
+ghost use Rattle.pager_model.specs.WriteCluster.{block_out, filed_block, is_free_block, lowest_free, new_block, paged_block};
 ghost use Rattle.log_pager.specs.Shown.{shown};
 
+use block_order::if_next;
 use log_pager::LogPager;
 use log_tables::is_paged;
 use vm_types::{BlockId, Config, Page};
-
-/// Whether a number is the one after another.
-fn is_next(m: u32, n: u32) -> bool
-    ensures { result ≡ nat_eq n (m + 1) }
-{
-    m < n && n - m == 1
-}
-
-/// Whether a block is the one after another: of the page file, of one process's swap blocks, or of one
-/// section.
-fn is_next_block(b: BlockId, c: BlockId) -> bool
-    ensures { result ≡ is_next_block b c }
-{
-    match b {
-        BlockId::Section(s, i) => match c {
-            BlockId::Section(t, j) => s.0 == t.0 && is_next(i, j),
-            BlockId::PageFile(_) => false,
-            BlockId::Swap(..) => false,
-        },
-        BlockId::PageFile(m) => match c {
-            BlockId::Section(..) => false,
-            BlockId::PageFile(n) => is_next(m, n),
-            BlockId::Swap(..) => false,
-        },
-        BlockId::Swap(p, m) => match c {
-            BlockId::Section(..) => false,
-            BlockId::PageFile(_) => false,
-            BlockId::Swap(q, n) => p.0 == q.0 && is_next(m, n),
-        },
-    }
-}
-
-/// A block that is fixed, if it is the one after the last block, or there is no last one.
-fn if_next(last: Option<BlockId>, b: BlockId) -> Option<BlockId>
-    ensures { result ≡ if_next last b }
-{
-    match last {
-        Some(l) => { if is_next_block(l, b) { Some(b) } else { None } }
-        None => Some(b),
-    }
-}
 
 /// Whether a block of the page file exists and is free.
 fn is_free_block(config: &Config, pager: &LogPager, n: u32) -> bool

@@ -128,13 +128,7 @@ fn is_of_version(version: Version, s: Service) -> bool
             Version::One => false,
             Version::Two => true,
         },
-        Service::Create { .. }
-        | Service::Delete { .. }
-        | Service::Protect { .. }
-        | Service::Lock { .. }
-        | Service::Unlock { .. }
-        | Service::Purge { .. }
-        | Service::Adjust { .. } => true,
+        _ => true,
     }
 }
 
@@ -149,12 +143,7 @@ fn may_fail(s: Service) -> bool
 }
 
 /// Why a service isn't refused for a lost carrier.
-fn served_fault_fails(
-    past: &LogHistory<'_>,
-    pager: &LogPager,
-    seat: Seat,
-    s: Service,
-) -> Option<Reason>
+fn fault_fails(past: &LogHistory<'_>, pager: &LogPager, seat: Seat, s: Service) -> Option<Reason>
     ensures legal { IsNone result ↔ IsServedFault past.now.config past.now.past (shown pager.now).pager seat.0 s }
     ensures said { IfSome result (ServedFaultFails past.now.config past.now.past (shown pager.now).pager seat.0 s) }
 {
@@ -189,7 +178,7 @@ pub fn served_fails(
     ensures said { IfSome result (ServedFails past.now.config past.now.past (shown pager.now).pager seat.0 s answer) }
 {
     match answer {
-        Answer::DiskFault => served_fault_fails(past, pager, seat, s),
+        Answer::DiskFault => fault_fails(past, pager, seat, s),
         _ => {
             let p = Proc(seat.0);
             if let Some(reason) = own_fails(past.config(), pager, p) {

@@ -12,13 +12,13 @@ ghost use Rattle.log_steps.specs.Follows.{Follows};
 use crate::line::has_line;
 use log_history::LogHistory;
 use log_pager::LogPager;
-use log_pages::{back_fails, collide_fails, evict_fails, reuse_fails, zero_fails};
+use log_pages::{
+    Collision, Eviction, back_fails, collide_fails, evict_fails, reuse_fails, zero_fails,
+};
 use log_processes::{denied_fails, done_fails, in_turn_fails, limit_fails, turn_fails};
 use log_reasons::Reason;
 use log_services::served_fails;
-use log_transfers::{
-    in_fail_fails, in_fails, in_ok_fails, out_fail_fails, out_fails, out_ok_fails,
-};
+use log_transfers::{bad_landing_fails, good_landing_fails, in_fails, out_fails};
 use pager_laws::{flat_machine_follows, runs_are_of_configuration};
 use vm_journal::{Entry, What};
 use vm_types::Seat;
@@ -42,14 +42,32 @@ fn what_fails(past: &LogHistory<'_>, pager: &LogPager, seat: Seat, what: What) -
         What::Reuse { f, page } => reuse_fails(past, pager, seat, f, page),
         What::Zero { a, f } => zero_fails(config, pager, seat, a, f),
         What::Back { p, a, f, from } => back_fails(config, pager, seat, p, a, f, from),
-        What::Collide { a, f, k } => collide_fails(past, pager, seat, a, f, k),
+        What::Collide { a, f, k } => {
+            let c = Collision {
+                seat,
+                at: a,
+                frame: f,
+                read: k,
+            };
+            collide_fails(past, pager, c)
+        }
         What::In { f, block, role } => in_fails(past, pager, seat, f, block, role),
-        What::InOk { f, k } => in_ok_fails(past, seat, f, k),
-        What::InFail { f, k, c, d } => in_fail_fails(past, seat, f, k, c, d),
+        What::InOk { f, k } => good_landing_fails(past, seat, f, k, true),
+        What::InFail { f, k, c, d } => bad_landing_fails(past, seat, f, k, c, d, true),
         What::Out { f, block } => out_fails(past, pager, f, block),
-        What::OutOk { f, k } => out_ok_fails(past, seat, f, k),
-        What::OutFail { f, k, c, d } => out_fail_fails(past, seat, f, k, c, d),
-        What::Evict { p, a, f, why, to } => evict_fails(past, pager, seat, p, a, f, why, to),
+        What::OutOk { f, k } => good_landing_fails(past, seat, f, k, false),
+        What::OutFail { f, k, c, d } => bad_landing_fails(past, seat, f, k, c, d, false),
+        What::Evict { p, a, f, why, to } => {
+            let e = Eviction {
+                seat,
+                process: p,
+                at: a,
+                frame: f,
+                why,
+                to,
+            };
+            evict_fails(past, pager, e)
+        }
         What::Limit { n, faults } => limit_fails(config, pager, seat, n, faults),
         What::Turn { p, status } => turn_fails(past, pager, p, status),
     }

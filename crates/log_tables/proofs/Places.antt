@@ -8,7 +8,8 @@ use Rattle.vm_types.specs.declared.config.Config.{Config}
 use Rattle.vm_types.specs.declared.config.Origin.{Origin}
 use Rattle.vm_types.specs.declared.config.Origin.TheVariants as origin
 use Rattle.vm_types.specs.declared.config.Section.{Section}
-use Rattle.log_tables.specs.Laying.{CanLay, FitsPage}
+use Rattle.vm_types.specs.Behind.{FitsPages}
+use Rattle.log_tables.specs.Laying.{CanLay}
 
 one_of_sum : {X : Type 0} (f : X → ℕ) (xs : List X) (k : ℕ) (x : X) → slice_get xs k ≡ Some x → f x ≤ sum_by f xs
 one_of_sum f xs k x e =
@@ -16,7 +17,7 @@ one_of_sum f xs k x e =
     let same = ap f (get_or_from_slice_get xs k x x e) in
     omega arith
 
-fits_sections : (sections : List Section) (from : Origin) (pages : ℕ) → sum_by section_pages sections ≤ 16384 → HasPages sections from pages → FitsPage from pages
+fits_sections : (sections : List Section) (from : Origin) (pages : ℕ) → sum_by section_pages sections ≤ 16384 → HasPages sections from pages → FitsPages from pages
 fits_sections sections origin.Zero pages few has = tt
 fits_sections sections (origin.Section s first) pages few has =
     let part = one_of_sum section_pages sections s.0 has.0 has.1 in

@@ -1,22 +1,15 @@
 -- What a table of mappings has room for, and what a mapping makes of it. This project's own.
-use Rattle.std.specs.Prelude.{◌≡◌, ℕ, ◌+◌, ◌*◌, ◌^◌, ◌<◌, ◌≤◌, Option, Some, if◌then◌else◌}
-use Rattle.vm_types.specs.Behind.{covers}
+use Rattle.std.specs.Prelude.{◌≡◌, ℕ, ◌+◌, ◌*◌, ◌≤◌, Option, Some, if◌then◌else◌}
+use Rattle.vm_types.specs.Behind.{FitsPages, covers}
 use Rattle.vm_types.specs.WellFormed.{IsRange}
 use Rattle.vm_types.specs.declared.config.Mapping.{Mapping}
-use Rattle.vm_types.specs.declared.config.Origin.{Origin}
-use Rattle.vm_types.specs.declared.config.Origin.TheVariants as origin
 use Rattle.pager_model.specs.Maps.{Mapped, mapped_by}
-
--- the number of the section's page so many pages on can be said
-abbrev pub FitsPage : Origin → ℕ → Type 0
-FitsPage origin.Zero pages = Unit {0}
-FitsPage (origin.Section s first) pages = first + pages < 2 ^ 32
 
 -- a table of so many places has one for each page of the mapping
 pub record CanLay (places : ℕ) (m : Mapping) : Type 0 where
   pub range : IsRange (m.at).0 m.pages
   pub room : 5120 * (m.proc).0 + 5120 ≤ places
-  pub fits : FitsPage m.from m.pages
+  pub fits : FitsPages m.from m.pages
 
 -- the mapping's pages are mapped to what it says, and all others to what they were
 abbrev pub IsLaid : Mapping → (ℕ → ℕ → Option Mapped) → (ℕ → ℕ → Option Mapped) → Type 0

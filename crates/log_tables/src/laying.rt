@@ -2,27 +2,16 @@
 
 ghost use Rattle.std.specs.Prelude.{◌≡◌, ℕ, ◌*◌, None, Some, All, IfOk, find, length, vec_len};
 ghost use Rattle.std.specs.Option.{option_map};
-ghost use Rattle.vm_types.specs.Behind.{covers, origin_after};
+ghost use Rattle.vm_types.specs.Behind.{covers};
 ghost use Rattle.vm_types.specs.Configuration.{IsWellFormed};
 ghost use Rattle.vm_types.specs.PagePlaces.{item_at};
 ghost use Rattle.pager_model.specs.FlatService.{demand_zero, map_range, with_prot};
 ghost use Rattle.pager_model.specs.Maps.{first_map, mapped_by};
-ghost use Rattle.log_tables.specs.Laying.{CanChange, CanLay, FitsPage, IsLaid};
+ghost use Rattle.log_tables.specs.Laying.{CanChange, CanLay, IsLaid};
 
 use crate::behind::Behind;
 use std::alloc::Global;
-use vm_types::{Addr, Config, Mapping, NoMemory, Origin, Proc, page_place};
-
-/// The origin so many pages on.
-fn origin_on(origin: Origin, pages: u32) -> Origin
-    requires { FitsPage origin pages }
-    ensures { result ≡ origin_after origin pages }
-{
-    match origin {
-        Origin::Zero => Origin::Zero,
-        Origin::Section(s, first) => Origin::Section(s, first + pages),
-    }
-}
+use vm_types::{Addr, Config, Mapping, NoMemory, Origin, Proc, origin_after, page_place};
 
 /// Maps each page of a mapping to what the mapping says.
 fn lay(pages: &mut [Option<Behind>], mapping: &Mapping)
@@ -32,7 +21,7 @@ fn lay(pages: &mut [Option<Behind>], mapping: &Mapping)
     let first = mapping.at.0 / 512;
     for k in 0..mapping.pages {
         let place = page_place(mapping.proc, first + k).unwrap();
-        pages[place] = Some(Behind::new(origin_on(mapping.from, k), mapping.prot));
+        pages[place] = Some(Behind::new(origin_after(mapping.from, k), mapping.prot));
     }
 }
 

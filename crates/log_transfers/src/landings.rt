@@ -1,13 +1,12 @@
 //! INOK, INFAIL, OUTOK and OUTFAIL: why a read or a write may not land.
 
-ghost use Rattle.std.specs.Prelude.{◌≡◌, ◌↔◌, ◌<◌, true, false, Some, IfSome, IsNone, find};
+ghost use Rattle.std.specs.Prelude.{◌≡◌, ◌↔◌, ◌<◌, Some, IfSome, IsNone, find};
 ghost use Rattle.pager_model.specs.Counted.{IsCounted};
 ghost use Rattle.pager_model.specs.Flights.{Flight as OpenFlight, is_reading, open_flights};
-ghost use Rattle.pager_model.specs.InFail.{IsInFail};
-ghost use Rattle.pager_model.specs.InOk.{IsInOk, IsLanding};
-ghost use Rattle.pager_model.specs.OutLanding.{IsOutFail, IsOutOk};
+ghost use Rattle.pager_model.specs.InOk.{IsLanding};
 ghost use Rattle.pager_model.specs.Transfers.{starts};
 ghost use Rattle.log_reasons.specs.LandingReasons.{BadLandingFails, CountedFails, LandingFails};
+ghost use Rattle.log_transfers.specs.Landings.{IsBadLanding, IsGoodLanding};
 
 use log_history::LogHistory;
 use log_reasons::Reason;
@@ -52,55 +51,35 @@ fn counted_fails(past: &LogHistory<'_>, k: u64, c: u64, d: u64) -> Option<Reason
     None
 }
 
-/// Why a seat's read into a frame, begun in entry k, may not land well.
-pub fn in_ok_fails(past: &LogHistory<'_>, seat: Seat, f: Pfn, k: u64) -> Option<Reason>
-    ensures legal { IsNone result ↔ IsInOk past.now.past seat.0 f.0 k }
-    ensures said { IfSome result (LandingFails past.now.past seat.0 f.0 k true) }
+/// Why a seat's transfer of a frame, begun in entry k, may not land well: a read, or a write.
+pub fn good_landing_fails(
+    past: &LogHistory<'_>,
+    seat: Seat,
+    f: Pfn,
+    k: u64,
+    reads: bool,
+) -> Option<Reason>
+    ensures legal { IsNone result ↔ IsGoodLanding reads past.now.past seat.0 f.0 k }
+    ensures said { IfSome result (LandingFails past.now.past seat.0 f.0 k reads) }
 {
-    landing_fails(past, seat, f, k, true)
+    landing_fails(past, seat, f, k, reads)
 }
 
-/// Why a seat's read into a frame, begun in entry k, may not land badly, with these counts of its block's
-/// failures before and after it.
-pub fn in_fail_fails(
+/// Why a seat's transfer of a frame, begun in entry k, may not land badly, with these counts of its block's
+/// failures before and after it: a read, or a write.
+pub fn bad_landing_fails(
     past: &LogHistory<'_>,
     seat: Seat,
     f: Pfn,
     k: u64,
     c: u64,
     d: u64,
+    reads: bool,
 ) -> Option<Reason>
-    ensures legal { IsNone result ↔ IsInFail past.now.past seat.0 f.0 k c d }
-    ensures said { IfSome result (BadLandingFails past.now.past seat.0 f.0 k c d true) }
+    ensures legal { IsNone result ↔ IsBadLanding reads past.now.past seat.0 f.0 k c d }
+    ensures said { IfSome result (BadLandingFails past.now.past seat.0 f.0 k c d reads) }
 {
-    if let Some(reason) = landing_fails(past, seat, f, k, true) {
-        return Some(reason);
-    }
-    counted_fails(past, k, c, d)
-}
-
-/// Why a seat's write of a frame, begun in entry k, may not land well.
-pub fn out_ok_fails(past: &LogHistory<'_>, seat: Seat, f: Pfn, k: u64) -> Option<Reason>
-    ensures legal { IsNone result ↔ IsOutOk past.now.past seat.0 f.0 k }
-    ensures said { IfSome result (LandingFails past.now.past seat.0 f.0 k false) }
-{
-    landing_fails(past, seat, f, k, false)
-}
-
-/// Why a seat's write of a frame, begun in entry k, may not land badly, with these counts of its block's
-/// failures before and after it.
-pub fn out_fail_fails(
-    past: &LogHistory<'_>,
-    seat: Seat,
-    f: Pfn,
-    k: u64,
-    c: u64,
-    d: u64,
-) -> Option<Reason>
-    ensures legal { IsNone result ↔ IsOutFail past.now.past seat.0 f.0 k c d }
-    ensures said { IfSome result (BadLandingFails past.now.past seat.0 f.0 k c d false) }
-{
-    if let Some(reason) = landing_fails(past, seat, f, k, false) {
+    if let Some(reason) = landing_fails(past, seat, f, k, reads) {
         return Some(reason);
     }
     counted_fails(past, k, c, d)

@@ -7,6 +7,6 @@ mod landings;
 mod reads;
 mod writes;
 
-pub use landings::{in_fail_fails, in_ok_fails, out_fail_fails, out_ok_fails};
+pub use landings::{bad_landing_fails, good_landing_fails};
 pub use reads::in_fails;
 pub use writes::out_fails;

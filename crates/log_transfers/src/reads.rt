@@ -21,7 +21,15 @@ use log_reasons::Reason;
 use log_services::{empty_head_fails, is_private, own_fails, room_fails};
 use log_tables::Behind;
 use vm_journal::Role;
-use vm_types::{Addr, BlockId, Origin, Page, Pfn, Proc, ProcStatus, Seat};
+use vm_types::{Addr, BlockId, Config, Origin, Page, Pfn, Proc, ProcStatus, Seat};
+
+/// A read that begins: which seat's it is, into which frame, and of which block.
+#[derive(Clone, Copy)]
+struct Read {
+    seat: Seat,
+    frame: Pfn,
+    block: BlockId,
+}
 
 /// The section block behind a mapped page.
 fn section_at(behind: Option<Behind>) -> Option<BlockId>
@@ -34,56 +42,30 @@ fn section_at(behind: Option<Behind>) -> Option<BlockId>
 }
 
 /// Whether it is the first read of a copy on reference page, which isn't charged yet.
-fn is_first_in(
-    past: &LogHistory<'_>,
-    pager: &LogPager,
-    p: Proc,
-    v: u32,
-    block: BlockId,
-    page: Page,
-) -> bool
-    ensures { IsTrue result ↔ IsFirstIn past.now.config (shown pager.now).pager p.0 v block page }
+fn is_first(config: &Config, pager: &LogPager, p: Proc, v: u32, block: BlockId, page: Page) -> bool
+    ensures { IsTrue result ↔ IsFirstIn config.now (shown pager.now).pager p.0 v block page }
 {
     is_private(page)
         && section_at(pager.mapping(p, v)) == Some(block)
         && pager.charges(page) == 0
-        && pager.charged_pages() < past.config().pagefile as usize
+        && pager.charged_pages() < config.pagefile as usize
 }
 
-/// Whether a page is read from the block in which it lies, or for the first time.
-fn is_from(
-    past: &LogHistory<'_>,
-    pager: &LogPager,
-    p: Proc,
-    v: u32,
-    block: BlockId,
-    page: Page,
-) -> bool
-    ensures { IsTrue result ↔ (((shown pager.now).pager.lies page ≡ Some block) ⊎ IsFirstIn past.now.config (shown pager.now).pager p.0 v block page) }
-{
-    pager.lies(page) == Some(block) || is_first_in(past, pager, p, v, block, page)
-}
-
-/// Why a resident process with room below its limit may not have the block read into a frame.
-fn may_read_fails(
-    past: &LogHistory<'_>,
-    pager: &LogPager,
-    p: Proc,
-    f: Pfn,
-    block: BlockId,
-) -> Option<Reason>
+/// Why a resident process with room below its limit may not have the block read into the frame.
+fn may_read_fails(past: &LogHistory<'_>, pager: &LogPager, read: Read) -> Option<Reason>
     requires { (shown pager.now).processes ≡ length past.now.config.procs }
-    ensures legal { IsNone result ↔ (IsOwn past.now.config (shown pager.now).pager p.0 × IsHome past.now.config block (open_flights past.now.past)
-        × IsEmptyHead (shown pager.now).pager f.0 × (filled ((shown pager.now).pager.ring p.0).slots < (shown pager.now).pager.limit p.0)) }
-    ensures said { IfSome result (MayReadFails past.now.config past.now.past (shown pager.now).pager p.0 f.0 block) }
+    ensures legal { IsNone result ↔ (IsOwn past.now.config (shown pager.now).pager (read.seat).0 × IsHome past.now.config read.block (open_flights past.now.past)
+        × IsEmptyHead (shown pager.now).pager (read.frame).0 × (filled ((shown pager.now).pager.ring (read.seat).0).slots < (shown pager.now).pager.limit (read.seat).0)) }
+    ensures said { IfSome result (MayReadFails past.now.config past.now.past (shown pager.now).pager (read.seat).0 (read.frame).0 read.block) }
 {
+    let p = Proc(read.seat.0);
     if let Some(reason) = own_fails(past.config(), pager, p) {
         return Some(reason);
     }
-    if let Some(reason) = home_fails(past, block) {
+    if let Some(reason) = home_fails(past, read.block) {
         return Some(reason);
     }
-    if let Some(reason) = empty_head_fails(pager, f) {
+    if let Some(reason) = empty_head_fails(pager, read.frame) {
         return Some(reason);
     }
     room_fails(pager, p)
@@ -105,39 +87,36 @@ fn from_fails(
     if !pager.is_out(page) {
         return Some(Reason::PageInMemory);
     }
-    if !is_from(past, pager, p, v, block, page) {
-        return Some(Reason::LiesElsewhere(pager.lies(page)));
+    if pager.lies(page) == Some(block) || is_first(past.config(), pager, p, v, block, page) {
+        return None;
     }
-    None
+    Some(Reason::LiesElsewhere(pager.lies(page)))
 }
 
 /// Why a read of this page for a fault may not begin.
 fn fault_page_fails(
     past: &LogHistory<'_>,
     pager: &LogPager,
-    seat: Seat,
-    f: Pfn,
-    block: BlockId,
+    read: Read,
     q: Proc,
     a: Addr,
     page: Page,
 ) -> Option<Reason>
     requires { (shown pager.now).processes ≡ length past.now.config.procs }
-    ensures legal { IsNone result ↔ ((q.0 ≡ seat.0)
-        × (IsOwn past.now.config (shown pager.now).pager seat.0 × IsHome past.now.config block (open_flights past.now.past)
-        × IsEmptyHead (shown pager.now).pager f.0 × (filled ((shown pager.now).pager.ring seat.0).slots < (shown pager.now).pager.limit seat.0))
+    ensures legal { IsNone result ↔ ((q.0 ≡ (read.seat).0)
+        × (IsOwn past.now.config (shown pager.now).pager (read.seat).0 × IsHome past.now.config read.block (open_flights past.now.past)
+        × IsEmptyHead (shown pager.now).pager (read.frame).0 × (filled ((shown pager.now).pager.ring (read.seat).0).slots < (shown pager.now).pager.limit (read.seat).0))
         × ((g : ℕ) → (shown pager.now).pager.page g ≡ Some page → ⊥)
-        × (((shown pager.now).pager.lies page ≡ Some block) ⊎ IsFirstIn past.now.config (shown pager.now).pager seat.0 (page_number a.0) block page)) }
-    ensures said { IfSome result (FaultPageFails past.now.config past.now.past (shown pager.now).pager seat.0 f.0 block q.0 a.0 page) }
+        × (((shown pager.now).pager.lies page ≡ Some read.block) ⊎ IsFirstIn past.now.config (shown pager.now).pager (read.seat).0 (page_number a.0) read.block page)) }
+    ensures said { IfSome result (FaultPageFails past.now.config past.now.past (shown pager.now).pager (read.seat).0 (read.frame).0 read.block q.0 a.0 page) }
 {
-    let p = Proc(seat.0);
-    if q.0 != seat.0 {
+    if q.0 != read.seat.0 {
         return Some(Reason::NotOwnProcess);
     }
-    if let Some(reason) = may_read_fails(past, pager, p, f, block) {
+    if let Some(reason) = may_read_fails(past, pager, read) {
         return Some(reason);
     }
-    from_fails(past, pager, p, a.0 / 512, block, page)
+    from_fails(past, pager, Proc(read.seat.0), a.0 / 512, read.block, page)
 }
 
 /// The page that a process has at a page number.
@@ -151,19 +130,17 @@ fn page_of(past: &LogHistory<'_>, pager: &LogPager, p: Proc, v: u32) -> Option<P
 fn in_fault_fails(
     past: &LogHistory<'_>,
     pager: &LogPager,
-    seat: Seat,
-    f: Pfn,
-    block: BlockId,
+    read: Read,
     q: Proc,
     a: Addr,
 ) -> Option<Reason>
     requires { (shown pager.now).processes ≡ length past.now.config.procs }
-    ensures legal { IsNone result ↔ IsInFault past.now.config past.now.past (shown pager.now).pager seat.0 f.0 block q.0 a.0 }
-    ensures said { IfSome result (InFaultFails past.now.config past.now.past (shown pager.now).pager seat.0 f.0 block q.0 a.0) }
+    ensures legal { IsNone result ↔ IsInFault past.now.config past.now.past (shown pager.now).pager (read.seat).0 (read.frame).0 read.block q.0 a.0 }
+    ensures said { IfSome result (InFaultFails past.now.config past.now.past (shown pager.now).pager (read.seat).0 (read.frame).0 read.block q.0 a.0) }
 {
-    match page_of(past, pager, Proc(seat.0), a.0 / 512) {
+    match page_of(past, pager, Proc(read.seat.0), a.0 / 512) {
         None => Some(Reason::NotMapped),
-        Some(page) => fault_page_fails(past, pager, seat, f, block, q, a, page),
+        Some(page) => fault_page_fails(past, pager, read, q, a, page),
     }
 }
 
@@ -183,23 +160,17 @@ fn lying_page_fails(pager: &LogPager, block: BlockId, page: Page) -> Option<Reas
 }
 
 /// Why a read of a page from the block may not begin.
-fn lying_fails(
-    past: &LogHistory<'_>,
-    pager: &LogPager,
-    f: Pfn,
-    block: BlockId,
-    page: Page,
-) -> Option<Reason>
-    ensures legal { IsNone result ↔ IsInLying past.now.config past.now.past (shown pager.now).pager f.0 block page }
-    ensures said { IfSome result (LyingFails past.now.config past.now.past (shown pager.now).pager f.0 block page) }
+fn lying_fails(past: &LogHistory<'_>, pager: &LogPager, read: Read, page: Page) -> Option<Reason>
+    ensures legal { IsNone result ↔ IsInLying past.now.config past.now.past (shown pager.now).pager (read.frame).0 read.block page }
+    ensures said { IfSome result (LyingFails past.now.config past.now.past (shown pager.now).pager (read.frame).0 read.block page) }
 {
-    if let Some(reason) = home_fails(past, block) {
+    if let Some(reason) = home_fails(past, read.block) {
         return Some(reason);
     }
-    if let Some(reason) = empty_head_fails(pager, f) {
+    if let Some(reason) = empty_head_fails(pager, read.frame) {
         return Some(reason);
     }
-    lying_page_fails(pager, block, page)
+    lying_page_fails(pager, read.block, page)
 }
 
 /// Whether the way is that of a read for a fault, or of a neighbour.
@@ -257,22 +228,15 @@ fn near_fails(past: &LogHistory<'_>, pager: &LogPager, seat: Seat, page: Page) -
 }
 
 /// Why a read of a neighbour may not begin.
-fn in_near_fails(
-    past: &LogHistory<'_>,
-    pager: &LogPager,
-    seat: Seat,
-    f: Pfn,
-    block: BlockId,
-    page: Page,
-) -> Option<Reason>
-    requires { seat.0 < length past.now.config.procs + 2 }
-    ensures legal { IsNone result ↔ IsInNear past.now.config past.now.past (shown pager.now).pager seat.0 f.0 block page }
-    ensures said { IfSome result (InNearFails past.now.config past.now.past (shown pager.now).pager seat.0 f.0 block page) }
+fn in_near_fails(past: &LogHistory<'_>, pager: &LogPager, read: Read, page: Page) -> Option<Reason>
+    requires { (read.seat).0 < length past.now.config.procs + 2 }
+    ensures legal { IsNone result ↔ IsInNear past.now.config past.now.past (shown pager.now).pager (read.seat).0 (read.frame).0 read.block page }
+    ensures said { IfSome result (InNearFails past.now.config past.now.past (shown pager.now).pager (read.seat).0 (read.frame).0 read.block page) }
 {
-    if let Some(reason) = near_fails(past, pager, seat, page) {
+    if let Some(reason) = near_fails(past, pager, read.seat, page) {
         return Some(reason);
     }
-    lying_fails(past, pager, f, block, page)
+    lying_fails(past, pager, read, page)
 }
 
 /// Whether the block is a swap block of the process.
@@ -289,40 +253,38 @@ fn is_swap_block(block: BlockId, p: Proc) -> bool
 fn come_page_fails(
     past: &LogHistory<'_>,
     pager: &LogPager,
-    f: Pfn,
-    block: BlockId,
+    read: Read,
     q: Proc,
     page: Page,
 ) -> Option<Reason>
-    ensures legal { IsNone result ↔ (((shown pager.now).pager.status q.0 ≡ ProcStatus.Coming) × ((n : ℕ) × (block ≡ BlockId.Swap q n))
-        × IsInLying past.now.config past.now.past (shown pager.now).pager f.0 block page) }
-    ensures said { IfSome result (ComePageFails past.now.config past.now.past (shown pager.now).pager f.0 block q page) }
+    ensures legal { IsNone result ↔ (((shown pager.now).pager.status q.0 ≡ ProcStatus.Coming) × ((n : ℕ) × (read.block ≡ BlockId.Swap q n))
+        × IsInLying past.now.config past.now.past (shown pager.now).pager (read.frame).0 read.block page) }
+    ensures said { IfSome result (ComePageFails past.now.config past.now.past (shown pager.now).pager (read.frame).0 read.block q page) }
 {
     let status = pager.status(q);
     if status != ProcStatus::Coming {
         return Some(Reason::InOtherStatus(status));
     }
-    if !is_swap_block(block, q) {
+    if !is_swap_block(read.block, q) {
         return Some(Reason::NotItsSwapBlock);
     }
-    lying_fails(past, pager, f, block, page)
+    lying_fails(past, pager, read, page)
 }
 
 /// Why a read for a page of a coming process may not begin.
 fn in_come_fails(
     past: &LogHistory<'_>,
     pager: &LogPager,
-    f: Pfn,
-    block: BlockId,
+    read: Read,
     q: Proc,
     a: Addr,
 ) -> Option<Reason>
-    ensures legal { IsNone result ↔ IsInCome past.now.config past.now.past (shown pager.now).pager f.0 block q a.0 }
-    ensures said { IfSome result (InComeFails past.now.config past.now.past (shown pager.now).pager f.0 block q a.0) }
+    ensures legal { IsNone result ↔ IsInCome past.now.config past.now.past (shown pager.now).pager (read.frame).0 read.block q a.0 }
+    ensures said { IfSome result (InComeFails past.now.config past.now.past (shown pager.now).pager (read.frame).0 read.block q a.0) }
 {
     match page_of(past, pager, q, a.0 / 512) {
         None => Some(Reason::NotMapped),
-        Some(page) => come_page_fails(past, pager, f, block, q, page),
+        Some(page) => come_page_fails(past, pager, read, q, page),
     }
 }
 
@@ -340,9 +302,14 @@ pub fn in_fails(
     ensures legal { IsNone result ↔ IsIn role past.now.config past.now.past (shown pager.now).pager seat.0 f.0 block }
     ensures said { IfSome result (InFails role past.now.config past.now.past (shown pager.now).pager seat.0 f.0 block) }
 {
+    let read = Read {
+        seat,
+        frame: f,
+        block,
+    };
     match role {
-        Role::Fault(q, a) => in_fault_fails(past, pager, seat, f, block, q, a),
-        Role::Near(page) => in_near_fails(past, pager, seat, f, block, page),
-        Role::Come(q, a) => in_come_fails(past, pager, f, block, q, a),
+        Role::Fault(q, a) => in_fault_fails(past, pager, read, q, a),
+        Role::Near(page) => in_near_fails(past, pager, read, page),
+        Role::Come(q, a) => in_come_fails(past, pager, read, q, a),
     }
 }

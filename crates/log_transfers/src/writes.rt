@@ -9,7 +9,7 @@ ghost use Rattle.pager_model.specs.Maps.{is_paged, is_private};
 ghost use Rattle.pager_model.specs.Out.{IsAnyOut, IsOut, IsOutBlock, IsOutSwap};
 ghost use Rattle.pager_model.specs.Pager.{Valid};
 ghost use Rattle.pager_model.specs.Transfers.{reads_on, writes_on};
-ghost use Rattle.log_reasons.specs.WriteReasons.{ChangedFails, LeavingOutFails, ListedFails, OutFails, OutListedFails, OutSwapFails, PrivateFails, SlotFails, out_block};
+ghost use Rattle.log_reasons.specs.WriteReasons.{ChangedFails, ListedFails, OutFails, OutListedFails, OutSwapFails, PrivateFails, SlotFails, out_block};
 ghost use Rattle.log_pager.specs.Shown.{shown};
 
 use crate::blocks::home_fails;
@@ -164,36 +164,6 @@ fn changed_fails(past: &LogHistory<'_>, pager: &LogPager, f: Pfn, block: BlockId
     }
 }
 
-/// Why a leaving process's page may not be written to a slot's swap block that is home.
-fn leaving_out_fails(
-    past: &LogHistory<'_>,
-    pager: &LogPager,
-    f: Pfn,
-    p: Proc,
-    slot: u32,
-) -> Option<Reason>
-    requires { p.0 < (shown pager.now).processes }
-    ensures legal { IsNone result ↔ (((page : AnyPage) × ((shown pager.now).pager.page f.0 ≡ Some page) × (is_private page ≡ true))
-        × ((shown pager.now).pager.status p.0 ≡ ProcStatus.Leaving)
-        × ((held : Held) × (entry : Valid) × (slice_get ((shown pager.now).pager.ring p.0).slots slot ≡ Some (Some held))
-        × (entry_of (shown pager.now).pager.valid p.0 held.vpn ≡ Some entry) × (entry.frame ≡ f.0) × (held.pinned ≡ false))
-        × ((reads_on f.0 (open_flights past.now.past) + writes_on f.0 (open_flights past.now.past) ≡ 0)
-        × ((page : AnyPage) → (shown pager.now).pager.page f.0 ≡ Some page → (shown pager.now).pager.lies page ≡ Some (BlockId.Swap p slot) → (shown pager.now).pager.modify f.0 ≡ false → ⊥))) }
-    ensures said { IfSome result (LeavingOutFails past.now.past (shown pager.now).pager f.0 p slot) }
-{
-    if let Some(reason) = private_fails(pager, f) {
-        return Some(reason);
-    }
-    let status = pager.status(p);
-    if status != ProcStatus::Leaving {
-        return Some(Reason::InOtherStatus(status));
-    }
-    if let Some(reason) = slot_fails(pager, p, slot, f) {
-        return Some(reason);
-    }
-    changed_fails(past, pager, f, BlockId::Swap(p, slot))
-}
-
 /// Why a write of a leaving process's page to a swap block of it may not begin.
 #[tactic(auto, using(log_services::proofs::Slots::swap_process))]
 fn out_swap_fails(
@@ -210,7 +180,17 @@ fn out_swap_fails(
     if let Some(reason) = home_fails(past, BlockId::Swap(p, slot)) {
         return Some(reason);
     }
-    leaving_out_fails(past, pager, f, p, slot)
+    if let Some(reason) = private_fails(pager, f) {
+        return Some(reason);
+    }
+    let status = pager.status(p);
+    if status != ProcStatus::Leaving {
+        return Some(Reason::InOtherStatus(status));
+    }
+    if let Some(reason) = slot_fails(pager, p, slot, f) {
+        return Some(reason);
+    }
+    changed_fails(past, pager, f, BlockId::Swap(p, slot))
 }
 
 /// Why a write to a swap block may not begin.

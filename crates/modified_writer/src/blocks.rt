@@ -1,58 +1,17 @@
-ghost use Rattle.std.specs.Prelude.{◌≡◌, ◌+◌, ◌<◌, None, Some, length, nat_eq, true};
+ghost use Rattle.std.specs.Prelude.{◌≡◌, ◌<◌, None, Some, length, true};
 ghost use Rattle.vm_types.specs.Configuration.{IsBlock, IsWellFormed};
 ghost use Rattle.vm_types.specs.declared.names.BlockId.{BlockId};
-ghost use Rattle.pager_model.specs.InTurn.{is_next_block};
 ghost use Rattle.pager_model.specs.Lookups.{block_of};
 ghost use Rattle.pager_model.specs.Maps.{is_paged};
-ghost use Rattle.pager_model.specs.WriteCluster.{block_out, if_next, is_free_block, new_block};
+ghost use Rattle.pager_model.specs.WriteCluster.{block_out, is_free_block, new_block};
 ghost use Rattle.vm_state.specs.History.{pager};
 ghost use Rattle.vm_state.specs.PageReadings.{IsKnown};
 
+use block_order::if_next;
 use disk_trait::Block;
 use page_changes::is_paged;
 use vm_state::State;
 use vm_types::{BlockId, Page};
-
-/// Whether a number is the one after another.
-fn is_next(m: u32, n: u32) -> bool
-    ensures { result ≡ nat_eq n (m + 1) }
-{
-    m < n && n - m == 1
-}
-
-/// Whether a block is the one after another: of the page file, of one process's swap blocks, or of one
-/// section.
-fn is_next_block(b: BlockId, c: BlockId) -> bool
-    ensures { result ≡ is_next_block b c }
-{
-    match b {
-        BlockId::Section(s, i) => match c {
-            BlockId::Section(t, j) => s.0 == t.0 && is_next(i, j),
-            BlockId::PageFile(_) => false,
-            BlockId::Swap(..) => false,
-        },
-        BlockId::PageFile(m) => match c {
-            BlockId::Section(..) => false,
-            BlockId::PageFile(n) => is_next(m, n),
-            BlockId::Swap(..) => false,
-        },
-        BlockId::Swap(p, m) => match c {
-            BlockId::Section(..) => false,
-            BlockId::PageFile(_) => false,
-            BlockId::Swap(q, n) => p.0 == q.0 && is_next(m, n),
-        },
-    }
-}
-
-/// A block that is fixed, if it is the one after the last block, or there is no last one.
-fn if_next(last: Option<BlockId>, b: BlockId) -> Option<BlockId>
-    ensures { result ≡ if_next last b }
-{
-    match last {
-        Some(l) => { if is_next_block(l, b) { Some(b) } else { None } }
-        None => Some(b),
-    }
-}
 
 /// Whether a block of the page file exists and is free.
 fn is_free_block<B: Block>(state: &State<B>, n: u32) -> bool

@@ -21,7 +21,7 @@ pub use lines::{Line, Lines};
 pub use memory_sink::MemorySink;
 pub use memory_source::MemorySource;
 pub use sink::Sink;
-pub use source::Source;
+pub use source::{Source, read_more};
 pub use std_sink::StdSink;
 pub use std_source::StdSource;
 pub use steady_write::SteadyWrite;

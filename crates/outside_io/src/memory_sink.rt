@@ -69,6 +69,24 @@ impl MemorySink {
     {
         self.taken.as_slice()
     }
+
+    /// Counts a call, which fails if it is one of those that are to fail.
+    fn count_call(&mut self) -> Result<(), Failed>
+        ensures fails { is_err result ≡ is_listed self.old.fails (raised self.old.calls) }
+        ensures cause { HasCause self.old.faults self.new.faults result }
+        ensures ok { OnOk result (self.new ≡ record self.old { calls = raised self.old.calls }) }
+        ensures err { OnErr result (self.new ≡ record self.old {
+          calls = raised self.old.calls;
+          faults = raised self.old.faults;
+        }) }
+    {
+        self.calls = self.calls.saturating_add(1);
+        if lists(&self.fails, self.calls) {
+            self.faults = self.faults.saturating_add(1);
+            return Err(Failed);
+        }
+        Ok(())
+    }
 }
 
 impl Sink for MemorySink {
@@ -92,11 +110,7 @@ impl Sink for MemorySink {
         ensures plan { self.new.fails ≡ self.old.fails }
         ensures idle_plan { self.new.idle ≡ self.old.idle }
     {
-        self.calls = self.calls.saturating_add(1);
-        if lists(&self.fails, self.calls) {
-            self.faults = self.faults.saturating_add(1);
-            return Err(Failed);
-        }
+        self.count_call()?;
         let count = if lists(&self.idle, self.calls) {
             0
         } else {
@@ -123,12 +137,7 @@ impl Sink for MemorySink {
         ensures plan { self.new.fails ≡ self.old.fails }
         ensures idle_plan { self.new.idle ≡ self.old.idle }
     {
-        self.calls = self.calls.saturating_add(1);
-        if lists(&self.fails, self.calls) {
-            self.faults = self.faults.saturating_add(1);
-            return Err(Failed);
-        }
-        Ok(())
+        self.count_call()
     }
 
     ghost kept_is_last = { λ s. all_is_handed_on s.taken };

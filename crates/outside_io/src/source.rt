@@ -1,6 +1,6 @@
-ghost use Rattle.std.specs.Prelude.{◌≡◌, IsSome, OnOk};
+ghost use Rattle.std.specs.Prelude.{◌≡◌, ◌+◌, ◌<◌, ◌≤◌, length, take, drop, IfOk, OnOk, OnErr, IsSome};
 ghost use Rattle.std.specs.Io.{ReadsAtMost};
-ghost use Rattle.std.specs.Io.KnownBytes.{ReadConsumes};
+ghost use Rattle.std.specs.Io.KnownBytes.{Keeps, Consumes, IsAtEnd, ReadConsumes};
 ghost use Rattle.outside_io.specs.Causes.{HasCause};
 ghost use Rattle.outside_io.specs.Views.{SourceView};
 
@@ -23,4 +23,23 @@ pub trait Source {
         ensures known { IsSome (seen self.old).left → IsSome (seen self.new).left }
         ensures cause { HasCause (seen self.old).failures (seen self.new).failures result }
         ensures quiet { OnOk result ((seen self.new).failures ≡ (seen self.old).failures) };
+}
+
+/// Puts the next bytes behind the first `held` bytes of the buffer, which stay, and answers how many:
+/// at most as many as are behind them, 0 exactly at the end of the input.
+///
+/// # Errors
+/// `Failed` only where the source's count of failures rose; the bytes left are then as before.
+pub fn read_more<S: Source>(source: &mut S, buffer: &mut [u8], held: usize) -> Result<usize, Failed>
+    requires { held < length buffer.old }
+    ensures kept { take held buffer.new ≡ take held buffer.old }
+    ensures bound { IfOk result (λ n. held + n ≤ length buffer.old) }
+    ensures bytes { IfOk result (λ n. Consumes (S.seen source.old).left (S.seen source.new).left (take n (drop held buffer.new))) }
+    ensures end { IfOk result (λ n. n ≡ 0 → IsAtEnd (S.seen source.new).left) }
+    ensures failed { OnErr result (Keeps (S.seen source.old).left (S.seen source.new).left) }
+    ensures known { IsSome (S.seen source.old).left → IsSome (S.seen source.new).left }
+    ensures cause { HasCause (S.seen source.old).failures (S.seen source.new).failures result }
+    ensures quiet { OnOk result ((S.seen source.new).failures ≡ (S.seen source.old).failures) }
+{
+    source.read(&mut buffer[held..])
 }

@@ -8,4 +8,5 @@ pub mod Running
 pub mod Obeying
 mod Served
 pub mod Asking
+pub mod SixLetters
 mod ShownDumps

@@ -32,16 +32,12 @@ fn plain_command(name: &[u8]) -> Option<Command>
     ensures none { IfNone result ((command : Command) → plain_word command ≡ Some name.now → ⊥) }
     ensures bounded { IfSome result IsBounded }
 {
-    if is(name, b"serial") {
-        Some(Command::Serial)
-    } else if is(name, b"check") {
-        Some(Command::Check)
-    } else if is(name, b"dump") {
-        Some(Command::Dump)
-    } else if is(name, b"show") {
-        Some(Command::Show)
-    } else {
-        None
+    match name {
+        b"serial" => Some(Command::Serial),
+        b"check" => Some(Command::Check),
+        b"dump" => Some(Command::Dump),
+        b"show" => Some(Command::Show),
+        _ => None,
     }
 }
 

@@ -1,3 +1,4 @@
 pub mod WorkersDone
 pub mod TaskRequests
 pub mod Making
+pub mod JobKinds

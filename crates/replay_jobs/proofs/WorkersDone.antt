@@ -1,12 +1,14 @@
 -- The work of each kind of worker, by what its pass knew at first.
-use Rattle.std.proofs.Common.{◌≡◌, ◌⊎◌, ℕ, ◌+◌, ◌<◌, Bool, true, false, cond, List, [], ◌∷◌, filter, length, map, nat_eq, reverse, refl, sym, subst, arith}
+use Rattle.std.proofs.Common.{◌≡◌, ◌⊎◌, ℕ, ◌+◌, ◌<◌, Bool, true, false, cond, List, None, [], ◌∷◌, filter, length, map, nat_eq, reverse, refl, sym, ap, ◌∙◌, subst, arith}
 use Rattle.std.specs.Prelude.{All}
 use Rattle.std.specs.List.{AllByRecursion}
 use Rattle.std.proofs.lemmas.List.Elements.{All-from_recursion, recursion_from_All}
+use Rattle.std.proofs.lemmas.Option.{none-some}
 use Rattle.vm_types.specs.Configuration.{IsTask}
 use Rattle.vm_types.specs.declared.config.Config.{Config}
 use Rattle.vm_types.specs.declared.config.Task.{Task}
 use Rattle.vm_types.specs.declared.names.Proc.{Proc}
+use Rattle.vm_types.specs.declared.names.Seat.{Seat}
 use Rattle.vm_types.specs.declared.service.Request.{Request}
 use Rattle.vm_journal.specs.declared.entry.Entry.{Entry}
 use Rattle.history_lock.specs.Views.{unseen}
@@ -14,11 +16,12 @@ use Rattle.history_lock.specs.declared.view.View.{View}
 use Rattle.pager_model.specs.Order.{requests_of}
 use Rattle.vm_state.specs.declared.base.StateBase.{StateBase}
 use Rattle.vm_actors.specs.Between.{IsCalm, NoneOpen}
-use Rattle.vm_actors.specs.Doings.{Knows, MayAsk, RestsAt}
+use Rattle.vm_actors.specs.Doings.{Knows, MayAsk, MayDo, RestsAt, request_of}
 use Rattle.vm_actors.specs.OwnEntries.{GoesOn, MadeSome}
 use Rattle.vm_actors.specs.Requests.{AreAllAnswered, HasAnswered}
-use Rattle.vm_actors.specs.declared.doing.Doing.TheVariants.{Swapping, Writing}
-use Rattle.replay_jobs.specs.Jobs.{IsDone, IsDoneBy, IsPlayable}
+use Rattle.vm_actors.specs.declared.doing.Doing.{Doing}
+use Rattle.vm_actors.specs.declared.doing.Doing.TheVariants.{Asking, Swapping, Writing}
+use Rattle.replay_jobs.specs.Jobs.{IsDone, IsDoneBy, IsIdleDone, IsPlayable}
 
 module _ (b : StateBase) (k : ℕ) (v : View StateBase) (is : v ≡ unseen (k ∷ []) b) where
   -- ---- before: nothing is open
@@ -63,26 +66,28 @@ module _ (b : StateBase) (k : ℕ) (v : View StateBase) (is : v ≡ unseen (k �
         swapper = λ same. absurd (omega (arith, under, same));
       })
 
-  pub writer_done : (place : List Entry) → k ≡ length b.config.procs → GoesOn v.numbers v.seen place → AreAllAnswered v.base place → MadeSome v.numbers v.seen place ⊎ RestsAt Writing v.base (reverse place) → IsDoneBy v.base v.numbers place
-  writer_done place here silent all worked =
-      done_by place (record {
-        process = λ less. absurd (omega (arith, here, less));
-        writer = λ same. record {
-          silent = subst (λ (w : View StateBase). GoesOn w.numbers w.seen place) is silent;
-          answered = subst (λ (w : View StateBase). AreAllAnswered w.base place) is all;
-          worked = subst (λ (w : View StateBase). MadeSome w.numbers w.seen place ⊎ RestsAt Writing w.base (reverse place)) is worked;
-        };
-        swapper = λ same. absurd (omega (arith, here, same));
-      })
-
-  pub swapper_done : (place : List Entry) → k ≡ length b.config.procs + 1 → GoesOn v.numbers v.seen place → AreAllAnswered v.base place → MadeSome v.numbers v.seen place ⊎ RestsAt Swapping v.base (reverse place) → IsDoneBy v.base v.numbers place
-  swapper_done place here silent all worked =
-      done_by place (record {
-        process = λ less. absurd (omega (arith, here, less));
-        writer = λ same. absurd (omega (arith, here, same));
-        swapper = λ same. record {
-          silent = subst (λ (w : View StateBase). GoesOn w.numbers w.seen place) is silent;
-          answered = subst (λ (w : View StateBase). AreAllAnswered w.base place) is all;
-          worked = subst (λ (w : View StateBase). MadeSome w.numbers w.seen place ⊎ RestsAt Swapping w.base (reverse place)) is worked;
-        };
-      })
+  -- the work for no request, of the seat that may do it
+  pub idle_done : (doing : Doing) → request_of doing ≡ None → (seat : Seat) → seat.0 ≡ k → MayDo seat doing b.config → (place : List Entry) → GoesOn v.numbers v.seen place → AreAllAnswered v.base place → MadeSome v.numbers v.seen place ⊎ RestsAt doing v.base (reverse place) → IsDoneBy v.base v.numbers place
+  idle_done doing none seat same may place silent all worked =
+      done_by place (by doing none may (record {
+        silent = subst (λ (w : View StateBase). GoesOn w.numbers w.seen place) is silent;
+        answered = subst (λ (w : View StateBase). AreAllAnswered w.base place) is all;
+        worked = subst (λ (w : View StateBase). MadeSome w.numbers w.seen place ⊎ RestsAt doing w.base (reverse place)) is worked;
+      }))
+    where
+      by : (d : Doing) → request_of d ≡ None → MayDo seat d b.config → IsIdleDone b k d place → IsDone b k place
+      by (Asking p x) none may idle = absurd (none-some x (sym none))
+      by Writing none may idle =
+          let here : k ≡ length b.config.procs = sym same ∙ ap (λ (z : Seat). z.0) may in
+          record {
+            process = λ less. absurd (omega (arith, here, less));
+            writer = λ at. idle;
+            swapper = λ at. absurd (omega (arith, here, at));
+          }
+      by Swapping none may idle =
+          let here : k ≡ length b.config.procs + 1 = sym same ∙ ap (λ (z : Seat). z.0) may in
+          record {
+            process = λ less. absurd (omega (arith, here, less));
+            writer = λ at. absurd (omega (arith, here, at));
+            swapper = λ at. idle;
+          }

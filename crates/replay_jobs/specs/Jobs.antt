@@ -1,6 +1,7 @@
 -- What the workers of a run are given, and what they leave. This project's own.
-use Rattle.std.specs.Prelude.{◌≡◌, ℕ, ◌+◌, ◌⊎◌, ◌<◌, true, false, List, [], ◌∷◌, Option, Some, length, reverse, slice_get}
+use Rattle.std.specs.Prelude.{◌≡◌, ℕ, ◌+◌, ◌⊎◌, ◌<◌, true, false, List, [], ◌∷◌, Option, Some, None, length, reverse, slice_get}
 use Rattle.vm_types.specs.Configuration.{IsWellFormed}
+use Rattle.vm_types.specs.declared.config.Config.{Config}
 use Rattle.vm_journal.specs.declared.entry.Entry.{Entry}
 use Rattle.history_lock.specs.Passes.{IsIdle, IsOf, IsSameLock, base_of, numbers, seen, view}
 use Rattle.history_lock.specs.Views.{unseen}
@@ -11,7 +12,7 @@ use Rattle.vm_state.specs.History.{History}
 use Rattle.vm_state.specs.declared.base.StateBase.{StateBase}
 use Rattle.call_begins.specs.MayBegin.{empty}
 use Rattle.vm_actors.specs.Between.{IsCalm, NoneOpen}
-use Rattle.vm_actors.specs.Doings.{RestsAt}
+use Rattle.vm_actors.specs.Doings.{MayDo, RestsAt, request_of}
 use Rattle.vm_actors.specs.OwnEntries.{GoesOn, MadeSome}
 use Rattle.vm_actors.specs.Requests.{AreAllAnswered, HasAnswered}
 use Rattle.vm_actors.specs.declared.doing.Doing.{Doing}
@@ -36,6 +37,23 @@ pub record IsJob {B : Type 0} (lock : HistoryLock History StateBase) (b : StateB
   pub carries : job.carrier ≡ empty job.carrier.seat
   pub asks : job.work.items ≡ requests_of ((job.carrier.seat).0) b.config.body
   pub there : (job.carrier.seat).0 < length b.config.procs + 2
+
+-- of a playable state: such a job, and this holds of the configuration
+pub record IsJobFor {B : Type 0} (May : Config → Type 0) (lock : HistoryLock History StateBase) (given : Job B) : Type 0 where
+  pub base : StateBase
+  pub playable : IsPlayable base
+  pub job : IsJob lock base given
+  pub may : May base.config
+
+-- there are so many processes; the job is one's; or it is one that is done for no request
+abbrev pub IsJobAmong : {B : Type 0} → ℕ → HistoryLock History StateBase → Job B → Type 0
+IsJobAmong procs lock job = IsJobFor (λ (config : Config). procs ≡ length config.procs) lock job
+
+abbrev pub IsProcessJob : {B : Type 0} → HistoryLock History StateBase → Job B → Type 0
+IsProcessJob lock job = IsJobFor (λ (config : Config). (job.carrier.seat).0 < length config.procs) lock job
+
+abbrev pub IsIdleJob : {B : Type 0} → HistoryLock History StateBase → Job B → Doing → Type 0
+IsIdleJob lock job doing = (request_of doing ≡ None) × IsJobFor (MayDo job.carrier.seat doing) lock job
 
 -- the jobs of the seats below this number, the last seat's first
 abbrev pub AreJobs : {B : Type 0} → HistoryLock History StateBase → StateBase → ℕ → List (Job B) → Type 0

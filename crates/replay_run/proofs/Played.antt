@@ -1,5 +1,5 @@
 -- The state that comes out of the lock once all workers have ended.
-use Rattle.std.proofs.Common.{◌≡◌, ℕ, ◌+◌, ◌<◌, false, List, Some, length, reverse, sym, ap, ◌∙◌, subst}
+use Rattle.std.proofs.Common.{◌≡◌, ℕ, ◌+◌, ◌<◌, Bool, true, false, List, Some, length, reverse, sym, ap, ◌∙◌, subst}
 use Rattle.std.specs.Prelude.{Contains}
 use Rattle.std.proofs.lemmas.Option.{same_Some}
 use Rattle.vm_types.specs.declared.config.Config.{Config}
@@ -10,6 +10,7 @@ use Rattle.history_lock.specs.declared.lock.HistoryLock.{HistoryLock}
 use Rattle.history_lock.specs.declared.view.View.{View}
 use Rattle.pager_model.specs.Order.{IsAnswered}
 use Rattle.pager_model.specs.Run.{IsRun}
+use Rattle.pager_model.specs.Spoken.{IsRight}
 use Rattle.serial_laws.specs.Between.{IsBetween}
 use Rattle.seat_turns.specs.Rests.{IsSwapped, IsWritten}
 use Rattle.vm_state.specs.Based.{base_of, kept_entries}
@@ -20,6 +21,7 @@ use Rattle.vm_actors.specs.declared.ended.Ended.{Ended}
 use Rattle.vm_actors.proofs.StillOut.{past_of}
 use Rattle.replay_jobs.specs.Jobs.{IsPlayable}
 use Rattle.replay_threads.specs.Workers.{AreEnded, WasDone}
+use Rattle.replay_run.specs.Replayed.{HasPlayed}
 use Rattle.replay_run.specs.Worked.{HasWorkedAt}
 use Rattle.replay_run.proofs.Concluding.{all_answered, is_between, swapper_worked, writer_worked}
 
@@ -40,17 +42,26 @@ module _ (b : StateBase) (playable : IsPlayable b) (s : History) (base : base_of
   there : (P : Config → List Entry → Type 0) → P b.config (reverse journal) → P s.config s.past
   there P holds = subst (λ (c : Config). P c s.past) (sym config_is) (subst (P b.config) (sym past_is) holds)
 
-  pub played_between : IsBetween s.config s.past
+  played_between : IsBetween s.config s.past
   played_between = there IsBetween (is_between b playable journal ran done calm)
 
-  pub played_answered : IsAnswered s.config s.past
+  played_answered : IsAnswered s.config s.past
   played_answered = there IsAnswered (all_answered b playable journal ran done)
 
-  pub played_writer : HasWorkedAt s.config s.past (length s.config.procs) (λ config older a. IsWritten config a)
+  played_writer : HasWorkedAt s.config s.past (length s.config.procs) (λ config older a. IsWritten config a)
   played_writer = there (λ (c : Config) (past : List Entry). HasWorkedAt c past (length c.procs) (λ config older a. IsWritten config a)) (writer_worked b playable journal ran done)
 
-  pub played_swapper : HasWorkedAt s.config s.past (length s.config.procs + 1) IsSwapped
+  played_swapper : HasWorkedAt s.config s.past (length s.config.procs + 1) IsSwapped
   played_swapper = there (λ (c : Config) (past : List Entry). HasWorkedAt c past (length c.procs + 1) IsSwapped) (swapper_worked b playable journal ran done)
+
+  pub has_played : (tells : Bool) → (tells ≡ true → IsRight s.config s.past) → HasPlayed tells b s
+  has_played tells right = record {
+    same = base;
+    between = played_between;
+    answered = played_answered;
+    right = right;
+    threaded = record { writer = played_writer; swapper = played_swapper };
+  }
 
 -- all numbers are among those of the pass
 pub all_done : (b : StateBase) (numbers : List ℕ) (n : ℕ) (journal : List Entry) → ((k : ℕ) → Contains numbers k → WasDone b k journal) → ((k : ℕ) → k < n → Contains numbers k) → (k : ℕ) → k < n → WasDone b k journal

@@ -1,14 +1,11 @@
-ghost use Rattle.std.specs.Prelude.{◌≡◌, ℕ, ◌+◌, ◌<◌, ◌≤◌, [], IfOk, Some, length, slice_get, true, vec_capacity};
+ghost use Rattle.std.specs.Prelude.{◌≡◌, ℕ, ◌+◌, ◌<◌, ◌≤◌, [], IfOk, Some, length, slice_get, vec_capacity};
 ghost use Rattle.history_lock.specs.Known.{OwnsAll};
 ghost use Rattle.history_lock.specs.Passes.{numbers, passes_of};
-ghost use Rattle.pager_model.specs.Order.{IsAnswered, requests_of};
-ghost use Rattle.pager_model.specs.Spoken.{IsRight};
-ghost use Rattle.serial_laws.specs.Between.{IsBetween};
+ghost use Rattle.pager_model.specs.Order.{requests_of};
 ghost use Rattle.vm_state.specs.Based.{base_of};
-ghost use Rattle.seat_turns.specs.Rests.{IsSwapped, IsWritten};
-ghost use Rattle.replay_jobs.specs.Jobs.{AreJobs, IsPlayable};
-ghost use Rattle.replay_threads.specs.Workers.{AreEnded};
-ghost use Rattle.replay_run.specs.Worked.{HasWorkedAt};
+ghost use Rattle.replay_jobs.specs.Jobs.{IsPlayable};
+ghost use Rattle.replay_threads.specs.Workers.{AreAllJobs, AreEnded};
+ghost use Rattle.replay_run.specs.Replayed.{HasPlayed};
 
 use disk_trait::Block;
 use history_lock::HistoryLock;
@@ -25,7 +22,6 @@ use vm_types::{NoMemory, Request};
 
 /// How many processes a state has.
 fn process_count<B: Block>(state: &State<B>) -> u32
-    ensures some_process { 0 < result }
     ensures few { result ≤ 16 }
     ensures count { result ≡ length state.now.config.procs }
 {
@@ -42,12 +38,8 @@ fn run_jobs<R: Threads + Wait + Sync, B: Block>(
     jobs: Vec<Job<B>>,
     started: Vec<Started<B>>,
 ) -> Ended<B>
-    requires playable { IsPlayable (base_of of.now.value) }
-    requires procs { procs ≡ length of.now.value.config.procs }
-    requires some_process { 0 < procs }
-    requires jobs { AreJobs lock.now (base_of of.now.value) (procs + 2) jobs.items }
-    requires count { length jobs.items ≡ procs + 2 }
-    requires room { procs ≤ vec_capacity started }
+    requires jobs { AreAllJobs lock.now (base_of of.now.value) procs jobs.items }
+    requires room { procs + 2 ≤ vec_capacity started }
     requires none { started.items ≡ [] }
     ensures ended { AreEnded lock.now (base_of of.now.value) result }
     ensures all { OwnsAll (procs + 2) (numbers result.pass) }
@@ -56,7 +48,7 @@ fn run_jobs<R: Threads + Wait + Sync, B: Block>(
         thread::scope_env(),
         rt,
         |scope| -> Ended<B>
-            requires { IsPlayable (base_of of.now.value) × (procs ≡ length of.now.value.config.procs) × (0 < procs) × AreJobs lock.now (base_of of.now.value) (procs + 2) jobs.items × (length jobs.items ≡ procs + 2) × (procs ≤ vec_capacity started) × (started.items ≡ []) }
+            requires { AreAllJobs lock.now (base_of of.now.value) procs jobs.items × (procs + 2 ≤ vec_capacity started) × (started.items ≡ []) }
             ensures ended { AreEnded lock.entry.now (base_of of.entry.now.value) result }
             ensures all { OwnsAll (procs + 2) (numbers result.pass) }
         { do_jobs(rt, scope, lock, of, procs, jobs, started) },
@@ -91,14 +83,14 @@ fn deal<B: Block>(
     works: Vec<Vec<Request>>,
 ) -> Result<(HistoryLock<State<B>>, Vec<Job<B>>), NoMemory>
     requires same { of.now.value ≡ state }
+    requires playable { IsPlayable (base_of state) }
     requires first { state.past ≡ [] }
     requires few { procs ≤ 16 }
     requires procs { procs ≡ length of.now.value.config.procs }
     requires count { length works.items ≡ procs + 2 }
     requires works { (i : ℕ) (work : _) → slice_get works.items i ≡ Some work → work.items ≡ requests_of i of.now.value.config.body }
     ensures passes { IfOk result (λ made. passes_of made.0 ≡ procs + 2) }
-    ensures jobs { IfOk result (λ made. AreJobs made.0 (base_of of.now.value) (procs + 2) made.1.items) }
-    ensures count { IfOk result (λ made. length made.1.items ≡ procs + 2) }
+    ensures jobs { IfOk result (λ made. AreAllJobs made.0 (base_of of.now.value) procs made.1.items) }
 {
     let (lock, passes) = HistoryLock::new(alloc, state, procs + 2)?;
     let jobs = make_jobs(alloc, &lock, of, passes, works)?;
@@ -120,12 +112,7 @@ fn conclude<B: Block>(
     requires passes { passes_of lock ≡ _procs + 2 }
     requires ended { AreEnded lock (base_of _of.now.value) ended }
     requires all { OwnsAll (_procs + 2) (numbers ended.pass) }
-    ensures same { IfOk result (λ s. base_of s ≡ base_of _of.now.value) }
-    ensures between { IfOk result (λ s. IsBetween s.config s.past) }
-    ensures answered { IfOk result (λ s. IsAnswered s.config s.past) }
-    ensures right { IfOk result (λ s. B.tells.content ≡ true → IsRight s.config s.past) }
-    ensures writer { IfOk result (λ s. HasWorkedAt s.config s.past (length s.config.procs) (λ config past a. IsWritten config a)) }
-    ensures swapper { IfOk result (λ s. HasWorkedAt s.config s.past (length s.config.procs + 1) IsSwapped) }
+    ensures { IfOk result (HasPlayed B.tells.content (base_of _of.now.value)) }
 {
     let Ended { pass, short } = ended;
     let closed = lock.close(pass);
@@ -149,17 +136,12 @@ fn play_on<R: Threads + Wait + Sync, B: Block>(
     requires known { of.now.value ≡ state }
     requires playable { IsPlayable (base_of state) }
     requires first { state.past ≡ [] }
-    ensures same { IfOk result (λ s. base_of s ≡ base_of state) }
-    ensures between { IfOk result (λ s. IsBetween s.config s.past) }
-    ensures answered { IfOk result (λ s. IsAnswered s.config s.past) }
-    ensures right { IfOk result (λ s. B.tells.content ≡ true → IsRight s.config s.past) }
-    ensures writer { IfOk result (λ s. HasWorkedAt s.config s.past (length s.config.procs) (λ config past a. IsWritten config a)) }
-    ensures swapper { IfOk result (λ s. HasWorkedAt s.config s.past (length s.config.procs + 1) IsSwapped) }
+    ensures { IfOk result (HasPlayed B.tells.content (base_of state)) }
 {
     let procs = process_count(&state);
     let works = works_of(alloc, &state, procs)?;
     let (lock, jobs) = deal(alloc, state, of, procs, works)?;
-    let started = Vec::with_capacity(alloc, procs as usize)?;
+    let started = Vec::with_capacity(alloc, procs as usize + 2)?;
     let ended = run_jobs(rt, &lock, of, procs, jobs, started);
     conclude(lock, of, procs, ended)
 }
@@ -177,12 +159,7 @@ pub fn play<R: Threads + Wait + Sync, B: Block>(
 ) -> Result<State<B>, NoMemory>
     requires playable { IsPlayable (base_of state) }
     requires first { state.past ≡ [] }
-    ensures same { IfOk result (λ s. base_of s ≡ base_of state) }
-    ensures between { IfOk result (λ s. IsBetween s.config s.past) }
-    ensures answered { IfOk result (λ s. IsAnswered s.config s.past) }
-    ensures right { IfOk result (λ s. B.tells.content ≡ true → IsRight s.config s.past) }
-    ensures writer { IfOk result (λ s. HasWorkedAt s.config s.past (length s.config.procs) (λ config past a. IsWritten config a)) }
-    ensures swapper { IfOk result (λ s. HasWorkedAt s.config s.past (length s.config.procs + 1) IsSwapped) }
+    ensures { IfOk result (HasPlayed B.tells.content (base_of state)) }
 {
     let of = Snapshot::of(&state);
     play_on(rt, alloc, state, &of)

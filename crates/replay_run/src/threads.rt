@@ -8,8 +8,8 @@ ghost use Rattle.replay_run.specs.Replayed.{IsThreaded};
 
 use crate::playing::play;
 use disk_trait::Depot;
-use run_blocks::{make_blocks, retire_blocks};
-use serial_run::{Finished, RunFault, end_state};
+use run_blocks::make_blocks;
+use serial_run::{Finished, RunFault, finish_run};
 use std::alloc::Global;
 use std::sync::Wait;
 use std::thread::Threads;
@@ -37,15 +37,6 @@ pub fn run_threads<R: Threads + Wait + Sync, D: Depot>(
 {
     let blocks = make_blocks(alloc, &config, depot)?;
     let first = State::start(alloc, config, blocks)?;
-    let mut state = play(rt, alloc, first)?;
-    let ending = end_state(alloc, &mut state)?;
-    let (config, entries, blocks) = state.finish();
-    retire_blocks(blocks, depot)?;
-    Ok(Finished {
-        config,
-        entries,
-        at: ending.at,
-        report: ending.report,
-        dirty: ending.dirty,
-    })
+    let state = play(rt, alloc, first)?;
+    Ok(finish_run(alloc, state, depot)?)
 }

@@ -1,5 +1,5 @@
 -- Workers that have been started, and what they leave once they have ended. This project's own.
-use Rattle.std.specs.Prelude.{◌≡◌, ℕ, false, List, [], ◌∷◌, Contains, Some, slice_get}
+use Rattle.std.specs.Prelude.{◌≡◌, ℕ, ◌+◌, false, List, [], ◌∷◌, Contains, Some, length, slice_get}
 use mathlib.Core.List.{IsPrefix}
 use Rattle.vm_journal.specs.Own.{own_entries}
 use Rattle.vm_journal.specs.declared.entry.Entry.{Entry}
@@ -10,9 +10,17 @@ use Rattle.vm_state.specs.History.{History}
 use Rattle.vm_state.specs.declared.base.StateBase.{StateBase}
 use Rattle.vm_actors.specs.Between.{IsCalm, NoneOpen}
 use Rattle.vm_actors.specs.declared.ended.Ended.{Ended}
-use Rattle.replay_jobs.specs.Jobs.{IsDone, IsEndedOf, IsFresh}
+use Rattle.replay_jobs.specs.Jobs.{AreJobs, IsDone, IsEndedOf, IsFresh, IsPlayable}
+use Rattle.replay_jobs.specs.declared.jobs.Job.{Job}
 use Rattle.replay_threads.specs.declared.starting.Started.{Started}
 use Rattle.replay_threads.specs.declared.starting.Started.TheVariants.{Done, Running}
+
+-- the jobs of all seats of a playable state that has so many processes, the last seat's first
+pub record AreAllJobs {B : Type 0} (lock : HistoryLock History StateBase) (b : StateBase) (procs : ℕ) (jobs : List (Job B)) : Type 0 where
+  pub playable : IsPlayable b
+  pub processes : procs ≡ length b.config.procs
+  pub each : AreJobs lock b (procs + 2) jobs
+  pub count : length jobs ≡ procs + 2
 
 abbrev pub IsStarted : {B : Type 0} → Pass History StateBase → Started B → Type 0
 IsStarted old (Running handle) = handle.promise.0.value ≡ old

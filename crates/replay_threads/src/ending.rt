@@ -1,15 +1,15 @@
-ghost use Rattle.std.specs.Prelude.{◌≡◌, ℕ, ◌+◌, ◌<◌, ◌++◌, ◌||◌, Contains, length};
+ghost use Rattle.std.specs.Prelude.{◌≡◌, ℕ, ◌<◌, ◌++◌, ◌||◌, Contains, length};
 ghost use Rattle.history_lock.specs.Passes.{numbers};
 ghost use Rattle.history_lock.specs.declared.pass.Pass.{Pass};
 ghost use Rattle.vm_state.specs.Based.{base_of};
 ghost use Rattle.vm_state.specs.History.{History};
 ghost use Rattle.vm_state.specs.declared.base.StateBase.{StateBase};
-ghost use Rattle.replay_jobs.specs.Jobs.{IsEndedOf, IsFresh};
+ghost use Rattle.replay_jobs.specs.Jobs.{IsEndedOf};
 ghost use Rattle.replay_threads.specs.Workers.{AreEnded, AreWorkers, IsStarted};
 
 use crate::starting::Started;
 use disk_trait::Block;
-use history_lock::{HistoryLock, Pass};
+use history_lock::HistoryLock;
 use replay_jobs::take_last;
 use std::snapshot::Snapshot;
 use std::sync::Wait;
@@ -35,7 +35,7 @@ fn either(first: bool, second: bool) -> bool
 }
 
 /// Makes two ends one.
-pub(crate) fn join_ends<B: Block>(
+fn join_ends<B: Block>(
     lock: &HistoryLock<State<B>>,
     _of: &Snapshot<State<B>>,
     first: Ended<B>,
@@ -50,25 +50,6 @@ pub(crate) fn join_ends<B: Block>(
     let any = either(short, second.short);
     lock.absorb(&mut pass, second.pass);
     Ended { pass, short: any }
-}
-
-/// Makes the end of the worker that was given a fresh pass of a number one with other ends.
-pub(crate) fn join_last<B: Block>(
-    lock: &HistoryLock<State<B>>,
-    of: &Snapshot<State<B>>,
-    _given: &Snapshot<Pass<State<B>>>,
-    _number: u32,
-    all: Ended<B>,
-    last: Ended<B>,
-) -> Ended<B>
-    requires fresh { IsFresh lock.now (base_of of.now.value) _number _given.now.value }
-    requires all { AreEnded lock.now (base_of of.now.value) all }
-    requires last { IsEndedOf _given.now.value last }
-    requires others { (k : ℕ) → k < _number → Contains (numbers all.pass) k }
-    ensures ended { AreEnded lock.now (base_of of.now.value) result }
-    ensures all { (k : ℕ) → k < _number + 1 → Contains (numbers result.pass) k }
-{
-    join_ends(lock, of, all, last)
 }
 
 /// Waits until the workers of the first seats have ended, of which there is at least one.

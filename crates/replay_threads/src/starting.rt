@@ -1,11 +1,9 @@
-ghost use Rattle.std.specs.Prelude.{◌≡◌, ◌+◌, ◌≤◌, [], length, vec_capacity};
-ghost use Rattle.vm_state.specs.Based.{base_of};
-ghost use Rattle.replay_jobs.specs.Jobs.{AreJobs, IsEndedOf, IsJob, IsPlayable};
-ghost use Rattle.replay_threads.specs.Workers.{AreWorkers, IsStarted};
+ghost use Rattle.replay_jobs.specs.Jobs.{IsEndedOf, IsJobAmong};
+ghost use Rattle.replay_threads.specs.Workers.{IsStarted};
 
 use disk_trait::Block;
 use history_lock::{HistoryLock, Pass};
-use replay_jobs::{Job, take_last, work};
+use replay_jobs::{Job, work};
 use std::snapshot::Snapshot;
 use std::sync::Wait;
 use std::thread::{Promise, PromisedHandle, Scope, Threads};
@@ -32,53 +30,23 @@ pub enum Started<B: Block> {
 }
 
 /// Starts a worker in a thread of the scope; where no thread can be made it works here.
-fn start_one<'s, E: 's, R: Threads + Wait + Sync + 's, B: Block + 's>(
+pub(crate) fn start_one<'s, E: 's, R: Threads + Wait + Sync + 's, B: Block + 's>(
     rt: &'s R,
     scope: &'s Scope<'s, E>,
     lock: &'s HistoryLock<State<B>>,
-    of: &'s Snapshot<State<B>>,
     procs: u32,
     job: Job<B>,
 ) -> Started<B>
-    requires playable { IsPlayable (base_of of.now.value) }
-    requires procs { procs ≡ length of.now.value.config.procs }
-    requires job { IsJob lock.now (base_of of.now.value) job }
+    requires { IsJobAmong procs lock.now job }
     ensures { IsStarted job.pass result }
 {
     let sent = Sent(Snapshot::of(&job.pass));
     let run = move || -> Ended<B>
-        requires { IsPlayable (base_of of.now.value) × (procs ≡ length of.now.value.config.procs) × IsJob lock.now (base_of of.now.value) job }
+        requires { IsJobAmong procs lock.now job }
         ensures { IsEndedOf job.pass result }
-    { work(rt, lock, of, procs, job) };
+    { work(rt, lock, procs, job) };
     match scope.spawn_with(sent, run) {
         Ok(handle) => Started::Running(handle),
         Err(refused) => Started::Done((refused.value)()),
-    }
-}
-
-/// Starts the workers of the processes, whose jobs are the last ones, the first process first.
-pub(crate) fn start_processes<'s, E: 's, R: Threads + Wait + Sync + 's, B: Block + 's>(
-    rt: &'s R,
-    scope: &'s Scope<'s, E>,
-    lock: &'s HistoryLock<State<B>>,
-    of: &'s Snapshot<State<B>>,
-    procs: u32,
-    jobs: &mut Vec<Job<B>>,
-    started: &mut Vec<Started<B>>,
-)
-    requires playable { IsPlayable (base_of of.now.value) }
-    requires procs { procs ≡ length of.now.value.config.procs }
-    requires jobs { AreJobs lock.now (base_of of.now.value) (procs + 2) jobs.old.items }
-    requires count { length jobs.old.items ≡ procs + 2 }
-    requires room { procs ≤ vec_capacity started.old }
-    requires none { started.old.items ≡ [] }
-    ensures left { AreJobs lock.now (base_of of.now.value) (procs + 2) jobs.new.items }
-    ensures count { length jobs.new.items ≡ 2 }
-    ensures workers { AreWorkers lock.now (base_of of.now.value) started.new.items }
-    ensures all { length started.new.items ≡ procs }
-{
-    for _i in 0..procs {
-        let job = take_last(jobs);
-        started.push_reserved(start_one(rt, scope, lock, of, procs, job));
     }
 }

@@ -48,20 +48,13 @@ impl Model for RunRecord {
 }
 
 impl RunRecord {
-    ghost use Rattle.run_record.specs.RunRecord.{seat_bytes};
+    ghost use Rattle.run_record.specs.RunRecord.{IsKept, keeps_all, seat_bytes};
 
     /// No entries, all of which are to be kept, and nothing spare. Doesn't allocate.
     pub fn new(alloc: Global) -> RunRecord
         ensures { result ≡ record { entries = []; spare = 0; keeps = true } }
     {
-        RunRecord {
-            alloc,
-            past: Past::new(),
-            len: 0,
-            answers: 0,
-            spare: 0,
-            kept: Kept::All(Vec::new(alloc)),
-        }
+        RunRecord::empty(alloc, Kept::All(Vec::new(alloc)))
     }
 
     /// No entries, which are to be counted, and nothing spare. Doesn't allocate.
@@ -69,13 +62,21 @@ impl RunRecord {
     pub fn counting(alloc: Global) -> RunRecord
         ensures { result ≡ record { entries = []; spare = 0; keeps = false } }
     {
+        RunRecord::empty(alloc, Kept::Counts(Counts::new(alloc)))
+    }
+
+    /// No entries, kept in this, and nothing spare. Doesn't allocate.
+    fn empty(alloc: Global, kept: Kept) -> RunRecord
+        requires { IsKept [] 0 kept }
+        ensures { result ≡ record { entries = []; spare = 0; keeps = keeps_all kept } }
+    {
         RunRecord {
             alloc,
             past: Past::new(),
             len: 0,
             answers: 0,
             spare: 0,
-            kept: Kept::Counts(Counts::new(alloc)),
+            kept,
         }
     }
 

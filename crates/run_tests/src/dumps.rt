@@ -1,12 +1,10 @@
 //! What `dump` writes of a run, and what `show` says of it.
 
-use crate::clusters::WRITTEN_TOGETHER;
-use crate::several_processes::SHARED_PAGE;
-use crate::swapping::OUT_AND_IN_AGAIN;
 use program_runs::{FIRST_RUN, outcome};
 use replay_cli::Status;
 use std::alloc::{AllocError, Global};
 use std::test::Fail;
+use worked_runs::{OUT_AND_IN_AGAIN, SHARED_PAGE, WRITTEN_TOGETHER};
 
 // The dump after the first run: one process, which has written to one page of the 8 frames.
 fn first_dump(alloc: Global) -> Result<Vec<u8>, AllocError> {

@@ -3,22 +3,14 @@
 #![tactic(auto)]
 
 #[cfg(test)]
-mod clusters;
-#[cfg(test)]
 mod dumps;
 #[cfg(test)]
 mod failing_blocks;
 #[cfg(test)]
 mod replacement;
 #[cfg(test)]
-mod sections;
-#[cfg(test)]
-mod services;
-#[cfg(test)]
-mod several_processes;
-#[cfg(test)]
-mod swapping;
-#[cfg(test)]
 mod texts;
 #[cfg(test)]
 mod version_two;
+#[cfg(test)]
+mod worked;

@@ -1,37 +1,13 @@
-ghost use Rattle.std.specs.Prelude.{◌≡◌, ◌+◌, ◌<◌, [], IsTrue, length};
-ghost use Rattle.vm_types.specs.declared.names.ProcStatus.TheVariants as status;
-ghost use Rattle.vm_state.specs.History.{pager};
+ghost use Rattle.std.specs.Prelude.{◌≡◌, []};
 ghost use Rattle.seat_laws.specs.FreeSeat.{IsFreeSeat};
 ghost use Rattle.seat_schedules.specs.AtWork.{HasWorked, IsAtWork};
-ghost use Rattle.seat_laws.specs.Unmet.{IsUnmet};
 
 use crate::went::Went;
 use crate::worker::Worker;
 use disk_trait::Block;
+use seat_laws::is_unmet;
 use vm_state::State;
-use vm_types::{Proc, ProcStatus, Ref, Seat};
-
-/// Whether a process with this status is in memory.
-fn is_resident(s: ProcStatus) -> bool
-    ensures { s ≡ status.Resident → IsTrue result }
-{
-    matches!(s, ProcStatus::Resident)
-}
-
-/// Whether a reference is still to be met: its process isn't resident, or its page is mapped, and has
-/// no valid entry.
-fn is_unmet<B: Block>(state: &State<B>, p: Proc, r: Ref) -> bool
-    requires { p.0 < length state.now.config.procs }
-    ensures { IsTrue result → IsUnmet state.now.config (pager state.now) p.0 r }
-{
-    if !is_resident(state.status(p)) {
-        return true;
-    }
-    match state.found(p, r.addr.0 / 512) {
-        Some(found) => !found.valid,
-        None => false,
-    }
-}
+use vm_types::{Proc, Ref, Seat};
 
 /// The reference is refused whose read failed.
 pub fn refuse<B: Block>(state: &mut State<B>, worker: &mut Worker<B>, seat: Seat) -> Went

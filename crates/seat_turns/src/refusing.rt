@@ -5,30 +5,9 @@ ghost use Rattle.vm_state.specs.History.{pager};
 ghost use Rattle.seat_laws.specs.Unmet.{IsUnmet};
 
 use disk_trait::Block;
+use seat_laws::{is_resident, is_unmet};
 use vm_state::State;
-use vm_types::{Proc, ProcStatus, Ref, Service};
-
-/// Whether a process with this status is in memory.
-fn is_resident(s: ProcStatus) -> bool
-    ensures { s ≡ status.Resident → IsTrue result }
-{
-    matches!(s, ProcStatus::Resident)
-}
-
-/// Whether a reference is still to be met: its process isn't resident, or its page is mapped, and has
-/// no valid entry.
-fn is_unmet<B: Block>(state: &State<B>, p: Proc, r: Ref) -> bool
-    requires { p.0 < length state.now.config.procs }
-    ensures { IsTrue result → IsUnmet state.now.config (pager state.now) p.0 r }
-{
-    if !is_resident(state.status(p)) {
-        return true;
-    }
-    match state.found(p, r.addr.0 / 512) {
-        Some(found) => !found.valid,
-        None => false,
-    }
-}
+use vm_types::{Proc, Ref, Service};
 
 /// Whether a reference is refused: what was out for it was lost, and it is still to be met.
 pub(crate) fn is_denied<B: Block>(state: &State<B>, p: Proc, r: Ref, lost: bool) -> bool

@@ -3,15 +3,16 @@ use Rattle.std.proofs.Common.{◌≡◌, ℕ, ◌*◌, ◌≤◌, List, length, 
 use Rattle.std.proofs.lemmas.List.Sums.{get_or-le-sum_by}
 use Rattle.std.proofs.lemmas.Option.{slice_get_within, get_or_from_slice_get}
 use Rattle.std.specs.List.{All, slice_index_or, sum_by}
+use Rattle.vm_types.specs.Behind.{FitsPages}
 use Rattle.vm_types.specs.Configuration.{HasPages, IsMapping, IsWellFormed, section_pages}
 use Rattle.vm_types.specs.declared.config.Config.{Config}
 use Rattle.vm_types.specs.declared.config.Mapping.{Mapping}
 use Rattle.vm_types.specs.declared.config.Origin.{Origin}
 use Rattle.vm_types.specs.declared.config.Origin.TheVariants as origin
 use Rattle.vm_types.specs.declared.config.Section.{Section}
-use Rattle.section_table.specs.Laying.{CanLay, FitsPage}
+use Rattle.section_table.specs.Laying.{CanLay}
 
-fits_sections : (sections : List Section) (from : Origin) (pages : ℕ) → sum_by section_pages sections ≤ 16384 → HasPages sections from pages → FitsPage from pages
+fits_sections : (sections : List Section) (from : Origin) (pages : ℕ) → sum_by section_pages sections ≤ 16384 → HasPages sections from pages → FitsPages from pages
 fits_sections sections origin.Zero pages few has = tt
 fits_sections sections (origin.Section s first) pages few has =
     let part = get_or-le-sum_by section_pages sections s.0 has.0 (slice_get_within sections s.0 has.0 has.1) in

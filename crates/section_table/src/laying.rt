@@ -1,24 +1,13 @@
 //! How the table of a configuration is filled.
 
 ghost use Rattle.std.specs.Prelude.{◌≡◌, ℕ, ◌+◌, ◌*◌, ◌<◌, ◌≤◌, All, length, find, if◌then◌else◌};
-ghost use Rattle.vm_types.specs.Behind.{covers, origin_after, origin_by};
+ghost use Rattle.vm_types.specs.Behind.{covers, origin_by};
 ghost use Rattle.std.specs.Option.{option_map};
 ghost use Rattle.vm_types.specs.PagePlaces.{item_at};
-ghost use Rattle.section_table.specs.Laying.{CanLay, FitsPage, IsLaid};
+ghost use Rattle.section_table.specs.Laying.{CanLay, IsLaid};
 
 use page_rows::PageRows;
-use vm_types::{Mapping, Origin, page_place};
-
-/// The origin so many pages on.
-fn origin_at(origin: Origin, pages: u32) -> Origin
-    requires { FitsPage origin pages }
-    ensures { result ≡ origin_after origin pages }
-{
-    match origin {
-        Origin::Zero => Origin::Zero,
-        Origin::Section(s, first) => Origin::Section(s, first + pages),
-    }
-}
+use vm_types::{Mapping, Origin, origin_after, page_place};
 
 /// Puts behind each page of a mapping what the mapping says.
 fn lay(origins: &mut PageRows<Origin>, mapping: &Mapping)
@@ -29,7 +18,7 @@ fn lay(origins: &mut PageRows<Origin>, mapping: &Mapping)
     let first = mapping.at.0 / 512;
     for k in 0..mapping.pages {
         let place = page_place(mapping.proc, first + k).unwrap();
-        origins.set(place, Some(origin_at(mapping.from, k)));
+        origins.set(place, Some(origin_after(mapping.from, k)));
     }
 }
 

@@ -1,5 +1,5 @@
 -- The move for a request, by the status of its process.
-use Rattle.std.proofs.Common.{◌≡◌, ℕ, Option, Some, None, refl, sym, ap, ◌∙◌}
+use Rattle.std.proofs.Common.{◌≡◌, ℕ, Option, Some, None, IfSome, refl, sym, ap, ◌∙◌}
 use Rattle.std.specs.Option.{option_map}
 use Rattle.vm_types.specs.declared.names.Proc.{Proc}
 use Rattle.vm_types.specs.declared.names.ProcStatus.{ProcStatus}
@@ -18,6 +18,10 @@ use Rattle.serial_moves.specs.Requests.{IsResidentReference, come_move}
 pub is_none : {X : Type 0} (o : Option X) → ((x : X) → o ≡ Some x → ⊥) → o ≡ None
 is_none None never = refl
 is_none (Some x) never = absurd (never x refl)
+
+pub left_number : (P : ℕ → Type 0) (o : Option Proc) → IfSome o (λ (q : Proc). P q.0) → IfSome (option_map number_of o) P
+left_number P None is = tt
+left_number P (Some q) is = is
 
 pub not_both : (x : Service) (r : Ref) → request.Service x ≡ request.Reference r → ⊥
 not_both x r same = cc

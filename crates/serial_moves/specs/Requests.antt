@@ -1,5 +1,6 @@
 -- What is mostly asked for, and the moves for a request whose process is not in memory, or lacks a frame. This project's own.
-use Rattle.std.specs.Prelude.{◌≡◌, ℕ, Option, None}
+use Rattle.std.specs.Prelude.{◌≡◌, ℕ, ◌<◌, Option, None, IfSome, length}
+use Rattle.vm_types.specs.WellFormed.{IsRequestOf, IsWellFormedRequest}
 use Rattle.vm_types.specs.declared.config.Task.{Task}
 use Rattle.vm_types.specs.declared.names.Proc.{Proc}
 use Rattle.vm_types.specs.declared.names.ProcStatus.TheVariants as status
@@ -10,6 +11,10 @@ use Rattle.pager_model.specs.Moves.{Move, asking, rests}
 use Rattle.pager_model.specs.Policy.{asked_move, come_move_by, ends_request, finding_move, resident_move}
 use Rattle.pager_model.specs.Swap.{come_gives}
 use Rattle.vm_state.specs.History.{History, pager}
+use Rattle.lift_carriers.specs.CarrierView.{CarrierView}
+use Rattle.serial_laws.specs.Controlled.{IsLeft}
+use Rattle.serial_moves.specs.Carriers.{MayMove}
+use Rattle.serial_steps.specs.Moved.{IsMoveHere}
 
 -- the process comes back
 abbrev pub come_move : History → ℕ → Move
@@ -32,3 +37,17 @@ pub record IsResidentReference (s : History) (leaving : Option Proc) (task : Tas
   pub none_left : leaving ≡ None
   pub resident : (pager s).status (task.proc).0 ≡ status.Resident
   pub asked : task.request ≡ request.Reference r
+
+-- it isn't a reference of a process that is resident
+abbrev pub IsRare : History → Task → Type 0
+IsRare s task = (pager s).status (task.proc).0 ≡ status.Resident → (r : Ref) → task.request ≡ request.Reference r → ⊥
+
+-- what its process asks, after this one that is being left, can be what is next: there is room, the request is of the
+-- configuration, and the one that is left is leaving
+pub record MayAsk {B : Type 0} (s : History) (leaving : Option ℕ) (task : Task) (c : CarrierView B) : Type 0 where
+  pub may : MayMove s (record { 0 = (task.proc).0 }) c
+  pub process : (task.proc).0 < length s.config.procs
+  pub formed : IsWellFormedRequest task.request
+  pub known : IsRequestOf s.config.version task.request
+  pub left : IfSome leaving (λ q. IsLeft s.config (pager s) q)
+  pub here : IsMoveHere s (asked_for s leaving task)

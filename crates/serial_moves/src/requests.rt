@@ -1,6 +1,6 @@
 ghost use Rattle.std.specs.Prelude.{◌≡◌, ◌<◌, None, IfOk, OnErr, IfSome, length};
 ghost use Rattle.std.specs.Option.{option_map};
-ghost use Rattle.vm_types.specs.WellFormed.{IsRequestOf, IsServiceOf, IsWellFormedReference, IsWellFormedRequest, IsWellFormedService};
+ghost use Rattle.vm_types.specs.WellFormed.{IsServiceOf, IsWellFormedReference, IsWellFormedService};
 ghost use Rattle.vm_types.specs.declared.names.ProcStatus.TheVariants as status;
 ghost use Rattle.vm_types.specs.declared.reference.Ref.{Ref};
 ghost use Rattle.vm_types.specs.declared.service.Request.{Request};
@@ -10,8 +10,7 @@ ghost use Rattle.vm_state.specs.History.{pager};
 ghost use Rattle.serial_moves.specs.Carriers.{MayMove};
 ghost use Rattle.serial_moves.specs.Controls.{Moves, number_of};
 ghost use Rattle.serial_steps.specs.Moved.{IsMoveHere, IsSteady};
-ghost use Rattle.serial_laws.specs.Controlled.{IsLeft};
-ghost use Rattle.serial_moves.specs.Requests.{IsResidentReference, asked_for, come_move, finding_for, resident_for};
+ghost use Rattle.serial_moves.specs.Requests.{IsRare, IsResidentReference, MayAsk, asked_for, come_move, finding_for, resident_for};
 
 use crate::carrying::{ASKING, answered, carry_on, carry_reads, write_for_room};
 use crate::control::{Control, Doing, Step};
@@ -169,14 +168,10 @@ fn serve<B: Block>(state: &mut State<B>, seat: Seat, s: Service, carrier: &mut C
 ///
 /// # Errors
 /// `NoMemory` if out of memory: room for fewer than 64 entries is left then.
-#[inline(never)]
+#[inline(always)]
 fn by_status<B: Block>(state: &mut State<B>, task: Task, carrier: &mut Carrier<B>) -> Step
-    requires may { MayMove state.old (record { 0 = (task.proc).0 }) carrier.old }
-    requires process { (task.proc).0 < length state.old.config.procs }
-    requires formed { IsWellFormedRequest task.request }
-    requires known { IsRequestOf state.old.config.version task.request }
-    requires rare { (pager state.old).status (task.proc).0 ≡ status.Resident → (r : Ref) → task.request ≡ Request.Reference r → ⊥ }
-    requires here { IsMoveHere state.old (asked_for state.old None task) }
+    requires may { MayAsk state.old None task carrier.old }
+    requires rare { IsRare state.old task }
     ensures carrier { carrier.new ≡ carrier.old }
     ensures moved { IfOk result (Moves B.tells.content state.old state.new (asked_for state.old None task)) }
     ensures memory { OnErr result (state.new.spare < 64) }
@@ -205,7 +200,7 @@ fn is_resident(status: ProcStatus) -> bool
 fn resident_reference<B: Block>(state: &State<B>, leaving: Option<Proc>, task: Task) -> Option<Ref>
     requires { (task.proc).0 < length state.now.config.procs }
     ensures some { IfSome result (λ r. IsResidentReference state.now leaving task r) }
-    ensures none { result ≡ None → leaving ≡ None → (pager state.now).status (task.proc).0 ≡ status.Resident → (r : Ref) → task.request ≡ Request.Reference r → ⊥ }
+    ensures none { result ≡ None → leaving ≡ None → IsRare state.now task }
 {
     match leaving {
         Some(_) => None,
@@ -222,6 +217,29 @@ fn resident_reference<B: Block>(state: &State<B>, leaving: Option<Proc>, task: T
     }
 }
 
+/// The next step for a request that isn't a reference of a resident process while nothing is left.
+///
+/// # Errors
+/// `NoMemory` if out of memory: room for fewer than 64 entries is left then.
+#[inline(never)]
+fn ask_other<B: Block>(
+    state: &mut State<B>,
+    leaving: Option<Proc>,
+    task: Task,
+    carrier: &mut Carrier<B>,
+) -> Step
+    requires may { MayAsk state.old (option_map number_of leaving) task carrier.old }
+    requires rare { leaving ≡ None → IsRare state.old task }
+    ensures carrier { carrier.new ≡ carrier.old }
+    ensures moved { IfOk result (Moves B.tells.content state.old state.new (asked_for state.old (option_map number_of leaving) task)) }
+    ensures memory { OnErr result (state.new.spare < 64) }
+{
+    match leaving {
+        Some(q) => leave(state, Seat(task.proc.0), q, Doing::Asking, carrier),
+        None => by_status(state, task, carrier),
+    }
+}
+
 /// The next step for a request: a process that is being left comes first.
 ///
 /// # Errors
@@ -233,22 +251,13 @@ pub fn ask<B: Block>(
     task: Task,
     carrier: &mut Carrier<B>,
 ) -> Step
-    requires may { MayMove state.old (record { 0 = (task.proc).0 }) carrier.old }
-    requires process { (task.proc).0 < length state.old.config.procs }
-    requires formed { IsWellFormedRequest task.request }
-    requires known { IsRequestOf state.old.config.version task.request }
-    requires left { IfSome leaving (λ q. IsLeft state.old.config (pager state.old) q.0) }
-    requires here { IsMoveHere state.old (asked_for state.old (option_map number_of leaving) task) }
+    requires may { MayAsk state.old (option_map number_of leaving) task carrier.old }
     ensures carrier { carrier.new ≡ carrier.old }
     ensures moved { IfOk result (Moves B.tells.content state.old state.new (asked_for state.old (option_map number_of leaving) task)) }
     ensures memory { OnErr result (state.new.spare < 64) }
 {
-    let seat = Seat(task.proc.0);
-    if let Some(r) = resident_reference(state, leaving, task) {
-        return refer(state, seat, r, carrier);
-    }
-    match leaving {
-        Some(q) => leave(state, seat, q, Doing::Asking, carrier),
-        None => by_status(state, task, carrier),
+    match resident_reference(state, leaving, task) {
+        Some(r) => refer(state, Seat(task.proc.0), r, carrier),
+        None => ask_other(state, leaving, task, carrier),
     }
 }

@@ -1,6 +1,6 @@
 -- A run that has ended, once its blocks are given back.
 use Rattle.std.proofs.Common.{◌≡◌, ◌≤◌, false, List, ◌++◌, length, map, reverse, sym, ap, ◌∙◌, subst, arith}
-use Rattle.vm_types.specs.BlockView.{BlockView, Tells}
+use Rattle.vm_types.specs.BlockView.{BlockView, Retired, Tells}
 use Rattle.vm_types.specs.declared.config.Config.{Config}
 use Rattle.vm_types.specs.declared.names.BlockId.{BlockId}
 use Rattle.vm_types.specs.declared.names.Page.{Page}
@@ -85,3 +85,20 @@ module _ {B : Type 0} (seen : B → BlockView) (tells : Tells) where
     all = all ∙ ap (λ (p : List Entry). length p) ended.all;
     kinds = kinds ∙ ap (λ (p : List Entry). tallies_of (reverse p)) ended.all;
   }
+
+-- a run of these entries that has ended, and whoever made them, by the configuration's own name
+pub finished_by : (tells : Tells) (Makes : Config → List Entry → Type 0) (config own : Config) (past : List Entry) (taken : List Retired) (f : Finished) → own ≡ config → Makes config past
+    → IsFinished (λ _ entries. entries ≡ past) tells own taken f → IsFinished Makes tells config taken f
+finished_by tells Makes config own past taken f same made ended =
+    let there = subst (λ (k : Config). IsFinished (λ _ entries. entries ≡ past) tells k taken f) same ended in
+    record {
+      past = there.past;
+      rest = there.rest;
+      over = there.over;
+      made = subst (Makes config) (sym there.made) made;
+      same = there.same;
+      all = there.all;
+      at = there.at;
+      report = there.report;
+      printable = there.printable;
+    }

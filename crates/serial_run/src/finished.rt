@@ -34,6 +34,9 @@ pub enum RunFault {
     DepotFault,
 }
 
+/// What a run gives, or why it did not end.
+pub type RunResult<T> = Result<T, RunFault>;
+
 impl From<NoMemory> for RunFault {
     ghost use Rattle.serial_run.specs.declared.finished.RunFault.{RunFault};
 

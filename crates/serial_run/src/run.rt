@@ -1,4 +1,4 @@
-ghost use Rattle.std.specs.Prelude.{◌≡◌, ◌≤◌, ◌++◌, IfOk, IsErrOf, List, OnOk};
+ghost use Rattle.std.specs.Prelude.{◌≡◌, ◌≤◌, ◌++◌, true, IfOk, IsErrOf, List, OnOk};
 ghost use Rattle.vm_types.specs.BlockView.{Retired};
 ghost use Rattle.vm_types.specs.Configuration.{IsWellFormed};
 ghost use Rattle.vm_types.specs.Counts.{Rose};
@@ -8,7 +8,7 @@ ghost use Rattle.serial_run.specs.AtReport.{IsAtReport};
 ghost use Rattle.serial_run.specs.Ended.{HasEnded, IsCounted, IsFinished};
 ghost use Rattle.serial_run.specs.declared.finished.RunFault.{RunFault};
 
-use crate::finished::{Counted, Finished, RunFault};
+use crate::finished::{Counted, Finished, RunFault, RunResult};
 use crate::to_report::{answer_requests, run_to_report};
 use disk_trait::{Block, Depot};
 use pfn_report::recount;
@@ -43,23 +43,22 @@ pub fn end_state<B: Block>(alloc: Global, state: &mut State<B>) -> Result<Ending
     Ok(Ending { at, report, dirty })
 }
 
-/// Runs a configuration: makes its blocks by a depot, answers its requests one after another, counts the
-/// report, writes the shared pages back, and gives each block back to the depot.
+/// Ends a run at the report's place, whose entries are kept: counts the report, writes the shared pages
+/// back, and gives each block back to the depot.
 ///
 /// # Errors
-/// `NoMemory` if out of memory. `DepotFault` only if the depot's count of faults rose.
-pub fn run_serial<D: Depot>(
+/// `NoMemory` if out of memory; then a part of the blocks may have been given back.
+pub fn finish_run<D: Depot>(
     alloc: Global,
-    config: Config,
+    mut state: State<D::Block>,
     depot: &mut D,
-) -> Result<Finished, RunFault>
-    requires formed { IsWellFormed config }
+) -> Result<Finished, NoMemory>
+    requires keeps { state.keeps ≡ true }
+    requires there { IsAtReport D.Block.tells.content state.config state.past }
     ensures finished { IfOk result (λ f. (taken : List Retired) × ((D.seen depot.new).retired ≡ (D.seen depot.old).retired ++ taken)
-        × IsFinished IsSerial D.Block.tells config taken f) }
-    ensures failed { IsErrOf result RunFault.DepotFault → Rose (D.seen depot.old).failures (D.seen depot.new).failures }
+        × IsFinished (λ _ past. past ≡ state.past) D.Block.tells state.config taken f) }
     ensures later { (D.seen depot.old).failures ≤ (D.seen depot.new).failures }
 {
-    let mut state = run_to_report(alloc, config, depot)?;
     let ending = end_state(alloc, &mut state)?;
     let (config, entries, blocks) = state.finish();
     retire_blocks(blocks, depot)?;
@@ -72,15 +71,27 @@ pub fn run_serial<D: Depot>(
     })
 }
 
+/// Runs a configuration: makes its blocks by a depot, answers its requests one after another, counts the
+/// report, writes the shared pages back, and gives each block back to the depot.
+///
+/// # Errors
+/// `NoMemory` if out of memory. `DepotFault` only if the depot's count of faults rose.
+pub fn run_serial<D: Depot>(alloc: Global, config: Config, depot: &mut D) -> RunResult<Finished>
+    requires formed { IsWellFormed config }
+    ensures finished { IfOk result (λ f. (taken : List Retired) × ((D.seen depot.new).retired ≡ (D.seen depot.old).retired ++ taken)
+        × IsFinished IsSerial D.Block.tells config taken f) }
+    ensures failed { IsErrOf result RunFault.DepotFault → Rose (D.seen depot.old).failures (D.seen depot.new).failures }
+    ensures later { (D.seen depot.old).failures ≤ (D.seen depot.new).failures }
+{
+    let state = run_to_report(alloc, config, depot)?;
+    Ok(finish_run(alloc, state, depot)?)
+}
+
 /// Runs a configuration as `run_serial` does, and counts the entries in place of keeping them.
 ///
 /// # Errors
 /// `NoMemory` if out of memory. `DepotFault` only if the depot's count of faults rose.
-pub fn count_serial<D: Depot>(
-    alloc: Global,
-    config: Config,
-    depot: &mut D,
-) -> Result<Counted, RunFault>
+pub fn count_serial<D: Depot>(alloc: Global, config: Config, depot: &mut D) -> RunResult<Counted>
     requires formed { IsWellFormed config }
     ensures counted { IfOk result (λ f. (taken : List Retired) × ((D.seen depot.new).retired ≡ (D.seen depot.old).retired ++ taken)
         × IsCounted D.Block.tells config taken f) }
@@ -91,13 +102,10 @@ pub fn count_serial<D: Depot>(
     let mut state = State::start_counting(alloc, config, blocks)?;
     answer_requests(alloc, &mut state)?;
     let ending = end_state(alloc, &mut state)?;
+    let dirty = ending.dirty;
     let all = state.entry_count();
     let kinds = state.kinds();
     let (_, _, blocks) = state.finish();
     retire_blocks(blocks, depot)?;
-    Ok(Counted {
-        all,
-        kinds,
-        dirty: ending.dirty,
-    })
+    Ok(Counted { all, kinds, dirty })
 }

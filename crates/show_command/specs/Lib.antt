@@ -1,1 +1,2 @@
 pub mod ShowTells
+pub mod ShowCall

@@ -1,14 +1,15 @@
-ghost use Rattle.std.specs.Prelude.{◌≡◌, ◌≢◌, ◌⊎◌, ◌≤◌, ◌++◌, List, ℕ};
+ghost use Rattle.std.specs.Prelude.{◌≡◌, ◌≤◌, ◌++◌, List, ℕ};
 ghost use Rattle.std.specs.declared.option.Option.{Option};
-ghost use Rattle.vm_types.specs.Counts.{Rose};
+ghost use Rattle.vm_types.specs.Moved.{moved};
 ghost use Rattle.outside_io.specs.Writes.{Writes};
 ghost use Rattle.pager_model.specs.Text.{status_line};
-ghost use Rattle.command_ends.specs.Concludes.{Concludes, HasTold, WasCut};
+ghost use Rattle.command_ends.specs.Concludes.{Concludes};
 ghost use Rattle.command_ends.specs.Ends.{Ends};
 ghost use Rattle.command_ends.specs.Wrongs.{IsWrongText, TellsWrong, dump_bad_text};
 ghost use Rattle.dump_bytes.specs.Bounds.{IsDump};
 ghost use Rattle.dump_bytes.specs.Dumped.{dumped};
-ghost use Rattle.show_command.specs.ShowTells.{EndsShown, HasDump, ShowTells, fault_status, fault_told, wrong_in_dump};
+ghost use Rattle.show_command.specs.ShowCall.{IsShowCall};
+ghost use Rattle.show_command.specs.ShowTells.{EndsShown, ShowTells, fault_status, fault_told, wrong_in_dump};
 
 use arrayvec::ArrayVec;
 use command_ends::{Status, Wrong, end_with, write_line};
@@ -97,27 +98,8 @@ pub fn show_dump<S: Source, K: Sink>(
     source: &mut S,
     sink: &mut K,
 ) -> (Status, Option<Wrong>)
-    // A status with the text that goes with it, what is wrong with the input by that text, and how the
-    // text was written.
-    ensures outcome { Concludes (TellsWrong (ShowTells (S.seen source.old) (S.seen source.new)) result.1)
-        (K.seen sink.old) (K.seen sink.new) result.0.0 }
-    // So with every status but 4 what was written is the text that goes with it, and no count of the
-    // sink changed.
-    ensures told { result.0.0 ≢ 4 → HasTold (ShowTells (S.seen source.old) (S.seen source.new))
-        (K.seen sink.old) (K.seen sink.new) result.0.0 }
-    ensures unfailed { result.0.0 ≢ 4 → ((K.seen sink.new).failures ≡ (K.seen sink.old).failures) × ((K.seen sink.new).stalls ≡ (K.seen sink.old).stalls) }
-    // With status 4 it is a proper prefix of a text that goes with another status.
-    ensures cut { result.0.0 ≡ 4 → WasCut (ShowTells (S.seen source.old) (S.seen source.new))
-        (K.seen sink.old) (K.seen sink.new) }
-    ensures read_fault { result.0.0 ≡ 3 → Rose (S.seen source.old).failures (S.seen source.new).failures }
-    ensures write_fault { result.0.0 ≡ 4 → Rose (K.seen sink.old).failures (K.seen sink.new).failures ⊎ Rose (K.seen sink.old).stalls (K.seen sink.new).stalls }
-    // If the input is a dump and no count rises, the status is 0, or memory ran out.
-    ensures complete { HasDump (S.seen source.old)
-        → (Rose (S.seen source.old).failures (S.seen source.new).failures → ⊥) → (Rose (K.seen sink.old).failures (K.seen sink.new).failures → ⊥)
-        → (Rose (K.seen sink.old).stalls (K.seen sink.new).stalls → ⊥) → (result.0.0 ≡ 0) ⊎ (result.0.0 ≡ 7) }
-    // No line of the input is quoted.
-    ensures kept { (input : Option (List ℕ)) (kept : List ℕ) → IsWrongText result.1 input kept }
-    ensures faults_later { (S.seen source.old).failures ≤ (S.seen source.new).failures }
+    // Each status goes with a text that is written whole but for status 4, and with a cause.
+    ensures { IsShowCall (moved (S.seen source.old) (S.seen source.new)) (moved (K.seen sink.old) (K.seen sink.new)) result.0.0 result.1 }
 {
     tell(alloc, source, sink)
 }

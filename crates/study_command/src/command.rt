@@ -1,4 +1,4 @@
-ghost use Rattle.std.specs.Prelude.{◌≡◌, ◌≢◌, ◌⊎◌, ◌≤◌, ◌++◌, length};
+ghost use Rattle.std.specs.Prelude.{◌≡◌, ◌≢◌, ◌⊎◌, ◌≤◌, ◌++◌, length, IfOk};
 ghost use Rattle.vm_types.specs.Configuration.{IsWellFormed};
 ghost use Rattle.vm_types.specs.Counts.{Rose};
 ghost use Rattle.command_ends.specs.Concludes.{Concludes, EndsAnswered, HasTold, WasCut};
@@ -7,7 +7,7 @@ ghost use Rattle.command_ends.specs.Tells.{IsTrace, Tells};
 ghost use Rattle.command_ends.specs.Wrongs.{IsWrongText, TellsWrong};
 ghost use Rattle.pager_model.specs.Text.{status_line};
 ghost use Rattle.study_command.specs.StudyText.{IsStudyAnswer, answer_lines};
-ghost use Rattle.study_command.specs.Undeclared.{undeclared};
+ghost use Rattle.study_command.specs.Undeclared.{EndsStudied, undeclared};
 
 use crate::answers::{Answers, answers_of};
 use crate::printing::print_answers;
@@ -16,7 +16,7 @@ use arrayvec::ArrayVec;
 use command_ends::{Status, Wrong, end_fault, end_with, wrong_of};
 use outside_io::{Sink, Source};
 use std::alloc::Global;
-use trace_reader::read_trace;
+use trace_reader::{TraceFault, read_trace};
 use vm_types::{Config, Proc};
 
 // Writes the lines and the status 0.
@@ -55,21 +55,18 @@ fn undeclared(config: &Config, process: Proc) -> Option<Wrong>
     }
 }
 
-// The outcome of the command.
-fn conclude<S: Source, K: Sink>(
+// Writes what there is to say of a trace, or what is wrong with it, and the status.
+fn conclude<K: Sink>(
     alloc: Global,
+    read: Result<Config, TraceFault>,
     study: Study,
-    source: &mut S,
     sink: &mut K,
-    kept: &mut ArrayVec<u8, 80>,
 ) -> (Status, Option<Wrong>)
-    requires { (1 ≤ study.frames) × (study.frames ≤ 1024) }
-    ensures outcome { Concludes (TellsWrong (Tells (IsStudyAnswer study) (S.seen source.old) (S.seen source.new)) result.1)
-        (K.seen sink.old) (K.seen sink.new) result.0.0 }
-    ensures kept { IsWrongText result.1 (S.seen source.old).left kept.new.items }
-    ensures faults_later { (S.seen source.old).failures ≤ (S.seen source.new).failures }
+    requires frames { (1 ≤ study.frames) × (study.frames ≤ 1024) }
+    requires formed { IfOk read IsWellFormed }
+    ensures { EndsStudied study read (K.seen sink.old) (K.seen sink.new) result.0.0 result.1 }
 {
-    match read_trace(alloc, source, kept) {
+    match read {
         Ok(config) => {
             let status = study_config(alloc, &config, study, sink);
             (status, undeclared(&config, study.process))
@@ -121,5 +118,5 @@ pub fn study_trace<S: Source, K: Sink>(
     ensures kept { IsWrongText result.1 (S.seen source.old).left kept.new.items }
     ensures faults_later { (S.seen source.old).failures ≤ (S.seen source.new).failures }
 {
-    conclude(alloc, study, source, sink, kept)
+    conclude(alloc, read_trace(alloc, source, kept), study, sink)
 }

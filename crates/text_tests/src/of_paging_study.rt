@@ -1,3 +1,4 @@
+use crate::params::PARAMS;
 use paging_study::{
     PageString, cuts_bound_faults, distinct_pages, dropped_places, least_faults,
     least_faults_has_one_choice, lru_faults, page_string, ring_faults,
@@ -5,25 +6,7 @@ use paging_study::{
 use std::alloc::Global;
 use std::test::Fail;
 use vm_types::{
-    Addr, Config, Listed, Mode, NoMemory, Op, Params, Proc, Ref, Request, Service, Task, Version,
-    Width,
-};
-
-const PARAMS: Params = Params {
-    pfc: 1,
-    hilimit: 0,
-    lolimit: 0,
-    waitlimit: 1,
-    wrtcluster: 1,
-    freelim: 0,
-    freegoal: 0,
-    awstime: 0,
-    pfrath: 0,
-    pfratl: 0,
-    wsinc: 0,
-    wsdec: 0,
-    awsmin: 2,
-    borrowlim: 0,
+    Addr, Config, Listed, Mode, NoMemory, Op, Proc, Ref, Request, Service, Task, Version, Width,
 };
 
 /// A read of a byte.

@@ -1,6 +1,7 @@
 ghost use Rattle.std.specs.Prelude.{◌≡◌, IfOk};
 ghost use Rattle.text_tests.specs.TestRun.{test_config, test_report};
 
+use crate::params::PARAMS;
 use command_ends::Status;
 use outside_io::MemorySink;
 use report_lines::{FrameRow, ProcessRow, Report};
@@ -9,25 +10,8 @@ use std::alloc::Global;
 use std::test::Fail;
 use vm_journal::{Entry, Role, What};
 use vm_types::{
-    Addr, BlockId, Config, FrameState, Listed, Mapping, Mode, NoMemory, Op, Origin, Page, Params,
-    Pfn, Proc, ProcSpec, ProcStatus, Ref, Reply, Seat, SecId, Section, SectionKind, Version, Width,
-};
-
-const PARAMS: Params = Params {
-    pfc: 1,
-    hilimit: 0,
-    lolimit: 0,
-    waitlimit: 1,
-    wrtcluster: 1,
-    freelim: 0,
-    freegoal: 0,
-    awstime: 0,
-    pfrath: 0,
-    pfratl: 0,
-    wsinc: 0,
-    wsdec: 0,
-    awsmin: 2,
-    borrowlim: 0,
+    Addr, BlockId, Config, FrameState, Listed, Mapping, Mode, NoMemory, Op, Origin, Page, Pfn,
+    Proc, ProcSpec, ProcStatus, Ref, Reply, Seat, SecId, Section, SectionKind, Version, Width,
 };
 
 /// A process that has the one page of a shared section at 0.

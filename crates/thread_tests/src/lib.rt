@@ -1,6 +1,14 @@
-//! Tests of runs of traces by threads, each at some schedule. No code but tests.
+//! Tests of runs of traces by threads, each at some schedule, and of what such runs stand on: the journal,
+//! the lock that keeps one, and the record of a run. Their contracts are proved where they stand; the tests
+//! show what no clause says: that a call that takes memory returns, and threads that take turns.
 #![tactic(auto)]
 
+#[cfg(test)]
+mod of_history_lock;
+#[cfg(test)]
+mod of_run_record;
+#[cfg(test)]
+mod of_vm_journal;
 #[cfg(test)]
 mod runs;
 #[cfg(test)]

@@ -12,7 +12,7 @@ ghost use Rattle.trace_reader.specs.Stream.{IsReading, HasTaken, IsLineAtFault, 
 use crate::draft::{Draft, Refused};
 use crate::fault::TraceFault;
 use arrayvec::ArrayVec;
-use outside_io::{Source, keep_front};
+use outside_io::{Source, keep_front, read_more};
 use std::alloc::Global;
 use trace_lines::{Breach, Place, plain_request};
 use trace_words::{Cause, parted};
@@ -71,7 +71,7 @@ fn read_pieces<S: Source>(
 {
     let mut held = 0;
     loop {
-        let Ok(count) = fill(source, buffer, held) else {
+        let Ok(count) = read_more(source, buffer, held) else {
             return Err(TraceFault::ReadFault);
         };
         if count == 0 {
@@ -81,21 +81,6 @@ fn read_pieces<S: Source>(
         held = reader.take_piece(&buffer[..filled], kept)?;
         keep_last(buffer, filled, held);
     }
-}
-
-// Reads the next bytes behind those that the buffer holds, and says how many.
-fn fill<S: Source>(source: &mut S, buffer: &mut [u8], held: usize) -> Result<usize, Failed>
-    requires { held < length buffer.old }
-    ensures kept { take held buffer.new ≡ take held buffer.old }
-    ensures bound { IfOk result (λ n. held + n ≤ length buffer.old) }
-    ensures bytes { IfOk result (λ n. Consumes (S.seen source.old).left (S.seen source.new).left (take n (drop held buffer.new))) }
-    ensures end { IfOk result (λ n. n ≡ 0 → IsAtEnd (S.seen source.new).left) }
-    ensures failed { OnErr result (Keeps (S.seen source.old).left (S.seen source.new).left) }
-    ensures known { IsSome (S.seen source.old).left → IsSome (S.seen source.new).left }
-    ensures cause { HasCause (S.seen source.old).failures (S.seen source.new).failures result }
-    ensures quiet { OnOk result ((S.seen source.new).failures ≡ (S.seen source.old).failures) }
-{
-    source.read(&mut buffer[held..])
 }
 
 // Moves the last bytes of the filled ones to the front.

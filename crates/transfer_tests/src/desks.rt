@@ -12,10 +12,10 @@ use seat_turns::Spoken;
 use std::alloc::Global;
 use std::snapshot::Snapshot;
 use std::sync::Wait;
-use vm_actors::{refer, serve_one, swapper_turn, writer_turn};
+use vm_actors::{Doing, Open, work_once};
 use vm_journal::Entry;
 use vm_state::{Carrier, State};
-use vm_types::{NoMemory, Request, Seat, Task};
+use vm_types::{NoMemory, Seat, Task};
 
 /// What a seat has at the lock: its pass, and its carrier.
 #[derive(Drop)]
@@ -61,16 +61,8 @@ pub fn ask<W: Wait, B: Block>(
 {
     let pass = &mut desk.pass;
     let carrier = &mut desk.carrier;
-    match task.request {
-        Request::Reference(r) => match refer(rt, lock, pass, carrier, task.proc, r) {
-            Ok(reply) => Ok(Spoken::Reply(reply)),
-            Err(NoMemory) => Err(NoMemory),
-        },
-        Request::Service(s) => match serve_one(rt, lock, pass, carrier, task.proc, s) {
-            Ok(answer) => Ok(Spoken::Answer(answer)),
-            Err(NoMemory) => Err(NoMemory),
-        },
-    }
+    let mut gate = Open;
+    vm_actors::ask(rt, lock, pass, carrier, task.proc, task.request, &mut gate)
 }
 
 /// The modified page writer works once.
@@ -86,7 +78,10 @@ pub fn write<W: Wait, B: Block>(
     ensures seat { desk.new.carrier.seat ≡ desk.old.carrier.seat }
     ensures seated { IsSeated lock.now (base_of _of.now.value) desk.new.pass desk.new.carrier }
 {
-    writer_turn(rt, lock, &mut desk.pass, &mut desk.carrier)
+    let pass = &mut desk.pass;
+    let carrier = &mut desk.carrier;
+    let mut gate = Open;
+    work_once(rt, lock, pass, carrier, Doing::Writing, &mut gate)
 }
 
 /// The swapper works once.
@@ -102,7 +97,10 @@ pub fn swap<W: Wait, B: Block>(
     ensures seat { desk.new.carrier.seat ≡ desk.old.carrier.seat }
     ensures seated { IsSeated lock.now (base_of _of.now.value) desk.new.pass desk.new.carrier }
 {
-    swapper_turn(rt, lock, &mut desk.pass, &mut desk.carrier)
+    let pass = &mut desk.pass;
+    let carrier = &mut desk.carrier;
+    let mut gate = Open;
+    work_once(rt, lock, pass, carrier, Doing::Swapping, &mut gate)
 }
 
 /// The entries that the desk's pass finds in a turn.

@@ -26,18 +26,11 @@ pub record MayAsk (p : Proc) (x : Request) (config : Config) : Type 0 where
   pub formed : IsWellFormedRequest x
   pub known : IsRequestOf config.version x
 
--- the seat is the modified page writer's, or the swapper's
-abbrev pub IsWriter : Seat → Config → Type 0
-IsWriter seat config = seat ≡ writer_seat config
-
-abbrev pub IsSwapper : Seat → Config → Type 0
-IsSwapper seat config = seat ≡ swapper_seat config
-
--- the seat may do it
+-- the seat may do it: it is the process's, which may ask for this, the modified page writer's, or the swapper's
 abbrev pub MayDo : Seat → Doing → Config → Type 0
 MayDo seat (Asking p x) config = (seat ≡ seat_of p) × MayAsk p x config
-MayDo seat Writing config = IsWriter seat config
-MayDo seat Swapping config = IsSwapper seat config
+MayDo seat Writing config = seat ≡ writer_seat config
+MayDo seat Swapping config = seat ≡ swapper_seat config
 
 -- the request that it is done for
 abbrev pub request_of : Doing → Option Request

@@ -1,26 +1,31 @@
 ghost use Rattle.std.specs.Prelude.{◌≡◌, Contains, IfOk, OnErr};
-ghost use Rattle.vm_types.specs.declared.service.Request.{Request};
 ghost use Rattle.history_lock.specs.Passes.{IsIdle, IsOf, IsSameLock, base_of as base_seen, numbers, seen};
 ghost use Rattle.call_begins.specs.MayBegin.{empty};
 ghost use Rattle.seat_turns.specs.Steps.{seat_of};
-ghost use Rattle.seat_turns.specs.declared.turned.Spoken.{Spoken};
 ghost use Rattle.vm_actors.specs.Between.{IsCalm, IsJournalOf, NoneOpen};
 ghost use Rattle.vm_actors.specs.Doings.{Knows, MayAsk};
 ghost use Rattle.vm_actors.specs.OwnEntries.{GoesOn, IsReplied};
 
 use crate::doing::Doing;
 use crate::ends::{end_of, reads};
-use crate::gate::{Gate, Open, pause};
+use crate::gate::{Gate, pause};
 use crate::turns::take_turn;
 use disk_trait::Block;
 use history_lock::{HistoryLock, Pass};
 use seat_turns::Spoken;
 use std::sync::Wait;
 use vm_state::{Carrier, State};
-use vm_types::{Answer, NoMemory, Proc, Ref, Reply, Request, Seat, Service};
+use vm_types::{NoMemory, Proc, Request, Seat};
 
-/// Asks for a process, by its own seat, until it is answered.
-pub(crate) fn ask<W: Wait, B: Block, G: Gate>(
+/// Asks for a process, by its own seat, until it is answered. It waits for turns, carries with no turn
+/// held, and pauses at the gate after each turn in which no entry was made. A reference waits where a
+/// page, a block or a charge is another seat's, or memory has no frame for it yet, and a deletion or a
+/// purge for the transfers of its pages; the seat does the work of the writer and of the swapper itself
+/// that it waits for. The pass owns the process's number, and none of its numbers has an open transfer.
+///
+/// # Errors
+/// `NoMemory` if memory ran out, or if the state was halted.
+pub fn ask<W: Wait, B: Block, G: Gate>(
     rt: &W,
     lock: &HistoryLock<State<B>>,
     pass: &mut Pass<State<B>>,
@@ -58,82 +63,4 @@ pub(crate) fn ask<W: Wait, B: Block, G: Gate>(
         reading = reads(taken.turned);
     }
     unreachable!()
-}
-
-/// Refers to memory for a process, by its own seat: waits for turns, and carries with no turn held. A
-/// reference waits where a page, a block or a charge is another seat's, or memory has no frame for it
-/// yet; it does the work of the writer and of the swapper itself that it waits for. The pass owns the
-/// process's number, and none of its numbers has an open transfer.
-///
-/// # Errors
-/// `NoMemory` if memory ran out, or if the state was halted.
-pub fn refer<W: Wait, B: Block>(
-    rt: &W,
-    lock: &HistoryLock<State<B>>,
-    pass: &mut Pass<State<B>>,
-    carrier: &mut Carrier<B>,
-    p: Proc,
-    r: Ref,
-) -> Result<Reply, NoMemory>
-    requires own { IsOf lock.now pass.old }
-    requires idle { IsIdle pass.old }
-    requires knows { Knows (MayAsk p (Request.Reference r)) (base_seen pass.old) }
-    requires number { Contains (numbers pass.old) p.0 }
-    requires landed { NoneOpen (numbers pass.old) (seen pass.old) }
-    requires carrier { carrier.old ≡ empty (seat_of p) }
-    ensures idle { IsIdle pass.new }
-    ensures numbers { numbers pass.new ≡ numbers pass.old }
-    ensures base { base_seen pass.new ≡ base_seen pass.old }
-    ensures same { IsSameLock pass.old pass.new }
-    ensures replied { IfOk result (λ reply. IsReplied (seat_of p) (Request.Reference r) (numbers pass.old) (seen pass.old) (seen pass.new) (Spoken.Reply reply)) }
-    ensures silent { OnErr result (GoesOn (numbers pass.old) (seen pass.old) (seen pass.new)) }
-    ensures landed { NoneOpen (numbers pass.old) (seen pass.new) }
-    ensures calm { IsCalm (seen pass.new) }
-    ensures legal { IsJournalOf B.tells.content (base_seen pass.new) (seen pass.new) }
-    ensures carrier { carrier.new ≡ empty (seat_of p) }
-{
-    let mut gate = Open;
-    match ask(rt, lock, pass, carrier, p, Request::Reference(r), &mut gate) {
-        Ok(Spoken::Reply(reply)) => Ok(reply),
-        Ok(Spoken::Answer(_)) => unreachable!(),
-        Err(NoMemory) => Err(NoMemory),
-    }
-}
-
-/// Does a service for a process, by its own seat, as `refer`: a deletion and a purge wait for the
-/// transfers of their pages.
-///
-/// # Errors
-/// `NoMemory` if memory ran out, or if the state was halted.
-pub fn serve_one<W: Wait, B: Block>(
-    rt: &W,
-    lock: &HistoryLock<State<B>>,
-    pass: &mut Pass<State<B>>,
-    carrier: &mut Carrier<B>,
-    p: Proc,
-    s: Service,
-) -> Result<Answer, NoMemory>
-    requires own { IsOf lock.now pass.old }
-    requires idle { IsIdle pass.old }
-    requires knows { Knows (MayAsk p (Request.Service s)) (base_seen pass.old) }
-    requires number { Contains (numbers pass.old) p.0 }
-    requires landed { NoneOpen (numbers pass.old) (seen pass.old) }
-    requires carrier { carrier.old ≡ empty (seat_of p) }
-    ensures idle { IsIdle pass.new }
-    ensures numbers { numbers pass.new ≡ numbers pass.old }
-    ensures base { base_seen pass.new ≡ base_seen pass.old }
-    ensures same { IsSameLock pass.old pass.new }
-    ensures replied { IfOk result (λ answer. IsReplied (seat_of p) (Request.Service s) (numbers pass.old) (seen pass.old) (seen pass.new) (Spoken.Answer answer)) }
-    ensures silent { OnErr result (GoesOn (numbers pass.old) (seen pass.old) (seen pass.new)) }
-    ensures landed { NoneOpen (numbers pass.old) (seen pass.new) }
-    ensures calm { IsCalm (seen pass.new) }
-    ensures legal { IsJournalOf B.tells.content (base_seen pass.new) (seen pass.new) }
-    ensures carrier { carrier.new ≡ empty (seat_of p) }
-{
-    let mut gate = Open;
-    match ask(rt, lock, pass, carrier, p, Request::Service(s), &mut gate) {
-        Ok(Spoken::Answer(answer)) => Ok(answer),
-        Ok(Spoken::Reply(_)) => unreachable!(),
-        Err(NoMemory) => Err(NoMemory),
-    }
 }

@@ -2,10 +2,9 @@ ghost use Rattle.std.specs.Prelude.{◌≡◌, ◌⊎◌, Contains, None, false,
 ghost use Rattle.history_lock.specs.Passes.{IsIdle, IsOf, IsSameLock, base_of as base_seen, numbers, seen};
 ghost use Rattle.call_begins.specs.MayBegin.{empty};
 ghost use Rattle.vm_actors.specs.Between.{IsCalm, NoneOpen};
-ghost use Rattle.vm_actors.specs.Doings.{IsSwapper, IsWriter, Knows, MayDo, RestsAt, request_of};
+ghost use Rattle.vm_actors.specs.Doings.{Knows, MayDo, RestsAt, request_of};
 ghost use Rattle.vm_actors.specs.OwnEntries.{GoesOn, MadeSome};
 ghost use Rattle.vm_actors.specs.Requests.{AreAllAnswered};
-ghost use Rattle.vm_actors.specs.declared.doing.Doing.{Doing};
 
 use crate::doing::Doing;
 use crate::ended::Ended;
@@ -17,9 +16,12 @@ use history_lock::{HistoryLock, Pass};
 use std::sync::Wait;
 use vm_state::{Carrier, State};
 
-/// Works for no request, again and again, until memory runs out, or all requests were answered before it
-/// worked last.
-fn idle_worker<W: Wait, B: Block, G: Gate>(
+/// Works for no request, again and again: what the thread of the modified page writer or of the swapper
+/// does. It looks in a turn whether all requests were answered, works once as `work_once`, and ends after
+/// the call before which they were; or where memory runs out. It pauses at the gate after each turn in
+/// which no entry was made. The pass owns the number of the carrier's seat, and none of its numbers has an
+/// open transfer, before and after.
+pub fn idle_worker<W: Wait, B: Block, G: Gate>(
     rt: &W,
     lock: &HistoryLock<State<B>>,
     mut pass: Pass<State<B>>,
@@ -58,61 +60,4 @@ fn idle_worker<W: Wait, B: Block, G: Gate>(
         }
     }
     unreachable!()
-}
-
-/// Works as the modified page writer, again and again: what the writer's thread does. It looks in a turn
-/// whether all requests were answered, works once as `writer_turn`, and ends after the call before which
-/// they were; or where memory runs out. It pauses at the gate after each turn in which no entry was made.
-pub fn writer_worker<W: Wait, B: Block, G: Gate>(
-    rt: &W,
-    lock: &HistoryLock<State<B>>,
-    pass: Pass<State<B>>,
-    carrier: Carrier<B>,
-    gate: G,
-) -> Ended<B>
-    requires own { IsOf lock.now pass }
-    requires idle { IsIdle pass }
-    requires knows { Knows (IsWriter carrier.seat) (base_seen pass) }
-    requires number { Contains (numbers pass) carrier.seat.0 }
-    requires landed { NoneOpen (numbers pass) (seen pass) }
-    requires carrier { carrier ≡ empty carrier.seat }
-    ensures idle { IsIdle result.pass }
-    ensures numbers { numbers result.pass ≡ numbers pass }
-    ensures base { base_seen result.pass ≡ base_seen pass }
-    ensures same { IsSameLock pass result.pass }
-    ensures silent { GoesOn (numbers pass) (seen pass) (seen result.pass) }
-    ensures answered { result.short ≡ false → AreAllAnswered (base_seen pass) (seen result.pass) }
-    ensures done { result.short ≡ false → MadeSome (numbers pass) (seen pass) (seen result.pass) ⊎ RestsAt Doing.Writing (base_seen pass) (reverse (seen result.pass)) }
-    ensures landed { NoneOpen (numbers pass) (seen result.pass) }
-    ensures calm { IsCalm (seen result.pass) }
-{
-    idle_worker(rt, lock, pass, carrier, Doing::Writing, gate)
-}
-
-/// Works as the swapper, again and again: what the swapper's thread does. It ends and pauses as
-/// `writer_worker`.
-pub fn swapper_worker<W: Wait, B: Block, G: Gate>(
-    rt: &W,
-    lock: &HistoryLock<State<B>>,
-    pass: Pass<State<B>>,
-    carrier: Carrier<B>,
-    gate: G,
-) -> Ended<B>
-    requires own { IsOf lock.now pass }
-    requires idle { IsIdle pass }
-    requires knows { Knows (IsSwapper carrier.seat) (base_seen pass) }
-    requires number { Contains (numbers pass) carrier.seat.0 }
-    requires landed { NoneOpen (numbers pass) (seen pass) }
-    requires carrier { carrier ≡ empty carrier.seat }
-    ensures idle { IsIdle result.pass }
-    ensures numbers { numbers result.pass ≡ numbers pass }
-    ensures base { base_seen result.pass ≡ base_seen pass }
-    ensures same { IsSameLock pass result.pass }
-    ensures silent { GoesOn (numbers pass) (seen pass) (seen result.pass) }
-    ensures answered { result.short ≡ false → AreAllAnswered (base_seen pass) (seen result.pass) }
-    ensures done { result.short ≡ false → MadeSome (numbers pass) (seen pass) (seen result.pass) ⊎ RestsAt Doing.Swapping (base_seen pass) (reverse (seen result.pass)) }
-    ensures landed { NoneOpen (numbers pass) (seen result.pass) }
-    ensures calm { IsCalm (seen result.pass) }
-{
-    idle_worker(rt, lock, pass, carrier, Doing::Swapping, gate)
 }

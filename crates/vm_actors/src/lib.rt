@@ -17,10 +17,10 @@ mod stepping;
 mod taken;
 mod turns;
 
-pub use asks::{refer, serve_one};
+pub use asks::ask;
 pub use doing::Doing;
 pub use ended::Ended;
 pub use gate::{Gate, Open};
-pub use idle_turns::{swapper_turn, writer_turn};
-pub use idle_work::{swapper_worker, writer_worker};
+pub use idle_turns::work_once;
+pub use idle_work::idle_worker;
 pub use process_work::process_worker;

@@ -1,13 +1,12 @@
-ghost use Rattle.std.specs.Prelude.{◌≡◌, [], Some, false, length, true};
+ghost use Rattle.std.specs.Prelude.{◌≡◌, [], false, length, true};
 ghost use Rattle.pager_model.specs.Flights.{awaits_reuse};
 ghost use Rattle.history_lock.specs.Values.{IsSameTurn, value_of};
 ghost use Rattle.vm_state.specs.Based.{base_of};
 ghost use Rattle.vm_state.specs.History.{pager};
 ghost use Rattle.carried_landings.specs.Outside.{AreOut, NoneWaits};
-ghost use Rattle.seat_turns.specs.Begun.{IsBegunFor};
-ghost use Rattle.seat_turns.specs.Steps.{HasTurned, is_reads, seat_of};
+ghost use Rattle.seat_turns.specs.Steps.{HasTurned, is_reads};
 ghost use Rattle.seat_turns.specs.declared.turned.Turned.{Turned};
-ghost use Rattle.vm_actors.specs.Doings.{HasRested, IsBegun, MayAsk, MayDo, request_of};
+ghost use Rattle.vm_actors.specs.Doings.{HasRested, IsBegun, MayDo, request_of};
 
 use crate::doing::Doing;
 use crate::taken::Taken;
@@ -15,29 +14,7 @@ use disk_trait::Block;
 use history_lock::Turn;
 use seat_turns::{Turned, refer_in_turn, serve_in_turn, swap_in_turn, write_in_turn};
 use vm_state::{Carrier, State};
-use vm_types::{Proc, Request, Seat};
-
-/// What the seat of a process does for a request while it has the state.
-fn ask_in_turn<B: Block>(
-    state: &mut State<B>,
-    carrier: &mut Carrier<B>,
-    p: Proc,
-    x: Request,
-    reading: bool,
-) -> Turned
-    requires may { MayAsk p x state.old.config }
-    requires calm { awaits_reuse state.old.past ≡ false }
-    requires out { AreOut B.seen B.tells (base_of state.old) state.old.past (seat_of p) carrier.old }
-    requires carried { NoneWaits carrier.old.lifts }
-    requires begun { (carrier.old.lifts ≡ [] → ⊥) → IsBegunFor state.old.past p.0 x reading }
-    ensures turned { HasTurned B.seen B.tells state.old state.new (seat_of p) (Some x) result carrier.new }
-    ensures begun { (carrier.new.lifts ≡ [] → ⊥) → IsBegunFor state.new.past p.0 x (is_reads result) }
-{
-    match x {
-        Request::Reference(r) => refer_in_turn(state, carrier, p, r, reading),
-        Request::Service(s) => serve_in_turn(state, carrier, p, s),
-    }
-}
+use vm_types::{Request, Seat};
 
 /// What a seat does while it has the state.
 fn do_in_turn<B: Block>(
@@ -57,7 +34,10 @@ fn do_in_turn<B: Block>(
     ensures rests { result ≡ Turned.Rests → HasRested doing state.new.config state.new.past (pager state.new) }
 {
     match doing {
-        Doing::Asking(p, x) => ask_in_turn(state, carrier, p, x, reading),
+        Doing::Asking(p, x) => match x {
+            Request::Reference(r) => refer_in_turn(state, carrier, p, r, reading),
+            Request::Service(s) => serve_in_turn(state, carrier, p, s),
+        },
         Doing::Writing => write_in_turn(state, carrier),
         Doing::Swapping => swap_in_turn(state, carrier),
     }

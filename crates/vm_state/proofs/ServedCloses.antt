@@ -31,6 +31,7 @@ use Rattle.state_fits.specs.Parts.{Parts}
 use Rattle.state_fits.specs.PartsFit.{PartsFit}
 use Rattle.state_fits.specs.Serving.{is_serving, pin_service, ranged, with_code}
 use Rattle.state_fits.proofs.ServedParts.{FitAfter, adjusted_parts, created_parts, deleted_parts, left_parts, locked_parts, pinned_parts, protected_parts, unlocked_parts}
+use Rattle.vm_state.specs.Locking.{lock_service}
 use Rattle.vm_state.specs.History.{owed}
 use Rattle.vm_state.specs.StateKept.{IsState}
 use Rattle.vm_state.proofs.Closing.{closed, kept}
@@ -63,15 +64,20 @@ module _ {B : Type 0} {seen : B → BlockView} {tells : Tells} {config : Config}
     adjusted_closes n x read legal paid =
         rw is (answered_closes (service.Adjust n) answer.Good legal paid store.frames _ (adjusted_parts config past (pager_after config past) seat fields before.parts y read_y n legal x read))
 
-    pub locked_closes : (at : Addr) (pages n : ℕ) (x : ProcessRow) → x ≡ slice_index_or fields.processes seat.0 x → (ring : Ring) → ring ≡ range_locked true at.0 pages x.ring
+    locked_closes : (at : Addr) (pages n : ℕ) (x : ProcessRow) → x ≡ slice_index_or fields.processes seat.0 x → (ring : Ring) → ring ≡ range_locked true at.0 pages x.ring
         → Closes (service.Lock at pages) (answer.Count n) (record fields { processes = slice_set fields.processes seat.0 (record x { ring = ring }); spoken = said })
     locked_closes at pages n x read ring marked legal paid =
         rw (is, marked) (answered_closes (service.Lock at pages) (answer.Count n) legal paid store.frames _ (locked_parts config past (pager_after config past) seat fields before.parts y read_y at pages n legal x read))
 
-    pub unlocked_closes : (at : Addr) (pages n : ℕ) (x : ProcessRow) → x ≡ slice_index_or fields.processes seat.0 x → (ring : Ring) → ring ≡ range_locked false at.0 pages x.ring
+    unlocked_closes : (at : Addr) (pages n : ℕ) (x : ProcessRow) → x ≡ slice_index_or fields.processes seat.0 x → (ring : Ring) → ring ≡ range_locked false at.0 pages x.ring
         → Closes (service.Unlock at pages) (answer.Count n) (record fields { processes = slice_set fields.processes seat.0 (record x { ring = ring }); spoken = said })
     unlocked_closes at pages n x read ring marked legal paid =
         rw (is, marked) (answered_closes (service.Unlock at pages) (answer.Count n) legal paid store.frames _ (unlocked_parts config past (pager_after config past) seat fields before.parts y read_y at pages n legal x read))
+
+    pub relocked_closes : (lock : Bool) (at : Addr) (pages n : ℕ) (x : ProcessRow) → x ≡ slice_index_or fields.processes seat.0 x → (ring : Ring) → ring ≡ range_locked lock at.0 pages x.ring
+        → Closes (lock_service lock at pages) (answer.Count n) (record fields { processes = slice_set fields.processes seat.0 (record x { ring = ring }); spoken = said })
+    relocked_closes true = locked_closes
+    relocked_closes false = unlocked_closes
 
     pub protected_closes : (at : Addr) (pages prot : ℕ) (tables' : PageTables) → tables'.procs ≡ (fields.tables).procs
         → ((q w : ℕ) → pte_in tables' q w ≡ ranged (option_map (with_code prot)) seat.0 at.0 pages (pte_in fields.tables) q w)

@@ -14,3 +14,4 @@ pub mod Ends
 pub mod Answering
 pub mod Based
 pub mod Words
+pub mod Locking

@@ -1,10 +1,10 @@
 ghost use Rattle.std.specs.Prelude.{◌≡◌};
 
 use crate::state::State;
+use crate::validity::make_valid;
 use disk_trait::Block;
 use frame_changes::enter;
-use page_readers::{enter_ring, entry_in, frame_slot, marked_back, share};
-use pte_forms::{Place, Pte};
+use page_readers::{enter_ring, frame_slot, marked_back, share};
 use vm_journal::{Entry, What};
 use vm_types::{Addr, FrameState, Pfn, Proc, Seat};
 
@@ -26,13 +26,7 @@ impl<B: Block> State<B> {
         let slot = enter_ring(row, &mut self.pages, &mut self.swaps, p, vpn);
         let held = frame_slot(page, slot);
         enter(self.store.frames_mut(), f, page, held, modify);
-        let look = self.tables.look(p, vpn);
-        let prot = entry_in(look).unwrap().prot;
-        let place = Place::Valid {
-            modify: false,
-            frame: f,
-        };
-        self.tables.set(p, vpn, Pte { prot, place });
+        make_valid(&mut self.tables, p, vpn, f);
         share(&mut self.globals, &self.firsts, page);
         self.journal.push(Entry {
             seat,

@@ -1,10 +1,11 @@
 ghost use Rattle.std.specs.Prelude.{◌≡◌};
 
+use crate::speaking::speak;
 use crate::state::State;
 use disk_trait::Block;
 use page_changes::{empty_frame, uncharge};
 use page_readers::entry_in;
-use vm_journal::{Entry, What};
+use vm_journal::What;
 use vm_types::{Addr, Answer, Page, Proc, Seat, Service};
 
 impl<B: Block> State<B> {
@@ -19,7 +20,6 @@ impl<B: Block> State<B> {
         ensures { self.new ≡ added self.old (entry_by seat (What.Served (Service.Delete at pages) Answer.Good)) }
     {
         let p = Proc(seat.0);
-        let number = self.journal.len() + 1;
         for n in 0..pages {
             let vpn = at.0 / 512 + n;
             let place = entry_in(self.tables.look(p, vpn)).unwrap().place;
@@ -31,15 +31,9 @@ impl<B: Block> State<B> {
             self.tables.unmap(p, vpn);
             self.sections.forget(p, vpn);
         }
+        let s = Service::Delete { at, pages };
+        let answer = Answer::Good;
         let spoken = &mut self.spoken[seat.0 as usize];
-        spoken.last = Some(number);
-        spoken.count += 1;
-        self.journal.push(Entry {
-            seat,
-            what: What::Served {
-                s: Service::Delete { at, pages },
-                answer: Answer::Good,
-            },
-        });
+        speak(&mut self.journal, spoken, seat, What::Served { s, answer });
     }
 }

@@ -1,11 +1,11 @@
 ghost use Rattle.std.specs.Prelude.{◌≡◌};
 
 use crate::state::State;
+use crate::validity::make_valid;
 use disk_trait::Block;
 use frame_changes::enter;
 use page_changes::mapped_page;
 use page_readers::{entry_in, frame_slot, hold, share};
-use pte_forms::{Place, Pte};
 use state_parts::{ChargedPage, take_slot};
 use vm_journal::{Entry, What};
 use vm_types::{Addr, Pfn, Proc, Seat};
@@ -35,13 +35,7 @@ impl<B: Block> State<B> {
         let held = frame_slot(page, slot);
         enter(self.store.frames_mut(), f, page, held, true);
         self.store.zero(f);
-        let look = self.tables.look(p, vpn);
-        let prot = entry_in(look).unwrap().prot;
-        let place = Place::Valid {
-            modify: false,
-            frame: f,
-        };
-        self.tables.set(p, vpn, Pte { prot, place });
+        make_valid(&mut self.tables, p, vpn, f);
         hold(&mut self.globals, &self.firsts, f, page);
         share(&mut self.globals, &self.firsts, page);
         self.pages.set(page, Some(FRESH));

@@ -1,10 +1,11 @@
 ghost use Rattle.std.specs.Prelude.{◌≡◌, true};
 
+use crate::speaking::speak;
 use crate::state::State;
 use disk_trait::Block;
 use flat_model::apply;
 use page_readers::{frame_in, marked, touch};
-use vm_journal::{Entry, What};
+use vm_journal::What;
 use vm_types::{Proc, Ref, Reply, Seat, Why};
 
 impl<B: Block> State<B> {
@@ -32,14 +33,8 @@ impl<B: Block> State<B> {
         self.store.frames_mut().mark(f, marked(r.op, kept.modify));
         touch(&mut self.pages, kept.page.unwrap());
         let reply = apply(self.store.bytes_mut(f), r);
-        let number = self.journal.len() + 1;
         let spoken = &mut self.spoken[seat.0 as usize];
-        spoken.last = Some(number);
-        spoken.count += 1;
-        self.journal.push(Entry {
-            seat,
-            what: What::Done { r, reply },
-        });
+        speak(&mut self.journal, spoken, seat, What::Done { r, reply });
         reply
     }
 
@@ -50,13 +45,7 @@ impl<B: Block> State<B> {
     {
         let row = &mut self.processes[seat.0 as usize];
         row.references += 1;
-        let number = self.journal.len() + 1;
         let spoken = &mut self.spoken[seat.0 as usize];
-        spoken.last = Some(number);
-        spoken.count += 1;
-        self.journal.push(Entry {
-            seat,
-            what: What::Denied { r, why },
-        });
+        speak(&mut self.journal, spoken, seat, What::Denied { r, why });
     }
 }

@@ -1,13 +1,15 @@
 ghost use Rattle.std.specs.Prelude.{◌≡◌, false};
 ghost use Rattle.state_fits.specs.Serving.{is_serving, pin_service};
+ghost use Rattle.vm_state.specs.Locking.{lock_service};
 
+use crate::speaking::speak;
 use crate::state::State;
 use disk_trait::Block;
 use frame_changes::count_pin;
 use page_changes::{create_zeros, protect};
 use page_readers::{frame_in, pin_service};
 use state_parts::{lock_range, mark_pin, page_to_pin};
-use vm_journal::{Entry, What};
+use vm_journal::What;
 use vm_types::{Addr, Answer, Proc, Seat, Service};
 
 impl<B: Block> State<B> {
@@ -23,14 +25,8 @@ impl<B: Block> State<B> {
         requires unchanged { is_serving s answer ≡ false }
         ensures { self.new ≡ added self.old (entry_by seat (What.Served s answer)) }
     {
-        let number = self.journal.len() + 1;
         let spoken = &mut self.spoken[seat.0 as usize];
-        spoken.last = Some(number);
-        spoken.count += 1;
-        self.journal.push(Entry {
-            seat,
-            what: What::Served { s, answer },
-        });
+        speak(&mut self.journal, spoken, seat, What::Served { s, answer });
     }
 
     /// Sets the working set limit of the seat's process.
@@ -40,17 +36,10 @@ impl<B: Block> State<B> {
     {
         let row = &mut self.processes[seat.0 as usize];
         row.limit = limit;
-        let number = self.journal.len() + 1;
+        let s = Service::Adjust { limit };
+        let answer = Answer::Good;
         let spoken = &mut self.spoken[seat.0 as usize];
-        spoken.last = Some(number);
-        spoken.count += 1;
-        self.journal.push(Entry {
-            seat,
-            what: What::Served {
-                s: Service::Adjust { limit },
-                answer: Answer::Good,
-            },
-        });
+        speak(&mut self.journal, spoken, seat, What::Served { s, answer });
     }
 
     /// Locks the valid pages of a range in the working set of the seat's process, and answers how many.
@@ -58,19 +47,7 @@ impl<B: Block> State<B> {
         requires { MayAdd self.old (entry_by seat (What.Served (Service.Lock at pages) (Answer.Count count))) }
         ensures { self.new ≡ added self.old (entry_by seat (What.Served (Service.Lock at pages) (Answer.Count count))) }
     {
-        let row = &mut self.processes[seat.0 as usize];
-        lock_range(&mut row.ring, at, pages, true);
-        let number = self.journal.len() + 1;
-        let spoken = &mut self.spoken[seat.0 as usize];
-        spoken.last = Some(number);
-        spoken.count += 1;
-        self.journal.push(Entry {
-            seat,
-            what: What::Served {
-                s: Service::Lock { at, pages },
-                answer: Answer::Count(count),
-            },
-        });
+        self.relock(seat, at, pages, true, count);
     }
 
     /// Unlocks the locked pages of a range in the working set of the seat's process, and answers how many.
@@ -78,19 +55,21 @@ impl<B: Block> State<B> {
         requires { MayAdd self.old (entry_by seat (What.Served (Service.Unlock at pages) (Answer.Count count))) }
         ensures { self.new ≡ added self.old (entry_by seat (What.Served (Service.Unlock at pages) (Answer.Count count))) }
     {
+        self.relock(seat, at, pages, false, count);
+    }
+
+    /// Locks, or unlocks, the pages of a range in the working set of the seat's process, and answers how
+    /// many.
+    fn relock(&mut self, seat: Seat, at: Addr, pages: u32, lock: bool, count: u32)
+        requires { MayAdd self.old (entry_by seat (What.Served (lock_service lock at pages) (Answer.Count count))) }
+        ensures { self.new ≡ added self.old (entry_by seat (What.Served (lock_service lock at pages) (Answer.Count count))) }
+    {
         let row = &mut self.processes[seat.0 as usize];
-        lock_range(&mut row.ring, at, pages, false);
-        let number = self.journal.len() + 1;
+        lock_range(&mut row.ring, at, pages, lock);
+        let s = lock_service(lock, at, pages);
+        let answer = Answer::Count(count);
         let spoken = &mut self.spoken[seat.0 as usize];
-        spoken.last = Some(number);
-        spoken.count += 1;
-        self.journal.push(Entry {
-            seat,
-            what: What::Served {
-                s: Service::Unlock { at, pages },
-                answer: Answer::Count(count),
-            },
-        });
+        speak(&mut self.journal, spoken, seat, What::Served { s, answer });
     }
 
     /// Pins, or unpins, the valid pages of a range of the seat's process in memory, and answers how many.
@@ -99,7 +78,6 @@ impl<B: Block> State<B> {
         ensures { self.new ≡ added self.old (entry_by seat (What.Served (pin_service pin at pages) (Answer.Count count))) }
     {
         let p = Proc(seat.0);
-        let number = self.journal.len() + 1;
         let slots = self.processes[seat.0 as usize].ring.slots();
         for slot in 0..slots {
             let row = &mut self.processes[seat.0 as usize];
@@ -109,16 +87,10 @@ impl<B: Block> State<B> {
                 count_pin(self.store.frames_mut(), f, pin);
             }
         }
+        let s = pin_service(pin, at, pages);
+        let answer = Answer::Count(count);
         let spoken = &mut self.spoken[seat.0 as usize];
-        spoken.last = Some(number);
-        spoken.count += 1;
-        self.journal.push(Entry {
-            seat,
-            what: What::Served {
-                s: pin_service(pin, at, pages),
-                answer: Answer::Count(count),
-            },
-        });
+        speak(&mut self.journal, spoken, seat, What::Served { s, answer });
     }
 
     /// Sets the protection code of the pages of a range of the seat's process.
@@ -126,18 +98,11 @@ impl<B: Block> State<B> {
         requires { MayAdd self.old (entry_by seat (What.Served (Service.Protect at pages prot) Answer.Good)) }
         ensures { self.new ≡ added self.old (entry_by seat (What.Served (Service.Protect at pages prot) Answer.Good)) }
     {
-        let number = self.journal.len() + 1;
-        let spoken = &mut self.spoken[seat.0 as usize];
-        spoken.last = Some(number);
-        spoken.count += 1;
         protect(&mut self.tables, Proc(seat.0), at, pages, prot);
-        self.journal.push(Entry {
-            seat,
-            what: What::Served {
-                s: Service::Protect { at, pages, prot },
-                answer: Answer::Good,
-            },
-        });
+        let s = Service::Protect { at, pages, prot };
+        let answer = Answer::Good;
+        let spoken = &mut self.spoken[seat.0 as usize];
+        speak(&mut self.journal, spoken, seat, What::Served { s, answer });
     }
 
     /// Maps the pages of a range of the seat's process, of which none is mapped, to zeros.
@@ -145,10 +110,6 @@ impl<B: Block> State<B> {
         requires { MayAdd self.old (entry_by seat (What.Served (Service.Create at pages prot) Answer.Good)) }
         ensures { self.new ≡ added self.old (entry_by seat (What.Served (Service.Create at pages prot) Answer.Good)) }
     {
-        let number = self.journal.len() + 1;
-        let spoken = &mut self.spoken[seat.0 as usize];
-        spoken.last = Some(number);
-        spoken.count += 1;
         create_zeros(
             &mut self.tables,
             &mut self.sections,
@@ -157,12 +118,20 @@ impl<B: Block> State<B> {
             pages,
             prot,
         );
-        self.journal.push(Entry {
-            seat,
-            what: What::Served {
-                s: Service::Create { at, pages, prot },
-                answer: Answer::Good,
-            },
-        });
+        let s = Service::Create { at, pages, prot };
+        let answer = Answer::Good;
+        let spoken = &mut self.spoken[seat.0 as usize];
+        speak(&mut self.journal, spoken, seat, What::Served { s, answer });
+    }
+}
+
+/// The service that locks, or unlocks, a range.
+fn lock_service(lock: bool, at: Addr, pages: u32) -> Service
+    ensures { result ≡ lock_service lock at pages }
+{
+    if lock {
+        Service::Lock { at, pages }
+    } else {
+        Service::Unlock { at, pages }
     }
 }

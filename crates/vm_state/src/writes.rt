@@ -1,6 +1,7 @@
 ghost use Rattle.std.specs.Prelude.{◌≡◌, false};
 
 use crate::state::State;
+use crate::transfers::end_transfer;
 use disk_trait::Block;
 use frame_changes::end_write;
 use frame_store::{Carried, Lift};
@@ -9,9 +10,8 @@ use vm_journal::{Entry, What};
 use vm_types::Seat;
 
 impl<B: Block> State<B> {
-    ghost use Rattle.vm_journal.specs.declared.entry.What.{What};
     ghost use Rattle.vm_state.specs.History.{MayAdd, added, entry_by};
-    ghost use Rattle.vm_state.specs.Landings.{HasFailed, landing_of};
+    ghost use Rattle.vm_state.specs.Landings.{HasFailed, MayEnd, ended_as, landing_of};
     ghost use Rattle.lift_carriers.specs.LiftsFit.{LiftFits};
 
     /// A write has gone well.
@@ -43,11 +43,8 @@ impl<B: Block> State<B> {
 
     /// A write has landed well. The page lies in the block, unless it was modified meanwhile.
     fn out_ok_well(&mut self, seat: Seat, lift: Lift<B>)
-        requires may { MayAdd self.old (entry_by seat (What.OutOk (record { 0 = lift.frame }) lift.start)) }
-        requires fits { LiftFits B.seen B.tells self.old.config self.old.past lift }
-        requires good { lift.result ≡ Carried.Good }
-        requires pool { lift.pool ≡ self.old.pool }
-        ensures { self.new ≡ added self.old (entry_by seat (What.OutOk (record { 0 = lift.frame }) lift.start)) }
+        requires { MayEnd B.seen B.tells self.old seat lift false Carried.Good }
+        ensures { self.new ≡ added self.old (entry_by seat (ended_as false lift.frame lift.start Carried.Good)) }
     {
         let f = lift.frame();
         let k = lift.start();
@@ -57,40 +54,29 @@ impl<B: Block> State<B> {
         end_write(self.store.frames_mut(), f, false);
         let page = row.page.unwrap();
         lie_unless(&mut self.pages, &mut self.swaps, row.modify, page, block);
-        self.roles[f.0 as usize] = None;
-        let busy = &mut self.busy[seat.0 as usize];
-        *busy -= 1;
-        self.in_flight -= 1;
-        self.journal.push(Entry {
-            seat,
-            what: What::OutOk { f, k },
-        });
+        let role = &mut self.roles[f.0 as usize];
+        end_transfer(role, &mut self.busy[seat.0 as usize], &mut self.in_flight);
+        let what = What::OutOk { f, k };
+        self.journal.push(Entry { seat, what });
     }
 
     /// A write has failed; its block's count of failures was `before` and is `after`.
     fn out_fail_counted(&mut self, seat: Seat, lift: Lift<B>, before: u64, after: u64)
-        requires may { MayAdd self.old (entry_by seat (What.OutFail (record { 0 = lift.frame }) lift.start before after)) }
-        requires fits { LiftFits B.seen B.tells self.old.config self.old.past lift }
-        requires bad { lift.result ≡ Carried.Bad before after }
-        requires pool { lift.pool ≡ self.old.pool }
-        ensures { self.new ≡ added self.old (entry_by seat (What.OutFail (record { 0 = lift.frame }) lift.start before after)) }
+        requires { MayEnd B.seen B.tells self.old seat lift false (Carried.Bad before after) }
+        ensures { self.new ≡ added self.old (entry_by seat (ended_as false lift.frame lift.start (Carried.Bad before after))) }
     {
         let f = lift.frame();
         let k = lift.start();
         self.store.land(lift);
         end_write(self.store.frames_mut(), f, true);
-        self.roles[f.0 as usize] = None;
-        let busy = &mut self.busy[seat.0 as usize];
-        *busy -= 1;
-        self.in_flight -= 1;
-        self.journal.push(Entry {
-            seat,
-            what: What::OutFail {
-                f,
-                k,
-                c: before,
-                d: after,
-            },
-        });
+        let role = &mut self.roles[f.0 as usize];
+        end_transfer(role, &mut self.busy[seat.0 as usize], &mut self.in_flight);
+        let what = What::OutFail {
+            f,
+            k,
+            c: before,
+            d: after,
+        };
+        self.journal.push(Entry { seat, what });
     }
 }

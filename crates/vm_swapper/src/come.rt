@@ -51,7 +51,8 @@ fn come<B: Block>(state: &mut State<B>, seat: Seat, p: Proc, carrier: &mut Carri
     ensures { Swaps B.seen B.tells state.old state.new seat (at_come state.old p.0) result carrier.old carrier.new }
 {
     if let Some(n) = first(state, p, Look::OnFree) {
-        back_at(state, seat, p, n, carrier)
+        let run = Run { seat, p, slot: n };
+        back_at(state, run, carrier)
     } else if let Some(n) = first(state, p, Look::Out) {
         let run = Run { seat, p, slot: n };
         read_from(state, run, carrier)
@@ -60,21 +61,15 @@ fn come<B: Block>(state: &mut State<B>, seat: Seat, p: Proc, carrier: &mut Carri
     }
 }
 
-/// The page that lies in the swap block of a slot comes back from the free list.
-fn back_at<B: Block>(
-    state: &mut State<B>,
-    seat: Seat,
-    p: Proc,
-    n: u32,
-    carrier: &mut Carrier<B>,
-) -> Swap
-    requires { MaySwap state.old seat p (at_back state.old p.0 n) carrier.old }
-    ensures { Swaps B.seen B.tells state.old state.new seat (at_back state.old p.0 n) result carrier.old carrier.new }
+/// The page that lies in the swap block of a run's first slot comes back from the free list.
+fn back_at<B: Block>(state: &mut State<B>, run: Run, carrier: &mut Carrier<B>) -> Swap
+    requires { MaySwap state.old run.seat run.p (at_back state.old (run.p).0 run.slot) carrier.old }
+    ensures { Swaps B.seen B.tells state.old state.new run.seat (at_back state.old (run.p).0 run.slot) result carrier.old carrier.new }
 {
     state.run_law();
-    if let Some(page) = state.swapped(p, n) {
+    if let Some(page) = state.swapped(run.p, run.slot) {
         if let Some(f) = state.backing(page).frame {
-            state.back(seat, p, address_of(page), f, FrameState::Free);
+            state.back(run.seat, run.p, address_of(page), f, FrameState::Free);
         }
     }
     Swap::More

@@ -52,9 +52,11 @@ fn leave<B: Block>(state: &mut State<B>, seat: Seat, p: Proc, carrier: &mut Carr
     ensures { Swaps B.seen B.tells state.old state.new seat (at_leave state.old p.0) result carrier.old carrier.new }
 {
     if let Some(n) = first(state, p, Look::Shared) {
-        evict_at(state, seat, p, n, carrier)
+        let run = Run { seat, p, slot: n };
+        evict_at(state, run, carrier)
     } else if let Some(n) = first(state, p, Look::Saved) {
-        evict_at(state, seat, p, n, carrier)
+        let run = Run { seat, p, slot: n };
+        evict_at(state, run, carrier)
     } else if let Some(n) = first(state, p, Look::Unsaved) {
         let run = Run { seat, p, slot: n };
         write_from(state, run, carrier)
@@ -63,18 +65,13 @@ fn leave<B: Block>(state: &mut State<B>, seat: Seat, p: Proc, carrier: &mut Carr
     }
 }
 
-/// The page in a slot is evicted, unless it would add to a modified list that is at its wait limit.
-fn evict_at<B: Block>(
-    state: &mut State<B>,
-    seat: Seat,
-    p: Proc,
-    n: u32,
-    carrier: &mut Carrier<B>,
-) -> Swap
-    requires { MaySwap state.old seat p (at_slot state.old p.0 n) carrier.old }
-    ensures { Swaps B.seen B.tells state.old state.new seat (at_slot state.old p.0 n) result carrier.old carrier.new }
+/// The page in a run's first slot is evicted, unless it would add to a modified list that is at its wait
+/// limit.
+fn evict_at<B: Block>(state: &mut State<B>, run: Run, carrier: &mut Carrier<B>) -> Swap
+    requires { MaySwap state.old run.seat run.p (at_slot state.old (run.p).0 run.slot) carrier.old }
+    ensures { Swaps B.seen B.tells state.old state.new run.seat (at_slot state.old (run.p).0 run.slot) result carrier.old carrier.new }
 {
-    match see(state, p, n) {
+    match see(state, run.p, run.slot) {
         Some(x) => {
             let row = state.frame(x.frame);
             let to = goes_to(row);
@@ -82,7 +79,7 @@ fn evict_at<B: Block>(
                 Swap::Again(SwapWhy::ModifiedFull)
             } else {
                 let a = Addr(512 * x.vpn);
-                state.evict(seat, p, a, x.frame, EvictWhy::Leave, to);
+                state.evict(run.seat, run.p, a, x.frame, EvictWhy::Leave, to);
                 Swap::More
             }
         }

@@ -8,7 +8,7 @@ use disk_trait::Block;
 use vm_state::State;
 use vm_types::{Proc, Seat};
 
-/// A run of consecutive slots of a process, from one on, and the seat that transfers its pages.
+/// A run of consecutive slots of a process, from one on, and the seat that works on their pages.
 #[derive(Clone, Copy, Debug, PartialEq, Eq)]
 pub struct Run {
     pub seat: Seat,

@@ -8,7 +8,6 @@ mod reference;
 mod service;
 mod states;
 mod text;
-mod words;
 
 pub use names::{
     push_address, push_block, push_frame, push_page, push_place, push_process, push_seat,
@@ -20,4 +19,3 @@ pub use reference::{bytes_of, push_op, push_value, push_why, read_op, read_value
 pub use service::{push_protection, push_service_name, read_protection};
 pub use states::{push_mark, push_state, push_status, read_state, read_status};
 pub use text::{after, cut, is, push_word};
-pub use words::Words;

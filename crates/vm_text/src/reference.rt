@@ -6,7 +6,7 @@ ghost use Rattle.vm_text.specs.Readings.{Reads};
 ghost use Rattle.vm_text.specs.References.{bare, mode_text, op_text, value_text, why_word};
 
 use crate::number::{push_hex, read_hex};
-use crate::text::{after, is, push_word};
+use crate::text::{after, push_word};
 use arrayvec::ArrayVec;
 use vm_types::{Mode, Op, Why, Width};
 
@@ -104,22 +104,15 @@ pub fn read_op(word: &[u8]) -> Option<(Mode, Op)>
 fn read_op_name(word: &[u8]) -> Option<Op>
     ensures { Reads (λ op. bare op ≡ op) (λ op. op_text U op) word.now result }
 {
-    if is(word, b"R1") {
-        Some(Op::Read(Width::One))
-    } else if is(word, b"R2") {
-        Some(Op::Read(Width::Two))
-    } else if is(word, b"R4") {
-        Some(Op::Read(Width::Four))
-    } else if is(word, b"W1") {
-        Some(Op::Write(Width::One, 0))
-    } else if is(word, b"W2") {
-        Some(Op::Write(Width::Two, 0))
-    } else if is(word, b"W4") {
-        Some(Op::Write(Width::Four, 0))
-    } else if is(word, b"A4") {
-        Some(Op::Add(0))
-    } else {
-        None
+    match word {
+        b"R1" => Some(Op::Read(Width::One)),
+        b"R2" => Some(Op::Read(Width::Two)),
+        b"R4" => Some(Op::Read(Width::Four)),
+        b"W1" => Some(Op::Write(Width::One, 0)),
+        b"W2" => Some(Op::Write(Width::Two, 0)),
+        b"W4" => Some(Op::Write(Width::Four, 0)),
+        b"A4" => Some(Op::Add(0)),
+        _ => None,
     }
 }
 
@@ -134,15 +127,11 @@ pub fn read_value(word: &[u8], op: Op) -> Option<u32>
 pub fn read_why(word: &[u8]) -> Option<Why>
     ensures { Reads (λ _. Unit {0}) why_word word.now result }
 {
-    if is(word, b"UNMAPPED") {
-        Some(Why::Unmapped)
-    } else if is(word, b"PROTECTED") {
-        Some(Why::Protected)
-    } else if is(word, b"PAGEFILEFULL") {
-        Some(Why::PageFileFull)
-    } else if is(word, b"DISKFAULT") {
-        Some(Why::DiskFault)
-    } else {
-        None
+    match word {
+        b"UNMAPPED" => Some(Why::Unmapped),
+        b"PROTECTED" => Some(Why::Protected),
+        b"PAGEFILEFULL" => Some(Why::PageFileFull),
+        b"DISKFAULT" => Some(Why::DiskFault),
+        _ => None,
     }
 }

@@ -4,7 +4,7 @@ ghost use Rattle.vm_types.specs.WellFormed.{IsCode};
 ghost use Rattle.vm_text.specs.Readings.{Reads};
 ghost use Rattle.vm_text.specs.Services.{protection_name, service_name};
 
-use crate::text::{is, push_word};
+use crate::text::push_word;
 use arrayvec::ArrayVec;
 use vm_types::Service;
 
@@ -58,37 +58,22 @@ pub fn push_service_name<const CAP: usize>(out: &mut ArrayVec<u8, CAP>, service:
 pub fn read_protection(word: &[u8]) -> Option<u8>
     ensures { Reads IsCode protection_name word.now result }
 {
-    if is(word, b"NA") {
-        Some(0)
-    } else if is(word, b"KW") {
-        Some(2)
-    } else if is(word, b"KR") {
-        Some(3)
-    } else if is(word, b"UW") {
-        Some(4)
-    } else if is(word, b"EW") {
-        Some(5)
-    } else if is(word, b"ERKW") {
-        Some(6)
-    } else if is(word, b"ER") {
-        Some(7)
-    } else if is(word, b"SW") {
-        Some(8)
-    } else if is(word, b"SREW") {
-        Some(9)
-    } else if is(word, b"SRKW") {
-        Some(10)
-    } else if is(word, b"SR") {
-        Some(11)
-    } else if is(word, b"URSW") {
-        Some(12)
-    } else if is(word, b"UREW") {
-        Some(13)
-    } else if is(word, b"URKW") {
-        Some(14)
-    } else if is(word, b"UR") {
-        Some(15)
-    } else {
-        None
+    match word {
+        b"NA" => Some(0),
+        b"KW" => Some(2),
+        b"KR" => Some(3),
+        b"UW" => Some(4),
+        b"EW" => Some(5),
+        b"ERKW" => Some(6),
+        b"ER" => Some(7),
+        b"SW" => Some(8),
+        b"SREW" => Some(9),
+        b"SRKW" => Some(10),
+        b"SR" => Some(11),
+        b"URSW" => Some(12),
+        b"UREW" => Some(13),
+        b"URKW" => Some(14),
+        b"UR" => Some(15),
+        _ => None,
     }
 }

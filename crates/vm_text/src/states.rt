@@ -3,7 +3,7 @@ ghost use Rattle.arrayvec.specs.ArrayVec.{array_vec_len};
 ghost use Rattle.vm_text.specs.Readings.{Reads};
 ghost use Rattle.vm_text.specs.States.{state_word, status_word, mark_text};
 
-use crate::text::{is, push_word};
+use crate::text::push_word;
 use arrayvec::ArrayVec;
 use vm_types::{FrameState, ProcStatus};
 
@@ -52,24 +52,16 @@ pub fn push_mark<const CAP: usize>(out: &mut ArrayVec<u8, CAP>, mark: bool)
 pub fn read_state(word: &[u8]) -> Option<FrameState>
     ensures { Reads (λ _. Unit {0}) state_word word.now result }
 {
-    if is(word, b"FREE") {
-        Some(FrameState::Free)
-    } else if is(word, b"MODIFIED") {
-        Some(FrameState::Modified)
-    } else if is(word, b"BAD") {
-        Some(FrameState::Bad)
-    } else if is(word, b"RELEASE") {
-        Some(FrameState::ReleasePending)
-    } else if is(word, b"READERROR") {
-        Some(FrameState::ReadError)
-    } else if is(word, b"WRITING") {
-        Some(FrameState::Writing)
-    } else if is(word, b"READING") {
-        Some(FrameState::Reading)
-    } else if is(word, b"ACTIVE") {
-        Some(FrameState::Active)
-    } else {
-        None
+    match word {
+        b"FREE" => Some(FrameState::Free),
+        b"MODIFIED" => Some(FrameState::Modified),
+        b"BAD" => Some(FrameState::Bad),
+        b"RELEASE" => Some(FrameState::ReleasePending),
+        b"READERROR" => Some(FrameState::ReadError),
+        b"WRITING" => Some(FrameState::Writing),
+        b"READING" => Some(FrameState::Reading),
+        b"ACTIVE" => Some(FrameState::Active),
+        _ => None,
     }
 }
 
@@ -77,15 +69,11 @@ pub fn read_state(word: &[u8]) -> Option<FrameState>
 pub fn read_status(word: &[u8]) -> Option<ProcStatus>
     ensures { Reads (λ _. Unit {0}) status_word word.now result }
 {
-    if is(word, b"RESIDENT") {
-        Some(ProcStatus::Resident)
-    } else if is(word, b"LEAVING") {
-        Some(ProcStatus::Leaving)
-    } else if is(word, b"GONE") {
-        Some(ProcStatus::Gone)
-    } else if is(word, b"COMING") {
-        Some(ProcStatus::Coming)
-    } else {
-        None
+    match word {
+        b"RESIDENT" => Some(ProcStatus::Resident),
+        b"LEAVING" => Some(ProcStatus::Leaving),
+        b"GONE" => Some(ProcStatus::Gone),
+        b"COMING" => Some(ProcStatus::Coming),
+        _ => None,
     }
 }

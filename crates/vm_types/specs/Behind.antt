@@ -1,6 +1,6 @@
 -- What the mappings of a configuration put behind a page of a process. This project's own: one file
 -- backs one section.
-use Rattle.std.specs.Prelude.{ℕ, Bool, ◌+◌, ◌-◌, ◌/◌, ◌&&◌, Option, find, nat_eq, nat_le, nat_lt}
+use Rattle.std.specs.Prelude.{ℕ, Bool, ◌+◌, ◌-◌, ◌/◌, ◌^◌, ◌<◌, ◌&&◌, Option, find, nat_eq, nat_le, nat_lt}
 use Rattle.std.specs.Option.{option_map}
 use Rattle.vm_types.specs.declared.config.Config.{Config}
 use Rattle.vm_types.specs.declared.config.Mapping.{Mapping}
@@ -14,6 +14,11 @@ page_number address = address / 512
 -- whether the mapping has the page
 abbrev pub covers : ℕ → ℕ → Mapping → Bool
 covers p v m = nat_eq (m.proc).0 p && (nat_le (page_number (m.at).0) v && nat_lt v (page_number (m.at).0 + m.pages))
+
+-- the number of the section's page so many pages on can be said
+abbrev pub FitsPages : Origin → ℕ → Type 0
+FitsPages origin.Zero pages = Unit {0}
+FitsPages (origin.Section s first) pages = first + pages < 2 ^ 32
 
 -- the origin so many pages on
 abbrev pub origin_after : Origin → ℕ → Origin

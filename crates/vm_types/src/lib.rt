@@ -3,6 +3,7 @@
 
 mod access;
 mod address;
+mod behind;
 mod config;
 mod faults;
 mod in_tables;
@@ -18,6 +19,7 @@ mod service;
 
 pub use access::allowed;
 pub use address::split;
+pub use behind::origin_after;
 pub use config::{
     Config, Fails, Mapping, Origin, Params, ProcSpec, Section, SectionKind, Task, Version,
 };

@@ -1,4 +1,4 @@
-use Rattle.std.proofs.Common.{rules, ◌≡◌, List, ℕ, codes}
+use Rattle.std.proofs.Common.{rules, ◌≡◌, codes}
 use Rattle.command_messages.proofs.Holding.{holds_behind}
 use Rattle.command_messages.proofs.line.line_fault.Goals as goal
 

@@ -1,4 +1,4 @@
-use Rattle.std.proofs.Common.{ℕ, List, ◌++◌, sym, ◌∙◌, ap, append_assoc}
+use Rattle.std.proofs.Common.{rules, ℕ, List, ◌++◌, sym, ◌∙◌, ap, append_assoc}
 use Rattle.std.specs.Prelude.{codes}
 use Rattle.std.specs.List.{flat_map}
 use Rattle.command_messages.specs.LineFaults.{option_word, said_text}
@@ -6,20 +6,24 @@ use Rattle.log_messages.specs.Shown.{shown}
 use Rattle.command_messages.specs.declared.faults.LineFault.{LineFault}
 use Rattle.command_messages.proofs.messages.add_said.Goals as goal
 
-pub returns-in-NoSuchCommand-clause-items : goal.returns-in-NoSuchCommand-clause-items
-returns-in-NoSuchCommand-clause-items c =
+pub returns-in-NoSuchCommand : goal.returns-in-NoSuchCommand
+returns-in-NoSuchCommand c =
     let before : List ℕ = c.args.out.now.items in
-    let text : List ℕ = c.args.text.now.items in
-    c.push_shown.ensures.items
-    ∙ ap (λ (bytes : List ℕ). c.push_word-in-NoSuchCommand.new.out.items ++ flat_map shown bytes) c.as_slice.ensures.value
-    ∙ ap (λ (front : List ℕ). front ++ flat_map shown text) c.push_word-in-NoSuchCommand.ensures.items
-    ∙ append_assoc before (codes "no such command: ") (flat_map shown text)
-    ∙ ap (λ (fault : LineFault). before ++ said_text fault text) (sym c.in-NoSuchCommand.is)
+    let text : List ℕ = c.args.text.now.items in (
+      c.push_shown.ensures.items
+          ∙ ap (λ (bytes : List ℕ). c.push_word-in-NoSuchCommand.new.out.items ++ flat_map shown bytes) c.as_slice.ensures.value
+          ∙ ap (λ (front : List ℕ). front ++ flat_map shown text) c.push_word-in-NoSuchCommand.ensures.items
+          ∙ append_assoc before (codes "no such command: ") (flat_map shown text)
+          ∙ ap (λ (fault : LineFault). before ++ said_text fault text) (sym c.in-NoSuchCommand.is),
+      search rules,
+    )
 
-pub returns-in-Missing-clause-items : goal.returns-in-Missing-clause-items
-returns-in-Missing-clause-items c =
-    let before : List ℕ = c.args.out.now.items in
-    c.push_word-in-Missing-2.ensures.items
-    ∙ ap (λ (front : List ℕ). front ++ codes " is missing") (c.push_word-in-Missing.ensures.items ∙ ap (λ (word : List ℕ). before ++ word) c.option_word.ensures.value)
-    ∙ append_assoc before (option_word c.in-Missing.option) (codes " is missing")
-    ∙ ap (λ (fault : LineFault). before ++ said_text fault c.args.text.now.items) (sym c.in-Missing.is)
+pub returns-in-Missing : goal.returns-in-Missing
+returns-in-Missing c =
+    let before : List ℕ = c.args.out.now.items in (
+      c.push_word-in-Missing-2.ensures.items
+          ∙ ap (λ (front : List ℕ). front ++ codes " is missing") (c.push_word-in-Missing.ensures.items ∙ ap (λ (word : List ℕ). before ++ word) c.words_of.ensures.name.0)
+          ∙ append_assoc before (option_word c.in-Missing.option) (codes " is missing")
+          ∙ ap (λ (fault : LineFault). before ++ said_text fault c.args.text.now.items) (sym c.in-Missing.is),
+      search rules,
+    )

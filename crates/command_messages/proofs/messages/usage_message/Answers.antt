@@ -10,5 +10,5 @@ returns c =
     ∙ ap (λ (front : List ℕ). front ++ usage_text)
     (c.push_word-2.ensures.items
     ∙ ap (λ (front : List ℕ). front ++ 10 ∷ [])
-    (c.add_said.ensures.items
+    (c.add_said.ensures.0
     ∙ ap (λ (front : List ℕ). front ++ said_text c.args.fault c.args.text.now.items) (c.push_word.ensures.items ∙ ap (λ (front : List ℕ). front ++ codes "neqysbar: ") c.new-out.ensures)))

@@ -6,4 +6,4 @@ use Rattle.log_pages.proofs.pages.back_coming_fails.Goals as goal
 pub returns-clause-legal : goal.returns-clause-legal
 returns-clause-legal c =
     let a = (shown c.args.pager.now).pager in
-    coming_back c.args.config.now a c.args.p.0 c.args.a.0 c.args.f.0 c.args.from (IsNone c.swapped_fails.result) c.requires (c.in_default.ensures.legal.0 refl) c.swapped_fails.ensures.legal
+    coming_back c.args.config.now a c.args.back.process.0 c.args.back.at.0 c.args.back.frame.0 c.args.back.from (IsNone c.swapped_fails.result) c.requires (c.in_default.ensures.legal.0 refl) c.swapped_fails.ensures.legal

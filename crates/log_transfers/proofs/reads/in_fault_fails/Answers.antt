@@ -6,5 +6,5 @@ use Rattle.log_transfers.proofs.reads.in_fault_fails.Goals as goal
 pub returns-in-Some-clause-legal : goal.returns-in-Some-clause-legal
 returns-in-Some-clause-legal c =
     let past = c.args.past.now in
-    fault_read past.config past.past (shown c.args.pager.now).pager c.args.seat.0 c.args.f.0 c.args.block c.args.q.0 c.args.a.0 c.in-Some.page (IsNone c.fault_page_fails.result)
+    fault_read past.config past.past (shown c.args.pager.now).pager c.args.read.seat.0 c.args.read.frame.0 c.args.read.block c.args.q.0 c.args.a.0 c.in-Some.page (IsNone c.fault_page_fails.result)
     (sym c.page_of.ensures ∙ c.in-Some.is) c.fault_page_fails.ensures.legal

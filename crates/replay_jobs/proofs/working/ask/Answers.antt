@@ -1,13 +1,12 @@
 use Rattle.std.proofs.Common.{◌∙◌, ap}
 use Rattle.vm_types.specs.declared.names.Seat.{Seat}
 use Rattle.history_lock.specs.Passes.{seen, view}
-use Rattle.vm_state.specs.Based.{base_of}
 use Rattle.replay_jobs.proofs.WorkersDone.{all_may_ask, calm_first, process_done}
 use Rattle.replay_jobs.proofs.working.ask.Goals as goal
 
 pub process_worker-requires-clause-knows : goal.process_worker-requires-clause-knows
 process_worker-requires-clause-knows g c κs within =
-    all_may_ask (base_of c.args._of.now.value) ((c.args.job.carrier.seat).0) (view c.args.job.pass) c.requires.job.fresh.views c.requires.playable _ (ap (λ (s : Seat). s.0) c.seat.ensures) c.requires.process c.deref.result.now (c.deref.ensures.value ∙ c.requires.job.asks)
+    all_may_ask c.requires.base ((c.args.job.carrier.seat).0) (view c.args.job.pass) c.requires.job.fresh.views c.requires.playable _ (ap (λ (s : Seat). s.0) c.seat.ensures) c.requires.may c.deref.result.now (c.deref.ensures.value ∙ c.requires.job.asks)
 
 pub returns : goal.returns
 returns g c = record {
@@ -16,6 +15,6 @@ returns g c = record {
   owns = c.process_worker.ensures.numbers;
   stands = c.process_worker.ensures.base;
   landed = c.process_worker.ensures.landed;
-  calm = c.process_worker.ensures.calm (λ none. calm_first (base_of c.args._of.now.value) ((c.args.job.carrier.seat).0) (view c.args.job.pass) c.requires.job.fresh.views);
-  done = λ sufficed. process_done (base_of c.args._of.now.value) ((c.args.job.carrier.seat).0) (view c.args.job.pass) c.requires.job.fresh.views (seen c.process_worker.result.pass) c.deref.result.now c.requires.process (c.deref.ensures.value ∙ c.requires.job.asks) (c.process_worker.ensures.all sufficed);
+  calm = c.process_worker.ensures.calm (λ none. calm_first c.requires.base ((c.args.job.carrier.seat).0) (view c.args.job.pass) c.requires.job.fresh.views);
+  done = λ sufficed. process_done c.requires.base ((c.args.job.carrier.seat).0) (view c.args.job.pass) c.requires.job.fresh.views (seen c.process_worker.result.pass) c.deref.result.now c.requires.may (c.deref.ensures.value ∙ c.requires.job.asks) (c.process_worker.ensures.all sufficed);
 }

@@ -1,20 +1,17 @@
-use Rattle.std.proofs.Common.{◌∙◌, ◌++◌, List, ap, map, refl}
-use Rattle.vm_state.specs.History.{History}
+use Rattle.std.proofs.Common.{◌∙◌, ◌++◌, List, ap}
 use Rattle.vm_types.specs.BlockView.{Retired}
-use Rattle.disk_trait.specs.DepotView.{given_back}
 use Rattle.pager_model.specs.Serial.{IsSerial}
 use Rattle.serial_run.proofs.RunsEnd.{reached_there}
-use Rattle.serial_run.proofs.RunsFinish.{is_finished}
+use Rattle.serial_run.proofs.RunsFinish.{finished_by}
 use Rattle.serial_run.proofs.run.run_serial.Goals as goal
 
-pub end_state-requires-after_bounds : goal.end_state-requires-after_bounds
-end_state-requires-after_bounds g c κs within = reached_there g.D.Block.Block.tells.content c.args.config c.in_ok-state.state c.in_ok-state.ensures.reached
+pub finish_run-requires-clause-there : goal.finish_run-requires-clause-there
+finish_run-requires-clause-there g c κs within = reached_there g.D.Block.Block.tells.content c.args.config c.in_ok-state.state c.in_ok-state.ensures.reached
 
 pub returns-clause-finished : goal.returns-clause-finished
-returns-clause-finished g c = (
-  map (given_back g.D.Block.Block.seen) c.finish-config.result.2.items,
-  c.in_ok-retire_blocks.ensures.ok ∙ ap (λ (xs : List Retired). xs ++ map (given_back g.D.Block.Block.seen) c.finish-config.result.2.items) c.run_to_report.ensures.retired,
-  is_finished g.D.Block.Block.seen g.D.Block.Block.tells IsSerial c.args.config c.in_ok-state.state.past c.end_state.new.state c.in_ok-ending.ending _ c.finish-config.result.2.items
-      (ap (λ (x : History). x.config) c.in_ok-ending.ensures.same ∙ c.in_ok-state.ensures.reached.same) c.in_ok-ending.ensures.ended c.in_ok-state.ensures.reached.serial
-      c.finish-config.ensures.config (c.finish-config.ensures.entries (ap (λ (x : History). x.keeps) c.in_ok-ending.ensures.same ∙ c.in_ok-state.ensures.reached.keeps)) refl refl refl c.finish-config.ensures.names c.finish-config.ensures.blocks,
-)
+returns-clause-finished g c =
+    let done = c.in_ok-finish_run.ensures.finished in (
+      done.0,
+      done.1 ∙ ap (λ (xs : List Retired). xs ++ done.0) c.run_to_report.ensures.retired,
+      finished_by g.D.Block.Block.tells IsSerial c.args.config c.in_ok-state.state.config c.in_ok-state.state.past done.0 _ c.in_ok-state.ensures.reached.same c.in_ok-state.ensures.reached.serial done.2,
+    )

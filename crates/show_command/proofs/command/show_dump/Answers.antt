@@ -3,20 +3,17 @@ use Rattle.command_ends.proofs.Wronging.{told_alone}
 use Rattle.show_command.proofs.Showing.{complete_status, not_four, read_status}
 use Rattle.show_command.proofs.command.show_dump.Goals as goal
 
-pub returns-clause-told : goal.returns-clause-told
-returns-clause-told g c = has_told (told_alone c.tell.ensures.outcome)
-
-pub returns-clause-unfailed : goal.returns-clause-unfailed
-returns-clause-unfailed g c = no_failed_write (told_alone c.tell.ensures.outcome)
-
-pub returns-clause-cut : goal.returns-clause-cut
-returns-clause-cut g c = was_cut (told_alone c.tell.ensures.outcome) not_four
-
-pub returns-clause-read_fault : goal.returns-clause-read_fault
-returns-clause-read_fault g c = read_status (told_alone c.tell.ensures.outcome)
-
-pub returns-clause-write_fault : goal.returns-clause-write_fault
-returns-clause-write_fault g c = faulty_write (told_alone c.tell.ensures.outcome) not_four
-
-pub returns-clause-complete : goal.returns-clause-complete
-returns-clause-complete g c = complete_status (told_alone c.tell.ensures.outcome)
+pub returns : goal.returns
+returns g c =
+    let alone = told_alone c.tell.ensures.outcome in
+    record {
+      outcome = c.tell.ensures.outcome;
+      told = has_told alone;
+      unfailed = no_failed_write alone;
+      cut = was_cut alone not_four;
+      read_fault = read_status alone;
+      write_fault = faulty_write alone not_four;
+      complete = complete_status alone;
+      kept = c.tell.ensures.kept;
+      faults_later = c.tell.ensures.faults_later;
+    }

@@ -13,22 +13,22 @@ is_stopped-requires-after_bounds g c κs within =
 
 pub evict-requires-after_bounds : goal.evict-requires-after_bounds
 evict-requires-after_bounds g c κs within =
-    may_evict c.args.state.now (c.args.p).0 c.args.n c.in-Some.x c.in-Some.ensures.seen c.goes_to-to.result
+    may_evict c.args.state.now ((c.args.run).p).0 (c.args.run).slot c.in-Some.x c.in-Some.ensures.seen c.goes_to-to.result
     (c.goes_to-to.ensures ∙ (ap (λ (z : Row). evicted_to z.shares z.flights z.modify) c.frame-row.ensures ∙ row_goes c.args.state.now ((c.in-Some.x).frame).0))
-    (sym c.is_stopped.ensures ∙ c.if-is_stopped.false) c.args.seat c.args.p c.requires
+    (sym c.is_stopped.ensures ∙ c.if-is_stopped.false) (c.args.run).seat (c.args.run).p c.requires
 
 pub returns-then-is_stopped : goal.returns-then-is_stopped
 returns-then-is_stopped g c =
-    waits c.args.state.now _ c.args.seat swap_modified_full _ _
-    (stops c.args.state.now (c.args.p).0 c.args.n c.in-Some.x c.in-Some.ensures.seen (sym c.is_stopped.ensures ∙ c.if-is_stopped.true)) refl
+    waits c.args.state.now _ (c.args.run).seat swap_modified_full _ _
+    (stops c.args.state.now ((c.args.run).p).0 (c.args.run).slot c.in-Some.x c.in-Some.ensures.seen (sym c.is_stopped.ensures ∙ c.if-is_stopped.true)) refl
 
 pub returns-else-is_stopped : goal.returns-else-is_stopped
 returns-else-is_stopped g c =
-    goes_on c.args.state.now _ c.args.seat _ _ _
-    (evicts c.args.state.now (c.args.p).0 c.args.n c.in-Some.x c.in-Some.ensures.seen c.goes_to-to.result
+    goes_on c.args.state.now _ (c.args.run).seat _ _ _
+    (evicts c.args.state.now ((c.args.run).p).0 (c.args.run).slot c.in-Some.x c.in-Some.ensures.seen c.goes_to-to.result
     (c.goes_to-to.ensures ∙ (ap (λ (z : Row). evicted_to z.shares z.flights z.modify) c.frame-row.ensures ∙ row_goes c.args.state.now ((c.in-Some.x).frame).0))
     (sym c.is_stopped.ensures ∙ c.if-is_stopped.false))
     c.evict.ensures
 
 pub returns-in-None : goal.returns-in-None
-returns-in-None g c = waits c.args.state.now _ c.args.seat swap_in_flight _ _ (none_seen c.args.state.now (c.args.p).0 c.args.n c.in-None.ensures.seen) refl
+returns-in-None g c = waits c.args.state.now _ (c.args.run).seat swap_in_flight _ _ (none_seen c.args.state.now ((c.args.run).p).0 (c.args.run).slot c.in-None.ensures.seen) refl

@@ -1,4 +1,5 @@
-use Rattle.std.proofs.Common.{arith}
+use Rattle.std.proofs.Common.{refl, arith}
+use Rattle.std.proofs.lemmas.List.{length-reverse}
 use Rattle.vm_journal.specs.declared.entry.What.TheVariants as what
 use Rattle.state_fits.proofs.AnswerSpoken.{served_process}
 use Rattle.vm_state.specs.History.{entry_by}
@@ -7,17 +8,17 @@ use Rattle.vm_state.proofs.ServedCloses.{left_closes}
 use Rattle.vm_state.proofs.SimpleCloses.{spoken_few}
 use Rattle.vm_state.proofs.state.State.answer_unchanged.Goals as goal
 
-pub overflow_add-spoken : goal.overflow_add-spoken
-overflow_add-spoken g c =
+pub speak-requires-clause-few : goal.speak-requires-clause-few
+speak-requires-clause-few g c =
     let may = may_before c.self.view_is c.requires.may in
     let there = served_process _ _ _ c.args.seat.0 c.args.s c.args.answer may.legal.row in
     let few = spoken_few c.self.invariant c.args.seat.0 c.index_mut-spoken.result.now there c.index_mut-spoken.ensures.value in
-    let short = c.self.invariant.short in
-    omega (arith, few, short)
+    let same = length-reverse c.self.inside.journal.entries in
+    omega (arith, few, same)
 
 pub invariant_of-self : goal.invariant_of-self
 invariant_of-self g c =
     let may = may_before c.self.view_is c.requires.may in
-    pushed _ _ (entry_by c.args.seat (what.Served c.args.s c.args.answer)) c.push.new.self c.push.ensures
-    (left_closes c.self.invariant c.args.seat c.index_mut-spoken.result.now c.index_mut-spoken.ensures.value _ (next_number _ c.len-number.result c.len-number.ensures.len)
-    c.args.s c.args.answer c.requires.unchanged may.legal may.paid)
+    rw c.speak.ensures.row (pushed _ _ (entry_by c.args.seat (what.Served c.args.s c.args.answer)) c.speak.new.journal c.speak.ensures.entry
+    (left_closes c.self.invariant c.args.seat c.index_mut-spoken.result.now c.index_mut-spoken.ensures.value _ (next_number c.self.inside.journal.entries _ refl)
+    c.args.s c.args.answer c.requires.unchanged may.legal may.paid))

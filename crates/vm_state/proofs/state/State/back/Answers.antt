@@ -1,4 +1,4 @@
-use Rattle.std.proofs.Common.{◌/◌, IsSome, sym, ap, ◌∙◌, subst}
+use Rattle.std.proofs.Common.{sym, ap, ◌∙◌}
 use Rattle.pfn_database.specs.Frames.{Frames, row_of}
 use Rattle.pfn_database.specs.declared.row.Row.{Row}
 use Rattle.vm_journal.specs.declared.entry.What.TheVariants as what
@@ -6,7 +6,6 @@ use Rattle.vm_state.specs.History.{entry_by}
 use Rattle.page_readers.specs.RingSlots.{mark_back}
 use Rattle.vm_state.proofs.BackCloses as close
 use Rattle.vm_state.proofs.Closing.{may_before, pushed}
-use Rattle.page_readers.proofs.Looked.{looked}
 use Rattle.vm_state.proofs.Numbered.{numbered}
 use Rattle.vm_state.proofs.state.State.back.Goals as goal
 
@@ -25,15 +24,11 @@ enter-requires-clause-usable g c = rw c.frames_mut.ensures.value ((close.can c.s
 pub enter-requires-clause-shares : goal.enter-requires-clause-shares
 enter-requires-clause-shares g c = rw c.frames_mut.ensures.value ((close.can c.self.invariant c.args.seat c.args.p c.args.a c.args.f c.args.from (may_before c.self.view_is c.requires).legal).enter.shares)
 
-pub unwrap-prot-requires : goal.unwrap-prot-requires
-unwrap-prot-requires g c =
-    let there = (close.can c.self.invariant c.args.seat c.args.p c.args.a c.args.f c.args.from (may_before c.self.view_is c.requires).legal).enter.mapped in
-    subst IsSome (sym (looked c.self.inside.tables c.args.p.0 (c.args.a.0 / 512) c.look-look.result c.entry_in.result c.look-look.ensures.value c.entry_in.ensures)) there
+pub make_valid-requires-clause-mapped : goal.make_valid-requires-clause-mapped
+make_valid-requires-clause-mapped g c = (close.can c.self.invariant c.args.seat c.args.p c.args.a c.args.f c.args.from (may_before c.self.view_is c.requires).legal).enter.mapped
 
-pub set-requires-clause-entry : goal.set-requires-clause-entry
-set-requires-clause-entry g c =
-    (close.can c.self.invariant c.args.seat c.args.p c.args.a c.args.f c.args.from (may_before c.self.view_is c.requires).legal).enter.entry c.unwrap-prot.result
-    (sym (looked c.self.inside.tables c.args.p.0 (c.args.a.0 / 512) c.look-look.result c.entry_in.result c.look-look.ensures.value c.entry_in.ensures) ∙ c.unwrap-prot.ensures)
+pub make_valid-requires-clause-entry : goal.make_valid-requires-clause-entry
+make_valid-requires-clause-entry g c = (close.can c.self.invariant c.args.seat c.args.p c.args.a c.args.f c.args.from (may_before c.self.view_is c.requires).legal).enter.entry
 
 pub share-requires : goal.share-requires
 share-requires g c =
@@ -53,8 +48,8 @@ invariant_of-self g c =
     (close.back_closes c.self.invariant c.args.seat c.args.p c.args.a c.args.f c.args.from may.legal c.index_mut-row.result.now c.index_mut-row.ensures.value
     c.unwrap-page.result page c.enter_ring-slot.new.row c.enter_ring-slot.result c.enter.new.frames
     (rw (← c.frames_mut.ensures.value) c.enter.ensures.free) (rw (← c.frames_mut.ensures.value) c.enter.ensures.modified)
-    c.set.new.self c.unwrap-prot.result c.set.ensures.procs c.set.ensures.changed
-    (sym (looked c.self.inside.tables c.args.p.0 (c.args.a.0 / 512) c.look-look.result c.entry_in.result c.look-look.ensures.value c.entry_in.ensures) ∙ c.unwrap-prot.ensures)
+    c.make_valid.new.tables c.make_valid.ensures.changed.0 c.make_valid.ensures.procs c.make_valid.ensures.changed.2
+    c.make_valid.ensures.changed.1
     c.enter_ring-slot.new.pages c.enter_ring-slot.new.swaps c.share.new.globals
     (c.share.ensures c.self.inside.config (rw c.deref.ensures.value (numbered c.self.invariant c.args.f.0 c.unwrap-page.result page)))
     may.paid c.enter_ring-slot.ensures c.marked_back-modify.result marked c.frame_slot-held.result c.frame_slot-held.ensures

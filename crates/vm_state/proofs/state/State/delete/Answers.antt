@@ -1,8 +1,10 @@
-use Rattle.std.proofs.Common.{◌+◌, ◌/◌, ◌∙◌, refl, sym, subst, arith}
+use Rattle.std.proofs.Common.{length, ap, ◌+◌, ◌/◌, ◌∙◌, refl, sym, subst, arith}
+use Rattle.std.proofs.lemmas.List.{length-reverse}
 use Rattle.std.specs.Prelude.{IsSome}
 use Rattle.vm_journal.specs.declared.entry.What.TheVariants as what
 use Rattle.vm_types.specs.declared.reply.Answer.TheVariants as answer
 use Rattle.vm_types.specs.declared.service.Service.TheVariants as service
+use Rattle.run_record.specs.RunRecord.{Recorded}
 use Rattle.vm_state.specs.History.{entry_by}
 use Rattle.vm_state.proofs.Closing.{may_before, next_number, pushed}
 use Rattle.vm_state.proofs.DeleteCloses as close
@@ -68,17 +70,17 @@ loop-n-preserved g c = record {
   halted = c.loop-n.invariant.halted;
 }
 
-pub overflow_add-spoken : goal.overflow_add-spoken
-overflow_add-spoken g c =
+pub speak-requires-clause-few : goal.speak-requires-clause-few
+speak-requires-clause-few g c =
     let few = close.spoken_few c.self.invariant c.args.seat c.args.at c.args.pages (may_before c.self.view_is c.requires).legal c.loop-n.n _ c.loop-n.invariant.parts c.index_mut-spoken.result.now c.index_mut-spoken.ensures.value in
-    let short = c.self.invariant.short in
-    omega (arith, few, short)
+    let same = length-reverse c.self.inside.journal.entries in
+    rw c.loop-n.invariant.journal (omega (arith, few, same))
 
 pub invariant_of-self : goal.invariant_of-self
 invariant_of-self g c =
     let may = may_before c.self.view_is c.requires in
-    pushed _ _ (entry_by c.args.seat (what.Served (service.Delete c.args.at c.args.pages) answer.Good)) c.push.new.self
-    (close.pushed_on c.self.inside.journal c.loop-n.self-inside.journal c.push.new.self _ c.loop-n.invariant.journal c.push.ensures)
+    rw c.speak.ensures.row (pushed _ _ (entry_by c.args.seat (what.Served (service.Delete c.args.at c.args.pages) answer.Good)) c.speak.new.journal
+    (close.pushed_on c.self.inside.journal c.loop-n.self-inside.journal c.speak.new.journal _ c.loop-n.invariant.journal c.speak.ensures.entry)
     (close.delete_closes c.self.invariant c.args.seat c.args.at c.args.pages may.legal may.paid c.loop-n.n (let least = c.loop-n-test.false in let most = c.loop-n.auto.n-end in omega (arith, least, most)) _ c.loop-n.invariant.parts
     _ c.loop-n.invariant.config _ c.loop-n.invariant.firsts _ _ c.loop-n.invariant.store
-    c.index_mut-spoken.result.now c.index_mut-spoken.ensures.value _ (next_number _ c.len-number.result c.len-number.ensures.len))
+    c.index_mut-spoken.result.now c.index_mut-spoken.ensures.value _ (next_number _ _ (ap (λ (j : Recorded). length j.entries) c.loop-n.invariant.journal))))

@@ -1,4 +1,5 @@
 use Rattle.std.proofs.Common.{refl, IsSome, subst, sym, ◌∙◌, ap, arith}
+use Rattle.std.proofs.lemmas.List.{length-reverse}
 use Rattle.pfn_database.specs.Frames.{Frames, row_of}
 use Rattle.pfn_database.specs.declared.row.Row.{Row}
 use Rattle.vm_state.specs.History.{entry_by}
@@ -56,24 +57,24 @@ bytes_mut-requires-after_bounds g c = λ κs outlives.
 pub apply-reply-requires-clause-well_formed : goal.apply-reply-requires-clause-well_formed
 apply-reply-requires-clause-well_formed g c = close.formed_reference c.self.invariant c.args.seat c.args.r (close.some_legal (close.answer_before c.self.view_is c.requires))
 
-pub overflow_add-spoken : goal.overflow_add-spoken
-overflow_add-spoken g c =
+pub speak-requires-clause-few : goal.speak-requires-clause-few
+speak-requires-clause-few g c =
     let few = spoken_few c.self.invariant c.args.seat.0 c.index_mut-spoken.result.now (close.process c.self.invariant c.args.seat c.args.r (close.some_legal (close.answer_before c.self.view_is c.requires))) c.index_mut-spoken.ensures.value in
-    let short = c.self.invariant.short in
-    omega (arith, few, short)
+    let same = length-reverse c.self.inside.journal.entries in
+    omega (arith, few, same)
 
 pub invariant_of-self : goal.invariant_of-self
 invariant_of-self g c =
     let may = close.answer_before c.self.view_is c.requires in
     let legal = may.legal c.apply-reply.result c.apply-reply.ensures.fits in
     let same = (close.found_is c.self.invariant c.args.seat c.args.r legal c.look-look.result c.frame_in.result c.look-look.ensures.value c.frame_in.ensures).1 c.unwrap-f.result c.unwrap-f.ensures in
-    pushed _ _ (entry_by c.args.seat (what.Done c.args.r c.apply-reply.result)) c.push.new.self c.push.ensures
+    rw c.speak.ensures.row (pushed _ _ (entry_by c.args.seat (what.Done c.args.r c.apply-reply.result)) c.speak.new.journal c.speak.ensures.entry
     (close.done_closes c.self.invariant c.args.seat c.args.r legal c.unwrap-f.result same may.paid c.index_mut-row.result.now c.index_mut-row.ensures.value c.index_mut-spoken.result.now c.index_mut-spoken.ensures.value
-    _ (next_number _ c.len-number.result c.len-number.ensures.len) c.row-kept.result (rw (← c.frames.ensures) c.row-kept.ensures.row) c.marked.result c.marked.ensures
+    _ (next_number c.self.inside.journal.entries _ refl) c.row-kept.result (rw (← c.frames.ensures) c.row-kept.ensures.row) c.marked.result c.marked.ensures
     c.mark.new.self (rw (← c.frames_mut.ensures.value) c.mark.ensures.rows) (rw (← c.frames_mut.ensures.value) c.mark.ensures.free) (rw (← c.frames_mut.ensures.value) c.mark.ensures.modified)
     c.unwrap.result c.unwrap.ensures c.touch.new.pages c.touch.ensures
     c.bytes_mut.result.now c.apply-reply.new.page c.bytes_mut.ensures.bytes c.apply-reply.ensures.bytes
-    (λ told. close.done_right c.self.invariant c.args.seat c.args.r legal c.unwrap-f.result same c.bytes_mut.result.now c.bytes_mut.ensures.bytes c.apply-reply.ensures.reply told))
+    (λ told. close.done_right c.self.invariant c.args.seat c.args.r legal c.unwrap-f.result same c.bytes_mut.result.now c.bytes_mut.ensures.bytes c.apply-reply.ensures.reply told)))
 
 pub returns-clause-right : goal.returns-clause-right
 returns-clause-right g c = λ told.

@@ -16,13 +16,16 @@ fail_read-requires-clause-reading g c = rw ((c.frames_mut.ensures.value ∙ (ap 
 pub fail_read-requires-clause-flights : goal.fail_read-requires-clause-flights
 fail_read-requires-clause-flights g c = rw ((c.frames_mut.ensures.value ∙ (ap (λ (s : StoreView g.row.B.Denot). s.frames) c.land.ensures.store)), c.frame-f.ensures) (close.one_flight c.self.invariant c.args.seat c.args.lift c.args.before c.args.after (may_before c.self.view_is c.requires.may).legal (fits_before g.B.Block.seen g.B.Block.tells c.args.lift c.self.view_is c.requires.fits))
 
-pub index_mut-requires : goal.index_mut-requires
-index_mut-requires g c =
+pub index_mut-role-requires : goal.index_mut-role-requires
+index_mut-role-requires g c =
     let less = (close.can c.self.invariant c.args.seat c.args.lift c.args.before c.args.after (may_before c.self.view_is c.requires.may).legal (fits_before g.B.Block.seen g.B.Block.tells c.args.lift c.self.view_is c.requires.fits)).roles in
     omega (arith, less, c.frame-f.ensures, c.self.inside.roles.ok.0)
 
-pub overflow_sub-busy : goal.overflow_sub-busy
-overflow_sub-busy g c = let some = (close.can c.self.invariant c.args.seat c.args.lift c.args.before c.args.after (may_before c.self.view_is c.requires.may).legal (fits_before g.B.Block.seen g.B.Block.tells c.args.lift c.self.view_is c.requires.fits)).busy c.index_mut-busy.result.now c.index_mut-busy.ensures.value in omega (arith, some)
+pub end_transfer-requires-clause-seat : goal.end_transfer-requires-clause-seat
+end_transfer-requires-clause-seat g c = (close.can c.self.invariant c.args.seat c.args.lift c.args.before c.args.after (may_before c.self.view_is c.requires.may).legal (fits_before g.B.Block.seen g.B.Block.tells c.args.lift c.self.view_is c.requires.fits)).busy c.index_mut.result.now c.index_mut.ensures.value
+
+pub end_transfer-requires-clause-all : goal.end_transfer-requires-clause-all
+end_transfer-requires-clause-all g c = (close.can c.self.invariant c.args.seat c.args.lift c.args.before c.args.after (may_before c.self.view_is c.requires.may).legal (fits_before g.B.Block.seen g.B.Block.tells c.args.lift c.self.view_is c.requires.fits)).in_flight
 
 pub land-requires-clause-frame : goal.land-requires-clause-frame
 land-requires-clause-frame g c κs within = close.frame_there c.self.invariant c.args.seat c.args.lift c.args.before c.args.after (may_before c.self.view_is c.requires.may).legal (fits_before g.B.Block.seen g.B.Block.tells c.args.lift c.self.view_is c.requires.fits)
@@ -36,9 +39,9 @@ land-requires-clause-block g c κs within = close.block_out c.self.invariant c.a
 pub invariant_of-self : goal.invariant_of-self
 invariant_of-self g c =
     let may = may_before c.self.view_is c.requires.may in
-    pushed _ _ (entry_by c.args.seat (what.InFail c.frame-f.result c.start-k.result c.args.before c.args.after)) c.push.new.self c.push.ensures
+    rw (c.end_transfer.ensures.role, c.end_transfer.ensures.seat, c.end_transfer.ensures.all) (pushed _ _ (entry_by c.args.seat (what.InFail c.frame-f.result c.start-k.result c.args.before c.args.after)) c.push.new.self c.push.ensures
     (close.in_fail_closes c.self.invariant c.args.seat c.args.lift c.args.before c.args.after (may_before c.self.view_is c.requires.may).legal (fits_before g.B.Block.seen g.B.Block.tells c.args.lift c.self.view_is c.requires.fits) c.fail_read.new.frames
     (rw (← (c.frames_mut.ensures.value ∙ (ap (λ (s : StoreView g.row.B.Denot). s.frames) c.land.ensures.store))) c.fail_read.ensures.free) (rw (← (c.frames_mut.ensures.value ∙ (ap (λ (s : StoreView g.row.B.Denot). s.frames) c.land.ensures.store))) c.fail_read.ensures.modified) (record c.land.new.self { frames = c.fail_read.new.frames }) (ap (λ (s : StoreView g.row.B.Denot). record s { frames = c.fail_read.new.frames }) c.land.ensures.store)
-    c.index_mut-busy.result.now c.index_mut-busy.ensures.value refl
-    c.frame-f.result c.start-k.result (Some c.id.result) c.frame-f.ensures c.start-k.ensures (ap Some c.id.ensures) c.requires.bad c.land.ensures.size may.paid
-    (rw (← (c.frames_mut.ensures.value ∙ (ap (λ (s : StoreView g.row.B.Denot). s.frames) c.land.ensures.store))) c.fail_read.ensures.rows))
+    c.index_mut.result.now c.index_mut.ensures.value refl
+    c.frame-f.result c.start-k.result (Some c.id.result) c.frame-f.ensures c.start-k.ensures (ap Some c.id.ensures) c.requires.ended c.land.ensures.size may.paid
+    (rw (← (c.frames_mut.ensures.value ∙ (ap (λ (s : StoreView g.row.B.Denot). s.frames) c.land.ensures.store))) c.fail_read.ensures.rows)))

@@ -1,9 +1,11 @@
-use Rattle.std.proofs.Common.{◌∙◌, ap, refl, sym, arith}
+use Rattle.std.proofs.Common.{length, ◌∙◌, ap, refl, sym, arith}
+use Rattle.std.proofs.lemmas.List.{length-reverse}
 use Rattle.std.specs.Option.{option_map}
 use Rattle.vm_journal.specs.declared.entry.What.TheVariants as what
 use Rattle.vm_types.specs.declared.reply.Answer.TheVariants as answer
 use Rattle.page_readers.specs.Shown.{frame_number}
 use Rattle.state_fits.specs.Serving.{pin_service}
+use Rattle.run_record.specs.RunRecord.{Recorded}
 use Rattle.vm_state.specs.History.{entry_by}
 use Rattle.vm_state.proofs.Closing.{may_before, next_number, pushed}
 use Rattle.vm_state.proofs.DeleteCloses.{frames_in}
@@ -103,18 +105,18 @@ loop-slot-preserved g c =
           })
     ]
 
-pub overflow_add-spoken : goal.overflow_add-spoken
-overflow_add-spoken g c =
+pub speak-requires-clause-few : goal.speak-requires-clause-few
+speak-requires-clause-few g c =
     let few = close.spoken_few c.self.invariant c.args.seat c.args.pin c.args.at c.args.pages c.args.count (may_before c.self.view_is c.requires).legal c.loop-slot.slot _ c.loop-slot.invariant.parts c.index_mut-spoken.result.now c.index_mut-spoken.ensures.value in
-    let short = c.self.invariant.short in
-    omega (arith, few, short)
+    let same = length-reverse c.self.inside.journal.entries in
+    rw c.loop-slot.invariant.journal (omega (arith, few, same))
 
 pub invariant_of-self : goal.invariant_of-self
 invariant_of-self g c =
     let may = may_before c.self.view_is c.requires in
-    pushed _ _ (entry_by c.args.seat (what.Served (pin_service c.args.pin c.args.at c.args.pages) (answer.Count c.args.count))) c.push.new.self
-    (close.pushed_as c.self.inside.journal c.loop-slot.self-inside.journal c.push.new.self c.args.seat c.pin_service.result _ _ c.pin_service.ensures c.loop-slot.invariant.journal c.push.ensures)
+    rw c.speak.ensures.row (pushed _ _ (entry_by c.args.seat (what.Served (pin_service c.args.pin c.args.at c.args.pages) (answer.Count c.args.count))) c.speak.new.journal
+    (close.pushed_as c.self.inside.journal c.loop-slot.self-inside.journal c.speak.new.journal c.args.seat c.pin_service-s.result _ _ c.pin_service-s.ensures c.loop-slot.invariant.journal c.speak.ensures.entry)
     (close.pin_closes c.self.invariant c.args.seat c.args.pin c.args.at c.args.pages c.args.count may.legal may.paid c.loop-slot.slot
     (let least = c.loop-slot-test.false in let most = c.loop-slot.auto.slot-end in let many = c.slots-slots.ensures.value in let are = close.slots_are c.self.invariant c.args.seat c.args.pin c.args.at c.args.pages c.args.count may.legal c.index.result.now c.index.ensures in omega (arith, least, most, many, are)) _ c.loop-slot.invariant.parts
     _ c.loop-slot.invariant.config _ c.loop-slot.invariant.firsts _ _ c.loop-slot.invariant.store
-    c.index_mut-spoken.result.now c.index_mut-spoken.ensures.value _ (next_number _ c.len-number.result c.len-number.ensures.len))
+    c.index_mut-spoken.result.now c.index_mut-spoken.ensures.value _ (next_number _ _ (ap (λ (j : Recorded). length j.entries) c.loop-slot.invariant.journal))))

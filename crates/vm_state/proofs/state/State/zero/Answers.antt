@@ -1,7 +1,6 @@
-use Rattle.std.proofs.Common.{◌/◌, refl, IsSome, subst, sym, ◌∙◌, arith}
+use Rattle.std.proofs.Common.{refl, IsSome, subst, sym, arith}
 use Rattle.vm_state.specs.History.{entry_by}
 use Rattle.vm_state.proofs.Closing.{may_before, pushed}
-use Rattle.page_readers.proofs.Looked.{looked}
 use Rattle.vm_state.proofs.SimpleCloses.{faults_few}
 use Rattle.vm_state.proofs.ZeroCloses as close
 use Rattle.vm_journal.specs.declared.entry.What.TheVariants as what
@@ -35,15 +34,11 @@ enter-requires-clause-shares g c = rw c.frames_mut.ensures.value (close.few_shar
 pub zero-requires-after_bounds : goal.zero-requires-after_bounds
 zero-requires-after_bounds g c = λ κs outlives. close.buffer_there c.self.invariant c.args.seat c.args.a c.args.f (may_before c.self.view_is c.requires).legal
 
-pub unwrap-prot-requires : goal.unwrap-prot-requires
-unwrap-prot-requires g c =
-    let there = close.entry_there c.self.invariant c.args.seat c.args.a c.args.f (may_before c.self.view_is c.requires).legal in
-    subst IsSome (sym (looked c.self.inside.tables c.args.seat.0 (c.args.a.0 / 512) c.look-look.result c.entry_in.result c.look-look.ensures.value c.entry_in.ensures ∙ there.1)) refl
+pub make_valid-requires-clause-mapped : goal.make_valid-requires-clause-mapped
+make_valid-requires-clause-mapped g c = subst IsSome (sym (close.entry_there c.self.invariant c.args.seat c.args.a c.args.f (may_before c.self.view_is c.requires).legal).1) refl
 
-pub set-requires-clause-entry : goal.set-requires-clause-entry
-set-requires-clause-entry g c =
-    close.entry_good c.self.invariant c.args.seat c.args.a c.args.f (may_before c.self.view_is c.requires).legal c.unwrap-prot.result
-    (sym (looked c.self.inside.tables c.args.seat.0 (c.args.a.0 / 512) c.look-look.result c.entry_in.result c.look-look.ensures.value c.entry_in.ensures) ∙ c.unwrap-prot.ensures)
+pub make_valid-requires-clause-entry : goal.make_valid-requires-clause-entry
+make_valid-requires-clause-entry g c = close.entry_good c.self.invariant c.args.seat c.args.a c.args.f (may_before c.self.view_is c.requires).legal
 
 pub hold-requires : goal.hold-requires
 hold-requires g c =
@@ -61,8 +56,8 @@ share-requires g c =
       close.may_share c.self.invariant c.args.seat c.args.a c.args.f (may_before c.self.view_is c.requires).legal c.unwrap-page.result is c.hold.new.globals (c.hold.ensures c.self.inside.config (rw c.deref.ensures.value (close.numbered c.self.invariant c.args.seat c.args.a c.args.f (may_before c.self.view_is c.requires).legal c.unwrap-page.result is))),
     )
 
-pub set-requires-2 : goal.set-requires-2
-set-requires-2 g c = close.has_place c.self.invariant c.args.seat c.args.a c.args.f (may_before c.self.view_is c.requires).legal c.unwrap-page.result (close.page_is c.self.invariant c.args.seat c.args.a c.args.f (may_before c.self.view_is c.requires).legal c.mapped_page.result c.mapped_page.ensures c.unwrap-page.result c.unwrap-page.ensures)
+pub set-requires : goal.set-requires
+set-requires g c = close.has_place c.self.invariant c.args.seat c.args.a c.args.f (may_before c.self.view_is c.requires).legal c.unwrap-page.result (close.page_is c.self.invariant c.args.seat c.args.a c.args.f (may_before c.self.view_is c.requires).legal c.mapped_page.result c.mapped_page.ensures c.unwrap-page.result c.unwrap-page.ensures)
 
 pub invariant_of-self : goal.invariant_of-self
 invariant_of-self g c =
@@ -74,10 +69,10 @@ invariant_of-self g c =
     c.unwrap-page.result is c.frame_slot-held.result c.frame_slot-held.ensures
     (rw (← c.frames_mut.ensures.value) c.enter.ensures.rows) (rw (← c.frames_mut.ensures.value) c.enter.ensures.free) (rw (← c.frames_mut.ensures.value) c.enter.ensures.modified)
     c.zero.new.self c.zero.ensures
-    c.set.new.self c.unwrap-prot.result c.set.ensures.procs c.set.ensures.changed
-    (sym (looked c.self.inside.tables c.args.seat.0 (c.args.a.0 / 512) c.look-look.result c.entry_in.result c.look-look.ensures.value c.entry_in.ensures) ∙ c.unwrap-prot.ensures)
+    c.make_valid.new.tables c.make_valid.ensures.changed.0 c.make_valid.ensures.procs c.make_valid.ensures.changed.2
+    c.make_valid.ensures.changed.1
     c.hold.new.globals c.share.new.globals
     (c.hold.ensures c.self.inside.config (rw c.deref.ensures.value (close.numbered c.self.invariant c.args.seat c.args.a c.args.f (may_before c.self.view_is c.requires).legal c.unwrap-page.result is)))
     (c.share.ensures c.self.inside.config (rw c.deref-2.ensures.value (close.numbered c.self.invariant c.args.seat c.args.a c.args.f (may_before c.self.view_is c.requires).legal c.unwrap-page.result is)))
-    c.set-2.new.self c.set-2.ensures
+    c.set.new.self c.set.ensures
     c.charge.new.self (close.went_well c.charge.result c.charge.ensures.full (close.room c.self.invariant c.args.seat c.args.a c.args.f may.legal) c.charge.ensures.ok))

@@ -1,7 +1,0 @@
-use Rattle.std.proofs.Common.{IsNone, refl}
-use Rattle.log_transfers.proofs.Arrivals.{in_fail}
-use Rattle.log_transfers.proofs.landings.in_fail_fails.Goals as goal
-
-pub returns-clause-legal : goal.returns-clause-legal
-returns-clause-legal c =
-    in_fail c.args.past.now.past c.args.seat.0 c.args.f.0 c.args.k c.args.c c.args.d (IsNone c.counted_fails.result) c.counted_fails.ensures.legal (c.in_default.ensures.legal.0 refl)
