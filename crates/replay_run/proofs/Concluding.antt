@@ -29,8 +29,8 @@ use Rattle.vm_actors.proofs.Answering.{silent_ask}
 use Rattle.vm_actors.proofs.Foreign.{IsForeign, all_foreign}
 use Rattle.vm_actors.proofs.OthersLanded.{stays_landed}
 use Rattle.vm_actors.proofs.Onto.{onto, onto_reverse}
-use Rattle.replay_jobs.specs.Jobs.{IsIdleDone, IsPlayable}
-use Rattle.replay_threads.specs.Workers.{WasDone}
+use Rattle.replay_run.specs.Jobs.{IsIdleDone, IsPlayable}
+use Rattle.replay_run.specs.Workers.{WasDone}
 use Rattle.replay_run.specs.Worked.{HasWorkedAt, is_by}
 use Rattle.replay_run.proofs.AnswerCounts.{no_more_answers, one_if}
 use Rattle.replay_run.proofs.SeatBounds.{IsBelow, none_open, seats_below}

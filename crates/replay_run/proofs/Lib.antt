@@ -1,5 +1,11 @@
-pub mod WholeRun
-pub mod SeatBounds
 pub mod AnswerCounts
 pub mod Concluding
+pub mod Handing
+pub mod JobKinds
+pub mod Joining
+pub mod Making
 pub mod Played
+pub mod SeatBounds
+pub mod TaskRequests
+pub mod WholeRun
+pub mod WorkersDone

@@ -19,8 +19,8 @@ use Rattle.vm_state.specs.declared.base.StateBase.{StateBase}
 use Rattle.vm_actors.specs.Between.{IsCalm}
 use Rattle.vm_actors.specs.declared.ended.Ended.{Ended}
 use Rattle.vm_actors.proofs.StillOut.{past_of}
-use Rattle.replay_jobs.specs.Jobs.{IsPlayable}
-use Rattle.replay_threads.specs.Workers.{AreEnded, WasDone}
+use Rattle.replay_run.specs.Jobs.{IsPlayable}
+use Rattle.replay_run.specs.Workers.{AreEnded, WasDone}
 use Rattle.replay_run.specs.Replayed.{HasPlayed}
 use Rattle.replay_run.specs.Worked.{HasWorkedAt}
 use Rattle.replay_run.proofs.Concluding.{all_answered, is_between, swapper_worked, writer_worked}

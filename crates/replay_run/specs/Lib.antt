@@ -1,2 +1,4 @@
-pub mod Worked
+pub mod Jobs
 pub mod Replayed
+pub mod Worked
+pub mod Workers

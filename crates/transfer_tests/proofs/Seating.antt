@@ -19,7 +19,7 @@ use Rattle.vm_state.specs.declared.base.StateBase.{StateBase}
 use Rattle.call_begins.specs.MayBegin.{empty}
 use Rattle.vm_actors.specs.Between.{NoneOpen}
 use Rattle.vm_actors.specs.Doings.{Knows, MayAsk}
-use Rattle.replay_jobs.specs.Jobs.{IsFresh, IsPlayable}
+use Rattle.replay_run.specs.Jobs.{IsFresh, IsPlayable}
 use Rattle.transfer_tests.specs.Desks.{IsSeated}
 
 -- a pass that stands on such a base knows it

@@ -1,13 +1,13 @@
 //! Seats at the lock round a state that has no entries.
 ghost use Rattle.std.specs.Prelude.{◌≡◌, ℕ, ◌+◌, ◌<◌, ◌^◌, [], ◌∷◌, ◌++◌, IfOk, Some, length, slice_get};
-ghost use Rattle.replay_jobs.specs.Jobs.{IsFresh, IsPlayable};
+ghost use Rattle.replay_run.specs.Jobs.{IsFresh, IsPlayable};
 ghost use Rattle.transfer_tests.specs.Desks.{IsSeated};
 ghost use Rattle.vm_actors.specs.Doings.{MayAsk};
 ghost use Rattle.vm_state.specs.Based.{base_of};
 
 use disk_trait::Block;
 use history_lock::{HistoryLock, Pass};
-use replay_jobs::take_last;
+use replay_run::take_last;
 use seat_turns::Spoken;
 use std::alloc::Global;
 use std::snapshot::Snapshot;

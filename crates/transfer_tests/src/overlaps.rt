@@ -1,7 +1,7 @@
 //! Transfers that are under way beside each other: a call of a block waits until a call of another block
 //! has begun, and fails if it waits in vain.
 ghost use Rattle.std.specs.Prelude.{◌≡◌, ◌⊎◌, [], All, IfOk, length};
-ghost use Rattle.replay_jobs.specs.Jobs.{IsPlayable};
+ghost use Rattle.replay_run.specs.Jobs.{IsPlayable};
 ghost use Rattle.transfer_tests.specs.Desks.{IsSeated};
 ghost use Rattle.vm_actors.specs.Doings.{MayAsk};
 ghost use Rattle.vm_state.specs.Based.{base_of};
@@ -11,7 +11,7 @@ use crate::desks::{Desk, ask, entries, last_desk, swap, write};
 use crate::meeting::{Begun, MeetingBlock, MeetingDepot, Side};
 use crate::traces::{config_of, task_at};
 use history_lock::HistoryLock;
-use replay_jobs::take_last;
+use replay_run::take_last;
 use replay_run::run_threads;
 use run_blocks::make_blocks;
 use seat_turns::Spoken;

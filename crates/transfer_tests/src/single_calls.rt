@@ -1,7 +1,7 @@
 //! One call of each kind at the lock: of a state that was halted it makes no entry, and answers that there is
 //! no memory.
 ghost use Rattle.std.specs.Prelude.{◌≡◌, [], All, length};
-ghost use Rattle.replay_jobs.specs.Jobs.{IsPlayable};
+ghost use Rattle.replay_run.specs.Jobs.{IsPlayable};
 ghost use Rattle.vm_state.specs.Based.{base_of};
 ghost use Rattle.vm_types.specs.Configuration.{IsTask};
 

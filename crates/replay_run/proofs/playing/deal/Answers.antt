@@ -2,7 +2,7 @@ use Rattle.std.proofs.Common.{◌∙◌, ℕ, [], ◌∷◌, ap, subst, sym}
 use Rattle.history_lock.specs.Views.{unseen}
 use Rattle.vm_state.specs.Based.{base_of}
 use Rattle.vm_state.specs.History.{History}
-use Rattle.replay_jobs.specs.Jobs.{AreJobs, IsPlayable}
+use Rattle.replay_run.specs.Jobs.{AreJobs, IsPlayable}
 use Rattle.replay_run.proofs.playing.deal.Goals as goal
 
 pub make_jobs-requires-clause-fresh : goal.make_jobs-requires-clause-fresh

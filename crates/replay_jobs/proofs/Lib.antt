@@ -1,4 +1,0 @@
-pub mod WorkersDone
-pub mod TaskRequests
-pub mod Making
-pub mod JobKinds
