@@ -1,3 +1,5 @@
-pub mod SeatFlights
+pub mod CarriedOn
 pub mod HaveLanded
+pub mod Moved
 pub mod Outside
+pub mod SeatFlights

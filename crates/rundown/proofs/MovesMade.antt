@@ -9,7 +9,7 @@ use Rattle.serial_laws.specs.Between.{IsBetween}
 use Rattle.call_begins.specs.MayBegin.{empty}
 use Rattle.lift_carriers.specs.CarrierView.{CarrierView}
 use Rattle.vm_state.specs.History.{History, pager}
-use Rattle.serial_steps.specs.Moved.{IsSameBut, MovesTo}
+use Rattle.carried_landings.specs.Moved.{IsSameBut, MovesTo}
 use Rattle.rundown.specs.Cleans.{CanClean, Cleans, move_at, writer_seat}
 use Rattle.rundown.specs.Places.{IsThere}
 use Rattle.rundown.specs.declared.places.Place.{Place}

@@ -29,8 +29,8 @@ use Rattle.lift_carriers.specs.CarrierView.{CarrierView}
 use Rattle.vm_state.specs.History.{History, MayAdd, added, entry_by, pager}
 use Rattle.vm_swapper.specs.SeenSlots.{IsPlaced, seen_as}
 use Rattle.vm_swapper.specs.declared.seen.Seen.{Seen}
-use Rattle.serial_steps.specs.Moved.{IsMoved}
-use Rattle.serial_steps.proofs.Moving.{makes_move}
+use Rattle.carried_landings.specs.Moved.{IsMoved}
+use Rattle.carried_landings.proofs.Moving.{makes_move}
 use Rattle.rundown.specs.Cleans.{CanClean, HasWritten, move_at, writer_seat}
 use Rattle.rundown.specs.Places.{IsThere, place_as}
 use Rattle.rundown.specs.declared.places.Place.{Place}

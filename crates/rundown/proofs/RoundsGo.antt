@@ -6,7 +6,7 @@ use Rattle.pager_model.specs.Moves.{Control as ControlIs, Move, cleaning, contro
 use Rattle.pager_model.specs.Rundown.{is_shared_listed, next_round, round_move, rounds_move, written_for_need}
 use Rattle.call_begins.proofs.Branches.{if_false, if_true}
 use Rattle.vm_state.specs.History.{History, pager}
-use Rattle.serial_steps.specs.Moved.{IsMoved, IsResting}
+use Rattle.carried_landings.specs.Moved.{IsMoved, IsResting}
 use Rattle.rundown.specs.Cleans.{HasWritten}
 
 abbrev pub in_round : ℕ → ℕ → ControlIs

@@ -16,8 +16,8 @@ use Rattle.serial_laws.proofs.Rundowns.{cleaning_fits}
 use Rattle.call_begins.specs.MayBegin.{empty}
 use Rattle.lift_carriers.specs.CarrierView.{CarrierView}
 use Rattle.vm_state.specs.History.{History}
-use Rattle.serial_steps.specs.Moved.{IsMoved, IsResting, IsSameBut}
-use Rattle.serial_steps.proofs.Moving.{same_then}
+use Rattle.carried_landings.specs.Moved.{IsMoved, IsResting, IsSameBut}
+use Rattle.carried_landings.proofs.Moving.{same_then}
 use Rattle.rundown.specs.Cleans.{writer_seat}
 use Rattle.rundown.proofs.Fronts.{IsFront, front_then, move_front, no_front}
 use Rattle.rundown.proofs.MovesMade.{spare_only}

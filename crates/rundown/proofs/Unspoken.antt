@@ -23,7 +23,7 @@ use Rattle.pager_model.specs.Rundown.{Place as PlaceIs, at_slot, clean_move, cle
 use Rattle.pager_model.specs.Serial.{GoesOn, Heard, IsMade}
 use Rattle.pager_model.specs.Spoken.{request_of}
 use Rattle.pager_model.specs.WriteCluster.{BeginIs, begin_carry, begin_gives, begin_nothing, reason_need}
-use Rattle.serial_steps.proofs.Shapes.{AreStarts, BeginShape, IsStart, begin_shape}
+use Rattle.carried_landings.proofs.Shapes.{AreStarts, BeginShape, IsStart, begin_shape}
 
 -- an entry that answers no request
 abbrev pub IsUnspoken : What → Type 0

@@ -22,12 +22,12 @@ use Rattle.modified_writer.specs.Begins.{Begins}
 use Rattle.modified_writer.specs.declared.begun.Begin.{Begin}
 use Rattle.lift_carriers.specs.CarrierView.{CarrierView}
 use Rattle.vm_state.specs.History.{History, owed, pager}
-use Rattle.serial_steps.specs.CarriedOn.{IsLoaded}
-use Rattle.serial_steps.specs.Moved.{IsMoved, IsSameBut, IsSteady}
-use Rattle.serial_steps.proofs.CarriersLand.{goes_there}
-use Rattle.serial_steps.proofs.Entries.{starts_mute}
-use Rattle.serial_steps.proofs.Moving.{carries_move, loaded}
-use Rattle.serial_steps.proofs.WrittenClusters.{begin_starts, begun_lifts}
+use Rattle.carried_landings.specs.CarriedOn.{IsLoaded}
+use Rattle.carried_landings.specs.Moved.{IsMoved, IsSameBut, IsSteady}
+use Rattle.carried_landings.proofs.CarriersLand.{goes_there}
+use Rattle.carried_landings.proofs.Entries.{starts_mute}
+use Rattle.carried_landings.proofs.Moving.{carries_move, loaded}
+use Rattle.carried_landings.proofs.WrittenClusters.{begin_starts, begun_lifts}
 use Rattle.rundown.specs.Cleans.{HasLanded, HasWritten, writer_seat}
 
 -- ---- between two moves nothing is owed, and the writer's seat may begin

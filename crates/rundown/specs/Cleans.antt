@@ -8,8 +8,8 @@ use Rattle.pager_model.specs.Rundown.{Place as PlaceIs, clean_move, writer_of, w
 use Rattle.call_begins.specs.MayBegin.{empty}
 use Rattle.lift_carriers.specs.CarrierView.{CarrierView}
 use Rattle.vm_state.specs.History.{History, pager}
-use Rattle.serial_steps.specs.CarriedOn.{IsCarriedOn}
-use Rattle.serial_steps.specs.Moved.{IsMoved, IsSteady}
+use Rattle.carried_landings.specs.CarriedOn.{IsCarriedOn}
+use Rattle.carried_landings.specs.Moved.{IsMoved, IsSteady}
 
 -- the modified page writer's seat
 abbrev pub writer_seat : History → Seat

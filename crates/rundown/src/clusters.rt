@@ -2,8 +2,8 @@ ghost use Rattle.std.specs.Prelude.{◌≡◌, length};
 ghost use Rattle.pager_model.specs.Rundown.{written_for_need};
 ghost use Rattle.vm_state.specs.History.{pager};
 ghost use Rattle.call_begins.specs.MayBegin.{empty};
-ghost use Rattle.serial_steps.specs.CarriedOn.{IsLoaded};
-ghost use Rattle.serial_steps.specs.Moved.{IsSteady};
+ghost use Rattle.carried_landings.specs.CarriedOn.{IsLoaded};
+ghost use Rattle.carried_landings.specs.Moved.{IsSteady};
 ghost use Rattle.rundown.specs.Cleans.{HasLanded, HasWritten, writer_seat};
 
 use crate::seats::writer;

@@ -7,7 +7,7 @@ ghost use Rattle.pager_model.specs.Rundown.{cleaning_move, later_move};
 ghost use Rattle.vm_state.specs.History.{pager};
 ghost use Rattle.call_begins.specs.MayBegin.{empty};
 ghost use Rattle.serial_laws.specs.Between.{IsBetween};
-ghost use Rattle.serial_steps.specs.Moved.{IsSameBut, MovesTo};
+ghost use Rattle.carried_landings.specs.Moved.{IsSameBut, MovesTo};
 ghost use Rattle.rundown.specs.Cleanings.{control_at};
 ghost use Rattle.rundown.specs.Cleans.{CanClean};
 ghost use Rattle.rundown.specs.Places.{IsThere, place_as};
@@ -17,7 +17,7 @@ use crate::evictions::clean_at;
 use crate::places::{Place, shared_place};
 use crate::rounds::{ROUNDS, write_rounds};
 use disk_trait::Block;
-use serial_steps::prepare;
+use carried_landings::prepare;
 use vm_state::{Carrier, State};
 use vm_types::{NoMemory, Proc};
 

@@ -5,7 +5,7 @@ ghost use Rattle.pager_model.specs.Moves.{cleaning, control};
 ghost use Rattle.pager_model.specs.Rundown.{round_move, rounds_move};
 ghost use Rattle.vm_state.specs.History.{pager};
 ghost use Rattle.call_begins.specs.MayBegin.{empty};
-ghost use Rattle.serial_steps.specs.Moved.{IsMoved, IsSteady, MovesTo};
+ghost use Rattle.carried_landings.specs.Moved.{IsMoved, IsSteady, MovesTo};
 ghost use Rattle.rundown.specs.Cleanings.{control_at};
 ghost use Rattle.rundown.specs.Cleans.{writer_seat};
 

@@ -7,7 +7,7 @@ ghost use Rattle.pager_model.specs.Text.{dirty_pages};
 ghost use Rattle.vm_state.specs.History.{pager};
 ghost use Rattle.call_begins.specs.MayBegin.{empty};
 ghost use Rattle.serial_laws.specs.Between.{IsBetween};
-ghost use Rattle.serial_steps.specs.Moved.{IsSameBut};
+ghost use Rattle.carried_landings.specs.Moved.{IsSameBut};
 ghost use Rattle.rundown.specs.Cleans.{writer_seat};
 
 use crate::cleaning::Cleaning;

@@ -22,8 +22,8 @@ use Rattle.call_begins.specs.MayBegin.{MayBegin}
 use Rattle.call_begins.specs.ReadySeat.{IsIdleSeat}
 use Rattle.carried_landings.specs.SeatFlights.{flight_place}
 use Rattle.carried_landings.proofs.SeatLandings.{none_by, others_idle}
-use Rattle.serial_steps.proofs.Entries.{each_past, each_same}
-use Rattle.serial_steps.proofs.Shapes.{AreQuiet, EndsIn, IsQuiet, IsServedOnce}
+use Rattle.carried_landings.proofs.Entries.{each_past, each_same}
+use Rattle.carried_landings.proofs.Shapes.{AreQuiet, EndsIn, IsQuiet, IsServedOnce}
 use Rattle.seat_laws.specs.FreeSeat.{IsFreeSeat}
 
 -- ---- a seat without open transfers

@@ -18,8 +18,8 @@ use Rattle.call_laws.specs.Laws.{VictimIsTurned}
 use Rattle.call_begins.proofs.Steps.{paid_after}
 use Rattle.modified_writer.specs.Begins.{Begins}
 use Rattle.modified_writer.specs.declared.begun.Begin.{Begin}
-use Rattle.serial_steps.proofs.Shapes.{AreStarts, ServeShape, SwapShape, leave_shape, serve_shape}
-use Rattle.serial_steps.proofs.WrittenClusters.{begin_starts, begun_lifts}
+use Rattle.carried_landings.proofs.Shapes.{AreStarts, ServeShape, SwapShape, leave_shape, serve_shape}
+use Rattle.carried_landings.proofs.WrittenClusters.{begin_starts, begun_lifts}
 use Rattle.vm_services.specs.Serves.{Serves}
 use Rattle.vm_services.specs.declared.next.ServeNext.{ServeNext}
 use Rattle.lift_carriers.specs.CarrierView.{CarrierView}

@@ -15,8 +15,8 @@ use Rattle.vm_state.specs.LiftsLand.{added_each}
 use Rattle.call_begins.specs.Lifted.{HasLifts, place_of, places_in}
 use Rattle.carried_landings.specs.SeatFlights.{flight_place}
 use Rattle.carried_landings.proofs.BegunFlights.{carrier_made}
-use Rattle.serial_steps.proofs.Entries.{starts_calm, starts_land_none}
-use Rattle.serial_steps.proofs.Shapes.{AreStarts}
+use Rattle.carried_landings.proofs.Entries.{starts_calm, starts_land_none}
+use Rattle.carried_landings.proofs.Shapes.{AreStarts}
 use Rattle.seat_laws.specs.FreeSeat.{IsFreeSeat}
 use Rattle.seat_laws.proofs.FreeSeats.{AreStill, nothing_mapped, past_is, same_is, still_made}
 use Rattle.seat_schedules.specs.AtWork.{HasWorked, IsAtWork, IsFor, idle}

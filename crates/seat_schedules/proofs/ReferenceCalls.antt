@@ -18,9 +18,9 @@ use Rattle.fault_core.specs.Lifted.{IsCarrying}
 use Rattle.fault_core.specs.declared.next.AgainWhy.{AgainWhy}
 use Rattle.fault_core.specs.declared.next.Next.{Next}
 use Rattle.fault_core.specs.declared.next.Next.TheVariants.{Again, Answered, Carry, More, Room}
-use Rattle.serial_steps.proofs.Entries.{each_past, starts_mute}
-use Rattle.serial_steps.proofs.Mute.{mute_same}
-use Rattle.serial_steps.proofs.Shapes.{AreStarts, NextShape, advance_shape}
+use Rattle.carried_landings.proofs.Entries.{each_past, starts_mute}
+use Rattle.carried_landings.proofs.Mute.{mute_same}
+use Rattle.carried_landings.proofs.Shapes.{AreStarts, NextShape, advance_shape}
 use Rattle.seat_laws.specs.FreeSeat.{IsFreeSeat}
 use Rattle.seat_schedules.specs.AtWork.{HasWorked, idle}
 use Rattle.seat_laws.specs.Lost.{IsReadFor}

@@ -11,7 +11,7 @@ use Rattle.pager_model.specs.Landings.{carrier_of}
 use Rattle.pager_rules.proofs.Basics.{nat_eq_refl}
 use Rattle.carried_landings.proofs.Reversed.{nothing_reversed}
 use Rattle.serial_laws.proofs.Carriers.{BeginsWith, IsBegun, begun_made, carries_all, is_beginning, own_entry}
-use Rattle.serial_steps.proofs.Shapes.{AreStarts, IsStart}
+use Rattle.carried_landings.proofs.Shapes.{AreStarts, IsStart}
 use Rattle.seat_turns.specs.Begun.{CarriesFor, IsNoFault}
 use Rattle.seat_turns.proofs.NoFaults.{BeginNoFaults}
 

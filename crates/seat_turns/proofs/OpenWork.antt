@@ -36,8 +36,8 @@ use Rattle.vm_swapper.specs.Victims.{process_number}
 use Rattle.vm_swapper.specs.declared.swap.Swap.{Swap}
 use Rattle.vm_swapper.specs.declared.swap.Swap.TheVariants.{Again, Carry, More, Room, Settled}
 use Rattle.vm_swapper.specs.declared.swap.SwapWhy.{SwapWhy}
-use Rattle.serial_steps.proofs.Shapes.{AreQuiet, AreStarts, BeginShape, SwapShape, begin_shape}
-use Rattle.serial_steps.proofs.WrittenClusters.{begin_starts, begun_lifts}
+use Rattle.carried_landings.proofs.Shapes.{AreQuiet, AreStarts, BeginShape, SwapShape, begin_shape}
+use Rattle.carried_landings.proofs.WrittenClusters.{begin_starts, begun_lifts}
 use Rattle.seat_laws.specs.FreeSeat.{IsFreeSeat}
 use Rattle.seat_laws.proofs.FreeSeats.{none_are_still, not_busy, quiet_are_still}
 use Rattle.seat_turns.specs.Begun.{CarriesFor, IsBegunFor, IsNoFault}

@@ -24,9 +24,9 @@ use Rattle.fault_core.specs.declared.next.Next.TheVariants.{Again, Answered, Car
 use Rattle.vm_services.specs.Serves.{Serves, last_answer, returned as served_as}
 use Rattle.vm_services.specs.declared.next.ServeNext.TheVariants as serve_next
 use Rattle.vm_services.specs.declared.next.ServeWhy.{ServeWhy}
-use Rattle.serial_steps.proofs.Entries.{starts_mute}
-use Rattle.serial_steps.proofs.Mute.{mute_same}
-use Rattle.serial_steps.proofs.Shapes.{AreQuiet, AreStarts, EndsIn, IsServedOnce, NextShape, ServeShape, advance_shape, serve_shape}
+use Rattle.carried_landings.proofs.Entries.{starts_mute}
+use Rattle.carried_landings.proofs.Mute.{mute_same}
+use Rattle.carried_landings.proofs.Shapes.{AreQuiet, AreStarts, EndsIn, IsServedOnce, NextShape, ServeShape, advance_shape, serve_shape}
 use Rattle.seat_laws.specs.FreeSeat.{IsFreeSeat}
 use Rattle.seat_laws.specs.Lost.{IsReadFor}
 use Rattle.seat_laws.proofs.FreeSeats.{AreStill, ended_are_still, not_busy, past_is, quiet_are_still, served_are_still, shown_are_still}

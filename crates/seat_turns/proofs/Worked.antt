@@ -18,8 +18,8 @@ use Rattle.carried_landings.specs.Outside.{AllWait, AreOut}
 use Rattle.carried_landings.specs.SeatFlights.{flight_place}
 use Rattle.carried_landings.proofs.BegunFlights.{carrier_made}
 use Rattle.carried_landings.proofs.CarriedOut.{begun_out, begun_wait}
-use Rattle.serial_steps.proofs.Entries.{starts_calm, starts_land_none}
-use Rattle.serial_steps.proofs.Shapes.{AreStarts}
+use Rattle.carried_landings.proofs.Entries.{starts_calm, starts_land_none}
+use Rattle.carried_landings.proofs.Shapes.{AreStarts}
 use Rattle.seat_laws.specs.FreeSeat.{IsFreeSeat}
 use Rattle.seat_laws.proofs.FreeSeats.{AreStill, not_busy, nothing_mapped, past_is, same_is, still_made}
 use Rattle.seat_turns.specs.Begun.{CarriesFor, IsNoFault}

@@ -22,12 +22,12 @@ use Rattle.modified_writer.specs.declared.begun.Begin.TheVariants.{Carry, Nothin
 use Rattle.lift_carriers.specs.CarrierView.{CarrierView}
 use Rattle.vm_state.specs.History.{History, owed, pager}
 use Rattle.vm_state.specs.LiftsLand.{added_each}
-use Rattle.serial_steps.specs.CarriedOn.{IsCarriedOn, IsLoaded, MayRefuse, after_saving}
-use Rattle.serial_steps.specs.Moved.{IsMoveHere, IsMoved, IsResting, IsSteady}
-use Rattle.serial_steps.proofs.Entries.{starts_mute}
-use Rattle.serial_steps.proofs.Moving.{carries_move, loaded, may_refuse}
-use Rattle.serial_steps.proofs.Shapes.{BeginShape, begin_shape}
-use Rattle.serial_steps.proofs.WrittenClusters.{begin_starts, begun_lifts}
+use Rattle.carried_landings.specs.CarriedOn.{IsCarriedOn, IsLoaded, MayRefuse, after_saving}
+use Rattle.carried_landings.specs.Moved.{IsMoveHere, IsMoved, IsResting, IsSteady}
+use Rattle.carried_landings.proofs.Entries.{starts_mute}
+use Rattle.carried_landings.proofs.Moving.{carries_move, loaded, may_refuse}
+use Rattle.carried_landings.proofs.Shapes.{BeginShape, begin_shape}
+use Rattle.carried_landings.proofs.WrittenClusters.{begin_starts, begun_lifts}
 use Rattle.serial_moves.specs.Controls.{ComesTo, Moves, number_of}
 use Rattle.serial_moves.specs.declared.control.AfterAnswer.{AfterAnswer}
 use Rattle.serial_moves.specs.declared.control.Control.{Control}

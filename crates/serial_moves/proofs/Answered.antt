@@ -10,7 +10,7 @@ use Rattle.pager_model.specs.Flat.{flat_reply}
 use Rattle.pager_model.specs.Given.{by_seat, made_by, with_reply}
 use Rattle.pager_model.specs.Spoken.{IsRight, flat_after}
 use Rattle.fault_core.specs.Gives.{last_reply}
-use Rattle.serial_steps.proofs.Shapes.{EndsIn}
+use Rattle.carried_landings.proofs.Shapes.{EndsIn}
 
 module _ (config : Config) (p : ℕ) (r : Ref) (shown : Reply) where
   -- the reply that is shown is the flat machine's

@@ -12,11 +12,11 @@ use Rattle.vm_swapper.specs.declared.swap.SwapWhy.TheVariants.{InFlight, Modifie
 use Rattle.lift_carriers.specs.CarrierView.{CarrierView}
 use Rattle.vm_state.specs.History.{History, pager}
 use Rattle.vm_state.specs.LiftsLand.{added_each}
-use Rattle.serial_steps.specs.CarriedOn.{IsCarriedOn, IsLoaded, MayRefuse}
-use Rattle.serial_steps.specs.Moved.{IsMoveHere, IsMoved, IsResting, IsSteady}
-use Rattle.serial_steps.proofs.Entries.{quiet_mute, starts_mute}
-use Rattle.serial_steps.proofs.Moving.{carries_move, loaded, makes_move, may_refuse}
-use Rattle.serial_steps.proofs.Shapes.{AreQuiet, SwapShape, come_shape}
+use Rattle.carried_landings.specs.CarriedOn.{IsCarriedOn, IsLoaded, MayRefuse}
+use Rattle.carried_landings.specs.Moved.{IsMoveHere, IsMoved, IsResting, IsSteady}
+use Rattle.carried_landings.proofs.Entries.{quiet_mute, starts_mute}
+use Rattle.carried_landings.proofs.Moving.{carries_move, loaded, makes_move, may_refuse}
+use Rattle.carried_landings.proofs.Shapes.{AreQuiet, SwapShape, come_shape}
 use Rattle.serial_moves.specs.Requests.{come_move, finding_for}
 use Rattle.serial_moves.proofs.LeftProcesses.{carry_is, full_is, in_flight_is, more_is, no_frame_is, settled_is}
 use Rattle.serial_moves.proofs.SteadySeats.{rests_there, unchanged}

@@ -21,8 +21,8 @@ use Rattle.call_begins.proofs.Steps.{paid_after}
 use Rattle.serial_laws.proofs.Finds.{found_in_range}
 use Rattle.serial_laws.proofs.Kept.{turns_legal}
 use Rattle.vm_state.specs.History.{History, MayAdd, added, entry_by, pager}
-use Rattle.serial_steps.specs.Moved.{IsMoveHere, IsMoved, IsSteady}
-use Rattle.serial_steps.proofs.Moving.{makes_move}
+use Rattle.carried_landings.specs.Moved.{IsMoveHere, IsMoved, IsSteady}
+use Rattle.carried_landings.proofs.Moving.{makes_move}
 use Rattle.serial_moves.specs.Controls.{number_of}
 use Rattle.serial_moves.specs.Finders.{finding_by, found_move, is_other_leaving}
 use Rattle.serial_moves.specs.declared.finding.Finder.{Finder}

@@ -18,9 +18,9 @@ use Rattle.carried_landings.specs.declared.carrier_landed.CarrierLanded.{Carrier
 use Rattle.serial_laws.specs.Laws.{IsRefusedLegally}
 use Rattle.lift_carriers.specs.CarrierView.{CarrierView}
 use Rattle.vm_state.specs.History.{History}
-use Rattle.serial_steps.specs.CarriedOn.{IsCarriedOn, IsLoaded, IsRefusedThere, MayRefuse}
-use Rattle.serial_steps.specs.Moved.{IsSameBut}
-use Rattle.serial_steps.proofs.CarriersLand.{all_of_part, all_of_request, first_too, goes_there, legal_there, not_all, not_first, refused_on}
+use Rattle.carried_landings.specs.CarriedOn.{IsCarriedOn, IsLoaded, IsRefusedThere, MayRefuse}
+use Rattle.carried_landings.specs.Moved.{IsSameBut}
+use Rattle.carried_landings.proofs.CarriersLand.{all_of_part, all_of_request, first_too, goes_there, legal_there, not_all, not_first, refused_on}
 use Rattle.serial_moves.specs.Controls.{control_in, ends_in}
 use Rattle.serial_moves.specs.declared.control.Control.{Control}
 

@@ -13,11 +13,11 @@ use Rattle.vm_swapper.specs.declared.swap.SwapWhy.TheVariants.{InFlight, Modifie
 use Rattle.serial_laws.specs.Between.{IsBetween}
 use Rattle.lift_carriers.specs.CarrierView.{CarrierView}
 use Rattle.vm_state.specs.History.{History, pager}
-use Rattle.serial_steps.specs.CarriedOn.{IsCarriedOn, IsLoaded, MayRefuse}
-use Rattle.serial_steps.specs.Moved.{IsMoveHere, IsMoved, IsResting}
-use Rattle.serial_steps.proofs.Entries.{quiet_mute, starts_mute}
-use Rattle.serial_steps.proofs.Moving.{carries_move, loaded, makes_move, may_refuse}
-use Rattle.serial_steps.proofs.Shapes.{SwapShape, leave_shape}
+use Rattle.carried_landings.specs.CarriedOn.{IsCarriedOn, IsLoaded, MayRefuse}
+use Rattle.carried_landings.specs.Moved.{IsMoveHere, IsMoved, IsResting}
+use Rattle.carried_landings.proofs.Entries.{quiet_mute, starts_mute}
+use Rattle.carried_landings.proofs.Moving.{carries_move, loaded, makes_move, may_refuse}
+use Rattle.carried_landings.proofs.Shapes.{SwapShape, leave_shape}
 use Rattle.serial_moves.proofs.SteadySeats.{here_there, moved_there, rests_there, unchanged}
 
 -- the answer of the model that a returned one stands for

@@ -8,7 +8,7 @@ use Rattle.pager_model.specs.Policy.{asking_move, move_of}
 use Rattle.serial_laws.specs.Between.{IsBetween}
 use Rattle.serial_laws.specs.Controlled.{IsAnsweredProcess, IsControlled, IsInBody, IsLeft}
 use Rattle.vm_state.specs.History.{History, pager}
-use Rattle.serial_steps.specs.Moved.{IsMoveHere, IsSameBut, IsSteady, MovesTo}
+use Rattle.carried_landings.specs.Moved.{IsMoveHere, IsSameBut, IsSteady, MovesTo}
 use Rattle.serial_moves.specs.Controls.{ComesTo, IsOver, Moves, control_in, doing_in, number_of}
 use Rattle.serial_moves.specs.declared.control.AfterAnswer.{AfterAnswer}
 use Rattle.serial_moves.specs.declared.control.Control.{Control}

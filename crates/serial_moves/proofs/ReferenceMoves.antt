@@ -22,12 +22,12 @@ use Rattle.fault_core.specs.declared.next.Next.TheVariants.{Again, Answered, Car
 use Rattle.lift_carriers.specs.CarrierView.{CarrierView}
 use Rattle.vm_state.specs.History.{History, pager}
 use Rattle.vm_state.specs.LiftsLand.{added_each}
-use Rattle.serial_steps.specs.CarriedOn.{IsCarriedOn, IsLoaded, MayRefuse}
-use Rattle.serial_steps.specs.Moved.{IsMoveHere, IsMoved, IsResting, IsSteady}
-use Rattle.serial_steps.proofs.Entries.{quiet_mute, starts_mute}
-use Rattle.serial_steps.proofs.Moving.{carries_move, loaded, makes_move, may_refuse, past_is, same_is}
-use Rattle.serial_steps.proofs.Mute.{IsMute, mute_same}
-use Rattle.serial_steps.proofs.Shapes.{AreStarts, EndsIn, NextShape, advance_shape}
+use Rattle.carried_landings.specs.CarriedOn.{IsCarriedOn, IsLoaded, MayRefuse}
+use Rattle.carried_landings.specs.Moved.{IsMoveHere, IsMoved, IsResting, IsSteady}
+use Rattle.carried_landings.proofs.Entries.{quiet_mute, starts_mute}
+use Rattle.carried_landings.proofs.Moving.{carries_move, loaded, makes_move, may_refuse, past_is, same_is}
+use Rattle.carried_landings.proofs.Mute.{IsMute, mute_same}
+use Rattle.carried_landings.proofs.Shapes.{AreStarts, EndsIn, NextShape, advance_shape}
 use Rattle.serial_moves.specs.Requests.{finding_for}
 use Rattle.serial_moves.proofs.Answered.{ends_right}
 use Rattle.serial_moves.proofs.SteadySeats.{rests_there, unchanged}

@@ -24,9 +24,9 @@ use Rattle.pager_model.specs.Step.{IsLegal}
 use Rattle.call_begins.proofs.Steps.{paid_after}
 use Rattle.serial_laws.specs.Laws.{IsRefusedLegally}
 use Rattle.vm_state.specs.History.{History, MayAdd, added, entry_by, owed, pager}
-use Rattle.serial_steps.specs.CarriedOn.{IsRefusedThere}
-use Rattle.serial_steps.specs.Moved.{IsSameBut}
-use Rattle.serial_steps.proofs.Moving.{same_then}
+use Rattle.carried_landings.specs.CarriedOn.{IsRefusedThere}
+use Rattle.carried_landings.specs.Moved.{IsSameBut}
+use Rattle.carried_landings.proofs.Moving.{same_then}
 
 -- ---- the refusal, by the kind of the request
 pub refuses_reference : (task : Task) (r : Ref) → task.request ≡ request.Reference r → refusal_of task ≡ what.Denied r why.DiskFault

@@ -15,10 +15,10 @@ use Rattle.vm_services.specs.declared.next.ServeWhy.{ServeWhy}
 use Rattle.vm_services.specs.declared.next.ServeWhy.TheVariants.{InFlight, ModifiedFull, NotResident}
 use Rattle.vm_state.specs.History.{History, pager}
 use Rattle.vm_state.specs.LiftsLand.{added_each}
-use Rattle.serial_steps.specs.Moved.{IsMoved, IsResting}
-use Rattle.serial_steps.proofs.Entries.{quiet_mute, served_mute}
-use Rattle.serial_steps.proofs.Moving.{makes_move}
-use Rattle.serial_steps.proofs.Shapes.{ServeShape, serve_shape}
+use Rattle.carried_landings.specs.Moved.{IsMoved, IsResting}
+use Rattle.carried_landings.proofs.Entries.{quiet_mute, served_mute}
+use Rattle.carried_landings.proofs.Moving.{makes_move}
+use Rattle.carried_landings.proofs.Shapes.{ServeShape, serve_shape}
 use Rattle.serial_moves.proofs.SteadySeats.{rests_there, unchanged}
 
 -- ---- the answer of the model that a returned one stands for

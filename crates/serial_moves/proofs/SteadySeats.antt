@@ -10,7 +10,7 @@ use Rattle.call_begins.specs.MayBegin.{MayBegin}
 use Rattle.call_begins.specs.ReadySeat.{IsIdleSeat}
 use Rattle.vm_state.specs.History.{History, owed}
 use Rattle.vm_state.specs.LiftsLand.{added_each}
-use Rattle.serial_steps.specs.Moved.{IsMoveHere, IsMoved, IsResting, IsSameBut, IsSteady}
+use Rattle.carried_landings.specs.Moved.{IsMoveHere, IsMoved, IsResting, IsSameBut, IsSteady}
 use Rattle.lift_carriers.specs.CarrierView.{CarrierView}
 use Rattle.serial_moves.specs.Carriers.{MayMove}
 use Rattle.serial_moves.specs.Controls.{Moves}

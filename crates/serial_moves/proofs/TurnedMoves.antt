@@ -8,8 +8,8 @@ use Rattle.pager_model.specs.Moves.{Control as ControlIs, Move, makes}
 use Rattle.call_begins.proofs.Steps.{paid_after}
 use Rattle.serial_laws.proofs.Kept.{turns_legal}
 use Rattle.vm_state.specs.History.{History, MayAdd, added, entry_by}
-use Rattle.serial_steps.specs.Moved.{IsMoveHere, IsMoved, IsSteady}
-use Rattle.serial_steps.proofs.Moving.{makes_move}
+use Rattle.carried_landings.specs.Moved.{IsMoveHere, IsMoved, IsSteady}
+use Rattle.carried_landings.proofs.Moving.{makes_move}
 use Rattle.serial_moves.proofs.SteadySeats.{nothing_due}
 
 module _ (s : History) (seat : Seat) (q : Proc) (turns : ProcStatus) (m : Move) (next : ControlIs) (is : m ≡ makes seat.0 (what.Turn q turns ∷ []) next) where

@@ -5,7 +5,7 @@ use Rattle.vm_types.specs.declared.names.Seat.{Seat}
 use Rattle.call_begins.specs.MayBegin.{empty}
 use Rattle.lift_carriers.specs.CarrierView.{CarrierView}
 use Rattle.vm_state.specs.History.{History}
-use Rattle.serial_steps.specs.Moved.{IsSteady}
+use Rattle.carried_landings.specs.Moved.{IsSteady}
 
 -- by seat, each without lifts
 pub record AreIdle {B : Type 0} (s : History) (carriers : List (CarrierView B)) : Type 0 where

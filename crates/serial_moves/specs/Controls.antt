@@ -5,7 +5,7 @@ use Rattle.vm_types.specs.declared.names.Proc.{Proc}
 use Rattle.pager_model.specs.Moves.{Control as ControlIs, Doing as DoingIs, Move, asking, control, freeing, saving}
 use Rattle.pager_model.specs.Policy.{Ends as EndsIs, asking_move, ends_part, ends_request}
 use Rattle.serial_laws.specs.Controlled.{IsLeft}
-use Rattle.serial_steps.specs.Moved.{MovesTo}
+use Rattle.carried_landings.specs.Moved.{MovesTo}
 use Rattle.vm_state.specs.History.{History, pager}
 use Rattle.serial_moves.specs.declared.control.Control.{Control}
 use Rattle.serial_moves.specs.declared.control.Doing.{Doing}

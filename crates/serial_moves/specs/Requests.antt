@@ -14,7 +14,7 @@ use Rattle.vm_state.specs.History.{History, pager}
 use Rattle.lift_carriers.specs.CarrierView.{CarrierView}
 use Rattle.serial_laws.specs.Controlled.{IsLeft}
 use Rattle.serial_moves.specs.Carriers.{MayMove}
-use Rattle.serial_steps.specs.Moved.{IsMoveHere}
+use Rattle.carried_landings.specs.Moved.{IsMoveHere}
 
 -- the process comes back
 abbrev pub come_move : History → ℕ → Move

@@ -7,7 +7,7 @@ ghost use Rattle.serial_laws.specs.Controlled.{IsLeft};
 ghost use Rattle.serial_moves.specs.Carriers.{AreIdle, MayFollow};
 ghost use Rattle.serial_moves.specs.Controls.{ComesTo, Moves, number_of};
 ghost use Rattle.serial_moves.specs.Finders.{IsFinder, found_move};
-ghost use Rattle.serial_steps.specs.Moved.{IsMoveHere, IsSteady};
+ghost use Rattle.carried_landings.specs.Moved.{IsMoveHere, IsSteady};
 
 use crate::carrying::carry_on;
 use crate::control::{AfterAnswer, Control, Doing, Step};

@@ -7,7 +7,7 @@ ghost use Rattle.vm_state.specs.History.{pager};
 ghost use Rattle.serial_moves.specs.Carriers.{MayMove};
 ghost use Rattle.serial_moves.specs.Controls.{Moves, doing_in, ends_in, number_of};
 ghost use Rattle.serial_moves.specs.Finders.{IsFinder, finding_by, found_move, is_other_leaving};
-ghost use Rattle.serial_steps.specs.Moved.{IsMoveHere};
+ghost use Rattle.carried_landings.specs.Moved.{IsMoveHere};
 
 use crate::carrying::write_for_room;
 use crate::control::{Control, Doing, Step};

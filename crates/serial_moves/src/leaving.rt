@@ -4,7 +4,7 @@ ghost use Rattle.pager_model.specs.Policy.{leave_move};
 ghost use Rattle.vm_state.specs.History.{pager};
 ghost use Rattle.serial_moves.specs.Carriers.{MayMove};
 ghost use Rattle.serial_moves.specs.Controls.{Moves, doing_in, ends_in};
-ghost use Rattle.serial_steps.specs.Moved.{IsMoveHere};
+ghost use Rattle.carried_landings.specs.Moved.{IsMoveHere};
 
 use crate::carrying::{carry_on, write_for_room};
 use crate::control::{Control, Doing, Step};

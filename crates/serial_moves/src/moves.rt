@@ -4,12 +4,12 @@ ghost use Rattle.serial_laws.specs.Between.{IsBetween};
 ghost use Rattle.serial_laws.specs.Controlled.{IsControlled};
 ghost use Rattle.serial_moves.specs.Carriers.{AreIdle};
 ghost use Rattle.serial_moves.specs.Controls.{ComesTo, Moves, control_in};
-ghost use Rattle.serial_steps.specs.Moved.{IsSteady};
+ghost use Rattle.carried_landings.specs.Moved.{IsSteady};
 
 use crate::answers::{ask_next, free, save};
 use crate::control::{AfterAnswer, Control, Doing};
 use disk_trait::Block;
-use serial_steps::prepare;
+use carried_landings::prepare;
 use vm_state::{Carrier, State};
 use vm_types::NoMemory;
 

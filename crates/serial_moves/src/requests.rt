@@ -9,7 +9,7 @@ ghost use Rattle.pager_model.specs.Policy.{coming_process, gone_move};
 ghost use Rattle.vm_state.specs.History.{pager};
 ghost use Rattle.serial_moves.specs.Carriers.{MayMove};
 ghost use Rattle.serial_moves.specs.Controls.{Moves, number_of};
-ghost use Rattle.serial_steps.specs.Moved.{IsMoveHere, IsSteady};
+ghost use Rattle.carried_landings.specs.Moved.{IsMoveHere, IsSteady};
 ghost use Rattle.serial_moves.specs.Requests.{IsRare, IsResidentReference, MayAsk, asked_for, come_move, finding_for, resident_for};
 
 use crate::carrying::{ASKING, answered, carry_on, carry_reads, write_for_room};

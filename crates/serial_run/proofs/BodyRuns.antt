@@ -13,8 +13,8 @@ use Rattle.serial_laws.specs.Controlled.{IsControlled, IsInBody}
 use Rattle.serial_laws.proofs.Kept.{moves_between, moves_fit, moves_longer, rests_last}
 use Rattle.lift_carriers.specs.CarrierView.{CarrierView}
 use Rattle.vm_state.specs.History.{History}
-use Rattle.serial_steps.specs.Moved.{IsMoved, IsResting, IsSameBut}
-use Rattle.serial_steps.proofs.Moving.{same_then}
+use Rattle.carried_landings.specs.Moved.{IsMoved, IsResting, IsSameBut}
+use Rattle.carried_landings.proofs.Moving.{same_then}
 use Rattle.serial_moves.specs.Carriers.{AreIdle}
 use Rattle.serial_moves.specs.Controls.{doing_in}
 use Rattle.serial_moves.specs.declared.control.Doing.{Doing}

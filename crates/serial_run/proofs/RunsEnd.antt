@@ -15,7 +15,7 @@ use Rattle.report_lines.specs.Printable.{IsPrintable}
 use Rattle.policy_ends.proofs.CleanRuns.{no_failure_no_dirt}
 use Rattle.policy_ends.proofs.DirtyRuns.{dirty_because}
 use Rattle.serial_laws.specs.Between.{IsBetween}
-use Rattle.serial_steps.specs.Moved.{IsSameBut}
+use Rattle.carried_landings.specs.Moved.{IsSameBut}
 use Rattle.vm_state.specs.History.{History}
 use Rattle.serial_run.specs.AtReport.{IsAtReport, IsReached}
 use Rattle.serial_run.specs.Ended.{HasEnded}

@@ -3,7 +3,7 @@ ghost use Rattle.vm_types.specs.Configuration.{IsWellFormed};
 ghost use Rattle.pager_model.specs.Serial.{IsSerial};
 ghost use Rattle.pager_model.specs.Spoken.{IsRight};
 ghost use Rattle.serial_laws.specs.Between.{IsBetween};
-ghost use Rattle.serial_steps.specs.Moved.{IsSameBut};
+ghost use Rattle.carried_landings.specs.Moved.{IsSameBut};
 ghost use Rattle.serial_moves.specs.Carriers.{AreIdle};
 
 use disk_trait::Block;

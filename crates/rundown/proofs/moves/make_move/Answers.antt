@@ -4,7 +4,7 @@ use Rattle.pager_model.specs.Cleaning.{evicting, rounds}
 use Rattle.pager_model.specs.Rundown.{cleaning_move}
 use Rattle.call_begins.specs.MayBegin.{empty}
 use Rattle.vm_state.specs.History.{History, pager}
-use Rattle.serial_steps.proofs.Moving.{same_then}
+use Rattle.carried_landings.proofs.Moving.{same_then}
 use Rattle.rundown.specs.Cleanings.{cleaning_in, control_at}
 use Rattle.rundown.specs.declared.cleaning.Cleaning.{Cleaning}
 use Rattle.rundown.proofs.MovesMade.{can_clean, moves_as, moves_from, moves_same, spare_only}

@@ -1,7 +1,7 @@
 use Rattle.std.proofs.Common.{◌∙◌, Option, arith, subst}
 use Rattle.std.specs.Option.{option_map}
 use Rattle.pager_model.specs.Policy.{move_of}
-use Rattle.serial_steps.specs.Moved.{MovesTo}
+use Rattle.carried_landings.specs.Moved.{MovesTo}
 use Rattle.rundown.specs.Cleanings.{cleaning_in, control_at}
 use Rattle.rundown.specs.declared.cleaning.Cleaning.{Cleaning}
 use Rattle.rundown.proofs.RunningDown.{down_answered, down_between, down_carrier, further_down, further_longer, is_over, none_yet, over_down, still_down}

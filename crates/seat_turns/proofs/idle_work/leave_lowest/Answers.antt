@@ -2,7 +2,7 @@ use Rattle.std.proofs.Common.{None, refl, ◌∙◌, sym, subst}
 use Rattle.pager_model.specs.Swap.{leave_gives}
 use Rattle.vm_state.specs.History.{pager}
 use Rattle.vm_swapper.specs.declared.swap.Swap.TheVariants.{Carry, More, Settled}
-use Rattle.serial_steps.proofs.Shapes.{leave_shape}
+use Rattle.carried_landings.proofs.Shapes.{leave_shape}
 use Rattle.seat_laws.proofs.FreeSeats.{may_begin}
 use Rattle.seat_turns.specs.Steps.{HasTurned}
 use Rattle.seat_turns.specs.declared.turned.Turned.{Turned}

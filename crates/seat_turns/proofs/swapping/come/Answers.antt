@@ -1,7 +1,7 @@
 use Rattle.pager_model.specs.Swap.{come_gives}
 use Rattle.vm_state.specs.History.{pager}
 use Rattle.vm_swapper.specs.declared.swap.Swap.TheVariants.{Carry, More, Settled}
-use Rattle.serial_steps.proofs.Shapes.{come_shape}
+use Rattle.carried_landings.proofs.Shapes.{come_shape}
 use Rattle.seat_laws.proofs.FreeSeats.{may_begin}
 use Rattle.seat_turns.proofs.NoFaults.{come_no_faults}
 use Rattle.seat_turns.proofs.OpenWork.{empty_at, free_at, same_swapped, starts_again, swap_none_tried, swap_tried, tried_after}

@@ -1,9 +1,9 @@
 use Rattle.std.proofs.lemmas.Result.{IfOk-weaker}
 use Rattle.pager_model.specs.Policy.{unless_all_failed, writing_move}
 use Rattle.vm_state.specs.History.{pager}
-use Rattle.serial_steps.specs.CarriedOn.{IsCarriedOn}
-use Rattle.serial_steps.specs.Moved.{IsMoved}
-use Rattle.serial_steps.proofs.WrittenClusters.{write_loaded, write_may, write_moved}
+use Rattle.carried_landings.specs.CarriedOn.{IsCarriedOn}
+use Rattle.carried_landings.specs.Moved.{IsMoved}
+use Rattle.carried_landings.proofs.WrittenClusters.{write_loaded, write_may, write_moved}
 use Rattle.serial_moves.specs.Controls.{control_in, ends_in}
 use Rattle.serial_moves.specs.declared.control.Control.{Control}
 use Rattle.serial_moves.proofs.SteadySeats.{has_room, may_begin}

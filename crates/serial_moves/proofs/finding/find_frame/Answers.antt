@@ -2,7 +2,7 @@ use Rattle.std.proofs.Common.{sym, subst}
 use Rattle.vm_types.specs.declared.names.ProcStatus.TheVariants as status
 use Rattle.pager_model.specs.Moves.{while_leaving}
 use Rattle.vm_state.specs.History.{pager}
-use Rattle.serial_steps.specs.Moved.{IsMoved}
+use Rattle.carried_landings.specs.Moved.{IsMoved}
 use Rattle.serial_moves.specs.Controls.{control_in, doing_in, ends_in}
 use Rattle.serial_moves.specs.Finders.{IsFinder, finding_by}
 use Rattle.serial_moves.specs.declared.finding.Finder.{Finder}

@@ -14,10 +14,10 @@ use Rattle.carried_landings.specs.HaveLanded.{HaveLanded}
 use Rattle.carried_landings.specs.declared.carrier_landed.CarrierLanded.{CarrierLanded}
 use Rattle.serial_laws.specs.Laws.{IsRefusedLegally}
 use Rattle.vm_state.specs.History.{History}
-use Rattle.serial_steps.specs.CarriedOn.{IsCarriedOn, IsRefusedThere, MayRefuse}
-use Rattle.serial_steps.specs.Moved.{IsSameBut}
-use Rattle.serial_steps.proofs.Moving.{same_then}
-use Rattle.serial_steps.proofs.Mute.{landed_right}
+use Rattle.carried_landings.specs.CarriedOn.{IsCarriedOn, IsRefusedThere, MayRefuse}
+use Rattle.carried_landings.specs.Moved.{IsSameBut}
+use Rattle.carried_landings.proofs.Moving.{same_then}
+use Rattle.carried_landings.proofs.Mute.{landed_right}
 
 module _ (s t : History) (seat : Seat) (answer : CarrierLanded) (landed : HaveLanded s.config seat.0 s.past t.past answer) (same : IsSameBut s t) where
   abbrev there : List Entry

@@ -1,6 +1,6 @@
 ghost use Rattle.std.specs.Prelude.{◌≡◌, ◌<◌, ◌≤◌, [], false, OnOk, OnErr};
 ghost use Rattle.pager_model.specs.Flights.{awaits_reuse, open_flights};
-ghost use Rattle.serial_steps.specs.Moved.{IsSameBut};
+ghost use Rattle.carried_landings.specs.Moved.{IsSameBut};
 
 use disk_trait::Block;
 use vm_state::State;

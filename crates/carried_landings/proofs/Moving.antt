@@ -21,11 +21,11 @@ use Rattle.serial_laws.proofs.LegalRefusals.{refusal_legal}
 use Rattle.lift_carriers.specs.CarrierView.{CarrierView}
 use Rattle.vm_state.specs.History.{History, added, entry_by}
 use Rattle.vm_state.specs.LiftsLand.{added_each}
-use Rattle.serial_steps.specs.CarriedOn.{IsCarriedOn, IsLoaded, MayRefuse}
-use Rattle.serial_steps.specs.Moved.{IsMoveHere, IsMoved, IsSameBut}
-use Rattle.serial_steps.proofs.Entries.{each_past, each_same, starts_calm, starts_land_none}
-use Rattle.serial_steps.proofs.Mute.{IsMute, mute_same, mute_shows}
-use Rattle.serial_steps.proofs.Shapes.{AreStarts}
+use Rattle.carried_landings.specs.CarriedOn.{IsCarriedOn, IsLoaded, MayRefuse}
+use Rattle.carried_landings.specs.Moved.{IsMoveHere, IsMoved, IsSameBut}
+use Rattle.carried_landings.proofs.Entries.{each_past, each_same, starts_calm, starts_land_none}
+use Rattle.carried_landings.proofs.Mute.{IsMute, mute_same, mute_shows}
+use Rattle.carried_landings.proofs.Shapes.{AreStarts}
 
 -- right values stay right behind entries that show none
 each_right : (seat : Seat) (ws : List What) (s : History) → AllByRecursion IsMute ws → IsRight s.config s.past → IsRight (added_each seat ws s).config (added_each seat ws s).past

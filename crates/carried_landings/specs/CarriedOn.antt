@@ -16,7 +16,7 @@ use Rattle.carried_landings.specs.SeatFlights.{flight_place, of_others}
 use Rattle.serial_laws.specs.Laws.{IsRefusedLegally}
 use Rattle.lift_carriers.specs.CarrierView.{CarrierView}
 use Rattle.vm_state.specs.History.{History}
-use Rattle.serial_steps.specs.Moved.{IsSameBut}
+use Rattle.carried_landings.specs.Moved.{IsSameBut}
 
 -- when the landing of the seat's flights refuses the request, that is legal
 abbrev pub MayRefuse : Config → List Entry → ℕ → (Bool → Bool → After) → Type 0

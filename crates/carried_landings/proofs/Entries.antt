@@ -10,8 +10,8 @@ use Rattle.pager_model.specs.Given.{by_seat, made_by}
 use Rattle.carried_landings.proofs.BegunFlights.{LandsNone}
 use Rattle.vm_state.specs.History.{History, added, entry_by}
 use Rattle.vm_state.specs.LiftsLand.{added_each}
-use Rattle.serial_steps.proofs.Mute.{IsMute}
-use Rattle.serial_steps.proofs.Shapes.{AreQuiet, AreStarts, IsQuiet, IsServedOnce, IsStart}
+use Rattle.carried_landings.proofs.Mute.{IsMute}
+use Rattle.carried_landings.proofs.Shapes.{AreQuiet, AreStarts, IsQuiet, IsServedOnce, IsStart}
 
 -- ---- the history after a seat's entries
 pub each_past : (seat : Seat) (ws : List What) (s : History) → (added_each seat ws s).past ≡ made_by seat.0 ws s.past

@@ -13,11 +13,11 @@ use Rattle.modified_writer.specs.declared.begun.Begin.{Begin}
 use Rattle.modified_writer.specs.declared.begun.Begin.TheVariants.{Carry, Nothing, Room}
 use Rattle.lift_carriers.specs.CarrierView.{CarrierView}
 use Rattle.vm_state.specs.History.{History, pager}
-use Rattle.serial_steps.specs.CarriedOn.{IsCarriedOn, IsLoaded, MayRefuse}
-use Rattle.serial_steps.specs.Moved.{IsMoveHere, IsMoved, IsSteady}
-use Rattle.serial_steps.proofs.Entries.{starts_mute}
-use Rattle.serial_steps.proofs.Moving.{carries_move, loaded, may_refuse}
-use Rattle.serial_steps.proofs.Shapes.{AreStarts, BeginShape, begin_shape}
+use Rattle.carried_landings.specs.CarriedOn.{IsCarriedOn, IsLoaded, MayRefuse}
+use Rattle.carried_landings.specs.Moved.{IsMoveHere, IsMoved, IsSteady}
+use Rattle.carried_landings.proofs.Entries.{starts_mute}
+use Rattle.carried_landings.proofs.Moving.{carries_move, loaded, may_refuse}
+use Rattle.carried_landings.proofs.Shapes.{AreStarts, BeginShape, begin_shape}
 
 -- whatever the answer, transfers alone were begun
 starts_of : (answer : BeginIs) (made : List What) → BeginShape answer made → AreStarts made
