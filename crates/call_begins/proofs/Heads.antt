@@ -19,7 +19,7 @@ use Rattle.page_holders.proofs.Holders.{free_is}
 use Rattle.call_laws.specs.AreLegal.{AreLegal}
 use Rattle.vm_state.specs.History.{History, MayAdd, entry_by, owed, pager}
 use Rattle.vm_state.specs.LiftsLand.{added_each}
-use Rattle.page_readers.specs.Shown.{frame_number}
+use Rattle.state_pages.specs.Shown.{frame_number}
 use Rattle.call_begins.proofs.Steps.{paid_after}
 
 pub head_there : (xs : List ℕ) (f : Pfn) → option_map frame_number (Some f) ≡ slice_get xs 0 → IsHead xs f.0

@@ -6,7 +6,7 @@ use Rattle.pager_model.specs.Given.{seen_by, seen_in}
 use Rattle.pager_model.specs.Lookups.{entry_of}
 use Rattle.pager_model.specs.Pager.{Pager, Valid}
 use Rattle.vm_state.specs.ProcessReadings.{slot_by, slot_with}
-use Rattle.page_readers.specs.declared.found.Slot.{Slot}
+use Rattle.state_pages.specs.declared.found.Slot.{Slot}
 
 -- an empty slot shows nothing
 pub seen_none : (a : Pager) (p : ℕ) (o : Option Held) → None ≡ slot_with a.valid p o → seen_in a p o ≡ None

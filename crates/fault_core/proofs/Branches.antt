@@ -22,7 +22,7 @@ use Rattle.pager_model.specs.Spoken.{flat_after}
 use Rattle.vm_state.specs.FlightReadings.{read_by}
 use Rattle.vm_state.specs.PageReadings.{found_with}
 use Rattle.vm_state.specs.ProcessReadings.{adjusted_for, pending_in}
-use Rattle.page_readers.specs.declared.found.Found.{Found}
+use Rattle.state_pages.specs.declared.found.Found.{Found}
 use Rattle.vm_state.specs.declared.open_read.OpenRead.{OpenRead}
 use Rattle.call_begins.proofs.Branches.{if_false, if_true, item_there}
 

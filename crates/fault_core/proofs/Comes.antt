@@ -30,8 +30,8 @@ use Rattle.vm_state.specs.History.{History, MayAdd, MayAnswer, added, entry_by, 
 use Rattle.vm_state.specs.PageReadings.{IsKnown}
 use Rattle.lift_carriers.specs.CarrierView.{CarrierView}
 use Rattle.vm_state.specs.Readings.{row_at}
-use Rattle.page_readers.specs.Shown.{frame_number}
-use Rattle.page_readers.specs.declared.found.Backing.{Backing}
+use Rattle.state_pages.specs.Shown.{frame_number}
+use Rattle.state_pages.specs.declared.found.Backing.{Backing}
 use Rattle.call_laws.specs.AreLegal.{AreLegal}
 use Rattle.call_laws.proofs.ReadsLegal.{first_private, lying_block, section_block}
 use Rattle.call_laws.proofs.WaitsLegal.{kept, right}

@@ -22,7 +22,7 @@ use Rattle.vm_state.specs.FlightReadings.{read_by}
 use Rattle.vm_state.specs.History.{History, MayAdd, MayAnswer, entry_by, owed, pager}
 use Rattle.vm_state.specs.PageReadings.{IsGranted, found_in}
 use Rattle.vm_state.specs.ProcessReadings.{pending_in}
-use Rattle.page_readers.specs.declared.found.Found.{Found}
+use Rattle.state_pages.specs.declared.found.Found.{Found}
 use Rattle.vm_state.specs.declared.open_read.OpenRead.{OpenRead}
 use Rattle.call_begins.proofs.Branches.{if_false, if_true}
 use Rattle.call_begins.proofs.Steps.{paid_first}

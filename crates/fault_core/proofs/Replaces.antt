@@ -18,7 +18,7 @@ use Rattle.pager_model.specs.Pager.{Pager, Valid}
 use Rattle.page_holders.proofs.ValidEntries.{IsValidAt, valid_at_page}
 use Rattle.vm_state.specs.History.{History, MayAdd, entry_by, pager}
 use Rattle.vm_state.specs.ProcessReadings.{slot_by, slot_in, slot_with}
-use Rattle.page_readers.specs.declared.found.Slot.{Slot}
+use Rattle.state_pages.specs.declared.found.Slot.{Slot}
 use Rattle.call_laws.proofs.WaitsLegal.{kept, mapped_small}
 use Rattle.call_begins.proofs.Branches.{if_false, if_true}
 use Rattle.call_begins.proofs.Steps.{paid_first}

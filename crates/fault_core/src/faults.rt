@@ -11,7 +11,7 @@ use crate::next::{AgainWhy, Next};
 use crate::sought::Sought;
 use crate::waits::{read, replace};
 use disk_trait::Block;
-use page_changes::is_paged;
+use state_pages::is_paged;
 use vm_state::{Carrier, State};
 use vm_types::{Config, Proc};
 

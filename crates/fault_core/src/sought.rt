@@ -1,4 +1,4 @@
-use page_readers::Backing;
+use state_pages::Backing;
 use vm_types::{BlockId, Page, Ref, Seat};
 
 /// The page of a reference that a seat makes: the section block behind it, if there is one, and where

@@ -9,7 +9,7 @@ ghost use Rattle.vm_state.specs.PageReadings.{IsKnown};
 
 use block_order::if_next;
 use disk_trait::Block;
-use page_changes::is_paged;
+use state_pages::is_paged;
 use vm_state::State;
 use vm_types::{BlockId, Page};
 

@@ -24,7 +24,7 @@ use Rattle.page_holders.proofs.Pins.{few_pins}
 use Rattle.page_holders.proofs.ValidEntries.{valid_at_page}
 use Rattle.state_fits.proofs.FewShares.{few_shares}
 use Rattle.vm_state.specs.ProcessReadings.{slot_by, slot_in, slot_with}
-use Rattle.page_readers.specs.declared.found.Slot.{Slot}
+use Rattle.state_pages.specs.declared.found.Slot.{Slot}
 use Rattle.pfn_report.specs.Counts.{AreCounts, is_named, is_pinned_for, is_slot_for, passed, pins_below, pins_passed, shares_below}
 use Rattle.pfn_report.proofs.SlotPins.{all_pinned, and_false, and_true, fewer_pinned, more_pinned, own_pins}
 use Rattle.pfn_report.proofs.SlotShares.{all_below, fewer_below, more_below, slots_share}

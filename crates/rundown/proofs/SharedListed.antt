@@ -23,7 +23,7 @@ use Rattle.pager_laws.proofs.RunsAreSound.{run_kept}
 use Rattle.page_holders.proofs.Holders.{good_within}
 use Rattle.vm_state.specs.ProcessReadings.{IsAfter}
 use Rattle.vm_state.specs.Readings.{listed}
-use Rattle.page_readers.specs.Shown.{frame_number}
+use Rattle.state_pages.specs.Shown.{frame_number}
 
 -- a frame that stands in a list counts in it
 counted : (xs : List ℕ) (n f : ℕ) → slice_get xs n ≡ Some f → 0 < count_of xs f

@@ -11,7 +11,7 @@ use Rattle.pager_model.specs.Maps.{Mapped, page_number}
 use Rattle.pager_model.specs.Pager.{Pager}
 use Rattle.pager_rules.proofs.Basics.{count_from_no_find}
 use Rattle.vm_state.specs.PageReadings.{found_in, found_with}
-use Rattle.page_readers.specs.declared.found.Found.{Found}
+use Rattle.state_pages.specs.declared.found.Found.{Found}
 use Rattle.seat_laws.specs.Unmet.{IsUnmet}
 
 not_some : {X : Type 0} (o : Option X) → is_some o ≡ false → o ≡ None

@@ -18,7 +18,7 @@ use Rattle.pager_model.specs.Pager.{Pager}
 use Rattle.pager_model.specs.Run.{IsRun, pager_after}
 use Rattle.pager_model.specs.Step.{IsLegal}
 use Rattle.call_laws.specs.Ready.{IsFree}
-use Rattle.page_readers.specs.declared.found.Found.{Found}
+use Rattle.state_pages.specs.declared.found.Found.{Found}
 use Rattle.vm_state.specs.History.{History}
 use Rattle.vm_state.specs.PageReadings.{found_in}
 use Rattle.call_begins.specs.MayBegin.{MayBegin}

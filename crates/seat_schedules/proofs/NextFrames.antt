@@ -8,7 +8,7 @@ use Rattle.vm_types.specs.declared.names.Pfn.{Pfn}
 use Rattle.frame_store.proofs.Rows.{get_before, get_past}
 use Rattle.pager_model.specs.Pager.{Pager}
 use Rattle.vm_state.specs.ProcessReadings.{IsAfter}
-use Rattle.page_readers.specs.Shown.{frame_number}
+use Rattle.state_pages.specs.Shown.{frame_number}
 use Rattle.seat_schedules.specs.Played.{AreNext}
 
 pub none_next : (a : Pager) (nexts : List (Option Pfn)) → nexts ≡ [] → AreNext a 0 nexts

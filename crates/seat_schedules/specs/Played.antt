@@ -14,7 +14,7 @@ use Rattle.state_fits.specs.File.{owner_in}
 use Rattle.vm_state.specs.History.{History, pager}
 use Rattle.vm_state.specs.ProcessReadings.{IsAfter}
 use Rattle.vm_state.specs.Readings.{row_at}
-use Rattle.page_readers.specs.Shown.{frame_number}
+use Rattle.state_pages.specs.Shown.{frame_number}
 use Rattle.seat_schedules.specs.declared.page_block.PageBlock.{PageBlock}
 use Rattle.seat_schedules.specs.declared.played.Played.{Played}
 

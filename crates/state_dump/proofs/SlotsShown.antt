@@ -8,7 +8,7 @@ use Rattle.std.specs.Ordering.{nat_cmp}
 use Rattle.vm_types.specs.Ring.{Held}
 use Rattle.vm_types.specs.declared.config.Config.{Config}
 use Rattle.vm_types.specs.declared.config.ProcSpec.{ProcSpec}
-use Rattle.page_readers.specs.declared.found.Slot.{Slot}
+use Rattle.state_pages.specs.declared.found.Slot.{Slot}
 use Rattle.pager_model.specs.Around.{PastView}
 use Rattle.pager_model.specs.Lookups.{entry_of, has_vpn, is_entry, slot_of}
 use Rattle.pager_model.specs.Pager.{Pager, Valid}

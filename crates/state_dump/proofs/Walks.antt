@@ -7,7 +7,7 @@ use Rattle.std.proofs.lemmas.List.FromFn.{map-range_with_len_more}
 use Rattle.std.proofs.lemmas.Option.{none-some, same_Some}
 use Rattle.vm_types.specs.declared.names.Pfn.{Pfn}
 use Rattle.page_lists.specs.declared.list_name.ListName.{ListName}
-use Rattle.page_readers.specs.Shown.{frame_number}
+use Rattle.state_pages.specs.Shown.{frame_number}
 use Rattle.pager_model.specs.Pager.{Pager}
 use Rattle.vm_state.specs.ProcessReadings.{IsAfter}
 use Rattle.vm_state.specs.Readings.{listed}

@@ -15,7 +15,7 @@ use Rattle.pager_rules.proofs.Lists.{found_one}
 use Rattle.pager_rules.specs.Kept.{IsKept}
 use Rattle.page_holders.proofs.EntryPages.{entry_page, mapped_there}
 use Rattle.state_fits.specs.Entries.{pte_at, pte_of}
-use Rattle.page_readers.specs.MarkedWords.{word_marked}
+use Rattle.state_pages.specs.MarkedWords.{word_marked}
 use Rattle.vm_state.specs.Words.{word_in}
 use Rattle.dump_laws.specs.DumpAfter.{entry_word, pages_of, valid_pages, word_by}
 use Rattle.dump_laws.proofs.Bounded.{each_there}

@@ -11,7 +11,7 @@ use Rattle.pager_model.specs.Pager.{Pager}
 use Rattle.pager_model.specs.Ring.{range_locked, range_pinned}
 use Rattle.pager_model.specs.Serve.{is_unmapped, limits_given, lock_given, served_with}
 use Rattle.pager_model.specs.Served.{is_slot_in}
-use Rattle.page_readers.specs.ServiceAnswers.{limit_answer, lock_answer}
+use Rattle.state_pages.specs.ServiceAnswers.{limit_answer, lock_answer}
 use Rattle.vm_state.specs.Answering.{answer_in}
 use Rattle.vm_state.specs.History.{History, pager}
 use Rattle.vm_services.specs.Cases.{at_service}

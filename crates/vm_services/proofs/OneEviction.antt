@@ -18,7 +18,7 @@ use Rattle.call_begins.proofs.Branches.{if_false, if_true}
 use Rattle.call_begins.proofs.Steps.{paid_first}
 use Rattle.vm_state.specs.History.{History, MayAdd, entry_by, pager}
 use Rattle.vm_state.specs.PageReadings.{frame_of}
-use Rattle.page_readers.specs.Shown.{frame_number}
+use Rattle.state_pages.specs.Shown.{frame_number}
 use Rattle.vm_services.specs.Cases.{at_evict}
 use Rattle.call_begins.specs.ReadySeat.{IsReadySeat}
 use Rattle.vm_services.specs.Serves.{MayServe}

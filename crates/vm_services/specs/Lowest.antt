@@ -1,7 +1,7 @@
 -- The lowest of the pages in the slots of a working set that are of a range and are neither locked nor pinned. This project's own.
 use Rattle.std.specs.Prelude.{ℕ, ◌&&◌, ◌||◌, Option, Some, None, min, not, if◌then◌else◌}
 use Rattle.pager_model.specs.FlatService.{in_range}
-use Rattle.page_readers.specs.declared.found.Slot.{Slot}
+use Rattle.state_pages.specs.declared.found.Slot.{Slot}
 
 -- the lower of two numbers, if both are there, and else the one that is
 abbrev pub lower : Option ℕ → Option ℕ → Option ℕ

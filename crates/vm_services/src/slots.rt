@@ -5,7 +5,7 @@ ghost use Rattle.vm_state.specs.History.{pager};
 ghost use Rattle.vm_services.specs.Lowest.{lower, purged_in};
 
 use disk_trait::Block;
-use page_readers::Slot;
+use state_pages::Slot;
 use vm_state::State;
 use vm_types::{Addr, Proc};
 

@@ -22,7 +22,7 @@ use Rattle.frame_store.specs.StoreView.{StoreView}
 use Rattle.state_parts.specs.declared.process_row.ProcessRow.{ProcessRow}
 use Rattle.state_fits.specs.Entries.{pte_at, pte_of}
 use Rattle.state_fits.specs.Parts.{Parts}
-use Rattle.page_readers.specs.ServiceAnswers.{has_entry, lock_answer}
+use Rattle.state_pages.specs.ServiceAnswers.{has_entry, lock_answer}
 use Rattle.vm_state.specs.StateKept.{IsState}
 use Rattle.vm_state.proofs.Closing.{kept}
 use Rattle.vm_state.proofs.ProcessShows.{row_is}

@@ -39,8 +39,8 @@ use Rattle.state_fits.proofs.BackParts.{back_coming_parts, back_parts, is_coming
 use Rattle.state_fits.proofs.EnteredParts.{entered_row}
 use Rattle.state_fits.proofs.FrameRows.{row_read}
 use Rattle.vm_state.specs.History.{owed}
-use Rattle.page_readers.specs.RingSlots.{CanFault, CanTakeSlot, HasFaulted, TakesSlot, mark_back}
-use Rattle.page_readers.specs.SectionPages.{CanShare}
+use Rattle.state_pages.specs.RingSlots.{CanFault, CanTakeSlot, HasFaulted, TakesSlot, mark_back}
+use Rattle.state_pages.specs.SectionPages.{CanShare}
 use Rattle.vm_state.specs.StateKept.{IsState}
 use Rattle.vm_state.proofs.Closing.{closed, kept, right}
 use Rattle.vm_state.proofs.Numbered.{can_share}

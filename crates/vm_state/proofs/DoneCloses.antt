@@ -49,10 +49,10 @@ use Rattle.state_fits.specs.Parts.{Parts}
 use Rattle.state_fits.proofs.DoneParts.{at as page_at_done, done_parts}
 use Rattle.state_fits.proofs.ShownEntries.{valid_shown}
 use Rattle.vm_state.specs.History.{History, MayAnswer, entry_by, owed, pager}
-use Rattle.page_readers.specs.Shown.{frame_entry, frame_number, frame_shown}
+use Rattle.state_pages.specs.Shown.{frame_entry, frame_number, frame_shown}
 use Rattle.vm_state.specs.StateKept.{IsState, home_in}
 use Rattle.vm_state.proofs.Closing.{closed, kept, right}
-use Rattle.page_readers.proofs.Looked.{frame_looked}
+use Rattle.state_pages.proofs.Looked.{frame_looked}
 
 pub answer_before : {s t : History} {seat : Seat} {r : Ref} → s ≡ t → MayAnswer t seat r → MayAnswer s seat r
 answer_before {s} {t} {seat} {r} is may = subst (λ (x : History). MayAnswer x seat r) (sym is) may

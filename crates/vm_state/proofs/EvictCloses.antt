@@ -35,7 +35,7 @@ use Rattle.state_fits.specs.Parts.{Parts}
 use Rattle.state_fits.proofs.EvictCan.{CanEvict, evict_can}
 use Rattle.state_fits.proofs.EvictParts.{evict_parts, left_row, pin_is}
 use Rattle.vm_state.specs.History.{owed}
-use Rattle.page_readers.specs.SectionPages.{HasShare}
+use Rattle.state_pages.specs.SectionPages.{HasShare}
 use Rattle.vm_state.specs.StateKept.{IsState}
 use Rattle.vm_state.proofs.Closing.{closed, kept, right}
 use Rattle.vm_state.proofs.Numbered.{has_share}

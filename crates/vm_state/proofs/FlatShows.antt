@@ -38,9 +38,9 @@ use Rattle.page_holders.proofs.EntryPages.{mapped_right}
 use Rattle.state_fits.specs.Pages.{charged_row}
 use Rattle.state_fits.specs.Parts.{Parts}
 use Rattle.vm_state.specs.PageReadings.{found_in, found_with}
-use Rattle.page_readers.specs.PagesShown.{HasWaiting, NoneShared, NoneWaits, is_touched_row, is_waiting}
+use Rattle.state_pages.specs.PagesShown.{HasWaiting, NoneShared, NoneWaits, is_touched_row, is_waiting}
 use Rattle.vm_state.specs.StateKept.{IsState}
-use Rattle.page_readers.specs.declared.found.Found.{Found}
+use Rattle.state_pages.specs.declared.found.Found.{Found}
 use Rattle.vm_state.proofs.Closing.{kept, right}
 
 -- ---- what is kept of a page says whether it is touched

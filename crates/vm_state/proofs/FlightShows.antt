@@ -33,7 +33,7 @@ use Rattle.state_fits.specs.Parts.{Parts}
 use Rattle.state_fits.specs.Seats.{flight_on, is_on_frame, role_by, role_on, start_on}
 use Rattle.state_fits.proofs.FlightsMoved.{on_frame_counts, one_on_frame}
 use Rattle.state_fits.proofs.OnePlace.{read_is}
-use Rattle.page_readers.specs.ComeRoles.{comes}
+use Rattle.state_pages.specs.ComeRoles.{comes}
 use Rattle.vm_state.specs.FlightReadings.{read_by}
 use Rattle.vm_state.specs.StateKept.{IsState}
 use Rattle.vm_state.proofs.Closing.{kept}

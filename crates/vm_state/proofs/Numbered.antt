@@ -19,7 +19,7 @@ use Rattle.state_fits.specs.Parts.{Parts}
 use Rattle.state_fits.proofs.EvictCan.{HasShare as HasShareThere}
 use Rattle.state_fits.proofs.EnterCan.{CanShare as CanShareThere}
 use Rattle.state_fits.proofs.FrameRows.{row_read}
-use Rattle.page_readers.specs.SectionPages.{CanShare, HasNumber, HasShare, IsNumbered}
+use Rattle.state_pages.specs.SectionPages.{CanShare, HasNumber, HasShare, IsNumbered}
 use Rattle.vm_state.specs.StateKept.{IsState}
 use Rattle.vm_state.proofs.Closing.{right}
 

@@ -20,8 +20,8 @@ use Rattle.state_fits.specs.Parts.{Parts}
 use Rattle.state_fits.specs.Writes.{block_taken}
 use Rattle.state_fits.proofs.OutCan.{can_give_block}
 use Rattle.state_fits.proofs.OutParts.{IsOutDone, out_parts}
-use Rattle.page_changes.specs.WriteMoves.{MayGive}
-use Rattle.page_changes.proofs.MayMove.{may_give}
+use Rattle.state_pages.specs.WriteMoves.{MayGive}
+use Rattle.state_pages.proofs.MayMove.{may_give}
 use Rattle.vm_state.specs.History.{History, owed}
 use Rattle.vm_state.specs.LiftsBegin.{HasBegun}
 use Rattle.vm_state.specs.StateKept.{IsState}

@@ -28,8 +28,8 @@ use Rattle.state_fits.proofs.OutLandingCan.{CanEndWrite, CanLieIn, can_end_write
 use Rattle.state_fits.proofs.OutLandingParts.{IsLandingDone, landing_on, out_ok_parts}
 use Rattle.state_fits.proofs.OutParts.{row_page}
 use Rattle.state_fits.proofs.WriteLanded.{IsWrittenOn}
-use Rattle.page_changes.specs.WriteMoves.{MayLie}
-use Rattle.page_changes.proofs.MayMove.{may_lie}
+use Rattle.state_pages.specs.WriteMoves.{MayLie}
+use Rattle.state_pages.proofs.MayMove.{may_lie}
 use Rattle.vm_state.specs.History.{owed}
 use Rattle.lift_carriers.specs.LiftsFit.{LiftFits, result_of}
 use Rattle.vm_state.specs.StateKept.{IsState}

@@ -47,11 +47,11 @@ use Rattle.state_fits.specs.Parts.{Parts}
 use Rattle.state_fits.proofs.KnownEntries.{pte_known}
 use Rattle.vm_types.specs.Configuration.{IsSectionPage}
 use Rattle.vm_state.specs.PageReadings.{backing_in, found_in, found_with, frame_of}
-use Rattle.page_readers.specs.PagesShown.{found_shown, frame_named, is_valid, own_backing, shared_backing, shared_home}
-use Rattle.page_readers.specs.Shown.{frame_by, frame_entry}
+use Rattle.state_pages.specs.PagesShown.{found_shown, frame_named, is_valid, own_backing, shared_backing, shared_home}
+use Rattle.state_pages.specs.Shown.{frame_by, frame_entry}
 use Rattle.vm_state.specs.StateKept.{IsState}
-use Rattle.page_readers.specs.declared.found.Backing.{Backing}
-use Rattle.page_readers.specs.declared.found.Found.{Found}
+use Rattle.state_pages.specs.declared.found.Backing.{Backing}
+use Rattle.state_pages.specs.declared.found.Found.{Found}
 use Rattle.vm_state.proofs.Closing.{kept}
 use Rattle.vm_state.proofs.Numbered.{has_number}
 

@@ -26,7 +26,7 @@ use Rattle.pager_model.specs.Run.{pager_after}
 use Rattle.pager_model.specs.Step.{IsLegal}
 use Rattle.page_holders.proofs.ValidEntries.{valid_at_page}
 use Rattle.frame_store.specs.StoreView.{StoreView}
-use Rattle.page_readers.specs.Shown.{frame_entry, frame_number}
+use Rattle.state_pages.specs.Shown.{frame_entry, frame_number}
 use Rattle.working_set.specs.Slots.{slot_at, with_pin}
 use Rattle.state_parts.specs.Repinned.{page_to_pin}
 use Rattle.state_parts.specs.declared.process_row.ProcessRow.{ProcessRow}

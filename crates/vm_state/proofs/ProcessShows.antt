@@ -24,9 +24,9 @@ use Rattle.state_fits.proofs.SimpleParts.{read_process}
 use Rattle.vm_state.specs.PageReadings.{frame_of}
 use Rattle.vm_state.specs.ProcessReadings.{IsAfter, pending_in, slot_in, slot_with}
 use Rattle.vm_state.specs.Readings.{listed}
-use Rattle.page_readers.specs.Pending.{pending_by}
-use Rattle.page_readers.specs.RingSlots.{held_parts}
-use Rattle.page_readers.specs.Shown.{frame_entry}
+use Rattle.state_pages.specs.Pending.{pending_by}
+use Rattle.state_pages.specs.RingSlots.{held_parts}
+use Rattle.state_pages.specs.Shown.{frame_entry}
 use Rattle.vm_state.specs.StateKept.{IsState}
 use Rattle.vm_state.proofs.Closing.{kept}
 use Rattle.vm_state.proofs.PageShows.{frame_is}

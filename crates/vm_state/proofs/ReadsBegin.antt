@@ -22,7 +22,7 @@ use Rattle.vm_journal.specs.declared.entry.Role.TheVariants as role
 use Rattle.vm_journal.specs.declared.entry.What.TheVariants as what
 use Rattle.global_pages.specs.GlobalPages.{GlobalPages}
 use Rattle.page_file.specs.Blocks.{Blocks}
-use Rattle.page_changes.specs.Moves.{HasNumber, MayHold, number_by}
+use Rattle.state_pages.specs.Moves.{HasNumber, MayHold, number_by}
 use Rattle.page_tables.specs.PageTables.{PageTables}
 use Rattle.pfn_database.specs.Frames.{Frames}
 use Rattle.pager_laws.proofs.FewCounts.{counts_few}
@@ -60,7 +60,7 @@ use Rattle.state_fits.proofs.FirstNumbers as first
 use Rattle.state_fits.proofs.InCan.{CanFault, CanRead, can_fault, can_read}
 use Rattle.state_fits.proofs.InParts.{IsReadBegun, IsReadable, come_readable, fault_readable_as, in_come_parts, in_fault_parts, in_near_parts, lying_readable}
 use Rattle.state_fits.proofs.MappedPages.{page_shown}
-use Rattle.page_readers.specs.ReadStarts.{ChargesFault, CountsFault, MayChargeFault, MayCountFault, page_read}
+use Rattle.state_pages.specs.ReadStarts.{ChargesFault, CountsFault, MayChargeFault, MayCountFault, page_read}
 use Rattle.vm_state.specs.History.{owed}
 use Rattle.lift_carriers.specs.LiftsFit.{LiftFits, lift_seen}
 use Rattle.vm_state.specs.StateKept.{IsState, IsStoreOf, home_in}

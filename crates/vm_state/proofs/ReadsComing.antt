@@ -44,7 +44,7 @@ use Rattle.state_fits.proofs.ChargedRows.{charged_is as row_charged}
 use Rattle.vm_state.specs.History.{owed}
 use Rattle.lift_carriers.specs.LiftsFit.{LiftFits, result_of}
 use Rattle.vm_state.specs.ReadRoles.{IsReadAs}
-use Rattle.page_readers.specs.RingSlots.{CanComeHome, HasComeHome}
+use Rattle.state_pages.specs.RingSlots.{CanComeHome, HasComeHome}
 use Rattle.vm_state.specs.StateKept.{IsState}
 use Rattle.vm_state.proofs.Closing.{closed, kept, right}
 use Rattle.vm_state.proofs.InOkCloses as ended

@@ -44,7 +44,7 @@ use Rattle.state_fits.proofs.EnterCan.{CanShare as CanShareThere}
 use Rattle.vm_state.specs.History.{owed}
 use Rattle.lift_carriers.specs.LiftsFit.{LiftFits, result_of}
 use Rattle.vm_state.specs.ReadRoles.{IsReadAs}
-use Rattle.page_readers.specs.SectionPages.{CanShare}
+use Rattle.state_pages.specs.SectionPages.{CanShare}
 use Rattle.vm_state.specs.StateKept.{IsState}
 use Rattle.vm_state.proofs.Closing.{closed, kept, right}
 use Rattle.vm_state.proofs.InOkCloses as ended

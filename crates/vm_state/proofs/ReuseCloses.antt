@@ -35,8 +35,8 @@ use Rattle.state_fits.specs.PartsFit.{PartsFit}
 use Rattle.state_fits.proofs.ReuseCan.{CanReuse, reuse_can, reuse_global, reuse_private, reuse_uncharges}
 use Rattle.state_fits.proofs.ReuseParts.{holds, own, reuse_private_parts, reuse_shared_parts, reuse_uncharged_parts}
 use Rattle.vm_state.specs.History.{owed}
-use Rattle.page_readers.specs.Resting.{IsAtRest, IsNumberedOrigin, IsUncharged, MayRest, MayUncharge, Rests, Uncharges}
-use Rattle.page_readers.specs.SectionPages.{IsGlobal, IsNumbered}
+use Rattle.state_pages.specs.Resting.{IsAtRest, IsNumberedOrigin, IsUncharged, MayRest, MayUncharge, Rests, Uncharges}
+use Rattle.state_pages.specs.SectionPages.{IsGlobal, IsNumbered}
 use Rattle.vm_state.specs.StateKept.{IsState}
 use Rattle.vm_state.proofs.Closing.{closed, kept, right}
 use Rattle.vm_state.proofs.Numbered.{has_number, numbered_page}

@@ -19,8 +19,8 @@ use Rattle.page_holders.proofs.ValidEntries.{valid_at_page}
 use Rattle.frame_store.specs.StoreView.{StoreView}
 use Rattle.state_fits.specs.Frames.{frame_row}
 use Rattle.state_fits.specs.Parts.{Parts}
-use Rattle.page_readers.specs.MarkedWords.{place_marked, word_marked}
-use Rattle.page_readers.specs.Shown.{frame_by, frame_entry}
+use Rattle.state_pages.specs.MarkedWords.{place_marked, word_marked}
+use Rattle.state_pages.specs.Shown.{frame_by, frame_entry}
 use Rattle.vm_state.specs.PageReadings.{frame_of}
 use Rattle.vm_state.specs.StateKept.{IsState}
 use Rattle.vm_state.specs.Words.{word_in}

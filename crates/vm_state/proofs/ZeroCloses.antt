@@ -57,7 +57,7 @@ use Rattle.state_fits.proofs.Bounds.{kept_place}
 use Rattle.state_fits.proofs.ShownEntries.{code_kept, shown}
 use Rattle.state_fits.proofs.SimpleParts.{read_process}
 use Rattle.state_fits.proofs.ZeroParts.{head as zero_head, mapped as zero_mapped, own as zero_own, paged as zero_paged, unheld as zero_unheld, zero_parts, zero_row}
-use Rattle.page_readers.specs.SectionPages.{CanShare, IsGlobal, IsNumbered}
+use Rattle.state_pages.specs.SectionPages.{CanShare, IsGlobal, IsNumbered}
 use Rattle.vm_state.specs.History.{owed}
 use Rattle.vm_state.specs.StateKept.{IsState}
 use Rattle.vm_state.proofs.Closing.{closed, kept, right}

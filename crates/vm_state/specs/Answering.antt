@@ -10,7 +10,7 @@ use Rattle.pager_model.specs.Pager.{Pager}
 use Rattle.pager_model.specs.Ring.{range_locked, range_pinned}
 use Rattle.pager_model.specs.Serve.{is_in_use, is_unmapped}
 use Rattle.pager_model.specs.Served.{is_locked_in, is_pinned_in}
-use Rattle.page_readers.specs.ServiceAnswers.{limit_answer, lock_answer}
+use Rattle.state_pages.specs.ServiceAnswers.{limit_answer, lock_answer}
 use Rattle.vm_state.specs.History.{History, pager}
 
 -- to a service of process p

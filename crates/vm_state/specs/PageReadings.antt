@@ -13,8 +13,8 @@ use Rattle.pager_model.specs.Lookups.{block_of, count_page, entry_of}
 use Rattle.pager_model.specs.Maps.{Mapped, page_behind, page_number}
 use Rattle.pager_model.specs.Pager.{Pager, Valid}
 use Rattle.pager_model.specs.Spoken.{flat_after}
-use Rattle.page_readers.specs.declared.found.Backing.{Backing}
-use Rattle.page_readers.specs.declared.found.Found.{Found}
+use Rattle.state_pages.specs.declared.found.Backing.{Backing}
+use Rattle.state_pages.specs.declared.found.Found.{Found}
 use Rattle.vm_state.specs.History.{History, pager}
 
 -- of a page number that is mapped: the page, what is behind it, its protection code, and whether its entry is valid

@@ -10,7 +10,7 @@ use Rattle.pager_model.specs.Given.{pfn}
 use Rattle.pager_model.specs.Lookups.{entry_of, is_pending, slot_of}
 use Rattle.pager_model.specs.Pager.{Pager, Valid}
 use Rattle.vm_state.specs.Readings.{listed}
-use Rattle.page_readers.specs.declared.found.Slot.{Slot}
+use Rattle.state_pages.specs.declared.found.Slot.{Slot}
 
 -- the limit that the adjustment gives, and the faults since the last one
 abbrev pub adjusted_for : Config → Pager → ℕ → Option ProcSpec → Option (ℕ × ℕ)

@@ -5,7 +5,7 @@ use Rattle.std.specs.Option.{option_map}
 use Rattle.vm_types.specs.declared.config.Config.{Config}
 use Rattle.pager_model.specs.Pager.{Pager}
 use Rattle.state_fits.specs.Entries.{pte_of}
-use Rattle.page_readers.specs.MarkedWords.{word_marked}
+use Rattle.state_pages.specs.MarkedWords.{word_marked}
 
 -- of a page number of a process; none exactly if it isn't mapped
 abbrev pub word_in : Config → Pager → ℕ → ℕ → Option ℕ

@@ -4,7 +4,7 @@ use crate::state::State;
 use crate::validity::make_valid;
 use disk_trait::Block;
 use frame_changes::enter;
-use page_readers::{enter_ring, frame_slot, marked_back, share};
+use state_pages::{enter_ring, frame_slot, marked_back, share};
 use vm_journal::{Entry, What};
 use vm_types::{Addr, FrameState, Pfn, Proc, Seat};
 

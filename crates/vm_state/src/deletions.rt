@@ -3,8 +3,8 @@ ghost use Rattle.std.specs.Prelude.{◌≡◌};
 use crate::speaking::speak;
 use crate::state::State;
 use disk_trait::Block;
-use page_changes::{empty_frame, uncharge};
-use page_readers::entry_in;
+use state_pages::{empty_frame, uncharge};
+use state_pages::entry_in;
 use vm_journal::What;
 use vm_types::{Addr, Answer, Page, Proc, Seat, Service};
 

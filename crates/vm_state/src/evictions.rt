@@ -3,7 +3,7 @@ ghost use Rattle.std.specs.Prelude.{◌≡◌};
 use crate::state::State;
 use disk_trait::Block;
 use frame_changes::leave;
-use page_readers::{entry_in, left_at, unshare};
+use state_pages::{entry_in, left_at, unshare};
 use pte_forms::Pte;
 use state_parts::give_up;
 use vm_journal::{Entry, EvictWhy, What};

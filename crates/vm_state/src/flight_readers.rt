@@ -8,7 +8,7 @@ ghost use Rattle.vm_state.specs.FlightReadings.{read_by};
 use crate::open_read::OpenRead;
 use crate::state::State;
 use disk_trait::Block;
-use page_readers::any_comes;
+use state_pages::any_comes;
 use vm_types::{BlockId, Pfn, Proc};
 
 /// No reader allocates.

@@ -7,12 +7,12 @@ ghost use Rattle.pager_model.specs.Spoken.{flat_after};
 ghost use Rattle.pager_model.specs.Swap.{lying_in};
 ghost use Rattle.vm_state.specs.History.{pager};
 ghost use Rattle.vm_state.specs.PageReadings.{IsGranted, IsKnown, backing_in, found_in, frame_of};
-ghost use Rattle.page_readers.specs.Shown.{frame_number};
+ghost use Rattle.state_pages.specs.Shown.{frame_number};
 
 use crate::state::State;
 use disk_trait::Block;
-use page_changes::is_paged;
-use page_readers::{
+use state_pages::is_paged;
+use state_pages::{
     Backing, Found, changes, entry_in, found_shown, frame_in, is_touched_row, is_valid,
     own_backing, section_page, shared_backing, shared_home, some_waits,
 };

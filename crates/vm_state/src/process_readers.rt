@@ -2,11 +2,11 @@ ghost use Rattle.std.specs.Prelude.{◌≡◌, ◌<◌, length};
 ghost use Rattle.std.specs.Option.{option_map};
 ghost use Rattle.vm_state.specs.History.{pager};
 ghost use Rattle.vm_state.specs.ProcessReadings.{IsAfter, pending_in, slot_in};
-ghost use Rattle.page_readers.specs.Shown.{frame_number};
+ghost use Rattle.state_pages.specs.Shown.{frame_number};
 
 use crate::state::State;
 use disk_trait::Block;
-use page_readers::{Slot, frame_in, held_in, pending_by};
+use state_pages::{Slot, frame_in, held_in, pending_by};
 use vm_types::{Pfn, Proc};
 
 /// No reader allocates.

@@ -8,7 +8,7 @@ ghost use Rattle.vm_types.specs.Ring.{choose, filled, unpinned};
 ghost use Rattle.vm_state.specs.History.{pager};
 ghost use Rattle.std.specs.Option.{option_map};
 ghost use Rattle.vm_state.specs.Readings.{listed, row_at};
-ghost use Rattle.page_readers.specs.Shown.{frame_number};
+ghost use Rattle.state_pages.specs.Shown.{frame_number};
 ghost use Rattle.run_record.specs.Tallies.{tallies_of};
 
 use crate::state::State;

@@ -4,7 +4,7 @@ use crate::speaking::speak;
 use crate::state::State;
 use disk_trait::Block;
 use flat_model::apply;
-use page_readers::{frame_in, marked, touch};
+use state_pages::{frame_in, marked, touch};
 use vm_journal::What;
 use vm_types::{Proc, Ref, Reply, Seat, Why};
 

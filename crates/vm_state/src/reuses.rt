@@ -2,7 +2,7 @@ ghost use Rattle.std.specs.Prelude.{◌≡◌};
 
 use crate::state::State;
 use disk_trait::Block;
-use page_readers::{release, rest, uncharge};
+use state_pages::{release, rest, uncharge_unread};
 use vm_journal::{Entry, What};
 use vm_types::{Page, Pfn, Seat};
 
@@ -25,7 +25,7 @@ impl<B: Block> State<B> {
             page,
         );
         release(&mut self.globals, &self.firsts, page);
-        uncharge(&mut self.pages, &mut self.file, self.failed, page);
+        uncharge_unread(&mut self.pages, &mut self.file, self.failed, page);
         self.failed = None;
         self.journal.push(Entry {
             seat,

@@ -4,13 +4,13 @@ ghost use Rattle.pager_model.specs.Serve.{is_in_use, is_unmapped};
 ghost use Rattle.pager_model.specs.Ring.{range_locked, range_pinned};
 ghost use Rattle.pager_model.specs.Served.{is_locked_in, is_pinned_in};
 ghost use Rattle.vm_types.specs.declared.reply.Answer.{Answer};
-ghost use Rattle.page_readers.specs.ServiceAnswers.{limit_answer, lock_answer};
+ghost use Rattle.state_pages.specs.ServiceAnswers.{limit_answer, lock_answer};
 ghost use Rattle.vm_state.specs.Answering.{answer_in};
 ghost use Rattle.vm_state.specs.History.{pager};
 
 use crate::state::State;
 use disk_trait::Block;
-use page_readers::{limit_answer, lock_answer, some_entry};
+use state_pages::{limit_answer, lock_answer, some_entry};
 use state_parts::{locked_in, pinned_in};
 use vm_types::{Addr, Answer, Proc, Seat, Service};
 

@@ -2,7 +2,7 @@ ghost use Rattle.std.specs.Prelude.{◌≡◌};
 
 use crate::state::State;
 use disk_trait::Block;
-use page_readers::turn_ring;
+use state_pages::turn_ring;
 use vm_journal::{Entry, What};
 use vm_types::{Proc, ProcStatus, Seat};
 

@@ -3,7 +3,7 @@ ghost use Rattle.vm_types.specs.PagePlaces.{changed_at};
 ghost use Rattle.page_tables.specs.PageTables.{IsEntry, IsMapped, pte_in};
 ghost use Rattle.pte_forms.specs.declared.pte.Pte.{Pte};
 
-use page_readers::entry_in;
+use state_pages::entry_in;
 use page_tables::Tables;
 use pte_forms::{Place, Pte};
 use vm_types::{Pfn, Proc};

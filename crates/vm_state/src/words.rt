@@ -4,7 +4,7 @@ ghost use Rattle.vm_state.specs.Words.{word_in};
 
 use crate::state::State;
 use disk_trait::Block;
-use page_readers::{entry_in, marked_word};
+use state_pages::{entry_in, marked_word};
 use vm_types::Proc;
 
 impl<B: Block> State<B> {

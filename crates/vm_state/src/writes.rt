@@ -5,7 +5,7 @@ use crate::transfers::end_transfer;
 use disk_trait::Block;
 use frame_changes::end_write;
 use frame_store::{Carried, Lift};
-use page_changes::lie_unless;
+use state_pages::lie_unless;
 use vm_journal::{Entry, What};
 use vm_types::Seat;
 

@@ -5,7 +5,7 @@ use disk_trait::Block;
 use frame_changes::begin_write;
 use frame_store::Lift;
 use lift_carriers::Carrier;
-use page_changes::give_block;
+use state_pages::give_block;
 use vm_journal::{Entry, What};
 use vm_types::{BlockId, Pfn, Seat};
 

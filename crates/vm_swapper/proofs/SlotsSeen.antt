@@ -25,7 +25,7 @@ use Rattle.state_fits.specs.Frames.{frame_row}
 use Rattle.vm_state.specs.History.{History, pager}
 use Rattle.vm_state.specs.ProcessReadings.{slot_by, slot_in, slot_with}
 use Rattle.vm_state.specs.Readings.{row_at}
-use Rattle.page_readers.specs.declared.found.Slot.{Slot}
+use Rattle.state_pages.specs.declared.found.Slot.{Slot}
 use Rattle.call_begins.proofs.Slots.{IsSlotOf, slot_entry}
 
 -- the page of a frame, as it is seen in a slot

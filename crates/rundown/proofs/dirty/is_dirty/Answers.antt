@@ -2,7 +2,7 @@ use Rattle.std.proofs.Common.{◌∙◌, ap, sym}
 use Rattle.pfn_database.specs.declared.row.Row.{Row}
 use Rattle.pager_model.specs.Forget.{holder}
 use Rattle.vm_state.specs.History.{pager}
-use Rattle.page_readers.specs.declared.found.Backing.{Backing}
+use Rattle.state_pages.specs.declared.found.Backing.{Backing}
 use Rattle.vm_swapper.proofs.SlotsSeen.{row_modify}
 use Rattle.vm_swapper.proofs.SwapBlocks.{held_within}
 use Rattle.rundown.proofs.DirtyHeld.{clean_unheld, dirty_held, shown_frame, shown_none}

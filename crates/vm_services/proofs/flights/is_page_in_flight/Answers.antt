@@ -3,7 +3,7 @@ use Rattle.std.specs.Option.{is_some}
 use Rattle.vm_types.specs.declared.names.Page.TheVariants.{Private}
 use Rattle.pager_model.specs.Forget.{holder}
 use Rattle.vm_state.specs.History.{pager}
-use Rattle.page_readers.specs.declared.found.Backing.{Backing}
+use Rattle.state_pages.specs.declared.found.Backing.{Backing}
 use Rattle.vm_services.proofs.RangeTests.{held_within, page_flies}
 use Rattle.call_begins.proofs.ReadySeats.{frame_some}
 use Rattle.vm_services.proofs.flights.is_page_in_flight.Goals as goal

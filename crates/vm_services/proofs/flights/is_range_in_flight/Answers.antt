@@ -1,7 +1,7 @@
 use Rattle.std.proofs.Common.{Bool, ◌||◌, ◌+◌, ◌-◌, ◌/◌, sym, ap, ◌∙◌}
 use Rattle.std.specs.List.{list_any, range_with_len}
 use Rattle.vm_state.specs.History.{pager}
-use Rattle.page_readers.proofs.RangeSteps.{any_step}
+use Rattle.state_pages.proofs.RangeSteps.{any_step}
 use Rattle.vm_services.specs.OwnFlights.{is_own_in_flight}
 use Rattle.vm_services.proofs.RangeTests.{flies_from}
 use Rattle.vm_services.proofs.flights.is_range_in_flight.Goals as goal

@@ -1,7 +1,7 @@
 use Rattle.std.proofs.Common.{◌∙◌}
 use Rattle.vm_state.specs.History.{pager}
 use Rattle.vm_state.specs.PageReadings.{frame_of}
-use Rattle.page_readers.specs.Shown.{frame_number}
+use Rattle.state_pages.specs.Shown.{frame_number}
 use Rattle.vm_services.proofs.RangeTests.{valid_if}
 use Rattle.vm_services.proofs.ranges.is_valid_at.Goals as goal
 

@@ -1,5 +1,5 @@
 use Rattle.std.proofs.Common.{IsSome, sym, ◌∙◌, subst}
-use Rattle.page_readers.proofs.Looked.{looked}
+use Rattle.state_pages.proofs.Looked.{looked}
 use Rattle.vm_state.proofs.validity.make_valid.Goals as goal
 
 pub unwrap-prot-requires : goal.unwrap-prot-requires

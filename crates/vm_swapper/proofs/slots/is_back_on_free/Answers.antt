@@ -8,7 +8,7 @@ use Rattle.pager_model.specs.Lookups.{is}
 use Rattle.pager_model.specs.Swap.{is_free_frame}
 use Rattle.call_begins.proofs.Rows.{row_state}
 use Rattle.vm_state.specs.History.{pager}
-use Rattle.page_readers.specs.declared.found.Backing.{Backing}
+use Rattle.state_pages.specs.declared.found.Backing.{Backing}
 use Rattle.vm_swapper.proofs.SwapBlocks.{held_within}
 use Rattle.call_begins.proofs.ReadySeats.{frame_some}
 use Rattle.vm_swapper.proofs.slots.is_back_on_free.Goals as goal

@@ -4,7 +4,7 @@ use Rattle.vm_types.specs.declared.names.BlockId.TheVariants as block
 use Rattle.vm_types.specs.declared.names.Page.{Page}
 use Rattle.pager_model.specs.Advance.{lies_in}
 use Rattle.pager_model.specs.Maps.{is_private}
-use Rattle.page_readers.specs.declared.found.Backing.{Backing}
+use Rattle.state_pages.specs.declared.found.Backing.{Backing}
 use Rattle.vm_swapper.proofs.SlotsSeen.{saved_if, saved_not}
 use Rattle.vm_swapper.proofs.slots.lies_saved.Goals as goal
 

@@ -1,6 +1,6 @@
 use Rattle.std.proofs.Common.{◌<◌, true, length, slice_get, ap, sym, subst, ◌∙◌}
 use Rattle.pager_model.specs.Ring.{range_locked, range_pinned}
-use Rattle.page_readers.specs.ServiceAnswers.{lock_answer}
+use Rattle.state_pages.specs.ServiceAnswers.{lock_answer}
 use Rattle.vm_state.specs.History.{History, pager}
 use Rattle.vm_state.proofs.AnswerShows as shows
 use Rattle.vm_state.proofs.state.State.answer_to_lock.Goals as goal

@@ -3,7 +3,7 @@ use Rattle.pfn_database.specs.Frames.{Frames, row_of}
 use Rattle.pfn_database.specs.declared.row.Row.{Row}
 use Rattle.vm_journal.specs.declared.entry.What.TheVariants as what
 use Rattle.vm_state.specs.History.{entry_by}
-use Rattle.page_readers.specs.RingSlots.{mark_back}
+use Rattle.state_pages.specs.RingSlots.{mark_back}
 use Rattle.vm_state.proofs.BackCloses as close
 use Rattle.vm_state.proofs.Closing.{may_before, pushed}
 use Rattle.vm_state.proofs.Numbered.{numbered}

@@ -8,7 +8,7 @@ use Rattle.run_record.specs.RunRecord.{Recorded}
 use Rattle.vm_state.specs.History.{entry_by}
 use Rattle.vm_state.proofs.Closing.{may_before, next_number, pushed}
 use Rattle.vm_state.proofs.DeleteCloses as close
-use Rattle.page_readers.proofs.Looked.{looked}
+use Rattle.state_pages.proofs.Looked.{looked}
 use Rattle.vm_state.proofs.state.State.delete.Goals as goal
 
 pub loop-n-init : goal.loop-n-init

@@ -5,7 +5,7 @@ use Rattle.vm_journal.specs.declared.entry.What.TheVariants as what
 use Rattle.vm_state.specs.History.{entry_by}
 use Rattle.vm_state.proofs.Closing.{may_before, pushed}
 use Rattle.vm_state.proofs.EvictCloses as close
-use Rattle.page_readers.proofs.Looked.{looked}
+use Rattle.state_pages.proofs.Looked.{looked}
 use Rattle.vm_state.proofs.Numbered.{numbered}
 use Rattle.vm_state.proofs.state.State.evict.Goals as goal
 

@@ -5,7 +5,7 @@ use Rattle.pager_model.specs.Maps.{page_number}
 use Rattle.pager_model.specs.Spoken.{flat_after}
 use Rattle.vm_state.specs.History.{History, pager}
 use Rattle.vm_state.specs.PageReadings.{found_in}
-use Rattle.page_readers.proofs.Looked.{looked}
+use Rattle.state_pages.proofs.Looked.{looked}
 use Rattle.vm_state.proofs.FlatShows as flat
 use Rattle.vm_state.proofs.PageShows as shows
 use Rattle.vm_state.proofs.state.State.granted.Goals as goal

@@ -3,7 +3,7 @@ use Rattle.std.specs.List.{list_any}
 use Rattle.vm_journal.specs.declared.entry.Role.{Role}
 use Rattle.pager_model.specs.Flights.{open_flights}
 use Rattle.pager_model.specs.Transfers.{has_come}
-use Rattle.page_readers.specs.ComeRoles.{comes}
+use Rattle.state_pages.specs.ComeRoles.{comes}
 use Rattle.vm_state.specs.History.{History}
 use Rattle.vm_state.proofs.FlightShows as shows
 use Rattle.vm_state.proofs.state.State.has_come.Goals as goal

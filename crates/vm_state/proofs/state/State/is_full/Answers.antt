@@ -2,7 +2,7 @@ use Rattle.std.proofs.Common.{length, nat_eq, ap, sym, ◌∙◌}
 use Rattle.pager_model.specs.Flat.{is_page_file_full}
 use Rattle.pager_model.specs.Spoken.{flat_after}
 use Rattle.vm_state.specs.History.{History}
-use Rattle.page_readers.specs.PagesShown.{is_touched_row}
+use Rattle.state_pages.specs.PagesShown.{is_touched_row}
 use Rattle.vm_state.proofs.FlatShows as shows
 use Rattle.vm_state.proofs.state.State.is_full.Goals as goal
 

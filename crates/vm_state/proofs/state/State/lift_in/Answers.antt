@@ -2,9 +2,9 @@ use Rattle.std.proofs.Common.{ℕ, List, true, IsSome, refl, sym, ap, ◌∙◌,
 use Rattle.std.proofs.lemmas.List.{with_items_is}
 use Rattle.vm_journal.specs.declared.entry.Entry.{Entry}
 use Rattle.vm_journal.specs.declared.entry.What.TheVariants as what
-use Rattle.page_changes.specs.Moves.{number_by}
+use Rattle.state_pages.specs.Moves.{number_by}
 use Rattle.state_parts.specs.declared.process_row.ProcessRow.{ProcessRow}
-use Rattle.page_readers.specs.ReadStarts.{CountsFault}
+use Rattle.state_pages.specs.ReadStarts.{CountsFault}
 use Rattle.vm_state.specs.History.{History, entry_by}
 use Rattle.vm_state.specs.LiftsBegin.{HasBegun}
 use Rattle.lift_carriers.specs.LiftsFit.{LiftFits}

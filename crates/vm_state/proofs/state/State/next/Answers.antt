@@ -4,7 +4,7 @@ use Rattle.page_lists.specs.Lists.{IsNext}
 use Rattle.pfn_database.specs.Frames.{Frames, lists_of}
 use Rattle.vm_state.specs.History.{History, pager}
 use Rattle.vm_state.specs.ProcessReadings.{IsAfter}
-use Rattle.page_readers.specs.Shown.{frame_number}
+use Rattle.state_pages.specs.Shown.{frame_number}
 use Rattle.vm_state.proofs.ProcessShows as shows
 use Rattle.vm_state.proofs.state.State.next.Goals as goal
 

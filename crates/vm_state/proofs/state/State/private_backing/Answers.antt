@@ -2,7 +2,7 @@ use Rattle.std.proofs.Common.{ap, ◌∙◌}
 use Rattle.vm_types.specs.declared.names.Page.TheVariants.{Private}
 use Rattle.vm_state.specs.History.{History, pager}
 use Rattle.vm_state.specs.PageReadings.{backing_in}
-use Rattle.page_readers.proofs.Looked.{looked}
+use Rattle.state_pages.proofs.Looked.{looked}
 use Rattle.vm_state.proofs.PageShows as shows
 use Rattle.vm_state.proofs.state.State.private_backing.Goals as goal
 

@@ -3,14 +3,14 @@ use Rattle.std.proofs.lemmas.List.{length-reverse}
 use Rattle.std.specs.Option.{option_map}
 use Rattle.vm_journal.specs.declared.entry.What.TheVariants as what
 use Rattle.vm_types.specs.declared.reply.Answer.TheVariants as answer
-use Rattle.page_readers.specs.Shown.{frame_number}
+use Rattle.state_pages.specs.Shown.{frame_number}
 use Rattle.state_fits.specs.Serving.{pin_service}
 use Rattle.run_record.specs.RunRecord.{Recorded}
 use Rattle.vm_state.specs.History.{entry_by}
 use Rattle.vm_state.proofs.Closing.{may_before, next_number, pushed}
 use Rattle.vm_state.proofs.DeleteCloses.{frames_in}
 use Rattle.vm_state.proofs.PinCloses as close
-use Rattle.page_readers.proofs.Looked.{frame_looked}
+use Rattle.state_pages.proofs.Looked.{frame_looked}
 use Rattle.vm_state.proofs.state.State.repin.Goals as goal
 use Rattle.vm_state.proofs.state.State.repin.Goals.{in-Some, in_default}
 

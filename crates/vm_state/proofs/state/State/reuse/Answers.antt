@@ -21,8 +21,8 @@ release-requires g c =
     let legal = (may_before c.self.view_is c.requires).legal in
     (c.self.inside.config, rw c.deref-2.ensures.value (close.numbered c.self.invariant c.args.seat c.args.f c.args.page legal), close.global c.self.invariant c.args.seat c.args.f c.args.page legal)
 
-pub uncharge-requires : goal.uncharge-requires
-uncharge-requires g c = close.may_uncharge c.self.invariant c.args.seat c.args.f c.args.page (may_before c.self.view_is c.requires).legal
+pub uncharge_unread-requires : goal.uncharge_unread-requires
+uncharge_unread-requires g c = close.may_uncharge c.self.invariant c.args.seat c.args.f c.args.page (may_before c.self.view_is c.requires).legal
 
 pub invariant_of-self : goal.invariant_of-self
 invariant_of-self g c =
@@ -30,7 +30,7 @@ invariant_of-self g c =
     pushed _ _ (entry_by c.args.seat (what.Reuse c.args.f c.args.page)) c.push.new.self c.push.ensures
     (close.reuse_closes c.self.invariant c.args.seat c.args.f c.args.page may.legal c.empty_to_head.new.self
     (rw (← c.frames_mut.ensures.value) c.empty_to_head.ensures.rows) (rw (← c.frames_mut.ensures.value) c.empty_to_head.ensures.free) (rw (← c.frames_mut.ensures.value) c.empty_to_head.ensures.modified)
-    c.rest.new.tables c.release.new.globals c.uncharge.new.pages c.uncharge.new.file may.paid
+    c.rest.new.tables c.release.new.globals c.uncharge_unread.new.pages c.uncharge_unread.new.file may.paid
     (c.rest.ensures c.self.inside.config (rw c.deref.ensures.value (close.may_rest c.self.invariant c.args.seat c.args.f c.args.page may.legal)))
     (c.release.ensures c.self.inside.config (rw c.deref-2.ensures.value (close.numbered c.self.invariant c.args.seat c.args.f c.args.page may.legal)))
-    c.uncharge.ensures)
+    c.uncharge_unread.ensures)

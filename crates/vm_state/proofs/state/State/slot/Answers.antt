@@ -1,7 +1,7 @@
 use Rattle.std.proofs.Common.{◌<◌, length, ap, sym, subst, ◌∙◌}
 use Rattle.vm_state.specs.History.{History, pager}
 use Rattle.vm_state.specs.ProcessReadings.{slot_in}
-use Rattle.page_readers.proofs.Looked.{frame_looked}
+use Rattle.state_pages.proofs.Looked.{frame_looked}
 use Rattle.vm_state.proofs.ProcessShows as shows
 use Rattle.vm_state.proofs.state.State.slot.Goals as goal
 

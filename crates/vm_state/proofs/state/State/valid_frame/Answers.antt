@@ -3,7 +3,7 @@ use Rattle.std.specs.Option.{option_map}
 use Rattle.pager_model.specs.Lookups.{entry_of}
 use Rattle.vm_state.specs.History.{History, pager}
 use Rattle.vm_state.specs.PageReadings.{frame_of}
-use Rattle.page_readers.proofs.Looked.{frame_looked}
+use Rattle.state_pages.proofs.Looked.{frame_looked}
 use Rattle.vm_state.proofs.PageShows as shows
 use Rattle.vm_state.proofs.state.State.valid_frame.Goals as goal
 

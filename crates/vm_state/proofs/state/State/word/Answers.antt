@@ -1,7 +1,7 @@
 use Rattle.std.proofs.Common.{Some, None, ap, ◌∙◌}
 use Rattle.pfn_database.specs.Frames.{Frames, row_of}
-use Rattle.page_readers.specs.MarkedWords.{word_marked}
-use Rattle.page_readers.proofs.Looked.{looked}
+use Rattle.state_pages.specs.MarkedWords.{word_marked}
+use Rattle.state_pages.proofs.Looked.{looked}
 use Rattle.vm_state.specs.History.{History, pager}
 use Rattle.vm_state.specs.Words.{word_in}
 use Rattle.vm_state.proofs.WordShows as shows

@@ -1,0 +1,12 @@
+pub mod ComeRoles
+pub mod MarkedWords
+pub mod Moves
+pub mod PagesShown
+pub mod Pending
+pub mod ReadStarts
+pub mod Resting
+pub mod RingSlots
+pub mod SectionPages
+pub mod ServiceAnswers
+pub mod Shown
+pub mod WriteMoves

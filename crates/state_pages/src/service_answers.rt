@@ -1,0 +1,76 @@
+//! Answers to services by the parts, and the service that pins.
+
+ghost use Rattle.std.specs.Prelude.{◌≡◌, ◌≤◌, true, Some, length};
+ghost use Rattle.std.specs.List.{list_any};
+ghost use Rattle.vm_types.specs.WellFormed.{IsRange};
+ghost use Rattle.pager_model.specs.Forget.{range_of};
+ghost use Rattle.pager_model.specs.Ring.{range_locked, range_pinned};
+ghost use Rattle.state_fits.specs.Serving.{pin_service};
+ghost use Rattle.state_pages.specs.ServiceAnswers.{has_entry, limit_answer, lock_answer};
+
+use crate::shown::entry_in;
+use page_tables::Tables;
+use state_parts::{count_in, fixed_in};
+use vm_types::{Addr, Answer, Proc, ProcSpec, Service};
+use working_set::Ring;
+
+/// Whether a page number of a process has an entry, if `mapped`, or else whether it has none.
+fn has_entry(tables: &Tables, p: Proc, mapped: bool, vpn: u32) -> bool
+    ensures { result ≡ has_entry tables.now p.0 mapped vpn }
+{
+    let is_there = entry_in(tables.look(p, vpn)).is_some();
+    if mapped { is_there } else { !is_there }
+}
+
+/// Whether some page of a range of a process has an entry, if `mapped`, or else whether some has none.
+pub fn some_entry(tables: &Tables, p: Proc, mapped: bool, at: Addr, pages: u32) -> bool
+    requires { IsRange at.0 pages }
+    ensures { result ≡ list_any (has_entry tables.now p.0 mapped) (range_of at.0 pages) }
+{
+    let first = at.0 / 512;
+    for n in 0..pages {
+        if has_entry(tables, p, mapped, first + n) {
+            return true;
+        }
+    }
+    false
+}
+
+/// The answer to a lock, or a pin, of a range that is mapped.
+pub fn lock_answer(ring: &Ring, spec: &ProcSpec, at: Addr, pages: u32) -> Answer
+    requires slots { length ring.now.slots ≤ 1024 }
+    requires locks { spec.now.locks ≤ 1024 }
+    ensures locked { result ≡ lock_answer ring.now (range_locked true at.0 pages ring.now) at.0 pages (Some spec.now) }
+    ensures pinned { result ≡ lock_answer ring.now (range_pinned true at.0 pages ring.now) at.0 pages (Some spec.now) }
+{
+    let count = count_in(ring, at, pages);
+    let locked = ring.locked() + count;
+    if locked > spec.locks + fixed_in(ring, at, pages) {
+        Answer::LockLimit
+    } else {
+        Answer::Count(count)
+    }
+}
+
+/// The answer to an adjustment of a limit.
+pub fn limit_answer(spec: &ProcSpec, limit: u32) -> Answer
+    requires { spec.now.locks ≤ 1024 }
+    ensures { result ≡ limit_answer limit (Some spec.now) }
+{
+    if limit >= spec.locks + 2 && limit <= spec.extent {
+        Answer::Good
+    } else {
+        Answer::BadLimit
+    }
+}
+
+/// The service that pins, or unpins, the pages of a range.
+pub fn pin_service(pin: bool, at: Addr, pages: u32) -> Service
+    ensures { result ≡ pin_service pin at pages }
+{
+    if pin {
+        Service::Pin { at, pages }
+    } else {
+        Service::Unpin { at, pages }
+    }
+}
