@@ -6,8 +6,8 @@ use Rattle.vm_types.specs.declared.names.Page.{Page}
 use Rattle.vm_journal.specs.declared.entry.Entry.{Entry}
 use Rattle.pager_model.specs.Report.{Report, report_of}
 use Rattle.pager_model.specs.Text.{dirty_lines, dirty_pages, report_text, status_line}
-use Rattle.report_lines.specs.Printable.{IsPrintable}
-use Rattle.report_lines.proofs.Prints.{report_printable}
+use Rattle.run_text.specs.Printable.{IsPrintable}
+use Rattle.run_text.proofs.Prints.{report_printable}
 use Rattle.log_model.specs.Stand.{ending_after, report_after}
 use Rattle.log_pager.specs.Shown.{Shown}
 use Rattle.log_report.specs.EndStatus.{end_status}

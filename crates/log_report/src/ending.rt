@@ -12,7 +12,7 @@ use command_ends::{Status, end_with};
 use log_history::LogHistory;
 use log_pager::LogPager;
 use outside_io::{Sink, VecSink};
-use report_lines::print_dirty;
+use run_text::print_dirty;
 use std::alloc::Global;
 use vm_types::{NoMemory, Page, Section};
 

@@ -3,13 +3,13 @@
 ghost use Rattle.std.specs.Prelude.{◌≡◌, ◌+◌, ◌<◌, ◌≤◌, ◌^◌, IfOk, length, map, nat_lt, if◌then◌else◌};
 ghost use Rattle.std.specs.List.{range_with_len};
 ghost use Rattle.pager_model.specs.Report.{frame_row, frame_rows, process_row, report_of};
-ghost use Rattle.report_lines.specs.Rows.{frame_view, process_view};
+ghost use Rattle.run_text.specs.Rows.{frame_view, process_view};
 ghost use Rattle.log_pager.specs.Shown.{shown};
 ghost use Rattle.log_report.specs.ShownRun.{ShowsRun};
 
 use log_history::LogHistory;
 use log_pager::LogPager;
-use report_lines::{FrameRow, ProcessRow, Report, count_states};
+use run_text::{FrameRow, ProcessRow, Report, count_states};
 use std::alloc::Global;
 use vm_types::{Listed, NoMemory, Pfn, Proc};
 

@@ -7,7 +7,7 @@ use crate::recounting::recount;
 use log_history::LogHistory;
 use log_pager::LogPager;
 use outside_io::VecSink;
-use report_lines::print;
+use run_text::print;
 use std::alloc::Global;
 use vm_types::NoMemory;
 

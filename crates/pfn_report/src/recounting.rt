@@ -1,11 +1,11 @@
 ghost use Rattle.std.specs.Prelude.{◌≡◌, IfOk, replicate};
 ghost use Rattle.pager_model.specs.Report.{report_of};
 ghost use Rattle.vm_state.specs.History.{pager};
-ghost use Rattle.report_lines.specs.Printable.{IsPrintable};
+ghost use Rattle.run_text.specs.Printable.{IsPrintable};
 
 use crate::rows::{frame_rows, process_rows};
 use disk_trait::Block;
-use report_lines::{Report, count_states};
+use run_text::{Report, count_states};
 use std::alloc::Global;
 use vm_state::State;
 use vm_types::NoMemory;

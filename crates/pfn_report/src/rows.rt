@@ -6,11 +6,11 @@ ghost use Rattle.pager_model.specs.Lookups.{shares};
 ghost use Rattle.pager_model.specs.Report.{frame_row, frame_rows, pins_on, process_row};
 ghost use Rattle.vm_state.specs.History.{pager};
 ghost use Rattle.pfn_report.specs.Counts.{AreCounts};
-ghost use Rattle.report_lines.specs.Rows.{frame_view, process_view};
+ghost use Rattle.run_text.specs.Rows.{frame_view, process_view};
 
 use crate::slots::count_slots;
 use disk_trait::Block;
-use report_lines::{FrameRow, ProcessRow};
+use run_text::{FrameRow, ProcessRow};
 use std::alloc::Global;
 use vm_state::State;
 use vm_types::{Listed, NoMemory, Pfn, Proc};

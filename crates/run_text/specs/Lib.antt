@@ -1,2 +1,4 @@
 pub mod Parts
+pub mod Printable
 pub mod Reported
+pub mod Rows

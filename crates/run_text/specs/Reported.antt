@@ -7,7 +7,7 @@ use Rattle.vm_journal.specs.declared.entry.Entry.{Entry}
 use Rattle.pager_model.specs.Report.{Report, report_of}
 use Rattle.pager_model.specs.Run.{IsRun, pager_after}
 use Rattle.pager_model.specs.Text.{dirty_pages}
-use Rattle.report_lines.specs.Printable.{IsPrintable}
+use Rattle.run_text.specs.Printable.{IsPrintable}
 
 -- the past has the entries before the report's place and the rest those after it, both the newest first; the whole
 -- list has the oldest first

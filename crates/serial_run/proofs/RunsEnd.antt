@@ -11,7 +11,7 @@ use Rattle.pager_model.specs.Spoken.{IsRight}
 use Rattle.pager_model.specs.Text.{dirty_pages}
 use Rattle.content_laws.proofs.EndContent.{nowhere_uncharged}
 use Rattle.pager_laws.proofs.SerialInOrder.{serial_answered}
-use Rattle.report_lines.specs.Printable.{IsPrintable}
+use Rattle.run_text.specs.Printable.{IsPrintable}
 use Rattle.policy_ends.proofs.CleanRuns.{no_failure_no_dirt}
 use Rattle.policy_ends.proofs.DirtyRuns.{dirty_because}
 use Rattle.serial_laws.specs.Between.{IsBetween}

@@ -12,7 +12,7 @@ use Rattle.pager_model.specs.Run.{pager_after}
 use Rattle.pager_model.specs.Serial.{IsSerial}
 use Rattle.pager_model.specs.Text.{dirty_pages}
 use Rattle.pager_model.specs.WrittenBack.{AreWrittenBack}
-use Rattle.report_lines.specs.Printable.{IsPrintable}
+use Rattle.run_text.specs.Printable.{IsPrintable}
 use Rattle.disk_trait.specs.DepotView.{given_back}
 use Rattle.frame_store.specs.Blocks.{blocks_of}
 use Rattle.vm_state.specs.Ends.{AreGivenBack}

@@ -14,7 +14,7 @@ use Rattle.pager_model.specs.Spoken.{IsRight}
 use Rattle.pager_model.specs.Text.{dirty_pages}
 use Rattle.pager_model.specs.WrittenBack.{AreWrittenBack, NowhereMeansUncharged}
 use Rattle.pager_model.specs.Flights.{open_flights}
-use Rattle.report_lines.specs.Printable.{IsPrintable}
+use Rattle.run_text.specs.Printable.{IsPrintable}
 use Rattle.run_record.specs.Tallies.{tallies_of}
 use Rattle.policy_ends.specs.Clean.{NoneFailed}
 use Rattle.policy_ends.specs.Dirty.{IsDirtyBecause}

@@ -1,7 +1,7 @@
 ghost use Rattle.std.specs.Prelude.{◌≡◌};
 
 use disk_trait::MakeFault;
-use report_lines::Report;
+use run_text::Report;
 use vm_journal::Entry;
 use vm_types::{Config, NoMemory, Page};
 

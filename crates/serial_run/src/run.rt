@@ -12,7 +12,7 @@ use crate::finished::{Counted, Finished, RunFault, RunResult};
 use crate::to_report::{answer_requests, run_to_report};
 use disk_trait::{Block, Depot};
 use pfn_report::recount;
-use report_lines::Report;
+use run_text::Report;
 use run_blocks::{make_blocks, retire_blocks};
 use rundown::rundown;
 use std::alloc::Global;

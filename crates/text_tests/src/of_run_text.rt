@@ -4,7 +4,7 @@ ghost use Rattle.text_tests.specs.TestRun.{test_config, test_report};
 use crate::params::PARAMS;
 use command_ends::Status;
 use outside_io::MemorySink;
-use report_lines::{FrameRow, ProcessRow, Report};
+use run_text::{FrameRow, ProcessRow, Report};
 use run_text::print_run;
 use std::alloc::Global;
 use std::test::Fail;

@@ -1,6 +1,6 @@
 use Rattle.pager_model.specs.Report.{frame_row}
-use Rattle.report_lines.specs.Rows.{frame_view}
-use Rattle.report_lines.proofs.RowsPushed.{row_pushed}
+use Rattle.run_text.specs.Rows.{frame_view}
+use Rattle.run_text.proofs.RowsPushed.{row_pushed}
 use Rattle.log_pager.specs.Shown.{shown}
 use Rattle.log_report.proofs.recounting.frame_rows.Goals as goal
 

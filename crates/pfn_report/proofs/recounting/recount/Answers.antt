@@ -6,9 +6,9 @@ use Rattle.vm_types.specs.declared.config.Config.{Config}
 use Rattle.pager_model.specs.Report.{FrameRow, all_states, frame_row, in_state}
 use Rattle.vm_state.specs.History.{pager}
 use Rattle.pfn_report.specs.Counts.{AreCounts}
-use Rattle.report_lines.specs.Printable.{IsPrintable}
-use Rattle.report_lines.specs.Rows.{frame_view}
-use Rattle.report_lines.proofs.Prints.{report_printable}
+use Rattle.run_text.specs.Printable.{IsPrintable}
+use Rattle.run_text.specs.Rows.{frame_view}
+use Rattle.run_text.proofs.Prints.{report_printable}
 use Rattle.pfn_report.proofs.SlotsPassed.{counts_none}
 use Rattle.pfn_report.proofs.recounting.recount.Goals as goal
 

@@ -1,7 +1,7 @@
 use Rattle.pager_model.specs.Report.{frame_row}
 use Rattle.vm_state.specs.History.{pager}
-use Rattle.report_lines.specs.Rows.{frame_view}
-use Rattle.report_lines.proofs.RowsPushed.{row_pushed}
+use Rattle.run_text.specs.Rows.{frame_view}
+use Rattle.run_text.proofs.RowsPushed.{row_pushed}
 use Rattle.pfn_report.proofs.rows.frame_rows.Goals as goal
 
 pub loop-f-preserved : goal.loop-f-preserved

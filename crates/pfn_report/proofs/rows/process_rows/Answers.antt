@@ -4,8 +4,8 @@ use Rattle.vm_types.specs.declared.config.Config.{Config}
 use Rattle.pager_model.specs.Report.{process_row}
 use Rattle.vm_state.specs.History.{pager}
 use Rattle.pfn_report.specs.Counts.{pins_below, shares_below}
-use Rattle.report_lines.specs.Rows.{process_view}
-use Rattle.report_lines.proofs.RowsPushed.{row_pushed}
+use Rattle.run_text.specs.Rows.{process_view}
+use Rattle.run_text.proofs.RowsPushed.{row_pushed}
 use Rattle.pfn_report.proofs.SlotShares.{none_below}
 use Rattle.pfn_report.proofs.SlotPins.{none_pinned}
 use Rattle.pfn_report.proofs.SlotsPassed.{all_counted, all_pins_counted, counts_as}

@@ -3,7 +3,7 @@ use Rattle.std.specs.List.{range_with_len}
 use Rattle.pager_model.specs.Report.{process_row}
 use Rattle.vm_state.specs.History.{pager}
 use Rattle.pfn_report.specs.Counts.{AreCounts, pins_below, shares_below}
-use Rattle.report_lines.specs.Rows.{process_view}
+use Rattle.run_text.specs.Rows.{process_view}
 use Rattle.pfn_report.proofs.rows.process_rows.Given as goal
 
 abbrev pub invariant-loop-number : goal.invariant-loop-number

@@ -7,7 +7,7 @@ use Rattle.pager_model.specs.Text.{run_text, status_line}
 use Rattle.command_ends.proofs.Ending.{ends_cut, ends_then}
 use Rattle.command_ends.specs.Ends.{Ends}
 use Rattle.run_text.specs.Parts.{run_status}
-use Rattle.report_lines.proofs.DirtyPages.{told_printable}
+use Rattle.run_text.proofs.DirtyPages.{told_printable}
 use Rattle.run_text.proofs.RunParts.{entries_have_lines, first_part, run_text_parts, same_past, same_rest, second_part}
 use Rattle.run_text.proofs.run.print_run.Goals as goal
 

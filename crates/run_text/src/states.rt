@@ -1,6 +1,6 @@
 ghost use Rattle.std.specs.Prelude.{◌≡◌, ◌^◌, ◌<◌, IfOk, length, map};
 ghost use Rattle.pager_model.specs.Report.{all_states, in_state};
-ghost use Rattle.report_lines.specs.Rows.{frame_view};
+ghost use Rattle.run_text.specs.Rows.{frame_view};
 
 use crate::report::FrameRow;
 use std::alloc::Global;

@@ -43,7 +43,7 @@ pub struct Report {
 impl Model for Report {
     ghost use Rattle.std.specs.Prelude.{map};
     ghost use Rattle.pager_model.specs.Report.{Report as ReportValue};
-    ghost use Rattle.report_lines.specs.Rows.{frame_view, process_view};
+    ghost use Rattle.run_text.specs.Rows.{frame_view, process_view};
 
     ghost Value = { ReportValue };
 

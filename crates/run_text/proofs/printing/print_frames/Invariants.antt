@@ -1,8 +1,8 @@
 use Rattle.std.proofs.Common.{drop, map}
 use Rattle.pager_model.specs.Text.{frame_lines}
-use Rattle.report_lines.specs.Rows.{frame_view}
+use Rattle.run_text.specs.Rows.{frame_view}
 use Rattle.outside_io.proofs.WritesInTurn.{Progress}
-use Rattle.report_lines.proofs.printing.print_frames.Given as goal
+use Rattle.run_text.proofs.printing.print_frames.Given as goal
 
 abbrev pub invariant-loop-f : goal.invariant-loop-f
 invariant-loop-f g l =

@@ -1,7 +1,7 @@
 use Rattle.std.proofs.Common.{drop}
 use Rattle.pager_model.specs.Text.{dirty_lines}
 use Rattle.outside_io.proofs.WritesInTurn.{Progress}
-use Rattle.report_lines.proofs.dirty_lines.print_dirty.Given as goal
+use Rattle.run_text.proofs.dirty_lines.print_dirty.Given as goal
 
 abbrev pub invariant-loop-page : goal.invariant-loop-page
 invariant-loop-page g l =

@@ -4,8 +4,8 @@ use Rattle.vm_types.specs.declared.config.Section.{Section}
 use Rattle.pager_model.specs.Report.{Report}
 use Rattle.pager_model.specs.Text.{ended, frame_lines, page_file_text, process_lines, states_text}
 use Rattle.outside_io.proofs.WritesInTurn.{writes_then, writes_fault}
-use Rattle.report_lines.specs.Rows.{frame_view, process_view}
-use Rattle.report_lines.proofs.printing.print.Goals as goal
+use Rattle.run_text.specs.Rows.{frame_view, process_view}
+use Rattle.run_text.proofs.printing.print.Goals as goal
 
 abbrev states : Report → List ℕ
 states report = ended (states_text report.states)

@@ -1,9 +1,9 @@
 use Rattle.std.proofs.Common.{◌≡◌, [], drop}
 use Rattle.std.proofs.lemmas.List.{drop_all}
 use Rattle.std.proofs.lemmas.Result.{err_from_is_err_and}
-use Rattle.report_lines.proofs.LinesLeft.{process_lines-next}
+use Rattle.run_text.proofs.RowsLeft.{process_lines-next}
 use Rattle.outside_io.proofs.WritesInTurn.{progress_none, progress_more, progress_fault, progress_all}
-use Rattle.report_lines.proofs.printing.print_processes.Goals as goal
+use Rattle.run_text.proofs.printing.print_processes.Goals as goal
 
 pub loop-p-init : goal.loop-p-init
 loop-p-init g c = progress_none _ _

@@ -1,8 +1,8 @@
 use Rattle.std.proofs.Common.{drop, map}
 use Rattle.pager_model.specs.Text.{process_lines}
-use Rattle.report_lines.specs.Rows.{process_view}
+use Rattle.run_text.specs.Rows.{process_view}
 use Rattle.outside_io.proofs.WritesInTurn.{Progress}
-use Rattle.report_lines.proofs.printing.print_processes.Given as goal
+use Rattle.run_text.proofs.printing.print_processes.Given as goal
 
 abbrev pub invariant-loop-p : goal.invariant-loop-p
 invariant-loop-p g l =

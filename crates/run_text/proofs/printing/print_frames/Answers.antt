@@ -1,10 +1,10 @@
 use Rattle.std.proofs.Common.{◌≡◌, [], drop}
 use Rattle.std.proofs.lemmas.List.{drop_all}
 use Rattle.std.proofs.lemmas.Result.{err_from_is_err_and}
-use Rattle.report_lines.proofs.LinesLeft.{frame_lines-next}
-use Rattle.report_lines.proofs.PrintableRows.{printable_at}
+use Rattle.run_text.proofs.RowsLeft.{frame_lines-next}
+use Rattle.run_text.proofs.PrintableRows.{printable_at}
 use Rattle.outside_io.proofs.WritesInTurn.{progress_none, progress_more, progress_fault, progress_all}
-use Rattle.report_lines.proofs.printing.print_frames.Goals as goal
+use Rattle.run_text.proofs.printing.print_frames.Goals as goal
 
 pub loop-f-init : goal.loop-f-init
 loop-f-init g c = progress_none _ _

@@ -1,9 +1,9 @@
 use Rattle.std.proofs.Common.{◌≡◌, [], drop}
 use Rattle.std.proofs.lemmas.List.{drop_all}
 use Rattle.std.proofs.lemmas.Result.{err_from_is_err_and}
-use Rattle.report_lines.proofs.LinesLeft.{dirty_lines-next}
+use Rattle.run_text.proofs.RowsLeft.{dirty_lines-next}
 use Rattle.outside_io.proofs.WritesInTurn.{progress_none, progress_more, progress_fault, progress_all}
-use Rattle.report_lines.proofs.dirty_lines.print_dirty.Goals as goal
+use Rattle.run_text.proofs.dirty_lines.print_dirty.Goals as goal
 
 pub loop-page-init : goal.loop-page-init
 loop-page-init g c = progress_none _ _

@@ -6,9 +6,9 @@ use Rattle.vm_types.specs.declared.config.Section.{Section}
 use Rattle.vm_types.specs.declared.names.Page.{Page}
 use Rattle.vm_text.specs.Names.{page_text}
 use Rattle.pager_model.specs.Text.{dirty_lines, ended, frame_line, frame_lines, process_text, process_lines}
-use Rattle.report_lines.specs.declared.report.FrameRow.{FrameRow}
-use Rattle.report_lines.specs.declared.report.ProcessRow.{ProcessRow}
-use Rattle.report_lines.specs.Rows.{frame_view, process_view}
+use Rattle.run_text.specs.declared.report.FrameRow.{FrameRow}
+use Rattle.run_text.specs.declared.report.ProcessRow.{ProcessRow}
+use Rattle.run_text.specs.Rows.{frame_view, process_view}
 
 drop-first : {X : Type 0} (xs : List X) (i : ℕ) (d : X) → i < length xs → drop i xs ≡ get_or xs i d ∷ drop (i + 1) xs
 drop-first xs i d within = rw add-one (drop-cons xs i d within)

@@ -14,7 +14,7 @@ use Rattle.pager_model.specs.OfConfig.{IsMappable, IsPageOf}
 use Rattle.pager_model.specs.Report.{frame_row, frame_rows, process_row, report_of}
 use Rattle.pager_model.specs.Run.{IsRun, pager_after}
 use Rattle.pager_laws.proofs.OfConfigKept.{run_right}
-use Rattle.report_lines.specs.Printable.{IsPrintable, IsPrintableRow}
+use Rattle.run_text.specs.Printable.{IsPrintable, IsPrintableRow}
 
 small : (v : ℕ) → IsMappable v → v < 2 ^ 23
 small v (inl less) = omega (arith, less)
