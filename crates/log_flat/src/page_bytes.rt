@@ -8,7 +8,7 @@ ghost use Rattle.log_flat.specs.Kept.{AnswersAsFlat, AnswersMapped, ChangesAsFla
 
 use crate::kept_pages::KeptPages;
 use log_pager::LogPager;
-use log_processes::refusal;
+use row_requests::refusal;
 use log_tables::{Behind, page_behind};
 use std::alloc::Global;
 use vm_types::{Addr, Config, NoMemory, Origin, Page, Proc, Ref, Reply, Service, Why};

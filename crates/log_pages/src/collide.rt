@@ -13,7 +13,7 @@ use crate::holding::held_fails;
 use log_history::LogHistory;
 use log_pager::LogPager;
 use log_reasons::Reason;
-use log_services::own_fails;
+use row_requests::own_fails;
 use vm_types::{Addr, Config, Pfn, Proc, Seat};
 
 /// A fault that meets a read: of which seat and at which address the fault is, into which frame the read

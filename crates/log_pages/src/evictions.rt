@@ -16,7 +16,7 @@ ghost use Rattle.log_pager.specs.Shown.{shown};
 use log_history::LogHistory;
 use log_pager::LogPager;
 use log_reasons::Reason;
-use log_services::{is_private, own_fails};
+use row_requests::{is_private, own_fails};
 use log_tables::Ring;
 use vm_journal::EvictWhy;
 use vm_types::{Addr, BlockId, Choice, FrameState, Page, Pfn, Proc, ProcStatus, Seat};
@@ -106,7 +106,7 @@ fn victim_slot(choice: Choice) -> Option<u32>
 }
 
 /// Whether the ring's victim is in a slot with this page.
-#[tactic(auto, using(log_services::proofs::Slots::held_there, log_services::proofs::Slots::none_there))]
+#[tactic(auto, using(row_requests::proofs::Slots::held_there, row_requests::proofs::Slots::none_there))]
 fn is_victim(ring: &Ring, limit: u32, v: u32) -> bool
     ensures { IsTrue result ↔ ((slot : ℕ) × (held : HeldPage) × (choose ring.now limit ≡ Choice.Victim slot)
         × (slice_get ring.now.slots slot ≡ Some (Some held)) × (held.vpn ≡ v)) }
@@ -158,7 +158,7 @@ fn replace_fails(past: &LogHistory<'_>, pager: &LogPager, e: Eviction) -> Option
 }
 
 /// Why a page may not leave its slot: it is purged, and locked or pinned.
-#[tactic(auto, using(log_services::proofs::Slots::held_there, log_services::proofs::Slots::none_there))]
+#[tactic(auto, using(row_requests::proofs::Slots::held_there, row_requests::proofs::Slots::none_there))]
 fn loose_fails(ring: &Ring, v: u32, purged: bool) -> Option<Reason>
     ensures legal { IsNone result ↔ ((held : HeldPage) → slice_get ring.now.slots (slot_with ring.now v) ≡ Some (Some held) → purged ≡ true → is_fixed held ≡ false) }
     ensures said { IfSome result (LooseFails ring.now v purged) }
@@ -214,7 +214,7 @@ fn is_written(past: &LogHistory<'_>, pager: &LogPager, f: Pfn, block: BlockId) -
 }
 
 /// Why the slot of a page has it pinned.
-#[tactic(auto, using(log_services::proofs::Slots::held_there, log_services::proofs::Slots::none_there))]
+#[tactic(auto, using(row_requests::proofs::Slots::held_there, row_requests::proofs::Slots::none_there))]
 fn unpinned_fails(ring: &Ring, v: u32) -> Option<Reason>
     ensures legal { IsNone result ↔ ((held : HeldPage) → slice_get ring.now.slots (slot_with ring.now v) ≡ Some (Some held) → held.pinned ≡ false) }
     ensures said { IfSome result (UnpinnedFails ring.now v) }

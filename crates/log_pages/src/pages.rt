@@ -17,7 +17,7 @@ use crate::holding::held_fails;
 use log_history::LogHistory;
 use log_pager::LogPager;
 use log_reasons::Reason;
-use log_services::{empty_head_fails, own_fails, room_fails};
+use row_requests::{empty_head_fails, own_fails, room_fails};
 use log_tables::{Behind, is_paged};
 use vm_types::{Addr, BlockId, Config, FrameState, Origin, Page, Pfn, Proc, ProcStatus, Seat};
 

@@ -6,7 +6,7 @@ ghost use Rattle.pager_model.specs.Order.{IsInOrder};
 ghost use Rattle.pager_model.specs.Step.{IsLegal, IsLegalWhat};
 ghost use Rattle.log_reasons.specs.EntryReasons.{EntryFails, WhatFails};
 ghost use Rattle.log_pager.specs.Shown.{shown};
-ghost use Rattle.log_processes.specs.FollowsFlat.{FollowsFlat};
+ghost use Rattle.row_requests.specs.FollowsFlat.{FollowsFlat};
 ghost use Rattle.log_steps.specs.Follows.{Follows};
 
 use crate::line::has_line;
@@ -15,9 +15,9 @@ use log_pager::LogPager;
 use log_pages::{
     Collision, Eviction, back_fails, collide_fails, evict_fails, reuse_fails, zero_fails,
 };
-use log_processes::{denied_fails, done_fails, in_turn_fails, limit_fails, turn_fails};
+use row_requests::{denied_fails, done_fails, in_turn_fails, limit_fails, turn_fails};
 use log_reasons::Reason;
-use log_services::served_fails;
+use row_requests::served_fails;
 use log_transfers::{bad_landing_fails, good_landing_fails, in_fails, out_fails};
 use pager_laws::{flat_machine_follows, runs_are_of_configuration};
 use vm_journal::{Entry, What};

@@ -18,7 +18,7 @@ use crate::blocks::home_fails;
 use log_history::{Direction, LogHistory};
 use log_pager::LogPager;
 use log_reasons::Reason;
-use log_services::{empty_head_fails, is_private, own_fails, room_fails};
+use row_requests::{empty_head_fails, is_private, own_fails, room_fails};
 use log_tables::Behind;
 use vm_journal::Role;
 use vm_types::{Addr, BlockId, Config, Origin, Page, Pfn, Proc, ProcStatus, Seat};

@@ -16,7 +16,7 @@ use crate::blocks::home_fails;
 use log_history::LogHistory;
 use log_pager::LogPager;
 use log_reasons::Reason;
-use log_services::is_private;
+use row_requests::is_private;
 use log_tables::is_paged;
 use vm_types::{BlockId, Config, Page, Pfn, Proc, ProcStatus};
 
@@ -120,7 +120,7 @@ fn private_fails(pager: &LogPager, f: Pfn) -> Option<Reason>
 }
 
 /// Why the slot of a process has no page that is valid in the frame, or a pinned one.
-#[tactic(auto, using(log_services::proofs::Slots::held_there, log_services::proofs::Slots::none_there))]
+#[tactic(auto, using(row_requests::proofs::Slots::held_there, row_requests::proofs::Slots::none_there))]
 fn slot_fails(pager: &LogPager, p: Proc, slot: u32, f: Pfn) -> Option<Reason>
     requires { p.0 < (shown pager.now).processes }
     ensures legal { IsNone result ↔ ((held : Held) × (entry : Valid) × (slice_get ((shown pager.now).pager.ring p.0).slots slot ≡ Some (Some held))
@@ -165,7 +165,7 @@ fn changed_fails(past: &LogHistory<'_>, pager: &LogPager, f: Pfn, block: BlockId
 }
 
 /// Why a write of a leaving process's page to a swap block of it may not begin.
-#[tactic(auto, using(log_services::proofs::Slots::swap_process))]
+#[tactic(auto, using(row_requests::proofs::Slots::swap_process))]
 fn out_swap_fails(
     past: &LogHistory<'_>,
     pager: &LogPager,

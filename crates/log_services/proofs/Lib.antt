@@ -1,3 +1,0 @@
-pub mod MappedRanges
-pub mod Places
-pub mod Slots

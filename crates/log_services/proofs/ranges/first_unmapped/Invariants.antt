@@ -1,9 +1,0 @@
-use Rattle.std.proofs.Common.{◌≡◌, ◌+◌, ◌/◌, ◌<◌, ◌≤◌, ℕ, Some}
-use Rattle.vm_types.specs.declared.names.Page.{Page}
-use Rattle.pager_model.specs.Lookups.{page_by}
-use Rattle.log_pager.specs.Shown.{shown}
-use Rattle.log_services.proofs.ranges.first_unmapped.Given as goal
-
--- those so far are mapped
-abbrev pub invariant-loop-n : goal.invariant-loop-n
-invariant-loop-n l = (v : ℕ) → l.range.at.0 / 512 ≤ v → v < l.range.at.0 / 512 + l.n → (g : Page) × (page_by l.config (shown l.pager).pager.map l.range.process.0 v ≡ Some g)

@@ -1,0 +1,2 @@
+pub mod FollowsFlat
+pub mod Marks
