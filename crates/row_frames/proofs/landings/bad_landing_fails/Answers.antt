@@ -1,7 +1,7 @@
 use Rattle.std.proofs.Common.{IsNone, refl, sym}
 use Rattle.std.proofs.lemmas.Bool.{false≢true}
-use Rattle.log_transfers.proofs.Arrivals.{bad_lands, bad_landing}
-use Rattle.log_transfers.proofs.landings.bad_landing_fails.Goals as goal
+use Rattle.row_frames.proofs.Arrivals.{bad_lands, bad_landing}
+use Rattle.row_frames.proofs.landings.bad_landing_fails.Goals as goal
 
 pub returns-in-Some-clause-legal : goal.returns-in-Some-clause-legal
 returns-in-Some-clause-legal c = (

@@ -1,7 +1,7 @@
 use Rattle.std.proofs.Common.{IsNone, refl}
 use Rattle.log_pager.specs.Shown.{shown}
-use Rattle.log_pages.proofs.ComingBack.{coming_back}
-use Rattle.log_pages.proofs.pages.back_coming_fails.Goals as goal
+use Rattle.row_frames.proofs.ComingBack.{coming_back}
+use Rattle.row_frames.proofs.pages.back_coming_fails.Goals as goal
 
 pub returns-clause-legal : goal.returns-clause-legal
 returns-clause-legal c =

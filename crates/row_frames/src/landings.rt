@@ -6,7 +6,7 @@ ghost use Rattle.pager_model.specs.Flights.{Flight as OpenFlight, is_reading, op
 ghost use Rattle.pager_model.specs.InOk.{IsLanding};
 ghost use Rattle.pager_model.specs.Transfers.{starts};
 ghost use Rattle.log_reasons.specs.LandingReasons.{BadLandingFails, CountedFails, LandingFails};
-ghost use Rattle.log_transfers.specs.Landings.{IsBadLanding, IsGoodLanding};
+ghost use Rattle.row_frames.specs.Landings.{IsBadLanding, IsGoodLanding};
 
 use log_history::LogHistory;
 use log_reasons::Reason;

@@ -1,3 +1,4 @@
 pub mod Arrivals
+pub mod ComingBack
 pub mod FaultReads
 pub mod OutBlocks

@@ -1,7 +1,7 @@
 use Rattle.std.proofs.Common.{IsNone, sym, ◌∙◌}
 use Rattle.log_pager.specs.Shown.{shown}
-use Rattle.log_transfers.proofs.FaultReads.{fault_read}
-use Rattle.log_transfers.proofs.reads.in_fault_fails.Goals as goal
+use Rattle.row_frames.proofs.FaultReads.{fault_read}
+use Rattle.row_frames.proofs.reads.in_fault_fails.Goals as goal
 
 pub returns-in-Some-clause-legal : goal.returns-in-Some-clause-legal
 returns-in-Some-clause-legal c =

@@ -7,7 +7,7 @@ use Rattle.pager_model.specs.Counted.{IsCounted}
 use Rattle.pager_model.specs.Flights.{Direction, Flight, is_reading, open_flights, reading, writing}
 use Rattle.pager_model.specs.InOk.{IsLanding}
 use Rattle.pager_model.specs.Transfers.{starts}
-use Rattle.log_transfers.specs.Landings.{IsBadLanding, IsGoodLanding}
+use Rattle.row_frames.specs.Landings.{IsBadLanding, IsGoodLanding}
 
 role_of : (d : Direction) → is_reading d ≡ true → (r : Role) × (d ≡ reading r)
 role_of (reading r) is = (r, refl)
