@@ -1,3 +1,5 @@
 pub mod Beginning
+mod Filling
 pub mod Holding
+mod NextLines
 pub mod Saying

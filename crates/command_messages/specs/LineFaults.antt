@@ -5,7 +5,7 @@ use Rattle.std.specs.List.{flat_map}
 use Rattle.std.specs.Str.{IsUtf8}
 use Rattle.study_command.specs.CommandLine.{frames_named, if_right, process_named}
 use Rattle.trace_words.specs.Number.{decimal_within}
-use Rattle.log_messages.specs.Shown.{shown}
+use Rattle.command_messages.specs.Shown.{shown}
 use Rattle.command_messages.specs.declared.faults.CommandName.{CommandName}
 use Rattle.command_messages.specs.declared.faults.CommandName.TheVariants.{Serial, Replay, Study, Make, Check, Dump, Show}
 use Rattle.command_messages.specs.declared.faults.LineOption.{LineOption}

@@ -6,8 +6,8 @@ use Rattle.std.specs.Io.KnownBytes.{Appends}
 use Rattle.vm_types.specs.Counts.{Rose}
 use Rattle.outside_io.specs.Views.{SinkView}
 use Rattle.trace_lines.specs.declared.breach.Breach.{Breach}
-use Rattle.log_messages.specs.LogMessage.{log_message}
-use Rattle.log_messages.specs.Shown.{shown}
+use Rattle.command_messages.specs.LogMessage.{log_message}
+use Rattle.command_messages.specs.Shown.{shown}
 use Rattle.command_ends.specs.declared.wrong.Wrong.{Wrong}
 use Rattle.command_ends.specs.declared.wrong.Wrong.TheVariants.{Line, Empty, Unfinished, LogTooLong, LogLine, DumpByte, Undeclared}
 use Rattle.command_messages.specs.LineFaults.{line_fault_text}

@@ -2,7 +2,7 @@
 
 ghost use Rattle.std.specs.Prelude.{◌≡◌, ◌+◌, ◌≤◌, ◌++◌, length, true, None};
 ghost use Rattle.arrayvec.specs.ArrayVec.{array_vec_len};
-ghost use Rattle.log_messages.specs.Texts.{Adds, AreWords};
+ghost use Rattle.command_messages.specs.Texts.{Adds, AreWords};
 ghost use Rattle.command_messages.specs.LineFaults.{said_text, takes_text};
 ghost use Rattle.command_messages.specs.Messages.{IsSaid, dump_message, fault_message, line_message, message_of, status_message, usage_message, usage_text, wrong_message};
 
@@ -12,7 +12,8 @@ use crate::options::words_of;
 use crate::reasons::push_reason;
 use arrayvec::ArrayVec;
 use command_ends::Wrong;
-use log_messages::{log_message, push_shown};
+use crate::lines::log_message;
+use crate::shown::push_shown;
 use outside_io::{Sink, write_whole};
 use trace_reader::Breach;
 use vm_text::{push_count, push_decimal, push_word};

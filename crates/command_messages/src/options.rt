@@ -1,7 +1,7 @@
 //! What an option is called, and what it may be.
 
 ghost use Rattle.std.specs.Prelude.{◌≡◌};
-ghost use Rattle.log_messages.specs.Texts.{AreWords};
+ghost use Rattle.command_messages.specs.Texts.{AreWords};
 ghost use Rattle.command_messages.specs.LineFaults.{option_word, range_text};
 
 use crate::faults::LineOption;

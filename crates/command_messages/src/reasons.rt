@@ -2,7 +2,7 @@
 
 ghost use Rattle.std.specs.Prelude.{◌≡◌, ◌+◌, ◌≤◌, length};
 ghost use Rattle.arrayvec.specs.ArrayVec.{array_vec_len};
-ghost use Rattle.log_messages.specs.Texts.{Adds, AreWords};
+ghost use Rattle.command_messages.specs.Texts.{Adds, AreWords};
 ghost use Rattle.command_messages.specs.Reasons.{begins, bound_text, breach_text, first_reason, from_to, is_dump, is_log, is_marked, is_wide, later_reason, reason_text, rule_text, with_one, with_so};
 
 use arrayvec::ArrayVec;

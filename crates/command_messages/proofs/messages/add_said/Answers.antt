@@ -2,7 +2,7 @@ use Rattle.std.proofs.Common.{rules, ℕ, List, ◌++◌, sym, ◌∙◌, ap, ap
 use Rattle.std.specs.Prelude.{codes}
 use Rattle.std.specs.List.{flat_map}
 use Rattle.command_messages.specs.LineFaults.{option_word, said_text}
-use Rattle.log_messages.specs.Shown.{shown}
+use Rattle.command_messages.specs.Shown.{shown}
 use Rattle.command_messages.specs.declared.faults.LineFault.{LineFault}
 use Rattle.command_messages.proofs.messages.add_said.Goals as goal
 

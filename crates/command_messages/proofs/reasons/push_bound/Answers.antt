@@ -1,7 +1,7 @@
 use Rattle.std.proofs.Common.{rules, ℕ, ◌++◌, sym, subst, ap, ◌∙◌}
 use Rattle.std.specs.Prelude.{codes, []}
 use Rattle.trace_lines.specs.declared.breach.Bound.{Bound}
-use Rattle.log_messages.specs.Texts.{Adds}
+use Rattle.command_messages.specs.Texts.{Adds}
 use Rattle.command_messages.specs.Reasons.{bound_text, with_one}
 use Rattle.command_messages.proofs.reasons.push_bound.Goals as goal
 

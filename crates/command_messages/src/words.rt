@@ -1,8 +1,8 @@
 //! Which words go with a condition, and what would have been right.
 
 ghost use Rattle.std.specs.Prelude.{◌≡◌};
-ghost use Rattle.log_messages.specs.Texts.{AreWords};
-ghost use Rattle.log_messages.specs.ReasonText.{frame_words, more_right, page_words, process_words, right_of, seat_words, service_words, transfer_words};
+ghost use Rattle.command_messages.specs.Texts.{AreWords};
+ghost use Rattle.command_messages.specs.ReasonText.{frame_words, more_right, page_words, process_words, right_of, seat_words, service_words, transfer_words};
 
 use crate::right::Right;
 use log_reasons::Reason;

@@ -1,8 +1,8 @@
 use Rattle.std.proofs.Common.{rules, arith, ℕ, List, ◌∷◌, ◌++◌, length, sym, ◌∙◌, ap, append_assoc}
 use Rattle.std.proofs.lemmas.List.{length-append}
-use Rattle.log_messages.specs.ReasonText.{filled_in, reason_text, right_of, right_text, seat_words}
-use Rattle.log_messages.proofs.Filling.{filled_at, filled_none}
-use Rattle.log_messages.proofs.said.push_reason.Goals as goal
+use Rattle.command_messages.specs.ReasonText.{filled_in, reason_text, right_of, right_text, seat_words}
+use Rattle.command_messages.proofs.Filling.{filled_at, filled_none}
+use Rattle.command_messages.proofs.said.push_reason.Goals as goal
 
 pub returns-in-None : goal.returns-in-None
 returns-in-None g c =

@@ -3,7 +3,7 @@
 ghost use Rattle.std.specs.Prelude.{◌≡◌, ◌+◌, ◌*◌, ◌≤◌, ◌++◌, length};
 ghost use Rattle.std.specs.List.{flat_map};
 ghost use Rattle.arrayvec.specs.ArrayVec.{array_vec_len};
-ghost use Rattle.log_messages.specs.Shown.{shown};
+ghost use Rattle.command_messages.specs.Shown.{shown};
 
 use arrayvec::ArrayVec;
 use vm_text::{push_hex, push_word};

@@ -1,9 +1,9 @@
 use Rattle.std.proofs.Common.{rules, ◌≡◌, ℕ, false, List, ◌++◌, length, sym, ap, ◌∙◌, append_assoc}
 use Rattle.std.specs.Prelude.{◌==◌, codes}
 use Rattle.std.specs.List.{flat_map}
-use Rattle.log_messages.specs.Shown.{shown}
-use Rattle.log_messages.proofs.NextLines.{next_some}
-use Rattle.log_messages.proofs.lines.add_next.Goals as goal
+use Rattle.command_messages.specs.Shown.{shown}
+use Rattle.command_messages.proofs.NextLines.{next_some}
+use Rattle.command_messages.proofs.lines.add_next.Goals as goal
 
 pub returns-else-is_empty : goal.returns-else-is_empty
 returns-else-is_empty c =

@@ -1,7 +1,7 @@
 use Rattle.std.proofs.Common.{◌≡◌, ◌+◌, ◌*◌, ◌≤◌, ◌++◌, length, take}
 use Rattle.std.specs.List.{flat_map}
-use Rattle.log_messages.specs.Shown.{shown}
-use Rattle.log_messages.proofs.shown.push_shown.Given as goal
+use Rattle.command_messages.specs.Shown.{shown}
+use Rattle.command_messages.proofs.shown.push_shown.Given as goal
 
 abbrev pub invariant-loop-byte : goal.invariant-loop-byte
 invariant-loop-byte g l = record {

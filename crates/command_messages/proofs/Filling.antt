@@ -4,7 +4,7 @@ use Rattle.std.specs.List.{AllByRecursion}
 use Rattle.std.proofs.lemmas.Bool.{ne_eqb}
 use Rattle.std.proofs.lemmas.List.Elements.{recursion_from_All}
 use Rattle.vm_text.specs.Spaced.{IsOther}
-use Rattle.log_messages.specs.ReasonText.{filled_in}
+use Rattle.command_messages.specs.ReasonText.{filled_in}
 
 none_by : (words text : List ℕ) → AllByRecursion (IsOther 37) words → filled_in words text ≡ words
 none_by [] text other = refl

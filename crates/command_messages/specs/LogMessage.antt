@@ -7,8 +7,8 @@ use Rattle.vm_text.specs.Hex.{hex}
 use Rattle.vm_text.specs.References.{why_word}
 use Rattle.log_reasons.specs.declared.line_reason.LineReason.{LineReason}
 use Rattle.log_reasons.specs.declared.line_reason.LineReason.TheVariants as why
-use Rattle.log_messages.specs.ReasonText.{reason_text}
-use Rattle.log_messages.specs.Shown.{shown}
+use Rattle.command_messages.specs.ReasonText.{reason_text}
+use Rattle.command_messages.specs.Shown.{shown}
 
 -- a reply, its value in eight digits
 abbrev pub reply_text : Reply → List ℕ

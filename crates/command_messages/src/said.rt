@@ -2,8 +2,8 @@
 
 ghost use Rattle.std.specs.Prelude.{◌≡◌, ◌+◌, ◌≤◌, ◌++◌, decimal, length};
 ghost use Rattle.arrayvec.specs.ArrayVec.{array_vec_len};
-ghost use Rattle.log_messages.specs.Texts.{Adds};
-ghost use Rattle.log_messages.specs.ReasonText.{block_text, page_text, reason_text, right_text, shared_text};
+ghost use Rattle.command_messages.specs.Texts.{Adds};
+ghost use Rattle.command_messages.specs.ReasonText.{block_text, page_text, reason_text, right_text, shared_text};
 
 use crate::right::Right;
 use crate::words::{right_of, seat_words};

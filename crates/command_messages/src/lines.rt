@@ -2,8 +2,8 @@
 
 ghost use Rattle.std.specs.Prelude.{◌≡◌, ◌≤◌, ◌++◌, codes, decimal, length};
 ghost use Rattle.arrayvec.specs.ArrayVec.{array_vec_len};
-ghost use Rattle.log_messages.specs.Texts.{Adds};
-ghost use Rattle.log_messages.specs.LogMessage.{line_part, log_message, next_text, reply_text, why_text};
+ghost use Rattle.command_messages.specs.Texts.{Adds};
+ghost use Rattle.command_messages.specs.LogMessage.{line_part, log_message, next_text, reply_text, why_text};
 
 use crate::said::push_reason;
 use crate::shown::push_shown;

@@ -10,8 +10,8 @@ use Rattle.vm_text.specs.References.{why_word}
 use Rattle.vm_text.specs.States.{state_word, status_word}
 use Rattle.log_reasons.specs.declared.reason.Reason.{Reason}
 use Rattle.log_reasons.specs.declared.reason.Reason.TheVariants as reason
-use Rattle.log_messages.specs.declared.right.Right.{Right}
-use Rattle.log_messages.specs.declared.right.Right.TheVariants as right
+use Rattle.command_messages.specs.declared.right.Right.{Right}
+use Rattle.command_messages.specs.declared.right.Right.TheVariants as right
 
 -- ---- the words, with % where what is right stands
 abbrev pub service_words : Reason → List ℕ

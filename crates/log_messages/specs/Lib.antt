@@ -1,4 +1,0 @@
-pub mod Shown
-pub mod Texts
-pub mod ReasonText
-pub mod LogMessage
