@@ -41,7 +41,7 @@ use Rattle.page_holders.proofs.ValidEntries.{mapping_of, valid_at_page}
 use Rattle.state_fits.proofs.FlightsMoved.{flight_within}
 use Rattle.log_pager.specs.Roles.{IsOfProcess}
 use Rattle.log_pager.specs.Shown.{Shown}
-use Rattle.log_steps.specs.Follows.{Follows}
+use Rattle.log_check.specs.Follows.{Follows}
 use Rattle.log_check.specs.Changing.{CanChange, CanLand, IsFor}
 
 -- a service's process is one of the configuration

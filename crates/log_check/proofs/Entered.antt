@@ -20,7 +20,7 @@ use Rattle.log_pager.specs.Shown.{Shown, shown}
 use Rattle.log_history.specs.Standing.{FailsOpen, Passed}
 use Rattle.pager_model.specs.Pager.{Pager}
 use Rattle.row_requests.specs.FollowsFlat.{FollowsFlat}
-use Rattle.log_steps.specs.Follows.{Follows}
+use Rattle.log_check.specs.Follows.{Follows}
 use Rattle.log_check.specs.declared.followed.Followed.{Followed}
 use Rattle.log_check.specs.Followed.{HasEntered, IsAdded, IsFollowed, MayEnter}
 use Rattle.log_check.specs.Replies.{CanAnswer, IsOfProcess}

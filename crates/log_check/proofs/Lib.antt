@@ -1,7 +1,9 @@
 mod Answered
 mod Changeable
 mod Entered
+pub mod Entries
 mod FirstLines
+pub mod Follows
 mod Fronts
 mod Led
 mod Logs

@@ -7,7 +7,7 @@ use Rattle.pager_model.specs.Spoken.{ShowsReply, flat_after}
 use Rattle.pager_model.specs.Step.{IsLegal}
 use Rattle.log_flat.specs.Kept.{IsKept, kept}
 use Rattle.log_pager.specs.Shown.{shown}
-use Rattle.log_steps.specs.Follows.{Follows}
+use Rattle.log_check.specs.Follows.{Follows}
 use Rattle.log_check.specs.declared.followed.Followed.{Followed}
 
 -- the pager's state and the bytes of pages are those after the entries, which are a run in order

@@ -1,6 +1,7 @@
 pub mod Changing
 pub mod EntryLine
 pub mod Followed
+pub mod Follows
 pub mod Judged
 pub mod Leading
 pub mod Reading

@@ -2,7 +2,7 @@ ghost use Rattle.std.specs.Prelude.{◌≡◌, ◌+◌, ◌<◌, ◌^◌, [], If
 ghost use Rattle.vm_types.specs.Configuration.{IsWellFormed};
 ghost use Rattle.log_reasons.specs.LineReasons.{IsRefused};
 ghost use Rattle.log_pager.specs.Shown.{shown};
-ghost use Rattle.log_steps.specs.Follows.{Follows};
+ghost use Rattle.log_check.specs.Follows.{Follows};
 
 use crate::changes::change;
 use crate::replies::other_reply;
@@ -10,7 +10,7 @@ use log_flat::PageBytes;
 use log_history::LogHistory;
 use log_pager::LogPager;
 use log_reasons::LineReason;
-use log_steps::{fails, flat_is_followed};
+use crate::step::{fails, flat_is_followed};
 use std::alloc::Global;
 use vm_journal::Entry;
 use vm_types::{Config, NoMemory};

@@ -8,12 +8,15 @@ mod check_fault;
 mod entry_line;
 mod expected;
 mod followed;
+mod line;
 mod place;
 mod replies;
+mod step;
 mod texts;
 mod turning;
 mod verdict;
 
 pub use check::check_log;
 pub use check_fault::CheckFault;
+pub use step::{fails, flat_is_followed};
 pub use verdict::Verdict;

@@ -12,7 +12,7 @@ use crate::place::Place;
 use crate::texts::{begin_ending, begin_report, go_on_ending, go_on_report};
 use log_reasons::LineReason;
 use log_rundown::Underway;
-use log_steps::fails;
+use crate::step::fails;
 use std::alloc::Global;
 use vm_journal::Entry;
 use vm_types::NoMemory;

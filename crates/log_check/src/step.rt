@@ -7,7 +7,7 @@ ghost use Rattle.pager_model.specs.Step.{IsLegal, IsLegalWhat};
 ghost use Rattle.log_reasons.specs.EntryReasons.{EntryFails, WhatFails};
 ghost use Rattle.log_pager.specs.Shown.{shown};
 ghost use Rattle.row_requests.specs.FollowsFlat.{FollowsFlat};
-ghost use Rattle.log_steps.specs.Follows.{Follows};
+ghost use Rattle.log_check.specs.Follows.{Follows};
 
 use crate::line::has_line;
 use log_history::LogHistory;

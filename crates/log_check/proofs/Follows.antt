@@ -7,7 +7,7 @@ use Rattle.pager_model.specs.Pager.{Pager}
 use Rattle.pager_laws.specs.Laws.{MapsFollow, RunsAreOfConfig, TouchedFollows}
 use Rattle.log_pager.specs.Shown.{Shown}
 use Rattle.row_requests.specs.FollowsFlat.{FollowsFlat}
-use Rattle.log_steps.specs.Follows.{Follows}
+use Rattle.log_check.specs.Follows.{Follows}
 
 pub follows_flat : (config : Config) (past : List Entry) (s : Shown) → Follows config past s → MapsFollow → TouchedFollows → RunsAreOfConfig → FollowsFlat config past s.pager
 follows_flat config past s is maps touched right = record {

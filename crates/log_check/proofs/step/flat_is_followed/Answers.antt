@@ -1,6 +1,6 @@
 use Rattle.log_pager.specs.Shown.{shown}
-use Rattle.log_steps.proofs.Follows.{follows_flat}
-use Rattle.log_steps.proofs.step.flat_is_followed.Goals as goal
+use Rattle.log_check.proofs.Follows.{follows_flat}
+use Rattle.log_check.proofs.step.flat_is_followed.Goals as goal
 
 pub returns : goal.returns
 returns c =

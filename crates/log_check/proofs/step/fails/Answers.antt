@@ -1,8 +1,8 @@
 use Rattle.std.proofs.Common.{IsNone, arith, inl, inr, refl}
 use Rattle.log_pager.specs.Shown.{shown}
-use Rattle.log_steps.proofs.Entries.{entry_fails, entry_legal}
-use Rattle.log_steps.proofs.Follows.{follows_flat}
-use Rattle.log_steps.proofs.step.fails.Goals as goal
+use Rattle.log_check.proofs.Entries.{entry_fails, entry_legal}
+use Rattle.log_check.proofs.Follows.{follows_flat}
+use Rattle.log_check.proofs.step.fails.Goals as goal
 
 pub what_fails-requires-clause-frames : goal.what_fails-requires-clause-frames
 what_fails-requires-clause-frames c =
