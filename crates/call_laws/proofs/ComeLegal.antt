@@ -33,7 +33,7 @@ use Rattle.pager_model.specs.Step.{IsLegal}
 use Rattle.pager_model.specs.Swap.{GivenSwap, back_of, back_page, come_free, come_gives, come_out, come_target, come_targets, is_back_on_free, is_free_frame, is_out_page, lying_in, run_from, swap_again, swap_carry, swap_in_flight, swap_no_frame, swap_settled, swap_where}
 use Rattle.pager_model.specs.Transfers.{has_come, is_come, is_read_on}
 use Rattle.pager_rules.proofs.Basics.{at_number_other, at_number_same, count_from_no_find, each_fails, nat_eq_refl, no_failed_read, pages_equal, states_equal}
-use Rattle.vm_types.specs.Same.{same_page}
+use Rattle.vm_types.specs.Same.{same_page, same_block}
 use Rattle.vm_types.specs.declared.names.Addr.{Addr}
 use Rattle.page_holders.proofs.EntryPages.{mapped_right}
 use Rattle.page_holders.proofs.Holders.{free_is, holder_holds, holds_within}
@@ -51,13 +51,13 @@ use Rattle.call_laws.proofs.FollowingPages.{lies_there}
 use Rattle.call_laws.specs.Ready.{MayWork}
 use Rattle.call_laws.proofs.FreeTurn.{free_turn, not_both, page_starts, same_number}
 use Rattle.pager_model.specs.Carrier.{Carrying, carrying}
-use Rattle.pager_model.specs.InTurn.{InTurn, MayJoin, is_next_block}
+use Rattle.pager_model.specs.InTurn.{InTurn, MayJoin}
+use Rattle.vm_types.specs.BlockOrder.{is_next_block}
 use Rattle.vm_types.specs.declared.names.Proc.{Proc}
 use Rattle.call_laws.proofs.NearLegal.{IsOutIn, begun_read, busy_after, carrying_after, out_after_come, out_after_reuse, tail_without}
 use Rattle.call_laws.proofs.HaveNames.{block_named, page_named}
 use Rattle.call_laws.proofs.ClusterLegal.{first_counts, later_counts, not_same}
 use Rattle.pager_model.specs.Sets.{at_number}
-use Rattle.vm_types.specs.Same.{same_block}
 use Rattle.call_laws.proofs.WritesLegal.{IsAtWork, Joins}
 use Rattle.call_laws.proofs.AdvanceLegal.{lesser_first, lesser_second}
 use Rattle.call_laws.proofs.BlocksHome.{lying_home}

@@ -14,7 +14,7 @@ use Rattle.pager_model.specs.Advance.{block_after, following, following_owner, f
 use Rattle.pager_model.specs.Around.{PastView}
 use Rattle.pager_model.specs.In.{is_kin}
 use Rattle.pager_model.specs.Maps.{is_paged, is_private}
-use Rattle.pager_model.specs.InTurn.{is_next_block}
+use Rattle.vm_types.specs.BlockOrder.{is_next_block}
 use Rattle.pager_model.specs.OfConfig.{IsOfConfig, IsPageOf}
 use Rattle.pager_model.specs.Pager.{Pager}
 use Rattle.pager_rules.proofs.Basics.{nat_eq_refl}

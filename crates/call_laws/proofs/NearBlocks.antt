@@ -17,7 +17,8 @@ use Rattle.pager_model.specs.Around.{past_view}
 use Rattle.pager_model.specs.Carrier.{carried, carrying, carrying_with}
 use Rattle.pager_model.specs.Flights.{Flight, flights_with, is_busy, open_flights, reading, writing}
 use Rattle.pager_model.specs.In.{IsFirstIn, IsIn, IsInFault, is_fault_or_near}
-use Rattle.pager_model.specs.InTurn.{InTurn, is_next_block}
+use Rattle.pager_model.specs.InTurn.{InTurn}
+use Rattle.vm_types.specs.BlockOrder.{is_next_block}
 use Rattle.pager_model.specs.Maps.{page_number}
 use Rattle.pager_model.specs.Run.{IsRun, pager_after}
 use Rattle.pager_model.specs.Step.{IsLegalWhat}

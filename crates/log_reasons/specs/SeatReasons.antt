@@ -4,7 +4,8 @@ use Rattle.vm_types.specs.declared.config.Config.{Config}
 use Rattle.vm_journal.specs.declared.entry.Entry.{Entry}
 use Rattle.pager_model.specs.Carrier.{Carrying, carrying}
 use Rattle.pager_model.specs.Flights.{Flight, awaits_reuse, begun_by, failed_flight, is_busy, is_reading, open_flights}
-use Rattle.pager_model.specs.InTurn.{cluster_of, is_flight_work, is_next_block, is_reuse_of}
+use Rattle.pager_model.specs.InTurn.{cluster_of, is_flight_work, is_reuse_of}
+use Rattle.vm_types.specs.BlockOrder.{is_next_block}
 use Rattle.pager_model.specs.Transfers.{is_fault}
 use Rattle.log_reasons.specs.declared.reason.Reason.{Reason}
 use Rattle.log_reasons.specs.declared.reason.Reason.TheVariants as reason

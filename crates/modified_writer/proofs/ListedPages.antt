@@ -15,13 +15,13 @@ use Rattle.vm_journal.specs.declared.entry.Entry.{Entry}
 use Rattle.page_lists.specs.Lists.{count_of, without}
 use Rattle.pfn_database.specs.declared.row.Row.{Row}
 use Rattle.pager_model.specs.Around.{frame_view, past_view}
-use Rattle.pager_model.specs.InTurn.{is_next_block}
+use Rattle.vm_types.specs.BlockOrder.{is_next_block, if_next}
 use Rattle.pager_model.specs.Lookups.{IsHead, block_of}
 use Rattle.pager_model.specs.Maps.{is_paged}
 use Rattle.pager_model.specs.OfConfig.{IsPageOf}
 use Rattle.pager_model.specs.Pager.{Pager}
 use Rattle.pager_model.specs.Run.{IsRun, pager_after}
-use Rattle.pager_model.specs.WriteCluster.{block_out, filed_block, if_next, is_free_block, new_block, paged_block}
+use Rattle.pager_model.specs.WriteCluster.{block_out, filed_block, is_free_block, new_block, paged_block}
 use Rattle.pager_rules.proofs.Basics.{count_cons_yes, nat_eq_refl}
 use Rattle.pager_rules.proofs.Frames.{modified_frame}
 use Rattle.pager_rules.proofs.Lists.{filter_all}

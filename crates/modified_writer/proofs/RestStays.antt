@@ -12,12 +12,12 @@ use Rattle.vm_journal.specs.declared.entry.What.{What}
 use Rattle.vm_journal.specs.declared.entry.What.TheVariants as what
 use Rattle.page_lists.specs.Lists.{count_of}
 use Rattle.pager_model.specs.Given.{pfn}
-use Rattle.pager_model.specs.InTurn.{is_next_block}
+use Rattle.vm_types.specs.BlockOrder.{is_next_block, if_next}
 use Rattle.pager_model.specs.Lookups.{block_of, is_assigned_to, is_owner}
 use Rattle.pager_model.specs.Maps.{is_paged}
 use Rattle.pager_model.specs.Out.{after_any_out, assigned_with}
 use Rattle.pager_model.specs.Pager.{Assigned, Pager}
-use Rattle.pager_model.specs.WriteCluster.{block_out, if_next, is_free_block, new_block, paged_block, filed_block, writes_from, writes_taken}
+use Rattle.pager_model.specs.WriteCluster.{block_out, is_free_block, new_block, paged_block, filed_block, writes_from, writes_taken}
 use Rattle.pager_rules.proofs.Basics.{count_cons, count_cons_no, find_cons_no, nat_eq_refl, pages_equal}
 
 -- the blocks of the page file that a cluster with this last block may still take

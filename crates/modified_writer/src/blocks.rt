@@ -7,7 +7,7 @@ ghost use Rattle.pager_model.specs.WriteCluster.{block_out, is_free_block, new_b
 ghost use Rattle.vm_state.specs.History.{pager};
 ghost use Rattle.vm_state.specs.PageReadings.{IsKnown};
 
-use block_order::if_next;
+use vm_types::if_next;
 use disk_trait::Block;
 use state_pages::is_paged;
 use vm_state::State;

@@ -1,7 +1,6 @@
 -- Whose turn it is: the three rules of seats. This project's own.
 use Rattle.std.specs.Prelude.{◌≡◌, ℕ, Bool, true, false, ◌+◌, ◌<◌, ◌&&◌, List, Option, Some, None, length, nat_eq}
-use Rattle.vm_types.specs.declared.names.BlockId.{BlockId}
-use Rattle.vm_types.specs.declared.names.BlockId.TheVariants as block
+use Rattle.vm_types.specs.BlockOrder.{is_next_block}
 use Rattle.vm_types.specs.declared.config.Config.{Config}
 use Rattle.vm_journal.specs.declared.entry.Entry.{Entry}
 use Rattle.vm_journal.specs.declared.entry.What.{What}
@@ -9,13 +8,6 @@ use Rattle.vm_journal.specs.declared.entry.What.TheVariants as what
 use Rattle.pager_model.specs.Carrier.{Carrying, carrying}
 use Rattle.pager_model.specs.Flights.{Direction, Flight, awaits_reuse, begun_by, failed_flight, is_busy, is_reading, open_flights, reading, writing}
 use Rattle.pager_model.specs.Transfers.{is_fault}
-
--- the block after this one: of the page file, of one process's swap blocks, or of one section
-abbrev pub is_next_block : BlockId → BlockId → Bool
-is_next_block (block.PageFile m) (block.PageFile n) = nat_eq n (m + 1)
-is_next_block (block.Swap p m) (block.Swap q n) = nat_eq p.0 q.0 && nat_eq n (m + 1)
-is_next_block (block.Section s i) (block.Section t j) = nat_eq s.0 t.0 && nat_eq j (i + 1)
-is_next_block b other = false
 
 -- a carrier has at most so many reads, or writes
 abbrev pub cluster_of : Config → Direction → ℕ

@@ -11,7 +11,7 @@ use Rattle.vm_types.specs.declared.config.Config.{Config}
 use Rattle.vm_journal.specs.declared.entry.What.{What}
 use Rattle.vm_journal.specs.declared.entry.What.TheVariants as what
 use Rattle.pager_model.specs.Given.{Given, given, pfn}
-use Rattle.pager_model.specs.InTurn.{is_next_block}
+use Rattle.vm_types.specs.BlockOrder.{if_next}
 use Rattle.pager_model.specs.Lookups.{block_of, is_owner}
 use Rattle.pager_model.specs.Maps.{is_paged}
 use Rattle.pager_model.specs.Pager.{Pager}
@@ -31,11 +31,6 @@ is_free_block config a n = nat_lt n config.pagefile && nat_eq (count_by (is_owne
 -- the lowest page file block that is free
 abbrev pub lowest_free : Config → Pager → Option BlockId
 lowest_free config a = option_map block.PageFile (find (is_free_block config a) (range_with_len 0 config.pagefile))
-
--- a page whose block is fixed joins only if that is the next one
-abbrev pub if_next : Option BlockId → BlockId → Option BlockId
-if_next None b = Some b
-if_next (Some last) b = if is_next_block last b then Some b else None
 
 -- a page without a block takes the lowest free block if it comes first, and later the next block of the
 -- page file if that is free

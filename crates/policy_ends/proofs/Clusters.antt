@@ -18,7 +18,7 @@ use Rattle.vm_journal.specs.declared.entry.What.TheVariants as what
 use Rattle.pager_model.specs.Changes.{pushed_if}
 use Rattle.pager_model.specs.Flights.{Direction, Flight, is_reading, open_flights, reading, writing}
 use Rattle.pager_model.specs.Given.{Given, by_seat, given, made_by, passes, pfn, seen_at, seen_by, seen_in, seen_page}
-use Rattle.pager_model.specs.InTurn.{is_next_block}
+use Rattle.vm_types.specs.BlockOrder.{is_next_block, if_next}
 use Rattle.pager_model.specs.Landings.{Outcome, landed_by, landing, went_badly, went_well}
 use Rattle.pager_model.specs.Lookups.{block_of, entry_of, shares, slot_of}
 use Rattle.pager_model.specs.Maps.{is_paged}
@@ -29,7 +29,7 @@ use Rattle.pager_model.specs.Run.{IsRun, pager_after}
 use Rattle.pager_model.specs.Rundown.{is_shared_at, written_for_need}
 use Rattle.pager_model.specs.Swap.{is_shared_seen}
 use Rattle.pager_model.specs.Transfers.{starts}
-use Rattle.pager_model.specs.WriteCluster.{BeginIs, begin_carry, begin_nothing, block_out, filed_block, if_next, is_enough, is_free_block, new_block, paged_block, reason_need, writes_from, writes_taken}
+use Rattle.pager_model.specs.WriteCluster.{BeginIs, begin_carry, begin_nothing, block_out, filed_block, is_enough, is_free_block, new_block, paged_block, reason_need, writes_from, writes_taken}
 use Rattle.pager_rules.proofs.Basics.{count_cons_yes}
 use Rattle.pager_rules.proofs.Lists.{all_filter, all_found}
 use Rattle.pager_laws.proofs.RunsAreSound.{run_kept}

@@ -6,7 +6,7 @@ ghost use Rattle.pager_model.specs.Flights.{Flight as OpenFlight, awaits_reuse, 
 ghost use Rattle.pager_model.specs.InTurn.{InTurn, MayJoin, is_flight_work, is_reuse_of};
 ghost use Rattle.log_reasons.specs.SeatReasons.{FlightWorkFails, InTurnFails, JoinsFail, MayJoinFails, ReuseNextFails};
 
-use block_order::is_next_block;
+use vm_types::is_next_block;
 use log_history::{Carrying, Flight, LogHistory};
 use log_reasons::Reason;
 use vm_journal::{Entry, Role, What};

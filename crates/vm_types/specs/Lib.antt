@@ -14,3 +14,4 @@ pub mod Behind
 pub mod BlockView
 pub mod Moved
 pub mod Counts
+pub mod BlockOrder

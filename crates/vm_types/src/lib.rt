@@ -4,6 +4,7 @@
 mod access;
 mod address;
 mod behind;
+mod block_order;
 mod config;
 mod faults;
 mod in_tables;
@@ -20,6 +21,7 @@ mod service;
 pub use access::allowed;
 pub use address::split;
 pub use behind::origin_after;
+pub use block_order::{if_next, is_next_block};
 pub use config::{
     Config, Fails, Mapping, Origin, Params, ProcSpec, Section, SectionKind, Task, Version,
 };

@@ -1,8 +1,7 @@
 ghost use Rattle.std.specs.Prelude.{◌≡◌, ◌+◌, nat_eq};
-ghost use Rattle.pager_model.specs.InTurn.{is_next_block};
-ghost use Rattle.pager_model.specs.WriteCluster.{if_next};
+ghost use Rattle.vm_types.specs.BlockOrder.{is_next_block, if_next};
 
-use vm_types::BlockId;
+use crate::names::BlockId;
 
 /// Whether a number is the one after another.
 fn is_next(m: u32, n: u32) -> bool
