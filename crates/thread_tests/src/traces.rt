@@ -1,5 +1,5 @@
 //! Configurations of traces.
-ghost use Rattle.std.specs.Prelude.{IfOk};
+ghost use Rattle.std.specs.Prelude.{◌≡◌, ◌<◌, IfOk, Some, length, slice_get};
 ghost use Rattle.vm_types.specs.Configuration.{IsWellFormed};
 
 use arrayvec::ArrayVec;
@@ -7,7 +7,7 @@ use outside_io::MemorySource;
 use std::alloc::Global;
 use std::test::Fail;
 use trace_reader::read_trace;
-use vm_types::Config;
+use vm_types::{Config, Task};
 
 /// The configuration whose body is these lines, so many times.
 pub fn repeated(alloc: Global, head: &str, lines: &str, times: u32) -> Result<Config, Fail>
@@ -23,4 +23,19 @@ pub fn repeated(alloc: Global, head: &str, lines: &str, times: u32) -> Result<Co
         Ok(config) => Ok(config),
         Err(_) => Err(Fail::from("a trace")),
     }
+}
+
+/// The configuration of a trace without its last line.
+pub fn config_of(alloc: Global, trace: &str) -> Result<Config, Fail>
+    ensures { IfOk result IsWellFormed }
+{
+    repeated(alloc, trace, "", 0)
+}
+
+/// The task at a place.
+pub fn task_at(body: &[Task], i: usize) -> Task
+    requires { i < length body.now }
+    ensures { slice_get body.now i ≡ Some result }
+{
+    body[i]
 }

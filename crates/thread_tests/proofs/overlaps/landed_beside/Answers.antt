@@ -2,8 +2,8 @@ use Rattle.std.proofs.Common.{rules, ◌≡◌, ◌∙◌, ℕ, List, All, ap, l
 use Rattle.vm_types.specs.Configuration.{IsTask, IsWellFormed}
 use Rattle.vm_types.specs.declared.config.Task.{Task}
 use Rattle.vm_state.specs.History.{History}
-use Rattle.transfer_tests.proofs.Seating.{split_tasks}
-use Rattle.transfer_tests.proofs.overlaps.landed_beside.Goals as goal
+use Rattle.thread_tests.proofs.Seating.{split_tasks}
+use Rattle.thread_tests.proofs.overlaps.landed_beside.Goals as goal
 
 pub landed_on-requires-clause-playable : goal.landed_on-requires-clause-playable
 landed_on-requires-clause-playable g c κs within = record {

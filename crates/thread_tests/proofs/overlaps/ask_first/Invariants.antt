@@ -1,8 +1,8 @@
 -- Both desks stay those of the first two seats.
 use Rattle.std.proofs.Common.{◌≡◌}
 use Rattle.vm_state.specs.Based.{base_of}
-use Rattle.transfer_tests.specs.Desks.{IsSeated}
-use Rattle.transfer_tests.proofs.overlaps.ask_first.Given as goal
+use Rattle.thread_tests.specs.Desks.{IsSeated}
+use Rattle.thread_tests.proofs.overlaps.ask_first.Given as goal
 
 abbrev pub invariant-loop-i : goal.invariant-loop-i
 invariant-loop-i g l = record {

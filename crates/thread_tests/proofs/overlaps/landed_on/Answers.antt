@@ -2,7 +2,7 @@ use Rattle.std.proofs.Common.{[], ◌∷◌, ap, sym, ◌∙◌}
 use Rattle.history_lock.specs.Views.{unseen}
 use Rattle.vm_state.specs.Based.{base_of}
 use Rattle.vm_state.specs.History.{History}
-use Rattle.transfer_tests.proofs.overlaps.landed_on.Goals as goal
+use Rattle.thread_tests.proofs.overlaps.landed_on.Goals as goal
 
 pub last_desk-requires-clause-fresh : goal.last_desk-requires-clause-fresh
 last_desk-requires-clause-fresh g c κs = λ i pass at. record {

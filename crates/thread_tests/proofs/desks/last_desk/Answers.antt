@@ -2,8 +2,8 @@ use Rattle.std.proofs.Common.{rules, ◌≡◌, ℕ, length, ap, ◌∙◌}
 use Rattle.history_lock.proofs.Places.{last_there, still_there}
 use Rattle.vm_state.specs.Based.{base_of}
 use Rattle.call_begins.specs.MayBegin.{empty}
-use Rattle.transfer_tests.proofs.Seating.{seated_first}
-use Rattle.transfer_tests.proofs.desks.last_desk.Goals as goal
+use Rattle.thread_tests.proofs.Seating.{seated_first}
+use Rattle.thread_tests.proofs.desks.last_desk.Goals as goal
 
 pub returns-clause-fresh : goal.returns-clause-fresh
 returns-clause-fresh g c = λ i pass at. c.requires.fresh i pass (still_there c.take_last-pass.new.items.items c.args.passes.now.items c.take_last-pass.result pass i c.take_last-pass.ensures at)

@@ -2,7 +2,7 @@
 //! has begun, and fails if it waits in vain.
 ghost use Rattle.std.specs.Prelude.{◌≡◌, ◌⊎◌, [], All, IfOk, length};
 ghost use Rattle.replay_run.specs.Jobs.{IsPlayable};
-ghost use Rattle.transfer_tests.specs.Desks.{IsSeated};
+ghost use Rattle.thread_tests.specs.Desks.{IsSeated};
 ghost use Rattle.vm_actors.specs.Doings.{MayAsk};
 ghost use Rattle.vm_state.specs.Based.{base_of};
 ghost use Rattle.vm_types.specs.Configuration.{IsTask};

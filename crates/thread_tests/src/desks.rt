@@ -1,7 +1,7 @@
 //! Seats at the lock round a state that has no entries.
 ghost use Rattle.std.specs.Prelude.{◌≡◌, ℕ, ◌+◌, ◌<◌, ◌^◌, [], ◌∷◌, ◌++◌, IfOk, Some, length, slice_get};
 ghost use Rattle.replay_run.specs.Jobs.{IsFresh, IsPlayable};
-ghost use Rattle.transfer_tests.specs.Desks.{IsSeated};
+ghost use Rattle.thread_tests.specs.Desks.{IsSeated};
 ghost use Rattle.vm_actors.specs.Doings.{MayAsk};
 ghost use Rattle.vm_state.specs.Based.{base_of};
 

@@ -4,8 +4,8 @@ use Rattle.vm_types.specs.declared.names.Seat.{Seat}
 use Rattle.vm_state.specs.Based.{base_of}
 use Rattle.vm_state.specs.History.{History}
 use Rattle.vm_actors.specs.Doings.{MayAsk}
-use Rattle.transfer_tests.proofs.Seating.{may_ask, task_of}
-use Rattle.transfer_tests.proofs.single_calls.answers_of.Goals as goal
+use Rattle.thread_tests.proofs.Seating.{may_ask, task_of}
+use Rattle.thread_tests.proofs.single_calls.answers_of.Goals as goal
 
 pub last_desk-requires-clause-fresh : goal.last_desk-requires-clause-fresh
 last_desk-requires-clause-fresh g c κs within = λ i pass at. record {

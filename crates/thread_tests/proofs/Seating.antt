@@ -20,7 +20,7 @@ use Rattle.call_begins.specs.MayBegin.{empty}
 use Rattle.vm_actors.specs.Between.{NoneOpen}
 use Rattle.vm_actors.specs.Doings.{Knows, MayAsk}
 use Rattle.replay_run.specs.Jobs.{IsFresh, IsPlayable}
-use Rattle.transfer_tests.specs.Desks.{IsSeated}
+use Rattle.thread_tests.specs.Desks.{IsSeated}
 
 -- a pass that stands on such a base knows it
 pub knows : (Is : Config → Type 0) (b : StateBase) (o : Option StateBase) → o ≡ Some b → IsPlayable b → Is b.config → Knows Is o

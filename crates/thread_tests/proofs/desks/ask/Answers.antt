@@ -1,6 +1,6 @@
 use Rattle.vm_state.specs.Based.{base_of}
-use Rattle.transfer_tests.proofs.Seating.{empty_again, seated_after}
-use Rattle.transfer_tests.proofs.desks.ask.Goals as goal
+use Rattle.thread_tests.proofs.Seating.{empty_again, seated_after}
+use Rattle.thread_tests.proofs.desks.ask.Goals as goal
 
 pub returns-clause-seated : goal.returns-clause-seated
 returns-clause-seated g c =
