@@ -15,7 +15,7 @@ use Rattle.pager_model.specs.Lookups.{IsHead}
 use Rattle.pager_model.specs.Run.{IsRun}
 use Rattle.pager_laws.proofs.RunsAreSound.{run_kept}
 use Rattle.pager_rules.proofs.Put.{head_counts}
-use Rattle.page_holders.proofs.Holders.{free_is}
+use Rattle.pager_laws.proofs.Holders.{free_is}
 use Rattle.call_laws.specs.AreLegal.{AreLegal}
 use Rattle.vm_state.specs.History.{History, MayAdd, entry_by, owed, pager}
 use Rattle.vm_state.specs.LiftsLand.{added_each}

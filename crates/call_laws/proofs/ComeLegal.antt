@@ -35,9 +35,9 @@ use Rattle.pager_model.specs.Transfers.{has_come, is_come, is_read_on}
 use Rattle.pager_rules.proofs.Basics.{at_number_other, at_number_same, count_from_no_find, each_fails, nat_eq_refl, no_failed_read, pages_equal, states_equal}
 use Rattle.vm_types.specs.Same.{same_page, same_block}
 use Rattle.vm_types.specs.declared.names.Addr.{Addr}
-use Rattle.page_holders.proofs.EntryPages.{mapped_right}
-use Rattle.page_holders.proofs.Holders.{free_is, holder_holds, holds_within}
-use Rattle.page_holders.proofs.ValidEntries.{valid_at_page}
+use Rattle.pager_laws.proofs.EntryPages.{mapped_right}
+use Rattle.pager_laws.proofs.Holders.{free_is, holder_holds, holds_within}
+use Rattle.pager_laws.proofs.ValidEntries.{valid_at_page}
 use Rattle.pager_rules.proofs.Frames.{at_state}
 use Rattle.pager_rules.proofs.Lists.{all_found, found_one, found_passes, count_found}
 use Rattle.pager_rules.proofs.Pages.{own_process}

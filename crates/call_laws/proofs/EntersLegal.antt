@@ -33,7 +33,7 @@ use Rattle.pager_rules.proofs.Basics.{count_from_no_find, find_cons_yes, nat_eq_
 use Rattle.pager_rules.proofs.Frames.{at_state}
 use Rattle.pager_rules.proofs.Put.{head_counts}
 use Rattle.pager_rules.specs.Kept.{FitsFrame}
-use Rattle.page_holders.proofs.Holders.{free_is, holder_holds}
+use Rattle.pager_laws.proofs.Holders.{free_is, holder_holds}
 use Rattle.call_laws.proofs.HaveNames.{page_named}
 use Rattle.call_laws.specs.Ready.{IsReady}
 use Rattle.call_laws.proofs.FreeTurn.{free_turn, page_starts, same_number}

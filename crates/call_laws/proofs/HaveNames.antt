@@ -10,7 +10,7 @@ use Rattle.vm_types.specs.declared.names.Page.{Page}
 use Rattle.vm_types.specs.declared.names.Page.TheVariants.{Private, Shared}
 use Rattle.vm_text.specs.Named.{IsNamedBlock, IsNamedPage, IsNamedSection}
 use Rattle.pager_model.specs.OfConfig.{IsMappable, IsPageOf}
-use Rattle.page_holders.proofs.SectionNumbers.{in_all}
+use Rattle.pager_laws.proofs.SectionNumbers.{in_all}
 
 module _ (config : Config) (formed : IsWellFormed config) where
   section_named : (s i : ℕ) → IsSectionPage config.sections s i → IsNamedSection config.sections s × (i < 2 ^ 32)

@@ -33,9 +33,9 @@ use Rattle.pager_rules.proofs.Basics.{at_number_other, count_cons_no, nat_eq_ref
 use Rattle.pager_rules.proofs.Lists.{all_found, count_found, found_passes}
 use Rattle.pager_rules.proofs.Put.{blocks_equal}
 use Rattle.pager_rules.specs.Kept.{IsKept}
-use Rattle.page_holders.proofs.EntryPages.{mapped_right}
-use Rattle.page_holders.proofs.Holders.{holds_within}
-use Rattle.page_holders.proofs.ValidEntries.{IsValidAt, valid_at_page}
+use Rattle.pager_laws.proofs.EntryPages.{mapped_right}
+use Rattle.pager_laws.proofs.Holders.{holds_within}
+use Rattle.pager_laws.proofs.ValidEntries.{IsValidAt, valid_at_page}
 use Rattle.call_laws.proofs.SlotsOnce.{only_place}
 use Rattle.call_laws.proofs.WritesHome.{IsStill, moved_by_none}
 use Rattle.call_laws.proofs.WritesLegal.{HasWritten, IsAtWork, Joins, out_turn, written_more}

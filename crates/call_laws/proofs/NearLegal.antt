@@ -37,7 +37,7 @@ use Rattle.pager_rules.proofs.Put.{head_counts}
 use Rattle.pager_rules.specs.Kept.{one_if}
 use Rattle.pager_laws.proofs.OfConfigKept.{run_right}
 use Rattle.pager_laws.proofs.RunsAreSound.{run_kept}
-use Rattle.page_holders.proofs.Holders.{free_is, holds_within}
+use Rattle.pager_laws.proofs.Holders.{free_is, holds_within}
 use Rattle.call_laws.proofs.FreeTurn.{not_both}
 use Rattle.call_laws.proofs.HaveNames.{block_named, page_named}
 

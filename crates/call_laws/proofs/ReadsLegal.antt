@@ -34,8 +34,8 @@ use Rattle.pager_rules.proofs.Lists.{all_found}
 use Rattle.pager_rules.proofs.Put.{head_counts}
 use Rattle.pager_rules.specs.Kept.{IsKept}
 use Rattle.pager_laws.proofs.OfConfigKept.{page_right}
-use Rattle.page_holders.proofs.EntryPages.{mapped_right, mapped_there}
-use Rattle.page_holders.proofs.Holders.{free_is, holder_there}
+use Rattle.pager_laws.proofs.EntryPages.{mapped_right, mapped_there}
+use Rattle.pager_laws.proofs.Holders.{free_is, holder_there}
 use Rattle.pager_rules.proofs.Pages.{origin_behind}
 use Rattle.pager_rules.proofs.Basics.{at_number_same}
 use Rattle.pager_model.specs.Carrier.{Carrying}

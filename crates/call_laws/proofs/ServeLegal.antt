@@ -40,9 +40,9 @@ use Rattle.pager_model.specs.Transfers.{is_in_flight, reads_on, writes_on}
 use Rattle.pager_rules.proofs.Basics.{count_cons, count_cons_yes, count_from_no_find, each_fails, nat_eq_refl, pages_equal}
 use Rattle.pager_rules.proofs.Lists.{all_found, all_step, count_found, found_one, found_passes}
 use Rattle.pager_laws.proofs.DeleteKept.{inside_from, inside_to, own_has}
-use Rattle.page_holders.proofs.Holders.{holder_there}
-use Rattle.page_holders.proofs.RingBounds.{slots_few}
-use Rattle.page_holders.proofs.ValidEntries.{IsValidAt, valid_at_page}
+use Rattle.pager_laws.proofs.Holders.{holder_there}
+use Rattle.pager_laws.proofs.RingBounds.{slots_few}
+use Rattle.pager_laws.proofs.ValidEntries.{IsValidAt, valid_at_page}
 use Rattle.call_laws.specs.AreLegal.{AreLegal}
 use Rattle.call_laws.specs.Ready.{IsReady}
 use Rattle.call_laws.proofs.FreeTurn.{free_turn, page_starts, same_number}

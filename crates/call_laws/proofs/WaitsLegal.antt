@@ -35,10 +35,10 @@ use Rattle.pager_laws.proofs.FewCounts.{counts_few}
 use Rattle.pager_laws.proofs.LimitKept.{adjust_within}
 use Rattle.pager_laws.proofs.OfConfigKept.{run_right}
 use Rattle.pager_laws.proofs.RunsAreSound.{run_kept}
-use Rattle.page_holders.proofs.Holders.{holder_holds, holds_within}
-use Rattle.page_holders.proofs.RingBounds.{bounded}
-use Rattle.page_holders.proofs.ValidEntries.{IsValidAt, valid_at_page}
-use Rattle.page_holders.proofs.EntryPages.{mapped_right}
+use Rattle.pager_laws.proofs.Holders.{holder_holds, holds_within}
+use Rattle.pager_laws.proofs.RingBounds.{bounded}
+use Rattle.pager_laws.proofs.ValidEntries.{IsValidAt, valid_at_page}
+use Rattle.pager_laws.proofs.EntryPages.{mapped_right}
 use Rattle.content_laws.proofs.FlightLeft.{started}
 use Rattle.call_laws.proofs.Chosen.{has_victim}
 use Rattle.call_laws.specs.Ready.{IsReady}

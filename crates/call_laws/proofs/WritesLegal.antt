@@ -35,7 +35,7 @@ use Rattle.pager_rules.proofs.Put.{head_counts}
 use Rattle.pager_rules.specs.Kept.{IsKept, one_if}
 use Rattle.pager_laws.proofs.OfConfigKept.{run_right}
 use Rattle.pager_laws.proofs.RunsAreSound.{run_kept}
-use Rattle.page_holders.proofs.Holders.{holds_within}
+use Rattle.pager_laws.proofs.Holders.{holds_within}
 use Rattle.call_laws.specs.AreLegal.{AreLegal}
 use Rattle.call_laws.specs.Ready.{MayWork}
 use Rattle.call_laws.proofs.BlocksHome.{lying_home}

@@ -31,9 +31,9 @@ use Rattle.pager_model.specs.Transfers.{is_in_flight, reads_on, writes_on}
 use Rattle.pager_rules.proofs.Basics.{count_cons, count_cons_no, nat_eq_refl, states_equal}
 use Rattle.pager_rules.proofs.Lists.{all_step}
 use Rattle.pager_rules.specs.Kept.{HasWrites, IsKept}
-use Rattle.page_holders.proofs.Holders.{good_within}
-use Rattle.page_holders.proofs.RingBounds.{bounded}
-use Rattle.page_holders.proofs.SectionNumbers.{number_within}
+use Rattle.pager_laws.proofs.Holders.{good_within}
+use Rattle.pager_laws.proofs.RingBounds.{bounded}
+use Rattle.pager_laws.proofs.SectionNumbers.{number_within}
 use Rattle.state_fits.specs.Frames.{frame_pins, frame_row}
 use Rattle.dump_bytes.specs.Bounds.{AreFrames, Ascends, IsDump, IsDumpedPage, IsFrame, IsProcess, IsSlot, IsValidEntry}
 use Rattle.dump_laws.specs.DumpAfter.{busy_frames, dump_by, dumped_slot, entry_word, frame_at, pages_of, process_at, status_code, valid_pages, words_of}

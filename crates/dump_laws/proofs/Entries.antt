@@ -16,8 +16,8 @@ use Rattle.pager_model.specs.Pager.{Pager, Valid}
 use Rattle.pager_rules.proofs.Basics.{count_cons, count_cons_no, nat_eq_refl}
 use Rattle.pager_rules.proofs.Lists.{all_found, all_step, found_one, found_passes}
 use Rattle.pager_rules.specs.Kept.{IsForItsPage, IsKept}
-use Rattle.page_holders.proofs.EntryPages.{mapped_right}
-use Rattle.page_holders.proofs.Holders.{holds_within}
+use Rattle.pager_laws.proofs.EntryPages.{mapped_right}
+use Rattle.pager_laws.proofs.Holders.{holds_within}
 use Rattle.dump_bytes.specs.Bounds.{IsValidEntry}
 use Rattle.dump_lines.specs.WordFrame as bits
 use Rattle.dump_laws.specs.DumpAfter.{entry_word, pages_of, word_by}

@@ -25,7 +25,7 @@ use Rattle.pager_model.specs.OfConfig.{IsPageOf}
 use Rattle.pager_model.specs.Flat.{flat_reply}
 use Rattle.pager_model.specs.Spoken.{flat_after}
 use Rattle.pager_laws.proofs.OfConfigKept.{page_right}
-use Rattle.page_holders.proofs.Holders.{holder_holds, holds_within}
+use Rattle.pager_laws.proofs.Holders.{holder_holds, holds_within}
 use Rattle.vm_state.specs.History.{History, MayAdd, MayAnswer, added, entry_by, owed, pager}
 use Rattle.vm_state.specs.PageReadings.{IsKnown}
 use Rattle.lift_carriers.specs.CarrierView.{CarrierView}

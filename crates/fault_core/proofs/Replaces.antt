@@ -15,7 +15,7 @@ use Rattle.pager_model.specs.Given.{eviction, given, goes_to, is_stopped, page_a
 use Rattle.pager_model.specs.Lookups.{entry_of, slot_of}
 use Rattle.pager_model.specs.Maps.{proc}
 use Rattle.pager_model.specs.Pager.{Pager, Valid}
-use Rattle.page_holders.proofs.ValidEntries.{IsValidAt, valid_at_page}
+use Rattle.pager_laws.proofs.ValidEntries.{IsValidAt, valid_at_page}
 use Rattle.vm_state.specs.History.{History, MayAdd, entry_by, pager}
 use Rattle.vm_state.specs.ProcessReadings.{slot_by, slot_in, slot_with}
 use Rattle.state_pages.specs.declared.found.Slot.{Slot}

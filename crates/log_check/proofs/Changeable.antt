@@ -36,8 +36,8 @@ use Rattle.pager_laws.proofs.RunsAreSound.{run_kept}
 use Rattle.pager_rules.proofs.Lists.{all_found}
 use Rattle.pager_rules.proofs.Put.{head_counts}
 use Rattle.pager_rules.specs.Kept.{FitsDirection, FitsFlight, IsKept, views}
-use Rattle.page_holders.proofs.Holders.{free_is, holds_within}
-use Rattle.page_holders.proofs.ValidEntries.{mapping_of, valid_at_page}
+use Rattle.pager_laws.proofs.Holders.{free_is, holds_within}
+use Rattle.pager_laws.proofs.ValidEntries.{mapping_of, valid_at_page}
 use Rattle.state_fits.proofs.FlightsMoved.{flight_within}
 use Rattle.log_pager.specs.Roles.{IsOfProcess}
 use Rattle.log_pager.specs.Shown.{Shown}

@@ -32,8 +32,8 @@ use Rattle.pager_model.specs.Transfers.{reads_on, writes_on}
 use Rattle.pager_rules.specs.Kept.{IsKept}
 use Rattle.pager_laws.proofs.OfConfigKept.{run_right}
 use Rattle.pager_laws.proofs.RunsAreSound.{run_kept}
-use Rattle.page_holders.proofs.Pins.{few_pins}
-use Rattle.page_holders.proofs.RingBounds.{bounded}
+use Rattle.pager_laws.proofs.Pins.{few_pins}
+use Rattle.pager_laws.proofs.RingBounds.{bounded}
 use Rattle.state_fits.proofs.FewShares.{few_shares}
 use Rattle.state_fits.proofs.FlightsMoved.{on_frame_counts, one_on_frame}
 use Rattle.state_fits.proofs.UnchargedPage.{assigned_fit}

@@ -29,8 +29,8 @@ use Rattle.pager_rules.proofs.Put.{head_counts, no_blocks}
 use Rattle.pager_rules.specs.Kept.{IsKept, one_if}
 use Rattle.pager_laws.proofs.OfConfigKept.{run_right}
 use Rattle.pager_laws.proofs.RunsAreSound.{run_kept}
-use Rattle.page_holders.proofs.FewAssigned.{one_unassigned}
-use Rattle.page_holders.proofs.Holders.{good_within}
+use Rattle.pager_laws.proofs.FewAssigned.{one_unassigned}
+use Rattle.pager_laws.proofs.Holders.{good_within}
 use Rattle.vm_state.specs.History.{History, pager}
 use Rattle.vm_state.specs.PageReadings.{IsKnown}
 use Rattle.vm_state.specs.Readings.{row_at}

@@ -1,5 +1,7 @@
 //! The laws of the pager's model: legal steps of all sixteen kinds keep soundness, so every run is
-//! sound at each of its prefixes; and what the serial policy gives is in order.
+//! sound at each of its prefixes; what the serial policy gives is in order; and what holds of each state
+//! that can be reached, and speaks of no part of it: the frame that holds a page, the page of a valid entry,
+//! the length of a ring, the numbers of section pages.
 #![tactic(auto)]
 
 mod laws;

@@ -19,9 +19,9 @@ use Rattle.pager_rules.specs.Kept.{IsForItsPage, IsKept}
 use Rattle.pager_rules.proofs.Basics.{count_from_no_find, each_weaker, nat_eq_refl}
 use Rattle.pager_laws.proofs.OfConfigKept.{run_right}
 use Rattle.pager_laws.proofs.RunsAreSound.{run_kept}
-use Rattle.page_holders.proofs.EntryPages.{mapped_right}
-use Rattle.page_holders.proofs.Pins.{few_pins}
-use Rattle.page_holders.proofs.ValidEntries.{valid_at_page}
+use Rattle.pager_laws.proofs.EntryPages.{mapped_right}
+use Rattle.pager_laws.proofs.Pins.{few_pins}
+use Rattle.pager_laws.proofs.ValidEntries.{valid_at_page}
 use Rattle.state_fits.proofs.FewShares.{few_shares}
 use Rattle.vm_state.specs.ProcessReadings.{slot_by, slot_in, slot_with}
 use Rattle.state_pages.specs.declared.found.Slot.{Slot}

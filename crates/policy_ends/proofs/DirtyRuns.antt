@@ -22,7 +22,7 @@ use Rattle.pager_model.specs.Transfers.{writes_on}
 use Rattle.pager_rules.proofs.Basics.{same_page_refl}
 use Rattle.pager_rules.specs.Kept.{IsKept}
 use Rattle.pager_laws.proofs.RunsAreSound.{run_kept}
-use Rattle.page_holders.proofs.Holders.{holds_within}
+use Rattle.pager_laws.proofs.Holders.{holds_within}
 use Rattle.call_laws.proofs.WaitsLegal.{is_seen}
 use Rattle.serial_laws.specs.Between.{IsBetween}
 use Rattle.serial_laws.proofs.Kept.{moves_between}

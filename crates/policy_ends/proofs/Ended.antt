@@ -31,7 +31,7 @@ use Rattle.pager_rules.proofs.Basics.{count_cons, nat_eq_refl, none_passes, page
 use Rattle.pager_rules.proofs.Lists.{all_found, count_found, found_one, found_passes}
 use Rattle.pager_rules.specs.Kept.{HasMark, HasPage, HasShares, HasWrites, IsForItsPage, IsKept, one_if}
 use Rattle.pager_laws.proofs.RunsAreSound.{run_kept}
-use Rattle.page_holders.proofs.ValidEntries.{IsValidAt, valid_at_page}
+use Rattle.pager_laws.proofs.ValidEntries.{IsValidAt, valid_at_page}
 use Rattle.serial_laws.specs.Between.{IsBetween}
 use Rattle.policy_ends.specs.Clean.{IsOver}
 use Rattle.policy_ends.specs.Dirty.{StaysInSlot}

@@ -12,7 +12,7 @@ use Rattle.pager_model.specs.Maps.{page_number}
 use Rattle.pager_model.specs.Pager.{Pager, Valid}
 use Rattle.pager_model.specs.Rundown.{is_shared_at}
 use Rattle.pager_model.specs.Swap.{is_shared_seen}
-use Rattle.page_holders.proofs.EntryPages.{gone_here, gone_there}
+use Rattle.pager_laws.proofs.EntryPages.{gone_here, gone_there}
 use Rattle.call_laws.proofs.FreeTurn.{same_number}
 use Rattle.call_laws.proofs.WaitsLegal.{IsSeen}
 use Rattle.policy_ends.specs.Clean.{IsEarlier, NoneBefore}

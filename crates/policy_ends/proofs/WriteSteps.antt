@@ -39,7 +39,7 @@ use Rattle.pager_rules.specs.Kept.{FitsDirection, FitsFlight, FitsWrite, HasWrit
 use Rattle.call_laws.proofs.FollowingPages.{lies_there}
 use Rattle.call_laws.proofs.SlotsOnce.{only_place}
 use Rattle.serial_laws.proofs.Slots.{slot_counts}
-use Rattle.page_holders.proofs.ValidEntries.{IsValidAt, valid_at_page}
+use Rattle.pager_laws.proofs.ValidEntries.{IsValidAt, valid_at_page}
 use Rattle.policy_ends.specs.Rank.{is_in_its_block, is_saved_page, is_unsaved, is_unsaved_page, left_to_come, lies_in_swap, unsaved}
 use Rattle.serial_laws.proofs.Counting.{each_is}
 use Rattle.pager_model.specs.Advance.{lies_in}

@@ -24,7 +24,7 @@ use Rattle.pager_model.specs.Text.{is_dirty, pages_from}
 use Rattle.pager_rules.proofs.Basics.{none_passes, pages_equal}
 use Rattle.pager_rules.specs.Kept.{IsKept}
 use Rattle.pager_laws.proofs.RunsAreSound.{run_kept}
-use Rattle.page_holders.proofs.Holders.{holder_holds}
+use Rattle.pager_laws.proofs.Holders.{holder_holds}
 use Rattle.rundown.specs.DirtyPages.{shared_pages_of}
 
 -- ---- tests of which one is met at one number at most

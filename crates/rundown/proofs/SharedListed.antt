@@ -20,7 +20,7 @@ use Rattle.pager_rules.proofs.Basics.{count_cons, count_cons_yes, nat_eq_refl}
 use Rattle.pager_rules.proofs.Frames.{modified_frame}
 use Rattle.pager_rules.specs.Kept.{IsKept}
 use Rattle.pager_laws.proofs.RunsAreSound.{run_kept}
-use Rattle.page_holders.proofs.Holders.{good_within}
+use Rattle.pager_laws.proofs.Holders.{good_within}
 use Rattle.vm_state.specs.ProcessReadings.{IsAfter}
 use Rattle.vm_state.specs.Readings.{listed}
 use Rattle.state_pages.specs.Shown.{frame_number}

@@ -39,7 +39,7 @@ use Rattle.pager_model.specs.Transfers.{is_on_block, is_read_on}
 use Rattle.pager_rules.specs.Kept.{IsKept}
 use Rattle.pager_laws.proofs.FlatFollows.{IsFollowed, follows}
 use Rattle.pager_laws.proofs.RunsAreSound.{run_kept}
-use Rattle.page_holders.proofs.Holders.{none_listed}
+use Rattle.pager_laws.proofs.Holders.{none_listed}
 use Rattle.serial_laws.specs.Between.{IsBetween}
 use Rattle.serial_laws.specs.Controlled.{AreTouched, IsRead}
 use Rattle.serial_laws.proofs.Advances.{done_touches, more_touched, read_for, unpaged_uncharged}

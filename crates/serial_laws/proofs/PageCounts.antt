@@ -18,7 +18,7 @@ use Rattle.pager_rules.proofs.Basics.{count_from_no_find, same_page_refl}
 use Rattle.pager_rules.proofs.Lists.{all_step}
 use Rattle.pager_rules.proofs.TouchedPages.{same_page_equiv}
 use Rattle.pager_rules.specs.Kept.{IsKept}
-use Rattle.page_holders.proofs.FewAssigned.{one_unassigned}
+use Rattle.pager_laws.proofs.FewAssigned.{one_unassigned}
 use Rattle.serial_laws.proofs.Counting.{each_is, once_in_range, pairs_same, sum_less, sum_ones}
 
 turned_count : (g : Page) (pages : List Page) → count_by (λ (h : Page). same_page h g) pages ≡ count_page pages g

@@ -15,7 +15,7 @@ use Rattle.pager_rules.proofs.Basics.{count_cons, count_cons_no, count_cons_yes,
 use Rattle.pager_rules.proofs.Lists.{found_one}
 use Rattle.pager_rules.specs.Kept.{IsKept}
 use Rattle.pager_laws.proofs.OpeningKept.{in_range}
-use Rattle.page_holders.proofs.ValidEntries.{IsValidAt, valid_at_page}
+use Rattle.pager_laws.proofs.ValidEntries.{IsValidAt, valid_at_page}
 
 -- an item that passes counts
 pub slot_counts : {X : Type 0} (t : X → Bool) (xs : List X) (n : ℕ) (x : X) → slice_get xs n ≡ Some x → t x ≡ true → 0 < count_by t xs

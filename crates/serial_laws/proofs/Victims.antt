@@ -17,7 +17,7 @@ use Rattle.pager_model.specs.Run.{pager_after}
 use Rattle.pager_model.specs.Sound.{IsBounded}
 use Rattle.pager_rules.specs.Kept.{IsKept}
 use Rattle.pager_laws.proofs.RunsAreSound.{run_kept}
-use Rattle.page_holders.proofs.RingBounds.{bounded}
+use Rattle.pager_laws.proofs.RingBounds.{bounded}
 use Rattle.call_laws.proofs.Chosen.{has_victim}
 use Rattle.serial_laws.specs.Between.{IsBetween}
 use Rattle.serial_laws.proofs.Slots.{slot_seen}

@@ -13,7 +13,7 @@ use Rattle.pager_model.specs.Maps.{Mapped}
 use Rattle.pager_model.specs.Pager.{Pager, Valid}
 use Rattle.pager_rules.proofs.Lists.{found_one}
 use Rattle.pager_rules.specs.Kept.{IsKept}
-use Rattle.page_holders.proofs.EntryPages.{entry_page, mapped_there}
+use Rattle.pager_laws.proofs.EntryPages.{entry_page, mapped_there}
 use Rattle.state_fits.specs.Entries.{pte_at, pte_of}
 use Rattle.state_pages.specs.MarkedWords.{word_marked}
 use Rattle.vm_state.specs.Words.{word_in}

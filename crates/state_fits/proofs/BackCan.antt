@@ -37,7 +37,7 @@ use Rattle.pager_model.specs.Sets.{has_page}
 use Rattle.pager_model.specs.Sound.{IsSwapped}
 use Rattle.pager_model.specs.Step.{IsLegal}
 use Rattle.pager_rules.specs.Kept.{IsKept}
-use Rattle.page_holders.proofs.RingBounds.{bounded}
+use Rattle.pager_laws.proofs.RingBounds.{bounded}
 use Rattle.state_fits.specs.Parts.{Parts}
 use Rattle.state_fits.specs.PartsFit.{PartsFit}
 use Rattle.state_fits.specs.Processes.{process_row}

@@ -54,8 +54,8 @@ use Rattle.pager_rules.proofs.Pages.{is_of_private, own_is}
 use Rattle.pager_rules.proofs.Quiet.{no_failure}
 use Rattle.pager_rules.proofs.Turns.{calm, no_reuse}
 use Rattle.pager_rules.specs.Kept.{IsKept}
-use Rattle.page_holders.proofs.Holders.{holds_within}
-use Rattle.page_holders.proofs.EntryPages.{mapped_right}
+use Rattle.pager_laws.proofs.Holders.{holds_within}
+use Rattle.pager_laws.proofs.EntryPages.{mapped_right}
 use Rattle.state_fits.specs.Changes.{page_slot, shared_in}
 use Rattle.state_fits.specs.Globals.{GlobalsFit}
 use Rattle.state_fits.specs.Parts.{Parts}

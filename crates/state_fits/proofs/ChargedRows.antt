@@ -16,7 +16,7 @@ use Rattle.pager_model.specs.Sets.{has_page}
 use Rattle.pager_rules.proofs.Basics.{count_none, has_page_first}
 use Rattle.pager_rules.proofs.Put.{no_block}
 use Rattle.pager_rules.specs.Kept.{IsKept}
-use Rattle.page_holders.proofs.Holders.{no_block_lies, none_listed}
+use Rattle.pager_laws.proofs.Holders.{no_block_lies, none_listed}
 use Rattle.state_fits.specs.Pages.{PagesFit, charged_row}
 use Rattle.state_fits.proofs.OnePlace.{apart_back}
 use Rattle.state_fits.proofs.PartsSet.{pages_set}

@@ -31,7 +31,7 @@ use Rattle.pager_rules.proofs.Frames.{at_state}
 use Rattle.pager_rules.specs.Kept.{FitsFrame, IsKept}
 use Rattle.state_parts.specs.ChargedTable.{kept_at}
 use Rattle.state_parts.specs.declared.charged_page.ChargedPage.{ChargedPage}
-use Rattle.page_holders.proofs.Holders.{holder_holds, holds_within}
+use Rattle.pager_laws.proofs.Holders.{holder_holds, holds_within}
 use Rattle.state_fits.specs.Forgetting.{frame_in_transition, released_block}
 use Rattle.state_fits.specs.Pages.{charged_row}
 use Rattle.state_fits.specs.Parts.{Parts}

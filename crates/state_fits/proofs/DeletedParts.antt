@@ -38,8 +38,8 @@ use Rattle.pager_rules.proofs.Lists.{filter_all}
 use Rattle.pager_rules.proofs.Pages.{own_is}
 use Rattle.pager_rules.specs.Kept.{IsKept}
 use Rattle.state_parts.specs.ChargedTable.{ChargedTable, IsTableSet, kept_at}
-use Rattle.page_holders.proofs.Holders.{holder_none, no_block_lies}
-use Rattle.page_holders.proofs.ValidEntries.{mapping_of}
+use Rattle.pager_laws.proofs.Holders.{holder_none, no_block_lies}
+use Rattle.pager_laws.proofs.ValidEntries.{mapping_of}
 use Rattle.state_fits.specs.Entries.{origin_of, own_place, place_away, pte_at, pte_of, resting_place}
 use Rattle.state_fits.specs.Forgetting.{emptied_frame, frame_in_transition, uncharged_page}
 use Rattle.state_fits.specs.Parts.{Parts}

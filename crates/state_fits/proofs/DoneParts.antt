@@ -30,7 +30,7 @@ use Rattle.state_parts.specs.ChargedTable.{ChargedTable, IsTableSet, kept_at}
 use Rattle.state_parts.specs.declared.charged_page.ChargedPage.{ChargedPage}
 use Rattle.state_parts.specs.declared.process_row.ProcessRow.{ProcessRow}
 use Rattle.state_parts.specs.declared.spoken_row.SpokenRow.{SpokenRow}
-use Rattle.page_holders.proofs.ValidEntries.{IsValidAt, valid_at_page}
+use Rattle.pager_laws.proofs.ValidEntries.{IsValidAt, valid_at_page}
 use Rattle.state_fits.specs.Frames.{FramesFit, frame_pins, frame_row, row_by, slot_for}
 use Rattle.state_fits.specs.Pages.{PagesFit, charged_row, touched_row}
 use Rattle.state_fits.specs.Parts.{Parts}

@@ -35,9 +35,9 @@ use Rattle.pager_rules.proofs.Basics.{at_number_other, at_number_same, find_none
 use Rattle.pager_rules.proofs.Pages.{own_is}
 use Rattle.pager_rules.proofs.Put.{page_apart}
 use Rattle.pager_rules.specs.Kept.{IsKept}
-use Rattle.page_holders.proofs.Holders.{holder_elsewhere, holder_none, holder_there, holds_within}
-use Rattle.page_holders.proofs.SectionNumbers.{number_within, numbers_differ}
-use Rattle.page_holders.proofs.EntryPages.{mapped_there}
+use Rattle.pager_laws.proofs.Holders.{holder_elsewhere, holder_none, holder_there, holds_within}
+use Rattle.pager_laws.proofs.SectionNumbers.{number_within, numbers_differ}
+use Rattle.pager_laws.proofs.EntryPages.{mapped_there}
 use Rattle.state_fits.specs.Changes.{released_in}
 use Rattle.state_fits.specs.Entries.{TablesFit, origin_of, own_place, place_by, pte_of, resting_place, section_page_number}
 use Rattle.state_fits.specs.Frames.{FramesFit, frame_row, row_by, slot_for}

@@ -19,9 +19,9 @@ use Rattle.pager_model.specs.Lookups.{entry_of, is, page_by, shares}
 use Rattle.pager_model.specs.OfConfig.{IsOfConfig}
 use Rattle.pager_model.specs.Pager.{Pager}
 use Rattle.pager_rules.specs.Kept.{IsKept}
-use Rattle.page_holders.proofs.Holders.{holder_there, holds_within}
-use Rattle.page_holders.proofs.SectionNumbers.{number_within}
-use Rattle.page_holders.proofs.EntryPages.{mapped_right}
+use Rattle.pager_laws.proofs.Holders.{holder_there, holds_within}
+use Rattle.pager_laws.proofs.SectionNumbers.{number_within}
+use Rattle.pager_laws.proofs.EntryPages.{mapped_right}
 use Rattle.state_fits.specs.Changes.{page_slot}
 use Rattle.state_fits.specs.Entries.{section_page_number}
 use Rattle.state_fits.specs.Globals.{shares_held}

@@ -27,7 +27,7 @@ use Rattle.pager_model.specs.Sets.{at_number}
 use Rattle.pager_rules.proofs.Basics.{at_number_other, at_number_same, count_cons_no, count_cons_yes, find_cons_no, find_cons_yes, find_none_from_count, nat_eq_refl}
 use Rattle.pager_rules.proofs.Pages.{own_is}
 use Rattle.pager_rules.specs.Kept.{IsKept}
-use Rattle.page_holders.proofs.EntryPages.{mapped_there, own_frame}
+use Rattle.pager_laws.proofs.EntryPages.{mapped_there, own_frame}
 use Rattle.state_fits.specs.Changes.{page_slot, shared_in}
 use Rattle.state_fits.specs.Entries.{TablesFit, pte_of}
 use Rattle.state_fits.specs.Frames.{FramesFit, frame_row, slot_for}

@@ -38,9 +38,9 @@ use Rattle.pager_model.specs.Pager.{Pager}
 use Rattle.pager_model.specs.Step.{IsLegal}
 use Rattle.pager_rules.proofs.Frames.{active_frame}
 use Rattle.pager_rules.specs.Kept.{IsKept}
-use Rattle.page_holders.proofs.Holders.{holder_there}
-use Rattle.page_holders.proofs.SectionNumbers.{number_within}
-use Rattle.page_holders.proofs.EntryPages.{mapped_right}
+use Rattle.pager_laws.proofs.Holders.{holder_there}
+use Rattle.pager_laws.proofs.SectionNumbers.{number_within}
+use Rattle.pager_laws.proofs.EntryPages.{mapped_right}
 use Rattle.state_fits.specs.Changes.{place_left}
 use Rattle.state_fits.specs.Entries.{section_page_number}
 use Rattle.state_fits.specs.Globals.{shares_held}

@@ -43,8 +43,8 @@ use Rattle.pager_rules.proofs.Pages.{own_is}
 use Rattle.pager_rules.proofs.Quiet.{no_failure}
 use Rattle.pager_rules.proofs.Turns.{calm, no_reuse}
 use Rattle.pager_rules.specs.Kept.{IsKept}
-use Rattle.page_holders.proofs.Holders.{holder_there, holds_within}
-use Rattle.page_holders.proofs.EntryPages.{entry_page, gone_here, gone_there, mapped_right, mapped_there, only_entry, own_frame}
+use Rattle.pager_laws.proofs.Holders.{holder_there, holds_within}
+use Rattle.pager_laws.proofs.EntryPages.{entry_page, gone_here, gone_there, mapped_right, mapped_there, only_entry, own_frame}
 use Rattle.state_fits.specs.Changes.{place_left, unshared_in}
 use Rattle.state_fits.specs.Entries.{TablesFit, pte_of}
 use Rattle.state_fits.specs.Frames.{FramesFit, frame_pins, frame_row, row_by, slot_for}

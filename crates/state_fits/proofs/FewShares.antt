@@ -14,7 +14,7 @@ use Rattle.pager_model.specs.OfConfig.{IsMappable, IsOfConfig}
 use Rattle.pager_model.specs.Pager.{Pager, Valid}
 use Rattle.pager_rules.proofs.Basics.{count_cons, count_cons_no, count_cons_yes, each_weaker}
 use Rattle.pager_rules.specs.Kept.{IsForItsPage, IsKept}
-use Rattle.page_holders.proofs.EntryPages.{mapped_right}
+use Rattle.pager_laws.proofs.EntryPages.{mapped_right}
 
 -- the process and the page number of an entry as one number
 abbrev key : Valid → ℕ

@@ -16,7 +16,7 @@ use Rattle.pager_model.specs.Transfers.{flights_of, is_by, is_read_on, is_write_
 use Rattle.pager_rules.proofs.Basics.{count_cons, count_cons_no, count_cons_yes, count_from_no_find, each_weaker, find_cons_no, find_cons_yes, find_none_from_count, nat_eq_refl}
 use Rattle.pager_rules.proofs.Lists.{all_found, count_filter_le, count_found, count_removed_no, count_removed_yes, filter_all, found_passes}
 use Rattle.pager_rules.specs.Kept.{FitsFlight, HasWrites, IsKept, one_if, views}
-use Rattle.page_holders.proofs.Holders.{holds_within}
+use Rattle.pager_laws.proofs.Holders.{holds_within}
 use Rattle.state_fits.specs.Seats.{FlightsFit, SeatsFit, flight_on, is_on_frame, role_by, role_on, start_on}
 use Rattle.state_fits.proofs.OnePlace.{each_set, read_is}
 

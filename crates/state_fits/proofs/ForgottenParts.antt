@@ -37,7 +37,7 @@ use Rattle.pager_rules.specs.Kept.{IsKept}
 use Rattle.state_parts.specs.ChargedTable.{ChargedTable, IsTableSet, kept_at}
 use Rattle.state_parts.specs.SwapTable.{SwapTable, swapped_at}
 use Rattle.state_parts.specs.declared.charged_page.ChargedPage.{ChargedPage}
-use Rattle.page_holders.proofs.Holders.{holder_elsewhere, holder_holds, holds_within, none_listed}
+use Rattle.pager_laws.proofs.Holders.{holder_elsewhere, holder_holds, holds_within, none_listed}
 use Rattle.state_fits.specs.Entries.{pte_of}
 use Rattle.state_fits.specs.File.{FileFits, owner_in}
 use Rattle.state_fits.specs.Forgetting.{emptied_frame, uncharged_page}

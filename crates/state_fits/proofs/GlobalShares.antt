@@ -15,8 +15,8 @@ use Rattle.pager_model.specs.Maps.{is_private}
 use Rattle.pager_model.specs.OfConfig.{HoldsRight}
 use Rattle.pager_model.specs.Pager.{Pager, Valid}
 use Rattle.pager_rules.specs.Kept.{IsKept}
-use Rattle.page_holders.proofs.Holders.{holder_holds, holder_there}
-use Rattle.page_holders.proofs.SectionNumbers.{number_within, numbers_differ}
+use Rattle.pager_laws.proofs.Holders.{holder_holds, holder_there}
+use Rattle.pager_laws.proofs.SectionNumbers.{number_within, numbers_differ}
 use Rattle.state_fits.specs.Changes.{shared_in, unshared_in}
 use Rattle.state_fits.specs.Entries.{section_page_number}
 use Rattle.state_fits.specs.Globals.{GlobalsFit, shares_held}

@@ -14,7 +14,7 @@ use Rattle.page_tables.specs.PageTables.{IsEntry}
 use Rattle.pte_forms.specs.declared.pte.Place.TheVariants as place
 use Rattle.pager_model.specs.Given.{pfn}
 use Rattle.pager_model.specs.OfConfig.{IsOrigin, IsPageOf}
-use Rattle.page_holders.proofs.SectionNumbers.{number_within}
+use Rattle.pager_laws.proofs.SectionNumbers.{number_within}
 use Rattle.state_fits.specs.Changes.{place_left}
 use Rattle.state_fits.specs.Entries.{origin_place, resting_place, section_page_number}
 

@@ -16,8 +16,8 @@ use Rattle.pager_model.specs.Lookups.{shares}
 use Rattle.pager_model.specs.Pager.{Pager}
 use Rattle.pager_model.specs.Sets.{at_number}
 use Rattle.pager_rules.proofs.Put.{page_apart}
-use Rattle.page_holders.proofs.Holders.{holder_elsewhere, holder_none}
-use Rattle.page_holders.proofs.SectionNumbers.{number_within, numbers_differ}
+use Rattle.pager_laws.proofs.Holders.{holder_elsewhere, holder_none}
+use Rattle.pager_laws.proofs.SectionNumbers.{number_within, numbers_differ}
 use Rattle.state_fits.specs.Entries.{section_page_number}
 use Rattle.state_fits.specs.Globals.{GlobalsFit, shares_held}
 use Rattle.state_fits.specs.ReadBegins.{held_in}

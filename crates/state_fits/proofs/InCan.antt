@@ -40,8 +40,8 @@ use Rattle.pager_rules.proofs.Put.{no_entry}
 use Rattle.pager_rules.specs.Kept.{IsKept}
 use Rattle.state_parts.specs.ChargedTable.{HasPage, kept_at}
 use Rattle.state_parts.specs.declared.process_row.ProcessRow.{ProcessRow}
-use Rattle.page_holders.proofs.SectionNumbers.{number_within}
-use Rattle.page_holders.proofs.EntryPages.{mapped_right}
+use Rattle.pager_laws.proofs.SectionNumbers.{number_within}
+use Rattle.pager_laws.proofs.EntryPages.{mapped_right}
 use Rattle.state_fits.specs.Entries.{section_page_number}
 use Rattle.state_fits.specs.Frames.{frame_row}
 use Rattle.state_fits.specs.Parts.{Parts}

@@ -51,7 +51,7 @@ use Rattle.state_parts.specs.ChargedTable.{ChargedTable, IsTableSet, kept_at}
 use Rattle.state_parts.specs.SwapTable.{SwapTable, swapped_at}
 use Rattle.state_parts.specs.declared.charged_page.ChargedPage.{ChargedPage}
 use Rattle.state_parts.specs.declared.process_row.ProcessRow.{ProcessRow}
-use Rattle.page_holders.proofs.EntryPages.{mapped_right}
+use Rattle.pager_laws.proofs.EntryPages.{mapped_right}
 use Rattle.state_fits.specs.Changes.{page_slot, shared_in}
 use Rattle.state_fits.specs.Frames.{frame_pins, frame_row, row_by, slot_for}
 use Rattle.state_fits.specs.Globals.{GlobalsFit}

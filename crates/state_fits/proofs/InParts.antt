@@ -41,7 +41,7 @@ use Rattle.pager_laws.proofs.StepKept.{step_kept}
 use Rattle.state_parts.specs.ChargedTable.{ChargedTable, IsTableSet, kept_at}
 use Rattle.state_parts.specs.declared.charged_page.ChargedPage.{ChargedPage}
 use Rattle.state_parts.specs.declared.process_row.ProcessRow.{ProcessRow}
-use Rattle.page_holders.proofs.Holders.{holder_there, none_listed}
+use Rattle.pager_laws.proofs.Holders.{holder_there, none_listed}
 use Rattle.state_fits.specs.File.{FileFits, owner_in}
 use Rattle.state_fits.specs.Pages.{PagesFit, charged_row}
 use Rattle.state_fits.specs.Parts.{Parts}

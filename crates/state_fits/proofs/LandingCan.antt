@@ -44,9 +44,9 @@ use Rattle.pager_rules.specs.Kept.{IsKept}
 use Rattle.state_parts.specs.ChargedTable.{kept_at}
 use Rattle.state_parts.specs.SwapTable.{HasSlot}
 use Rattle.state_parts.specs.declared.process_row.ProcessRow.{ProcessRow}
-use Rattle.page_holders.proofs.Holders.{holder_there}
-use Rattle.page_holders.proofs.SectionNumbers.{number_within}
-use Rattle.page_holders.proofs.EntryPages.{mapped_right}
+use Rattle.pager_laws.proofs.Holders.{holder_there}
+use Rattle.pager_laws.proofs.SectionNumbers.{number_within}
+use Rattle.pager_laws.proofs.EntryPages.{mapped_right}
 use Rattle.state_fits.specs.Entries.{section_page_number}
 use Rattle.state_fits.specs.Frames.{row_by}
 use Rattle.state_fits.specs.Globals.{shares_held}

@@ -23,7 +23,7 @@ use Rattle.pager_model.specs.Maps.{Mapped, first_map, mapped_by, page_behind}
 use Rattle.pager_model.specs.Opening.{first_block, first_limit, first_ring, is_bad, opening}
 use Rattle.pager_model.specs.Sets.{has}
 use Rattle.pager_rules.proofs.Basics.{count_replicate, nat_eq_apart}
-use Rattle.page_holders.proofs.Holders.{holder_none}
+use Rattle.pager_laws.proofs.Holders.{holder_none}
 use Rattle.state_fits.specs.Entries.{origin_of, place_away, pte_at, pte_of, section_page_number}
 use Rattle.state_fits.specs.Frames.{FramesFit, frame_row}
 use Rattle.vm_types.specs.Configuration.{section_pages}

@@ -34,7 +34,7 @@ use Rattle.pager_rules.proofs.Basics.{find_none_from_count}
 use Rattle.pager_rules.proofs.Frames.{modified_frame}
 use Rattle.pager_rules.proofs.Put.{head_counts, no_blocks}
 use Rattle.pager_rules.specs.Kept.{IsKept}
-use Rattle.page_holders.proofs.FewAssigned.{one_unassigned}
+use Rattle.pager_laws.proofs.FewAssigned.{one_unassigned}
 use Rattle.state_fits.specs.File.{has_block}
 use Rattle.state_fits.specs.Frames.{frame_row}
 use Rattle.state_fits.specs.Parts.{Parts}

@@ -32,7 +32,7 @@ use Rattle.pager_rules.proofs.Lists.{count_found}
 use Rattle.pager_rules.proofs.Put.{head_counts, modified_row}
 use Rattle.pager_rules.proofs.Turns.{no_reuse}
 use Rattle.pager_rules.specs.Kept.{IsKept, one_if}
-use Rattle.page_holders.proofs.Holders.{holds_within, without_absent}
+use Rattle.pager_laws.proofs.Holders.{holds_within, without_absent}
 use Rattle.state_fits.specs.File.{FileFits, owner_in}
 use Rattle.state_fits.specs.Frames.{frame_row}
 use Rattle.state_fits.specs.Pages.{PagesFit, charged_row}

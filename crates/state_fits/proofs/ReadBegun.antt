@@ -33,8 +33,8 @@ use Rattle.pager_rules.proofs.Basics.{at_number_other, at_number_same, count_con
 use Rattle.pager_rules.proofs.Pages.{own_is}
 use Rattle.pager_rules.proofs.Put.{head_counts, no_entry}
 use Rattle.pager_rules.specs.Kept.{IsKept}
-use Rattle.page_holders.proofs.Holders.{IsFreeRow, free_is}
-use Rattle.page_holders.proofs.EntryPages.{mapped_there}
+use Rattle.pager_laws.proofs.Holders.{IsFreeRow, free_is}
+use Rattle.pager_laws.proofs.EntryPages.{mapped_there}
 use Rattle.state_fits.specs.Entries.{TablesFit, place_away, pte_at, pte_of}
 use Rattle.state_fits.specs.Frames.{FramesFit, frame_pins, frame_row, or_zero, row_by, slot_for}
 use Rattle.state_fits.specs.Globals.{GlobalsFit}

@@ -23,8 +23,8 @@ use Rattle.pager_model.specs.Lookups.{entry_of, page_at, page_by}
 use Rattle.pager_model.specs.Maps.{Map, Mapped, proc}
 use Rattle.pager_model.specs.Pager.{Pager, Valid}
 use Rattle.pager_rules.specs.Kept.{IsKept}
-use Rattle.page_holders.proofs.Holders.{holder_none, no_block_lies}
-use Rattle.page_holders.proofs.ValidEntries.{valid_at_page}
+use Rattle.pager_laws.proofs.Holders.{holder_none, no_block_lies}
+use Rattle.pager_laws.proofs.ValidEntries.{valid_at_page}
 use Rattle.state_fits.specs.Entries.{pte_at, pte_of}
 use Rattle.state_fits.specs.Parts.{Parts}
 use Rattle.state_fits.specs.PartsFit.{PartsFit}

@@ -49,10 +49,10 @@ use Rattle.pager_rules.proofs.Put.{no_blocks}
 use Rattle.pager_rules.proofs.Quiet.{no_failure}
 use Rattle.pager_rules.specs.Kept.{FitsFailure, FitsRead, IsKept, views}
 use Rattle.pager_rules.proofs.Pages.{private_is_paged}
-use Rattle.page_holders.proofs.Holders.{holds_within}
-use Rattle.page_holders.proofs.RingBounds.{placed, slots_few}
-use Rattle.page_holders.proofs.SectionNumbers.{number_within}
-use Rattle.page_holders.proofs.EntryPages.{mapped_right}
+use Rattle.pager_laws.proofs.Holders.{holds_within}
+use Rattle.pager_laws.proofs.RingBounds.{placed, slots_few}
+use Rattle.pager_laws.proofs.SectionNumbers.{number_within}
+use Rattle.pager_laws.proofs.EntryPages.{mapped_right}
 use Rattle.state_fits.specs.Changes.{is_failed_first}
 use Rattle.state_fits.specs.Entries.{resting_place, section_page_number}
 use Rattle.state_fits.specs.Parts.{Parts}

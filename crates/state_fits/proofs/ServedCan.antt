@@ -18,8 +18,8 @@ use Rattle.pager_model.specs.Lookups.{entry_of, page_by}
 use Rattle.pager_model.specs.Maps.{Mapped}
 use Rattle.pager_model.specs.Pager.{Pager}
 use Rattle.state_parts.specs.ChargedTable.{HasPage as HasChargedPage}
-use Rattle.page_holders.proofs.RingBounds.{placed}
-use Rattle.page_holders.proofs.ValidEntries.{mapping_of}
+use Rattle.pager_laws.proofs.RingBounds.{placed}
+use Rattle.pager_laws.proofs.ValidEntries.{mapping_of}
 use Rattle.state_fits.specs.Entries.{pte_at, pte_of}
 use Rattle.state_fits.specs.Parts.{Parts}
 use Rattle.state_fits.specs.PartsFit.{PartsFit}

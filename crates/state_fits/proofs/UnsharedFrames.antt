@@ -12,7 +12,7 @@ use Rattle.pager_rules.proofs.Basics.{count_from_no_find}
 use Rattle.pager_rules.proofs.Lists.{count_found}
 use Rattle.pager_rules.specs.Kept.{IsKept}
 use Rattle.pager_rules.proofs.Pages.{private_is_paged}
-use Rattle.page_holders.proofs.EntryPages.{entry_page}
+use Rattle.pager_laws.proofs.EntryPages.{entry_page}
 use Rattle.state_fits.specs.Frames.{or_zero, slot_for}
 use Rattle.state_fits.proofs.RingSlots.{absent}
 

@@ -23,8 +23,8 @@ use Rattle.pager_rules.proofs.Frames.{at_state}
 use Rattle.pager_rules.proofs.Lists.{all_found, count_filter_le, count_removed_no, count_removed_yes}
 use Rattle.pager_rules.proofs.Quiet.{starts_once}
 use Rattle.pager_rules.specs.Kept.{FitsDirection, FitsFlight, FitsFrame, FitsWrite, IsKept, views}
-use Rattle.page_holders.proofs.Holders.{holds_within}
-use Rattle.page_holders.proofs.ValidEntries.{valid_at_page}
+use Rattle.pager_laws.proofs.Holders.{holds_within}
+use Rattle.pager_laws.proofs.ValidEntries.{valid_at_page}
 use Rattle.state_fits.specs.Frames.{FramesFit, frame_pins, frame_row, or_zero, row_by, slot_for}
 use Rattle.state_fits.proofs.FrameRows.{over_pins}
 use Rattle.state_fits.proofs.PartsSet.{frames_set}

@@ -32,7 +32,7 @@ use Rattle.pager_model.specs.Sound.{FitsSlot}
 use Rattle.pager_rules.proofs.Basics.{pages_equal, same_page_refl}
 use Rattle.pager_rules.proofs.Put.{lies_other, lies_same}
 use Rattle.pager_rules.specs.Kept.{FitsWrite, IsKept}
-use Rattle.page_holders.proofs.Holders.{and_apart, holder_there}
+use Rattle.pager_laws.proofs.Holders.{and_apart, holder_there}
 use Rattle.state_fits.specs.Entries.{TablesFit, place_away, pte_at, pte_by, pte_of}
 use Rattle.state_fits.specs.Pages.{PagesFit, charged_row}
 use Rattle.state_fits.specs.Swaps.{SwapsFit}

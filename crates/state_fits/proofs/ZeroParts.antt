@@ -49,7 +49,7 @@ use Rattle.pager_rules.proofs.Turns.{no_reuse}
 use Rattle.pager_rules.specs.Kept.{IsKept}
 use Rattle.state_parts.specs.ChargedTable.{ChargedTable, IsTableSet}
 use Rattle.state_parts.specs.declared.process_row.ProcessRow.{ProcessRow}
-use Rattle.page_holders.proofs.Holders.{holder_there, IsFreeRow, holder_holds, free_is, not_modified, without_absent}
+use Rattle.pager_laws.proofs.Holders.{holder_there, IsFreeRow, holder_holds, free_is, not_modified, without_absent}
 use Rattle.state_fits.specs.Entries.{TablesFit, pte_at, pte_of, section_page_number}
 use Rattle.state_fits.specs.Frames.{FramesFit, frame_row, row_by, slot_for}
 use Rattle.state_fits.specs.Globals.{GlobalsFit, shares_held}

@@ -20,7 +20,7 @@ use Rattle.pager_model.specs.Forget.{holder}
 use Rattle.pager_model.specs.Lookups.{entry_of}
 use Rattle.pager_model.specs.Maps.{Map, Mapped, page_behind}
 use Rattle.pager_model.specs.Pager.{Valid}
-pub use Rattle.page_holders.specs.SectionNumbers.{section_page_number}
+pub use Rattle.pager_laws.specs.SectionNumbers.{section_page_number}
 
 abbrev pub origin_place : Config → Origin → Place
 origin_place config origin.Zero = place.DemandZero

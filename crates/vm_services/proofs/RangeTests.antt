@@ -20,7 +20,7 @@ use Rattle.pager_model.specs.Transfers.{is_in_flight}
 use Rattle.pager_rules.proofs.Basics.{count_from_no_find}
 use Rattle.pager_rules.proofs.Lists.{count_found, found_passes}
 use Rattle.pager_laws.proofs.RunsAreSound.{run_kept}
-use Rattle.page_holders.proofs.Holders.{holder_holds, holds_within}
+use Rattle.pager_laws.proofs.Holders.{holder_holds, holds_within}
 use Rattle.state_fits.specs.Seats.{flight_on, is_on_frame, start_on}
 use Rattle.state_fits.proofs.FlightsMoved.{on_frame_counts}
 use Rattle.vm_services.specs.OwnFlights.{is_own_in_flight}

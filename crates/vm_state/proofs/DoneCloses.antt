@@ -42,7 +42,7 @@ use Rattle.frame_store.specs.StoreView.{StoreView}
 use Rattle.state_parts.specs.ChargedTable.{ChargedTable, IsTableSet, kept_at}
 use Rattle.state_parts.specs.declared.process_row.ProcessRow.{ProcessRow}
 use Rattle.state_parts.specs.declared.spoken_row.SpokenRow.{SpokenRow}
-use Rattle.page_holders.proofs.ValidEntries.{IsValidAt, mapping_of}
+use Rattle.pager_laws.proofs.ValidEntries.{IsValidAt, mapping_of}
 use Rattle.state_fits.specs.Frames.{frame_row}
 use Rattle.state_fits.specs.Pages.{touched_row}
 use Rattle.state_fits.specs.Parts.{Parts}

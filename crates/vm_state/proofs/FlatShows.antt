@@ -34,7 +34,7 @@ use Rattle.pager_laws.proofs.OfConfigKept.{charged_right}
 use Rattle.pager_rules.proofs.TouchedPages.{same_page_equiv, shorter_list}
 use Rattle.frame_store.specs.StoreView.{StoreView}
 use Rattle.state_parts.specs.ChargedTable.{kept_at}
-use Rattle.page_holders.proofs.EntryPages.{mapped_right}
+use Rattle.pager_laws.proofs.EntryPages.{mapped_right}
 use Rattle.state_fits.specs.Pages.{charged_row}
 use Rattle.state_fits.specs.Parts.{Parts}
 use Rattle.vm_state.specs.PageReadings.{found_in, found_with}

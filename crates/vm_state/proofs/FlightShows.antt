@@ -28,7 +28,7 @@ use Rattle.frame_store.specs.StoreView.{StoreView}
 use Rattle.frame_store.specs.Blocks.{held_at}
 use Rattle.frame_store.proofs.Places.{get_held}
 use Rattle.frame_store.proofs.Rows.{get_left, get_right}
-use Rattle.page_holders.proofs.Holders.{holds_within}
+use Rattle.pager_laws.proofs.Holders.{holds_within}
 use Rattle.state_fits.specs.Parts.{Parts}
 use Rattle.state_fits.specs.Seats.{flight_on, is_on_frame, role_by, role_on, start_on}
 use Rattle.state_fits.proofs.FlightsMoved.{on_frame_counts, one_on_frame}

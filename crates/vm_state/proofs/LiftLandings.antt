@@ -33,7 +33,7 @@ use Rattle.content_laws.proofs.LiftsStay.{lifts_stay}
 use Rattle.frame_store.specs.LiftView.{LiftView}
 use Rattle.frame_store.specs.declared.lift.Carried.{Carried}
 use Rattle.frame_store.specs.declared.lift.Carried.TheVariants.{Good, Bad}
-use Rattle.page_holders.proofs.SectionNumbers.{number_within}
+use Rattle.pager_laws.proofs.SectionNumbers.{number_within}
 use Rattle.vm_state.specs.History.{History, MayAdd, added, entry_by, owed, pager}
 use Rattle.vm_state.specs.Landings.{ended_as, landing_of}
 use Rattle.lift_carriers.specs.LiftsFit.{LiftFits, lift_seen, result_of}

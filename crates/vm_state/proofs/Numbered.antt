@@ -14,7 +14,7 @@ use Rattle.pager_model.specs.Flights.{open_flights}
 use Rattle.pager_model.specs.Pager.{Pager}
 use Rattle.pager_model.specs.Run.{pager_after}
 use Rattle.frame_store.specs.StoreView.{StoreView}
-use Rattle.page_holders.proofs.SectionNumbers.{number_within}
+use Rattle.pager_laws.proofs.SectionNumbers.{number_within}
 use Rattle.state_fits.specs.Parts.{Parts}
 use Rattle.state_fits.proofs.EvictCan.{HasShare as HasShareThere}
 use Rattle.state_fits.proofs.EnterCan.{CanShare as CanShareThere}

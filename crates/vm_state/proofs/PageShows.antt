@@ -39,8 +39,8 @@ use Rattle.frame_store.specs.StoreView.{StoreView}
 use Rattle.state_parts.specs.ChargedTable.{kept_at}
 use Rattle.state_parts.specs.SwapTable.{swapped_at}
 use Rattle.state_parts.specs.declared.charged_page.ChargedPage.{ChargedPage}
-use Rattle.page_holders.proofs.EntryPages.{entry_page, mapped_there}
-use Rattle.page_holders.proofs.Holders.{holder_none, holder_there}
+use Rattle.pager_laws.proofs.EntryPages.{entry_page, mapped_there}
+use Rattle.pager_laws.proofs.Holders.{holder_none, holder_there}
 use Rattle.state_fits.specs.Entries.{origin_of, place_away, place_by, pte_at, pte_of, resting_place, section_page_number}
 use Rattle.state_fits.specs.Pages.{charged_row}
 use Rattle.state_fits.specs.Parts.{Parts}

@@ -24,7 +24,7 @@ use Rattle.pager_model.specs.Lookups.{entry_of}
 use Rattle.pager_model.specs.Pager.{Pager}
 use Rattle.pager_model.specs.Run.{pager_after}
 use Rattle.pager_model.specs.Step.{IsLegal}
-use Rattle.page_holders.proofs.ValidEntries.{valid_at_page}
+use Rattle.pager_laws.proofs.ValidEntries.{valid_at_page}
 use Rattle.frame_store.specs.StoreView.{StoreView}
 use Rattle.state_pages.specs.Shown.{frame_entry, frame_number}
 use Rattle.working_set.specs.Slots.{slot_at, with_pin}

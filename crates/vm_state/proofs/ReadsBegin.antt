@@ -51,7 +51,7 @@ use Rattle.frame_store.specs.StoreView.{StoreView, lifted_in}
 use Rattle.frame_store.proofs.Blocks.{block_kept, block_set}
 use Rattle.state_parts.specs.ChargedTable.{ChargedTable}
 use Rattle.state_parts.specs.declared.process_row.ProcessRow.{ProcessRow}
-use Rattle.page_holders.proofs.Holders.{free_is}
+use Rattle.pager_laws.proofs.Holders.{free_is}
 use Rattle.state_fits.specs.Entries.{section_page_number}
 use Rattle.state_fits.specs.Parts.{Parts}
 use Rattle.state_fits.specs.PartsFit.{PartsFit}

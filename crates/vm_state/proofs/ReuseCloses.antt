@@ -28,7 +28,7 @@ use Rattle.pager_model.specs.Run.{pager_after}
 use Rattle.pager_model.specs.Step.{IsLegal}
 use Rattle.frame_store.specs.StoreView.{StoreView}
 use Rattle.state_parts.specs.ChargedTable.{ChargedTable}
-use Rattle.page_holders.proofs.EntryPages.{mapped_right}
+use Rattle.pager_laws.proofs.EntryPages.{mapped_right}
 use Rattle.state_fits.specs.Changes.{is_failed_first, released_in}
 use Rattle.state_fits.specs.Parts.{Parts}
 use Rattle.state_fits.specs.PartsFit.{PartsFit}

@@ -15,7 +15,7 @@ use Rattle.pfn_database.specs.declared.row.Row.{Row}
 use Rattle.pager_model.specs.Lookups.{entry_of}
 use Rattle.pager_model.specs.Pager.{Pager, Valid}
 use Rattle.pager_model.specs.Run.{pager_after}
-use Rattle.page_holders.proofs.ValidEntries.{valid_at_page}
+use Rattle.pager_laws.proofs.ValidEntries.{valid_at_page}
 use Rattle.frame_store.specs.StoreView.{StoreView}
 use Rattle.state_fits.specs.Frames.{frame_row}
 use Rattle.state_fits.specs.Parts.{Parts}

@@ -44,8 +44,8 @@ use Rattle.frame_store.specs.StoreView.{StoreView}
 use Rattle.state_parts.specs.ChargedTable.{ChargedTable, HasPlace, IsTableSet}
 use Rattle.state_parts.specs.declared.charged_page.ChargedPage.{ChargedPage}
 use Rattle.state_parts.specs.declared.process_row.ProcessRow.{ProcessRow}
-use Rattle.page_holders.proofs.Holders.{IsFreeRow, holder_none}
-use Rattle.page_holders.proofs.SectionNumbers.{number_within}
+use Rattle.pager_laws.proofs.Holders.{IsFreeRow, holder_none}
+use Rattle.pager_laws.proofs.SectionNumbers.{number_within}
 use Rattle.state_fits.specs.Changes.{page_slot, shared_in}
 use Rattle.state_fits.specs.Entries.{section_page_number}
 use Rattle.state_fits.specs.Frames.{row_by}

@@ -19,8 +19,8 @@ use Rattle.pager_model.specs.Swap.{is_still}
 use Rattle.pager_model.specs.Transfers.{reads_on, writes_on}
 use Rattle.pager_laws.proofs.OfConfigKept.{run_right}
 use Rattle.pager_laws.proofs.RunsAreSound.{run_kept}
-use Rattle.page_holders.proofs.EntryPages.{mapped_right}
-use Rattle.page_holders.proofs.ValidEntries.{IsValidAt, valid_at_page}
+use Rattle.pager_laws.proofs.EntryPages.{mapped_right}
+use Rattle.pager_laws.proofs.ValidEntries.{IsValidAt, valid_at_page}
 use Rattle.state_fits.specs.Frames.{frame_row}
 use Rattle.vm_state.specs.History.{History, pager}
 use Rattle.vm_state.specs.ProcessReadings.{slot_by, slot_in, slot_with}

@@ -19,7 +19,7 @@ use Rattle.pager_rules.proofs.Lists.{found_passes}
 use Rattle.pager_rules.specs.Kept.{IsKept}
 use Rattle.pager_laws.proofs.OfConfigKept.{run_right}
 use Rattle.pager_laws.proofs.RunsAreSound.{run_kept}
-use Rattle.page_holders.proofs.Holders.{holder_holds, holds_within}
+use Rattle.pager_laws.proofs.Holders.{holder_holds, holds_within}
 use Rattle.call_laws.proofs.FollowingPages.{lies_there}
 use Rattle.vm_state.specs.PageReadings.{IsKnown}
 use Rattle.vm_swapper.specs.SeenSlots.{IsSmall}

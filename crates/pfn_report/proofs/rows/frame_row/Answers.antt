@@ -7,7 +7,7 @@ use Rattle.pager_model.specs.Report.{refs_of}
 use Rattle.pager_model.specs.Transfers.{reads_on, writes_on}
 use Rattle.pager_laws.proofs.OfConfigKept.{run_right}
 use Rattle.pager_laws.proofs.RunsAreSound.{run_kept}
-use Rattle.page_holders.proofs.Pins.{few_pins}
+use Rattle.pager_laws.proofs.Pins.{few_pins}
 use Rattle.state_fits.proofs.FewShares.{few_shares}
 use Rattle.state_fits.proofs.FrameRows.{row_is}
 use Rattle.vm_state.specs.History.{pager}

@@ -3,7 +3,7 @@ use Rattle.std.proofs.lemmas.Option.{slice_get_within}
 use Rattle.vm_types.specs.Configuration.{IsSectionPage}
 use Rattle.vm_types.specs.declared.names.Page.TheVariants.{Shared}
 use Rattle.global_pages.specs.GlobalPages.{frame_of}
-use Rattle.page_holders.proofs.SectionNumbers.{number_within}
+use Rattle.pager_laws.proofs.SectionNumbers.{number_within}
 use Rattle.vm_state.specs.History.{History, pager}
 use Rattle.vm_state.specs.PageReadings.{backing_in}
 use Rattle.vm_state.proofs.Numbered.{has_number}

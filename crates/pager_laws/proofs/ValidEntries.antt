@@ -13,7 +13,7 @@ use Rattle.pager_rules.proofs.Basics.{nat_eq_refl}
 use Rattle.pager_rules.proofs.Frames.{active_frame}
 use Rattle.pager_rules.proofs.Lists.{all_found, count_found, found_passes}
 use Rattle.pager_rules.specs.Kept.{IsForItsPage, IsKept}
-use Rattle.page_holders.proofs.Holders.{good_within}
+use Rattle.pager_laws.proofs.Holders.{good_within}
 
 -- the process and page that it is of; its page is mapped there and held by its frame, which is active
 pub record IsValidAt (config : Config) (a : Pager) (p v : ℕ) (e : Valid) : Type 0 where

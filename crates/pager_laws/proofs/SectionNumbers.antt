@@ -7,7 +7,7 @@ use Rattle.std.proofs.lemmas.Option.{none-some}
 use Rattle.vm_types.specs.Configuration.{IsSectionPage, section_pages}
 use Rattle.vm_types.specs.declared.config.Config.{Config}
 use Rattle.vm_types.specs.declared.config.Section.{Section}
-use Rattle.page_holders.specs.SectionNumbers.{section_page_number}
+use Rattle.pager_laws.specs.SectionNumbers.{section_page_number}
 
 abbrev number_in : List Section → ℕ → ℕ → ℕ
 number_in sections s i = sum_by section_pages (take s sections) + i
