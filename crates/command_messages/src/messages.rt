@@ -7,13 +7,13 @@ ghost use Rattle.command_messages.specs.LineFaults.{said_text, takes_text};
 ghost use Rattle.command_messages.specs.Messages.{IsSaid, dump_message, fault_message, line_message, message_of, status_message, usage_message, usage_text, wrong_message};
 
 use crate::faults::{CommandName, LineFault};
+use crate::lines::log_message;
 use crate::marks::push_mark;
 use crate::options::words_of;
 use crate::reasons::push_reason;
+use crate::shown::push_shown;
 use arrayvec::ArrayVec;
 use command_ends::Wrong;
-use crate::lines::log_message;
-use crate::shown::push_shown;
 use outside_io::{Sink, write_whole};
 use trace_reader::Breach;
 use vm_text::{push_count, push_decimal, push_word};

@@ -6,11 +6,11 @@ ghost use Rattle.log_check.specs.Follows.{Follows};
 
 use crate::changes::change;
 use crate::replies::other_reply;
+use crate::step::{fails, flat_is_followed};
 use log_flat::PageBytes;
 use log_history::LogHistory;
 use log_pager::LogPager;
 use log_reasons::LineReason;
-use crate::step::{fails, flat_is_followed};
 use std::alloc::Global;
 use vm_journal::Entry;
 use vm_types::{Config, NoMemory};

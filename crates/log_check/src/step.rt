@@ -12,14 +12,15 @@ ghost use Rattle.log_check.specs.Follows.{Follows};
 use crate::line::has_line;
 use log_history::LogHistory;
 use log_pager::LogPager;
-use row_frames::{
-    Collision, Eviction, back_fails, collide_fails, evict_fails, reuse_fails, zero_fails,
-};
-use row_requests::{denied_fails, done_fails, in_turn_fails, limit_fails, turn_fails};
 use log_reasons::Reason;
-use row_requests::served_fails;
-use row_frames::{bad_landing_fails, good_landing_fails, in_fails, out_fails};
 use pager_laws::{flat_machine_follows, runs_are_of_configuration};
+use row_frames::{
+    Collision, Eviction, back_fails, bad_landing_fails, collide_fails, evict_fails,
+    good_landing_fails, in_fails, out_fails, reuse_fails, zero_fails,
+};
+use row_requests::{
+    denied_fails, done_fails, in_turn_fails, limit_fails, served_fails, turn_fails,
+};
 use vm_journal::{Entry, What};
 use vm_types::Seat;
 

@@ -8,8 +8,8 @@ ghost use Rattle.log_flat.specs.Kept.{AnswersAsFlat, AnswersMapped, ChangesAsFla
 
 use crate::kept_pages::KeptPages;
 use log_pager::LogPager;
-use row_requests::refusal;
 use log_tables::{Behind, page_behind};
+use row_requests::refusal;
 use std::alloc::Global;
 use vm_types::{Addr, Config, NoMemory, Origin, Page, Proc, Ref, Reply, Service, Why};
 

@@ -4,10 +4,9 @@ ghost use Rattle.pager_model.specs.Lookups.{block_of};
 ghost use Rattle.pager_model.specs.WriteCluster.{block_out, filed_block, is_free_block, lowest_free, new_block, paged_block};
 ghost use Rattle.log_pager.specs.Shown.{shown};
 
-use vm_types::if_next;
 use log_pager::LogPager;
 use log_tables::is_paged;
-use vm_types::{BlockId, Config, Page};
+use vm_types::{BlockId, Config, Page, if_next};
 
 /// Whether a block of the page file exists and is free.
 fn is_free_block(config: &Config, pager: &LogPager, n: u32) -> bool

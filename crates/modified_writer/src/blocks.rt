@@ -7,11 +7,10 @@ ghost use Rattle.pager_model.specs.WriteCluster.{block_out, is_free_block, new_b
 ghost use Rattle.vm_state.specs.History.{pager};
 ghost use Rattle.vm_state.specs.PageReadings.{IsKnown};
 
-use vm_types::if_next;
 use disk_trait::Block;
 use state_pages::is_paged;
 use vm_state::State;
-use vm_types::{BlockId, Page};
+use vm_types::{BlockId, Page, if_next};
 
 /// Whether a block of the page file exists and is free.
 fn is_free_block<B: Block>(state: &State<B>, n: u32) -> bool

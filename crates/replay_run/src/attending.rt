@@ -4,10 +4,10 @@ ghost use Rattle.vm_state.specs.Based.{base_of};
 ghost use Rattle.replay_run.specs.Workers.{AreAllJobs, AreEnded};
 
 use crate::ending::end_all;
+use crate::jobs::Job;
 use crate::starting::{Started, start_one};
 use disk_trait::Block;
 use history_lock::HistoryLock;
-use crate::jobs::Job;
 use std::snapshot::Snapshot;
 use std::sync::Wait;
 use std::thread::{Scope, Threads};

@@ -7,10 +7,10 @@ ghost use Rattle.vm_state.specs.declared.base.StateBase.{StateBase};
 ghost use Rattle.replay_run.specs.Jobs.{IsEndedOf};
 ghost use Rattle.replay_run.specs.Workers.{AreEnded, AreWorkers, IsStarted};
 
+use crate::last::take_last;
 use crate::starting::Started;
 use disk_trait::Block;
 use history_lock::HistoryLock;
-use crate::last::take_last;
 use std::snapshot::Snapshot;
 use std::sync::Wait;
 use std::thread::Threads;

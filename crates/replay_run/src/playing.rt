@@ -7,12 +7,12 @@ ghost use Rattle.replay_run.specs.Jobs.{IsPlayable};
 ghost use Rattle.replay_run.specs.Workers.{AreAllJobs, AreEnded};
 ghost use Rattle.replay_run.specs.Replayed.{HasPlayed};
 
+use crate::attending::do_jobs;
+use crate::jobs::{Job, make_jobs};
+use crate::starting::Started;
+use crate::works::all_works;
 use disk_trait::Block;
 use history_lock::HistoryLock;
-use crate::jobs::{Job, make_jobs};
-use crate::works::all_works;
-use crate::attending::do_jobs;
-use crate::starting::Started;
 use std::alloc::Global;
 use std::snapshot::Snapshot;
 use std::sync::Wait;

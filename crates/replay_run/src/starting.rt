@@ -1,10 +1,10 @@
 ghost use Rattle.replay_run.specs.Jobs.{IsEndedOf, IsJobAmong};
 ghost use Rattle.replay_run.specs.Workers.{IsStarted};
 
-use disk_trait::Block;
-use history_lock::{HistoryLock, Pass};
 use crate::jobs::Job;
 use crate::working::work;
+use disk_trait::Block;
+use history_lock::{HistoryLock, Pass};
 use std::snapshot::Snapshot;
 use std::sync::Wait;
 use std::thread::{Promise, PromisedHandle, Scope, Threads};

@@ -16,8 +16,8 @@ ghost use Rattle.log_pager.specs.Shown.{shown};
 use log_history::LogHistory;
 use log_pager::LogPager;
 use log_reasons::Reason;
-use row_requests::{is_private, own_fails};
 use log_tables::Ring;
+use row_requests::{is_private, own_fails};
 use vm_journal::EvictWhy;
 use vm_types::{Addr, BlockId, Choice, FrameState, Page, Pfn, Proc, ProcStatus, Seat};
 

@@ -17,8 +17,8 @@ use crate::holding::held_fails;
 use log_history::LogHistory;
 use log_pager::LogPager;
 use log_reasons::Reason;
-use row_requests::{empty_head_fails, own_fails, room_fails};
 use log_tables::{Behind, is_paged};
+use row_requests::{empty_head_fails, own_fails, room_fails};
 use vm_types::{Addr, BlockId, Config, FrameState, Origin, Page, Pfn, Proc, ProcStatus, Seat};
 
 /// A page that comes back: of which process and at which address it is, and its frame and that one's state.

@@ -18,8 +18,8 @@ use crate::blocks::home_fails;
 use log_history::{Direction, LogHistory};
 use log_pager::LogPager;
 use log_reasons::Reason;
-use row_requests::{empty_head_fails, is_private, own_fails, room_fails};
 use log_tables::Behind;
+use row_requests::{empty_head_fails, is_private, own_fails, room_fails};
 use vm_journal::Role;
 use vm_types::{Addr, BlockId, Config, Origin, Page, Pfn, Proc, ProcStatus, Seat};
 

@@ -16,8 +16,8 @@ use crate::blocks::home_fails;
 use log_history::LogHistory;
 use log_pager::LogPager;
 use log_reasons::Reason;
-use row_requests::is_private;
 use log_tables::is_paged;
+use row_requests::is_private;
 use vm_types::{BlockId, Config, Page, Pfn, Proc, ProcStatus};
 
 /// Whether a listed paged page may be written to a page file block: the one that is assigned to it

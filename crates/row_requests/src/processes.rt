@@ -9,10 +9,10 @@ ghost use Rattle.pager_model.specs.Turn.{IsLeavingTurn, IsTurn, IsTurned};
 ghost use Rattle.log_reasons.specs.ProcessReasons.{AdjustFails, AdjustedFails, TurnFails, TurnedFails};
 ghost use Rattle.log_pager.specs.Shown.{shown};
 
+use crate::own::{own_fails, spec_of};
 use log_history::LogHistory;
 use log_pager::LogPager;
 use log_reasons::Reason;
-use crate::own::{own_fails, spec_of};
 use vm_types::{Config, Params, Proc, ProcSpec, ProcStatus, Seat};
 
 /// Whether an adjustment is pending after so many references.

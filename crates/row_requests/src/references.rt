@@ -20,12 +20,12 @@ ghost use Rattle.log_reasons.specs.ProcessReasons.{AnsweredFails, DoneFails};
 ghost use Rattle.log_pager.specs.Shown.{shown};
 ghost use Rattle.row_requests.specs.FollowsFlat.{FollowsFlat};
 
+use crate::own::own_fails;
 use crate::processes::is_pending;
 use crate::refusals::{is_allowed, refusal};
 use log_history::{Direction, LogHistory};
 use log_pager::LogPager;
 use log_reasons::Reason;
-use crate::own::own_fails;
 use log_tables::Behind;
 use vm_journal::Role;
 use vm_types::{Addr, Config, Proc, ProcStatus, Ref, Seat, Why};

@@ -6,11 +6,10 @@ ghost use Rattle.pager_model.specs.Flights.{Flight as OpenFlight, awaits_reuse, 
 ghost use Rattle.pager_model.specs.InTurn.{InTurn, MayJoin, is_flight_work, is_reuse_of};
 ghost use Rattle.log_reasons.specs.SeatReasons.{FlightWorkFails, InTurnFails, JoinsFail, MayJoinFails, ReuseNextFails};
 
-use vm_types::is_next_block;
 use log_history::{Carrying, Flight, LogHistory};
 use log_reasons::Reason;
 use vm_journal::{Entry, Role, What};
-use vm_types::{BlockId, Config, Seat};
+use vm_types::{BlockId, Config, Seat, is_next_block};
 
 /// Whether a seat with an open flight may make the entry.
 fn is_flight_work(what: What) -> bool

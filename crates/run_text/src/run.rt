@@ -9,12 +9,12 @@ ghost use Rattle.command_ends.specs.Ends.{Ends};
 ghost use Rattle.run_text.specs.Parts.{parts_text, run_status};
 ghost use Rattle.run_text.specs.Reported.{AreParts, IsReported};
 
-use crate::entries::print_entries;
-use command_ends::{Status, end_with};
-use outside_io::{Sink, WriteFault};
 use crate::dirty_lines::print_dirty;
+use crate::entries::print_entries;
 use crate::printing::print;
 use crate::report::Report;
+use command_ends::{Status, end_with};
+use outside_io::{Sink, WriteFault};
 use vm_journal::Entry;
 use vm_types::{Config, Page, Section};
 

@@ -16,8 +16,8 @@ use crate::cleaning::Cleaning;
 use crate::evictions::clean_at;
 use crate::places::{Place, shared_place};
 use crate::rounds::{ROUNDS, write_rounds};
-use disk_trait::Block;
 use carried_landings::prepare;
+use disk_trait::Block;
 use vm_state::{Carrier, State};
 use vm_types::{NoMemory, Proc};
 

@@ -13,10 +13,9 @@ ghost use Rattle.carried_landings.specs.Moved.{IsMoveHere, IsMoved};
 
 use crate::control::{Control, Doing};
 use crate::tasks::next_task;
-use carried_landings::carry_and_land;
+use carried_landings::{carry_and_land, prepare};
 use disk_trait::Block;
 use modified_writer::{Reason, begin};
-use carried_landings::prepare;
 use vm_services::refuse_service;
 use vm_state::{Carrier, State};
 use vm_types::{NoMemory, Proc, Request, Seat, Task};

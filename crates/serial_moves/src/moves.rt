@@ -8,8 +8,8 @@ ghost use Rattle.carried_landings.specs.Moved.{IsSteady};
 
 use crate::answers::{ask_next, free, save};
 use crate::control::{AfterAnswer, Control, Doing};
-use disk_trait::Block;
 use carried_landings::prepare;
+use disk_trait::Block;
 use vm_state::{Carrier, State};
 use vm_types::NoMemory;
 

@@ -30,7 +30,12 @@ pub fn rest(
 }
 
 /// A private page that was charged for a first read that failed isn't charged any more.
-pub fn uncharge_unread(pages: &mut ChargedPages, file: &mut PageFile, failed: Option<BlockId>, page: Page)
+pub fn uncharge_unread(
+    pages: &mut ChargedPages,
+    file: &mut PageFile,
+    failed: Option<BlockId>,
+    page: Page,
+)
     requires { MayUncharge page failed pages.old file.old }
     ensures { Uncharges page failed pages.old pages.new file.old file.new }
 {

@@ -3,8 +3,7 @@ ghost use Rattle.std.specs.Prelude.{◌≡◌};
 use crate::speaking::speak;
 use crate::state::State;
 use disk_trait::Block;
-use state_pages::{empty_frame, uncharge};
-use state_pages::entry_in;
+use state_pages::{empty_frame, entry_in, uncharge};
 use vm_journal::What;
 use vm_types::{Addr, Answer, Page, Proc, Seat, Service};
 

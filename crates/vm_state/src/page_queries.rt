@@ -11,9 +11,8 @@ ghost use Rattle.state_pages.specs.Shown.{frame_number};
 
 use crate::state::State;
 use disk_trait::Block;
-use state_pages::is_paged;
 use state_pages::{
-    Backing, Found, changes, entry_in, found_shown, frame_in, is_touched_row, is_valid,
+    Backing, Found, changes, entry_in, found_shown, frame_in, is_paged, is_touched_row, is_valid,
     own_backing, section_page, shared_backing, shared_home, some_waits,
 };
 use vm_types::{Page, Pfn, Proc, Ref, SecId, Why, allowed};

@@ -5,8 +5,7 @@ use disk_trait::Block;
 use frame_changes::begin_read;
 use frame_store::Lift;
 use lift_carriers::Carrier;
-use state_pages::{global_number, hold_page};
-use state_pages::{charge_fault, count_fault, read_page};
+use state_pages::{charge_fault, count_fault, global_number, hold_page, read_page};
 use vm_journal::{Entry, Role, What};
 use vm_types::{BlockId, Pfn, Seat};
 

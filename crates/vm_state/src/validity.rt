@@ -3,9 +3,9 @@ ghost use Rattle.vm_types.specs.PagePlaces.{changed_at};
 ghost use Rattle.page_tables.specs.PageTables.{IsEntry, IsMapped, pte_in};
 ghost use Rattle.pte_forms.specs.declared.pte.Pte.{Pte};
 
-use state_pages::entry_in;
 use page_tables::Tables;
 use pte_forms::{Place, Pte};
+use state_pages::entry_in;
 use vm_types::{Pfn, Proc};
 
 /// The entry of a mapped page becomes valid for a frame. Its protection code stays.
