@@ -17,6 +17,4 @@ mod words;
 
 pub use faults::{CommandName, LineFault, LineOption};
 pub use line::{line_fault, quoted_fault};
-pub use lines::log_message;
 pub use messages::explain;
-pub use shown::push_shown;

@@ -93,7 +93,11 @@ fn add_line(out: &mut ArrayVec<u8, 1024>, why: &LineReason, text: &ArrayVec<u8, 
 
 /// The message about the line of this number of a log, which has these first bytes: why it isn't a legal next one.
 /// Doesn't allocate.
-pub fn log_message(number: u32, why: &LineReason, text: &ArrayVec<u8, 80>) -> ArrayVec<u8, 1024>
+pub(crate) fn log_message(
+    number: u32,
+    why: &LineReason,
+    text: &ArrayVec<u8, 80>,
+) -> ArrayVec<u8, 1024>
     ensures { result.items ≡ log_message number why.now text.now.items }
 {
     let mut out = ArrayVec::new();

@@ -25,7 +25,7 @@ fn push_byte<const CAP: usize>(out: &mut ArrayVec<u8, CAP>, byte: u8)
 }
 
 /// Adds the bytes as they are shown, at most four for each. Doesn't allocate.
-pub fn push_shown<const CAP: usize>(out: &mut ArrayVec<u8, CAP>, bytes: &[u8])
+pub(crate) fn push_shown<const CAP: usize>(out: &mut ArrayVec<u8, CAP>, bytes: &[u8])
     requires { array_vec_len out.old + 4 * length bytes.now ≤ CAP }
     ensures items { out.new.items ≡ out.old.items ++ flat_map shown bytes.now }
     ensures len { array_vec_len out.new ≤ array_vec_len out.old + 4 * length bytes.now }

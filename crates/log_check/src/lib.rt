@@ -18,5 +18,4 @@ mod verdict;
 
 pub use check::check_log;
 pub use check_fault::CheckFault;
-pub use step::{fails, flat_is_followed};
 pub use verdict::Verdict;

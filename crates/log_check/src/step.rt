@@ -83,7 +83,7 @@ fn has_line_after(past: &LogHistory<'_>, e: Entry) -> bool
 }
 
 /// The pager's state has the flat machine's maps and touched pages.
-pub fn flat_is_followed(past: &LogHistory<'_>, pager: &LogPager)
+pub(crate) fn flat_is_followed(past: &LogHistory<'_>, pager: &LogPager)
     requires { Follows past.now.config past.now.past (shown pager.now) }
     ensures { FollowsFlat past.now.config past.now.past (shown pager.now).pager }
 {
@@ -93,7 +93,7 @@ pub fn flat_is_followed(past: &LogHistory<'_>, pager: &LogPager)
 
 /// Why an entry isn't a legal next one after those so far, which led to this state of the pager: one of
 /// the conditions of its kind that doesn't hold, if there is one. Doesn't allocate.
-pub fn fails(past: &LogHistory<'_>, pager: &LogPager, e: Entry) -> Option<Reason>
+pub(crate) fn fails(past: &LogHistory<'_>, pager: &LogPager, e: Entry) -> Option<Reason>
     requires { Follows past.now.config past.now.past (shown pager.now) }
     ensures legal { IsNone result ↔ IsLegal past.now.config past.now.past (shown pager.now).pager e }
     ensures said { IfSome result (EntryFails past.now.config past.now.past (shown pager.now).pager e) }

@@ -14,7 +14,7 @@ mod refusals;
 mod services;
 mod turns;
 
-pub use own::{empty_head_fails, is_private, own_fails, room_fails, spec_of};
+pub use own::{empty_head_fails, is_private, own_fails, room_fails};
 pub use processes::{limit_fails, turn_fails};
 pub use references::{denied_fails, done_fails};
 pub use refusals::refusal;

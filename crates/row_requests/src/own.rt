@@ -66,7 +66,7 @@ pub fn is_private(page: Page) -> bool
 }
 
 /// The limits of a process, if it is there.
-pub fn spec_of(config: &Config, p: Proc) -> Option<ProcSpec>
+pub(crate) fn spec_of(config: &Config, p: Proc) -> Option<ProcSpec>
     ensures { result ≡ slice_get config.now.procs p.0 }
 {
     config.procs.items().get(p.0 as usize).copied()

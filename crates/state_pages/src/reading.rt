@@ -41,7 +41,7 @@ pub fn mapped_page(config: &Config, sections: &Sections, p: Proc, vpn: u32) -> O
 }
 
 /// The page that a process has over what is behind it.
-pub fn page_over(config: &Config, p: Proc, vpn: u32, origin: Origin) -> Page
+pub(crate) fn page_over(config: &Config, p: Proc, vpn: u32, origin: Origin) -> Page
     ensures { result ≡ page_behind config.now p.0 vpn origin }
 {
     match origin {
@@ -103,7 +103,7 @@ const FRESH: ChargedPage = ChargedPage {
 /// Charges a private page that isn't charged yet, and a block of the page file for it. A page of a section
 /// in the page file is charged when it gets its first frame.
 #[tactic(auto, using(state_fits::proofs::PartsSet::table_same))]
-pub fn charge_page(pages: &mut ChargedPages, file: &mut PageFile, page: Page)
+pub(crate) fn charge_page(pages: &mut ChargedPages, file: &mut PageFile, page: Page)
     requires { MayCharge pages.old file.old page }
     ensures rows { IsTableSet pages.old pages.new page (charged_in page (kept_at pages.old page)) }
     ensures file { file.new ≡ file_charged page (kept_at pages.old page) file.old }
