@@ -15,12 +15,12 @@ use Rattle.vm_types.specs.declared.names.ProcStatus.TheVariants as status
 use Rattle.vm_journal.specs.declared.entry.Entry.{Entry}
 use Rattle.vm_journal.specs.declared.entry.EvictWhy.TheVariants as evict
 use Rattle.vm_journal.specs.declared.entry.What.TheVariants as what
-use Rattle.pager_model.specs.Advance.{lies_in}
-use Rattle.pager_model.specs.Around.{past_view}
+use Rattle.pager_model.specs.Lying.{lies_in}
+use Rattle.pager_model.specs.Around.{past_view, PastView, page_view, process_view}
 use Rattle.pager_model.specs.Flights.{Direction, Flight, is_reading, open_flights, reading, writing}
-use Rattle.pager_model.specs.Given.{Seen, by_seat, eviction, is_stopped, leading, passes, pfn, seen_at, slots_of}
-use Rattle.pager_model.specs.Lookups.{entry_of, has_vpn, page_by, slot_of, slot_with}
-use Rattle.pager_model.specs.Maps.{is_private, page_number, proc}
+use Rattle.pager_model.specs.Given.{Seen, by_seat, eviction, is_stopped, leading, seen_at, slots_of}
+use Rattle.pager_model.specs.Lookups.{passes, entry_of, has_vpn, page_by, slot_of, slot_with}
+use Rattle.pager_model.specs.Maps.{pfn, is_private, page_number, proc}
 use Rattle.pager_model.specs.OfConfig.{IsMappable, IsOfConfig}
 use Rattle.pager_model.specs.Pager.{Pager}
 use Rattle.pager_model.specs.Run.{pager_after}
@@ -32,7 +32,7 @@ use Rattle.pager_model.specs.Sets.{at_number}
 use Rattle.pager_rules.proofs.Basics.{at_number_other, count_cons_no, nat_eq_refl}
 use Rattle.pager_rules.proofs.Lists.{all_found, count_found, found_passes}
 use Rattle.pager_rules.proofs.Put.{blocks_equal}
-use Rattle.pager_rules.specs.Kept.{IsKept}
+use Rattle.pager_rules.specs.Kept.{IsKept, FitsDirection, FitsFlight, views}
 use Rattle.pager_laws.proofs.EntryPages.{mapped_right}
 use Rattle.pager_laws.proofs.Holders.{holds_within}
 use Rattle.pager_laws.proofs.ValidEntries.{IsValidAt, valid_at_page}
@@ -43,8 +43,6 @@ use Rattle.call_laws.proofs.HaveNames.{block_named}
 use Rattle.pager_laws.proofs.OutOkKept.{one_in_slot}
 use Rattle.pager_rules.proofs.Pages.{behind_section, own_is}
 use Rattle.pager_rules.proofs.Transfers.{on_frame}
-use Rattle.pager_rules.specs.Kept.{FitsDirection, FitsFlight, views}
-use Rattle.pager_model.specs.Around.{PastView, page_view, process_view}
 use Rattle.pager_model.specs.Changes.{swap_slot}
 use Rattle.page_lists.specs.Lists.{count_of}
 use Rattle.pager_laws.proofs.OpeningKept.{in_range}

@@ -19,7 +19,8 @@ use Rattle.pager_model.specs.Around.{past_view}
 use Rattle.pager_model.specs.Evict.{victim_of}
 use Rattle.pager_model.specs.Flights.{Flight, is_reading, open_flights}
 use Rattle.pager_model.specs.Forget.{holder}
-use Rattle.pager_model.specs.Given.{Seen, by_seat, eviction, goes_to, is_stopped, page_address, pfn, seen_at, seen_by, seen_in, seen_page}
+use Rattle.pager_model.specs.Given.{Seen, by_seat, eviction, goes_to, is_stopped, page_address, seen_at, seen_by, seen_in, seen_page}
+use Rattle.pager_model.specs.Maps.{pfn}
 use Rattle.pager_model.specs.Lookups.{entry_of, is, is_pending, page_by, slot_of}
 use Rattle.pager_model.specs.OfConfig.{IsMappable, IsOfConfig}
 use Rattle.pager_model.specs.Pager.{Pager, Valid}

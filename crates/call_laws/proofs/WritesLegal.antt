@@ -17,11 +17,11 @@ use Rattle.page_lists.specs.Lists.{count_of, without}
 use Rattle.pager_model.specs.Around.{past_view}
 use Rattle.pager_model.specs.Carrier.{Carrying, carried, carrying, carrying_with}
 use Rattle.pager_model.specs.Flights.{Flight, awaits_reuse, is_busy, is_reading, open_flights, writing}
-use Rattle.pager_model.specs.Given.{by_seat, given, pfn}
+use Rattle.pager_model.specs.Given.{by_seat, given}
+use Rattle.pager_model.specs.Maps.{pfn, is_paged}
 use Rattle.pager_model.specs.InTurn.{InTurn, MayJoin}
 use Rattle.vm_types.specs.BlockOrder.{is_next_block, if_next}
 use Rattle.pager_model.specs.Lookups.{IsHead, block_of, is_assigned_to, is_owner}
-use Rattle.pager_model.specs.Maps.{is_paged}
 use Rattle.pager_model.specs.OfConfig.{IsOfConfig, IsPageOf}
 use Rattle.pager_model.specs.Out.{IsOutBlock, after_any_out, assigned_with}
 use Rattle.pager_model.specs.Pager.{Assigned, Pager}

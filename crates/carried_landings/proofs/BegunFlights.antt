@@ -7,8 +7,7 @@ use Rattle.vm_types.specs.declared.names.BlockId.{BlockId}
 use Rattle.vm_types.specs.declared.names.Seat.{Seat}
 use Rattle.vm_journal.specs.declared.entry.What.{What}
 use Rattle.vm_journal.specs.declared.entry.What.TheVariants as what
-use Rattle.pager_model.specs.Flights.{Flight, flights_with, open_flights, reading, writing}
-use Rattle.pager_model.specs.Landings.{carrier_of}
+use Rattle.pager_model.specs.Flights.{Flight, flights_with, open_flights, reading, writing, carrier_of}
 use Rattle.pager_model.specs.Transfers.{is_by}
 use Rattle.pager_rules.proofs.Basics.{nat_eq_refl}
 use Rattle.lift_carriers.specs.CarrierView.{CarrierView}

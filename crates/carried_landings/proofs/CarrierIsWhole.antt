@@ -7,8 +7,7 @@ use Rattle.vm_types.specs.BlockView.{BlockView, Tells}
 use Rattle.vm_types.specs.declared.names.BlockId.{BlockId}
 use Rattle.vm_types.specs.declared.names.Seat.{Seat}
 use Rattle.vm_journal.specs.declared.entry.Entry.{Entry}
-use Rattle.pager_model.specs.Flights.{Flight, awaits_reuse, open_flights}
-use Rattle.pager_model.specs.Landings.{carrier_of}
+use Rattle.pager_model.specs.Flights.{Flight, awaits_reuse, open_flights, carrier_of}
 use Rattle.pager_model.specs.Run.{IsRun}
 use Rattle.pager_model.specs.Transfers.{is_by, starts}
 use Rattle.vm_types.specs.Configuration.{IsWellFormed}

@@ -5,8 +5,7 @@ use Rattle.std.proofs.lemmas.List.Sums.{count_by-le-length, length-filter}
 use Rattle.vm_types.specs.declared.names.Page.{Page}
 use Rattle.vm_types.specs.declared.names.Seat.{Seat}
 use Rattle.vm_journal.specs.declared.entry.What.{What}
-use Rattle.pager_model.specs.Flights.{open_flights}
-use Rattle.pager_model.specs.Landings.{carrier_of}
+use Rattle.pager_model.specs.Flights.{open_flights, carrier_of}
 use Rattle.pager_model.specs.Transfers.{is_by}
 use Rattle.frame_store.specs.LiftView.{LiftView}
 use Rattle.frame_store.specs.declared.lift.Carried.{Carried}

@@ -3,8 +3,7 @@ use Rattle.std.proofs.Common.{◌≡◌, ℕ, ◌≤◌, Bool, true, false, not,
 use Rattle.std.specs.List.{AllByRecursion, IsDistinct}
 use Rattle.std.proofs.lemmas.Bool.{eq-eqb, eqb-false, eqb-true, ne_eqb}
 use Rattle.vm_journal.specs.declared.entry.Entry.{Entry}
-use Rattle.pager_model.specs.Flights.{Flight, is_busy, open_flights, without_flight}
-use Rattle.pager_model.specs.Landings.{carrier_of}
+use Rattle.pager_model.specs.Flights.{Flight, is_busy, open_flights, without_flight, carrier_of}
 use Rattle.pager_model.specs.Transfers.{is_by, starts}
 use Rattle.pager_laws.proofs.PageForgotten.{dropped_find}
 use Rattle.pager_rules.proofs.Basics.{each_of_two, each_weaker, none_passes}

@@ -4,8 +4,7 @@ use Rattle.std.specs.List.{AllByRecursion}
 use Rattle.std.proofs.lemmas.List.{length-map}
 use Rattle.vm_types.specs.BlockView.{BlockView, Tells}
 use Rattle.vm_types.specs.Configuration.{IsWellFormed}
-use Rattle.pager_model.specs.Flights.{awaits_reuse, is_busy, open_flights}
-use Rattle.pager_model.specs.Landings.{carrier_of}
+use Rattle.pager_model.specs.Flights.{awaits_reuse, is_busy, open_flights, carrier_of}
 use Rattle.pager_model.specs.Run.{IsRun}
 use Rattle.pager_rules.proofs.Basics.{each_weaker}
 use Rattle.frame_store.specs.LiftView.{LiftView}

@@ -4,7 +4,7 @@ use Rattle.std.specs.List.{AllByRecursion}
 use Rattle.vm_types.specs.BlockView.{BlockView, Tells}
 use Rattle.vm_types.specs.declared.names.Seat.{Seat}
 use Rattle.vm_journal.specs.declared.entry.Entry.{Entry}
-use Rattle.pager_model.specs.Landings.{carrier_of}
+use Rattle.pager_model.specs.Flights.{carrier_of}
 use Rattle.frame_store.specs.LiftView.{LiftView}
 use Rattle.frame_store.specs.declared.lift.Carried.TheVariants.{Waiting}
 use Rattle.lift_carriers.specs.CarrierView.{CarrierView}

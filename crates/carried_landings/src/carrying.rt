@@ -1,6 +1,5 @@
 ghost use Rattle.std.specs.Prelude.{◌≡◌, ◌+◌, [], false, length, map};
-ghost use Rattle.pager_model.specs.Flights.{awaits_reuse, is_busy, open_flights};
-ghost use Rattle.pager_model.specs.Landings.{carrier_of};
+ghost use Rattle.pager_model.specs.Flights.{awaits_reuse, is_busy, open_flights, carrier_of};
 ghost use Rattle.call_begins.specs.Lifted.{HasBegunLifts, place_of};
 ghost use Rattle.carried_landings.specs.HaveLanded.{HaveLanded};
 ghost use Rattle.carried_landings.specs.SeatFlights.{flight_place, of_others};

@@ -8,9 +8,8 @@ use Rattle.pte_forms.specs.Word.{word_of}
 use Rattle.pte_forms.specs.declared.pte.Pte.{Pte}
 use Rattle.pte_forms.specs.declared.pte.Place.TheVariants as place
 use Rattle.pager_model.specs.Around.{PastView}
-use Rattle.pager_model.specs.Given.{pfn}
+use Rattle.pager_model.specs.Maps.{pfn, Mapped}
 use Rattle.pager_model.specs.Lookups.{entries_at, entry_of, has_vpn, is_entry, page_by}
-use Rattle.pager_model.specs.Maps.{Mapped}
 use Rattle.pager_model.specs.OfConfig.{IsMappable, IsMappedRight, IsOfConfig}
 use Rattle.pager_model.specs.Pager.{Pager, Valid}
 use Rattle.pager_rules.proofs.Basics.{count_cons, count_cons_no, nat_eq_refl}

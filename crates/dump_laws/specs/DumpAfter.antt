@@ -13,9 +13,8 @@ use Rattle.pte_forms.specs.Word.{word_of}
 use Rattle.pte_forms.specs.declared.pte.Place.TheVariants as place
 use Rattle.pfn_database.specs.declared.row.Row.{Row}
 use Rattle.pager_model.specs.Flights.{open_flights}
-use Rattle.pager_model.specs.Given.{pfn}
+use Rattle.pager_model.specs.Maps.{pfn, Mapped}
 use Rattle.pager_model.specs.Lookups.{entry_of}
-use Rattle.pager_model.specs.Maps.{Mapped}
 use Rattle.pager_model.specs.Pager.{Pager, Valid}
 use Rattle.pager_model.specs.Run.{pager_after}
 use Rattle.pager_model.specs.Transfers.{is_in_flight}

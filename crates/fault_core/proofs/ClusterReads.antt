@@ -14,8 +14,8 @@ use Rattle.vm_journal.specs.declared.entry.What.{What}
 use Rattle.vm_journal.specs.declared.entry.What.TheVariants as what
 use Rattle.pager_model.specs.Advance.{block_after, cluster_targets, following, frame_given, near_target, near_targets, next_carry, window}
 use Rattle.pager_model.specs.ClusterLength.{cluster_length}
-use Rattle.pager_model.specs.Given.{Target, given, page_address, pfn, reads_made, reuse_first, unsaid, with_reply}
-use Rattle.pager_model.specs.Maps.{proc}
+use Rattle.pager_model.specs.Given.{Target, given, page_address, reads_made, reuse_first, unsaid, with_reply}
+use Rattle.pager_model.specs.Maps.{pfn, proc}
 use Rattle.pager_model.specs.Pager.{Pager}
 use Rattle.pager_model.specs.Run.{IsRun}
 use Rattle.call_laws.specs.AreLegal.{AreLegal}

@@ -15,7 +15,8 @@ use Rattle.vm_types.specs.declared.reference.Ref.{Ref}
 use Rattle.vm_types.specs.declared.reply.Reply.{Reply}
 use Rattle.vm_journal.specs.declared.entry.What.{What}
 use Rattle.vm_journal.specs.declared.entry.What.TheVariants as what
-use Rattle.pager_model.specs.Advance.{again_no_frame, first_source, frame_given, gives_again, held_given, is_uncharged, next_answered}
+use Rattle.pager_model.specs.Advance.{again_no_frame, frame_given, gives_again, held_given, next_answered}
+use Rattle.pager_model.specs.Charging.{first_source, is_uncharged}
 use Rattle.pager_model.specs.Around.{past_view}
 use Rattle.pager_model.specs.Forget.{holder}
 use Rattle.pager_model.specs.Given.{given, page_address, reuse_first, unsaid}

@@ -15,7 +15,8 @@ use Rattle.vm_journal.specs.declared.entry.What.TheVariants as what
 use Rattle.pager_model.specs.Advance.{AgainWhy as Reason, GivenNext, NextIs, gives_again, next_again, next_answered, next_carry, next_more}
 use Rattle.pager_model.specs.Flat.{FlatState, flat_refusal, flat_reply, found_at, mapping_of, offset_in_page, reply_from, reply_unless}
 use Rattle.pager_model.specs.Flights.{fails_read, open_flights}
-use Rattle.pager_model.specs.Given.{by_seat, given, pfn, reuse_first, unsaid, with_reply}
+use Rattle.pager_model.specs.Given.{by_seat, given, reuse_first, unsaid, with_reply}
+use Rattle.pager_model.specs.Maps.{pfn}
 use Rattle.pager_model.specs.Spoken.{flat_after}
 use Rattle.call_laws.specs.AreLegal.{IsLegalNext}
 use Rattle.lift_carriers.specs.CarrierView.{CarrierView}

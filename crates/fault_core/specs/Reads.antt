@@ -6,7 +6,8 @@ use Rattle.vm_types.specs.declared.names.BlockId.{BlockId}
 use Rattle.vm_types.specs.declared.names.BlockId.TheVariants as block
 use Rattle.vm_types.specs.declared.names.Page.{Page}
 use Rattle.vm_types.specs.declared.names.Page.TheVariants.{Private, Shared}
-use Rattle.pager_model.specs.Advance.{following, is_uncharged}
+use Rattle.pager_model.specs.Advance.{following}
+use Rattle.pager_model.specs.Charging.{is_uncharged}
 use Rattle.pager_model.specs.Pager.{Pager}
 
 -- the place of a block in its section, in the page file, or among the swap blocks of its process

@@ -1,6 +1,6 @@
 ghost use Rattle.std.specs.Prelude.{◌≡◌, ◌<◌, ◌&&◌, true, length, nat_eq, nat_le, not};
 ghost use Rattle.vm_types.specs.Ring.{filled};
-ghost use Rattle.pager_model.specs.Advance.{is_uncharged};
+ghost use Rattle.pager_model.specs.Charging.{is_uncharged};
 ghost use Rattle.pager_model.specs.Maps.{is_paged};
 ghost use Rattle.vm_state.specs.History.{pager};
 ghost use Rattle.fault_core.specs.Cases.{IsReplacedFirst, at_fault, at_room};

@@ -1,5 +1,5 @@
 ghost use Rattle.std.specs.Prelude.{◌≡◌, ◌+◌, ◌<◌, ◌^◌, ◌∷◌, IfOk, length};
-ghost use Rattle.pager_model.specs.Landings.{carrier_of};
+ghost use Rattle.pager_model.specs.Flights.{carrier_of};
 
 use crate::flight::Flight;
 use crate::log_history::LogHistory;

@@ -7,9 +7,9 @@ use Rattle.vm_types.specs.declared.config.Config.{Config}
 use Rattle.vm_journal.specs.declared.entry.Entry.{Entry}
 use Rattle.vm_journal.specs.declared.entry.What.{What}
 use Rattle.pager_model.specs.Cleaning.{Cleaning, evicting}
-use Rattle.pager_model.specs.Flights.{Flight, open_flights}
+use Rattle.pager_model.specs.Flights.{Flight, open_flights, carrier_of}
 use Rattle.pager_model.specs.Given.{by_seat, made_by, unsaid}
-use Rattle.pager_model.specs.Landings.{Outcome, all_bad, carrier_of, landed_by, went_well}
+use Rattle.pager_model.specs.Landings.{Outcome, all_bad, landed_by, went_well}
 use Rattle.pager_model.specs.Moves.{Move, cleaning, control}
 use Rattle.pager_model.specs.Run.{IsRun, pager_after}
 use Rattle.pager_model.specs.Rundown.{at_slot, cleaning_move, writer_of}

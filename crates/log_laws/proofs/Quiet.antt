@@ -8,7 +8,8 @@ use Rattle.vm_journal.specs.declared.entry.What.TheVariants as what
 use Rattle.pager_model.specs.Cleaning.{Cleaning, evicting, rounds}
 use Rattle.pager_model.specs.Flat.{FlatState}
 use Rattle.pager_model.specs.Given.{Seen, is_stopped, made_by, seen_at, with_reply}
-use Rattle.pager_model.specs.Landings.{all_bad, carrier_of, first_bad, landed_by}
+use Rattle.pager_model.specs.Landings.{all_bad, first_bad, landed_by}
+use Rattle.pager_model.specs.Flights.{carrier_of}
 use Rattle.pager_model.specs.Moves.{After, Control, Move, carries, cleaning, control, goes, makes, rests}
 use Rattle.pager_model.specs.Order.{answered, spoken_by}
 use Rattle.pager_model.specs.Pager.{Pager}

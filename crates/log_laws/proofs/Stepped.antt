@@ -10,9 +10,9 @@ use Rattle.vm_journal.specs.declared.entry.Entry.{Entry}
 use Rattle.vm_journal.specs.declared.entry.What.{What}
 use Rattle.vm_journal.specs.declared.entry.What.TheVariants as what
 use Rattle.pager_model.specs.Cleaning.{Cleaning, evicting}
-use Rattle.pager_model.specs.Flights.{Flight, open_flights}
+use Rattle.pager_model.specs.Flights.{Flight, open_flights, carrier_of}
 use Rattle.pager_model.specs.Given.{by_seat, made_by}
-use Rattle.pager_model.specs.Landings.{Outcome, all_bad, carrier_of, is_bad_outcome, landed_by}
+use Rattle.pager_model.specs.Landings.{Outcome, all_bad, is_bad_outcome, landed_by}
 use Rattle.pager_model.specs.Moves.{Control, Move, carries, cleaning, control, goes, makes}
 use Rattle.pager_model.specs.Run.{IsRun, pager_after}
 use Rattle.pager_model.specs.Rundown.{at_slot, cleaning_move, writer_of}

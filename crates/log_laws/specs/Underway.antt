@@ -9,8 +9,7 @@ use Rattle.vm_journal.specs.declared.entry.What.{What}
 use Rattle.vm_journal.specs.declared.entry.What.TheVariants as what
 use Rattle.pager_model.specs.Cleaning.{Cleaning, evicting}
 use Rattle.pager_model.specs.Counted.{last_count}
-use Rattle.pager_model.specs.Flights.{Flight}
-use Rattle.pager_model.specs.Landings.{carrier_of}
+use Rattle.pager_model.specs.Flights.{Flight, carrier_of}
 use Rattle.pager_model.specs.Moves.{After, Doing, Move, carries, cleaning, goes, makes, rests}
 use Rattle.pager_model.specs.Run.{pager_after}
 use Rattle.pager_model.specs.Rundown.{cleaning_move, writer_of}

@@ -5,7 +5,7 @@ use Rattle.vm_types.specs.declared.config.Config.{Config}
 use Rattle.vm_types.specs.declared.names.BlockId.{BlockId}
 use Rattle.vm_journal.specs.declared.entry.What.{What}
 use Rattle.vm_journal.specs.declared.entry.What.TheVariants as what
-use Rattle.pager_model.specs.Given.{pfn}
+use Rattle.pager_model.specs.Maps.{pfn}
 use Rattle.pager_model.specs.Pager.{Pager}
 use Rattle.pager_model.specs.WriteCluster.{block_out}
 

@@ -11,10 +11,9 @@ use Rattle.vm_types.specs.declared.names.Page.{Page}
 use Rattle.vm_journal.specs.declared.entry.What.{What}
 use Rattle.vm_journal.specs.declared.entry.What.TheVariants as what
 use Rattle.page_lists.specs.Lists.{count_of}
-use Rattle.pager_model.specs.Given.{pfn}
+use Rattle.pager_model.specs.Maps.{pfn, is_paged}
 use Rattle.vm_types.specs.BlockOrder.{is_next_block, if_next}
 use Rattle.pager_model.specs.Lookups.{block_of, is_assigned_to, is_owner}
-use Rattle.pager_model.specs.Maps.{is_paged}
 use Rattle.pager_model.specs.Out.{after_any_out, assigned_with}
 use Rattle.pager_model.specs.Pager.{Assigned, Pager}
 use Rattle.pager_model.specs.WriteCluster.{block_out, is_free_block, new_block, paged_block, filed_block, writes_from, writes_taken}

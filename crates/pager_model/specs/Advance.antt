@@ -5,12 +5,11 @@ use Rattle.std.specs.Prelude.{ℕ, Bool, true, false, ◌+◌, ◌-◌, ◌&&◌
 use Rattle.std.specs.Option.{option_map, is_some}
 use Rattle.std.specs.List.{range_with_len}
 use Rattle.vm_types.specs.Ring.{choose, filled}
-use Rattle.vm_types.specs.Same.{same_block}
 use Rattle.vm_types.specs.Adjust.{adjust}
 use Rattle.vm_types.specs.Configuration.{section_pages}
 use Rattle.vm_types.specs.declared.names.Page.{Page}
 use Rattle.vm_types.specs.declared.names.SecId.{SecId}
-use Rattle.vm_types.specs.declared.names.Page.TheVariants.{Private, Shared}
+use Rattle.vm_types.specs.declared.names.Page.TheVariants.{Shared}
 use Rattle.vm_types.specs.declared.names.BlockId.{BlockId}
 use Rattle.vm_types.specs.declared.names.BlockId.TheVariants as block
 use Rattle.vm_types.specs.declared.config.Config.{Config}
@@ -22,19 +21,20 @@ use Rattle.vm_journal.specs.declared.entry.Entry.{Entry}
 use Rattle.vm_journal.specs.declared.entry.Role.TheVariants as role
 use Rattle.vm_journal.specs.declared.entry.EvictWhy.TheVariants as evict
 use Rattle.vm_journal.specs.declared.entry.What.TheVariants as what
-use Rattle.pager_model.specs.Given.{unsaid}
+use Rattle.pager_model.specs.Given.{unsaid, Given, Seen, Target, eviction, given, is_stopped, page_address, reads_made, reuse_first, seen_at}
 use Rattle.pager_model.specs.ClusterLength.{cluster_length}
 use Rattle.pager_model.specs.Evict.{victim_of}
 use Rattle.pager_model.specs.Flat.{flat_refusal}
 use Rattle.pager_model.specs.Flights.{Flight, open_flights}
 use Rattle.pager_model.specs.Forget.{holder}
-use Rattle.pager_model.specs.Given.{Given, Seen, Target, eviction, given, is_stopped, page_address, pfn, reads_made, reuse_first, seen_at}
+use Rattle.pager_model.specs.Maps.{pfn, Mapped, page_number, proc}
 use Rattle.pager_model.specs.In.{is_kin}
-use Rattle.pager_model.specs.Lookups.{count_page, entry_of, is_owner, is_pending, is_resident, page_by, section_at}
-use Rattle.pager_model.specs.Maps.{Mapped, is_paged, page_number, proc}
+use Rattle.pager_model.specs.Lookups.{entry_of, is_owner, is_pending, is_resident, page_by}
 use Rattle.pager_model.specs.Pager.{Assigned, Pager, Valid}
 use Rattle.pager_model.specs.Spoken.{flat_after}
 use Rattle.pager_model.specs.Transfers.{is_on_block, is_read_on}
+use Rattle.pager_model.specs.Charging.{first_source, is_uncharged}
+use Rattle.pager_model.specs.Lying.{lies_in}
 
 pub data AgainWhy : Type 0 where
   again_not_resident : AgainWhy
@@ -83,14 +83,6 @@ replace_given config past a p = replace_seen config past a p (seen_at a p (victi
 
 -- the block from which the page is read: that of its section before a private page is charged, else the one
 -- in which it lies
-abbrev pub is_uncharged : Config → Pager → Page → Bool
-is_uncharged config a g = is_paged config g && nat_eq (count_page a.charged g) 0
-
--- a shared page that isn't charged yet is made of zeros
-abbrev pub first_source : Page → Option Mapped → Option BlockId
-first_source (Private p v) m = section_at m
-first_source (Shared s i) m = None
-
 abbrev pub source_of : Config → Pager → Page → Option Mapped → Option BlockId
 source_of config a g m = if is_uncharged config a g then first_source g m else a.lies g
 
@@ -98,10 +90,6 @@ source_of config a g m = if is_uncharged config a g then first_source g m else a
 -- where it lies there and is of the same process, or of the same section
 abbrev pub owner_of : List Assigned → ℕ → Option Page
 owner_of assigned n = option_map (λ (x : Assigned). x.page) (find (is_owner (block.PageFile n)) assigned)
-
-abbrev pub lies_in : Option BlockId → BlockId → Bool
-lies_in None b = false
-lies_in (Some c) b = same_block b c
 
 abbrev pub following_owner : Pager → Page → ℕ → Option Page → Option Page
 following_owner a g n None = None

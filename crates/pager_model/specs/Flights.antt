@@ -1,5 +1,5 @@
 -- Open flights: transfers that have begun and have not landed. This project's own.
-use Rattle.std.specs.Prelude.{ℕ, Bool, true, false, ◌+◌, ◌&&◌, List, [], ◌∷◌, Option, Some, None, length, filter, nat_eq, not, if◌then◌else◌}
+use Rattle.std.specs.Prelude.{ℕ, Bool, true, false, ◌+◌, ◌&&◌, List, [], ◌∷◌, Option, Some, None, length, filter, nat_eq, not, if◌then◌else◌, reverse}
 use Rattle.std.specs.List.{list_any}
 use Rattle.vm_types.specs.declared.names.BlockId.{BlockId}
 use Rattle.vm_journal.specs.declared.entry.Entry.{Entry}
@@ -39,6 +39,10 @@ flights_with number seat other flights = flights
 abbrev pub open_flights : List Entry → List Flight
 open_flights [] = []
 open_flights (e ∷ past) = flights_with (length past + 1) (e.seat).0 e.what (open_flights past)
+
+-- a seat's open flights, in the order in which they were begun
+abbrev pub carrier_of : ℕ → List Entry → List Flight
+carrier_of seat past = reverse (filter (λ (x : Flight). nat_eq x.seat seat) (open_flights past))
 
 abbrev pub is_reading : Direction → Bool
 is_reading (reading role) = true

@@ -1,6 +1,6 @@
 -- What a call of the pager's logic gives: the entries that it makes, in order, and its answer. This
 -- project's own.
-use Rattle.std.specs.Prelude.{ℕ, Bool, false, ◌+◌, ◌*◌, ◌&&◌, List, [], ◌∷◌, Option, Some, None, length, slice_get, nat_le, if◌then◌else◌}
+use Rattle.std.specs.Prelude.{ℕ, Bool, ◌+◌, ◌*◌, ◌&&◌, List, [], ◌∷◌, Option, Some, None, length, slice_get, nat_le, if◌then◌else◌}
 use Rattle.std.specs.List.{range_with_len}
 use Rattle.vm_types.specs.Ring.{Held}
 use Rattle.vm_types.specs.declared.names.Addr.{Addr}
@@ -9,7 +9,6 @@ use Rattle.vm_types.specs.declared.names.Page.TheVariants.{Private, Shared}
 use Rattle.vm_types.specs.declared.names.FrameState.{FrameState}
 use Rattle.vm_types.specs.declared.names.FrameState.TheVariants as state
 use Rattle.vm_types.specs.declared.names.BlockId.{BlockId}
-use Rattle.vm_types.specs.declared.names.Pfn.{Pfn}
 use Rattle.vm_types.specs.declared.config.Config.{Config}
 use Rattle.vm_journal.specs.declared.entry.Entry.{Entry}
 use Rattle.vm_journal.specs.declared.entry.Role.{Role}
@@ -21,7 +20,7 @@ use Rattle.vm_types.specs.declared.reply.Reply.TheVariants as reply
 use Rattle.pager_model.specs.Evict.{evicted_to}
 use Rattle.pager_model.specs.Flights.{open_flights}
 use Rattle.pager_model.specs.Lookups.{entry_of, is, shares, slot_of}
-use Rattle.pager_model.specs.Maps.{proc}
+use Rattle.pager_model.specs.Maps.{proc, pfn}
 use Rattle.pager_model.specs.Pager.{Pager, Valid}
 use Rattle.pager_model.specs.Transfers.{reads_on, writes_on}
 
@@ -48,9 +47,6 @@ with_reply shown other = other
 abbrev pub made_by : ℕ → List What → List Entry → List Entry
 made_by seat [] past = past
 made_by seat (w ∷ ws) past = made_by seat ws (by_seat seat w ∷ past)
-
-abbrev pub pfn : ℕ → Pfn
-pfn f = record { 0 = f }
 
 -- the first address of a page
 abbrev pub page_address : ℕ → Addr
@@ -115,10 +111,6 @@ seen_in a p (Some held) = seen_by a held (entry_of a.valid p held.vpn)
 -- of process p, in slot n
 abbrev pub seen_at : Pager → ℕ → ℕ → Option Seen
 seen_at a p n = seen_in a p (slot_of (slice_get (a.ring p).slots n))
-
-abbrev pub passes : {X : Type 0} → (X → Bool) → Option X → Bool
-passes t None = false
-passes t (Some x) = t x
 
 -- the numbers of a process's slots
 abbrev pub slots_of : Pager → ℕ → List ℕ

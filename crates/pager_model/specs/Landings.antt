@@ -1,13 +1,14 @@
 -- What the landing of a carrier adds to a journal, by the answers of the blocks. This project's own.
-use Rattle.std.specs.Prelude.{ℕ, Bool, true, false, ◌<◌, ◌&&◌, List, [], ◌∷◌, Option, Some, None, filter, nat_eq, reverse}
+use Rattle.std.specs.Prelude.{ℕ, Bool, true, false, ◌&&◌, List, [], ◌∷◌, Option, Some, None}
 use Rattle.vm_types.specs.declared.names.Page.{Page}
 use Rattle.vm_types.specs.declared.config.Config.{Config}
 use Rattle.vm_journal.specs.declared.entry.Entry.{Entry}
 use Rattle.vm_journal.specs.declared.entry.What.{What}
 use Rattle.vm_journal.specs.declared.entry.What.TheVariants as what
 use Rattle.pager_model.specs.Counted.{last_count}
-use Rattle.pager_model.specs.Flights.{Direction, Flight, open_flights, reading, writing}
-use Rattle.pager_model.specs.Given.{made_by, pfn}
+use Rattle.pager_model.specs.Flights.{Direction, Flight, reading, writing}
+use Rattle.pager_model.specs.Given.{made_by}
+use Rattle.pager_model.specs.Maps.{pfn}
 use Rattle.pager_model.specs.Run.{pager_after}
 
 -- a block's answer: good, or bad with its count of failures afterwards
@@ -36,10 +37,6 @@ landed_by config seat [] outcomes past = past
 landed_by config seat (x ∷ flights) [] past = past
 landed_by config seat (x ∷ flights) (o ∷ outcomes) past =
     landed_by config seat flights outcomes (made_by seat (landing past (pager_after config past).page x x.direction o) past)
-
--- a seat's open flights, in the order in which they were begun
-abbrev pub carrier_of : ℕ → List Entry → List Flight
-carrier_of seat past = reverse (filter (λ (x : Flight). nat_eq x.seat seat) (open_flights past))
 
 -- whether every lift failed, and whether the first one did
 abbrev pub all_bad : List Outcome → Bool

@@ -5,6 +5,7 @@ pub mod Back
 pub mod Bytes
 pub mod Carrier
 pub mod Changes
+pub mod Charging
 pub mod Cleaning
 pub mod ClusterLength
 pub mod Collide
@@ -27,6 +28,8 @@ pub mod InTurn
 pub mod Landings
 pub mod Limit
 pub mod Lookups
+pub mod Lying
+pub mod MappedRanges
 pub mod Maps
 pub mod Moves
 pub mod OfConfig

@@ -13,6 +13,7 @@ use Rattle.vm_types.specs.declared.config.Origin.TheVariants as origin
 use Rattle.vm_types.specs.Behind.{origin_by}
 pub use Rattle.vm_types.specs.Behind.{page_number, covers, origin_after}
 pub use Rattle.vm_types.specs.Kinds.{paged_of, shared_of}
+use Rattle.vm_types.specs.declared.names.Pfn.{Pfn}
 
 -- what a page is mapped to: what is behind it, and its protection code
 pub record Mapped : Type 0 where
@@ -25,6 +26,9 @@ Map = ℕ → ℕ → Option Mapped
 
 abbrev pub proc : ℕ → Proc
 proc p = record { 0 = p }
+
+abbrev pub pfn : ℕ → Pfn
+pfn f = record { 0 = f }
 
 abbrev pub mapped_by : ℕ → Mapping → Mapped
 mapped_by v m = record { origin = origin_by v m; prot = m.prot }

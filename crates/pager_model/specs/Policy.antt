@@ -2,8 +2,7 @@
 -- and after each answer the writer's and the swapper's part. Room for entries is met by reserving, so it
 -- isn't here. This project's own; the writer's and swapper's triggers by Kenah and Bate, "VAX/VMS Internals
 -- and Data Structures", the modified page writer (HILIMIT, LOLIMIT) and the swapper (FREELIM, FREEGOAL).
-use Rattle.std.specs.Prelude.{ℕ, Bool, true, false, ◌+◌, ◌&&◌, List, [], ◌∷◌, Option, Some, None, length, find, count_by, slice_get, nat_eq, nat_lt, not, if◌then◌else◌}
-use Rattle.std.specs.Option.{is_some}
+use Rattle.std.specs.Prelude.{ℕ, Bool, true, false, ◌+◌, ◌&&◌, List, [], ◌∷◌, Option, Some, None, length, find, slice_get, nat_eq, nat_lt, not, if◌then◌else◌}
 use Rattle.std.specs.List.{range_with_len}
 use Rattle.vm_types.specs.declared.names.ProcStatus.{ProcStatus}
 use Rattle.vm_types.specs.declared.names.ProcStatus.TheVariants as status
@@ -22,17 +21,14 @@ use Rattle.pager_model.specs.Pager.{Pager}
 use Rattle.pager_model.specs.Run.{pager_after}
 use Rattle.pager_model.specs.Rundown.{cleaning_move, writer_of}
 use Rattle.pager_model.specs.Serve.{ServeIs, serve_again, serve_answered, serve_gives, serve_modified_full, serve_more}
-use Rattle.pager_model.specs.Spoken.{request_of}
+use Rattle.pager_model.specs.Spoken.{spoken}
 use Rattle.pager_model.specs.Swap.{SwapIs, come_gives, leave_gives, swap_again, swap_carry, swap_modified_full, swap_more, swap_no_frame, swap_settled, victim_gives}
 use Rattle.pager_model.specs.WriteCluster.{BeginIs, begin_carry, begin_gives, begin_nothing, reason_high, reason_need}
 
 abbrev pub swapper_of : Config → ℕ
 swapper_of config = length config.procs + 1
 
--- how many requests a past has answered, and the one that comes next
-abbrev pub spoken : List Entry → ℕ
-spoken past = count_by (λ (e : Entry). is_some (request_of e.what)) past
-
+-- the request that comes next
 abbrev pub next_task : Config → List Entry → Option Task
 next_task config past = slice_get config.body (spoken past)
 

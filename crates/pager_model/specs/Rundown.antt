@@ -9,7 +9,8 @@ use Rattle.vm_journal.specs.declared.entry.EvictWhy.TheVariants as evict
 use Rattle.vm_journal.specs.declared.entry.What.{What}
 use Rattle.pager_model.specs.Advance.{following}
 use Rattle.pager_model.specs.Cleaning.{Cleaning, evicting, rounds}
-use Rattle.pager_model.specs.Given.{Seen, eviction, is_stopped, passes, seen_at, slots_of}
+use Rattle.pager_model.specs.Given.{Seen, eviction, is_stopped, seen_at, slots_of}
+use Rattle.pager_model.specs.Lookups.{passes}
 use Rattle.pager_model.specs.Maps.{is_private}
 use Rattle.pager_model.specs.Moves.{Control, Move, carries, cleaning, control, goes, makes, rests}
 use Rattle.pager_model.specs.Pager.{Pager}

@@ -11,9 +11,9 @@ use Rattle.vm_types.specs.declared.reply.Answer.TheVariants as answer
 use Rattle.vm_journal.specs.declared.entry.Entry.{Entry}
 use Rattle.vm_journal.specs.declared.entry.What.{What}
 use Rattle.vm_journal.specs.declared.entry.What.TheVariants as what
-use Rattle.pager_model.specs.Flights.{awaits_reuse, open_flights}
+use Rattle.pager_model.specs.Flights.{awaits_reuse, open_flights, carrier_of}
 use Rattle.pager_model.specs.Given.{with_reply, by_seat, made_by}
-use Rattle.pager_model.specs.Landings.{Outcome, all_bad, carrier_of, first_bad, landed_by}
+use Rattle.pager_model.specs.Landings.{Outcome, all_bad, first_bad, landed_by}
 use Rattle.pager_model.specs.Moves.{After, Control, Move, asking, carries, control, goes, makes, refuses, rests, saving}
 use Rattle.pager_model.specs.Order.{IsAnswered}
 use Rattle.pager_model.specs.Policy.{move_of, next_task}

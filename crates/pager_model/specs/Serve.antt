@@ -1,9 +1,8 @@
 -- One service's next step: which entries are made and what is answered. Source: Kenah and Bate, "VAX/VMS
 -- Internals and Data Structures", memory management system services; the order is this project's own.
 use Rattle.std.specs.Prelude.{ℕ, Bool, true, ◌+◌, ◌&&◌, List, [], ◌∷◌, Option, Some, None, find, count_by, slice_get, nat_le, nat_lt, not, if◌then◌else◌}
-use Rattle.std.specs.Option.{is_some}
 use Rattle.std.specs.List.{list_any}
-use Rattle.vm_types.specs.Ring.{Held, Ring, fixed, is_fixed}
+use Rattle.vm_types.specs.Ring.{Ring, fixed, is_fixed}
 use Rattle.vm_types.specs.declared.names.Addr.{Addr}
 use Rattle.vm_types.specs.declared.names.Page.{Page}
 use Rattle.vm_types.specs.declared.config.Config.{Config}
@@ -18,12 +17,13 @@ use Rattle.vm_journal.specs.declared.entry.EvictWhy.TheVariants as evict
 use Rattle.vm_journal.specs.declared.entry.What.TheVariants as what
 use Rattle.pager_model.specs.Flights.{open_flights}
 use Rattle.pager_model.specs.Forget.{holder, own_pages, range_of}
-use Rattle.pager_model.specs.Given.{Given, eviction, given, is_stopped, passes}
-use Rattle.pager_model.specs.Lookups.{entries_at, entry_of, is_resident, slot_of, slot_with}
+use Rattle.pager_model.specs.Given.{Given, eviction, given, is_stopped}
+use Rattle.pager_model.specs.Lookups.{passes, entries_at, entry_of, is_resident, slot_of, slot_with}
 use Rattle.pager_model.specs.Pager.{Pager, Valid}
 use Rattle.pager_model.specs.Ring.{range_locked, range_pinned}
 use Rattle.pager_model.specs.Served.{is_locked_in, is_pinned_in, is_slot_in}
 use Rattle.pager_model.specs.Transfers.{is_in_flight}
+use Rattle.pager_model.specs.MappedRanges.{is_in_use, is_unmapped}
 
 pub data ServeWhy : Type 0 where
   serve_not_resident : ServeWhy
@@ -40,19 +40,6 @@ GivenServe = Given ServeIs
 
 abbrev pub served_with : Service → Answer → GivenServe
 served_with s w = given (what.Served s w ∷ []) serve_answered
-
-abbrev pub is_mapped_at : Pager → ℕ → ℕ → Bool
-is_mapped_at a p v = is_some (a.map p v)
-
-abbrev pub is_unmapped_at : Pager → ℕ → ℕ → Bool
-is_unmapped_at a p v = not (is_mapped_at a p v)
-
--- whether some page of the range is mapped, and whether some isn't
-abbrev pub is_in_use : Pager → ℕ → ℕ → ℕ → Bool
-is_in_use a p address pages = list_any (is_mapped_at a p) (range_of address pages)
-
-abbrev pub is_unmapped : Pager → ℕ → ℕ → ℕ → Bool
-is_unmapped a p address pages = list_any (is_unmapped_at a p) (range_of address pages)
 
 -- the lowest page of the range that is valid, and that one which is neither locked nor pinned
 abbrev pub is_valid_at : Pager → ℕ → ℕ → Bool

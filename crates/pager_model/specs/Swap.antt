@@ -16,12 +16,12 @@ use Rattle.vm_journal.specs.declared.entry.Role.TheVariants as role
 use Rattle.vm_journal.specs.declared.entry.EvictWhy.TheVariants as evict
 use Rattle.vm_journal.specs.declared.entry.What.{What}
 use Rattle.vm_journal.specs.declared.entry.What.TheVariants as what
-use Rattle.pager_model.specs.Advance.{lies_in}
+use Rattle.pager_model.specs.Lying.{lies_in, lying_in}
 use Rattle.pager_model.specs.Flights.{is_busy, open_flights}
 use Rattle.pager_model.specs.Forget.{holder}
-use Rattle.pager_model.specs.Given.{Given, Seen, Target, address_of, eviction, given, is_stopped, leading, passes, pfn, reads_made, seen_at, slots_of}
-use Rattle.pager_model.specs.Lookups.{is, is_coming, is_resident}
-use Rattle.pager_model.specs.Maps.{is_private, proc}
+use Rattle.pager_model.specs.Given.{Given, Seen, Target, address_of, eviction, given, is_stopped, leading, reads_made, seen_at, slots_of}
+use Rattle.pager_model.specs.Lookups.{passes, is, is_coming, is_resident}
+use Rattle.pager_model.specs.Maps.{pfn, is_private, proc}
 use Rattle.pager_model.specs.Pager.{Pager}
 use Rattle.pager_model.specs.Spoken.{request_of}
 use Rattle.pager_model.specs.Transfers.{has_come, is_in_flight}
@@ -101,10 +101,6 @@ abbrev pub leave_gives : Config → List Entry → Pager → ℕ → GivenSwap
 leave_gives config past a p = leave_shared config past a p (slot_where a p (λ (n : ℕ) (s : Seen). is_shared_unpinned s))
 
 -- ---- coming
--- the page that lies in a swap block
-abbrev pub lying_in : Pager → ℕ → ℕ → Option Page
-lying_in a p n = find (λ (g : Page). lies_in (a.lies g) (block.Swap (proc p) n)) a.charged
-
 -- its frame, on the free list
 abbrev pub is_free_frame : Pager → ℕ → Bool
 is_free_frame a f = is state.Free (a.state f)

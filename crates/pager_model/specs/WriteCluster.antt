@@ -10,10 +10,10 @@ use Rattle.vm_types.specs.declared.names.BlockId.TheVariants as block
 use Rattle.vm_types.specs.declared.config.Config.{Config}
 use Rattle.vm_journal.specs.declared.entry.What.{What}
 use Rattle.vm_journal.specs.declared.entry.What.TheVariants as what
-use Rattle.pager_model.specs.Given.{Given, given, pfn}
+use Rattle.pager_model.specs.Given.{Given, given}
+use Rattle.pager_model.specs.Maps.{pfn, is_paged}
 use Rattle.vm_types.specs.BlockOrder.{if_next}
 use Rattle.pager_model.specs.Lookups.{block_of, is_owner}
-use Rattle.pager_model.specs.Maps.{is_paged}
 use Rattle.pager_model.specs.Pager.{Pager}
 
 -- because the list is long, or because room is needed on it

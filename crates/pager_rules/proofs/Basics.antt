@@ -14,7 +14,7 @@ use Rattle.vm_journal.specs.declared.entry.Entry.{Entry}
 use Rattle.vm_journal.specs.declared.entry.What.{What}
 use Rattle.vm_journal.specs.declared.entry.What.TheVariants as what
 use Rattle.pager_model.specs.Flights.{Flight, awaits_reuse, fails_read, fails_read_of, has_failed_read, has_flight, has_read, has_write, is_reading}
-use Rattle.pager_model.specs.Given.{passes}
+use Rattle.pager_model.specs.Lookups.{passes}
 use Rattle.pager_model.specs.Sets.{at_number, has_page}
 
 -- ---- tests on numbers

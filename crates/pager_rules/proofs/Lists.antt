@@ -3,8 +3,7 @@ use Rattle.std.proofs.Common.{◌≡◌, ℕ, zero, suc, ◌+◌, ◌<◌, ◌�
 use Rattle.std.specs.List.{AllByRecursion}
 use Rattle.std.proofs.lemmas.List.Sums.{sum_by_push, sum_by-set}
 use Rattle.std.proofs.lemmas.Option.{get_or_from_slice_get, slice_get_within}
-use Rattle.pager_model.specs.Given.{passes}
-use Rattle.pager_model.specs.Lookups.{is}
+use Rattle.pager_model.specs.Lookups.{passes, is}
 use Rattle.pager_rules.proofs.Basics.{count_cons, count_cons_no, count_cons_yes, count_from_no_find}
 
 pub count_push : {X : Type 0} (p : X → Bool) (xs : List X) (x : X) → count_by p (xs ++ x ∷ []) ≡ count_by p xs + cond (p x) 1 0

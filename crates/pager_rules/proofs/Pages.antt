@@ -17,7 +17,7 @@ use Rattle.vm_types.specs.declared.config.Section.{Section}
 use Rattle.vm_types.specs.declared.config.SectionKind.{SectionKind}
 use Rattle.vm_types.specs.declared.config.SectionKind.TheVariants as kind
 use Rattle.vm_types.specs.declared.names.SecId.{SecId}
-use Rattle.pager_model.specs.Advance.{first_source, is_uncharged}
+use Rattle.pager_model.specs.Charging.{first_source, is_uncharged}
 use Rattle.pager_model.specs.Changes.{is_section_block}
 use Rattle.pager_model.specs.Lookups.{count_page, is, is_of, own_section, page_at, page_by, section_at, slot_of}
 use Rattle.pager_model.specs.Maps.{Map, Mapped, is_paged, is_private, page_behind, paged_of, proc, shared_of}

@@ -10,8 +10,7 @@ use Rattle.vm_types.specs.Ring.{Ring, Held, choose, empty_at, victim_at, slot_af
 use Rattle.vm_types.specs.declared.ring_choice.Choice.{Choice}
 use Rattle.vm_types.specs.declared.ring_choice.Choice.TheVariants.{Empty}
 use Rattle.pager_model.specs.Bytes.{before}
-use Rattle.pager_model.specs.Given.{passes}
-use Rattle.pager_model.specs.Lookups.{has_pin, has_vpn, is, pins_with}
+use Rattle.pager_model.specs.Lookups.{passes, has_pin, has_vpn, is, pins_with}
 use Rattle.pager_model.specs.Ring.{placed, placed_at}
 use Rattle.pager_rules.proofs.Basics.{count_cons_yes, count_set}
 

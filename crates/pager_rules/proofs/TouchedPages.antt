@@ -9,7 +9,7 @@ use Rattle.vm_types.specs.Same.{same_page}
 use Rattle.vm_types.specs.declared.config.Config.{Config}
 use Rattle.vm_types.specs.declared.names.Page.{Page}
 use Rattle.pager_model.specs.Flat.{touched_with}
-use Rattle.pager_model.specs.Given.{passes}
+use Rattle.pager_model.specs.Lookups.{passes}
 use Rattle.pager_model.specs.Maps.{is_paged}
 use Rattle.pager_model.specs.Sets.{at_number, has_page}
 use Rattle.pager_rules.proofs.Basics.{count_cons, count_cons_yes, each_fails, pages_equal, same_from_equal, same_page_refl}

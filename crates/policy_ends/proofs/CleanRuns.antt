@@ -5,7 +5,8 @@ use Rattle.vm_types.specs.declared.config.Task.{Task}
 use Rattle.vm_journal.specs.declared.entry.Entry.{Entry}
 use Rattle.pager_model.specs.Cleaning.{evicting}
 use Rattle.pager_model.specs.Given.{by_seat, made_by, with_reply}
-use Rattle.pager_model.specs.Landings.{all_bad, carrier_of, first_bad, landed_by}
+use Rattle.pager_model.specs.Landings.{all_bad, first_bad, landed_by}
+use Rattle.pager_model.specs.Flights.{carrier_of}
 use Rattle.pager_model.specs.Moves.{After, Control, Move, carries, cleaning, control, goes, makes, refuses, rests}
 use Rattle.pager_model.specs.Policy.{move_of, next_task}
 use Rattle.pager_model.specs.Run.{IsRun, pager_after}

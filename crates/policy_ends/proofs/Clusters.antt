@@ -17,11 +17,11 @@ use Rattle.vm_journal.specs.declared.entry.What.{What}
 use Rattle.vm_journal.specs.declared.entry.What.TheVariants as what
 use Rattle.pager_model.specs.Changes.{pushed_if}
 use Rattle.pager_model.specs.Flights.{Direction, Flight, is_reading, open_flights, reading, writing}
-use Rattle.pager_model.specs.Given.{Given, by_seat, given, made_by, passes, pfn, seen_at, seen_by, seen_in, seen_page}
+use Rattle.pager_model.specs.Given.{Given, by_seat, given, made_by, seen_at, seen_by, seen_in, seen_page}
+use Rattle.pager_model.specs.Lookups.{passes, block_of, entry_of, shares, slot_of}
+use Rattle.pager_model.specs.Maps.{pfn, is_paged}
 use Rattle.vm_types.specs.BlockOrder.{is_next_block, if_next}
 use Rattle.pager_model.specs.Landings.{Outcome, landed_by, landing, went_badly, went_well}
-use Rattle.pager_model.specs.Lookups.{block_of, entry_of, shares, slot_of}
-use Rattle.pager_model.specs.Maps.{is_paged}
 use Rattle.pager_model.specs.Out.{after_any_out}
 use Rattle.pager_model.specs.OutLanding.{IsOutOk, after_out_ok}
 use Rattle.pager_model.specs.Pager.{Pager, Valid}

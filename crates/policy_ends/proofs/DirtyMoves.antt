@@ -7,8 +7,10 @@ use Rattle.vm_journal.specs.declared.entry.Entry.{Entry}
 use Rattle.vm_journal.specs.declared.entry.EvictWhy.TheVariants as evict
 use Rattle.vm_journal.specs.declared.entry.What.{What}
 use Rattle.pager_model.specs.Cleaning.{Cleaning, evicting, rounds}
-use Rattle.pager_model.specs.Given.{Seen, by_seat, eviction, goes_to, is_stopped, made_by, passes, seen_at}
-use Rattle.pager_model.specs.Landings.{all_bad, carrier_of, first_bad, landed_by}
+use Rattle.pager_model.specs.Given.{Seen, by_seat, eviction, goes_to, is_stopped, made_by, seen_at}
+use Rattle.pager_model.specs.Lookups.{passes}
+use Rattle.pager_model.specs.Landings.{all_bad, first_bad, landed_by}
+use Rattle.pager_model.specs.Flights.{carrier_of}
 use Rattle.pager_model.specs.Moves.{Control, Move, carries, cleaning, control, goes, makes, rests}
 use Rattle.pager_model.specs.Pager.{Pager}
 use Rattle.pager_model.specs.Run.{IsRun, pager_after}

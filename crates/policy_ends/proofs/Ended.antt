@@ -18,8 +18,8 @@ use Rattle.page_lists.specs.Lists.{count_of}
 use Rattle.pager_model.specs.Around.{past_view}
 use Rattle.pager_model.specs.Flights.{open_flights}
 use Rattle.pager_model.specs.Forget.{holds_page}
-use Rattle.pager_model.specs.Given.{Seen, passes, seen_at, seen_by, seen_in, seen_page}
-use Rattle.pager_model.specs.Lookups.{entry_of, has_vpn, is, is_entry, shares, slot_of}
+use Rattle.pager_model.specs.Given.{Seen, seen_at, seen_by, seen_in, seen_page}
+use Rattle.pager_model.specs.Lookups.{passes, entry_of, has_vpn, is, is_entry, shares, slot_of}
 use Rattle.pager_model.specs.Maps.{is_private}
 use Rattle.pager_model.specs.Pager.{Pager, Valid}
 use Rattle.pager_model.specs.Run.{pager_after}

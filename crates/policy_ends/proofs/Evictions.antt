@@ -6,8 +6,8 @@ use Rattle.vm_types.specs.declared.names.FrameState.{FrameState}
 use Rattle.vm_journal.specs.declared.entry.EvictWhy.TheVariants as evict
 use Rattle.pager_model.specs.Changes.{without_entry}
 use Rattle.pager_model.specs.Evict.{after_evict, evicted_ring}
-use Rattle.pager_model.specs.Given.{Seen, page_address, passes, seen_at, seen_by, seen_in}
-use Rattle.pager_model.specs.Lookups.{entry_of, slot_of}
+use Rattle.pager_model.specs.Given.{Seen, page_address, seen_at, seen_by, seen_in}
+use Rattle.pager_model.specs.Lookups.{passes, entry_of, slot_of}
 use Rattle.pager_model.specs.Maps.{page_number}
 use Rattle.pager_model.specs.Pager.{Pager, Valid}
 use Rattle.pager_model.specs.Rundown.{is_shared_at}

@@ -11,7 +11,8 @@ use Rattle.vm_journal.specs.declared.entry.EvictWhy.{EvictWhy}
 use Rattle.vm_journal.specs.declared.entry.EvictWhy.TheVariants as evict
 use Rattle.vm_journal.specs.declared.entry.What.{What}
 use Rattle.vm_journal.specs.declared.entry.What.TheVariants as what
-use Rattle.pager_model.specs.Given.{Given, Seen, by_seat, eviction, given, is_stopped, passes, seen_at}
+use Rattle.pager_model.specs.Given.{Given, Seen, by_seat, eviction, given, is_stopped, seen_at}
+use Rattle.pager_model.specs.Lookups.{passes}
 use Rattle.pager_model.specs.Maps.{proc}
 use Rattle.pager_model.specs.Moves.{Control, Doing, carries, control, makes, rests, while_leaving}
 use Rattle.pager_model.specs.Pager.{Pager}

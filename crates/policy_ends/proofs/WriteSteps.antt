@@ -42,7 +42,7 @@ use Rattle.serial_laws.proofs.Slots.{slot_counts}
 use Rattle.pager_laws.proofs.ValidEntries.{IsValidAt, valid_at_page}
 use Rattle.policy_ends.specs.Rank.{is_in_its_block, is_saved_page, is_unsaved, is_unsaved_page, left_to_come, lies_in_swap, unsaved}
 use Rattle.serial_laws.proofs.Counting.{each_is}
-use Rattle.pager_model.specs.Advance.{lies_in}
+use Rattle.pager_model.specs.Lying.{lies_in}
 use Rattle.policy_ends.proofs.Order.{fewer_pass, less_pass}
 
 -- ---- the writes that leave the modified list

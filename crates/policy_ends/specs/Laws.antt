@@ -5,7 +5,7 @@ use Rattle.vm_types.specs.Configuration.{IsWellFormed}
 use Rattle.vm_types.specs.declared.config.Config.{Config}
 use Rattle.vm_journal.specs.declared.entry.Entry.{Entry}
 use Rattle.pager_model.specs.Moves.{Control, asking, control}
-use Rattle.pager_model.specs.Policy.{spoken}
+use Rattle.pager_model.specs.Spoken.{spoken}
 use Rattle.pager_model.specs.Run.{IsRun}
 use Rattle.pager_model.specs.Serial.{Heard, IsMove, IsReached}
 use Rattle.serial_laws.specs.Between.{IsBetween}

@@ -7,8 +7,7 @@ use Rattle.vm_types.specs.declared.config.Task.{Task}
 use Rattle.vm_types.specs.declared.service.Request.{Request}
 use Rattle.vm_journal.specs.declared.entry.Entry.{Entry}
 use Rattle.pager_model.specs.Order.{answered, requests_of, spoken_by}
-use Rattle.pager_model.specs.Policy.{spoken}
-use Rattle.pager_model.specs.Spoken.{request_of}
+use Rattle.pager_model.specs.Spoken.{spoken, request_of}
 use Rattle.pager_rules.proofs.Basics.{count_cons}
 use Rattle.replay_run.proofs.SeatBounds.{IsBelow}
 

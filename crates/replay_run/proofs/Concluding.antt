@@ -11,11 +11,10 @@ use Rattle.vm_types.specs.declared.config.Task.{Task}
 use Rattle.vm_types.specs.declared.service.Request.{Request}
 use Rattle.vm_journal.specs.Own.{own_entries}
 use Rattle.vm_journal.specs.declared.entry.Entry.{Entry}
-use Rattle.pager_model.specs.Landings.{carrier_of}
+use Rattle.pager_model.specs.Flights.{carrier_of}
 use Rattle.pager_model.specs.Order.{IsAnswered, answered, requests_of, spoken_by}
-use Rattle.pager_model.specs.Policy.{spoken}
+use Rattle.pager_model.specs.Spoken.{spoken, request_of}
 use Rattle.pager_model.specs.Run.{IsRun, pager_after}
-use Rattle.pager_model.specs.Spoken.{request_of}
 use Rattle.pager_rules.proofs.Basics.{count_cons}
 use Rattle.serial_laws.specs.Between.{IsBetween}
 use Rattle.vm_state.specs.declared.base.StateBase.{StateBase}

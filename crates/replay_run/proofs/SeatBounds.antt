@@ -7,9 +7,8 @@ use Rattle.vm_types.specs.declared.config.Config.{Config}
 use Rattle.vm_journal.specs.declared.entry.Entry.{Entry}
 use Rattle.vm_journal.specs.declared.entry.What.{What}
 use Rattle.vm_journal.specs.declared.entry.What.TheVariants as what
-use Rattle.pager_model.specs.Flights.{Flight, open_flights, without_flight}
+use Rattle.pager_model.specs.Flights.{Flight, open_flights, without_flight, carrier_of}
 use Rattle.pager_model.specs.Given.{by_seat}
-use Rattle.pager_model.specs.Landings.{carrier_of}
 use Rattle.pager_model.specs.Run.{IsRun}
 
 -- its seat is below the number

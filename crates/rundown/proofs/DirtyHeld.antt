@@ -17,7 +17,7 @@ use Rattle.vm_types.specs.declared.names.Pfn.{Pfn}
 use Rattle.vm_journal.specs.declared.entry.Entry.{Entry}
 use Rattle.pager_model.specs.Around.{past_view}
 use Rattle.pager_model.specs.Forget.{holder, holds_page}
-use Rattle.pager_model.specs.Given.{pfn}
+use Rattle.pager_model.specs.Maps.{pfn}
 use Rattle.pager_model.specs.Pager.{Pager}
 use Rattle.pager_model.specs.Run.{IsRun, pager_after}
 use Rattle.pager_model.specs.Text.{is_dirty, pages_from}

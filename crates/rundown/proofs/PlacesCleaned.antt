@@ -9,8 +9,8 @@ use Rattle.vm_journal.specs.declared.entry.Entry.{Entry}
 use Rattle.vm_journal.specs.declared.entry.EvictWhy.TheVariants as evict
 use Rattle.vm_journal.specs.declared.entry.What.{What}
 use Rattle.vm_journal.specs.declared.entry.What.TheVariants as what
-use Rattle.pager_model.specs.Given.{Seen as Shown, by_seat, eviction, goes_to, is_stopped, page_address, passes, seen_at}
-use Rattle.pager_model.specs.Lookups.{entry_of}
+use Rattle.pager_model.specs.Given.{Seen as Shown, by_seat, eviction, goes_to, is_stopped, page_address, seen_at}
+use Rattle.pager_model.specs.Lookups.{passes, entry_of}
 use Rattle.pager_model.specs.Maps.{is_private}
 use Rattle.pager_model.specs.Moves.{Control as ControlIs, Move, carries, goes, makes}
 use Rattle.pager_model.specs.Order.{IsAnswered}

@@ -12,9 +12,9 @@ use Rattle.vm_journal.specs.declared.entry.EvictWhy.TheVariants as evict
 use Rattle.vm_journal.specs.declared.entry.What.{What}
 use Rattle.vm_journal.specs.declared.entry.What.TheVariants as what
 use Rattle.pager_model.specs.Cleaning.{Cleaning as CleaningIs, evicting, rounds}
-use Rattle.pager_model.specs.Flights.{Direction, Flight, reading, writing}
+use Rattle.pager_model.specs.Flights.{Direction, Flight, reading, writing, carrier_of}
 use Rattle.pager_model.specs.Given.{Seen as Shown, by_seat, eviction, is_stopped, made_by, seen_at, with_reply}
-use Rattle.pager_model.specs.Landings.{Outcome, all_bad, carrier_of, first_bad, landed_by, landing, reuse_of, went_badly, went_well}
+use Rattle.pager_model.specs.Landings.{Outcome, all_bad, first_bad, landed_by, landing, reuse_of, went_badly, went_well}
 use Rattle.pager_model.specs.Moves.{After, Control as ControlIs, Move, carries, cleaning, control, goes, makes, rests}
 use Rattle.pager_model.specs.Order.{answered, spoken_by}
 use Rattle.pager_model.specs.Pager.{Pager}

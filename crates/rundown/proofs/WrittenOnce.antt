@@ -6,9 +6,9 @@ use Rattle.vm_types.specs.declared.config.Config.{Config}
 use Rattle.vm_types.specs.declared.names.BlockId.{BlockId}
 use Rattle.vm_types.specs.declared.names.Seat.{Seat}
 use Rattle.vm_journal.specs.declared.entry.What.{What}
-use Rattle.pager_model.specs.Flights.{is_busy}
+use Rattle.pager_model.specs.Flights.{is_busy, carrier_of}
 use Rattle.pager_model.specs.Given.{Given, given}
-use Rattle.pager_model.specs.Landings.{carrier_of, first_bad}
+use Rattle.pager_model.specs.Landings.{first_bad}
 use Rattle.pager_model.specs.Moves.{carries}
 use Rattle.pager_model.specs.Pager.{Pager}
 use Rattle.pager_model.specs.Rundown.{written_for_need}

@@ -1,8 +1,7 @@
 -- A seat that may make a call. This project's own.
 use Rattle.std.specs.Prelude.{◌≡◌, ◌+◌, ◌<◌, ◌≤◌, false, [], length}
 use Rattle.vm_types.specs.declared.names.Seat.{Seat}
-use Rattle.pager_model.specs.Flights.{awaits_reuse}
-use Rattle.pager_model.specs.Landings.{carrier_of}
+use Rattle.pager_model.specs.Flights.{awaits_reuse, carrier_of}
 use Rattle.vm_state.specs.History.{History, owed}
 
 -- a call may be made by the seat: it has no open transfer, no reuse is due, and there is room for its entries

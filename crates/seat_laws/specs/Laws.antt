@@ -10,9 +10,9 @@ use Rattle.vm_journal.specs.declared.entry.What.{What}
 use Rattle.vm_journal.specs.declared.entry.What.TheVariants as what
 use Rattle.pager_model.specs.Advance.{advance_gives, next_carry}
 use Rattle.pager_model.specs.Carrier.{carrying}
-use Rattle.pager_model.specs.Flights.{is_busy, open_flights}
+use Rattle.pager_model.specs.Flights.{is_busy, open_flights, carrier_of}
 use Rattle.pager_model.specs.Given.{by_seat, made_by}
-use Rattle.pager_model.specs.Landings.{Outcome, carrier_of, first_bad, landed_by}
+use Rattle.pager_model.specs.Landings.{Outcome, first_bad, landed_by}
 use Rattle.pager_model.specs.Maps.{page_number}
 use Rattle.pager_model.specs.Pager.{Pager}
 use Rattle.pager_model.specs.Run.{IsRun, pager_after}

@@ -3,8 +3,7 @@ use Rattle.std.proofs.Common.{◌≡◌, ℕ, ◌+◌, ◌<◌, Bool, true, fals
 use Rattle.std.proofs.lemmas.Bool.{eqb-true, eq-eqb, false≢true}
 use Rattle.std.proofs.lemmas.Option.{same_Some, slice_get_within}
 use Rattle.vm_types.specs.BlockView.{BlockView, Tells}
-use Rattle.pager_model.specs.Flights.{awaits_reuse}
-use Rattle.pager_model.specs.Landings.{carrier_of}
+use Rattle.pager_model.specs.Flights.{awaits_reuse, carrier_of}
 use Rattle.frame_store.proofs.Rows.{get_left, get_right}
 use Rattle.vm_state.specs.History.{History}
 use Rattle.seat_schedules.specs.AtWork.{AreAtWork, IsAtWork, idle}

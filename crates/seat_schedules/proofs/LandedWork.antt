@@ -9,8 +9,7 @@ use Rattle.vm_types.specs.declared.reply.Why.TheVariants as why
 use Rattle.vm_journal.specs.declared.entry.Entry.{Entry}
 use Rattle.vm_journal.specs.declared.entry.What.TheVariants as what
 use Rattle.frame_store.specs.LiftView.{LiftView}
-use Rattle.pager_model.specs.Flights.{awaits_reuse, is_busy, open_flights}
-use Rattle.pager_model.specs.Landings.{carrier_of}
+use Rattle.pager_model.specs.Flights.{awaits_reuse, is_busy, open_flights, carrier_of}
 use Rattle.call_begins.proofs.Steps.{paid_after}
 use Rattle.call_begins.specs.Lifted.{HasBegunLifts, place_of}
 use Rattle.carried_landings.specs.HaveLanded.{HaveLanded}

@@ -7,8 +7,7 @@ use Rattle.vm_types.specs.declared.names.Seat.{Seat}
 use Rattle.vm_types.specs.declared.reference.Ref.{Ref}
 use Rattle.vm_journal.specs.declared.entry.What.{What}
 use Rattle.frame_store.specs.LiftView.{LiftView}
-use Rattle.pager_model.specs.Flights.{Flight, awaits_reuse}
-use Rattle.pager_model.specs.Landings.{carrier_of}
+use Rattle.pager_model.specs.Flights.{Flight, awaits_reuse, carrier_of}
 use Rattle.pager_model.specs.Transfers.{is_by}
 use Rattle.vm_state.specs.History.{History}
 use Rattle.vm_state.specs.LiftsLand.{added_each}

@@ -12,7 +12,8 @@ use Rattle.pager_model.specs.Flights.{open_flights}
 use Rattle.pager_model.specs.Forget.{holder}
 use Rattle.pager_model.specs.Given.{Seen, Target, given, is_stopped, reads_made, reuse_first, seen_at}
 use Rattle.pager_model.specs.Pager.{Pager}
-use Rattle.pager_model.specs.Swap.{GivenSwap, back_of, back_page, come_free, come_gives, come_out, come_target, come_targets, is_back_on_free, is_out_page, is_saved, is_shared_unpinned, is_to_save, leave_gives, leave_page, leave_saved, leave_shared, leave_unsaved, lying_in, slot_where, swap_where, write_slot, write_slots}
+use Rattle.pager_model.specs.Swap.{GivenSwap, back_of, back_page, come_free, come_gives, come_out, come_target, come_targets, is_back_on_free, is_out_page, is_saved, is_shared_unpinned, is_to_save, leave_gives, leave_page, leave_saved, leave_shared, leave_unsaved, slot_where, swap_where, write_slot, write_slots}
+use Rattle.pager_model.specs.Lying.{lying_in}
 use Rattle.pager_model.specs.Transfers.{has_come, is_fault_role}
 use Rattle.pager_model.specs.WriteCluster.{Reason, begin_carry, begin_gives, begin_nothing, block_out, is_enough, writes_from, writes_taken}
 

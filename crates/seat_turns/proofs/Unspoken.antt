@@ -23,7 +23,8 @@ use Rattle.pager_model.specs.Given.{is_stopped, with_reply}
 use Rattle.pager_model.specs.Lookups.{entry_of, is_resident}
 use Rattle.pager_model.specs.Pager.{Pager, Valid}
 use Rattle.pager_model.specs.Ring.{range_locked, range_pinned}
-use Rattle.pager_model.specs.Serve.{GivenServe, ServeIs, delete_given, evict_given, is_range_in_flight, is_unmapped, limits_given, lock_given, loose_in, purge_given, serve_again, serve_answered, serve_gives, serve_more, service_gives, valid_in}
+use Rattle.pager_model.specs.Serve.{GivenServe, ServeIs, delete_given, evict_given, is_range_in_flight, limits_given, lock_given, loose_in, purge_given, serve_again, serve_answered, serve_gives, serve_more, service_gives, valid_in}
+use Rattle.pager_model.specs.MappedRanges.{is_unmapped}
 use Rattle.fault_core.specs.Gives.{last_reply}
 use Rattle.vm_services.specs.Serves.{last_answer}
 use Rattle.carried_landings.proofs.Shapes.{AreQuiet, AreStarts, EndsIn, IsQuiet, IsStart}

@@ -12,7 +12,8 @@ use Rattle.vm_journal.specs.declared.entry.Entry.{Entry}
 use Rattle.vm_journal.specs.declared.entry.What.{What}
 use Rattle.vm_journal.specs.declared.entry.What.TheVariants as what
 use Rattle.pager_model.specs.Around.{frame_view, past_view}
-use Rattle.pager_model.specs.Given.{Given, given, is_stopped, pfn}
+use Rattle.pager_model.specs.Given.{Given, given, is_stopped}
+use Rattle.pager_model.specs.Maps.{pfn, is_paged}
 use Rattle.pager_model.specs.Lookups.{block_of, is}
 use Rattle.pager_model.specs.Moves.{Control, carries}
 use Rattle.pager_model.specs.Pager.{Pager}
@@ -24,7 +25,6 @@ use Rattle.pager_rules.proofs.Frames.{at_state, modified_frame}
 use Rattle.pager_rules.specs.Kept.{IsKept}
 use Rattle.pager_laws.proofs.RunsAreSound.{run_kept}
 use Rattle.page_lists.specs.Lists.{count_of}
-use Rattle.pager_model.specs.Maps.{is_paged}
 use Rattle.serial_laws.specs.Between.{IsBetween}
 use Rattle.serial_laws.specs.Controlled.{IsControlled}
 use Rattle.serial_laws.proofs.Known.{MoveIsKnown}

@@ -11,7 +11,8 @@ use Rattle.vm_journal.specs.declared.entry.What.TheVariants as what
 use Rattle.pager_model.specs.Carrier.{Carrying, carrying, carrying_with}
 use Rattle.pager_model.specs.Counted.{last_count}
 use Rattle.pager_model.specs.Flights.{Direction, Flight, is_busy, open_flights, reading, without_flight, writing}
-use Rattle.pager_model.specs.Given.{by_seat, made_by, pfn}
+use Rattle.pager_model.specs.Given.{by_seat, made_by}
+use Rattle.pager_model.specs.Maps.{pfn}
 use Rattle.pager_model.specs.InOk.{after_in_ok}
 use Rattle.pager_model.specs.Landings.{Outcome, first_bad, landed_by, landing, reuse_of, went_badly, went_well}
 use Rattle.pager_model.specs.Pager.{Pager}

@@ -11,8 +11,9 @@ use Rattle.vm_journal.specs.declared.entry.EvictWhy.{EvictWhy}
 use Rattle.vm_journal.specs.declared.entry.EvictWhy.TheVariants as evict
 use Rattle.vm_journal.specs.declared.entry.What.{What}
 use Rattle.vm_journal.specs.declared.entry.What.TheVariants as what
-use Rattle.pager_model.specs.Given.{Seen, by_seat, eviction, given, is_stopped, leading, passes, pfn, seen_at, slots_of}
-use Rattle.pager_model.specs.Maps.{is_private, proc}
+use Rattle.pager_model.specs.Given.{Seen, by_seat, eviction, given, is_stopped, leading, seen_at, slots_of}
+use Rattle.pager_model.specs.Lookups.{passes}
+use Rattle.pager_model.specs.Maps.{pfn, is_private, proc}
 use Rattle.pager_model.specs.Moves.{Control, Doing, control, makes, while_leaving}
 use Rattle.pager_model.specs.Pager.{Pager}
 use Rattle.pager_model.specs.Policy.{Ends, leave_move, leave_move_by}

@@ -17,9 +17,9 @@ use Rattle.vm_journal.specs.declared.entry.Role.TheVariants as role
 use Rattle.vm_journal.specs.declared.entry.What.{What}
 use Rattle.vm_journal.specs.declared.entry.What.TheVariants as what
 use Rattle.pager_model.specs.Carrier.{HasLost, carrying}
-use Rattle.pager_model.specs.Flights.{Flight, reading}
+use Rattle.pager_model.specs.Flights.{Flight, reading, carrier_of}
 use Rattle.pager_model.specs.Given.{by_seat, made_by}
-use Rattle.pager_model.specs.Landings.{Outcome, all_bad, carrier_of, first_bad, landed_by}
+use Rattle.pager_model.specs.Landings.{Outcome, all_bad, first_bad, landed_by}
 use Rattle.pager_model.specs.Maps.{page_number}
 use Rattle.pager_model.specs.Moves.{After, Control, Move, carries, refuses}
 use Rattle.pager_model.specs.Policy.{move_of, next_task}

@@ -7,8 +7,8 @@ use Rattle.vm_types.specs.declared.config.Config.{Config}
 use Rattle.vm_journal.specs.declared.entry.Entry.{Entry}
 use Rattle.page_lists.specs.Lists.{count_of}
 use Rattle.pager_model.specs.Around.{past_view}
-use Rattle.pager_model.specs.Given.{Seen, passes, seen_at, seen_by, seen_in, seen_page, slots_of}
-use Rattle.pager_model.specs.Lookups.{entry_of, has_vpn, is_entry, slot_of}
+use Rattle.pager_model.specs.Given.{Seen, seen_at, seen_by, seen_in, seen_page, slots_of}
+use Rattle.pager_model.specs.Lookups.{passes, entry_of, has_vpn, is_entry, slot_of}
 use Rattle.pager_model.specs.Pager.{Pager, Valid}
 use Rattle.pager_model.specs.Run.{pager_after}
 use Rattle.pager_rules.proofs.Basics.{count_cons, count_cons_no, count_cons_yes, nat_eq_refl}

@@ -1,7 +1,6 @@
 -- The whole table, but for the rundown: each move is known, and there is none only where no request is left.
 use Rattle.std.proofs.Common.{◌≡◌, ◌⊎◌, inl, inr, ℕ, ◌<◌, ◌&&◌, ◌||◌, Bool, true, false, cond, List, [], Option, Some, None, length, nat_eq, refl, sym, ap, ◌∙◌, subst, arith}
-use Rattle.std.proofs.lemmas.Option.{none-some}
-use Rattle.std.proofs.lemmas.Option.{get_or_from_slice_get, same_Some, slice_get_within}
+use Rattle.std.proofs.lemmas.Option.{none-some, get_or_from_slice_get, same_Some, slice_get_within}
 use Rattle.vm_types.specs.Configuration.{IsTask, IsWellFormed}
 use Rattle.vm_types.specs.WellFormed.{IsRequestOf, IsWellFormedRequest}
 use Rattle.vm_types.specs.declared.names.ProcStatus.{ProcStatus}
@@ -16,7 +15,8 @@ use Rattle.pager_model.specs.Given.{given}
 use Rattle.pager_model.specs.Maps.{proc}
 use Rattle.pager_model.specs.Moves.{Control, Doing, Move, asking, cleaning, control, freeing, saving, while_leaving}
 use Rattle.pager_model.specs.Pager.{Pager}
-use Rattle.pager_model.specs.Policy.{asked_move, asking_move, coming_process, ends_part, ends_request, freeing_move, gone_move, is_freeing, is_saving, move_of, next_task, resident_move, saving_by, saving_move, spoken, status_move, swapper_of, task_move}
+use Rattle.pager_model.specs.Policy.{asked_move, asking_move, coming_process, ends_part, ends_request, freeing_move, gone_move, is_freeing, is_saving, move_of, next_task, resident_move, saving_by, saving_move, status_move, swapper_of, task_move}
+use Rattle.pager_model.specs.Spoken.{spoken}
 use Rattle.pager_model.specs.Run.{pager_after}
 use Rattle.pager_model.specs.Rundown.{writer_of}
 use Rattle.pager_model.specs.WriteCluster.{begin_carry, begin_nothing, is_enough, reason_high, writes_from}

@@ -10,7 +10,8 @@ use Rattle.vm_journal.specs.declared.entry.Entry.{Entry}
 use Rattle.vm_journal.specs.declared.entry.What.{What}
 use Rattle.vm_journal.specs.declared.entry.What.TheVariants as what
 use Rattle.pager_model.specs.Given.{by_seat, made_by}
-use Rattle.pager_model.specs.Landings.{Outcome, all_bad, carrier_of, first_bad, landed_by}
+use Rattle.pager_model.specs.Landings.{Outcome, all_bad, first_bad, landed_by}
+use Rattle.pager_model.specs.Flights.{carrier_of}
 use Rattle.pager_model.specs.Moves.{After, Control, asking, carries, control, makes, refuses, rests}
 use Rattle.pager_model.specs.Policy.{move_of, next_task}
 use Rattle.pager_model.specs.Run.{IsRun, pager_after}

@@ -5,8 +5,7 @@ use Rattle.vm_types.specs.BlockView.{BlockView, Tells}
 use Rattle.vm_types.specs.declared.faults.NoMemory.{NoMemory}
 use Rattle.vm_types.specs.declared.names.Seat.{Seat}
 use Rattle.vm_journal.specs.declared.entry.Entry.{Entry}
-use Rattle.pager_model.specs.Flights.{open_flights}
-use Rattle.pager_model.specs.Landings.{carrier_of}
+use Rattle.pager_model.specs.Flights.{open_flights, carrier_of}
 use Rattle.pager_model.specs.Moves.{Control as ControlIs}
 use Rattle.pager_model.specs.Policy.{Ends as EndsIs, ends_part, ends_request, unless_all_failed, unless_first_failed}
 use Rattle.pager_model.specs.Run.{IsRun}

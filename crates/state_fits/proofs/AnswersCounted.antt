@@ -6,8 +6,7 @@ use Rattle.vm_journal.specs.Journal.{answers_in, is_answer}
 use Rattle.vm_journal.specs.declared.entry.Entry.{Entry}
 use Rattle.vm_journal.specs.declared.entry.What.{What}
 use Rattle.vm_journal.specs.declared.entry.What.TheVariants as what
-use Rattle.pager_model.specs.Policy.{spoken}
-use Rattle.pager_model.specs.Spoken.{request_of}
+use Rattle.pager_model.specs.Spoken.{spoken, request_of}
 
 is_request : (w : What) → is_answer w ≡ is_some (request_of w)
 is_request (what.Done r reply) = refl

@@ -38,9 +38,8 @@ use Rattle.pager_model.specs.Around.{frame_view, past_view, process_view, quiet}
 use Rattle.pager_model.specs.Back.{IsAnyBack, IsBack, IsBackComing, after_any_back, block_slot, lies_of}
 use Rattle.pager_model.specs.Changes.{lies_nowhere, valid_at}
 use Rattle.pager_model.specs.Flights.{Flight, open_flights}
-use Rattle.pager_model.specs.Given.{pfn}
+use Rattle.pager_model.specs.Maps.{pfn, page_number, proc}
 use Rattle.pager_model.specs.Lookups.{entries_at, has_vpn, is, page_by, slot_of}
-use Rattle.pager_model.specs.Maps.{page_number, proc}
 use Rattle.pager_model.specs.OfConfig.{IsOfConfig}
 use Rattle.pager_model.specs.Pager.{Pager}
 use Rattle.pager_model.specs.Ring.{placed, slotted}

@@ -24,9 +24,8 @@ use Rattle.pte_forms.specs.declared.pte.Pte.{Pte}
 use Rattle.pager_laws.proofs.ComingKept.{idle_entry}
 use Rattle.pager_model.specs.Around.{PastView}
 use Rattle.pager_model.specs.Forget.{holder, holds_page}
-use Rattle.pager_model.specs.Given.{pfn}
+use Rattle.pager_model.specs.Maps.{pfn, Mapped, is_private, page_behind, proc}
 use Rattle.pager_model.specs.Lookups.{entry_of, is_entry, page_by, shares}
-use Rattle.pager_model.specs.Maps.{Mapped, is_private, page_behind, proc}
 use Rattle.pager_model.specs.OfConfig.{HoldsRight}
 use Rattle.pager_model.specs.Pager.{Pager}
 use Rattle.pager_model.specs.Sets.{at_number}

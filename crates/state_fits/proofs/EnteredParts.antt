@@ -18,9 +18,8 @@ use Rattle.pte_forms.specs.declared.pte.Pte.{Pte}
 use Rattle.pager_model.specs.Around.{PastView}
 use Rattle.pager_model.specs.Changes.{valid_at}
 use Rattle.pager_model.specs.Flights.{Flight}
-use Rattle.pager_model.specs.Given.{pfn}
+use Rattle.pager_model.specs.Maps.{pfn, proc}
 use Rattle.pager_model.specs.Lookups.{entries_at, is_entry, page_by}
-use Rattle.pager_model.specs.Maps.{proc}
 use Rattle.pager_model.specs.OfConfig.{HoldsRight}
 use Rattle.pager_model.specs.Pager.{Pager, Valid}
 use Rattle.pager_model.specs.Sets.{at_number}

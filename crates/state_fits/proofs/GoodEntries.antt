@@ -12,7 +12,7 @@ use Rattle.vm_types.specs.declared.names.Page.{Page}
 use Rattle.vm_types.specs.declared.names.Page.TheVariants.{Private, Shared}
 use Rattle.page_tables.specs.PageTables.{IsEntry}
 use Rattle.pte_forms.specs.declared.pte.Place.TheVariants as place
-use Rattle.pager_model.specs.Given.{pfn}
+use Rattle.pager_model.specs.Maps.{pfn}
 use Rattle.pager_model.specs.OfConfig.{IsOrigin, IsPageOf}
 use Rattle.pager_laws.proofs.SectionNumbers.{number_within}
 use Rattle.state_fits.specs.Changes.{place_left}

@@ -11,7 +11,7 @@ use Rattle.vm_types.specs.declared.names.Page.TheVariants.{Private, Shared}
 use Rattle.vm_types.specs.declared.names.SecId.{SecId}
 use Rattle.global_pages.specs.GlobalPages.{GlobalPages}
 use Rattle.pager_model.specs.Forget.{holder, holds_page}
-use Rattle.pager_model.specs.Given.{pfn}
+use Rattle.pager_model.specs.Maps.{pfn}
 use Rattle.pager_model.specs.Lookups.{shares}
 use Rattle.pager_model.specs.Pager.{Pager}
 use Rattle.pager_model.specs.Sets.{at_number}

@@ -28,10 +28,9 @@ use Rattle.pfn_database.specs.declared.row.Row.{Row}
 use Rattle.pager_laws.proofs.OfConfigKept.{page_right}
 use Rattle.pager_model.specs.Around.{past_view}
 use Rattle.pager_model.specs.Flights.{Flight, open_flights, reading}
-use Rattle.pager_model.specs.Given.{pfn}
+use Rattle.pager_model.specs.Maps.{pfn, Mapped, is_private, page_number}
 use Rattle.pager_model.specs.In.{IsFirstIn}
 use Rattle.pager_model.specs.Lookups.{own_page, page_by}
-use Rattle.pager_model.specs.Maps.{Mapped, is_private, page_number}
 use Rattle.pager_model.specs.OfConfig.{IsMappable, IsMappedRight, IsOfConfig}
 use Rattle.pager_model.specs.Pager.{Pager}
 use Rattle.pager_model.specs.Step.{IsLegal}

@@ -9,9 +9,8 @@ use Rattle.pte_forms.specs.declared.pte.Place.{Place}
 use Rattle.pte_forms.specs.declared.pte.Place.TheVariants as place
 use Rattle.pte_forms.specs.declared.pte.Pte.{Pte}
 use Rattle.pager_model.specs.Forget.{holder}
-use Rattle.pager_model.specs.Given.{pfn}
+use Rattle.pager_model.specs.Maps.{pfn, Map, Mapped, page_behind}
 use Rattle.pager_model.specs.Lookups.{entry_of}
-use Rattle.pager_model.specs.Maps.{Map, Mapped, page_behind}
 use Rattle.pager_model.specs.Pager.{Valid}
 use Rattle.state_fits.specs.Changes.{place_left}
 use Rattle.state_fits.specs.Entries.{place_by, pte_of}

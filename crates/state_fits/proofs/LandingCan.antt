@@ -29,10 +29,9 @@ use Rattle.pfn_database.specs.Frames.{row_of}
 use Rattle.pager_model.specs.Around.{past_view}
 use Rattle.pager_model.specs.Changes.{swap_slot}
 use Rattle.pager_model.specs.Flights.{Flight, open_flights, reading, without_flight}
-use Rattle.pager_model.specs.Given.{pfn}
+use Rattle.pager_model.specs.Maps.{pfn, page_number, proc}
 use Rattle.pager_model.specs.InOk.{IsLanding}
 use Rattle.pager_model.specs.Lookups.{count_page, page_by}
-use Rattle.pager_model.specs.Maps.{page_number, proc}
 use Rattle.pager_model.specs.OfConfig.{IsOfConfig}
 use Rattle.pager_model.specs.Pager.{Pager}
 use Rattle.pager_model.specs.Sets.{has_page}

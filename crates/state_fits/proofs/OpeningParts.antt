@@ -19,7 +19,7 @@ use Rattle.pfn_database.specs.Frames.{row_of, opening as opening_frames, opening
 use Rattle.pfn_database.specs.Rows.{bad_row, empty_row}
 use Rattle.pfn_database.proofs.OpeningLists.{filter-range_same}
 use Rattle.pager_model.specs.Forget.{holder}
-use Rattle.pager_model.specs.Maps.{Mapped, first_map, mapped_by, page_behind}
+use Rattle.pager_model.specs.Maps.{Mapped, first_map, mapped_by, page_behind, pfn}
 use Rattle.pager_model.specs.Opening.{first_block, first_limit, first_ring, is_bad, opening}
 use Rattle.pager_model.specs.Sets.{has}
 use Rattle.pager_rules.proofs.Basics.{count_replicate, nat_eq_apart}
@@ -27,7 +27,6 @@ use Rattle.pager_laws.proofs.Holders.{holder_none}
 use Rattle.state_fits.specs.Entries.{origin_of, place_away, pte_at, pte_of, section_page_number}
 use Rattle.state_fits.specs.Frames.{FramesFit, frame_row}
 use Rattle.vm_types.specs.Configuration.{section_pages}
-use Rattle.pager_model.specs.Given.{pfn}
 use Rattle.state_fits.specs.Globals.{shares_held}
 use Rattle.state_fits.specs.Opening.{AreFirst, first_pte, first_row, unspoken}
 use Rattle.state_fits.specs.Pages.{charged_row}

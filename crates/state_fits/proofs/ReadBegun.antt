@@ -23,9 +23,8 @@ use Rattle.pfn_database.specs.declared.row.Row.{Row}
 use Rattle.pager_model.specs.Around.{past_view}
 use Rattle.pager_model.specs.Flights.{Flight, is_reading, open_flights}
 use Rattle.pager_model.specs.Forget.{holder}
-use Rattle.pager_model.specs.Given.{pfn}
+use Rattle.pager_model.specs.Maps.{pfn, Map, Mapped, is_private, page_behind, proc}
 use Rattle.pager_model.specs.Lookups.{IsHead, entries_at, entry_of, has_vpn, own_page, shares}
-use Rattle.pager_model.specs.Maps.{Map, Mapped, is_private, page_behind, proc}
 use Rattle.pager_model.specs.Pager.{Pager, Valid}
 use Rattle.pager_model.specs.Sets.{at_number}
 use Rattle.pager_model.specs.Transfers.{is_read_on, is_write_on, reads_on, writes_on}

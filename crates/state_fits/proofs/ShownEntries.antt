@@ -11,9 +11,8 @@ use Rattle.global_pages.specs.GlobalPages.{GlobalPages}
 use Rattle.pte_forms.specs.declared.pte.Pte.{Pte}
 use Rattle.page_tables.specs.PageTables.{PageTables, pte_in}
 use Rattle.pager_model.specs.Forget.{holder}
-use Rattle.pager_model.specs.Given.{pfn}
+use Rattle.pager_model.specs.Maps.{pfn, Map, Mapped, is_private, page_behind}
 use Rattle.pager_model.specs.Lookups.{entry_of, page_at, page_by, shares}
-use Rattle.pager_model.specs.Maps.{Map, Mapped, is_private, page_behind}
 use Rattle.pager_model.specs.Pager.{Valid}
 use Rattle.state_fits.specs.Entries.{TablesFit, place_away, pte_at, pte_by, pte_of}
 use Rattle.state_fits.specs.Globals.{GlobalsFit, shares_held}

@@ -10,8 +10,7 @@ use Rattle.pte_forms.specs.declared.pte.Place.{Place}
 use Rattle.pte_forms.specs.declared.pte.Place.TheVariants as place
 use Rattle.global_pages.specs.GlobalPages.{GlobalPages, count_of}
 use Rattle.pager_model.specs.Changes.{is_section_block}
-use Rattle.pager_model.specs.Given.{pfn}
-use Rattle.pager_model.specs.Maps.{is_private}
+use Rattle.pager_model.specs.Maps.{pfn, is_private}
 use Rattle.state_fits.specs.Entries.{section_page_number}
 
 -- one valid entry less, or more, is for the page; a private page is no global one

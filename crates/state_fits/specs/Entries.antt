@@ -15,10 +15,9 @@ use Rattle.pte_forms.specs.declared.pte.Place.TheVariants as place
 use Rattle.pte_forms.specs.declared.pte.Pte.{Pte}
 use Rattle.page_tables.specs.PageTables.{PageTables, pte_in}
 use Rattle.section_table.specs.SectionTable.{SectionTable, behind_of, part_of}
-use Rattle.pager_model.specs.Given.{pfn}
+use Rattle.pager_model.specs.Maps.{pfn, Map, Mapped, page_behind}
 use Rattle.pager_model.specs.Forget.{holder}
 use Rattle.pager_model.specs.Lookups.{entry_of}
-use Rattle.pager_model.specs.Maps.{Map, Mapped, page_behind}
 use Rattle.pager_model.specs.Pager.{Valid}
 pub use Rattle.pager_laws.specs.SectionNumbers.{section_page_number}
 

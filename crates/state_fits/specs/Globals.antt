@@ -9,7 +9,7 @@ use Rattle.vm_types.specs.declared.names.Page.TheVariants.{Shared}
 use Rattle.vm_types.specs.declared.names.SecId.{SecId}
 use Rattle.global_pages.specs.GlobalPages.{GlobalPages, count_of, frame_of}
 use Rattle.pager_model.specs.Forget.{holder}
-use Rattle.pager_model.specs.Given.{pfn}
+use Rattle.pager_model.specs.Maps.{pfn}
 use Rattle.pager_model.specs.Lookups.{shares}
 use Rattle.pager_model.specs.Pager.{Valid}
 use Rattle.state_fits.specs.Entries.{section_page_number}

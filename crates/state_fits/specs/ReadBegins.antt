@@ -13,7 +13,7 @@ use Rattle.pte_forms.specs.declared.pte.Pte.{Pte}
 use Rattle.global_pages.specs.GlobalPages.{GlobalPages}
 use Rattle.page_file.specs.Blocks.{Blocks}
 use Rattle.state_parts.specs.declared.charged_page.ChargedPage.{ChargedPage}
-use Rattle.pager_model.specs.Given.{pfn}
+use Rattle.pager_model.specs.Maps.{pfn}
 use Rattle.state_fits.specs.Entries.{section_page_number}
 
 abbrev pub with_place : Place → Pte → Pte

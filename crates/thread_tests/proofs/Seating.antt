@@ -12,7 +12,7 @@ use Rattle.history_lock.specs.Passes.{IsIdle, IsSameLock, base_of, numbers, seen
 use Rattle.history_lock.specs.declared.lock.HistoryLock.{HistoryLock}
 use Rattle.history_lock.specs.declared.pass.Pass.{Pass}
 use Rattle.history_lock.specs.declared.view.View.{View}
-use Rattle.pager_model.specs.Landings.{carrier_of}
+use Rattle.pager_model.specs.Flights.{carrier_of}
 use Rattle.lift_carriers.specs.CarrierView.{CarrierView}
 use Rattle.vm_state.specs.History.{History}
 use Rattle.vm_state.specs.declared.base.StateBase.{StateBase}

@@ -7,10 +7,9 @@ use Rattle.std.proofs.lemmas.List.Elements.{All-from_recursion}
 use Rattle.vm_types.specs.Configuration.{IsWellFormed}
 use Rattle.vm_types.specs.declared.config.Config.{Config}
 use Rattle.vm_journal.specs.declared.entry.Entry.{Entry}
-use Rattle.pager_model.specs.Landings.{carrier_of}
-use Rattle.pager_model.specs.Policy.{spoken}
+use Rattle.pager_model.specs.Flights.{carrier_of}
+use Rattle.pager_model.specs.Spoken.{spoken, request_of}
 use Rattle.pager_model.specs.Run.{IsRun}
-use Rattle.pager_model.specs.Spoken.{request_of}
 use Rattle.pager_rules.proofs.Basics.{count_cons}
 use Rattle.history_lock.specs.Known.{Adds, Known}
 use Rattle.history_lock.specs.declared.view.View.{View}

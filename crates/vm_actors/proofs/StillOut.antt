@@ -8,8 +8,7 @@ use Rattle.vm_types.specs.Configuration.{IsWellFormed}
 use Rattle.vm_types.specs.declared.names.Seat.{Seat}
 use Rattle.vm_journal.specs.Own.{own_entries}
 use Rattle.vm_journal.specs.declared.entry.Entry.{Entry}
-use Rattle.pager_model.specs.Flights.{Flight, open_flights}
-use Rattle.pager_model.specs.Landings.{carrier_of}
+use Rattle.pager_model.specs.Flights.{Flight, open_flights, carrier_of}
 use Rattle.pager_model.specs.Run.{IsRun}
 use Rattle.pager_rules.proofs.Basics.{each_weaker}
 use Rattle.content_laws.proofs.LiftsStay.{lifts_stay}

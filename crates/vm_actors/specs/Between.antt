@@ -4,8 +4,7 @@ use Rattle.std.specs.Prelude.{◌≡◌, ℕ, Bool, false, true, List, [], Conta
 use Rattle.vm_types.specs.BlockView.{BlockView, Tells}
 use Rattle.vm_types.specs.declared.names.Seat.{Seat}
 use Rattle.vm_journal.specs.declared.entry.Entry.{Entry}
-use Rattle.pager_model.specs.Flights.{awaits_reuse}
-use Rattle.pager_model.specs.Landings.{carrier_of}
+use Rattle.pager_model.specs.Flights.{awaits_reuse, carrier_of}
 use Rattle.pager_model.specs.Run.{IsRun}
 use Rattle.pager_model.specs.Spoken.{IsRight}
 use Rattle.lift_carriers.specs.CarrierView.{CarrierView}

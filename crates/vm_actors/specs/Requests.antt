@@ -3,8 +3,7 @@ use Rattle.std.specs.Prelude.{◌≡◌, ℕ, ◌≤◌, List, [], ◌∷◌, Op
 use Rattle.vm_types.specs.declared.service.Request.{Request}
 use Rattle.vm_journal.specs.declared.entry.Entry.{Entry}
 use Rattle.pager_model.specs.Order.{IsPrefix}
-use Rattle.pager_model.specs.Policy.{spoken}
-use Rattle.pager_model.specs.Spoken.{request_of}
+use Rattle.pager_model.specs.Spoken.{spoken, request_of}
 use Rattle.vm_state.specs.declared.base.StateBase.{StateBase}
 use Rattle.vm_actors.specs.OwnEntries.{GoesOnWith}
 

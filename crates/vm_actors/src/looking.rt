@@ -1,5 +1,5 @@
 ghost use Rattle.std.specs.Prelude.{◌≡◌, ◌≤◌, length, true};
-ghost use Rattle.pager_model.specs.Policy.{spoken};
+ghost use Rattle.pager_model.specs.Spoken.{spoken};
 ghost use Rattle.history_lock.specs.Passes.{IsIdle, IsOf, IsSameLock, base_of as base_seen, numbers, seen};
 ghost use Rattle.vm_actors.specs.Between.{NoneOpen};
 ghost use Rattle.vm_actors.specs.Doings.{Knows};

@@ -9,8 +9,7 @@ use Rattle.vm_types.specs.declared.config.ProcSpec.{ProcSpec}
 use Rattle.vm_journal.specs.declared.entry.Entry.{Entry}
 use Rattle.pager_model.specs.Around.{past_view}
 use Rattle.pager_model.specs.FlatService.{in_range}
-use Rattle.pager_model.specs.Given.{passes}
-use Rattle.pager_model.specs.Lookups.{entries_at, entry_of, has_vpn, is_entry, slot_of, slot_with as place_of}
+use Rattle.pager_model.specs.Lookups.{passes, entries_at, entry_of, has_vpn, is_entry, slot_of, slot_with as place_of}
 use Rattle.pager_model.specs.Maps.{page_number}
 use Rattle.pager_model.specs.Pager.{Pager, Valid}
 use Rattle.pager_model.specs.Serve.{is_fixed_at, is_valid_at, loose_in}

@@ -10,8 +10,7 @@ use Rattle.vm_journal.specs.declared.entry.Entry.{Entry}
 use Rattle.pager_model.specs.Around.{past_view}
 use Rattle.pager_model.specs.Flights.{Flight, open_flights}
 use Rattle.pager_model.specs.Forget.{holder, own_pages, range_of, with_private}
-use Rattle.pager_model.specs.Given.{passes}
-use Rattle.pager_model.specs.Lookups.{entry_of, is_entry, page_by}
+use Rattle.pager_model.specs.Lookups.{passes, entry_of, is_entry, page_by}
 use Rattle.pager_model.specs.Maps.{is_private, page_number}
 use Rattle.pager_model.specs.Pager.{Pager, Valid}
 use Rattle.pager_model.specs.Run.{IsRun, pager_after}

@@ -1,7 +1,7 @@
 ghost use Rattle.std.specs.Prelude.{◌≡◌, false};
 ghost use Rattle.vm_types.specs.WellFormed.{IsRange};
 ghost use Rattle.vm_types.specs.declared.service.Service.{Service};
-ghost use Rattle.pager_model.specs.Serve.{is_unmapped};
+ghost use Rattle.pager_model.specs.MappedRanges.{is_unmapped};
 ghost use Rattle.vm_state.specs.History.{pager};
 ghost use Rattle.vm_services.specs.Cases.{at_delete, at_rest, at_service};
 ghost use Rattle.vm_services.specs.Serves.{MayServe, Serves};

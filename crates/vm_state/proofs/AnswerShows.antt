@@ -17,7 +17,7 @@ use Rattle.pager_model.specs.Lookups.{entry_of}
 use Rattle.pager_model.specs.Maps.{Map, Mapped}
 use Rattle.pager_model.specs.Pager.{Pager, Valid}
 use Rattle.pager_model.specs.Run.{pager_after}
-use Rattle.pager_model.specs.Serve.{is_in_use, is_unmapped}
+use Rattle.pager_model.specs.MappedRanges.{is_in_use, is_unmapped}
 use Rattle.frame_store.specs.StoreView.{StoreView}
 use Rattle.state_parts.specs.declared.process_row.ProcessRow.{ProcessRow}
 use Rattle.state_fits.specs.Entries.{pte_at, pte_of}

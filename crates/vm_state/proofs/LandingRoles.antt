@@ -8,7 +8,7 @@ use Rattle.vm_journal.specs.declared.entry.Entry.{Entry}
 use Rattle.vm_journal.specs.declared.entry.Role.{Role}
 use Rattle.vm_journal.specs.declared.entry.What.{What}
 use Rattle.vm_journal.specs.declared.entry.What.TheVariants as what
-use Rattle.pager_model.specs.Given.{pfn}
+use Rattle.pager_model.specs.Maps.{pfn}
 use Rattle.pager_model.specs.Run.{pager_after}
 use Rattle.pager_model.specs.Step.{IsLegal}
 use Rattle.frame_store.specs.LiftView.{LiftView}

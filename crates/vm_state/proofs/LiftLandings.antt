@@ -18,7 +18,7 @@ use Rattle.pager_laws.proofs.RunsAreSound.{run_kept}
 use Rattle.pager_model.specs.Around.{past_view}
 use Rattle.pager_model.specs.Fits.{lands}
 use Rattle.pager_model.specs.Flights.{Flight, awaits_reuse, begun_by, begun_in, fails_read, open_flights, without_flight}
-use Rattle.pager_model.specs.Given.{pfn}
+use Rattle.pager_model.specs.Maps.{pfn}
 use Rattle.pager_model.specs.InTurn.{InTurn, is_flight_work, is_reuse_of}
 use Rattle.pager_model.specs.OfConfig.{IsMappable, IsPageOf}
 use Rattle.pager_model.specs.Pager.{Pager}

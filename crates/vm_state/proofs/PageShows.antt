@@ -21,16 +21,14 @@ use Rattle.pte_forms.specs.declared.pte.Pte.{Pte}
 use Rattle.page_tables.specs.PageTables.{pte_in}
 use Rattle.section_table.specs.SectionTable.{behind_of}
 use Rattle.global_pages.specs.GlobalPages.{frame_of as global_frame}
-use Rattle.pager_model.specs.Advance.{lies_in}
+use Rattle.pager_model.specs.Lying.{lies_in, lying_in}
 use Rattle.pager_model.specs.Around.{past_view}
 use Rattle.pager_model.specs.Forget.{holder}
-use Rattle.pager_model.specs.Given.{pfn}
+use Rattle.pager_model.specs.Maps.{pfn, Map, Mapped, is_paged, page_behind, proc}
 use Rattle.pager_model.specs.Lookups.{block_of, count_page, entry_of, is_assigned_to, is_of}
-use Rattle.pager_model.specs.Maps.{Map, Mapped, is_paged, page_behind, proc}
 use Rattle.pager_model.specs.Pager.{Assigned, Pager, Valid}
 use Rattle.pager_model.specs.Run.{pager_after}
 use Rattle.pager_model.specs.Sets.{has_page}
-use Rattle.pager_model.specs.Swap.{lying_in}
 use Rattle.pager_laws.proofs.KeptIsSound.{count_from_has, none_from_has, same_block_refl}
 use Rattle.pager_rules.proofs.Basics.{count_from_no_find, find_none_from_count, pages_equal}
 use Rattle.pager_rules.proofs.Lists.{count_found, found_one, found_passes}

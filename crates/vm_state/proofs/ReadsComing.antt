@@ -22,9 +22,8 @@ use Rattle.pfn_database.specs.Rows.{counted_references, uncounted}
 use Rattle.pager_laws.proofs.KeptIsSound.{has_from_count}
 use Rattle.pager_model.specs.Changes.{swap_slot}
 use Rattle.pager_model.specs.Fits.{good}
-use Rattle.pager_model.specs.Given.{pfn}
+use Rattle.pager_model.specs.Maps.{pfn, page_number}
 use Rattle.pager_model.specs.Lookups.{block_of}
-use Rattle.pager_model.specs.Maps.{page_number}
 use Rattle.pager_model.specs.Pager.{Pager}
 use Rattle.pager_model.specs.Ring.{slotted}
 use Rattle.pager_model.specs.Run.{pager_after}

@@ -26,9 +26,8 @@ use Rattle.pte_forms.specs.declared.pte.Pte.{Pte}
 use Rattle.pfn_database.specs.Frames.{Frames, row_of}
 use Rattle.pfn_database.specs.Rows.{counted_references, uncounted}
 use Rattle.pager_model.specs.Flights.{open_flights}
-use Rattle.pager_model.specs.Given.{pfn}
+use Rattle.pager_model.specs.Maps.{pfn, Mapped, page_behind, page_number}
 use Rattle.pager_model.specs.Lookups.{is, page_by}
-use Rattle.pager_model.specs.Maps.{Mapped, page_behind, page_number}
 use Rattle.pager_model.specs.OfConfig.{IsPageOf}
 use Rattle.pager_model.specs.Pager.{Pager}
 use Rattle.pager_model.specs.Ring.{placed}

@@ -8,7 +8,7 @@ use Rattle.vm_types.specs.declared.service.Service.{Service}
 use Rattle.vm_types.specs.declared.service.Service.TheVariants as service
 use Rattle.pager_model.specs.Pager.{Pager}
 use Rattle.pager_model.specs.Ring.{range_locked, range_pinned}
-use Rattle.pager_model.specs.Serve.{is_in_use, is_unmapped}
+use Rattle.pager_model.specs.MappedRanges.{is_in_use, is_unmapped}
 use Rattle.pager_model.specs.Served.{is_locked_in, is_pinned_in}
 use Rattle.state_pages.specs.ServiceAnswers.{limit_answer, lock_answer}
 use Rattle.vm_state.specs.History.{History, pager}

@@ -8,9 +8,8 @@ use Rattle.vm_types.specs.declared.names.Page.TheVariants.{Private, Shared}
 use Rattle.vm_types.specs.declared.reference.Ref.{Ref}
 use Rattle.pager_model.specs.Flat.{flat_refusal}
 use Rattle.pager_model.specs.Forget.{holder}
-use Rattle.pager_model.specs.Given.{pfn}
+use Rattle.pager_model.specs.Maps.{pfn, Mapped, page_behind, page_number}
 use Rattle.pager_model.specs.Lookups.{block_of, count_page, entry_of}
-use Rattle.pager_model.specs.Maps.{Mapped, page_behind, page_number}
 use Rattle.pager_model.specs.Pager.{Pager, Valid}
 use Rattle.pager_model.specs.Spoken.{flat_after}
 use Rattle.state_pages.specs.declared.found.Backing.{Backing}

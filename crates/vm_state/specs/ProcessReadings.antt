@@ -6,7 +6,7 @@ use Rattle.vm_types.specs.declared.config.Config.{Config}
 use Rattle.vm_types.specs.declared.config.ProcSpec.{ProcSpec}
 use Rattle.page_lists.specs.Lists.{count_of}
 use Rattle.page_lists.specs.declared.list_name.ListName.{ListName}
-use Rattle.pager_model.specs.Given.{pfn}
+use Rattle.pager_model.specs.Maps.{pfn}
 use Rattle.pager_model.specs.Lookups.{entry_of, is_pending, slot_of}
 use Rattle.pager_model.specs.Pager.{Pager, Valid}
 use Rattle.vm_state.specs.Readings.{listed}

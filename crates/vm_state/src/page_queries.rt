@@ -4,7 +4,7 @@ ghost use Rattle.pager_model.specs.Flat.{flat_refusal, is_page_file_full};
 ghost use Rattle.pager_model.specs.Lookups.{entry_of};
 ghost use Rattle.pager_model.specs.Maps.{page_number};
 ghost use Rattle.pager_model.specs.Spoken.{flat_after};
-ghost use Rattle.pager_model.specs.Swap.{lying_in};
+ghost use Rattle.pager_model.specs.Lying.{lying_in};
 ghost use Rattle.vm_state.specs.History.{pager};
 ghost use Rattle.vm_state.specs.PageReadings.{IsGranted, IsKnown, backing_in, found_in, frame_of};
 ghost use Rattle.state_pages.specs.Shown.{frame_number};

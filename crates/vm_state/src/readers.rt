@@ -2,7 +2,7 @@ ghost use Rattle.std.specs.Prelude.{◌≡◌, ◌≢◌, ◌<◌, ◌+◌, ℕ,
 ghost use Rattle.pager_model.specs.Flights.{is_busy, open_flights};
 ghost use Rattle.state_fits.specs.File.{owner_in};
 ghost use Rattle.state_fits.specs.Seats.{start_on};
-ghost use Rattle.pager_model.specs.Policy.{spoken};
+ghost use Rattle.pager_model.specs.Spoken.{spoken};
 ghost use Rattle.state_fits.specs.Spoken.{spoken_by};
 ghost use Rattle.vm_types.specs.Ring.{choose, filled, unpinned};
 ghost use Rattle.vm_state.specs.History.{pager};

@@ -1,6 +1,6 @@
 ghost use Rattle.std.specs.Prelude.{◌≡◌, ◌<◌, true, count_by, length, slice_get};
 ghost use Rattle.vm_types.specs.WellFormed.{IsRange, IsWellFormedService};
-ghost use Rattle.pager_model.specs.Serve.{is_in_use, is_unmapped};
+ghost use Rattle.pager_model.specs.MappedRanges.{is_in_use, is_unmapped};
 ghost use Rattle.pager_model.specs.Ring.{range_locked, range_pinned};
 ghost use Rattle.pager_model.specs.Served.{is_locked_in, is_pinned_in};
 ghost use Rattle.vm_types.specs.declared.reply.Answer.{Answer};

@@ -7,14 +7,13 @@ use Rattle.vm_types.specs.declared.names.BlockId.TheVariants as block
 use Rattle.vm_types.specs.declared.names.Page.{Page}
 use Rattle.vm_types.specs.declared.names.Page.TheVariants.{Private, Shared}
 use Rattle.vm_journal.specs.declared.entry.Entry.{Entry}
-use Rattle.pager_model.specs.Advance.{lies_in}
+use Rattle.pager_model.specs.Lying.{lies_in, lying_in}
 use Rattle.pager_model.specs.Around.{past_view}
 use Rattle.pager_model.specs.Forget.{holder}
 use Rattle.pager_model.specs.Lookups.{is_of}
 use Rattle.pager_model.specs.Maps.{proc}
 use Rattle.pager_model.specs.Pager.{Pager}
 use Rattle.pager_model.specs.Run.{IsRun, pager_after}
-use Rattle.pager_model.specs.Swap.{lying_in}
 use Rattle.pager_rules.proofs.Lists.{found_passes}
 use Rattle.pager_rules.specs.Kept.{IsKept}
 use Rattle.pager_laws.proofs.OfConfigKept.{run_right}

@@ -1,6 +1,6 @@
 use Rattle.std.proofs.Common.{ℕ, ◌≡◌, ◌∷◌, ◌∙◌, IfOk, List, length, true, ap, subst, sym}
 use Rattle.std.proofs.lemmas.Bool.{eqb-false, eqb-true}
-use Rattle.pager_model.specs.Landings.{carrier_of}
+use Rattle.pager_model.specs.Flights.{carrier_of}
 use Rattle.log_laws.specs.Underway.{Underway as UnderwayIs, after_landings, in_outs}
 use Rattle.log_rundown.specs.Standing.{onward_as, standing_as}
 use Rattle.log_rundown.specs.Written.{writes_as}

@@ -1,6 +1,6 @@
 use Rattle.std.proofs.Common.{◌≤◌, length, subst}
 use Rattle.vm_types.specs.Configuration.{IsWellFormed}
-use Rattle.pager_model.specs.Policy.{spoken}
+use Rattle.pager_model.specs.Spoken.{spoken}
 use Rattle.pager_model.specs.Run.{IsRun}
 use Rattle.history_lock.specs.Passes.{view}
 use Rattle.history_lock.specs.Values.{value_of}

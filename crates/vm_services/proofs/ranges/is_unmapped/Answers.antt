@@ -1,7 +1,7 @@
 use Rattle.std.proofs.Common.{Bool, ◌+◌, ◌-◌, ◌/◌, sym, ap, ◌∙◌}
 use Rattle.std.specs.Prelude.{◌||◌}
 use Rattle.std.specs.List.{list_any, range_with_len}
-use Rattle.pager_model.specs.Serve.{is_unmapped_at}
+use Rattle.pager_model.specs.MappedRanges.{is_unmapped_at}
 use Rattle.vm_state.specs.History.{pager}
 use Rattle.state_pages.proofs.RangeSteps.{any_step}
 use Rattle.vm_services.proofs.ranges.is_unmapped.Goals as goal

@@ -3,8 +3,7 @@ use Rattle.pfn_database.specs.declared.row.Row.{Row}
 use Rattle.vm_types.specs.declared.names.FrameState.{FrameState}
 use Rattle.vm_types.specs.declared.names.FrameState.TheVariants as state
 use Rattle.pager_model.specs.Forget.{holder}
-use Rattle.pager_model.specs.Given.{passes}
-use Rattle.pager_model.specs.Lookups.{is}
+use Rattle.pager_model.specs.Lookups.{passes, is}
 use Rattle.pager_model.specs.Swap.{is_free_frame}
 use Rattle.call_begins.proofs.Rows.{row_state}
 use Rattle.vm_state.specs.History.{pager}

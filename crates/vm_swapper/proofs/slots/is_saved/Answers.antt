@@ -1,6 +1,6 @@
 use Rattle.std.proofs.Common.{◌&&◌, Bool, not, ap, ◌∙◌}
 use Rattle.vm_types.specs.declared.names.BlockId.TheVariants as block
-use Rattle.pager_model.specs.Advance.{lies_in}
+use Rattle.pager_model.specs.Lying.{lies_in}
 use Rattle.pager_model.specs.Maps.{is_private}
 use Rattle.pager_model.specs.Swap.{is_still}
 use Rattle.vm_state.specs.History.{pager}

@@ -2,7 +2,7 @@ use Rattle.std.proofs.Common.{◌∙◌, Option, ap, sym}
 use Rattle.vm_types.specs.declared.names.BlockId.{BlockId}
 use Rattle.vm_types.specs.declared.names.BlockId.TheVariants as block
 use Rattle.vm_types.specs.declared.names.Page.{Page}
-use Rattle.pager_model.specs.Advance.{lies_in}
+use Rattle.pager_model.specs.Lying.{lies_in}
 use Rattle.pager_model.specs.Maps.{is_private}
 use Rattle.state_pages.specs.declared.found.Backing.{Backing}
 use Rattle.vm_swapper.proofs.SlotsSeen.{saved_if, saved_not}

@@ -1,5 +1,5 @@
 use Rattle.std.proofs.Common.{◌∙◌, ap}
-use Rattle.pager_model.specs.Policy.{spoken}
+use Rattle.pager_model.specs.Spoken.{spoken}
 use Rattle.state_fits.proofs.AnswersCounted.{answers_spoken}
 use Rattle.vm_state.specs.History.{History}
 use Rattle.vm_state.proofs.state.State.all_answered.Goals as goal

@@ -1,5 +1,5 @@
 use Rattle.std.proofs.Common.{ap, ◌∙◌}
-use Rattle.pager_model.specs.Serve.{is_unmapped}
+use Rattle.pager_model.specs.MappedRanges.{is_unmapped}
 use Rattle.vm_state.specs.History.{History, pager}
 use Rattle.vm_state.proofs.AnswerShows as shows
 use Rattle.vm_state.proofs.state.State.is_unmapped.Goals as goal

@@ -1,7 +1,7 @@
 use Rattle.std.proofs.Common.{◌≡◌, sym, ap, ◌∙◌, subst}
 use Rattle.vm_journal.specs.declared.entry.What.{What}
 use Rattle.vm_journal.specs.declared.entry.What.TheVariants as what
-use Rattle.pager_model.specs.Given.{pfn}
+use Rattle.pager_model.specs.Maps.{pfn}
 use Rattle.vm_state.specs.History.{MayAdd, added, entry_by}
 use Rattle.vm_state.proofs.LiftLandings as landing
 use Rattle.vm_state.proofs.LiftLandings.{Stands}

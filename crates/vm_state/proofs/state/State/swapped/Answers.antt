@@ -1,5 +1,5 @@
 use Rattle.std.proofs.Common.{ap, ◌∙◌}
-use Rattle.pager_model.specs.Swap.{lying_in}
+use Rattle.pager_model.specs.Lying.{lying_in}
 use Rattle.vm_state.specs.History.{History, pager}
 use Rattle.vm_state.proofs.PageShows as shows
 use Rattle.vm_state.proofs.state.State.swapped.Goals as goal
