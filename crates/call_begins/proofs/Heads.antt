@@ -10,7 +10,7 @@ use Rattle.vm_types.specs.declared.names.Seat.{Seat}
 use Rattle.vm_journal.specs.declared.entry.Entry.{Entry}
 use Rattle.vm_journal.specs.declared.entry.What.{What}
 use Rattle.vm_journal.specs.declared.entry.What.TheVariants as what
-use Rattle.pager_model.specs.Given.{reuse_first}
+use Rattle.pager_policy.specs.Given.{reuse_first}
 use Rattle.pager_model.specs.Lookups.{IsHead}
 use Rattle.pager_model.specs.Run.{IsRun}
 use Rattle.pager_laws.proofs.RunsAreSound.{run_kept}

@@ -14,7 +14,7 @@ use Rattle.vm_journal.specs.declared.entry.What.{What}
 use Rattle.vm_journal.specs.declared.entry.What.TheVariants as what
 use Rattle.pager_model.specs.Fits.{lands}
 use Rattle.pager_model.specs.Flights.{awaits_reuse, open_flights}
-use Rattle.pager_model.specs.Given.{reads_made, reuse_first}
+use Rattle.pager_policy.specs.Given.{reads_made, reuse_first}
 use Rattle.pager_model.specs.Lookups.{IsHead}
 use Rattle.pager_model.specs.Run.{IsRun}
 use Rattle.content_laws.proofs.LiftsStay.{lifts_stay}

@@ -12,7 +12,7 @@ use Rattle.vm_journal.specs.declared.entry.Role.TheVariants as role
 use Rattle.vm_journal.specs.declared.entry.What.{What}
 use Rattle.vm_journal.specs.declared.entry.What.TheVariants as what
 use Rattle.page_lists.specs.Lists.{without}
-use Rattle.pager_model.specs.Given.{Target, reads_made, reuse_first}
+use Rattle.pager_policy.specs.Given.{Target, reads_made, reuse_first}
 use Rattle.pager_model.specs.Maps.{pfn}
 use Rattle.pager_model.specs.In.{IsIn}
 use Rattle.pager_model.specs.Own.{IsEmptyHead}

@@ -1,7 +1,7 @@
 -- What the row of a frame shows.
 use Rattle.std.proofs.Common.{◌≡◌, ℕ, refl}
 use Rattle.pager_model.specs.Evict.{evicted_to}
-use Rattle.pager_model.specs.Given.{goes_to}
+use Rattle.pager_policy.specs.Given.{goes_to}
 use Rattle.state_fits.specs.Frames.{frame_row}
 use Rattle.vm_state.specs.History.{History, pager}
 use Rattle.vm_state.specs.Readings.{row_at}

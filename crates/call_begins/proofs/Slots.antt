@@ -2,7 +2,7 @@
 use Rattle.std.proofs.Common.{◌≡◌, ℕ, Option, Some, None, refl, sym, ap, subst}
 use Rattle.std.proofs.lemmas.Option.{none-some, same_Some}
 use Rattle.vm_types.specs.Ring.{Held}
-use Rattle.pager_model.specs.Given.{seen_by, seen_in}
+use Rattle.pager_policy.specs.Given.{seen_by, seen_in}
 use Rattle.pager_model.specs.Lookups.{entry_of}
 use Rattle.pager_model.specs.Pager.{Pager, Valid}
 use Rattle.vm_state.specs.ProcessReadings.{slot_by, slot_with}

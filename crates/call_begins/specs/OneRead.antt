@@ -3,7 +3,7 @@ use Rattle.std.specs.Prelude.{List, [], ◌∷◌}
 use Rattle.vm_types.specs.declared.names.BlockId.{BlockId}
 use Rattle.vm_journal.specs.declared.entry.Role.{Role}
 use Rattle.vm_journal.specs.declared.entry.What.{What}
-use Rattle.pager_model.specs.Given.{reads_made}
+use Rattle.pager_policy.specs.Given.{reads_made}
 use Rattle.vm_state.specs.History.{History, pager}
 
 -- the entries of one read, of a block into the free list's head, which gives up the page that it holds

@@ -1,5 +1,5 @@
 ghost use Rattle.std.specs.Prelude.{◌≡◌, ◌+◌, ◌<◌, ◌≤◌, ◌++◌, ◌∷◌, [], length, map};
-ghost use Rattle.pager_model.specs.Given.{reuse_first};
+ghost use Rattle.pager_policy.specs.Given.{reuse_first};
 ghost use Rattle.pager_model.specs.Lookups.{IsHead};
 ghost use Rattle.vm_journal.specs.declared.entry.What.{What};
 ghost use Rattle.call_laws.specs.AreLegal.{AreLegal};

@@ -1,6 +1,6 @@
 ghost use Rattle.std.specs.Prelude.{◌≡◌};
 ghost use Rattle.pager_model.specs.Evict.{evicted_to};
-ghost use Rattle.pager_model.specs.Given.{goes_to, is_stopped};
+ghost use Rattle.pager_policy.specs.Given.{goes_to, is_stopped};
 ghost use Rattle.vm_state.specs.History.{pager};
 
 use disk_trait::Block;

@@ -17,7 +17,7 @@ use Rattle.vm_types.specs.declared.reference.Ref.{Ref}
 use Rattle.vm_types.specs.declared.reply.Why.{Why}
 use Rattle.vm_journal.specs.declared.entry.Entry.{Entry}
 use Rattle.vm_journal.specs.declared.entry.What.TheVariants as what
-use Rattle.pager_model.specs.Advance.{GivenNext, advance_gives, again_block_busy, again_charging, again_collided, again_modified_full, again_not_resident, block_after, collide_given, entry_given, fault_given, following, frame_given, gives_again, held_given, is_busy_block, is_named, is_out, limit_given, mapped_given, near_targets, read_given, refused_given, replace_given, replace_seen, room_given, source_of, window}
+use Rattle.pager_policy.specs.Advance.{GivenNext, advance_gives, again_block_busy, again_charging, again_collided, again_modified_full, again_not_resident, block_after, collide_given, entry_given, fault_given, following, frame_given, gives_again, held_given, is_busy_block, is_named, is_out, limit_given, mapped_given, near_targets, read_given, refused_given, replace_given, replace_seen, room_given, source_of, window}
 use Rattle.pager_model.specs.Charging.{first_source, is_uncharged}
 use Rattle.pager_model.specs.Around.{past_view}
 use Rattle.pager_model.specs.Back.{after_any_back}
@@ -27,7 +27,7 @@ use Rattle.pager_model.specs.Evict.{victim_of}
 use Rattle.pager_model.specs.Flat.{flat_refusal}
 use Rattle.pager_model.specs.Flights.{Flight, failed_flight, is_busy, open_flights}
 use Rattle.pager_model.specs.Forget.{holder}
-use Rattle.pager_model.specs.Given.{Seen, by_seat, is_stopped, page_address, reads_made, reuse_first, seen_at, unsaid}
+use Rattle.pager_policy.specs.Given.{Seen, by_seat, is_stopped, page_address, reads_made, reuse_first, seen_at, unsaid}
 use Rattle.pager_model.specs.Maps.{pfn, page_behind, page_number, proc}
 use Rattle.pager_model.specs.In.{IsFirstIn}
 use Rattle.pager_model.specs.Lookups.{count_page, entry_of, is_pending, is_resident, page_by}

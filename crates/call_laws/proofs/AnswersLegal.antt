@@ -13,7 +13,7 @@ use Rattle.vm_text.specs.References.{Answers}
 use Rattle.pager_model.specs.Denied.{IsFlatWhy}
 use Rattle.pager_model.specs.Done.{Allows}
 use Rattle.pager_model.specs.Flat.{FlatState, flat_refusal, is_change, is_page_file_full, refusal_at}
-use Rattle.pager_model.specs.Given.{by_seat}
+use Rattle.pager_policy.specs.Given.{by_seat}
 use Rattle.pager_model.specs.Lookups.{entry_of, is_pending}
 use Rattle.pager_model.specs.Maps.{Mapped, page_behind, page_number}
 use Rattle.pager_model.specs.Pager.{Pager, Valid}

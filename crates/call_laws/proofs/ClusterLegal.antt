@@ -12,8 +12,8 @@ use Rattle.vm_journal.specs.declared.entry.Entry.{Entry}
 use Rattle.vm_journal.specs.declared.entry.Role.TheVariants as role
 use Rattle.vm_journal.specs.declared.entry.What.TheVariants as what
 use Rattle.page_lists.specs.Lists.{count_of, without}
-use Rattle.pager_model.specs.Advance.{block_after, following, near_target, near_targets}
-use Rattle.pager_model.specs.Given.{Target, by_seat, reads_made, reuse_first}
+use Rattle.pager_policy.specs.Advance.{block_after, following, near_target, near_targets}
+use Rattle.pager_policy.specs.Given.{Target, by_seat, reads_made, reuse_first}
 use Rattle.pager_model.specs.Maps.{pfn}
 use Rattle.pager_model.specs.In.{is_kin}
 use Rattle.pager_model.specs.Lookups.{IsHead}

@@ -21,7 +21,7 @@ use Rattle.pager_model.specs.Lying.{lies_in, lying_in}
 use Rattle.pager_model.specs.Around.{frame_view, page_view, past_view, process_view}
 use Rattle.pager_model.specs.Flights.{Direction, Flight, awaits_reuse, is_busy, is_reading, open_flights, reading, writing}
 use Rattle.pager_model.specs.Forget.{holder}
-use Rattle.pager_model.specs.Given.{address_of, by_seat, given, leading, page_address, reads_made, reuse_first, slots_of}
+use Rattle.pager_policy.specs.Given.{address_of, by_seat, given, leading, page_address, reads_made, reuse_first, slots_of}
 use Rattle.pager_model.specs.Lookups.{passes, count_page, entries_at, is, is_of, entry_of, is_entry, page_by}
 use Rattle.pager_model.specs.Maps.{pfn, is_paged, page_number, proc}
 use Rattle.pager_model.specs.In.{is_fault_or_near}
@@ -30,7 +30,7 @@ use Rattle.pager_model.specs.Pager.{Pager, Valid}
 use Rattle.pager_model.specs.Run.{pager_after}
 use Rattle.pager_model.specs.Sound.{IsSwapped, MayHoldSwapped, is_out_state}
 use Rattle.pager_model.specs.Step.{IsLegal}
-use Rattle.pager_model.specs.Swap.{GivenSwap, back_of, back_page, come_free, come_gives, come_out, come_target, come_targets, is_back_on_free, is_free_frame, is_out_page, run_from, swap_again, swap_carry, swap_in_flight, swap_no_frame, swap_settled, swap_where}
+use Rattle.pager_policy.specs.Swap.{GivenSwap, back_of, back_page, come_free, come_gives, come_out, come_target, come_targets, is_back_on_free, is_free_frame, is_out_page, run_from, swap_again, swap_carry, swap_in_flight, swap_no_frame, swap_settled, swap_where}
 use Rattle.pager_model.specs.Transfers.{has_come, is_come, is_read_on}
 use Rattle.pager_rules.proofs.Basics.{at_number_other, at_number_same, count_from_no_find, each_fails, nat_eq_refl, no_failed_read, pages_equal, states_equal}
 use Rattle.vm_types.specs.Same.{same_page, same_block}

@@ -20,7 +20,7 @@ use Rattle.pager_model.specs.Back.{after_any_back, may_come_back}
 use Rattle.pager_model.specs.Changes.{valid_at}
 use Rattle.pager_model.specs.Flights.{fails_read, is_busy, open_flights}
 use Rattle.pager_model.specs.Forget.{holder}
-use Rattle.pager_model.specs.Given.{by_seat, page_address}
+use Rattle.pager_policy.specs.Given.{by_seat, page_address}
 use Rattle.pager_model.specs.Maps.{pfn, Mapped, page_behind, page_number, proc}
 use Rattle.pager_model.specs.Lookups.{IsHead, count_page, entries_at, entry_of, is_entry, page_at, page_by}
 use Rattle.pager_model.specs.Own.{IsEmptyHead}

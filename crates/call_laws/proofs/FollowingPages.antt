@@ -10,7 +10,7 @@ use Rattle.vm_types.specs.declared.names.BlockId.{BlockId}
 use Rattle.vm_types.specs.declared.names.BlockId.TheVariants as block
 use Rattle.vm_types.specs.declared.names.Page.{Page}
 use Rattle.vm_types.specs.declared.names.Page.TheVariants.{Private, Shared}
-use Rattle.pager_model.specs.Advance.{block_after, following, following_owner, following_shared, owner_of}
+use Rattle.pager_policy.specs.Advance.{block_after, following, following_owner, following_shared, owner_of}
 use Rattle.pager_model.specs.Lying.{lies_in}
 use Rattle.pager_model.specs.Around.{PastView}
 use Rattle.pager_model.specs.In.{is_kin}

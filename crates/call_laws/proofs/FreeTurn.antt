@@ -6,7 +6,7 @@ use Rattle.vm_journal.specs.declared.entry.What.{What}
 use Rattle.vm_text.specs.Named.{IsPageStart}
 use Rattle.call_laws.specs.Ready.{IsFree}
 use Rattle.pager_model.specs.Flights.{awaits_reuse, is_busy, open_flights}
-use Rattle.pager_model.specs.Given.{by_seat, page_address}
+use Rattle.pager_policy.specs.Given.{by_seat, page_address}
 use Rattle.pager_model.specs.InTurn.{InTurn}
 use Rattle.pager_model.specs.Maps.{page_number}
 

@@ -18,7 +18,7 @@ use Rattle.vm_journal.specs.declared.entry.What.TheVariants as what
 use Rattle.pager_model.specs.Lying.{lies_in}
 use Rattle.pager_model.specs.Around.{past_view, PastView, page_view, process_view}
 use Rattle.pager_model.specs.Flights.{Direction, Flight, is_reading, open_flights, reading, writing}
-use Rattle.pager_model.specs.Given.{Seen, by_seat, eviction, is_stopped, leading, seen_at, slots_of}
+use Rattle.pager_policy.specs.Given.{Seen, by_seat, eviction, is_stopped, leading, seen_at, slots_of}
 use Rattle.pager_model.specs.Lookups.{passes, entry_of, has_vpn, page_by, slot_of, slot_with}
 use Rattle.pager_model.specs.Maps.{pfn, is_private, page_number, proc}
 use Rattle.pager_model.specs.OfConfig.{IsMappable, IsOfConfig}
@@ -26,7 +26,7 @@ use Rattle.pager_model.specs.Pager.{Pager}
 use Rattle.pager_model.specs.Run.{pager_after}
 use Rattle.pager_model.specs.Sound.{FitsSlot}
 use Rattle.pager_model.specs.Step.{IsLegal}
-use Rattle.pager_model.specs.Swap.{GivenSwap, is_saved, is_shared_unpinned, is_still, is_to_save, leave_gives, leave_page, leave_saved, leave_shared, leave_unsaved, slot_where, turned_gone, write_slot, write_slots}
+use Rattle.pager_policy.specs.Swap.{GivenSwap, is_saved, is_shared_unpinned, is_still, is_to_save, leave_gives, leave_page, leave_saved, leave_shared, leave_unsaved, slot_where, turned_gone, write_slot, write_slots}
 use Rattle.pager_model.specs.Transfers.{is_on_block, is_read_on, is_write_on, reads_on, writes_on}
 use Rattle.pager_model.specs.Sets.{at_number}
 use Rattle.pager_rules.proofs.Basics.{at_number_other, count_cons_no, nat_eq_refl}

@@ -18,7 +18,7 @@ use Rattle.page_lists.specs.Lists.{count_of, without}
 use Rattle.pager_model.specs.Around.{past_view}
 use Rattle.pager_model.specs.Carrier.{Carrying, carried, carrying, carrying_with}
 use Rattle.pager_model.specs.Flights.{Direction, Flight, awaits_reuse, is_busy, is_reading, open_flights, reading, writing}
-use Rattle.pager_model.specs.Given.{by_seat, page_address}
+use Rattle.pager_policy.specs.Given.{by_seat, page_address}
 use Rattle.pager_model.specs.Maps.{pfn, page_number, proc}
 use Rattle.pager_model.specs.In.{is_fault_or_near, is_kin}
 use Rattle.pager_model.specs.InTurn.{MayJoin}

@@ -16,12 +16,12 @@ use Rattle.vm_types.specs.declared.names.Page.TheVariants.{Private, Shared}
 use Rattle.vm_journal.specs.declared.entry.Entry.{Entry}
 use Rattle.vm_journal.specs.declared.entry.Role.TheVariants as role
 use Rattle.vm_journal.specs.declared.entry.What.TheVariants as what
-use Rattle.pager_model.specs.Advance.{is_busy_block, source_of}
+use Rattle.pager_policy.specs.Advance.{is_busy_block, source_of}
 use Rattle.pager_model.specs.Charging.{first_source, is_uncharged}
 use Rattle.pager_model.specs.Around.{past_view}
 use Rattle.pager_model.specs.Flights.{open_flights}
 use Rattle.pager_model.specs.Forget.{holder}
-use Rattle.pager_model.specs.Given.{by_seat, page_address}
+use Rattle.pager_policy.specs.Given.{by_seat, page_address}
 use Rattle.pager_model.specs.Maps.{pfn, Mapped, is_paged, is_private, page_behind, proc}
 use Rattle.pager_model.specs.In.{IsFirstIn}
 use Rattle.pager_model.specs.Lookups.{count_page, is_assigned_to, page_at, page_by, section_at, section_of}

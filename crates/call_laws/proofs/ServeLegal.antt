@@ -28,13 +28,13 @@ use Rattle.pager_model.specs.Evict.{IsDropped, IsEvict}
 use Rattle.pager_model.specs.FlatService.{in_range}
 use Rattle.pager_model.specs.Flights.{open_flights}
 use Rattle.pager_model.specs.Forget.{own_pages, range_of}
-use Rattle.pager_model.specs.Given.{eviction, goes_to, is_stopped}
+use Rattle.pager_policy.specs.Given.{eviction, goes_to, is_stopped}
 use Rattle.pager_model.specs.Lookups.{passes, count_page, entries_at, entry_of, has_vpn, is_resident, page_at, page_by, slot_of, slot_with}
 use Rattle.pager_model.specs.Maps.{Mapped, page_behind, proc}
 use Rattle.pager_model.specs.Pager.{Pager, Valid}
 use Rattle.pager_model.specs.Ring.{range_locked, range_pinned}
 use Rattle.pager_model.specs.Run.{pager_after}
-use Rattle.pager_model.specs.Serve.{GivenServe, delete_given, evict_given, is_fixed_at, is_page_in_flight, is_range_in_flight, is_valid_at, limits_given, lock_given, loose_in, purge_given, served_with, service_gives, serve_gives, valid_in}
+use Rattle.pager_policy.specs.Serve.{GivenServe, delete_given, evict_given, is_fixed_at, is_page_in_flight, is_range_in_flight, is_valid_at, limits_given, lock_given, loose_in, purge_given, served_with, service_gives, serve_gives, valid_in}
 use Rattle.pager_model.specs.MappedRanges.{is_in_use, is_mapped_at, is_unmapped, is_unmapped_at}
 use Rattle.pager_model.specs.Served.{AreMapped, IsInUse, IsLocking, IsOverLocking, IsServed, IsUnmapped, is_fixed_in, is_locked_in, is_pinned_in, is_slot_in}
 use Rattle.pager_model.specs.Transfers.{is_in_flight, reads_on, writes_on}

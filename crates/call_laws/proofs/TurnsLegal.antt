@@ -9,14 +9,14 @@ use Rattle.vm_types.specs.declared.names.ProcStatus.TheVariants as status
 use Rattle.vm_journal.specs.declared.entry.Entry.{Entry}
 use Rattle.vm_journal.specs.declared.entry.What.TheVariants as what
 use Rattle.pager_model.specs.Flights.{is_busy, open_flights}
-use Rattle.pager_model.specs.Given.{by_seat}
+use Rattle.pager_policy.specs.Given.{by_seat}
 use Rattle.pager_model.specs.Lookups.{is_coming, is_resident}
 use Rattle.pager_model.specs.Maps.{proc}
 use Rattle.pager_model.specs.Pager.{Pager}
-use Rattle.pager_model.specs.Policy.{coming_process}
+use Rattle.pager_policy.specs.Policy.{coming_process}
 use Rattle.pager_model.specs.Run.{pager_after}
 use Rattle.pager_model.specs.Step.{IsLegal}
-use Rattle.pager_model.specs.Swap.{earlier, earliest, is_but, last_spoken, may_leave, or_else, processes_where, victim_gives}
+use Rattle.pager_policy.specs.Swap.{earlier, earliest, is_but, last_spoken, may_leave, or_else, processes_where, victim_gives}
 use Rattle.pager_model.specs.Transfers.{has_come}
 use Rattle.pager_rules.proofs.Lists.{found_passes}
 use Rattle.pager_laws.proofs.OpeningKept.{in_range}

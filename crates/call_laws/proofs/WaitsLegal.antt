@@ -14,12 +14,12 @@ use Rattle.vm_types.specs.declared.ring_choice.Choice.TheVariants.{Victim}
 use Rattle.vm_journal.specs.declared.entry.Entry.{Entry}
 use Rattle.vm_journal.specs.declared.entry.EvictWhy.TheVariants as evict
 use Rattle.vm_journal.specs.declared.entry.What.TheVariants as what
-use Rattle.pager_model.specs.Advance.{is_named}
+use Rattle.pager_policy.specs.Advance.{is_named}
 use Rattle.pager_model.specs.Around.{past_view}
 use Rattle.pager_model.specs.Evict.{victim_of}
 use Rattle.pager_model.specs.Flights.{Flight, is_reading, open_flights}
 use Rattle.pager_model.specs.Forget.{holder}
-use Rattle.pager_model.specs.Given.{Seen, by_seat, eviction, goes_to, is_stopped, page_address, seen_at, seen_by, seen_in, seen_page}
+use Rattle.pager_policy.specs.Given.{Seen, by_seat, eviction, goes_to, is_stopped, page_address, seen_at, seen_by, seen_in, seen_page}
 use Rattle.pager_model.specs.Maps.{pfn}
 use Rattle.pager_model.specs.Lookups.{entry_of, is, is_pending, page_by, slot_of}
 use Rattle.pager_model.specs.OfConfig.{IsMappable, IsOfConfig}

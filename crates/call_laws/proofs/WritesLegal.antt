@@ -17,7 +17,7 @@ use Rattle.page_lists.specs.Lists.{count_of, without}
 use Rattle.pager_model.specs.Around.{past_view}
 use Rattle.pager_model.specs.Carrier.{Carrying, carried, carrying, carrying_with}
 use Rattle.pager_model.specs.Flights.{Flight, awaits_reuse, is_busy, is_reading, open_flights, writing}
-use Rattle.pager_model.specs.Given.{by_seat, given}
+use Rattle.pager_policy.specs.Given.{by_seat, given}
 use Rattle.pager_model.specs.Maps.{pfn, is_paged}
 use Rattle.pager_model.specs.InTurn.{InTurn, MayJoin}
 use Rattle.vm_types.specs.BlockOrder.{is_next_block, if_next}
@@ -28,7 +28,7 @@ use Rattle.pager_model.specs.Pager.{Assigned, Pager}
 use Rattle.pager_model.specs.Run.{IsRun, pager_after}
 use Rattle.pager_model.specs.Step.{IsLegal}
 use Rattle.pager_model.specs.Transfers.{is_on_block}
-use Rattle.pager_model.specs.WriteCluster.{Reason, begin_carry, begin_gives, begin_nothing, block_out, filed_block, is_enough, is_free_block, new_block, paged_block, writes_from, writes_taken}
+use Rattle.pager_policy.specs.WriteCluster.{Reason, begin_carry, begin_gives, begin_nothing, block_out, filed_block, is_enough, is_free_block, new_block, paged_block, writes_from, writes_taken}
 use Rattle.pager_rules.proofs.Basics.{count_cons, count_cons_no, count_cons_yes, find_cons_no, nat_eq_refl, pages_equal}
 use Rattle.pager_rules.proofs.Lists.{all_found, found_passes, filter_all}
 use Rattle.pager_rules.proofs.Put.{head_counts}

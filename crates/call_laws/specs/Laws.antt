@@ -5,19 +5,19 @@ use Rattle.vm_types.specs.declared.config.Config.{Config}
 use Rattle.vm_types.specs.declared.reference.Ref.{Ref}
 use Rattle.vm_types.specs.declared.service.Service.{Service}
 use Rattle.vm_journal.specs.declared.entry.Entry.{Entry}
-use Rattle.pager_model.specs.Advance.{advance_gives}
+use Rattle.pager_policy.specs.Advance.{advance_gives}
 use Rattle.pager_model.specs.Run.{pager_after}
-use Rattle.pager_model.specs.Serve.{serve_gives}
+use Rattle.pager_policy.specs.Serve.{serve_gives}
 use Rattle.call_laws.specs.AreLegal.{AreLegal}
 use Rattle.vm_types.specs.declared.names.ProcStatus.TheVariants as status
-use Rattle.pager_model.specs.Swap.{come_gives, leave_gives, victim_gives}
+use Rattle.pager_policy.specs.Swap.{come_gives, leave_gives, victim_gives}
 use Rattle.vm_journal.specs.declared.entry.What.TheVariants as what
 use Rattle.pager_model.specs.Flights.{open_flights}
-use Rattle.pager_model.specs.Given.{by_seat}
+use Rattle.pager_policy.specs.Given.{by_seat}
 use Rattle.pager_model.specs.Maps.{proc}
-use Rattle.pager_model.specs.Policy.{coming_process}
+use Rattle.pager_policy.specs.Policy.{coming_process}
 use Rattle.pager_model.specs.Step.{IsLegal}
-use Rattle.pager_model.specs.WriteCluster.{Reason, begin_gives}
+use Rattle.pager_policy.specs.WriteCluster.{Reason, begin_gives}
 use Rattle.call_laws.specs.Ready.{IsReady, MayWork}
 
 -- all that a reference's next step makes is legal, each entry after those before it

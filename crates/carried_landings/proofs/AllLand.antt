@@ -9,8 +9,8 @@ use Rattle.vm_types.specs.declared.names.Seat.{Seat}
 use Rattle.vm_journal.specs.declared.entry.Entry.{Entry}
 use Rattle.vm_journal.specs.declared.entry.What.{What}
 use Rattle.pager_model.specs.Flights.{Flight, open_flights, without_flight, carrier_of}
-use Rattle.pager_model.specs.Given.{by_seat, made_by}
-use Rattle.pager_model.specs.Landings.{Outcome, landed_by}
+use Rattle.pager_policy.specs.Given.{by_seat, made_by}
+use Rattle.pager_policy.specs.Landings.{Outcome, landed_by}
 use Rattle.pager_model.specs.Run.{IsRun}
 use Rattle.pager_model.specs.Transfers.{is_by, starts}
 use Rattle.pager_rules.proofs.Basics.{each_of_two}

@@ -3,13 +3,13 @@ use Rattle.std.proofs.Common.{◌≡◌, Bool, true, false, cond, List, refl, sy
 use Rattle.vm_types.specs.declared.config.Config.{Config}
 use Rattle.vm_types.specs.declared.names.Seat.{Seat}
 use Rattle.vm_journal.specs.declared.entry.Entry.{Entry}
-use Rattle.pager_model.specs.Given.{unsaid}
-use Rattle.pager_model.specs.Landings.{all_bad, first_bad, landed_by}
+use Rattle.pager_policy.specs.Given.{unsaid}
+use Rattle.pager_policy.specs.Landings.{all_bad, first_bad, landed_by}
 use Rattle.pager_model.specs.Flights.{carrier_of}
-use Rattle.pager_model.specs.Moves.{After, Control as ControlIs, goes, refuses}
-use Rattle.pager_model.specs.Policy.{Ends, ends_part, ends_request, failing, next_task, unless_all_failed, unless_first_failed}
+use Rattle.pager_policy.specs.Moves.{After, Control as ControlIs, goes, refuses}
+use Rattle.pager_policy.specs.Policy.{Ends, ends_part, ends_request, failing, next_task, unless_all_failed, unless_first_failed}
 use Rattle.pager_model.specs.Run.{IsRun}
-use Rattle.pager_model.specs.Serial.{GoesOn, IsRefused}
+use Rattle.pager_policy.specs.Serial.{GoesOn, IsRefused}
 use Rattle.pager_model.specs.Spoken.{IsRight}
 use Rattle.carried_landings.specs.HaveLanded.{HaveLanded}
 use Rattle.carried_landings.specs.declared.carrier_landed.CarrierLanded.{CarrierLanded}

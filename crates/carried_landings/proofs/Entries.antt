@@ -6,7 +6,7 @@ use Rattle.vm_journal.specs.declared.entry.Entry.{Entry}
 use Rattle.vm_journal.specs.declared.entry.What.{What}
 use Rattle.vm_journal.specs.declared.entry.What.TheVariants as what
 use Rattle.pager_model.specs.Flights.{awaits_reuse, open_flights}
-use Rattle.pager_model.specs.Given.{by_seat, made_by}
+use Rattle.pager_policy.specs.Given.{by_seat, made_by}
 use Rattle.carried_landings.proofs.BegunFlights.{LandsNone}
 use Rattle.vm_state.specs.History.{History, added, entry_by}
 use Rattle.vm_state.specs.LiftsLand.{added_each}

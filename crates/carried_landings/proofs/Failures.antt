@@ -1,7 +1,7 @@
 -- What is counted of the lifts tells whether all of them failed, and whether the first one did.
 use Rattle.std.proofs.Common.{◌≡◌, ℕ, ◌&&◌, Bool, true, false, not, List, [], ◌∷◌, count_by, nat_eq, refl, sym, ap, ◌∙◌, arith}
 use Rattle.std.proofs.lemmas.Bool.{ne_eqb}
-use Rattle.pager_model.specs.Landings.{all_bad, first_bad, is_bad_outcome}
+use Rattle.pager_policy.specs.Landings.{all_bad, first_bad, is_bad_outcome}
 use Rattle.pager_rules.proofs.Basics.{count_cons_no, count_cons_yes}
 use Rattle.frame_store.specs.LiftView.{LiftView}
 use Rattle.frame_store.specs.declared.lift.Carried.{Carried}

@@ -11,9 +11,9 @@ use Rattle.vm_journal.specs.declared.entry.What.TheVariants as what
 use Rattle.pager_model.specs.Counted.{counts_of, last_count}
 use Rattle.pager_model.specs.Fits.{FitsResult, lands, meant}
 use Rattle.pager_model.specs.Flights.{Direction, Flight, is_reading, open_flights, reading, without_flight, writing}
-use Rattle.pager_model.specs.Given.{by_seat, made_by}
+use Rattle.pager_policy.specs.Given.{by_seat, made_by}
 use Rattle.pager_model.specs.Maps.{pfn}
-use Rattle.pager_model.specs.Landings.{Outcome, landing, reuse_of, went_badly, went_well}
+use Rattle.pager_policy.specs.Landings.{Outcome, landing, reuse_of, went_badly, went_well}
 use Rattle.pager_model.specs.Run.{IsRun, pager_after}
 use Rattle.pager_model.specs.Transfers.{starts}
 use Rattle.content_laws.proofs.LiftsStay.{lifts_stay}

@@ -7,9 +7,9 @@ use Rattle.vm_types.specs.declared.names.Seat.{Seat}
 use Rattle.vm_journal.specs.declared.entry.Entry.{Entry}
 use Rattle.vm_journal.specs.declared.entry.What.{What}
 use Rattle.pager_model.specs.Flights.{awaits_reuse, open_flights, carrier_of}
-use Rattle.pager_model.specs.Given.{made_by, unsaid}
-use Rattle.pager_model.specs.Moves.{After, Control as ControlIs, carries, makes}
-use Rattle.pager_model.specs.Serial.{IsCarried}
+use Rattle.pager_policy.specs.Given.{made_by, unsaid}
+use Rattle.pager_policy.specs.Moves.{After, Control as ControlIs, carries, makes}
+use Rattle.pager_policy.specs.Serial.{IsCarried}
 use Rattle.pager_model.specs.Spoken.{IsRight, flat_after}
 use Rattle.call_begins.specs.Lifted.{HasLifts}
 use Rattle.carried_landings.specs.SeatFlights.{flight_place, of_others}

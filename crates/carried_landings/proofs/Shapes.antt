@@ -16,24 +16,24 @@ use Rattle.vm_journal.specs.declared.entry.Entry.{Entry}
 use Rattle.vm_journal.specs.declared.entry.EvictWhy.{EvictWhy}
 use Rattle.vm_journal.specs.declared.entry.What.{What}
 use Rattle.vm_journal.specs.declared.entry.What.TheVariants as what
-use Rattle.pager_model.specs.Advance.{GivenNext, NextIs, advance_gives, cluster_targets, collide_given, entry_given, fault_given, frame_given, held_given, is_busy_block, is_named, limit_given, mapped_given, next_again, next_answered, next_carry, next_more, read_given, refused_given, replace_seen, room_given, source_of}
+use Rattle.pager_policy.specs.Advance.{GivenNext, NextIs, advance_gives, cluster_targets, collide_given, entry_given, fault_given, frame_given, held_given, is_busy_block, is_named, limit_given, mapped_given, next_again, next_answered, next_carry, next_more, read_given, refused_given, replace_seen, room_given, source_of}
 use Rattle.pager_model.specs.Charging.{is_uncharged}
 use Rattle.pager_model.specs.Evict.{victim_of}
 use Rattle.pager_model.specs.Flat.{flat_refusal}
 use Rattle.pager_model.specs.Flights.{Flight, open_flights}
 use Rattle.pager_model.specs.Forget.{holder}
-use Rattle.pager_model.specs.Given.{Seen, Target, given, is_stopped, page_address, reads_made, reuse_first, seen_at, unsaid}
+use Rattle.pager_policy.specs.Given.{Seen, Target, given, is_stopped, page_address, reads_made, reuse_first, seen_at, unsaid}
 use Rattle.pager_model.specs.Maps.{pfn, page_number}
 use Rattle.pager_model.specs.Lookups.{entry_of, is_pending, is_resident, page_by}
 use Rattle.pager_model.specs.Pager.{Pager, Valid}
 use Rattle.pager_model.specs.Ring.{range_locked, range_pinned}
-use Rattle.pager_model.specs.Serve.{GivenServe, ServeIs, delete_given, evict_given, is_range_in_flight, limits_given, lock_given, loose_in, purge_given, serve_again, serve_answered, serve_gives, serve_more, service_gives, valid_in}
+use Rattle.pager_policy.specs.Serve.{GivenServe, ServeIs, delete_given, evict_given, is_range_in_flight, limits_given, lock_given, loose_in, purge_given, serve_again, serve_answered, serve_gives, serve_more, service_gives, valid_in}
 use Rattle.pager_model.specs.MappedRanges.{is_unmapped}
 use Rattle.pager_model.specs.Spoken.{flat_after}
-use Rattle.pager_model.specs.Swap.{GivenSwap, SwapIs, back_of, back_page, come_free, come_gives, come_out, is_back_on_free, is_out_page, is_saved, is_shared_unpinned, is_to_save, leave_gives, leave_page, leave_saved, leave_shared, leave_unsaved, slot_where, swap_again, swap_carry, swap_more, swap_settled, swap_where, write_slot, write_slots}
+use Rattle.pager_policy.specs.Swap.{GivenSwap, SwapIs, back_of, back_page, come_free, come_gives, come_out, is_back_on_free, is_out_page, is_saved, is_shared_unpinned, is_to_save, leave_gives, leave_page, leave_saved, leave_shared, leave_unsaved, slot_where, swap_again, swap_carry, swap_more, swap_settled, swap_where, write_slot, write_slots}
 use Rattle.pager_model.specs.Lying.{lying_in}
 use Rattle.pager_model.specs.Transfers.{has_come, is_read_on}
-use Rattle.pager_model.specs.WriteCluster.{BeginIs, Reason, begin_carry, begin_gives, begin_nothing, block_out, is_enough, writes_from, writes_taken}
+use Rattle.pager_policy.specs.WriteCluster.{BeginIs, Reason, begin_carry, begin_gives, begin_nothing, block_out, is_enough, writes_from, writes_taken}
 
 -- a transfer that begins, or what comes before a read
 abbrev pub IsStart : What → Type 0

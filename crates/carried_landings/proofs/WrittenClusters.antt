@@ -3,9 +3,9 @@ use Rattle.std.proofs.Common.{◌≡◌, List, [], refl, sym, ◌∙◌, subst}
 use Rattle.vm_types.specs.BlockView.{BlockView, Tells}
 use Rattle.vm_types.specs.declared.names.Seat.{Seat}
 use Rattle.vm_journal.specs.declared.entry.What.{What}
-use Rattle.pager_model.specs.Moves.{Control as ControlIs}
-use Rattle.pager_model.specs.Policy.{Ends, unless_all_failed, writing_move}
-use Rattle.pager_model.specs.WriteCluster.{BeginIs, Reason as GivenReason, begin_carry, begin_gives, begin_nothing, reason_need}
+use Rattle.pager_policy.specs.Moves.{Control as ControlIs}
+use Rattle.pager_policy.specs.Policy.{Ends, unless_all_failed, writing_move}
+use Rattle.pager_policy.specs.WriteCluster.{BeginIs, Reason as GivenReason, begin_carry, begin_gives, begin_nothing, reason_need}
 use Rattle.call_begins.specs.Lifted.{HasLifts}
 use Rattle.call_begins.specs.MayBegin.{empty}
 use Rattle.modified_writer.specs.Begins.{Begins, begin_of}

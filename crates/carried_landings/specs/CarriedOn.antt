@@ -5,10 +5,10 @@ use Rattle.vm_types.specs.declared.config.Config.{Config}
 use Rattle.vm_types.specs.declared.names.Seat.{Seat}
 use Rattle.vm_journal.specs.declared.entry.Entry.{Entry}
 use Rattle.pager_model.specs.Flights.{awaits_reuse, open_flights, carrier_of}
-use Rattle.pager_model.specs.Landings.{Outcome, all_bad, first_bad, landed_by}
-use Rattle.pager_model.specs.Moves.{After, Control as ControlIs, control, freeing, refuses, saving}
-use Rattle.pager_model.specs.Policy.{ends_part, next_task, unless_all_failed}
-use Rattle.pager_model.specs.Serial.{Heard, IsCarried, IsRefused}
+use Rattle.pager_policy.specs.Landings.{Outcome, all_bad, first_bad, landed_by}
+use Rattle.pager_policy.specs.Moves.{After, Control as ControlIs, control, freeing, refuses, saving}
+use Rattle.pager_policy.specs.Policy.{ends_part, next_task, unless_all_failed}
+use Rattle.pager_policy.specs.Serial.{Heard, IsCarried, IsRefused}
 use Rattle.pager_model.specs.Run.{IsRun}
 use Rattle.pager_model.specs.Spoken.{IsRight}
 use Rattle.call_begins.specs.Lifted.{HasBegunLifts, place_of}

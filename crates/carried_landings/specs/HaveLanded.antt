@@ -2,7 +2,7 @@
 use Rattle.std.specs.Prelude.{◌≡◌, ℕ, List, length}
 use Rattle.vm_types.specs.declared.config.Config.{Config}
 use Rattle.vm_journal.specs.declared.entry.Entry.{Entry}
-use Rattle.pager_model.specs.Landings.{Outcome, all_bad, first_bad, landed_by}
+use Rattle.pager_policy.specs.Landings.{Outcome, all_bad, first_bad, landed_by}
 use Rattle.pager_model.specs.Flights.{carrier_of}
 use Rattle.carried_landings.specs.declared.carrier_landed.CarrierLanded.{CarrierLanded}
 

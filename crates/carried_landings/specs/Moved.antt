@@ -1,8 +1,8 @@
 -- What one move of the serial policy leaves of a history. This project's own.
 use Rattle.std.specs.Prelude.{◌≡◌, Bool, true, ◌≤◌, Option, Some, None}
-use Rattle.pager_model.specs.Moves.{Control as ControlIs, Move, rests}
-use Rattle.pager_model.specs.Policy.{move_of}
-use Rattle.pager_model.specs.Serial.{Heard, IsMade}
+use Rattle.pager_policy.specs.Moves.{Control as ControlIs, Move, rests}
+use Rattle.pager_policy.specs.Policy.{move_of}
+use Rattle.pager_policy.specs.Serial.{Heard, IsMade}
 use Rattle.pager_model.specs.Spoken.{IsRight}
 use Rattle.serial_laws.specs.Between.{IsBetween}
 use Rattle.serial_laws.specs.Controlled.{IsControlled, IsInBody}

@@ -9,7 +9,7 @@ use Rattle.trace_reader.specs.Head as head
 use Rattle.trace_reader.specs.HeadAnswer.{IsCutShort as IsHeadCut}
 use Rattle.log_model.specs.Log.{IsTooLong}
 use Rattle.log_check.specs.Judged.{IsCutShort as IsLogCut}
-use Rattle.pager_model.specs.Text.{status_line}
+use Rattle.run_words.specs.Text.{status_line}
 use Rattle.command_ends.specs.FaultText.{fault_text, unfinished_text}
 use Rattle.check_command.specs.Answers.{IsRead}
 use Rattle.check_command.specs.CheckText.{HasLog, IsCheckAnswer}

@@ -3,7 +3,7 @@
 use Rattle.std.specs.Prelude.{◌≡◌, ℕ, List, [], ◌++◌, Some, IfSome, codes, decimal}
 use Rattle.vm_types.specs.declared.config.Config.{Config}
 use Rattle.outside_io.specs.Views.{SourceView}
-use Rattle.pager_model.specs.Text.{ended, status_line}
+use Rattle.run_words.specs.Text.{ended, status_line}
 use Rattle.trace_reader.specs.Head.{Configured, head_of}
 use Rattle.command_ends.specs.Wrongs.{log_fault_text, log_too_long_text}
 use Rattle.log_model.specs.Log.{IsAtFault, IsLegalLog, IsTooLong}

@@ -1,7 +1,7 @@
 -- The status and the text of a verdict, and of a log without one. Source: this project's own.
 use Rattle.std.specs.Prelude.{◌≡◌, ℕ, List, ◌++◌, None, Some, Result, Ok, Err}
 use Rattle.std.specs.declared.option.Option.{Option}
-use Rattle.pager_model.specs.Text.{status_line}
+use Rattle.run_words.specs.Text.{status_line}
 use Rattle.log_check.specs.declared.verdict.Verdict.{Verdict}
 use Rattle.log_check.specs.declared.verdict.Verdict.TheVariants.{Legal, Fault}
 use Rattle.log_check.specs.declared.check_fault.CheckFault.{CheckFault}

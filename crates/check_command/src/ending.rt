@@ -2,7 +2,7 @@
 
 ghost use Rattle.std.specs.Prelude.{◌≡◌, ◌≢◌, ◌≤◌, ◌++◌};
 ghost use Rattle.arrayvec.specs.ArrayVec.{array_vec_len};
-ghost use Rattle.pager_model.specs.Text.{ended, status_line};
+ghost use Rattle.run_words.specs.Text.{ended, status_line};
 ghost use Rattle.command_ends.specs.Ends.{Ends};
 ghost use Rattle.check_command.specs.CheckText.{legal_line};
 ghost use Rattle.command_ends.specs.Wrongs.{log_fault_text, log_too_long_text};

@@ -11,7 +11,7 @@ use Rattle.trace_reader.specs.Meaning.{Configuration, Faulty, Trace, trace_of}
 use Rattle.trace_reader.specs.Meaning as meaning
 use Rattle.trace_reader.specs.declared.fault.TraceFault.{TraceFault}
 use Rattle.trace_reader.specs.declared.fault.TraceFault.TheVariants as fault
-use Rattle.pager_model.specs.Text.{status_line}
+use Rattle.run_words.specs.Text.{status_line}
 use Rattle.command_ends.specs.Concludes.{Concludes, EndsAnswered, IsOutcome}
 use Rattle.command_ends.specs.Ends.{Ends}
 use Rattle.command_ends.specs.FaultText.{fault_status, fault_told}

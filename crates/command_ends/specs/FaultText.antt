@@ -4,7 +4,7 @@ use Rattle.trace_words.specs.declared.cause.Cause.{Cause}
 use Rattle.trace_words.specs.declared.cause.Cause.TheVariants.{LineTooLong, NotAscii, TooMany, UnknownWord, Misplaced, NoSuch, BadNumber, OutOfRange, Unaligned, Repeated}
 use Rattle.trace_reader.specs.declared.fault.TraceFault.{TraceFault}
 use Rattle.trace_reader.specs.declared.fault.TraceFault.TheVariants as fault
-use Rattle.pager_model.specs.Text.{ended, status_line}
+use Rattle.run_words.specs.Text.{ended, status_line}
 
 -- a cause's name in capitals
 abbrev pub cause_text : Cause → List ℕ

@@ -7,7 +7,7 @@ use Rattle.trace_lines.specs.declared.breach.Breach.{Breach}
 use Rattle.trace_reader.specs.Answer.{IsTaken, HasShown}
 use Rattle.trace_reader.specs.Meaning.{Configuration, Faulty, trace_of, shows_no_fault}
 use Rattle.trace_reader.specs.Meaning as meaning
-use Rattle.pager_model.specs.Text.{status_line}
+use Rattle.run_words.specs.Text.{status_line}
 use Rattle.command_ends.specs.Concludes.{IsOutcome}
 use Rattle.command_ends.specs.FaultText.{fault_text, unfinished_text}
 

@@ -7,7 +7,7 @@ use Rattle.trace_reader.specs.Meaning.{Configuration, trace_of}
 use Rattle.trace_reader.specs.declared.fault.TraceFault.{TraceFault}
 use Rattle.trace_reader.specs.declared.fault.TraceFault.TheVariants as fault
 use Rattle.outside_io.specs.LineText.{line_text}
-use Rattle.pager_model.specs.Text.{ended, status_line}
+use Rattle.run_words.specs.Text.{ended, status_line}
 use Rattle.log_reasons.specs.LineReasons.{IsWhy}
 use Rattle.log_reasons.specs.declared.line_reason.LineReason.{LineReason}
 use Rattle.command_ends.specs.FaultText.{fault_text, unfinished_text}

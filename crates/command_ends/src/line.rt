@@ -1,7 +1,7 @@
 ghost use Rattle.std.specs.Prelude.{◌≡◌, ◌+◌, ◌≤◌, ◌++◌, length, decimal};
 ghost use Rattle.arrayvec.specs.ArrayVec.{array_vec_len};
 ghost use Rattle.outside_io.specs.Writes.{Writes};
-ghost use Rattle.pager_model.specs.Text.{ended};
+ghost use Rattle.run_words.specs.Text.{ended};
 
 use arrayvec::ArrayVec;
 use outside_io::{Sink, WriteFault, write_whole};

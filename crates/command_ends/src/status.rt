@@ -1,6 +1,6 @@
 ghost use Rattle.std.specs.Prelude.{◌≢◌};
 ghost use Rattle.outside_io.specs.Writes.{Writes};
-ghost use Rattle.pager_model.specs.Text.{status_line};
+ghost use Rattle.run_words.specs.Text.{status_line};
 ghost use Rattle.command_ends.specs.Ends.{Ends};
 
 use crate::line::{push_counted, write_line};

@@ -24,7 +24,7 @@ use Rattle.pager_model.specs.Lookups.{count_page}
 use Rattle.pager_model.specs.Maps.{paged_of, section_bytes, shared_of}
 use Rattle.pager_model.specs.Pager.{Pager}
 use Rattle.pager_model.specs.Run.{pager_after}
-use Rattle.pager_model.specs.Text.{is_dirty}
+use Rattle.pager_model.specs.DirtyPages.{is_dirty}
 use Rattle.pager_model.specs.CountedBlock.{IsCountedBlock}
 use Rattle.pager_model.specs.Transfers.{reads_on, writes_on}
 use Rattle.pager_rules.proofs.Basics.{no_failed_read, same_page_refl}

@@ -12,7 +12,7 @@ use Rattle.pager_model.specs.Lookups.{is, shares}
 use Rattle.pager_model.specs.OfConfig.{IsOfConfig}
 use Rattle.pager_model.specs.Pager.{Pager}
 use Rattle.pager_model.specs.Run.{IsRun, pager_after}
-use Rattle.pager_model.specs.Text.{status_line}
+use Rattle.run_words.specs.Text.{status_line}
 use Rattle.pager_model.specs.Transfers.{is_in_flight, reads_on, writes_on}
 use Rattle.pager_rules.proofs.Basics.{count_cons_no, count_cons_yes}
 use Rattle.pager_rules.specs.Kept.{IsKept}

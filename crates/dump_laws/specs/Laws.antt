@@ -4,7 +4,7 @@ use Rattle.vm_types.specs.Configuration.{IsWellFormed}
 use Rattle.vm_types.specs.declared.config.Config.{Config}
 use Rattle.vm_journal.specs.declared.entry.Entry.{Entry}
 use Rattle.pager_model.specs.Run.{IsRun}
-use Rattle.pager_model.specs.Text.{status_line}
+use Rattle.run_words.specs.Text.{status_line}
 use Rattle.dump_bytes.specs.Bounds.{IsDump}
 use Rattle.dump_bytes.specs.Dumped.{Dumped}
 use Rattle.dump_lines.specs.ShowText.{count_line, held_lines, show_text}

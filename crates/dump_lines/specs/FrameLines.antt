@@ -3,7 +3,7 @@
 use Rattle.std.specs.Prelude.{ℕ, ◌+◌, List, [], ◌∷◌, ◌++◌, Option, Some, None, codes, decimal, nat_eq, if◌then◌else◌}
 use Rattle.vm_types.specs.declared.names.Page.{Page}
 use Rattle.vm_text.specs.States.{state_word, mark_text}
-use Rattle.pager_model.specs.Text.{ended}
+use Rattle.run_words.specs.Text.{ended}
 use Rattle.dump_bytes.specs.declared.dump.FrameRec.{FrameRec}
 use Rattle.dump_lines.specs.Codes.{state_of_code}
 use Rattle.dump_lines.specs.PageText.{page_text}

@@ -2,7 +2,7 @@
 use Rattle.std.specs.Prelude.{ℕ, List, ◌++◌, length, codes, decimal}
 use Rattle.std.specs.List.{flat_map}
 use Rattle.vm_text.specs.Names.{frame_text}
-use Rattle.pager_model.specs.Text.{ended}
+use Rattle.run_words.specs.Text.{ended}
 
 abbrev pub list_line : List ℕ → ℕ → List ℕ
 list_line name count = ended (codes "LIST " ++ name ++ codes " " ++ decimal count)

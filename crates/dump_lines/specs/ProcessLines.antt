@@ -3,7 +3,7 @@
 use Rattle.std.specs.Prelude.{ℕ, ◌+◌, ◌*◌, Bool, List, [], ◌∷◌, ◌++◌, codes, count_by, decimal, if◌then◌else◌}
 use Rattle.vm_text.specs.Names.{place_text, process_name}
 use Rattle.vm_text.specs.States.{status_word}
-use Rattle.pager_model.specs.Text.{ended}
+use Rattle.run_words.specs.Text.{ended}
 use Rattle.dump_bytes.specs.declared.dump.SlotRec.{SlotRec}
 use Rattle.dump_bytes.specs.Dumped.{Process}
 use Rattle.dump_lines.specs.Codes.{status_of_code}

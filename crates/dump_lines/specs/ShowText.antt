@@ -1,7 +1,7 @@
 -- The text of a dump: its frames, its page lists, its processes, the page file's three numbers, and the kept numbers
 -- that differ from their recounts, with how many these are. This project's own.
 use Rattle.std.specs.Prelude.{ℕ, List, ◌++◌, length, codes, decimal}
-use Rattle.pager_model.specs.Text.{ended, status_line}
+use Rattle.run_words.specs.Text.{ended, status_line}
 use Rattle.dump_bytes.specs.Dumped.{Dumped}
 use Rattle.dump_lines.specs.Checks.{checks}
 use Rattle.dump_lines.specs.FrameLines.{frame_lines}

@@ -2,7 +2,7 @@
 use Rattle.std.specs.Prelude.{ℕ, List, [], ◌++◌, codes, decimal, if◌then◌else◌}
 use Rattle.std.specs.List.{flat_map}
 use Rattle.vm_text.specs.Names.{frame_text}
-use Rattle.pager_model.specs.Text.{ended}
+use Rattle.run_words.specs.Text.{ended}
 use Rattle.dump_lines.specs.Checks.{Check}
 use Rattle.dump_lines.specs.Wrong.{is_wrong}
 

@@ -3,7 +3,7 @@
 ghost use Rattle.std.specs.Prelude.{◌≡◌, ◌+◌, ◌≤◌, ◌++◌, [], All, length};
 ghost use Rattle.arrayvec.specs.ArrayVec.{array_vec_len};
 ghost use Rattle.outside_io.specs.Writes.{Writes};
-ghost use Rattle.pager_model.specs.Text.{ended};
+ghost use Rattle.run_words.specs.Text.{ended};
 ghost use Rattle.dump_lines.specs.FrameLines.{bad_text, frame_line, frame_lines, held_line, held_text};
 ghost use Rattle.dump_lines.specs.PageText.{page_text};
 ghost use Rattle.dump_lines.specs.Printable.{HasPage, IsPrintableFrame};

@@ -2,7 +2,7 @@
 
 ghost use Rattle.std.specs.Prelude.{◌≡◌, ◌+◌, ◌^◌, ◌<◌, ◌≤◌, ◌++◌, [], All, length, map};
 ghost use Rattle.outside_io.specs.Writes.{Writes};
-ghost use Rattle.pager_model.specs.Text.{ended};
+ghost use Rattle.run_words.specs.Text.{ended};
 ghost use Rattle.arrayvec.specs.ArrayVec.{array_vec_len};
 ghost use Rattle.dump_bytes.specs.Dumped.{process_of};
 ghost use Rattle.dump_lines.specs.Printable.{IsPrintableProcess, IsPrintableSlot};

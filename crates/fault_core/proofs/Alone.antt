@@ -8,7 +8,7 @@ use Rattle.vm_types.specs.Configuration.{IsWellFormed}
 use Rattle.vm_types.specs.declared.config.Config.{Config}
 use Rattle.vm_types.specs.declared.names.BlockId.{BlockId}
 use Rattle.vm_types.specs.declared.names.Page.{Page}
-use Rattle.pager_model.specs.Advance.{following, is_out, window}
+use Rattle.pager_policy.specs.Advance.{following, is_out, window}
 use Rattle.pager_model.specs.Charging.{is_uncharged}
 use Rattle.pager_model.specs.ClusterLength.{cluster_length, leading_out}
 use Rattle.pager_model.specs.Pager.{Pager}

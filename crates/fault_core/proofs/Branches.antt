@@ -11,11 +11,11 @@ use Rattle.vm_types.specs.declared.names.Page.{Page}
 use Rattle.vm_types.specs.declared.reference.Ref.{Ref}
 use Rattle.vm_journal.specs.declared.entry.Entry.{Entry}
 use Rattle.vm_journal.specs.declared.entry.What.TheVariants as what
-use Rattle.pager_model.specs.Advance.{advance_gives, again_block_busy, again_charging, again_collided, again_not_resident, entry_given, frame_given, gives_again, is_busy_block, is_named, limit_given, next_answered, next_more, out_given, read_given, refused_given, replace_given, room_given}
+use Rattle.pager_policy.specs.Advance.{advance_gives, again_block_busy, again_charging, again_collided, again_not_resident, entry_given, frame_given, gives_again, is_busy_block, is_named, limit_given, next_answered, next_more, out_given, read_given, refused_given, replace_given, room_given}
 use Rattle.pager_model.specs.Charging.{is_uncharged}
 use Rattle.pager_model.specs.Flat.{flat_refusal}
 use Rattle.pager_model.specs.Flights.{Flight}
-use Rattle.pager_model.specs.Given.{given, page_address, unsaid}
+use Rattle.pager_policy.specs.Given.{given, page_address, unsaid}
 use Rattle.pager_model.specs.Maps.{pfn, Mapped, is_paged, page_number}
 use Rattle.pager_model.specs.Lookups.{count_page, is_pending, is_resident, page_at, section_at, section_of}
 use Rattle.pager_model.specs.Pager.{Pager, Valid}

@@ -12,9 +12,9 @@ use Rattle.vm_journal.specs.declared.entry.Role.{Role}
 use Rattle.vm_journal.specs.declared.entry.Role.TheVariants as role
 use Rattle.vm_journal.specs.declared.entry.What.{What}
 use Rattle.vm_journal.specs.declared.entry.What.TheVariants as what
-use Rattle.pager_model.specs.Advance.{block_after, cluster_targets, following, frame_given, near_target, near_targets, next_carry, window}
+use Rattle.pager_policy.specs.Advance.{block_after, cluster_targets, following, frame_given, near_target, near_targets, next_carry, window}
 use Rattle.pager_model.specs.ClusterLength.{cluster_length}
-use Rattle.pager_model.specs.Given.{Target, given, page_address, reads_made, reuse_first, unsaid, with_reply}
+use Rattle.pager_policy.specs.Given.{Target, given, page_address, reads_made, reuse_first, unsaid, with_reply}
 use Rattle.pager_model.specs.Maps.{pfn, proc}
 use Rattle.pager_model.specs.Pager.{Pager}
 use Rattle.pager_model.specs.Run.{IsRun}

@@ -15,11 +15,11 @@ use Rattle.vm_types.specs.declared.reference.Ref.{Ref}
 use Rattle.vm_types.specs.declared.reply.Reply.{Reply}
 use Rattle.vm_journal.specs.declared.entry.What.{What}
 use Rattle.vm_journal.specs.declared.entry.What.TheVariants as what
-use Rattle.pager_model.specs.Advance.{again_no_frame, frame_given, gives_again, held_given, next_answered}
+use Rattle.pager_policy.specs.Advance.{again_no_frame, frame_given, gives_again, held_given, next_answered}
 use Rattle.pager_model.specs.Charging.{first_source, is_uncharged}
 use Rattle.pager_model.specs.Around.{past_view}
 use Rattle.pager_model.specs.Forget.{holder}
-use Rattle.pager_model.specs.Given.{given, page_address, reuse_first, unsaid}
+use Rattle.pager_policy.specs.Given.{given, page_address, reuse_first, unsaid}
 use Rattle.pager_model.specs.Lookups.{IsHead, page_by, section_at}
 use Rattle.pager_model.specs.Maps.{Mapped, is_paged, proc}
 use Rattle.pager_model.specs.OfConfig.{IsPageOf}

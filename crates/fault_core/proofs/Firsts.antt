@@ -10,12 +10,12 @@ use Rattle.vm_types.specs.declared.names.Seat.{Seat}
 use Rattle.vm_types.specs.declared.reference.Ref.{Ref}
 use Rattle.vm_types.specs.declared.reply.Why.{Why}
 use Rattle.vm_journal.specs.declared.entry.What.TheVariants as what
-use Rattle.pager_model.specs.Advance.{GivenNext, again_block_busy, again_charging, again_collided, entry_given, fault_given, gives_again, held_given, is_busy_block, is_named, mapped_given, out_given, read_given, next_answered, next_more, refused_given, room_given}
+use Rattle.pager_policy.specs.Advance.{GivenNext, again_block_busy, again_charging, again_collided, entry_given, fault_given, gives_again, held_given, is_busy_block, is_named, mapped_given, out_given, read_given, next_answered, next_more, refused_given, room_given}
 use Rattle.pager_model.specs.Charging.{is_uncharged}
 use Rattle.pager_model.specs.Flat.{flat_refusal}
 use Rattle.pager_model.specs.Flights.{Flight, open_flights}
 use Rattle.pager_model.specs.Forget.{holder}
-use Rattle.pager_model.specs.Given.{given, page_address, unsaid}
+use Rattle.pager_policy.specs.Given.{given, page_address, unsaid}
 use Rattle.pager_model.specs.Lookups.{entry_of, is_resident, page_by, section_at, section_of}
 use Rattle.pager_model.specs.Spoken.{flat_after}
 use Rattle.pager_model.specs.Transfers.{is_read_on}

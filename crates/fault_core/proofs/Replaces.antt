@@ -9,9 +9,9 @@ use Rattle.vm_types.specs.declared.names.Seat.{Seat}
 use Rattle.vm_journal.specs.declared.entry.Entry.{Entry}
 use Rattle.vm_journal.specs.declared.entry.EvictWhy.TheVariants as evict
 use Rattle.vm_journal.specs.declared.entry.What.TheVariants as what
-use Rattle.pager_model.specs.Advance.{again_modified_full, gives_again, next_more, replace_seen}
+use Rattle.pager_policy.specs.Advance.{again_modified_full, gives_again, next_more, replace_seen}
 use Rattle.pager_model.specs.Evict.{victim_of}
-use Rattle.pager_model.specs.Given.{eviction, given, goes_to, is_stopped, page_address, seen_by, seen_in, seen_page}
+use Rattle.pager_policy.specs.Given.{eviction, given, goes_to, is_stopped, page_address, seen_by, seen_in, seen_page}
 use Rattle.pager_model.specs.Lookups.{entry_of, slot_of}
 use Rattle.pager_model.specs.Maps.{proc}
 use Rattle.pager_model.specs.Pager.{Pager, Valid}

@@ -12,10 +12,10 @@ use Rattle.vm_types.specs.declared.reply.Reply.TheVariants as reply
 use Rattle.vm_types.specs.declared.reply.Why.{Why}
 use Rattle.vm_journal.specs.declared.entry.What.{What}
 use Rattle.vm_journal.specs.declared.entry.What.TheVariants as what
-use Rattle.pager_model.specs.Advance.{AgainWhy as Reason, GivenNext, NextIs, gives_again, next_again, next_answered, next_carry, next_more}
+use Rattle.pager_policy.specs.Advance.{AgainWhy as Reason, GivenNext, NextIs, gives_again, next_again, next_answered, next_carry, next_more}
 use Rattle.pager_model.specs.Flat.{FlatState, flat_refusal, flat_reply, found_at, mapping_of, offset_in_page, reply_from, reply_unless}
 use Rattle.pager_model.specs.Flights.{fails_read, open_flights}
-use Rattle.pager_model.specs.Given.{by_seat, given, reuse_first, unsaid, with_reply}
+use Rattle.pager_policy.specs.Given.{by_seat, given, reuse_first, unsaid, with_reply}
 use Rattle.pager_model.specs.Maps.{pfn}
 use Rattle.pager_model.specs.Spoken.{flat_after}
 use Rattle.call_laws.specs.AreLegal.{IsLegalNext}

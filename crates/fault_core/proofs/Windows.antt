@@ -12,7 +12,7 @@ use Rattle.vm_types.specs.declared.names.BlockId.{BlockId}
 use Rattle.vm_types.specs.declared.names.BlockId.TheVariants as block
 use Rattle.vm_types.specs.declared.names.Page.{Page}
 use Rattle.vm_types.specs.declared.names.Page.TheVariants.{Private, Shared}
-use Rattle.pager_model.specs.Advance.{following, is_out, window}
+use Rattle.pager_policy.specs.Advance.{following, is_out, window}
 use Rattle.pager_model.specs.Charging.{is_uncharged}
 use Rattle.vm_types.specs.Adjust.{greater, lesser}
 use Rattle.pager_model.specs.ClusterLength.{cluster_length, leading_out}

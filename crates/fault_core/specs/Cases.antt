@@ -3,7 +3,7 @@ use Rattle.std.specs.Prelude.{◌≡◌, ℕ, ◌<◌, true, Option, length, nat
 use Rattle.vm_types.specs.declared.names.BlockId.{BlockId}
 use Rattle.vm_types.specs.declared.names.Seat.{Seat}
 use Rattle.vm_types.specs.declared.reference.Ref.{Ref}
-use Rattle.pager_model.specs.Advance.{GivenNext, advance_gives, entry_given, fault_given, frame_given, held_given, mapped_given, out_given, read_given, refused_given, replace_given, room_given, source_of}
+use Rattle.pager_policy.specs.Advance.{GivenNext, advance_gives, entry_given, fault_given, frame_given, held_given, mapped_given, out_given, read_given, refused_given, replace_given, room_given, source_of}
 use Rattle.pager_model.specs.Flat.{flat_refusal}
 use Rattle.pager_model.specs.Flights.{open_flights}
 use Rattle.pager_model.specs.Forget.{holder}

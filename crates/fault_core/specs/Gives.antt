@@ -11,9 +11,9 @@ use Rattle.vm_types.specs.declared.reply.Reply.TheVariants as reply
 use Rattle.vm_journal.specs.declared.entry.Entry.{Entry}
 use Rattle.vm_journal.specs.declared.entry.What.{What}
 use Rattle.vm_journal.specs.declared.entry.What.TheVariants as what
-use Rattle.pager_model.specs.Advance.{AgainWhy as Reason, GivenNext, NextIs, again_block_busy, again_charging, again_collided, again_modified_full, again_no_frame, again_not_resident, next_again, next_answered, next_carry, next_more}
+use Rattle.pager_policy.specs.Advance.{AgainWhy as Reason, GivenNext, NextIs, again_block_busy, again_charging, again_collided, again_modified_full, again_no_frame, again_not_resident, next_again, next_answered, next_carry, next_more}
 use Rattle.pager_model.specs.Flat.{flat_reply}
-use Rattle.pager_model.specs.Given.{with_reply}
+use Rattle.pager_policy.specs.Given.{with_reply}
 use Rattle.pager_model.specs.Spoken.{flat_after}
 use Rattle.call_laws.specs.AreLegal.{AreLegal}
 use Rattle.call_begins.specs.MayBegin.{empty}

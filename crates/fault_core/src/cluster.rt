@@ -2,7 +2,7 @@ ghost use Rattle.std.specs.Prelude.{◌≡◌, ◌+◌, ◌≤◌, ◌<◌, ◌^
 ghost use Rattle.vm_types.specs.Configuration.{IsBlock, IsWellFormed};
 ghost use Rattle.vm_types.specs.declared.names.BlockId.TheVariants as block;
 ghost use Rattle.vm_types.specs.declared.names.Page.{Page};
-ghost use Rattle.pager_model.specs.Advance.{block_after, following, following_owner, following_shared, is_out, owner_of, window};
+ghost use Rattle.pager_policy.specs.Advance.{block_after, following, following_owner, following_shared, is_out, owner_of, window};
 ghost use Rattle.pager_model.specs.Lying.{lies_in};
 ghost use Rattle.pager_model.specs.Charging.{is_uncharged};
 ghost use Rattle.pager_model.specs.ClusterLength.{cluster_length};

@@ -1,9 +1,9 @@
 ghost use Rattle.std.specs.Prelude.{◌≡◌, ◌+◌, ◌<◌, ◌≤◌, ◌&&◌, ◌∷◌, ◌++◌, [], Some, None, length, map, not, if◌then◌else◌};
 ghost use Rattle.vm_types.specs.Configuration.{IsBlock};
 ghost use Rattle.vm_types.specs.declared.names.BlockId.{BlockId};
-ghost use Rattle.pager_model.specs.Advance.{is_busy_block};
+ghost use Rattle.pager_policy.specs.Advance.{is_busy_block};
 ghost use Rattle.pager_model.specs.Forget.{holder};
-ghost use Rattle.pager_model.specs.Given.{reuse_first};
+ghost use Rattle.pager_policy.specs.Given.{reuse_first};
 ghost use Rattle.pager_model.specs.Lookups.{IsHead};
 ghost use Rattle.pager_model.specs.Maps.{is_paged};
 ghost use Rattle.call_laws.specs.AreLegal.{AreLegal};

@@ -2,7 +2,7 @@ ghost use Rattle.std.specs.Prelude.{◌≡◌, ◌+◌, ◌<◌, ◌≤◌, ◌�
 ghost use Rattle.vm_types.specs.WellFormed.{IsWellFormedReference};
 ghost use Rattle.vm_types.specs.declared.reply.Why.{Why};
 ghost use Rattle.vm_journal.specs.declared.entry.What.{What};
-ghost use Rattle.pager_model.specs.Advance.{advance_gives};
+ghost use Rattle.pager_policy.specs.Advance.{advance_gives};
 ghost use Rattle.pager_model.specs.Lookups.{is_resident};
 ghost use Rattle.vm_state.specs.History.{MayAdd, added, entry_by, owed, pager};
 ghost use Rattle.call_begins.specs.MayBegin.{empty};

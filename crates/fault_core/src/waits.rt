@@ -1,8 +1,8 @@
 ghost use Rattle.std.specs.Prelude.{◌≡◌, ◌<◌, ◌&&◌, Some, false, find, length, nat_eq, nat_le};
-ghost use Rattle.pager_model.specs.Advance.{is_named};
+ghost use Rattle.pager_policy.specs.Advance.{is_named};
 ghost use Rattle.pager_model.specs.Evict.{evicted_to, victim_of};
 ghost use Rattle.pager_model.specs.Forget.{holder};
-ghost use Rattle.pager_model.specs.Given.{goes_to, is_stopped, page_address};
+ghost use Rattle.pager_policy.specs.Given.{goes_to, is_stopped, page_address};
 ghost use Rattle.pager_model.specs.Maps.{page_number};
 ghost use Rattle.vm_state.specs.History.{pager};
 ghost use Rattle.fault_core.specs.Cases.{at_read, at_replace};

@@ -6,7 +6,7 @@ use Rattle.vm_types.specs.declared.faults.Failed.{Failed}
 use Rattle.outside_io.specs.declared.lines.Line.{Line}
 use Rattle.outside_io.specs.declared.lines.Line.TheVariants.{End, Long, Text}
 use Rattle.outside_io.specs.HandedOut.{Gives, HandsOut, Takes}
-use Rattle.pager_model.specs.Text.{ended}
+use Rattle.run_words.specs.Text.{ended}
 use Rattle.log_model.specs.Log.{BeginsLegal, IsAtFault, IsTooLong, most_lines}
 use Rattle.log_laws.specs.Laws.{LegalLinesAreShort}
 use Rattle.log_reasons.specs.LineReasons.{IsWhy}

@@ -16,7 +16,8 @@ use Rattle.entry_lines.proofs.OneToOne.{line_same}
 use Rattle.outside_io.specs.LineText.{lines_of}
 use Rattle.outside_io.proofs.Fronts.{line_first}
 use Rattle.pager_model.specs.Run.{pager_after}
-use Rattle.pager_model.specs.Text.{dirty_lines, dirty_pages, ended, status_line}
+use Rattle.run_words.specs.Text.{dirty_lines, ended, status_line}
+use Rattle.pager_model.specs.DirtyPages.{dirty_pages}
 use Rattle.log_model.specs.NextLine.{IsFirstLine}
 use Rattle.log_model.specs.Stand.{ending_after, report_after, status_of}
 use Rattle.log_check.specs.EntryLine.{IsItsLine}

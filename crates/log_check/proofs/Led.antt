@@ -6,7 +6,7 @@ use Rattle.vm_types.specs.declared.config.Config.{Config}
 use Rattle.vm_journal.specs.declared.entry.Entry.{Entry}
 use Rattle.vm_journal.specs.HasLine.{IsEntryNumber}
 use Rattle.pager_model.specs.Run.{IsRun, pager_after}
-use Rattle.pager_model.specs.Serial.{IsRundown}
+use Rattle.pager_policy.specs.Serial.{IsRundown}
 use Rattle.pager_model.specs.Spoken.{flat_after}
 use Rattle.pager_model.specs.Step.{IsLegal}
 use Rattle.log_history.specs.Standing.{Passed}

@@ -7,7 +7,7 @@ use Rattle.std.proofs.lemmas.List.Elements.{All-nil, recursion_from_All}
 use Rattle.vm_types.specs.Configuration.{IsWellFormed}
 use Rattle.vm_types.specs.declared.config.Config.{Config}
 use Rattle.outside_io.specs.HandedOut.{IsInLine}
-use Rattle.pager_model.specs.Text.{ended}
+use Rattle.run_words.specs.Text.{ended}
 use Rattle.log_history.specs.Standing.{Passed}
 use Rattle.log_model.specs.Log.{BeginsLegal, HasNoNext, IsAtFault, most_lines, text_of}
 use Rattle.log_model.specs.NextLine.{IsFirstLine, IsNext}

@@ -17,7 +17,7 @@ use Rattle.vm_journal.specs.declared.entry.What.TheVariants as what
 use Rattle.pager_model.specs.Flat.{FlatState}
 use Rattle.pager_model.specs.Flights.{Flight}
 use Rattle.pager_model.specs.Order.{IsInOrder, answered, spoken_by}
-use Rattle.pager_model.specs.Rundown.{writer_of}
+use Rattle.pager_policy.specs.Rundown.{writer_of}
 use Rattle.pager_model.specs.Spoken.{ShowsReply, request_of}
 use Rattle.log_laws.specs.Underway.{Onward, Plan, Underway, after_landings, between_moves, evicts, in_landings, in_outs, is_made, landed_as, no_move, plan_at, same_made, shown_as, step, step_landings, step_outs, step_plan, writes}
 

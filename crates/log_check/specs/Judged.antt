@@ -3,7 +3,7 @@ use Rattle.std.specs.Prelude.{◌≡◌, ◌≢◌, ◌⊎◌, ℕ, ◌≤◌, L
 use Rattle.vm_types.specs.Counts.{Rose}
 use Rattle.vm_types.specs.declared.config.Config.{Config}
 use Rattle.outside_io.specs.LineText.{line_text}
-use Rattle.pager_model.specs.Text.{ended}
+use Rattle.run_words.specs.Text.{ended}
 use Rattle.log_model.specs.Log.{BeginsLegal, IsAtFault, IsLegalLog, IsTooLong, most_lines}
 use Rattle.log_model.specs.Stand.{Stand}
 use Rattle.log_reasons.specs.LineReasons.{IsWhy}

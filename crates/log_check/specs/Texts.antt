@@ -1,6 +1,6 @@
 -- A line taken off a text. This project's own.
 use Rattle.std.specs.Prelude.{◌≡◌, ℕ, Bool, true, false, List, ◌++◌}
-use Rattle.pager_model.specs.Text.{ended}
+use Rattle.run_words.specs.Text.{ended}
 
 -- the text begins with the line and the byte 10 behind it
 abbrev pub Begins : List ℕ → List ℕ → Type 0

@@ -7,7 +7,8 @@ use Rattle.vm_journal.specs.declared.entry.Entry.{Entry}
 use Rattle.vm_journal.specs.Line.{line_text}
 use Rattle.pager_model.specs.Report.{ProcessRow, Report, report_of}
 use Rattle.pager_model.specs.Run.{pager_after}
-use Rattle.pager_model.specs.Text.{dirty_lines, dirty_pages, ended, entry_lines, frame_lines, page_file_text, process_lines, process_text, states_text, status_line}
+use Rattle.run_words.specs.Text.{dirty_lines, ended, entry_lines, frame_lines, page_file_text, process_lines, process_text, states_text, status_line}
+use Rattle.pager_model.specs.DirtyPages.{dirty_pages}
 use Rattle.log_model.specs.Stand.{ending_after, report_after, status_of}
 use Rattle.log_laws.proofs.Texts.{EndsLine, IsOfLines, behind_ends, both_end, ended_ends}
 

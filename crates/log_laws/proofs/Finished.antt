@@ -6,14 +6,14 @@ use Rattle.std.proofs.lemmas.Option.{cond_some, none-some, same_Some}
 use Rattle.vm_types.specs.declared.config.Config.{Config}
 use Rattle.vm_journal.specs.declared.entry.Entry.{Entry}
 use Rattle.vm_journal.specs.declared.entry.What.{What}
-use Rattle.pager_model.specs.Cleaning.{Cleaning, evicting}
+use Rattle.pager_policy.specs.Cleaning.{Cleaning, evicting}
 use Rattle.pager_model.specs.Flights.{Flight, open_flights, carrier_of}
-use Rattle.pager_model.specs.Given.{by_seat, made_by, unsaid}
-use Rattle.pager_model.specs.Landings.{Outcome, all_bad, landed_by, went_well}
-use Rattle.pager_model.specs.Moves.{Move, cleaning, control}
+use Rattle.pager_policy.specs.Given.{by_seat, made_by, unsaid}
+use Rattle.pager_policy.specs.Landings.{Outcome, all_bad, landed_by, went_well}
+use Rattle.pager_policy.specs.Moves.{Move, cleaning, control}
 use Rattle.pager_model.specs.Run.{IsRun, pager_after}
-use Rattle.pager_model.specs.Rundown.{at_slot, cleaning_move, writer_of}
-use Rattle.pager_model.specs.Serial.{Heard, IsMade, IsReached}
+use Rattle.pager_policy.specs.Rundown.{at_slot, cleaning_move, writer_of}
+use Rattle.pager_policy.specs.Serial.{Heard, IsMade, IsReached}
 use Rattle.serial_laws.specs.Between.{IsBetween}
 use Rattle.serial_laws.proofs.Writes.{Writes}
 use Rattle.log_laws.specs.Underway.{Onward, Underway, after_landings, after_outs, between_moves, in_landings, in_outs, is_made, landed_as, plan_of, step, step_from, step_landings, step_outs, step_plan, underway_after}

@@ -5,12 +5,12 @@ use Rattle.vm_types.specs.declared.config.Task.{Task}
 use Rattle.vm_journal.specs.declared.entry.Entry.{Entry}
 use Rattle.vm_journal.specs.declared.entry.What.{What}
 use Rattle.pager_model.specs.Flights.{Flight, carrier_of}
-use Rattle.pager_model.specs.Given.{by_seat, made_by, with_reply}
-use Rattle.pager_model.specs.Landings.{Outcome, all_bad, first_bad, landed_by, landing}
-use Rattle.pager_model.specs.Moves.{After, Control, Move, carries, goes, makes, refuses, rests}
-use Rattle.pager_model.specs.Policy.{move_of, next_task}
+use Rattle.pager_policy.specs.Given.{by_seat, made_by, with_reply}
+use Rattle.pager_policy.specs.Landings.{Outcome, all_bad, first_bad, landed_by, landing}
+use Rattle.pager_policy.specs.Moves.{After, Control, Move, carries, goes, makes, refuses, rests}
+use Rattle.pager_policy.specs.Policy.{move_of, next_task}
 use Rattle.pager_model.specs.Run.{IsRun, pager_after}
-use Rattle.pager_model.specs.Serial.{GoesOn, Heard, IsMade, IsMove, IsRefused, refusal_of}
+use Rattle.pager_policy.specs.Serial.{GoesOn, Heard, IsMade, IsMove, IsRefused, refusal_of}
 
 -- the list is the past with later entries on it
 pub record Grows (past more : List Entry) : Type 0 where

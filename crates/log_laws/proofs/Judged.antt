@@ -2,7 +2,7 @@
 use Rattle.std.proofs.Common.{◌≡◌, ◌≢◌, ◌⊎◌, inl, inr, ℕ, zero, suc, ◌+◌, ◌<◌, ◌≤◌, List, [], ◌∷◌, ◌++◌, length, refl, sym, ap, ◌∙◌, subst, append_assoc, arith, length-append}
 use Rattle.std.proofs.lemmas.Bool.{cases_lt}
 use Rattle.vm_types.specs.declared.config.Config.{Config}
-use Rattle.pager_model.specs.Text.{ended}
+use Rattle.run_words.specs.Text.{ended}
 use Rattle.log_model.specs.Log.{AreLegal, BeginsLegal, HasNoNext, most_lines, text_of}
 use Rattle.log_model.specs.NextLine.{IsFirstLine, IsNext}
 use Rattle.log_model.specs.Stand.{Stand, in_ending, in_entries, in_report, in_rundown}

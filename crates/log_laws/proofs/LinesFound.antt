@@ -6,10 +6,11 @@ use Rattle.vm_journal.specs.declared.entry.Entry.{Entry}
 use Rattle.vm_journal.specs.Line.{line_text}
 use Rattle.pager_model.specs.Order.{IsInOrder, spoken_by}
 use Rattle.pager_model.specs.Run.{IsRun, pager_after}
-use Rattle.pager_model.specs.Rundown.{at_slot}
-use Rattle.pager_model.specs.Serial.{IsReached}
+use Rattle.pager_policy.specs.Rundown.{at_slot}
+use Rattle.pager_policy.specs.Serial.{IsReached}
 use Rattle.pager_model.specs.Spoken.{request_of}
-use Rattle.pager_model.specs.Text.{dirty_lines, dirty_pages, ended, status_line}
+use Rattle.run_words.specs.Text.{dirty_lines, ended, status_line}
+use Rattle.pager_model.specs.DirtyPages.{dirty_pages}
 use Rattle.log_model.specs.Log.{AreLegal, BeginsLegal, IsLegalLog, IsTextOfRun, IsTooLong, most_lines, text_of}
 use Rattle.log_model.specs.NextLine.{AreRundownFirst, IsNext}
 use Rattle.log_model.specs.Stand.{Stand, ending_after, in_ending, in_entries, in_report, in_rundown, report_after, reported, status_of}

@@ -13,10 +13,10 @@ use Rattle.vm_journal.specs.declared.entry.What.{What}
 use Rattle.vm_journal.specs.declared.entry.What.TheVariants as what
 use Rattle.pager_model.specs.Counted.{last_count}
 use Rattle.pager_model.specs.Flights.{Flight}
-use Rattle.pager_model.specs.Given.{by_seat}
+use Rattle.pager_policy.specs.Given.{by_seat}
 use Rattle.pager_model.specs.Maps.{pfn}
-use Rattle.pager_model.specs.Landings.{Outcome, is_bad_outcome, went_badly, went_well}
-use Rattle.pager_model.specs.Rundown.{writer_of}
+use Rattle.pager_policy.specs.Landings.{Outcome, is_bad_outcome, went_badly, went_well}
+use Rattle.pager_policy.specs.Rundown.{writer_of}
 use Rattle.pager_rules.proofs.Basics.{nat_eq_refl, states_equal}
 use Rattle.pager_rules.proofs.Put.{blocks_equal}
 use Rattle.pager_laws.proofs.KeptIsSound.{same_block_refl}

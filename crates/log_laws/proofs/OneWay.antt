@@ -17,7 +17,8 @@ use Rattle.vm_journal.specs.Line.{entry_words, line_text}
 use Rattle.entry_lines.proofs.LineWords.{entry_blankless}
 use Rattle.entry_lines.proofs.OneToOne.{line_same}
 use Rattle.pager_model.specs.Run.{pager_after}
-use Rattle.pager_model.specs.Text.{dirty_lines, dirty_pages, status_line}
+use Rattle.run_words.specs.Text.{dirty_lines, status_line}
+use Rattle.pager_model.specs.DirtyPages.{dirty_pages}
 use Rattle.log_model.specs.Log.{AreLegal, most_lines}
 use Rattle.log_model.specs.NextLine.{IsFirstLine, IsNext}
 use Rattle.log_model.specs.Stand.{Stand, ending_after, in_ending, in_entries, in_report, in_rundown, report_after, reported, status_of}

@@ -7,12 +7,12 @@ use Rattle.vm_types.specs.declared.reply.Reply.{Reply}
 use Rattle.vm_journal.specs.declared.entry.Entry.{Entry}
 use Rattle.vm_journal.specs.declared.entry.EvictWhy.TheVariants as evict
 use Rattle.vm_journal.specs.declared.entry.What.{What}
-use Rattle.pager_model.specs.Cleaning.{Cleaning, evicting, rounds}
-use Rattle.pager_model.specs.Given.{Seen, eviction, goes_to, is_stopped, page_address, seen_at, with_reply}
-use Rattle.pager_model.specs.Moves.{Move, carries, cleaning, control, goes, makes, rests}
+use Rattle.pager_policy.specs.Cleaning.{Cleaning, evicting, rounds}
+use Rattle.pager_policy.specs.Given.{Seen, eviction, goes_to, is_stopped, page_address, seen_at, with_reply}
+use Rattle.pager_policy.specs.Moves.{Move, carries, cleaning, control, goes, makes, rests}
 use Rattle.pager_model.specs.Pager.{Pager}
 use Rattle.pager_model.specs.Run.{pager_after}
-use Rattle.pager_model.specs.Rundown.{Place, at_slot, clean_move, cleaning_move, holds_shared, is_shared_listed, later_move, next_round, place_move, round_move, rounds_move, shared_place, writer_of, written_for_need}
+use Rattle.pager_policy.specs.Rundown.{Place, at_slot, clean_move, cleaning_move, holds_shared, is_shared_listed, later_move, next_round, place_move, round_move, rounds_move, shared_place, writer_of, written_for_need}
 use Rattle.serial_laws.specs.Between.{IsBetween}
 use Rattle.serial_laws.proofs.Begins.{IsWriting, need_writing, stopped_some}
 use Rattle.log_laws.specs.Underway.{same_made}

@@ -5,20 +5,20 @@ use Rattle.vm_types.specs.declared.service.Request.{Request}
 use Rattle.vm_journal.specs.declared.entry.Entry.{Entry}
 use Rattle.vm_journal.specs.declared.entry.What.{What}
 use Rattle.vm_journal.specs.declared.entry.What.TheVariants as what
-use Rattle.pager_model.specs.Cleaning.{Cleaning, evicting, rounds}
+use Rattle.pager_policy.specs.Cleaning.{Cleaning, evicting, rounds}
 use Rattle.pager_model.specs.Flat.{FlatState}
-use Rattle.pager_model.specs.Given.{Seen, is_stopped, made_by, seen_at, with_reply}
-use Rattle.pager_model.specs.Landings.{all_bad, first_bad, landed_by}
+use Rattle.pager_policy.specs.Given.{Seen, is_stopped, made_by, seen_at, with_reply}
+use Rattle.pager_policy.specs.Landings.{all_bad, first_bad, landed_by}
 use Rattle.pager_model.specs.Flights.{carrier_of}
-use Rattle.pager_model.specs.Moves.{After, Control, Move, carries, cleaning, control, goes, makes, rests}
+use Rattle.pager_policy.specs.Moves.{After, Control, Move, carries, cleaning, control, goes, makes, rests}
 use Rattle.pager_model.specs.Order.{answered, spoken_by}
 use Rattle.pager_model.specs.Pager.{Pager}
-use Rattle.pager_model.specs.Policy.{move_of}
+use Rattle.pager_policy.specs.Policy.{move_of}
 use Rattle.pager_model.specs.Run.{pager_after}
-use Rattle.pager_model.specs.Rundown.{Place, at_slot, clean_move, cleaning_move, is_shared_listed, later_move, next_round, place_move, rounds_move, shared_place, written_for_need}
-use Rattle.pager_model.specs.Serial.{GoesOn, Heard, IsMade, IsReached}
+use Rattle.pager_policy.specs.Rundown.{Place, at_slot, clean_move, cleaning_move, is_shared_listed, later_move, next_round, place_move, rounds_move, shared_place, written_for_need}
+use Rattle.pager_policy.specs.Serial.{GoesOn, Heard, IsMade, IsReached}
 use Rattle.pager_model.specs.Spoken.{IsRight, ShowsReply, flat_after, request_of}
-use Rattle.pager_model.specs.WriteCluster.{reason_need}
+use Rattle.pager_policy.specs.WriteCluster.{reason_need}
 use Rattle.pager_laws.proofs.CallsSay.{begin_silent}
 use Rattle.pager_laws.proofs.Said.{IsSilentStep, Silent, landed_silent, said_shown, silent_made, silent_then}
 use Rattle.pager_rules.proofs.Basics.{nat_eq_refl}

@@ -1,6 +1,6 @@
 -- Texts whose lines have at most 255 bytes, put together and read line by line.
 use Rattle.std.proofs.Common.{◌≡◌, ◌≢◌, ℕ, ◌+◌, ◌-◌, ◌<◌, ◌≤◌, List, [], ◌∷◌, ◌++◌, length, refl, sym, subst, append_assoc, append-nil, arith}
-use Rattle.pager_model.specs.Text.{ended}
+use Rattle.run_words.specs.Text.{ended}
 use Rattle.log_model.specs.NextLine.{IsFirstLine}
 use Rattle.log_laws.proofs.Texts.{IsPlain, line_joined, plain_line}
 

@@ -6,9 +6,10 @@ use Rattle.vm_journal.specs.Line.{line_text}
 use Rattle.pager_model.specs.Flights.{awaits_reuse, open_flights}
 use Rattle.pager_model.specs.Order.{IsAnswered, IsInOrder, requests_of}
 use Rattle.pager_model.specs.Run.{IsRun, pager_after}
-use Rattle.pager_model.specs.Serial.{IsWhole}
+use Rattle.pager_policy.specs.Serial.{IsWhole}
 use Rattle.pager_model.specs.Spoken.{IsRight}
-use Rattle.pager_model.specs.Text.{dirty_lines, dirty_pages, ended, entry_lines, run_text, status_line}
+use Rattle.run_words.specs.Text.{dirty_lines, ended, entry_lines, run_text, status_line}
+use Rattle.pager_model.specs.DirtyPages.{dirty_pages}
 use Rattle.log_model.specs.Log.{AreLegal, IsLegalLog, IsTextOfRun, text_of}
 use Rattle.log_model.specs.NextLine.{BeginsEnding, BeginsReport, IsFirstLine, IsNext, IsNextEntry, IsNextRundown}
 use Rattle.log_model.specs.Stand.{Stand, ending_after, in_ending, in_entries, in_report, in_rundown, report_after, reported, status_of}

@@ -27,7 +27,8 @@ use Rattle.pager_model.specs.OfConfig.{IsMappable, IsOfConfig, IsPageOf}
 use Rattle.pager_model.specs.Pager.{Pager}
 use Rattle.pager_model.specs.Report.{FrameRow, ProcessRow, Report, all_states, frame_row, frame_rows, in_state, pins_on, process_row, refs_of, report_of}
 use Rattle.pager_model.specs.Run.{IsRun, pager_after}
-use Rattle.pager_model.specs.Text.{dirty_lines, dirty_pages, empty_text, ended, frame_line, frame_lines, held_text, is_dirty, page_file_text, pages_from, process_lines, process_text, states_text, status_line}
+use Rattle.run_words.specs.Text.{dirty_lines, empty_text, ended, frame_line, frame_lines, held_text, page_file_text, process_lines, process_text, states_text, status_line}
+use Rattle.pager_model.specs.DirtyPages.{dirty_pages, is_dirty, pages_from}
 use Rattle.pager_model.specs.Transfers.{reads_on, writes_on}
 use Rattle.pager_rules.specs.Kept.{IsKept}
 use Rattle.pager_laws.proofs.OfConfigKept.{run_right}

@@ -9,14 +9,14 @@ use Rattle.vm_types.specs.declared.config.Config.{Config}
 use Rattle.vm_journal.specs.declared.entry.Entry.{Entry}
 use Rattle.vm_journal.specs.declared.entry.What.{What}
 use Rattle.vm_journal.specs.declared.entry.What.TheVariants as what
-use Rattle.pager_model.specs.Cleaning.{Cleaning, evicting}
+use Rattle.pager_policy.specs.Cleaning.{Cleaning, evicting}
 use Rattle.pager_model.specs.Flights.{Flight, open_flights, carrier_of}
-use Rattle.pager_model.specs.Given.{by_seat, made_by}
-use Rattle.pager_model.specs.Landings.{Outcome, all_bad, is_bad_outcome, landed_by}
-use Rattle.pager_model.specs.Moves.{Control, Move, carries, cleaning, control, goes, makes}
+use Rattle.pager_policy.specs.Given.{by_seat, made_by}
+use Rattle.pager_policy.specs.Landings.{Outcome, all_bad, is_bad_outcome, landed_by}
+use Rattle.pager_policy.specs.Moves.{Control, Move, carries, cleaning, control, goes, makes}
 use Rattle.pager_model.specs.Run.{IsRun, pager_after}
-use Rattle.pager_model.specs.Rundown.{at_slot, cleaning_move, writer_of}
-use Rattle.pager_model.specs.Serial.{Heard, IsMade, IsMove, IsReached}
+use Rattle.pager_policy.specs.Rundown.{at_slot, cleaning_move, writer_of}
+use Rattle.pager_policy.specs.Serial.{Heard, IsMade, IsMove, IsReached}
 use Rattle.serial_laws.specs.Between.{IsBetween}
 use Rattle.serial_laws.proofs.Kept.{moves_between}
 use Rattle.serial_laws.proofs.Rundowns.{cleaning_fits}

@@ -7,12 +7,12 @@ use Rattle.std.proofs.lemmas.List.{append_cancel_right}
 use Rattle.std.proofs.lemmas.Option.{same_Some}
 use Rattle.vm_types.specs.declared.config.Config.{Config}
 use Rattle.vm_journal.specs.declared.entry.Entry.{Entry}
-use Rattle.pager_model.specs.Cleaning.{Cleaning}
-use Rattle.pager_model.specs.Moves.{Move, cleaning, control, rests}
-use Rattle.pager_model.specs.Policy.{move_of}
+use Rattle.pager_policy.specs.Cleaning.{Cleaning}
+use Rattle.pager_policy.specs.Moves.{Move, cleaning, control, rests}
+use Rattle.pager_policy.specs.Policy.{move_of}
 use Rattle.pager_model.specs.Run.{IsRun, pager_after}
-use Rattle.pager_model.specs.Rundown.{at_slot, cleaning_move}
-use Rattle.pager_model.specs.Serial.{IsReached, IsRundown}
+use Rattle.pager_policy.specs.Rundown.{at_slot, cleaning_move}
+use Rattle.pager_policy.specs.Serial.{IsReached, IsRundown}
 use Rattle.log_model.specs.NextLine.{AreRundownFirst}
 use Rattle.serial_laws.specs.Between.{IsBetween}
 use Rattle.log_laws.specs.Underway.{IsAtRest, Plan, Underway, between_moves, evicts, in_landings, in_outs, no_move, plan_at, plan_of, step, step_from, underway_after, writes}

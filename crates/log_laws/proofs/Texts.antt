@@ -3,7 +3,7 @@ use Rattle.std.proofs.Common.{◌≡◌, ◌≢◌, ◌⊎◌, inl, inr, ℕ, �
 use Rattle.std.specs.List.{AllByRecursion}
 use Rattle.std.proofs.lemmas.Bool.{cases_eq}
 use Rattle.std.proofs.lemmas.List.Elements.{All-from_recursion, recursion_from_All}
-use Rattle.pager_model.specs.Text.{ended}
+use Rattle.run_words.specs.Text.{ended}
 use Rattle.log_model.specs.Log.{text_of}
 use Rattle.log_model.specs.NextLine.{IsFirstLine}
 use Rattle.log_laws.specs.Laws.{lines_in}

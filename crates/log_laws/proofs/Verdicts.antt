@@ -7,7 +7,7 @@ use Rattle.vm_types.specs.Configuration.{IsWellFormed}
 use Rattle.vm_types.specs.declared.config.Config.{Config}
 use Rattle.vm_text.specs.Named.{AreNames}
 use Rattle.vm_text.proofs.Printable.{config_names}
-use Rattle.pager_model.specs.Text.{ended}
+use Rattle.run_words.specs.Text.{ended}
 use Rattle.log_model.specs.Log.{AreLegal, BeginsLegal, IsAtFault, IsLegalLog, IsTextOfRun, IsTooLong, most_lines, text_of}
 use Rattle.log_model.specs.NextLine.{IsFirstLine, IsNext}
 use Rattle.log_model.specs.Stand.{Stand, in_ending}

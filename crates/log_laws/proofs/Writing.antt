@@ -8,8 +8,8 @@ use Rattle.vm_journal.specs.declared.entry.Entry.{Entry}
 use Rattle.vm_journal.specs.declared.entry.What.{What}
 use Rattle.vm_journal.specs.declared.entry.What.TheVariants as what
 use Rattle.pager_model.specs.Flights.{Direction, Flight, flights_with, open_flights, writing, carrier_of}
-use Rattle.pager_model.specs.Given.{by_seat, made_by}
-use Rattle.pager_model.specs.Landings.{Outcome, landing, went_badly, went_well}
+use Rattle.pager_policy.specs.Given.{by_seat, made_by}
+use Rattle.pager_policy.specs.Landings.{Outcome, landing, went_badly, went_well}
 use Rattle.pager_model.specs.Run.{pager_after}
 use Rattle.pager_rules.proofs.Lists.{all_filter}
 use Rattle.serial_laws.proofs.Writes.{IsWrite, is_out_entry}

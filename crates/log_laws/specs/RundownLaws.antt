@@ -3,11 +3,11 @@ use Rattle.std.specs.Prelude.{◌≡◌, ◌↔◌, List, ◌∷◌, ◌++◌, S
 use Rattle.std.specs.Option.{IsSome}
 use Rattle.vm_types.specs.declared.config.Config.{Config}
 use Rattle.vm_journal.specs.declared.entry.Entry.{Entry}
-use Rattle.pager_model.specs.Cleaning.{Cleaning}
-use Rattle.pager_model.specs.Moves.{rests}
+use Rattle.pager_policy.specs.Cleaning.{Cleaning}
+use Rattle.pager_policy.specs.Moves.{rests}
 use Rattle.pager_model.specs.Run.{IsRun, pager_after}
-use Rattle.pager_model.specs.Rundown.{cleaning_move}
-use Rattle.pager_model.specs.Serial.{IsRundown}
+use Rattle.pager_policy.specs.Rundown.{cleaning_move}
+use Rattle.pager_policy.specs.Serial.{IsRundown}
 use Rattle.log_model.specs.NextLine.{AreRundownFirst}
 use Rattle.serial_laws.specs.Between.{IsBetween}
 use Rattle.log_laws.specs.Underway.{IsAtRest, Underway, no_move, plan_at, step, underway_after}

@@ -7,12 +7,12 @@ use Rattle.vm_journal.specs.declared.entry.Entry.{Entry}
 use Rattle.vm_journal.specs.declared.entry.EvictWhy.TheVariants as evict
 use Rattle.vm_journal.specs.declared.entry.What.{What}
 use Rattle.vm_journal.specs.declared.entry.What.TheVariants as what
-use Rattle.pager_model.specs.Cleaning.{Cleaning, evicting}
+use Rattle.pager_policy.specs.Cleaning.{Cleaning, evicting}
 use Rattle.pager_model.specs.Counted.{last_count}
 use Rattle.pager_model.specs.Flights.{Flight, carrier_of}
-use Rattle.pager_model.specs.Moves.{After, Doing, Move, carries, cleaning, goes, makes, rests}
+use Rattle.pager_policy.specs.Moves.{After, Doing, Move, carries, cleaning, goes, makes, rests}
 use Rattle.pager_model.specs.Run.{pager_after}
-use Rattle.pager_model.specs.Rundown.{cleaning_move, writer_of}
+use Rattle.pager_policy.specs.Rundown.{cleaning_move, writer_of}
 
 -- where the rundown goes on once a cluster's writes have landed: if all of them failed, and if not; whether the
 -- first one failed makes no difference in a rundown

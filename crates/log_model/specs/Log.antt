@@ -4,9 +4,9 @@ use Rattle.vm_types.specs.declared.config.Config.{Config}
 use Rattle.vm_journal.specs.declared.entry.Entry.{Entry}
 use Rattle.pager_model.specs.Order.{IsInOrder}
 use Rattle.pager_model.specs.Run.{IsRun, pager_after}
-use Rattle.pager_model.specs.Serial.{IsWhole}
+use Rattle.pager_policy.specs.Serial.{IsWhole}
 use Rattle.pager_model.specs.Spoken.{IsRight}
-use Rattle.pager_model.specs.Text.{ended, run_text}
+use Rattle.run_words.specs.Text.{ended, run_text}
 use Rattle.log_model.specs.NextLine.{IsFirstLine, IsNext}
 use Rattle.log_model.specs.Stand.{Stand, in_ending, in_entries, status_of}
 

@@ -4,14 +4,14 @@ use Rattle.vm_types.specs.declared.config.Config.{Config}
 use Rattle.vm_journal.specs.declared.entry.Entry.{Entry}
 use Rattle.vm_journal.specs.Line.{line_text}
 use Rattle.pager_model.specs.Flights.{awaits_reuse, open_flights}
-use Rattle.pager_model.specs.Moves.{Control}
+use Rattle.pager_policy.specs.Moves.{Control}
 use Rattle.pager_model.specs.Order.{IsAnswered, IsInOrder}
 use Rattle.pager_model.specs.Run.{pager_after}
-use Rattle.pager_model.specs.Rundown.{at_slot}
-use Rattle.pager_model.specs.Serial.{Heard, IsReached, Rests}
+use Rattle.pager_policy.specs.Rundown.{at_slot}
+use Rattle.pager_policy.specs.Serial.{Heard, IsReached, Rests}
 use Rattle.pager_model.specs.Spoken.{ShowsReply, flat_after}
 use Rattle.pager_model.specs.Step.{IsLegal}
-use Rattle.pager_model.specs.Text.{ended}
+use Rattle.run_words.specs.Text.{ended}
 use Rattle.log_model.specs.Stand.{Stand, ending_after, in_ending, in_entries, in_report, in_rundown, report_after, reported}
 
 -- the line is the first of a text, and this is left of it

@@ -6,7 +6,8 @@ use Rattle.vm_journal.specs.declared.entry.Entry.{Entry}
 use Rattle.pager_model.specs.Pager.{Pager}
 use Rattle.pager_model.specs.Report.{report_of}
 use Rattle.pager_model.specs.Run.{pager_after}
-use Rattle.pager_model.specs.Text.{dirty_lines, dirty_pages, report_text, status_line}
+use Rattle.run_words.specs.Text.{dirty_lines, report_text, status_line}
+use Rattle.pager_model.specs.DirtyPages.{dirty_pages}
 
 -- entries were read, and the report comes behind them; the report has begun, and this text of it is left; after
 -- it entries of the rundown were read; after so many entries in all this text is left, DIRTY lines and the

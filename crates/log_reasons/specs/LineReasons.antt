@@ -11,7 +11,7 @@ use Rattle.pager_model.specs.Flat.{flat_reply}
 use Rattle.pager_model.specs.Order.{IsInOrder}
 use Rattle.pager_model.specs.Run.{pager_after}
 use Rattle.pager_model.specs.Spoken.{flat_after}
-use Rattle.pager_model.specs.Text.{ended}
+use Rattle.run_words.specs.Text.{ended}
 use Rattle.log_model.specs.Log.{BeginsLegal}
 use Rattle.log_model.specs.NextLine.{AreRundownFirst, IsLineOf}
 use Rattle.log_model.specs.Stand.{Stand, ending_after, in_ending, in_entries, in_report, in_rundown, report_after}

@@ -8,7 +8,7 @@ use Rattle.std.proofs.lemmas.List.Sums.{get_or-le-sum_by}
 use Rattle.vm_types.specs.Configuration.{section_pages}
 use Rattle.vm_types.specs.declared.config.Section.{Section}
 use Rattle.vm_types.specs.declared.names.Page.{Page}
-use Rattle.pager_model.specs.Text.{pages_from}
+use Rattle.pager_model.specs.DirtyPages.{pages_from}
 use Rattle.log_report.specs.SharedPages.{shared_pages_of}
 
 -- one page more of a row

@@ -5,7 +5,8 @@ use Rattle.vm_types.specs.declared.config.Section.{Section}
 use Rattle.vm_types.specs.declared.names.Page.{Page}
 use Rattle.vm_journal.specs.declared.entry.Entry.{Entry}
 use Rattle.pager_model.specs.Report.{Report, report_of}
-use Rattle.pager_model.specs.Text.{dirty_lines, dirty_pages, report_text, status_line}
+use Rattle.run_words.specs.Text.{dirty_lines, report_text, status_line}
+use Rattle.pager_model.specs.DirtyPages.{dirty_pages}
 use Rattle.run_text.specs.Printable.{IsPrintable}
 use Rattle.run_text.proofs.Prints.{report_printable}
 use Rattle.log_model.specs.Stand.{ending_after, report_after}

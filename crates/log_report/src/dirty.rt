@@ -4,7 +4,7 @@ ghost use Rattle.std.specs.Prelude.{◌≡◌, ◌≤◌, ◌++◌, ◌&&◌, Al
 ghost use Rattle.vm_types.specs.Configuration.{IsWellFormed, section_pages};
 ghost use Rattle.vm_types.specs.declared.config.Section.{Section as SectionOf};
 ghost use Rattle.pager_model.specs.Forget.{holds_page};
-ghost use Rattle.pager_model.specs.Text.{dirty_pages, is_dirty, pages_from};
+ghost use Rattle.pager_model.specs.DirtyPages.{dirty_pages, is_dirty, pages_from};
 ghost use Rattle.log_pager.specs.Shown.{shown};
 ghost use Rattle.log_report.specs.SharedPages.{shared_pages_of};
 

@@ -1,6 +1,6 @@
 ghost use Rattle.std.specs.Prelude.{◌≡◌, ◌++◌, All, IfOk, nat_eq};
 ghost use Rattle.vm_text.specs.Named.{IsPrintablePage};
-ghost use Rattle.pager_model.specs.Text.{dirty_lines, status_line};
+ghost use Rattle.run_words.specs.Text.{dirty_lines, status_line};
 ghost use Rattle.command_ends.specs.Ends.{Ends};
 ghost use Rattle.log_model.specs.Stand.{ending_after};
 ghost use Rattle.log_pager.specs.Shown.{shown};

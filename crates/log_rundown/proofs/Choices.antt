@@ -6,11 +6,11 @@ use Rattle.vm_types.specs.declared.names.FrameState.{FrameState}
 use Rattle.vm_journal.specs.declared.entry.Entry.{Entry}
 use Rattle.vm_journal.specs.declared.entry.EvictWhy.TheVariants as evict
 use Rattle.vm_journal.specs.declared.entry.What.TheVariants as what
-use Rattle.pager_model.specs.Given.{Seen as SeenIs, goes_to, is_stopped, page_address, seen_at}
+use Rattle.pager_policy.specs.Given.{Seen as SeenIs, goes_to, is_stopped, page_address, seen_at}
 use Rattle.pager_model.specs.Maps.{pfn, proc}
-use Rattle.pager_model.specs.Moves.{Move, carries, goes, makes, rests}
+use Rattle.pager_policy.specs.Moves.{Move, carries, goes, makes, rests}
 use Rattle.pager_model.specs.Pager.{Pager}
-use Rattle.pager_model.specs.Rundown.{Place as PlaceIs, at_slot, clean_move, is_shared_listed, next_round, round_move, rounds_move, writer_of, written_for_need}
+use Rattle.pager_policy.specs.Rundown.{Place as PlaceIs, at_slot, clean_move, is_shared_listed, next_round, round_move, rounds_move, writer_of, written_for_need}
 use Rattle.log_rundown.specs.Chosen.{is_rest, move_as}
 use Rattle.log_rundown.specs.declared.choice.Choice.{Choice}
 use Rattle.log_rundown.specs.declared.choice.Choice.TheVariants.{EvictsPage, Rests, WritesBefore, WritesRound}

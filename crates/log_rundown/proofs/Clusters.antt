@@ -7,10 +7,10 @@ use Rattle.std.proofs.lemmas.Option.{get_or_from_slice_get, none-some, same_Some
 use Rattle.vm_types.specs.declared.config.Config.{Config}
 use Rattle.vm_types.specs.declared.names.BlockId.{BlockId}
 use Rattle.vm_journal.specs.declared.entry.What.{What}
-use Rattle.pager_model.specs.Given.{given}
+use Rattle.pager_policy.specs.Given.{given}
 use Rattle.pager_model.specs.Pager.{Pager}
-use Rattle.pager_model.specs.Rundown.{written_for_need}
-use Rattle.pager_model.specs.WriteCluster.{begin_carry, begin_nothing, block_out, writes_from, writes_taken}
+use Rattle.pager_policy.specs.Rundown.{written_for_need}
+use Rattle.pager_policy.specs.WriteCluster.{begin_carry, begin_nothing, block_out, writes_from, writes_taken}
 use Rattle.log_rundown.specs.NextWrite.{write_at, write_to}
 use Rattle.log_rundown.specs.Written.{write_as, writes_as}
 use Rattle.log_rundown.specs.declared.write.Write.{Write}

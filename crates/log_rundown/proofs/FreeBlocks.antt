@@ -5,7 +5,7 @@ use Rattle.vm_types.specs.declared.config.Config.{Config}
 use Rattle.vm_types.specs.declared.names.BlockId.TheVariants as block
 use Rattle.pager_model.specs.Lookups.{is_owner}
 use Rattle.pager_model.specs.Pager.{Pager}
-use Rattle.pager_model.specs.WriteCluster.{new_block}
+use Rattle.pager_policy.specs.WriteCluster.{new_block}
 
 -- none is behind the last block
 pub none_after : (config : Config) (a : Pager) (n : ℕ) → config.pagefile ≤ n → None ≡ new_block config a (Some (block.PageFile n))

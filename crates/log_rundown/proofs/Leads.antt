@@ -6,9 +6,9 @@ use Rattle.std.proofs.lemmas.List.{nil_from_length}
 use Rattle.vm_types.specs.declared.config.Config.{Config}
 use Rattle.vm_journal.specs.declared.entry.Entry.{Entry}
 use Rattle.vm_journal.specs.declared.entry.What.{What}
-use Rattle.pager_model.specs.Cleaning.{rounds}
+use Rattle.pager_policy.specs.Cleaning.{rounds}
 use Rattle.pager_model.specs.Flights.{Flight}
-use Rattle.pager_model.specs.Rundown.{writer_of}
+use Rattle.pager_policy.specs.Rundown.{writer_of}
 use Rattle.log_laws.specs.Underway.{Onward as OnwardIs, Underway as UnderwayIs, after_landings, after_outs, between_moves, in_landings, in_outs, is_made, landed_as, same_made, step_landings, step_outs}
 use Rattle.log_rundown.specs.Written.{write_as, writes_as}
 use Rattle.log_rundown.specs.declared.write.Write.{Write}

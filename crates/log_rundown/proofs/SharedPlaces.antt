@@ -3,7 +3,7 @@ use Rattle.std.proofs.Common.{◌≡◌, ℕ, suc, ◌+◌, ◌-◌, ◌<◌, �
 use Rattle.std.specs.List.{range_with_len}
 use Rattle.vm_types.specs.declared.config.Config.{Config}
 use Rattle.pager_model.specs.Pager.{Pager}
-use Rattle.pager_model.specs.Rundown.{Place as PlaceIs, is_shared_at, place_in, shared_from, shared_of_processes, shared_place}
+use Rattle.pager_policy.specs.Rundown.{Place as PlaceIs, is_shared_at, place_in, shared_from, shared_of_processes, shared_place}
 
 -- whether a slot comes in question
 abbrev pub is_in_question : Pager → ℕ → ℕ → ℕ → Bool

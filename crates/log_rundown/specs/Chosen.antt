@@ -4,10 +4,10 @@ use Rattle.vm_types.specs.declared.config.Config.{Config}
 use Rattle.vm_journal.specs.declared.entry.EvictWhy.TheVariants as evict
 use Rattle.vm_journal.specs.declared.entry.What.{What}
 use Rattle.vm_journal.specs.declared.entry.What.TheVariants as what
-use Rattle.pager_model.specs.Given.{page_address}
-use Rattle.pager_model.specs.Moves.{Move, carries, goes, makes, rests}
+use Rattle.pager_policy.specs.Given.{page_address}
+use Rattle.pager_policy.specs.Moves.{Move, carries, goes, makes, rests}
 use Rattle.pager_model.specs.Pager.{Pager}
-use Rattle.pager_model.specs.Rundown.{at_slot, round_move, writer_of, written_for_need}
+use Rattle.pager_policy.specs.Rundown.{at_slot, round_move, writer_of, written_for_need}
 use Rattle.log_rundown.specs.declared.choice.Choice.{Choice}
 use Rattle.log_rundown.specs.declared.choice.Choice.TheVariants.{EvictsPage, Rests, WritesBefore, WritesRound}
 use Rattle.log_rundown.specs.declared.eviction.Eviction.{Eviction}

@@ -7,7 +7,7 @@ use Rattle.vm_journal.specs.declared.entry.What.{What}
 use Rattle.vm_journal.specs.declared.entry.What.TheVariants as what
 use Rattle.pager_model.specs.Maps.{pfn}
 use Rattle.pager_model.specs.Pager.{Pager}
-use Rattle.pager_model.specs.WriteCluster.{block_out}
+use Rattle.pager_policy.specs.WriteCluster.{block_out}
 
 abbrev pub write_to : ℕ → BlockId → What
 write_to f b = what.Out (pfn f) b

@@ -1,7 +1,7 @@
 -- A slot of a process, and what stands in it, in plain numbers. This project's own.
 use Rattle.std.specs.Prelude.{◌<◌}
-use Rattle.pager_model.specs.Given.{Seen as SeenIs}
-use Rattle.pager_model.specs.Rundown.{Place as PlaceIs}
+use Rattle.pager_policy.specs.Given.{Seen as SeenIs}
+use Rattle.pager_policy.specs.Rundown.{Place as PlaceIs}
 use Rattle.log_rundown.specs.declared.places.Place.{Place}
 use Rattle.log_rundown.specs.declared.seen.Seen.{Seen}
 

@@ -1,5 +1,5 @@
 -- Where a log stands in the rundown, as one of the model's values. This project's own.
-use Rattle.pager_model.specs.Cleaning.{Cleaning as CleaningIs, evicting, rounds}
+use Rattle.pager_policy.specs.Cleaning.{Cleaning as CleaningIs, evicting, rounds}
 use Rattle.log_laws.specs.Underway.{Onward as OnwardIs, Underway as UnderwayIs, between_moves, in_landings, in_outs}
 use Rattle.log_rundown.specs.declared.cleaning.Cleaning.{Cleaning}
 use Rattle.log_rundown.specs.declared.cleaning.Cleaning.TheVariants.{Evicting, Rounds}

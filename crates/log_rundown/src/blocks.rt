@@ -1,7 +1,7 @@
 ghost use Rattle.std.specs.Prelude.{◌≡◌, Some};
 ghost use Rattle.vm_types.specs.declared.names.BlockId.TheVariants.{PageFile};
 ghost use Rattle.pager_model.specs.Lookups.{block_of};
-ghost use Rattle.pager_model.specs.WriteCluster.{block_out, filed_block, is_free_block, lowest_free, new_block, paged_block};
+ghost use Rattle.pager_policy.specs.WriteCluster.{block_out, filed_block, is_free_block, lowest_free, new_block, paged_block};
 ghost use Rattle.log_pager.specs.Shown.{shown};
 
 use log_pager::LogPager;

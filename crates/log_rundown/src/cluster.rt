@@ -1,6 +1,6 @@
 ghost use Rattle.std.specs.Prelude.{◌≡◌, IfOk, slice_get};
 ghost use Rattle.std.specs.Option.{option_map};
-ghost use Rattle.pager_model.specs.Rundown.{written_for_need};
+ghost use Rattle.pager_policy.specs.Rundown.{written_for_need};
 ghost use Rattle.log_pager.specs.Shown.{shown};
 ghost use Rattle.log_rundown.specs.NextWrite.{write_at};
 ghost use Rattle.log_rundown.specs.Written.{write_as, writes_as};

@@ -1,5 +1,5 @@
 ghost use Rattle.std.specs.Prelude.{◌≡◌, ◌*◌, nat_eq};
-ghost use Rattle.pager_model.specs.Rundown.{writer_of};
+ghost use Rattle.pager_policy.specs.Rundown.{writer_of};
 ghost use Rattle.log_laws.specs.Underway.{is_made, landed_as, same_made, shown_as};
 ghost use Rattle.log_rundown.specs.Chosen.{eviction_as};
 ghost use Rattle.log_rundown.specs.Written.{write_as};

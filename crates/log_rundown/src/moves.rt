@@ -1,11 +1,11 @@
 ghost use Rattle.std.specs.Prelude.{◌≡◌, Option};
 ghost use Rattle.vm_types.specs.Configuration.{IsWellFormed};
 ghost use Rattle.vm_types.specs.declared.config.Config.{Config};
-ghost use Rattle.pager_model.specs.Cleaning.{evicting};
-ghost use Rattle.pager_model.specs.Given.{seen_at};
-ghost use Rattle.pager_model.specs.Moves.{Move, rests};
+ghost use Rattle.pager_policy.specs.Cleaning.{evicting};
+ghost use Rattle.pager_policy.specs.Given.{seen_at};
+ghost use Rattle.pager_policy.specs.Moves.{Move, rests};
 ghost use Rattle.pager_model.specs.Pager.{Pager};
-ghost use Rattle.pager_model.specs.Rundown.{clean_move, cleaning_move, later_move, rounds_move};
+ghost use Rattle.pager_policy.specs.Rundown.{clean_move, cleaning_move, later_move, rounds_move};
 ghost use Rattle.log_pager.specs.Shown.{shown};
 ghost use Rattle.log_rundown.specs.Chosen.{move_as, move_or};
 ghost use Rattle.log_rundown.specs.Places.{IsSmall, place_as};

@@ -1,7 +1,7 @@
 ghost use Rattle.std.specs.Prelude.{◌≡◌, ◌+◌, ◌<◌, ◌∷◌, ◌^◌, IfOk, length, true};
 ghost use Rattle.std.specs.Option.{option_map};
 ghost use Rattle.pager_model.specs.Flights.{carrier_of};
-ghost use Rattle.pager_model.specs.Rundown.{writer_of};
+ghost use Rattle.pager_policy.specs.Rundown.{writer_of};
 ghost use Rattle.log_laws.specs.Underway.{after_landings, after_outs, step_outs};
 ghost use Rattle.log_rundown.specs.Standing.{onward_as, standing_as};
 ghost use Rattle.log_rundown.specs.Written.{writes_as};

@@ -2,7 +2,7 @@ ghost use Rattle.std.specs.Prelude.{◌≡◌, ◌&&◌, ◌-◌, ◌<◌, ◌�
 ghost use Rattle.std.specs.List.{range_with_len};
 ghost use Rattle.std.specs.Option.{option_map};
 ghost use Rattle.vm_types.specs.Configuration.{IsWellFormed};
-ghost use Rattle.pager_model.specs.Rundown.{is_shared_at, shared_from, shared_of_processes, shared_place};
+ghost use Rattle.pager_policy.specs.Rundown.{is_shared_at, shared_from, shared_of_processes, shared_place};
 ghost use Rattle.log_pager.specs.Shown.{shown};
 ghost use Rattle.log_rundown.specs.Places.{IsSmall, place_as};
 

@@ -1,8 +1,8 @@
 ghost use Rattle.std.specs.Prelude.{◌≡◌, not};
 ghost use Rattle.std.specs.Option.{option_map};
-ghost use Rattle.pager_model.specs.Given.{seen_at};
+ghost use Rattle.pager_policy.specs.Given.{seen_at};
 ghost use Rattle.pager_model.specs.Maps.{is_private};
-ghost use Rattle.pager_model.specs.Rundown.{is_shared_at};
+ghost use Rattle.pager_policy.specs.Rundown.{is_shared_at};
 ghost use Rattle.log_pager.specs.Shown.{shown};
 ghost use Rattle.log_rundown.specs.Places.{seen_as};
 

@@ -1,6 +1,6 @@
 ghost use Rattle.std.specs.Prelude.{◌≡◌, ◌+◌, ◌<◌, ◌^◌, IfOk, Some, None, false, if◌then◌else◌, length, true};
 ghost use Rattle.std.specs.Option.{option_map};
-ghost use Rattle.pager_model.specs.Cleaning.{evicting, rounds};
+ghost use Rattle.pager_policy.specs.Cleaning.{evicting, rounds};
 ghost use Rattle.log_laws.specs.Underway.{between_moves, is_made, plan_of, step_plan};
 ghost use Rattle.log_pager.specs.Shown.{shown};
 ghost use Rattle.log_rundown.specs.Chosen.{eviction_as, move_as};

@@ -1,5 +1,5 @@
 ghost use Rattle.std.specs.Prelude.{◌≡◌};
-ghost use Rattle.pager_model.specs.Given.{goes_to, is_stopped};
+ghost use Rattle.pager_policy.specs.Given.{goes_to, is_stopped};
 ghost use Rattle.log_pager.specs.Shown.{shown};
 
 use log_history::LogHistory;

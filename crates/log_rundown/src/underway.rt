@@ -1,7 +1,7 @@
 ghost use Rattle.std.specs.Prelude.{◌≡◌, ◌↔◌, ◌+◌, ◌<◌, ◌^◌, IfOk, IsTrue, OnErr, false, length};
 ghost use Rattle.std.specs.Option.{option_map};
 ghost use Rattle.vm_types.specs.Configuration.{IsWellFormed};
-ghost use Rattle.pager_model.specs.Cleaning.{evicting};
+ghost use Rattle.pager_policy.specs.Cleaning.{evicting};
 ghost use Rattle.pager_model.specs.Run.{pager_after};
 ghost use Rattle.log_laws.specs.Underway.{IsAtRest, between_moves, step};
 ghost use Rattle.log_pager.specs.Shown.{shown};

@@ -6,7 +6,7 @@ use Rattle.vm_journal.specs.declared.entry.Kind.{Kind}
 use Rattle.vm_journal.specs.declared.entry.Kind.TheVariants as kind
 use Rattle.vm_journal.specs.declared.entry.What.{What}
 use Rattle.vm_journal.specs.declared.entry.What.TheVariants as what
-use Rattle.pager_model.specs.Text.{ended}
+use Rattle.run_words.specs.Text.{ended}
 use Rattle.make_summary.specs.declared.counts.Counts.{Counts}
 use Rattle.make_summary.specs.declared.make.Make.{Make}
 

@@ -4,7 +4,7 @@ ghost use Rattle.outside_io.specs.Writes.{Writes};
 ghost use Rattle.vm_journal.specs.declared.entry.Entry.{Entry};
 ghost use Rattle.run_record.specs.Tallies.{tallies_of};
 ghost use Rattle.std.specs.List.{flat_map};
-ghost use Rattle.pager_model.specs.Text.{ended};
+ghost use Rattle.run_words.specs.Text.{ended};
 ghost use Rattle.make_summary.specs.MakeText.{answered_line, entries_line, made_line, make_lines, managed_line, paged_line, part_text, summary_lines};
 
 use crate::counts::{Counts, counts_in};

@@ -3,9 +3,9 @@ use Rattle.std.proofs.Common.{◌≡◌, ◌||◌, Bool, true, false, [], length
 use Rattle.vm_types.specs.BlockView.{BlockView, Tells}
 use Rattle.vm_types.specs.Configuration.{IsWellFormed}
 use Rattle.vm_types.specs.declared.names.Seat.{Seat}
-use Rattle.pager_model.specs.Given.{Given, given}
+use Rattle.pager_policy.specs.Given.{Given, given}
 use Rattle.pager_model.specs.Run.{IsRun}
-use Rattle.pager_model.specs.WriteCluster.{BeginIs, Reason, begin_carry, begin_gives, begin_nothing, is_enough}
+use Rattle.pager_policy.specs.WriteCluster.{BeginIs, Reason, begin_carry, begin_gives, begin_nothing, is_enough}
 use Rattle.call_laws.specs.AreLegal.{AreLegal}
 use Rattle.call_laws.proofs.WritesLegal.{begin_legal}
 use Rattle.lift_carriers.specs.CarrierView.{CarrierView}

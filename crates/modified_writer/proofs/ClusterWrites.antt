@@ -17,7 +17,7 @@ use Rattle.pager_model.specs.Flights.{awaits_reuse, open_flights}
 use Rattle.pager_model.specs.Out.{IsAnyOut, after_any_out}
 use Rattle.pager_model.specs.Pager.{Pager}
 use Rattle.pager_model.specs.Run.{IsRun}
-use Rattle.pager_model.specs.WriteCluster.{writes_from}
+use Rattle.pager_policy.specs.WriteCluster.{writes_from}
 use Rattle.pager_laws.proofs.RunsAreSound.{run_kept}
 use Rattle.call_laws.specs.AreLegal.{AreLegal}
 use Rattle.lift_carriers.specs.CarrierView.{CarrierView}

@@ -8,7 +8,7 @@ use Rattle.vm_types.specs.declared.names.BlockId.TheVariants as block
 use Rattle.vm_types.specs.declared.names.Page.{Page}
 use Rattle.pager_model.specs.Lookups.{is_owner}
 use Rattle.pager_model.specs.Pager.{Assigned, Pager}
-use Rattle.pager_model.specs.WriteCluster.{is_free_block, lowest_free}
+use Rattle.pager_policy.specs.WriteCluster.{is_free_block, lowest_free}
 use Rattle.pager_rules.proofs.Basics.{count_from_no_find}
 use Rattle.pager_rules.proofs.Lists.{count_found, found_passes}
 use Rattle.state_fits.specs.File.{has_block, owner_in}

@@ -21,7 +21,7 @@ use Rattle.pager_model.specs.Maps.{is_paged}
 use Rattle.pager_model.specs.OfConfig.{IsPageOf}
 use Rattle.pager_model.specs.Pager.{Pager}
 use Rattle.pager_model.specs.Run.{IsRun, pager_after}
-use Rattle.pager_model.specs.WriteCluster.{block_out, filed_block, is_free_block, new_block, paged_block}
+use Rattle.pager_policy.specs.WriteCluster.{block_out, filed_block, is_free_block, new_block, paged_block}
 use Rattle.pager_rules.proofs.Basics.{count_cons_yes, nat_eq_refl}
 use Rattle.pager_rules.proofs.Frames.{modified_frame}
 use Rattle.pager_rules.proofs.Lists.{filter_all}

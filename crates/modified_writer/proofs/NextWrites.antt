@@ -9,7 +9,7 @@ use Rattle.vm_types.specs.declared.names.Pfn.{Pfn}
 use Rattle.vm_journal.specs.declared.entry.What.TheVariants as what
 use Rattle.pager_model.specs.Lookups.{IsHead}
 use Rattle.pager_model.specs.Pager.{Pager}
-use Rattle.pager_model.specs.WriteCluster.{block_out, writes_from, writes_taken}
+use Rattle.pager_policy.specs.WriteCluster.{block_out, writes_from, writes_taken}
 use Rattle.modified_writer.specs.NextWrite.{next_write, write_to}
 
 module _ (config : Config) (a : Pager) (last : Option BlockId) where

@@ -16,7 +16,7 @@ use Rattle.vm_types.specs.BlockOrder.{is_next_block, if_next}
 use Rattle.pager_model.specs.Lookups.{block_of, is_assigned_to, is_owner}
 use Rattle.pager_model.specs.Out.{after_any_out, assigned_with}
 use Rattle.pager_model.specs.Pager.{Assigned, Pager}
-use Rattle.pager_model.specs.WriteCluster.{block_out, is_free_block, new_block, paged_block, filed_block, writes_from, writes_taken}
+use Rattle.pager_policy.specs.WriteCluster.{block_out, is_free_block, new_block, paged_block, filed_block, writes_from, writes_taken}
 use Rattle.pager_rules.proofs.Basics.{count_cons, count_cons_no, find_cons_no, nat_eq_refl, pages_equal}
 
 -- the blocks of the page file that a cluster with this last block may still take

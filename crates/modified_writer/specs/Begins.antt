@@ -4,8 +4,8 @@ use Rattle.std.specs.Prelude.{◌≡◌, List}
 use Rattle.vm_types.specs.BlockView.{BlockView, Tells}
 use Rattle.vm_types.specs.declared.names.Seat.{Seat}
 use Rattle.vm_journal.specs.declared.entry.What.{What}
-use Rattle.pager_model.specs.Given.{Given}
-use Rattle.pager_model.specs.WriteCluster.{BeginIs, Reason as GivenReason, begin_carry, begin_nothing, reason_high, reason_need}
+use Rattle.pager_policy.specs.Given.{Given}
+use Rattle.pager_policy.specs.WriteCluster.{BeginIs, Reason as GivenReason, begin_carry, begin_nothing, reason_high, reason_need}
 use Rattle.lift_carriers.specs.CarrierView.{CarrierView}
 use Rattle.vm_state.specs.History.{History}
 use Rattle.vm_state.specs.LiftsLand.{added_each}

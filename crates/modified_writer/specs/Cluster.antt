@@ -1,7 +1,7 @@
 -- The writes of a cluster. This project's own.
 use Rattle.std.specs.Prelude.{List, None}
 use Rattle.vm_journal.specs.declared.entry.What.{What}
-use Rattle.pager_model.specs.WriteCluster.{writes_from}
+use Rattle.pager_policy.specs.WriteCluster.{writes_from}
 use Rattle.vm_state.specs.History.{History, pager}
 
 -- of the one that begins with the modified list's head

@@ -6,7 +6,7 @@ use Rattle.vm_types.specs.declared.names.BlockId.{BlockId}
 use Rattle.vm_types.specs.declared.names.Pfn.{Pfn}
 use Rattle.pager_model.specs.Maps.{pfn}
 use Rattle.pager_model.specs.Pager.{Pager}
-use Rattle.pager_model.specs.WriteCluster.{block_out}
+use Rattle.pager_policy.specs.WriteCluster.{block_out}
 
 abbrev pub write_to : ℕ → BlockId → Pfn × BlockId
 write_to f b = (pfn f, b)

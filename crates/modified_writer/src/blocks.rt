@@ -3,7 +3,7 @@ ghost use Rattle.vm_types.specs.Configuration.{IsBlock, IsWellFormed};
 ghost use Rattle.vm_types.specs.declared.names.BlockId.{BlockId};
 ghost use Rattle.pager_model.specs.Lookups.{block_of};
 ghost use Rattle.pager_model.specs.Maps.{is_paged};
-ghost use Rattle.pager_model.specs.WriteCluster.{block_out, is_free_block, new_block};
+ghost use Rattle.pager_policy.specs.WriteCluster.{block_out, is_free_block, new_block};
 ghost use Rattle.vm_state.specs.History.{pager};
 ghost use Rattle.vm_state.specs.PageReadings.{IsKnown};
 

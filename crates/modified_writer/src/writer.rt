@@ -1,5 +1,5 @@
 ghost use Rattle.std.specs.Prelude.{◌≡◌, ◌+◌, ◌<◌, ◌≤◌, ◌↔◌, ◌||◌, length, nat_eq};
-ghost use Rattle.pager_model.specs.WriteCluster.{begin_gives, is_enough};
+ghost use Rattle.pager_policy.specs.WriteCluster.{begin_gives, is_enough};
 ghost use Rattle.vm_state.specs.History.{owed, pager};
 ghost use Rattle.call_begins.specs.MayBegin.{MayBegin, empty};
 ghost use Rattle.modified_writer.specs.Begins.{Begins, reason_of};

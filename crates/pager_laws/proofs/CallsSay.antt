@@ -20,21 +20,21 @@ use Rattle.vm_types.specs.declared.service.Service.TheVariants as service
 use Rattle.vm_journal.specs.declared.entry.Entry.{Entry}
 use Rattle.vm_journal.specs.declared.entry.EvictWhy.{EvictWhy}
 use Rattle.vm_journal.specs.declared.entry.What.TheVariants as what
-use Rattle.pager_model.specs.Advance.{GivenNext, NextIs, advance_gives, cluster_targets, collide_given, entry_given, fault_given, frame_given, held_given, is_busy_block, is_named, limit_given, mapped_given, next_answered, out_given, read_given, refused_given, replace_seen, room_given, source_of}
+use Rattle.pager_policy.specs.Advance.{GivenNext, NextIs, advance_gives, cluster_targets, collide_given, entry_given, fault_given, frame_given, held_given, is_busy_block, is_named, limit_given, mapped_given, next_answered, out_given, read_given, refused_given, replace_seen, room_given, source_of}
 use Rattle.pager_model.specs.Charging.{is_uncharged}
 use Rattle.pager_model.specs.Flat.{flat_refusal}
 use Rattle.pager_model.specs.Flights.{Flight, open_flights}
 use Rattle.pager_model.specs.Forget.{holder}
-use Rattle.pager_model.specs.Given.{unsaid, given, Seen, is_stopped, page_address, seen_at}
+use Rattle.pager_policy.specs.Given.{unsaid, given, Seen, is_stopped, page_address, seen_at}
 use Rattle.pager_model.specs.Maps.{pfn, page_number}
 use Rattle.pager_model.specs.Lookups.{entry_of, is_pending, is_resident, page_by}
 use Rattle.pager_model.specs.Pager.{Pager, Valid}
-use Rattle.pager_model.specs.Serve.{GivenServe, ServeIs, serve_answered, serve_gives, service_gives, evict_given, delete_given, purge_given, lock_given, limits_given, is_range_in_flight, loose_in, valid_in}
+use Rattle.pager_policy.specs.Serve.{GivenServe, ServeIs, serve_answered, serve_gives, service_gives, evict_given, delete_given, purge_given, lock_given, limits_given, is_range_in_flight, loose_in, valid_in}
 use Rattle.pager_model.specs.MappedRanges.{is_unmapped}
 use Rattle.pager_model.specs.Spoken.{flat_after}
-use Rattle.pager_model.specs.Swap.{is_to_save, is_saved, is_out_page, is_back_on_free, swap_where, slot_where, GivenSwap, leave_gives, leave_page, leave_saved, leave_shared, leave_unsaved, write_slot, write_slots, come_gives, come_free, come_out, back_page, back_of, is_shared_unpinned}
+use Rattle.pager_policy.specs.Swap.{is_to_save, is_saved, is_out_page, is_back_on_free, swap_where, slot_where, GivenSwap, leave_gives, leave_page, leave_saved, leave_shared, leave_unsaved, write_slot, write_slots, come_gives, come_free, come_out, back_page, back_of, is_shared_unpinned}
 use Rattle.pager_model.specs.Lying.{lying_in}
-use Rattle.pager_model.specs.WriteCluster.{begin_carry, begin_nothing, writes_taken, Reason, begin_gives, block_out, is_enough, writes_from}
+use Rattle.pager_policy.specs.WriteCluster.{begin_carry, begin_nothing, writes_taken, Reason, begin_gives, block_out, is_enough, writes_from}
 use Rattle.pager_laws.proofs.Said.{Silent, said, silent_join, reads_silent, reused_said}
 
 -- ---- a reference

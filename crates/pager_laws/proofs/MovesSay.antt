@@ -1,19 +1,19 @@
 -- A move of the serial policy answers the task that comes next, or nothing.
-use Rattle.pager_model.specs.Swap.{swap_carry, swap_more, swap_settled, swap_again, swap_in_flight, swap_modified_full, swap_no_frame}
-use Rattle.pager_model.specs.Advance.{next_answered, next_carry, next_more, next_again, again_not_resident, again_collided, again_block_busy, again_charging, again_modified_full, again_no_frame}
-use Rattle.pager_model.specs.Serve.{serve_answered, serve_more, serve_again, serve_not_resident, serve_in_flight, serve_modified_full}
-use Rattle.pager_model.specs.WriteCluster.{begin_carry, begin_nothing, reason_high, reason_need}
-use Rattle.pager_model.specs.Policy.{ends_request, ends_part}
-use Rattle.pager_model.specs.Cleaning.{evicting, rounds}
-use Rattle.pager_model.specs.Given.{is_stopped, seen_at, Seen}
-use Rattle.pager_model.specs.Advance.{next_again, NextIs, advance_gives}
+use Rattle.pager_policy.specs.Swap.{swap_carry, swap_more, swap_settled, swap_again, swap_in_flight, swap_modified_full, swap_no_frame}
+use Rattle.pager_policy.specs.Advance.{next_answered, next_carry, next_more, next_again, again_not_resident, again_collided, again_block_busy, again_charging, again_modified_full, again_no_frame}
+use Rattle.pager_policy.specs.Serve.{serve_answered, serve_more, serve_again, serve_not_resident, serve_in_flight, serve_modified_full}
+use Rattle.pager_policy.specs.WriteCluster.{begin_carry, begin_nothing, reason_high, reason_need}
+use Rattle.pager_policy.specs.Policy.{ends_request, ends_part}
+use Rattle.pager_policy.specs.Cleaning.{evicting, rounds}
+use Rattle.pager_policy.specs.Given.{is_stopped, seen_at, Seen}
+use Rattle.pager_policy.specs.Advance.{next_again, NextIs, advance_gives}
 use Rattle.pager_laws.proofs.CallsSay.{serve_says, come_silent, leave_silent, advance_says, SaysBy, ServedBy, begin_silent}
-use Rattle.pager_model.specs.Serve.{serve_again, serve_gives, ServeIs}
-use Rattle.pager_model.specs.Swap.{swap_again, come_gives, leave_gives, victim_gives, SwapIs}
-use Rattle.pager_model.specs.Cleaning.{rounds, evicting, Cleaning}
+use Rattle.pager_policy.specs.Serve.{serve_again, serve_gives, ServeIs}
+use Rattle.pager_policy.specs.Swap.{swap_again, come_gives, leave_gives, victim_gives, SwapIs}
+use Rattle.pager_policy.specs.Cleaning.{rounds, evicting, Cleaning}
 use Rattle.vm_types.specs.declared.reference.Ref.{Ref}
-use Rattle.pager_model.specs.WriteCluster.{reason_high, begin_gives, reason_need, BeginIs}
-use Rattle.pager_model.specs.Rundown.{clean_move, shared_place, cleaning_move, later_move, place_move, is_shared_listed, Place, rounds_move, next_round}
+use Rattle.pager_policy.specs.WriteCluster.{reason_high, begin_gives, reason_need, BeginIs}
+use Rattle.pager_policy.specs.Rundown.{clean_move, shared_place, cleaning_move, later_move, place_move, is_shared_listed, Place, rounds_move, next_round}
 use Rattle.pager_model.specs.Run.{pager_after}
 use Rattle.std.proofs.Common.{◌&&◌, not, nat_lt, ◌≡◌, ◌⊎◌, ℕ, zero, suc, ◌+◌, Bool, true, false, cond, List, [], ◌∷◌, Option, Some, None, length, refl, sym, ap, ◌∙◌, inl, inr}
 use Rattle.vm_types.specs.declared.config.Config.{Config}
@@ -25,9 +25,9 @@ use Rattle.vm_types.specs.declared.service.Request.TheVariants as request
 use Rattle.vm_types.specs.declared.service.Service.{Service}
 use Rattle.vm_journal.specs.declared.entry.Entry.{Entry}
 use Rattle.vm_journal.specs.declared.entry.What.{What}
-use Rattle.pager_model.specs.Moves.{while_leaving, control, Move, makes, carries, rests, Control, Doing, asking, saving, freeing, cleaning}
+use Rattle.pager_policy.specs.Moves.{while_leaving, control, Move, makes, carries, rests, Control, Doing, asking, saving, freeing, cleaning}
 use Rattle.pager_model.specs.Pager.{Pager}
-use Rattle.pager_model.specs.Policy.{leaving_other, is_freeing, advance_move_by, serve_move_by, coming_process, leave_move_by, ends_part, come_move_by, saving_by, writing_move, leave_move, is_saving, finding_move, other_move, swapper_of, ends_request, freeing_move, asking_move, gone_move, resident_move, status_move, victim_move, asked_move, saving_move, task_move, Ends, next_task, move_of}
+use Rattle.pager_policy.specs.Policy.{leaving_other, is_freeing, advance_move_by, serve_move_by, coming_process, leave_move_by, ends_part, come_move_by, saving_by, writing_move, leave_move, is_saving, finding_move, other_move, swapper_of, ends_request, freeing_move, asking_move, gone_move, resident_move, status_move, victim_move, asked_move, saving_move, task_move, Ends, next_task, move_of}
 use Rattle.pager_laws.proofs.Said.{Silent, said}
 
 pub record AnswersTask (config : Config) (past : List Entry) (seat : ℕ) (ws : List What) : Type 0 where

@@ -8,9 +8,9 @@ use Rattle.vm_journal.specs.declared.entry.Entry.{Entry}
 use Rattle.vm_journal.specs.declared.entry.What.{What}
 use Rattle.vm_journal.specs.declared.entry.What.TheVariants as what
 use Rattle.pager_model.specs.Flights.{Direction, Flight, reading, writing}
-use Rattle.pager_model.specs.Given.{with_reply, by_seat, made_by, reads_made, reuse_first, Target}
+use Rattle.pager_policy.specs.Given.{with_reply, by_seat, made_by, reads_made, reuse_first, Target}
 use Rattle.pager_model.specs.Maps.{pfn}
-use Rattle.pager_model.specs.Landings.{Outcome, landed_by, landing, reuse_of, went_badly, went_well}
+use Rattle.pager_policy.specs.Landings.{Outcome, landed_by, landing, reuse_of, went_badly, went_well}
 use Rattle.pager_model.specs.Order.{answered, spoken_by}
 use Rattle.pager_model.specs.Spoken.{spoken, request_of}
 use Rattle.pager_model.specs.Run.{pager_after}

@@ -9,14 +9,14 @@ use Rattle.vm_types.specs.declared.service.Request.{Request}
 use Rattle.vm_types.specs.declared.service.Request.TheVariants as request
 use Rattle.vm_journal.specs.declared.entry.Entry.{Entry}
 use Rattle.vm_journal.specs.declared.entry.What.{What}
-use Rattle.pager_model.specs.Given.{with_reply, made_by}
-use Rattle.pager_model.specs.Landings.{all_bad, first_bad, landed_by}
+use Rattle.pager_policy.specs.Given.{with_reply, made_by}
+use Rattle.pager_policy.specs.Landings.{all_bad, first_bad, landed_by}
 use Rattle.pager_model.specs.Flights.{carrier_of}
-use Rattle.pager_model.specs.Moves.{After, Control, Move, asking, carries, control, goes, makes, refuses, rests}
+use Rattle.pager_policy.specs.Moves.{After, Control, Move, asking, carries, control, goes, makes, refuses, rests}
 use Rattle.pager_model.specs.Order.{answered, requests_of, spoken_by, IsInOrder, IsAnswered}
-use Rattle.pager_model.specs.Policy.{move_of, next_task}
+use Rattle.pager_policy.specs.Policy.{move_of, next_task}
 use Rattle.pager_model.specs.Spoken.{spoken}
-use Rattle.pager_model.specs.Serial.{GoesOn, Heard, IsMade, IsReached, IsRefused, IsSerialTo, refusal_of}
+use Rattle.pager_policy.specs.Serial.{GoesOn, Heard, IsMade, IsReached, IsRefused, IsSerialTo, refusal_of}
 use Rattle.pager_laws.proofs.MovesSay.{AnswersTask, SaysRight, move_says}
 use Rattle.pager_laws.proofs.Said.{said_shown, IsSilentStep, answered_made, landed_silent, said, said_by, silent_made, silent_then, spoken_made}
 

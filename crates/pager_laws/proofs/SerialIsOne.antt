@@ -9,13 +9,13 @@ use Rattle.vm_journal.specs.declared.entry.What.{What}
 use Rattle.vm_journal.specs.declared.entry.What.TheVariants as what
 use Rattle.pager_model.specs.Flat.{flat_reply}
 use Rattle.pager_model.specs.Flights.{Flight, carrier_of}
-use Rattle.pager_model.specs.Given.{by_seat, made_by, with_reply}
-use Rattle.pager_model.specs.Landings.{Outcome, all_bad, first_bad, landed_by, landing}
-use Rattle.pager_model.specs.Moves.{After, Control, Move, asking, carries, control, goes, makes, refuses, rests}
-use Rattle.pager_model.specs.Policy.{move_of, next_task}
+use Rattle.pager_policy.specs.Given.{by_seat, made_by, with_reply}
+use Rattle.pager_policy.specs.Landings.{Outcome, all_bad, first_bad, landed_by, landing}
+use Rattle.pager_policy.specs.Moves.{After, Control, Move, asking, carries, control, goes, makes, refuses, rests}
+use Rattle.pager_policy.specs.Policy.{move_of, next_task}
 use Rattle.pager_model.specs.Run.{pager_after}
-use Rattle.pager_model.specs.Rundown.{at_slot}
-use Rattle.pager_model.specs.Serial.{GoesOn, Heard, IsMade, IsReached, IsRefused, IsRundown, IsSerialTo, Rests}
+use Rattle.pager_policy.specs.Rundown.{at_slot}
+use Rattle.pager_policy.specs.Serial.{GoesOn, Heard, IsMade, IsReached, IsRefused, IsRundown, IsSerialTo, Rests}
 use Rattle.pager_model.specs.Spoken.{IsRight, flat_after}
 use Rattle.pager_laws.specs.Laws.{all_told}
 

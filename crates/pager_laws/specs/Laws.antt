@@ -4,11 +4,11 @@ use Rattle.std.specs.List.{AllByRecursion, list_any}
 use Rattle.vm_types.specs.Configuration.{IsWellFormed, IsBlock}
 use Rattle.vm_types.specs.declared.config.Config.{Config}
 use Rattle.vm_journal.specs.declared.entry.Entry.{Entry}
-use Rattle.pager_model.specs.Landings.{Outcome}
-use Rattle.pager_model.specs.Moves.{Control}
+use Rattle.pager_policy.specs.Landings.{Outcome}
+use Rattle.pager_policy.specs.Moves.{Control}
 use Rattle.pager_model.specs.Order.{IsInOrder, IsAnswered}
-use Rattle.pager_model.specs.Policy.{next_task}
-use Rattle.pager_model.specs.Serial.{Heard, IsRundown, IsSerialTo, Rests}
+use Rattle.pager_policy.specs.Policy.{next_task}
+use Rattle.pager_policy.specs.Serial.{Heard, IsRundown, IsSerialTo, Rests}
 use Rattle.pager_model.specs.Around.{past_view}
 use Rattle.pager_model.specs.Carrier.{carrying}
 use Rattle.pager_model.specs.Fits.{lands}

@@ -12,7 +12,7 @@ use Rattle.pager_model.specs.Lookups.{count_page}
 use Rattle.pager_model.specs.Maps.{paged_of, section_bytes, shared_of}
 use Rattle.pager_model.specs.Pager.{Pager}
 use Rattle.pager_model.specs.Run.{pager_after}
-use Rattle.pager_model.specs.Text.{is_dirty}
+use Rattle.pager_model.specs.DirtyPages.{is_dirty}
 
 -- a block in which a shared page lies has that page's bytes after the whole journal, unless the page is dirty
 abbrev pub IsWrittenBack : Config → List Entry → Retired → Type 0

@@ -21,23 +21,23 @@ use Rattle.vm_journal.specs.declared.entry.EvictWhy.TheVariants as evict
 use Rattle.vm_journal.specs.declared.entry.Role.TheVariants as role
 use Rattle.vm_journal.specs.declared.entry.What.{What}
 use Rattle.vm_journal.specs.declared.entry.What.TheVariants as what
-use Rattle.pager_model.specs.Advance.{GivenNext, advance_gives, again_block_busy, again_charging, again_modified_full, again_not_resident, entry_given, fault_given, frame_given, gives_again, held_given, is_busy_block, limit_given, mapped_given, near_targets, next_answered, next_more, read_given, refused_given, replace_given, replace_seen, room_given, source_of, window}
+use Rattle.pager_policy.specs.Advance.{GivenNext, advance_gives, again_block_busy, again_charging, again_modified_full, again_not_resident, entry_given, fault_given, frame_given, gives_again, held_given, is_busy_block, limit_given, mapped_given, near_targets, next_answered, next_more, read_given, refused_given, replace_given, replace_seen, room_given, source_of, window}
 use Rattle.pager_model.specs.Charging.{is_uncharged}
 use Rattle.pager_model.specs.ClusterLength.{cluster_length}
 use Rattle.pager_model.specs.Evict.{victim_of}
 use Rattle.pager_model.specs.Flat.{flat_refusal}
 use Rattle.pager_model.specs.Flights.{Flight, open_flights, carrier_of}
 use Rattle.pager_model.specs.Forget.{holder}
-use Rattle.pager_model.specs.Given.{Seen, Target, by_seat, eviction, given, is_stopped, made_by, page_address, reads_made, reuse_first, seen_at, unsaid, with_reply}
+use Rattle.pager_policy.specs.Given.{Seen, Target, by_seat, eviction, given, is_stopped, made_by, page_address, reads_made, reuse_first, seen_at, unsaid, with_reply}
 use Rattle.pager_model.specs.Maps.{pfn, page_number, proc}
-use Rattle.pager_model.specs.Landings.{Outcome, first_bad}
+use Rattle.pager_policy.specs.Landings.{Outcome, first_bad}
 use Rattle.pager_model.specs.Lookups.{entry_of, is_coming, is_pending, is_resident, page_by}
-use Rattle.pager_model.specs.Moves.{Control, asking, carries, control, goes, refuses, rests, saving}
+use Rattle.pager_policy.specs.Moves.{Control, asking, carries, control, goes, refuses, rests, saving}
 use Rattle.pager_model.specs.Pager.{Pager, Valid}
-use Rattle.pager_model.specs.Policy.{advance_move_by, ends_request, next_task, unless_first_failed}
+use Rattle.pager_policy.specs.Policy.{advance_move_by, ends_request, next_task, unless_first_failed}
 use Rattle.pager_model.specs.Spoken.{spoken, flat_after, request_of}
 use Rattle.pager_model.specs.Run.{pager_after}
-use Rattle.pager_model.specs.Serial.{GoesOn}
+use Rattle.pager_policy.specs.Serial.{GoesOn}
 use Rattle.pager_model.specs.Transfers.{is_read_on}
 use Rattle.pager_rules.proofs.Basics.{count_cons, count_cons_yes, each_weaker}
 use Rattle.serial_laws.specs.Between.{IsBetween}

@@ -9,17 +9,17 @@ use Rattle.vm_journal.specs.declared.entry.Entry.{Entry}
 use Rattle.vm_journal.specs.declared.entry.EvictWhy.TheVariants as evict
 use Rattle.vm_journal.specs.declared.entry.What.{What}
 use Rattle.pager_model.specs.Around.{past_view}
-use Rattle.pager_model.specs.Cleaning.{Cleaning, evicting, rounds}
+use Rattle.pager_policy.specs.Cleaning.{Cleaning, evicting, rounds}
 use Rattle.pager_model.specs.Flights.{Flight, carrier_of}
-use Rattle.pager_model.specs.Given.{Seen, eviction, goes_to, is_stopped, made_by, seen_at}
+use Rattle.pager_policy.specs.Given.{Seen, eviction, goes_to, is_stopped, made_by, seen_at}
 use Rattle.pager_model.specs.Lookups.{passes}
-use Rattle.pager_model.specs.Landings.{Outcome, all_bad, first_bad, landed_by}
-use Rattle.pager_model.specs.Moves.{Control, Move, carries, cleaning, control, goes, makes, rests}
+use Rattle.pager_policy.specs.Landings.{Outcome, all_bad, first_bad, landed_by}
+use Rattle.pager_policy.specs.Moves.{Control, Move, carries, cleaning, control, goes, makes, rests}
 use Rattle.pager_model.specs.Pager.{Pager}
 use Rattle.pager_model.specs.Run.{IsRun, pager_after}
-use Rattle.pager_model.specs.Rundown.{Place, at_slot, clean_move, cleaning_move, holds_shared, is_shared_at, is_shared_listed, later_move, next_round, place_move, round_move, rounds_move, shared_place, writer_of, written_for_need}
-use Rattle.pager_model.specs.Serial.{Heard, IsMade}
-use Rattle.pager_model.specs.Swap.{is_shared_seen}
+use Rattle.pager_policy.specs.Rundown.{Place, at_slot, clean_move, cleaning_move, holds_shared, is_shared_at, is_shared_listed, later_move, next_round, place_move, round_move, rounds_move, shared_place, writer_of, written_for_need}
+use Rattle.pager_policy.specs.Serial.{Heard, IsMade}
+use Rattle.pager_policy.specs.Swap.{is_shared_seen}
 use Rattle.pager_rules.specs.Kept.{IsKept}
 use Rattle.pager_laws.proofs.RunsAreSound.{run_kept}
 use Rattle.call_laws.proofs.WaitsLegal.{is_seen}

@@ -3,15 +3,15 @@ use Rattle.std.proofs.Common.{inl, inr, ℕ, ◌≤◌, false, List, [], ◌∷�
 use Rattle.vm_types.specs.declared.config.Config.{Config}
 use Rattle.vm_types.specs.declared.config.Task.{Task}
 use Rattle.vm_journal.specs.declared.entry.Entry.{Entry}
-use Rattle.pager_model.specs.Cleaning.{evicting}
-use Rattle.pager_model.specs.Given.{by_seat, made_by, with_reply}
-use Rattle.pager_model.specs.Landings.{all_bad, first_bad, landed_by}
+use Rattle.pager_policy.specs.Cleaning.{evicting}
+use Rattle.pager_policy.specs.Given.{by_seat, made_by, with_reply}
+use Rattle.pager_policy.specs.Landings.{all_bad, first_bad, landed_by}
 use Rattle.pager_model.specs.Flights.{carrier_of}
-use Rattle.pager_model.specs.Moves.{After, Control, Move, carries, cleaning, control, goes, makes, refuses, rests}
-use Rattle.pager_model.specs.Policy.{move_of, next_task}
+use Rattle.pager_policy.specs.Moves.{After, Control, Move, carries, cleaning, control, goes, makes, refuses, rests}
+use Rattle.pager_policy.specs.Policy.{move_of, next_task}
 use Rattle.pager_model.specs.Run.{IsRun, pager_after}
-use Rattle.pager_model.specs.Rundown.{at_slot}
-use Rattle.pager_model.specs.Serial.{GoesOn, Heard, IsMade, IsMove, IsReached, IsRefused, refusal_of}
+use Rattle.pager_policy.specs.Rundown.{at_slot}
+use Rattle.pager_policy.specs.Serial.{GoesOn, Heard, IsMade, IsMove, IsReached, IsRefused, refusal_of}
 use Rattle.serial_laws.specs.Between.{IsBetween}
 use Rattle.serial_laws.proofs.Kept.{moves_between}
 use Rattle.serial_laws.proofs.Rundowns.{cleaning_fits}

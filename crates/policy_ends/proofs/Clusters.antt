@@ -17,19 +17,19 @@ use Rattle.vm_journal.specs.declared.entry.What.{What}
 use Rattle.vm_journal.specs.declared.entry.What.TheVariants as what
 use Rattle.pager_model.specs.Changes.{pushed_if}
 use Rattle.pager_model.specs.Flights.{Direction, Flight, is_reading, open_flights, reading, writing}
-use Rattle.pager_model.specs.Given.{Given, by_seat, given, made_by, seen_at, seen_by, seen_in, seen_page}
+use Rattle.pager_policy.specs.Given.{Given, by_seat, given, made_by, seen_at, seen_by, seen_in, seen_page}
 use Rattle.pager_model.specs.Lookups.{passes, block_of, entry_of, shares, slot_of}
 use Rattle.pager_model.specs.Maps.{pfn, is_paged}
 use Rattle.vm_types.specs.BlockOrder.{is_next_block, if_next}
-use Rattle.pager_model.specs.Landings.{Outcome, landed_by, landing, went_badly, went_well}
+use Rattle.pager_policy.specs.Landings.{Outcome, landed_by, landing, went_badly, went_well}
 use Rattle.pager_model.specs.Out.{after_any_out}
 use Rattle.pager_model.specs.OutLanding.{IsOutOk, after_out_ok}
 use Rattle.pager_model.specs.Pager.{Pager, Valid}
 use Rattle.pager_model.specs.Run.{IsRun, pager_after}
-use Rattle.pager_model.specs.Rundown.{is_shared_at, written_for_need}
-use Rattle.pager_model.specs.Swap.{is_shared_seen}
+use Rattle.pager_policy.specs.Rundown.{is_shared_at, written_for_need}
+use Rattle.pager_policy.specs.Swap.{is_shared_seen}
 use Rattle.pager_model.specs.Transfers.{starts}
-use Rattle.pager_model.specs.WriteCluster.{BeginIs, begin_carry, begin_nothing, block_out, filed_block, is_enough, is_free_block, new_block, paged_block, reason_need, writes_from, writes_taken}
+use Rattle.pager_policy.specs.WriteCluster.{BeginIs, begin_carry, begin_nothing, block_out, filed_block, is_enough, is_free_block, new_block, paged_block, reason_need, writes_from, writes_taken}
 use Rattle.pager_rules.proofs.Basics.{count_cons_yes}
 use Rattle.pager_rules.proofs.Lists.{all_filter, all_found}
 use Rattle.pager_laws.proofs.RunsAreSound.{run_kept}

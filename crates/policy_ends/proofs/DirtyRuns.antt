@@ -8,16 +8,16 @@ use Rattle.vm_types.specs.declared.config.Config.{Config}
 use Rattle.vm_journal.specs.declared.entry.Entry.{Entry}
 use Rattle.page_lists.specs.Lists.{count_of}
 use Rattle.pager_model.specs.Around.{past_view}
-use Rattle.pager_model.specs.Cleaning.{evicting}
+use Rattle.pager_policy.specs.Cleaning.{evicting}
 use Rattle.pager_model.specs.Forget.{holds_page}
 use Rattle.pager_model.specs.Maps.{is_private}
-use Rattle.pager_model.specs.Moves.{Control, cleaning, control}
+use Rattle.pager_policy.specs.Moves.{Control, cleaning, control}
 use Rattle.pager_model.specs.Pager.{Pager}
-use Rattle.pager_model.specs.Policy.{move_of}
+use Rattle.pager_policy.specs.Policy.{move_of}
 use Rattle.pager_model.specs.Run.{IsRun, pager_after}
-use Rattle.pager_model.specs.Rundown.{at_slot, holds_shared, is_shared_listed}
-use Rattle.pager_model.specs.Serial.{Heard, IsMove, IsReached}
-use Rattle.pager_model.specs.Text.{is_dirty}
+use Rattle.pager_policy.specs.Rundown.{at_slot, holds_shared, is_shared_listed}
+use Rattle.pager_policy.specs.Serial.{Heard, IsMove, IsReached}
+use Rattle.pager_model.specs.DirtyPages.{is_dirty}
 use Rattle.pager_model.specs.Transfers.{writes_on}
 use Rattle.pager_rules.proofs.Basics.{same_page_refl}
 use Rattle.pager_rules.specs.Kept.{IsKept}

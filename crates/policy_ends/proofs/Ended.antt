@@ -18,14 +18,14 @@ use Rattle.page_lists.specs.Lists.{count_of}
 use Rattle.pager_model.specs.Around.{past_view}
 use Rattle.pager_model.specs.Flights.{open_flights}
 use Rattle.pager_model.specs.Forget.{holds_page}
-use Rattle.pager_model.specs.Given.{Seen, seen_at, seen_by, seen_in, seen_page}
+use Rattle.pager_policy.specs.Given.{Seen, seen_at, seen_by, seen_in, seen_page}
 use Rattle.pager_model.specs.Lookups.{passes, entry_of, has_vpn, is, is_entry, shares, slot_of}
 use Rattle.pager_model.specs.Maps.{is_private}
 use Rattle.pager_model.specs.Pager.{Pager, Valid}
 use Rattle.pager_model.specs.Run.{pager_after}
-use Rattle.pager_model.specs.Rundown.{holds_shared}
-use Rattle.pager_model.specs.Swap.{is_shared_seen}
-use Rattle.pager_model.specs.Text.{dirty_pages, is_dirty, pages_from}
+use Rattle.pager_policy.specs.Rundown.{holds_shared}
+use Rattle.pager_policy.specs.Swap.{is_shared_seen}
+use Rattle.pager_model.specs.DirtyPages.{dirty_pages, is_dirty, pages_from}
 use Rattle.pager_model.specs.Transfers.{writes_on}
 use Rattle.pager_rules.proofs.Basics.{count_cons, nat_eq_refl, none_passes, pages_equal}
 use Rattle.pager_rules.proofs.Lists.{all_found, count_found, found_one, found_passes}

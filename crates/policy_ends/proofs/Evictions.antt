@@ -6,12 +6,12 @@ use Rattle.vm_types.specs.declared.names.FrameState.{FrameState}
 use Rattle.vm_journal.specs.declared.entry.EvictWhy.TheVariants as evict
 use Rattle.pager_model.specs.Changes.{without_entry}
 use Rattle.pager_model.specs.Evict.{after_evict, evicted_ring}
-use Rattle.pager_model.specs.Given.{Seen, page_address, seen_at, seen_by, seen_in}
+use Rattle.pager_policy.specs.Given.{Seen, page_address, seen_at, seen_by, seen_in}
 use Rattle.pager_model.specs.Lookups.{passes, entry_of, slot_of}
 use Rattle.pager_model.specs.Maps.{page_number}
 use Rattle.pager_model.specs.Pager.{Pager, Valid}
-use Rattle.pager_model.specs.Rundown.{is_shared_at}
-use Rattle.pager_model.specs.Swap.{is_shared_seen}
+use Rattle.pager_policy.specs.Rundown.{is_shared_at}
+use Rattle.pager_policy.specs.Swap.{is_shared_seen}
 use Rattle.pager_laws.proofs.EntryPages.{gone_here, gone_there}
 use Rattle.call_laws.proofs.FreeTurn.{same_number}
 use Rattle.call_laws.proofs.WaitsLegal.{IsSeen}

@@ -15,7 +15,7 @@ use Rattle.page_lists.specs.Lists.{count_of, without}
 use Rattle.pager_model.specs.Around.{frame_view, past_view}
 use Rattle.pager_model.specs.Changes.{pushed_if}
 use Rattle.pager_model.specs.Flights.{Direction, Flight, is_reading, open_flights, without_flight, writing}
-use Rattle.pager_model.specs.Given.{by_seat}
+use Rattle.pager_policy.specs.Given.{by_seat}
 use Rattle.pager_model.specs.Maps.{pfn}
 use Rattle.pager_model.specs.Lookups.{is, shares}
 use Rattle.pager_model.specs.Out.{IsOut, after_out}

@@ -11,10 +11,10 @@ use Rattle.vm_journal.specs.declared.entry.What.{What}
 use Rattle.vm_journal.specs.declared.entry.What.TheVariants as what
 use Rattle.pager_model.specs.Changes.{valid_at}
 use Rattle.pager_model.specs.Flights.{Direction, Flight, open_flights, reading, writing, carrier_of}
-use Rattle.pager_model.specs.Given.{by_seat, made_by, page_address}
+use Rattle.pager_policy.specs.Given.{by_seat, made_by, page_address}
 use Rattle.pager_model.specs.Maps.{pfn, page_number, proc}
 use Rattle.pager_model.specs.InOk.{after_in_ok}
-use Rattle.pager_model.specs.Landings.{Outcome, first_bad, landed_by, landing, went_badly, went_well}
+use Rattle.pager_policy.specs.Landings.{Outcome, first_bad, landed_by, landing, went_badly, went_well}
 use Rattle.pager_model.specs.Lookups.{entry_of, is_entry}
 use Rattle.pager_model.specs.Out.{after_any_out}
 use Rattle.pager_model.specs.OutLanding.{after_out_ok, marked}

@@ -11,15 +11,15 @@ use Rattle.vm_journal.specs.declared.entry.EvictWhy.{EvictWhy}
 use Rattle.vm_journal.specs.declared.entry.EvictWhy.TheVariants as evict
 use Rattle.vm_journal.specs.declared.entry.What.{What}
 use Rattle.vm_journal.specs.declared.entry.What.TheVariants as what
-use Rattle.pager_model.specs.Given.{Given, Seen, by_seat, eviction, given, is_stopped, seen_at}
+use Rattle.pager_policy.specs.Given.{Given, Seen, by_seat, eviction, given, is_stopped, seen_at}
 use Rattle.pager_model.specs.Lookups.{passes}
 use Rattle.pager_model.specs.Maps.{proc}
-use Rattle.pager_model.specs.Moves.{Control, Doing, carries, control, makes, rests, while_leaving}
+use Rattle.pager_policy.specs.Moves.{Control, Doing, carries, control, makes, rests, while_leaving}
 use Rattle.pager_model.specs.Pager.{Pager}
-use Rattle.pager_model.specs.Policy.{Ends, leave_move, leave_move_by, unless_all_failed, writing_move}
+use Rattle.pager_policy.specs.Policy.{Ends, leave_move, leave_move_by, unless_all_failed, writing_move}
 use Rattle.pager_model.specs.Run.{IsRun, pager_after}
-use Rattle.pager_model.specs.Swap.{GivenSwap, is_saved, is_shared_unpinned, is_to_save, leave_page, leave_saved, leave_shared, leave_unsaved, run_from, slot_where, swap_again, swap_in_flight, swap_modified_full, swap_more, swap_settled, turned_gone, write_slot, write_slots}
-use Rattle.pager_model.specs.WriteCluster.{BeginIs, Reason, begin_carry, begin_gives, begin_nothing, block_out, is_enough, reason_need, writes_from, writes_taken}
+use Rattle.pager_policy.specs.Swap.{GivenSwap, is_saved, is_shared_unpinned, is_to_save, leave_page, leave_saved, leave_shared, leave_unsaved, run_from, slot_where, swap_again, swap_in_flight, swap_modified_full, swap_more, swap_settled, turned_gone, write_slot, write_slots}
+use Rattle.pager_policy.specs.WriteCluster.{BeginIs, Reason, begin_carry, begin_gives, begin_nothing, block_out, is_enough, reason_need, writes_from, writes_taken}
 use Rattle.pager_rules.proofs.Basics.{each_weaker}
 use Rattle.serial_laws.specs.Between.{IsBetween}
 use Rattle.serial_laws.specs.Controlled.{IsLeft}

@@ -9,11 +9,11 @@ use Rattle.vm_types.specs.declared.config.Config.{Config}
 use Rattle.vm_journal.specs.declared.entry.Entry.{Entry}
 use Rattle.vm_journal.specs.declared.entry.EvictWhy.TheVariants as evict
 use Rattle.pager_model.specs.Evict.{after_evict}
-use Rattle.pager_model.specs.Given.{Seen, goes_to, is_stopped, page_address, seen_at}
+use Rattle.pager_policy.specs.Given.{Seen, goes_to, is_stopped, page_address, seen_at}
 use Rattle.pager_model.specs.Lookups.{passes, is, is_entry, shares}
 use Rattle.pager_model.specs.Pager.{Pager, Valid}
-use Rattle.pager_model.specs.Rundown.{is_shared_at}
-use Rattle.pager_model.specs.Swap.{is_shared_seen}
+use Rattle.pager_policy.specs.Rundown.{is_shared_at}
+use Rattle.pager_policy.specs.Swap.{is_shared_seen}
 use Rattle.pager_rules.proofs.Lists.{count_found}
 use Rattle.call_laws.proofs.WaitsLegal.{IsSeen, is_seen}
 use Rattle.policy_ends.specs.Clean.{IsEarlier}

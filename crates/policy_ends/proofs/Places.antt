@@ -14,13 +14,13 @@ use Rattle.vm_journal.specs.declared.entry.What.{What}
 use Rattle.vm_journal.specs.declared.entry.What.TheVariants as what
 use Rattle.pager_model.specs.Flights.{Direction, Flight, reading, writing, carrier_of}
 use Rattle.vm_types.specs.declared.names.Page.{Page}
-use Rattle.pager_model.specs.Given.{by_seat, made_by, with_reply}
-use Rattle.pager_model.specs.Landings.{Outcome, all_bad, landed_by, landing, reuse_of, went_badly, went_well}
-use Rattle.pager_model.specs.Moves.{Control, Doing, Move, asking, carries, control, goes, makes}
-use Rattle.pager_model.specs.Policy.{Ends, ends_part, ends_request, failing, next_task, unless_all_failed}
+use Rattle.pager_policy.specs.Given.{by_seat, made_by, with_reply}
+use Rattle.pager_policy.specs.Landings.{Outcome, all_bad, landed_by, landing, reuse_of, went_badly, went_well}
+use Rattle.pager_policy.specs.Moves.{Control, Doing, Move, asking, carries, control, goes, makes}
+use Rattle.pager_policy.specs.Policy.{Ends, ends_part, ends_request, failing, next_task, unless_all_failed}
 use Rattle.pager_model.specs.Spoken.{spoken, request_of}
 use Rattle.pager_model.specs.Run.{IsRun, pager_after}
-use Rattle.pager_model.specs.Serial.{GoesOn, Heard, IsMade, IsRefused, refusal_of}
+use Rattle.pager_policy.specs.Serial.{GoesOn, Heard, IsMade, IsRefused, refusal_of}
 use Rattle.pager_rules.proofs.Basics.{count_cons_no, count_cons_yes}
 use Rattle.serial_laws.proofs.Known.{landed_from}
 use Rattle.policy_ends.specs.Rank.{IsLower, is_met, numbers_for, phase, process_at_hand, process_of, rank, unanswered, unmet, unmet_of}

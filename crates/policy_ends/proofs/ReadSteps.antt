@@ -17,10 +17,10 @@ use Rattle.pager_model.specs.Around.{entry_view, past_view, page_view, process_v
 use Rattle.pager_model.specs.Changes.{is_section_block, lies_nowhere, without_page}
 use Rattle.pager_model.specs.Counted.{last_count}
 use Rattle.pager_model.specs.Flights.{Direction, Flight, failed_flight, is_reading, open_flights, reading, without_flight, writing}
-use Rattle.pager_model.specs.Given.{by_seat, made_by}
+use Rattle.pager_policy.specs.Given.{by_seat, made_by}
 use Rattle.pager_model.specs.Maps.{pfn, is_private, proc}
 use Rattle.pager_model.specs.InOk.{IsInOk, after_in_ok, after_read}
-use Rattle.pager_model.specs.Landings.{Outcome, all_bad, landed_by, landing, reuse_of, went_badly, went_well}
+use Rattle.pager_policy.specs.Landings.{Outcome, all_bad, landed_by, landing, reuse_of, went_badly, went_well}
 use Rattle.pager_model.specs.Out.{after_any_out}
 use Rattle.pager_model.specs.OutLanding.{after_out_ok, marked}
 use Rattle.pager_model.specs.Pager.{Pager}

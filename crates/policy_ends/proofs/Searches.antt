@@ -4,11 +4,11 @@ use Rattle.std.specs.List.{range_with_len}
 use Rattle.std.proofs.lemmas.Bool.{and_parts, cases_eq, false≢true, le-leb, ltb-false, ltb-true}
 use Rattle.std.proofs.lemmas.Option.{none-some, same_Some, slice_get_past}
 use Rattle.vm_types.specs.declared.config.Config.{Config}
-use Rattle.pager_model.specs.Given.{seen_in, slots_of}
+use Rattle.pager_policy.specs.Given.{seen_in, slots_of}
 use Rattle.pager_model.specs.Lookups.{passes, slot_of}
 use Rattle.pager_model.specs.Pager.{Pager}
-use Rattle.pager_model.specs.Rundown.{Place, is_shared_at, place_in, shared_from, shared_of_processes, shared_place}
-use Rattle.pager_model.specs.Swap.{is_shared_seen}
+use Rattle.pager_policy.specs.Rundown.{Place, is_shared_at, place_in, shared_from, shared_of_processes, shared_place}
+use Rattle.pager_policy.specs.Swap.{is_shared_seen}
 use Rattle.pager_rules.proofs.Lists.{found_passes}
 use Rattle.policy_ends.specs.Clean.{IsEarlier}
 

@@ -14,14 +14,14 @@ use Rattle.vm_journal.specs.declared.entry.Entry.{Entry}
 use Rattle.vm_journal.specs.declared.entry.EvictWhy.{EvictWhy}
 use Rattle.vm_journal.specs.declared.entry.EvictWhy.TheVariants as evict
 use Rattle.vm_journal.specs.declared.entry.What.TheVariants as what
-use Rattle.pager_model.specs.Given.{by_seat, eviction, given, is_stopped}
+use Rattle.pager_policy.specs.Given.{by_seat, eviction, given, is_stopped}
 use Rattle.pager_model.specs.Lookups.{entry_of, is_resident}
-use Rattle.pager_model.specs.Moves.{Control, asking, control, saving}
+use Rattle.pager_policy.specs.Moves.{Control, asking, control, saving}
 use Rattle.pager_model.specs.Pager.{Pager, Valid}
-use Rattle.pager_model.specs.Policy.{ends_request, next_task, serve_move_by}
+use Rattle.pager_policy.specs.Policy.{ends_request, next_task, serve_move_by}
 use Rattle.pager_model.specs.Ring.{range_locked, range_pinned}
 use Rattle.pager_model.specs.Run.{pager_after}
-use Rattle.pager_model.specs.Serve.{GivenServe, delete_given, evict_given, is_range_in_flight, limits_given, lock_given, loose_in, purge_given, serve_again, serve_gives, serve_in_flight, serve_modified_full, serve_more, serve_not_resident, served_with, service_gives, valid_in}
+use Rattle.pager_policy.specs.Serve.{GivenServe, delete_given, evict_given, is_range_in_flight, limits_given, lock_given, loose_in, purge_given, serve_again, serve_gives, serve_in_flight, serve_modified_full, serve_more, serve_not_resident, served_with, service_gives, valid_in}
 use Rattle.pager_model.specs.MappedRanges.{is_unmapped}
 use Rattle.pager_model.specs.Spoken.{request_of}
 use Rattle.pager_rules.proofs.Basics.{count_cons_yes}

@@ -14,7 +14,7 @@ use Rattle.vm_journal.specs.declared.entry.What.TheVariants as what
 use Rattle.pager_model.specs.Around.{past_view}
 use Rattle.pager_model.specs.Evict.{IsEvict, IsTaken, evicted_ring, victim_of}
 use Rattle.pager_model.specs.Flights.{awaits_reuse}
-use Rattle.pager_model.specs.Given.{by_seat, eviction, goes_to}
+use Rattle.pager_policy.specs.Given.{by_seat, eviction, goes_to}
 use Rattle.pager_model.specs.Lookups.{is_pending, slot_with}
 use Rattle.pager_model.specs.Maps.{page_number, proc}
 use Rattle.pager_model.specs.Pager.{Pager}

@@ -19,9 +19,9 @@ use Rattle.vm_journal.specs.declared.entry.Entry.{Entry}
 use Rattle.page_lists.proofs.Counts.{length-once}
 use Rattle.pager_model.specs.Around.{past_view}
 use Rattle.pager_model.specs.Lookups.{has_vpn, is, is_coming, is_entry, is_pending}
-use Rattle.pager_model.specs.Moves.{Control, Doing, asking, cleaning, freeing, saving}
+use Rattle.pager_policy.specs.Moves.{Control, Doing, asking, cleaning, freeing, saving}
 use Rattle.pager_model.specs.Pager.{Pager, Valid}
-use Rattle.pager_model.specs.Policy.{next_task}
+use Rattle.pager_policy.specs.Policy.{next_task}
 use Rattle.pager_model.specs.Run.{IsRun, pager_after}
 use Rattle.pager_model.specs.Sets.{has}
 use Rattle.pager_rules.proofs.Basics.{count_cons_no, nat_eq_refl, states_equal}

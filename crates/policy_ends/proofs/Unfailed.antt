@@ -7,9 +7,9 @@ use Rattle.vm_journal.specs.declared.entry.What.{What}
 use Rattle.vm_journal.specs.declared.entry.What.TheVariants as what
 use Rattle.pager_model.specs.Counted.{last_count}
 use Rattle.pager_model.specs.Flights.{Direction, Flight, reading, writing}
-use Rattle.pager_model.specs.Given.{by_seat, made_by}
+use Rattle.pager_policy.specs.Given.{by_seat, made_by}
 use Rattle.pager_model.specs.Maps.{pfn}
-use Rattle.pager_model.specs.Landings.{Outcome, all_bad, landed_by, landing, reuse_of, went_badly, went_well}
+use Rattle.pager_policy.specs.Landings.{Outcome, all_bad, landed_by, landing, reuse_of, went_badly, went_well}
 use Rattle.pager_model.specs.Run.{pager_after}
 use Rattle.serial_laws.specs.Refused.{is_failure}
 use Rattle.pager_rules.proofs.Basics.{count_cons, count_cons_yes}

@@ -11,16 +11,16 @@ use Rattle.vm_types.specs.declared.service.Request.{Request}
 use Rattle.vm_types.specs.declared.service.Request.TheVariants as request
 use Rattle.vm_journal.specs.declared.entry.Entry.{Entry}
 use Rattle.vm_journal.specs.declared.entry.What.TheVariants as what
-use Rattle.pager_model.specs.Given.{by_seat}
+use Rattle.pager_policy.specs.Given.{by_seat}
 use Rattle.pager_model.specs.Lookups.{entry_of, is_coming, is_entry, is_resident}
 use Rattle.pager_model.specs.Maps.{page_number, proc}
-use Rattle.pager_model.specs.Moves.{Control, Doing, Move, asking, cleaning, control, freeing, saving, while_leaving}
+use Rattle.pager_policy.specs.Moves.{Control, Doing, Move, asking, cleaning, control, freeing, saving, while_leaving}
 use Rattle.pager_model.specs.Pager.{Pager}
-use Rattle.pager_model.specs.Policy.{asked_move, asking_move, coming_process, ends_part, ends_request, finding_move, freeing_move, gone_move, is_freeing, is_saving, move_of, next_task, resident_move, saving_by, saving_move, status_move, swapper_of, task_move}
+use Rattle.pager_policy.specs.Policy.{asked_move, asking_move, coming_process, ends_part, ends_request, finding_move, freeing_move, gone_move, is_freeing, is_saving, move_of, next_task, resident_move, saving_by, saving_move, status_move, swapper_of, task_move}
 use Rattle.pager_model.specs.Run.{IsRun, pager_after}
-use Rattle.pager_model.specs.Rundown.{writer_of}
-use Rattle.pager_model.specs.Serial.{Heard, IsMove}
-use Rattle.pager_model.specs.WriteCluster.{BeginIs, begin_carry, begin_gives, begin_nothing, reason_high}
+use Rattle.pager_policy.specs.Rundown.{writer_of}
+use Rattle.pager_policy.specs.Serial.{Heard, IsMove}
+use Rattle.pager_policy.specs.WriteCluster.{BeginIs, begin_carry, begin_gives, begin_nothing, reason_high}
 use Rattle.pager_rules.proofs.Basics.{find_none_from_count}
 use Rattle.pager_rules.proofs.Lists.{found_passes}
 use Rattle.serial_laws.specs.Between.{IsBetween}

@@ -12,9 +12,9 @@ use Rattle.vm_journal.specs.declared.entry.What.{What}
 use Rattle.vm_journal.specs.declared.entry.What.TheVariants as what
 use Rattle.pager_model.specs.Counted.{last_count}
 use Rattle.pager_model.specs.Flights.{Direction, Flight, is_reading, open_flights, reading, writing, carrier_of}
-use Rattle.pager_model.specs.Given.{by_seat, made_by}
+use Rattle.pager_policy.specs.Given.{by_seat, made_by}
 use Rattle.pager_model.specs.Maps.{pfn}
-use Rattle.pager_model.specs.Landings.{Outcome, all_bad, landed_by, landing, reuse_of, went_badly, went_well}
+use Rattle.pager_policy.specs.Landings.{Outcome, all_bad, landed_by, landing, reuse_of, went_badly, went_well}
 use Rattle.pager_model.specs.Lookups.{is_pending}
 use Rattle.pager_model.specs.OutLanding.{IsOutOk, after_out_ok, marked}
 use Rattle.pager_model.specs.Pager.{Pager}

@@ -28,7 +28,7 @@ use Rattle.pager_model.specs.OutLanding.{after_out_ok, lies_at, marked}
 use Rattle.pager_model.specs.Pager.{Pager, Valid}
 use Rattle.pager_model.specs.Sets.{at_number, at_page}
 use Rattle.pager_model.specs.Sound.{FitsSlot}
-use Rattle.pager_model.specs.Swap.{is_still}
+use Rattle.pager_policy.specs.Swap.{is_still}
 use Rattle.pager_model.specs.Transfers.{is_in_flight, is_read_on, is_write_on, reads_on, starts, writes_on}
 use Rattle.pager_rules.proofs.Basics.{at_number_other, at_number_same, count_cons, count_cons_no, count_cons_yes, each_weaker, nat_eq_refl, pages_equal, same_page_refl}
 use Rattle.pager_rules.proofs.Frames.{at_state, modified_frame}

@@ -2,7 +2,7 @@
 use Rattle.std.specs.Prelude.{ℕ, ◌+◌, ◌*◌, ◌^◌, List, [], ◌∷◌, length}
 use Rattle.vm_types.specs.declared.config.Config.{Config}
 use Rattle.vm_journal.specs.declared.entry.Entry.{Entry}
-use Rattle.pager_model.specs.Moves.{Control}
+use Rattle.pager_policy.specs.Moves.{Control}
 use Rattle.policy_ends.specs.Rank.{rank}
 
 -- the value of these digits to a base, the first one the highest

@@ -1,10 +1,10 @@
 -- What the rundown has cleaned, by where it is, as long as no transfer of it failed. This project's own.
 use Rattle.std.specs.Prelude.{◌≡◌, ◌⊎◌, ℕ, false, ◌<◌, ◌≤◌, List, length, count_by}
 use Rattle.vm_journal.specs.declared.entry.Entry.{Entry}
-use Rattle.pager_model.specs.Cleaning.{Cleaning, evicting, rounds}
-use Rattle.pager_model.specs.Moves.{Control, cleaning, control}
+use Rattle.pager_policy.specs.Cleaning.{Cleaning, evicting, rounds}
+use Rattle.pager_policy.specs.Moves.{Control, cleaning, control}
 use Rattle.pager_model.specs.Pager.{Pager}
-use Rattle.pager_model.specs.Rundown.{is_shared_at, is_shared_listed}
+use Rattle.pager_policy.specs.Rundown.{is_shared_at, is_shared_listed}
 use Rattle.serial_laws.specs.Refused.{is_failure}
 
 -- how many transfers of these entries failed

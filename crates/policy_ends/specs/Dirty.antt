@@ -6,9 +6,9 @@ use Rattle.vm_types.specs.declared.config.Config.{Config}
 use Rattle.vm_journal.specs.declared.entry.Entry.{Entry}
 use Rattle.vm_journal.specs.declared.entry.What.{What}
 use Rattle.vm_journal.specs.declared.entry.What.TheVariants as what
-use Rattle.pager_model.specs.Given.{Seen, seen_at}
+use Rattle.pager_policy.specs.Given.{Seen, seen_at}
 use Rattle.pager_model.specs.Pager.{Pager}
-use Rattle.pager_model.specs.Text.{is_dirty}
+use Rattle.pager_model.specs.DirtyPages.{is_dirty}
 
 -- whether the last landed write of frame f failed, with one entry more
 abbrev pub failed_by : ℕ → Bool → What → Bool

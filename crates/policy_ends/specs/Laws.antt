@@ -4,10 +4,10 @@ use Rattle.std.specs.List.{AllByRecursion}
 use Rattle.vm_types.specs.Configuration.{IsWellFormed}
 use Rattle.vm_types.specs.declared.config.Config.{Config}
 use Rattle.vm_journal.specs.declared.entry.Entry.{Entry}
-use Rattle.pager_model.specs.Moves.{Control, asking, control}
+use Rattle.pager_policy.specs.Moves.{Control, asking, control}
 use Rattle.pager_model.specs.Spoken.{spoken}
 use Rattle.pager_model.specs.Run.{IsRun}
-use Rattle.pager_model.specs.Serial.{Heard, IsMove, IsReached}
+use Rattle.pager_policy.specs.Serial.{Heard, IsMove, IsReached}
 use Rattle.serial_laws.specs.Between.{IsBetween}
 use Rattle.serial_laws.specs.Controlled.{IsControlled, IsInBody}
 use Rattle.policy_ends.specs.Bound.{base_of_ranks, most_moves}

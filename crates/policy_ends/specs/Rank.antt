@@ -17,12 +17,12 @@ use Rattle.vm_journal.specs.declared.entry.Entry.{Entry}
 use Rattle.pager_model.specs.Lying.{lies_in}
 use Rattle.pager_model.specs.Lookups.{entry_of, is_coming, is_leaving, is_pending, is_resident, slot_with}
 use Rattle.pager_model.specs.Maps.{is_private, page_number, proc}
-use Rattle.pager_model.specs.Moves.{Control, Doing, asking, freeing, saving}
+use Rattle.pager_policy.specs.Moves.{Control, Doing, asking, freeing, saving}
 use Rattle.pager_model.specs.Pager.{Pager, Valid}
-use Rattle.pager_model.specs.Policy.{next_task}
+use Rattle.pager_policy.specs.Policy.{next_task}
 use Rattle.pager_model.specs.Spoken.{spoken}
 use Rattle.pager_model.specs.Run.{pager_after}
-use Rattle.pager_model.specs.Swap.{is_still}
+use Rattle.pager_policy.specs.Swap.{is_still}
 use Rattle.pager_rules.specs.Kept.{one_if}
 
 -- compared at the first place where they differ

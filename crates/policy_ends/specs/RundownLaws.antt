@@ -6,8 +6,8 @@ use Rattle.vm_types.specs.declared.names.Page.{Page}
 use Rattle.vm_journal.specs.declared.entry.Entry.{Entry}
 use Rattle.pager_model.specs.Maps.{is_private}
 use Rattle.pager_model.specs.Run.{IsRun, pager_after}
-use Rattle.pager_model.specs.Serial.{IsWhole}
-use Rattle.pager_model.specs.Text.{dirty_pages}
+use Rattle.pager_policy.specs.Serial.{IsWhole}
+use Rattle.pager_model.specs.DirtyPages.{dirty_pages}
 use Rattle.policy_ends.specs.Clean.{NoneFailed}
 use Rattle.policy_ends.specs.Dirty.{IsDirtyBecause}
 

@@ -8,7 +8,7 @@ use Rattle.std.proofs.KnownBytes.{Appends-kept}
 use Rattle.std.proofs.lemmas.List.{take_all}
 use Rattle.vm_types.specs.Moved.{Moved, moved}
 use Rattle.outside_io.specs.Views.{SourceView, SinkView}
-use Rattle.pager_model.specs.Text.{status_line}
+use Rattle.run_words.specs.Text.{status_line}
 use Rattle.command_ends.specs.Ends.{Ends}
 use Rattle.command_ends.specs.Wrongs.{IsWrong}
 use Rattle.command_ends.proofs.Wronging.{seven_right}

@@ -7,7 +7,7 @@ use Rattle.disk_trait.specs.DepotView.{DepotView}
 use Rattle.vm_types.specs.Moved.{Moved}
 use Rattle.vm_types.specs.Counts.{Rose}
 use Rattle.outside_io.specs.Views.{SourceView, SinkView}
-use Rattle.pager_model.specs.Text.{status_line}
+use Rattle.run_words.specs.Text.{status_line}
 use Rattle.replay_cli.specs.Commands.{Told}
 use Rattle.replay_command.specs.ReplayCall.{BeginsReplay, ReplayTold}
 use Rattle.program_call.specs.Words.{HandsOver}

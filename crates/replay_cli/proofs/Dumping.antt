@@ -12,9 +12,9 @@ use Rattle.outside_io.specs.Views.{SinkView, SourceView}
 use Rattle.trace_reader.specs.Answer.{Answers, FaultsBy}
 use Rattle.trace_reader.specs.declared.fault.TraceFault.{TraceFault}
 use Rattle.pager_model.specs.Asked.{IsAsked}
-use Rattle.pager_model.specs.Serial.{IsSerial}
+use Rattle.pager_policy.specs.Serial.{IsSerial}
 use Rattle.pager_model.specs.Spoken.{IsRight}
-use Rattle.pager_model.specs.Text.{status_line}
+use Rattle.run_words.specs.Text.{status_line}
 use Rattle.pager_laws.specs.Laws.{RunsAreSound}
 use Rattle.command_ends.specs.Concludes.{Concludes, EndsAnswered}
 use Rattle.command_ends.specs.Ends.{Ends}

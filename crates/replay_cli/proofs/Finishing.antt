@@ -7,7 +7,7 @@ use Rattle.vm_types.specs.declared.config.Config.{Config}
 use Rattle.vm_types.specs.declared.names.Page.{Page}
 use Rattle.vm_journal.specs.declared.entry.Entry.{Entry}
 use Rattle.disk_trait.specs.DepotView.{DepotView}
-use Rattle.pager_model.specs.Text.{run_text}
+use Rattle.run_words.specs.Text.{run_text}
 use Rattle.pager_laws.specs.Laws.{RunsAreSound}
 use Rattle.vm_types.specs.Moved.{moved}
 use Rattle.command_ends.specs.Concludes.{IsOutcome}

@@ -7,8 +7,8 @@ use Rattle.vm_types.specs.declared.config.Config.{Config}
 use Rattle.vm_types.specs.Moved.{Moved, moved}
 use Rattle.disk_trait.specs.DepotView.{DepotView}
 use Rattle.outside_io.specs.Views.{SinkView}
-use Rattle.pager_model.specs.Serial.{IsSerial}
-use Rattle.pager_model.specs.Text.{status_line}
+use Rattle.pager_policy.specs.Serial.{IsSerial}
+use Rattle.run_words.specs.Text.{status_line}
 use Rattle.pager_laws.specs.Laws.{RunsAreSound}
 use Rattle.command_ends.specs.Concludes.{Concludes, EndsAnswered}
 use Rattle.command_ends.specs.Wrongs.{TellsWrong}

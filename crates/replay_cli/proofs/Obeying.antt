@@ -7,8 +7,8 @@ use Rattle.vm_types.specs.Moved.{moved}
 use Rattle.vm_types.specs.Counts.{Rose}
 use Rattle.outside_io.specs.Views.{SinkView, SourceView}
 use Rattle.pager_model.specs.Run.{pager_after}
-use Rattle.pager_model.specs.Serial.{IsSerial}
-use Rattle.pager_model.specs.Text.{dirty_pages}
+use Rattle.pager_policy.specs.Serial.{IsSerial}
+use Rattle.pager_model.specs.DirtyPages.{dirty_pages}
 use Rattle.trace_maker.specs.Made.{made_config}
 use Rattle.command_ends.specs.Concludes.{Concludes}
 use Rattle.command_ends.specs.Tells.{IsTrace, Tells}

@@ -9,7 +9,7 @@ use Rattle.vm_journal.specs.declared.entry.Entry.{Entry}
 use Rattle.disk_trait.specs.DepotView.{DepotView}
 use Rattle.outside_io.specs.Views.{SinkView, SourceView}
 use Rattle.pager_model.specs.Run.{pager_after}
-use Rattle.pager_model.specs.Text.{dirty_pages}
+use Rattle.pager_model.specs.DirtyPages.{dirty_pages}
 use Rattle.command_ends.specs.Tells.{IsTrace, Reads, Tells, answered, faulty, unfinished, unread, no_memory}
 use Rattle.command_ends.proofs.Telling as telling
 use Rattle.replay_cli.specs.Headline.{IsFinishedRun, IsRunAnswer, IsServedBy, RunTells}

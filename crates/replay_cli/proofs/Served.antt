@@ -2,7 +2,7 @@
 use Rattle.std.proofs.Common.{◌≡◌, ◌≢◌, ℕ, List, [], ◌∷◌, length, codes, sym, ◌∙◌, ap, refl, arith}
 use Rattle.vm_types.specs.Moved.{Moved}
 use Rattle.outside_io.specs.Views.{SinkView, SourceView}
-use Rattle.pager_model.specs.Serial.{IsSerial}
+use Rattle.pager_policy.specs.Serial.{IsSerial}
 use Rattle.command_ends.specs.Concludes.{HasTold}
 use Rattle.replay_cli.specs.Commands.{Asks, Obeys, Told, usage, unread_options, obeyed}
 use Rattle.disk_trait.specs.DepotView.{DepotView}

@@ -9,7 +9,7 @@ use Rattle.disk_trait.specs.DepotView.{DepotView}
 use Rattle.outside_io.specs.Views.{SinkView, SourceView}
 use Rattle.trace_reader.specs.Answer.{Answers, FaultsBy}
 use Rattle.trace_reader.specs.declared.fault.TraceFault.{TraceFault}
-use Rattle.pager_model.specs.Text.{status_line}
+use Rattle.run_words.specs.Text.{status_line}
 use Rattle.command_ends.specs.Concludes.{Concludes, EndsAnswered, IsOutcome}
 use Rattle.command_ends.specs.Ends.{Ends}
 use Rattle.command_ends.specs.FaultText.{fault_status, fault_told}

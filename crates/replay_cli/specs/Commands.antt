@@ -6,7 +6,7 @@ use Rattle.std.specs.declared.option.Option.{Option}
 use Rattle.vm_types.specs.Moved.{Moved}
 use Rattle.disk_trait.specs.DepotView.{DepotView}
 use Rattle.outside_io.specs.Views.{SourceView}
-use Rattle.pager_model.specs.Text.{status_line}
+use Rattle.run_words.specs.Text.{status_line}
 use Rattle.check_command.specs.CheckTells.{CheckTells, HasCheckInput}
 use Rattle.command_ends.specs.Tells.{IsTrace, Tells}
 use Rattle.study_command.specs.CommandLine.{AsksFor}

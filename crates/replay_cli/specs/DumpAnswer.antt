@@ -11,7 +11,7 @@ use Rattle.pager_model.specs.Asked.{IsAsked}
 use Rattle.pager_model.specs.Flights.{awaits_reuse, open_flights}
 use Rattle.pager_model.specs.Order.{IsAnswered, IsInOrder}
 use Rattle.pager_model.specs.Run.{IsRun}
-use Rattle.pager_model.specs.Serial.{IsSerial}
+use Rattle.pager_policy.specs.Serial.{IsSerial}
 use Rattle.pager_model.specs.Spoken.{IsRight}
 use Rattle.pager_laws.specs.Laws.{IsSoundThroughout}
 use Rattle.dump_bytes.specs.Text.{dump_text}

@@ -4,7 +4,7 @@ use Rattle.std.specs.Io.KnownBytes.{Appends}
 use Rattle.vm_types.specs.Moved.{Moved}
 use Rattle.disk_trait.specs.DepotView.{DepotView}
 use Rattle.outside_io.specs.Views.{SinkView, SourceView}
-use Rattle.pager_model.specs.Text.{status_line}
+use Rattle.run_words.specs.Text.{status_line}
 use Rattle.dump_lines.specs.ShowText.{count_line}
 use Rattle.show_command.specs.ShowTells.{HasDump}
 use Rattle.replay_cli.specs.CommandRun.{IsCommandRun}

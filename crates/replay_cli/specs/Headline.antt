@@ -14,9 +14,10 @@ use Rattle.pager_model.specs.Asked.{IsAsked}
 use Rattle.pager_model.specs.Maps.{is_private}
 use Rattle.pager_model.specs.Order.{IsInOrder}
 use Rattle.pager_model.specs.Run.{IsRun, pager_after}
-use Rattle.pager_model.specs.Serial.{IsSerial, IsWhole}
+use Rattle.pager_policy.specs.Serial.{IsSerial, IsWhole}
 use Rattle.pager_model.specs.Spoken.{IsRight}
-use Rattle.pager_model.specs.Text.{dirty_pages, run_text, status_line}
+use Rattle.run_words.specs.Text.{run_text, status_line}
+use Rattle.pager_model.specs.DirtyPages.{dirty_pages}
 use Rattle.pager_model.specs.WrittenBack.{AreWrittenBack}
 use Rattle.pager_laws.specs.Laws.{IsSoundThroughout}
 use Rattle.command_ends.specs.Tells.{Tells}

@@ -4,8 +4,8 @@ use Rattle.std.specs.Prelude.{◌≡◌, ◌⊎◌, ℕ, List, ◌++◌, reverse
 use Rattle.vm_types.specs.Moved.{Moved}
 use Rattle.vm_journal.specs.declared.entry.Entry.{Entry}
 use Rattle.disk_trait.specs.DepotView.{DepotView}
-use Rattle.pager_model.specs.Serial.{IsSerial}
-use Rattle.pager_model.specs.Text.{status_line}
+use Rattle.pager_policy.specs.Serial.{IsSerial}
+use Rattle.run_words.specs.Text.{status_line}
 use Rattle.trace_maker.specs.Made.{made_config}
 use Rattle.command_ends.specs.Concludes.{IsOutcome}
 use Rattle.replay_cli.specs.Headline.{HasNoBlocks, IsRunOver, finished_status}

@@ -2,7 +2,7 @@
 
 ghost use Rattle.std.specs.Prelude.{◌≡◌, ◌≤◌, ◌++◌, List, length};
 ghost use Rattle.vm_journal.specs.declared.entry.Entry.{Entry};
-ghost use Rattle.pager_model.specs.Text.{status_line};
+ghost use Rattle.run_words.specs.Text.{status_line};
 ghost use Rattle.vm_types.specs.Moved.{moved};
 ghost use Rattle.command_ends.specs.Concludes.{EndsAnswered};
 ghost use Rattle.command_ends.specs.Ends.{Ends};

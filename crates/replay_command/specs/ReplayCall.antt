@@ -5,7 +5,7 @@ use Rattle.vm_types.specs.Moved.{Moved}
 use Rattle.vm_types.specs.Counts.{Rose}
 use Rattle.disk_trait.specs.DepotView.{DepotView}
 use Rattle.outside_io.specs.Views.{SinkView, SourceView}
-use Rattle.pager_model.specs.Text.{status_line}
+use Rattle.run_words.specs.Text.{status_line}
 use Rattle.command_ends.specs.Concludes.{HasTold, WasCut}
 use Rattle.command_ends.specs.Tells.{IsTrace}
 use Rattle.replay_cli.specs.Headline.{IsServedBy, RunTells}

@@ -8,7 +8,7 @@ use Rattle.vm_journal.specs.declared.entry.Entry.{Entry}
 use Rattle.vm_journal.specs.declared.entry.What.{What}
 use Rattle.vm_journal.specs.declared.entry.What.TheVariants as what
 use Rattle.pager_model.specs.Flights.{Flight, open_flights, without_flight, carrier_of}
-use Rattle.pager_model.specs.Given.{by_seat}
+use Rattle.pager_policy.specs.Given.{by_seat}
 use Rattle.pager_model.specs.Run.{IsRun}
 
 -- its seat is below the number

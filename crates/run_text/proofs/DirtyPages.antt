@@ -12,7 +12,7 @@ use Rattle.vm_types.specs.declared.names.Page.TheVariants.{Shared}
 use Rattle.vm_text.specs.Named.{AreNames, IsPrintablePage, IsShortSection}
 use Rattle.vm_text.proofs.Printable.{config_names, section_named}
 use Rattle.pager_model.specs.Pager.{Pager}
-use Rattle.pager_model.specs.Text.{dirty_pages, is_dirty, pages_from}
+use Rattle.pager_model.specs.DirtyPages.{dirty_pages, is_dirty, pages_from}
 
 module _ (procs : ℕ) (names : List Section) (are : AreNames procs names) where
   short_name : (s : ℕ) → s < length names → IsShortSection names s

@@ -9,7 +9,7 @@ use Rattle.outside_io.specs.declared.whole.WriteFault.{WriteFault}
 use Rattle.outside_io.specs.Views.{SinkView}
 use Rattle.outside_io.specs.Writes.{Writes}
 use Rattle.outside_io.proofs.WritesInTurn.{Progress, writes_then}
-use Rattle.pager_model.specs.Text.{ended, entry_lines}
+use Rattle.run_words.specs.Text.{ended, entry_lines}
 
 entry_lines-next : (number procs : ℕ) (names : List Section) (entries : List Entry) (i : ℕ) (d : Entry) → i < length entries
     → entry_lines number procs names (drop i entries)

@@ -5,7 +5,7 @@ use Rattle.std.proofs.lemmas.List.{drop_more}
 use Rattle.vm_types.specs.declared.config.Section.{Section}
 use Rattle.vm_types.specs.declared.names.Page.{Page}
 use Rattle.vm_text.specs.Names.{page_text}
-use Rattle.pager_model.specs.Text.{dirty_lines, ended, frame_line, frame_lines, process_text, process_lines}
+use Rattle.run_words.specs.Text.{dirty_lines, ended, frame_line, frame_lines, process_text, process_lines}
 use Rattle.run_text.specs.declared.report.FrameRow.{FrameRow}
 use Rattle.run_text.specs.declared.report.ProcessRow.{ProcessRow}
 use Rattle.run_text.specs.Rows.{frame_view, process_view}

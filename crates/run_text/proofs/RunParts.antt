@@ -10,7 +10,8 @@ use Rattle.vm_journal.specs.declared.entry.Entry.{Entry}
 use Rattle.pager_laws.proofs.RunLines.{run_lines}
 use Rattle.pager_model.specs.Report.{Report, report_of}
 use Rattle.pager_model.specs.Run.{IsRun, pager_after}
-use Rattle.pager_model.specs.Text.{dirty_lines, dirty_pages, entry_lines, report_text, run_text, status_line}
+use Rattle.run_words.specs.Text.{dirty_lines, entry_lines, report_text, run_text, status_line}
+use Rattle.pager_model.specs.DirtyPages.{dirty_pages}
 use Rattle.run_text.specs.Parts.{parts_text}
 use Rattle.run_text.specs.Reported.{AreParts}
 

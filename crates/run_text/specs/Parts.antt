@@ -4,7 +4,7 @@ use Rattle.vm_types.specs.declared.config.Section.{Section}
 use Rattle.vm_types.specs.declared.names.Page.{Page}
 use Rattle.vm_journal.specs.declared.entry.Entry.{Entry}
 use Rattle.pager_model.specs.Report.{Report}
-use Rattle.pager_model.specs.Text.{dirty_lines, entry_lines, report_text}
+use Rattle.run_words.specs.Text.{dirty_lines, entry_lines, report_text}
 
 -- 0, and 5 if there is a page that is still held with modify set
 abbrev pub run_status : List Page → ℕ

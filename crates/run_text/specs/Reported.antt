@@ -6,7 +6,7 @@ use Rattle.vm_types.specs.declared.names.Page.{Page}
 use Rattle.vm_journal.specs.declared.entry.Entry.{Entry}
 use Rattle.pager_model.specs.Report.{Report, report_of}
 use Rattle.pager_model.specs.Run.{IsRun, pager_after}
-use Rattle.pager_model.specs.Text.{dirty_pages}
+use Rattle.pager_model.specs.DirtyPages.{dirty_pages}
 use Rattle.run_text.specs.Printable.{IsPrintable}
 
 -- the past has the entries before the report's place and the rest those after it, both the newest first; the whole

@@ -2,7 +2,7 @@ ghost use Rattle.std.specs.Prelude.{◌++◌, All, codes};
 ghost use Rattle.vm_text.specs.Names.{page_text};
 ghost use Rattle.vm_text.specs.Named.{IsPrintablePage};
 ghost use Rattle.outside_io.specs.Writes.{Writes};
-ghost use Rattle.pager_model.specs.Text.{dirty_lines, ended};
+ghost use Rattle.run_words.specs.Text.{dirty_lines, ended};
 
 use arrayvec::ArrayVec;
 use command_ends::write_line;

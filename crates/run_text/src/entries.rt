@@ -4,7 +4,7 @@ ghost use Rattle.vm_text.specs.Named.{AreNames};
 ghost use Rattle.vm_journal.specs.HasLine.{HasLine};
 ghost use Rattle.vm_journal.specs.Line.{line_text};
 ghost use Rattle.outside_io.specs.Writes.{Writes};
-ghost use Rattle.pager_model.specs.Text.{ended, entry_lines};
+ghost use Rattle.run_words.specs.Text.{ended, entry_lines};
 
 use arrayvec::ArrayVec;
 use entry_lines::add_line;

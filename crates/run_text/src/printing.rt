@@ -2,7 +2,7 @@ ghost use Rattle.std.specs.Prelude.{◌≡◌, ◌+◌, ◌<◌, ◌≤◌, ◌+
 ghost use Rattle.arrayvec.specs.ArrayVec.{array_vec_len};
 ghost use Rattle.vm_text.specs.Named.{IsPrintablePage};
 ghost use Rattle.outside_io.specs.Writes.{Writes};
-ghost use Rattle.pager_model.specs.Text.{ended, held_text, frame_line, frame_lines, states_text, page_file_text, process_text, process_lines, report_text};
+ghost use Rattle.run_words.specs.Text.{ended, held_text, frame_line, frame_lines, states_text, page_file_text, process_text, process_lines, report_text};
 ghost use Rattle.run_text.specs.Printable.{IsPrintable, IsPrintableRow};
 ghost use Rattle.run_text.specs.Rows.{frame_view, process_view};
 

@@ -3,7 +3,7 @@ ghost use Rattle.vm_text.specs.Named.{AreNames, IsPrintablePage};
 ghost use Rattle.vm_journal.specs.HasLine.{HasLine};
 ghost use Rattle.vm_journal.specs.declared.entry.Entry.{Entry};
 ghost use Rattle.outside_io.specs.Writes.{Writes};
-ghost use Rattle.pager_model.specs.Text.{run_text};
+ghost use Rattle.run_words.specs.Text.{run_text};
 ghost use Rattle.run_text.specs.Printable.{IsPrintable};
 ghost use Rattle.command_ends.specs.Ends.{Ends};
 ghost use Rattle.run_text.specs.Parts.{parts_text, run_status};

@@ -20,7 +20,7 @@ use Rattle.pager_model.specs.Forget.{holder, holds_page}
 use Rattle.pager_model.specs.Maps.{pfn}
 use Rattle.pager_model.specs.Pager.{Pager}
 use Rattle.pager_model.specs.Run.{IsRun, pager_after}
-use Rattle.pager_model.specs.Text.{is_dirty, pages_from}
+use Rattle.pager_model.specs.DirtyPages.{is_dirty, pages_from}
 use Rattle.pager_rules.proofs.Basics.{none_passes, pages_equal}
 use Rattle.pager_rules.specs.Kept.{IsKept}
 use Rattle.pager_laws.proofs.RunsAreSound.{run_kept}

@@ -1,10 +1,10 @@
 -- The rundown's moves, as they were made at a place, at the next one, or in the rounds.
 use Rattle.std.proofs.Common.{◌≡◌, ℕ, ◌+◌, ◌≤◌, Bool, false, List, Option, Some, None, refl, sym, ap, ◌∙◌, subst}
 use Rattle.vm_journal.specs.declared.entry.Entry.{Entry}
-use Rattle.pager_model.specs.Cleaning.{Cleaning as CleaningIs, evicting}
-use Rattle.pager_model.specs.Moves.{Control as ControlIs, Move, rests}
+use Rattle.pager_policy.specs.Cleaning.{Cleaning as CleaningIs, evicting}
+use Rattle.pager_policy.specs.Moves.{Control as ControlIs, Move, rests}
 use Rattle.pager_model.specs.Order.{IsAnswered}
-use Rattle.pager_model.specs.Rundown.{Place as PlaceIs, cleaning_move, later_move, place_move, rounds_move, shared_place}
+use Rattle.pager_policy.specs.Rundown.{Place as PlaceIs, cleaning_move, later_move, place_move, rounds_move, shared_place}
 use Rattle.serial_laws.specs.Between.{IsBetween}
 use Rattle.call_begins.specs.MayBegin.{empty}
 use Rattle.lift_carriers.specs.CarrierView.{CarrierView}

@@ -9,16 +9,16 @@ use Rattle.vm_journal.specs.declared.entry.Entry.{Entry}
 use Rattle.vm_journal.specs.declared.entry.EvictWhy.TheVariants as evict
 use Rattle.vm_journal.specs.declared.entry.What.{What}
 use Rattle.vm_journal.specs.declared.entry.What.TheVariants as what
-use Rattle.pager_model.specs.Given.{Seen as Shown, by_seat, eviction, goes_to, is_stopped, page_address, seen_at}
+use Rattle.pager_policy.specs.Given.{Seen as Shown, by_seat, eviction, goes_to, is_stopped, page_address, seen_at}
 use Rattle.pager_model.specs.Lookups.{passes, entry_of}
 use Rattle.pager_model.specs.Maps.{is_private}
-use Rattle.pager_model.specs.Moves.{Control as ControlIs, Move, carries, goes, makes}
+use Rattle.pager_policy.specs.Moves.{Control as ControlIs, Move, carries, goes, makes}
 use Rattle.pager_model.specs.Order.{IsAnswered}
 use Rattle.pager_model.specs.Pager.{Pager}
 use Rattle.pager_model.specs.Run.{pager_after}
-use Rattle.pager_model.specs.Rundown.{Place as PlaceIs, at_slot, clean_move, is_shared_at, writer_of, written_for_need}
+use Rattle.pager_policy.specs.Rundown.{Place as PlaceIs, at_slot, clean_move, is_shared_at, writer_of, written_for_need}
 use Rattle.pager_model.specs.Step.{IsLegal}
-use Rattle.pager_model.specs.Swap.{is_shared_seen}
+use Rattle.pager_policy.specs.Swap.{is_shared_seen}
 use Rattle.call_laws.proofs.FreeTurn.{free_turn, page_starts, same_number}
 use Rattle.call_laws.proofs.WaitsLegal.{IsSeen, is_seen, waits_not}
 use Rattle.call_begins.proofs.Branches.{if_false, if_true}

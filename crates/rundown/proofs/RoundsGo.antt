@@ -1,9 +1,9 @@
 -- The moves of the rounds.
 use Rattle.std.proofs.Common.{◌≡◌, ℕ, suc, ◌-◌, ◌<◌, ◌≤◌, Bool, true, false, cond, length, nat_lt, refl, sym, ap, ◌∙◌, subst, arith}
 use Rattle.std.proofs.lemmas.Bool.{le-ltb, lt-ltb}
-use Rattle.pager_model.specs.Cleaning.{rounds}
-use Rattle.pager_model.specs.Moves.{Control as ControlIs, Move, cleaning, control, goes, rests}
-use Rattle.pager_model.specs.Rundown.{is_shared_listed, next_round, round_move, rounds_move, written_for_need}
+use Rattle.pager_policy.specs.Cleaning.{rounds}
+use Rattle.pager_policy.specs.Moves.{Control as ControlIs, Move, cleaning, control, goes, rests}
+use Rattle.pager_policy.specs.Rundown.{is_shared_listed, next_round, round_move, rounds_move, written_for_need}
 use Rattle.call_begins.proofs.Branches.{if_false, if_true}
 use Rattle.vm_state.specs.History.{History, pager}
 use Rattle.carried_landings.specs.Moved.{IsMoved, IsResting}

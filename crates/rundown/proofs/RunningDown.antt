@@ -2,13 +2,13 @@
 use Rattle.std.proofs.Common.{◌≡◌, ◌<◌, Bool, true, false, List, [], ◌∷◌, ◌++◌, length, refl, sym, ap, ◌∙◌, subst}
 use Rattle.vm_types.specs.declared.config.Config.{Config}
 use Rattle.vm_journal.specs.declared.entry.Entry.{Entry}
-use Rattle.pager_model.specs.Cleaning.{Cleaning as CleaningIs}
-use Rattle.pager_model.specs.Moves.{Control as ControlIs, cleaning, control, rests}
+use Rattle.pager_policy.specs.Cleaning.{Cleaning as CleaningIs}
+use Rattle.pager_policy.specs.Moves.{Control as ControlIs, cleaning, control, rests}
 use Rattle.pager_model.specs.Order.{IsAnswered}
-use Rattle.pager_model.specs.Policy.{move_of}
+use Rattle.pager_policy.specs.Policy.{move_of}
 use Rattle.pager_model.specs.Run.{IsRun, pager_after}
-use Rattle.pager_model.specs.Rundown.{at_slot, cleaning_move}
-use Rattle.pager_model.specs.Serial.{Heard, IsMove, IsReached, IsRundown, Rests}
+use Rattle.pager_policy.specs.Rundown.{at_slot, cleaning_move}
+use Rattle.pager_policy.specs.Serial.{Heard, IsMove, IsReached, IsRundown, Rests}
 use Rattle.pager_model.specs.Spoken.{IsRight}
 use Rattle.serial_laws.specs.Between.{IsBetween}
 use Rattle.serial_laws.proofs.Kept.{moves_between, moves_longer}

@@ -15,7 +15,7 @@ use Rattle.page_lists.specs.declared.list_name.ListName.TheVariants as name
 use Rattle.pager_model.specs.Around.{frame_view, past_view}
 use Rattle.pager_model.specs.Pager.{Pager}
 use Rattle.pager_model.specs.Run.{IsRun, pager_after}
-use Rattle.pager_model.specs.Rundown.{holds_shared, is_shared_listed}
+use Rattle.pager_policy.specs.Rundown.{holds_shared, is_shared_listed}
 use Rattle.pager_rules.proofs.Basics.{count_cons, count_cons_yes, nat_eq_refl}
 use Rattle.pager_rules.proofs.Frames.{modified_frame}
 use Rattle.pager_rules.specs.Kept.{IsKept}

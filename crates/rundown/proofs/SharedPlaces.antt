@@ -7,10 +7,10 @@ use Rattle.vm_types.specs.Configuration.{IsWellFormed}
 use Rattle.vm_types.specs.declared.config.Config.{Config}
 use Rattle.vm_types.specs.declared.names.Proc.{Proc}
 use Rattle.vm_journal.specs.declared.entry.Entry.{Entry}
-use Rattle.pager_model.specs.Given.{slots_of}
+use Rattle.pager_policy.specs.Given.{slots_of}
 use Rattle.pager_model.specs.Pager.{Pager}
 use Rattle.pager_model.specs.Run.{IsRun, pager_after}
-use Rattle.pager_model.specs.Rundown.{Place as PlaceIs, is_shared_at, place_in, shared_from, shared_of_processes, shared_place}
+use Rattle.pager_policy.specs.Rundown.{Place as PlaceIs, is_shared_at, place_in, shared_from, shared_of_processes, shared_place}
 use Rattle.pager_rules.proofs.Lists.{found_passes}
 use Rattle.pager_laws.proofs.RunsAreSound.{run_kept}
 use Rattle.vm_state.specs.History.{History, pager}

@@ -11,18 +11,18 @@ use Rattle.vm_journal.specs.declared.entry.Entry.{Entry}
 use Rattle.vm_journal.specs.declared.entry.EvictWhy.TheVariants as evict
 use Rattle.vm_journal.specs.declared.entry.What.{What}
 use Rattle.vm_journal.specs.declared.entry.What.TheVariants as what
-use Rattle.pager_model.specs.Cleaning.{Cleaning as CleaningIs, evicting, rounds}
+use Rattle.pager_policy.specs.Cleaning.{Cleaning as CleaningIs, evicting, rounds}
 use Rattle.pager_model.specs.Flights.{Direction, Flight, reading, writing, carrier_of}
-use Rattle.pager_model.specs.Given.{Seen as Shown, by_seat, eviction, is_stopped, made_by, seen_at, with_reply}
-use Rattle.pager_model.specs.Landings.{Outcome, all_bad, first_bad, landed_by, landing, reuse_of, went_badly, went_well}
-use Rattle.pager_model.specs.Moves.{After, Control as ControlIs, Move, carries, cleaning, control, goes, makes, rests}
+use Rattle.pager_policy.specs.Given.{Seen as Shown, by_seat, eviction, is_stopped, made_by, seen_at, with_reply}
+use Rattle.pager_policy.specs.Landings.{Outcome, all_bad, first_bad, landed_by, landing, reuse_of, went_badly, went_well}
+use Rattle.pager_policy.specs.Moves.{After, Control as ControlIs, Move, carries, cleaning, control, goes, makes, rests}
 use Rattle.pager_model.specs.Order.{answered, spoken_by}
 use Rattle.pager_model.specs.Pager.{Pager}
 use Rattle.pager_model.specs.Run.{pager_after}
-use Rattle.pager_model.specs.Rundown.{Place as PlaceIs, at_slot, clean_move, cleaning_move, is_shared_listed, later_move, next_round, place_move, round_move, rounds_move, shared_place, writer_of, written_for_need}
-use Rattle.pager_model.specs.Serial.{GoesOn, Heard, IsMade}
+use Rattle.pager_policy.specs.Rundown.{Place as PlaceIs, at_slot, clean_move, cleaning_move, is_shared_listed, later_move, next_round, place_move, round_move, rounds_move, shared_place, writer_of, written_for_need}
+use Rattle.pager_policy.specs.Serial.{GoesOn, Heard, IsMade}
 use Rattle.pager_model.specs.Spoken.{request_of}
-use Rattle.pager_model.specs.WriteCluster.{BeginIs, begin_carry, begin_gives, begin_nothing, reason_need}
+use Rattle.pager_policy.specs.WriteCluster.{BeginIs, begin_carry, begin_gives, begin_nothing, reason_need}
 use Rattle.carried_landings.proofs.Shapes.{AreStarts, BeginShape, IsStart, begin_shape}
 
 -- an entry that answers no request

@@ -7,12 +7,12 @@ use Rattle.vm_types.specs.declared.names.BlockId.{BlockId}
 use Rattle.vm_types.specs.declared.names.Seat.{Seat}
 use Rattle.vm_journal.specs.declared.entry.What.{What}
 use Rattle.pager_model.specs.Flights.{is_busy, carrier_of}
-use Rattle.pager_model.specs.Given.{Given, given}
-use Rattle.pager_model.specs.Landings.{first_bad}
-use Rattle.pager_model.specs.Moves.{carries}
+use Rattle.pager_policy.specs.Given.{Given, given}
+use Rattle.pager_policy.specs.Landings.{first_bad}
+use Rattle.pager_policy.specs.Moves.{carries}
 use Rattle.pager_model.specs.Pager.{Pager}
-use Rattle.pager_model.specs.Rundown.{written_for_need}
-use Rattle.pager_model.specs.WriteCluster.{BeginIs, begin_carry, begin_gives, begin_nothing, block_out, is_enough, reason_need, writes_from, writes_taken}
+use Rattle.pager_policy.specs.Rundown.{written_for_need}
+use Rattle.pager_policy.specs.WriteCluster.{BeginIs, begin_carry, begin_gives, begin_nothing, block_out, is_enough, reason_need, writes_from, writes_taken}
 use Rattle.call_begins.specs.Lifted.{HasBegunLifts, HasLifts, place_of, places_in}
 use Rattle.call_begins.specs.MayBegin.{MayBegin, empty}
 use Rattle.carried_landings.specs.HaveLanded.{HaveLanded}

@@ -1,6 +1,6 @@
 -- Where the code of the rundown is, in the words of its table. This project's own.
-use Rattle.pager_model.specs.Cleaning.{Cleaning as CleaningIs, evicting, rounds}
-use Rattle.pager_model.specs.Moves.{Control as ControlIs, cleaning, control}
+use Rattle.pager_policy.specs.Cleaning.{Cleaning as CleaningIs, evicting, rounds}
+use Rattle.pager_policy.specs.Moves.{Control as ControlIs, cleaning, control}
 use Rattle.rundown.specs.declared.cleaning.Cleaning.{Cleaning}
 use Rattle.rundown.specs.declared.cleaning.Cleaning.TheVariants.{Evicting, Rounds}
 

@@ -1,10 +1,10 @@
 -- What the rundown makes at a place, and what the writing of a cluster comes to. This project's own.
 use Rattle.std.specs.Prelude.{◌≡◌, ℕ, Bool, Option, Some, None}
 use Rattle.vm_types.specs.declared.names.Seat.{Seat}
-use Rattle.pager_model.specs.Given.{seen_at}
-use Rattle.pager_model.specs.Moves.{After, Control as ControlIs, Move, carries, goes}
+use Rattle.pager_policy.specs.Given.{seen_at}
+use Rattle.pager_policy.specs.Moves.{After, Control as ControlIs, Move, carries, goes}
 use Rattle.pager_model.specs.Order.{IsAnswered}
-use Rattle.pager_model.specs.Rundown.{Place as PlaceIs, clean_move, writer_of, written_for_need}
+use Rattle.pager_policy.specs.Rundown.{Place as PlaceIs, clean_move, writer_of, written_for_need}
 use Rattle.call_begins.specs.MayBegin.{empty}
 use Rattle.lift_carriers.specs.CarrierView.{CarrierView}
 use Rattle.vm_state.specs.History.{History, pager}

@@ -1,6 +1,6 @@
 -- A slot of a process that has a shared page. This project's own.
 use Rattle.std.specs.Prelude.{◌≡◌, true, ◌<◌, length}
-use Rattle.pager_model.specs.Rundown.{Place as PlaceIs, is_shared_at}
+use Rattle.pager_policy.specs.Rundown.{Place as PlaceIs, is_shared_at}
 use Rattle.vm_state.specs.History.{History, pager}
 use Rattle.rundown.specs.declared.places.Place.{Place}
 

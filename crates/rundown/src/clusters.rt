@@ -1,5 +1,5 @@
 ghost use Rattle.std.specs.Prelude.{◌≡◌, length};
-ghost use Rattle.pager_model.specs.Rundown.{written_for_need};
+ghost use Rattle.pager_policy.specs.Rundown.{written_for_need};
 ghost use Rattle.vm_state.specs.History.{pager};
 ghost use Rattle.call_begins.specs.MayBegin.{empty};
 ghost use Rattle.carried_landings.specs.CarriedOn.{IsLoaded};

@@ -1,5 +1,5 @@
 ghost use Rattle.std.specs.Prelude.{◌≡◌, ◌++◌, ◌∷◌, [], Some, IfOk, OnOk, filter, slice_get};
-ghost use Rattle.pager_model.specs.Text.{dirty_pages, is_dirty};
+ghost use Rattle.pager_model.specs.DirtyPages.{dirty_pages, is_dirty};
 ghost use Rattle.vm_state.specs.History.{pager};
 ghost use Rattle.vm_state.specs.PageReadings.{IsKnown};
 ghost use Rattle.rundown.specs.DirtyPages.{shared_pages_of};

@@ -1,5 +1,5 @@
 ghost use Rattle.std.specs.Prelude.{◌≡◌, ◌<◌};
-ghost use Rattle.pager_model.specs.Rundown.{holds_shared, is_shared_listed};
+ghost use Rattle.pager_policy.specs.Rundown.{holds_shared, is_shared_listed};
 ghost use Rattle.vm_state.specs.History.{pager};
 
 use disk_trait::Block;

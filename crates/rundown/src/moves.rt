@@ -1,9 +1,9 @@
 ghost use Rattle.std.specs.Prelude.{◌≡◌, ◌<◌, IfOk, OnErr, length};
 ghost use Rattle.std.specs.Option.{option_map};
-ghost use Rattle.pager_model.specs.Cleaning.{evicting};
+ghost use Rattle.pager_policy.specs.Cleaning.{evicting};
 ghost use Rattle.pager_model.specs.Order.{IsAnswered};
-ghost use Rattle.pager_model.specs.Policy.{move_of};
-ghost use Rattle.pager_model.specs.Rundown.{cleaning_move, later_move};
+ghost use Rattle.pager_policy.specs.Policy.{move_of};
+ghost use Rattle.pager_policy.specs.Rundown.{cleaning_move, later_move};
 ghost use Rattle.vm_state.specs.History.{pager};
 ghost use Rattle.call_begins.specs.MayBegin.{empty};
 ghost use Rattle.serial_laws.specs.Between.{IsBetween};

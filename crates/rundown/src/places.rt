@@ -1,7 +1,7 @@
 ghost use Rattle.std.specs.Prelude.{◌≡◌, ◌&&◌, ◌-◌, ◌<◌, IfSome, length, nat_le};
 ghost use Rattle.std.specs.List.{range_with_len};
 ghost use Rattle.std.specs.Option.{option_map};
-ghost use Rattle.pager_model.specs.Rundown.{is_shared_at, shared_from, shared_of_processes, shared_place};
+ghost use Rattle.pager_policy.specs.Rundown.{is_shared_at, shared_from, shared_of_processes, shared_place};
 ghost use Rattle.vm_state.specs.History.{pager};
 ghost use Rattle.rundown.specs.Places.{IsThere, place_as};
 

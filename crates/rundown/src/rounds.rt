@@ -1,8 +1,8 @@
 ghost use Rattle.std.specs.Prelude.{◌≡◌, ℕ};
 ghost use Rattle.std.specs.Option.{option_map};
-ghost use Rattle.pager_model.specs.Cleaning.{rounds};
-ghost use Rattle.pager_model.specs.Moves.{cleaning, control};
-ghost use Rattle.pager_model.specs.Rundown.{round_move, rounds_move};
+ghost use Rattle.pager_policy.specs.Cleaning.{rounds};
+ghost use Rattle.pager_policy.specs.Moves.{cleaning, control};
+ghost use Rattle.pager_policy.specs.Rundown.{round_move, rounds_move};
 ghost use Rattle.vm_state.specs.History.{pager};
 ghost use Rattle.call_begins.specs.MayBegin.{empty};
 ghost use Rattle.carried_landings.specs.Moved.{IsMoved, IsSteady, MovesTo};

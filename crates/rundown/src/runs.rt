@@ -1,9 +1,9 @@
 ghost use Rattle.std.specs.Prelude.{◌≡◌, ◌++◌, List, true, IfOk, OnOk};
 ghost use Rattle.vm_journal.specs.declared.entry.Entry.{Entry};
 ghost use Rattle.pager_model.specs.Order.{IsAnswered};
-ghost use Rattle.pager_model.specs.Serial.{IsRundown};
+ghost use Rattle.pager_policy.specs.Serial.{IsRundown};
 ghost use Rattle.pager_model.specs.Spoken.{IsRight};
-ghost use Rattle.pager_model.specs.Text.{dirty_pages};
+ghost use Rattle.pager_model.specs.DirtyPages.{dirty_pages};
 ghost use Rattle.vm_state.specs.History.{pager};
 ghost use Rattle.call_begins.specs.MayBegin.{empty};
 ghost use Rattle.serial_laws.specs.Between.{IsBetween};

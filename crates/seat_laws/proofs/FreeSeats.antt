@@ -11,7 +11,7 @@ use Rattle.vm_journal.specs.declared.entry.What.{What}
 use Rattle.vm_journal.specs.declared.entry.What.TheVariants as what
 use Rattle.frame_store.specs.LiftView.{LiftView}
 use Rattle.pager_model.specs.Flights.{Flight, awaits_reuse, is_busy, open_flights, carrier_of}
-use Rattle.pager_model.specs.Given.{by_seat, made_by, with_reply}
+use Rattle.pager_policy.specs.Given.{by_seat, made_by, with_reply}
 use Rattle.pager_model.specs.Transfers.{is_by}
 use Rattle.pager_rules.proofs.Basics.{count_none}
 use Rattle.vm_state.specs.History.{History}

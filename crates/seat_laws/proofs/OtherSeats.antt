@@ -9,7 +9,7 @@ use Rattle.vm_journal.specs.declared.entry.What.TheVariants as what
 use Rattle.pager_model.specs.Carrier.{carrying, carrying_with}
 use Rattle.pager_model.specs.Fits.{lands}
 use Rattle.pager_model.specs.Flights.{Flight, is_busy, open_flights, reading, without_flight, writing, carrier_of}
-use Rattle.pager_model.specs.Given.{by_seat, made_by}
+use Rattle.pager_policy.specs.Given.{by_seat, made_by}
 use Rattle.pager_model.specs.InOk.{IsLanding}
 use Rattle.pager_model.specs.Run.{IsRun, pager_after}
 use Rattle.pager_model.specs.Step.{IsLegalWhat}

@@ -10,7 +10,7 @@ use Rattle.vm_journal.specs.declared.entry.What.{What}
 use Rattle.vm_journal.specs.declared.entry.What.TheVariants as what
 use Rattle.pager_model.specs.Carrier.{Carrying, carried, carrying}
 use Rattle.pager_model.specs.Flights.{Flight, is_busy, open_flights, reading, carrier_of}
-use Rattle.pager_model.specs.Given.{by_seat, made_by, page_address, reuse_first}
+use Rattle.pager_policy.specs.Given.{by_seat, made_by, page_address, reuse_first}
 use Rattle.pager_model.specs.Maps.{pfn, page_number, proc}
 use Rattle.pager_rules.proofs.Basics.{nat_eq_refl}
 use Rattle.serial_laws.proofs.Carriers.{BeginsWith, IsBegun, begun_made, carries_all, own_entry}

@@ -12,13 +12,13 @@ use Rattle.vm_journal.specs.declared.entry.Entry.{Entry}
 use Rattle.vm_journal.specs.declared.entry.Role.TheVariants as role
 use Rattle.vm_journal.specs.declared.entry.What.{What}
 use Rattle.vm_journal.specs.declared.entry.What.TheVariants as what
-use Rattle.pager_model.specs.Advance.{GivenNext, NextIs, advance_gives, collide_given, entry_given, fault_given, frame_given, held_given, is_busy_block, is_named, limit_given, mapped_given, next_carry, read_given, refused_given, replace_seen, room_given, source_of}
+use Rattle.pager_policy.specs.Advance.{GivenNext, NextIs, advance_gives, collide_given, entry_given, fault_given, frame_given, held_given, is_busy_block, is_named, limit_given, mapped_given, next_carry, read_given, refused_given, replace_seen, room_given, source_of}
 use Rattle.pager_model.specs.Charging.{is_uncharged}
 use Rattle.pager_model.specs.Evict.{victim_of}
 use Rattle.pager_model.specs.Flat.{flat_refusal}
 use Rattle.pager_model.specs.Flights.{Flight, open_flights}
 use Rattle.pager_model.specs.Forget.{holder}
-use Rattle.pager_model.specs.Given.{Seen, Target, is_stopped, page_address, reads_made, reuse_first, seen_at}
+use Rattle.pager_policy.specs.Given.{Seen, Target, is_stopped, page_address, reads_made, reuse_first, seen_at}
 use Rattle.pager_model.specs.Maps.{pfn, page_number, proc}
 use Rattle.pager_model.specs.Lookups.{entry_of, is_pending, is_resident, page_by}
 use Rattle.pager_model.specs.Pager.{Pager, Valid}

@@ -10,8 +10,8 @@ use Rattle.vm_journal.specs.declared.entry.Role.TheVariants as role
 use Rattle.vm_journal.specs.declared.entry.What.{What}
 use Rattle.vm_journal.specs.declared.entry.What.TheVariants as what
 use Rattle.pager_model.specs.Flights.{Direction, Flight, reading, carrier_of}
-use Rattle.pager_model.specs.Given.{by_seat, made_by, page_address}
-use Rattle.pager_model.specs.Landings.{Outcome, first_bad, landed_by, landing}
+use Rattle.pager_policy.specs.Given.{by_seat, made_by, page_address}
+use Rattle.pager_policy.specs.Landings.{Outcome, first_bad, landed_by, landing}
 use Rattle.pager_model.specs.Maps.{page_number}
 use Rattle.pager_model.specs.Run.{pager_after}
 use Rattle.pager_model.specs.Step.{IsLegal}

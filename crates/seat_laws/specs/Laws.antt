@@ -8,11 +8,11 @@ use Rattle.vm_types.specs.declared.reply.Why.TheVariants as why
 use Rattle.vm_journal.specs.declared.entry.Entry.{Entry}
 use Rattle.vm_journal.specs.declared.entry.What.{What}
 use Rattle.vm_journal.specs.declared.entry.What.TheVariants as what
-use Rattle.pager_model.specs.Advance.{advance_gives, next_carry}
+use Rattle.pager_policy.specs.Advance.{advance_gives, next_carry}
 use Rattle.pager_model.specs.Carrier.{carrying}
 use Rattle.pager_model.specs.Flights.{is_busy, open_flights, carrier_of}
-use Rattle.pager_model.specs.Given.{by_seat, made_by}
-use Rattle.pager_model.specs.Landings.{Outcome, first_bad, landed_by}
+use Rattle.pager_policy.specs.Given.{by_seat, made_by}
+use Rattle.pager_policy.specs.Landings.{Outcome, first_bad, landed_by}
 use Rattle.pager_model.specs.Maps.{page_number}
 use Rattle.pager_model.specs.Pager.{Pager}
 use Rattle.pager_model.specs.Run.{IsRun, pager_after}

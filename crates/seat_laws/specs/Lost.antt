@@ -7,7 +7,7 @@ use Rattle.vm_journal.specs.declared.entry.Entry.{Entry}
 use Rattle.vm_journal.specs.declared.entry.Role.TheVariants as role
 use Rattle.pager_model.specs.Carrier.{HasLost, carrying}
 use Rattle.pager_model.specs.Flights.{Flight, reading, carrier_of}
-use Rattle.pager_model.specs.Given.{page_address}
+use Rattle.pager_policy.specs.Given.{page_address}
 use Rattle.pager_model.specs.Maps.{page_number, proc}
 use Rattle.serial_laws.specs.Lost.{CarriesAll}
 

@@ -12,7 +12,7 @@ use Rattle.vm_journal.specs.HasLine.{HasLine}
 use Rattle.vm_journal.specs.Line.{line_text}
 use Rattle.vm_journal.specs.declared.entry.Entry.{Entry}
 use Rattle.pager_model.specs.Run.{IsRun}
-use Rattle.pager_model.specs.Text.{ended, entry_lines}
+use Rattle.run_words.specs.Text.{ended, entry_lines}
 use Rattle.pager_laws.specs.LineLaws.{RunsHaveLines}
 use Rattle.seat_schedules.proofs.LinesOfRuns.{all_turned, are_names}
 

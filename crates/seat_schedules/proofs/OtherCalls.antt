@@ -11,9 +11,9 @@ use Rattle.vm_types.specs.Configuration.{IsWellFormed}
 use Rattle.vm_journal.specs.declared.entry.What.{What}
 use Rattle.vm_journal.specs.declared.entry.What.TheVariants as what
 use Rattle.pager_model.specs.Run.{IsRun}
-use Rattle.pager_model.specs.Serve.{ServeIs, serve_again, serve_answered, serve_gives, serve_more}
-use Rattle.pager_model.specs.Swap.{SwapIs, leave_gives, swap_again, swap_carry, swap_more, swap_settled, victim_gives}
-use Rattle.pager_model.specs.WriteCluster.{Reason, begin_gives}
+use Rattle.pager_policy.specs.Serve.{ServeIs, serve_again, serve_answered, serve_gives, serve_more}
+use Rattle.pager_policy.specs.Swap.{SwapIs, leave_gives, swap_again, swap_carry, swap_more, swap_settled, victim_gives}
+use Rattle.pager_policy.specs.WriteCluster.{Reason, begin_gives}
 use Rattle.call_laws.specs.Laws.{VictimIsTurned}
 use Rattle.call_begins.proofs.Steps.{paid_after}
 use Rattle.modified_writer.specs.Begins.{Begins}

@@ -11,7 +11,7 @@ use Rattle.vm_journal.specs.declared.entry.What.{What}
 use Rattle.frame_store.specs.LiftView.{LiftView}
 use Rattle.pager_model.specs.Carrier.{Carrying, carrying, is_lost}
 use Rattle.pager_model.specs.Flights.{Flight, open_flights, carrier_of}
-use Rattle.pager_model.specs.Given.{by_seat, made_by}
+use Rattle.pager_policy.specs.Given.{by_seat, made_by}
 use Rattle.pager_model.specs.Run.{IsRun}
 use Rattle.content_laws.proofs.LiftsStay.{lifts_stay}
 use Rattle.pager_rules.proofs.Basics.{each_weaker}

@@ -8,8 +8,8 @@ use Rattle.vm_types.specs.declared.reference.Ref.{Ref}
 use Rattle.vm_types.specs.declared.reply.Reply.{Reply}
 use Rattle.vm_journal.specs.declared.entry.Entry.{Entry}
 use Rattle.vm_journal.specs.declared.entry.What.{What}
-use Rattle.pager_model.specs.Advance.{GivenNext, NextIs, advance_gives, next_again, next_answered, next_carry, next_more}
-use Rattle.pager_model.specs.Given.{made_by, with_reply}
+use Rattle.pager_policy.specs.Advance.{GivenNext, NextIs, advance_gives, next_again, next_answered, next_carry, next_more}
+use Rattle.pager_policy.specs.Given.{made_by, with_reply}
 use Rattle.lift_carriers.specs.CarrierView.{CarrierView}
 use Rattle.vm_state.specs.History.{History, pager}
 use Rattle.vm_state.specs.LiftsLand.{added_each}

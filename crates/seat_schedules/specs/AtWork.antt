@@ -8,7 +8,7 @@ use Rattle.vm_journal.specs.declared.entry.Entry.{Entry}
 use Rattle.vm_journal.specs.declared.entry.What.{What}
 use Rattle.frame_store.specs.LiftView.{LiftView}
 use Rattle.pager_model.specs.Flights.{awaits_reuse, carrier_of}
-use Rattle.pager_model.specs.Given.{made_by}
+use Rattle.pager_policy.specs.Given.{made_by}
 use Rattle.vm_state.specs.History.{History}
 use Rattle.call_begins.specs.Lifted.{HasBegunLifts, place_of}
 use Rattle.call_begins.specs.MayBegin.{empty}

@@ -9,7 +9,7 @@ use Rattle.vm_types.specs.declared.names.Page.TheVariants.{Private, Shared}
 use Rattle.vm_types.specs.declared.names.Pfn.{Pfn}
 use Rattle.pager_model.specs.Pager.{Pager}
 use Rattle.pager_model.specs.Run.{IsRun}
-use Rattle.pager_model.specs.Text.{entry_lines}
+use Rattle.run_words.specs.Text.{entry_lines}
 use Rattle.state_fits.specs.File.{owner_in}
 use Rattle.vm_state.specs.History.{History, pager}
 use Rattle.vm_state.specs.ProcessReadings.{IsAfter}

@@ -2,7 +2,7 @@ ghost use Rattle.std.specs.Prelude.{◌≡◌, ◌^◌, ◌<◌, ◌++◌, All, 
 ghost use Rattle.vm_text.specs.Named.{AreNames};
 ghost use Rattle.vm_journal.specs.HasLine.{HasLine};
 ghost use Rattle.vm_journal.specs.Line.{line_text};
-ghost use Rattle.pager_model.specs.Text.{ended, entry_lines};
+ghost use Rattle.run_words.specs.Text.{ended, entry_lines};
 
 use arrayvec::ArrayVec;
 use entry_lines::line;

@@ -1,6 +1,6 @@
 ghost use Rattle.std.specs.Prelude.{◌≡◌, List, OnErr, OnOk};
 ghost use Rattle.vm_journal.specs.declared.entry.What.{What};
-ghost use Rattle.pager_model.specs.Given.{made_by};
+ghost use Rattle.pager_policy.specs.Given.{made_by};
 ghost use Rattle.seat_schedules.specs.AtWork.{AreAtWork};
 
 use crate::act::Act;

@@ -6,7 +6,7 @@ use Rattle.vm_journal.specs.declared.entry.What.{What}
 use Rattle.vm_journal.specs.declared.entry.What.TheVariants as what
 use Rattle.pager_model.specs.Carrier.{Carrying, carried, carrying}
 use Rattle.pager_model.specs.Flights.{Direction, Flight, is_busy, open_flights, reading, writing, carrier_of}
-use Rattle.pager_model.specs.Given.{by_seat, made_by}
+use Rattle.pager_policy.specs.Given.{by_seat, made_by}
 use Rattle.pager_rules.proofs.Basics.{nat_eq_refl}
 use Rattle.carried_landings.proofs.Reversed.{nothing_reversed}
 use Rattle.serial_laws.proofs.Carriers.{BeginsWith, IsBegun, begun_made, carries_all, is_beginning, own_entry}

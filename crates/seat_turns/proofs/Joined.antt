@@ -12,8 +12,8 @@ use Rattle.vm_types.specs.declared.service.Service.{Service}
 use Rattle.vm_journal.specs.declared.entry.Entry.{Entry}
 use Rattle.vm_journal.specs.declared.entry.What.{What}
 use Rattle.pager_model.specs.Flights.{Direction, Flight, awaits_reuse, is_busy, open_flights, reading, writing, carrier_of}
-use Rattle.pager_model.specs.Given.{by_seat, made_by}
-use Rattle.pager_model.specs.Landings.{Outcome, all_bad, first_bad, landed_by, landing, reuse_of, went_badly, went_well}
+use Rattle.pager_policy.specs.Given.{by_seat, made_by}
+use Rattle.pager_policy.specs.Landings.{Outcome, all_bad, first_bad, landed_by, landing, reuse_of, went_badly, went_well}
 use Rattle.pager_model.specs.Run.{pager_after}
 use Rattle.lift_carriers.specs.CarrierView.{CarrierView}
 use Rattle.vm_state.specs.History.{History, owed}

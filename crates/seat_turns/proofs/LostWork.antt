@@ -20,8 +20,8 @@ use Rattle.vm_journal.specs.declared.entry.What.{What}
 use Rattle.vm_journal.specs.declared.entry.What.TheVariants as what
 use Rattle.pager_model.specs.Carrier.{HasLost, carrying}
 use Rattle.pager_model.specs.Flights.{Direction, Flight, reading, carrier_of}
-use Rattle.pager_model.specs.Given.{page_address}
-use Rattle.pager_model.specs.Landings.{all_bad, first_bad, landed_by}
+use Rattle.pager_policy.specs.Given.{page_address}
+use Rattle.pager_policy.specs.Landings.{all_bad, first_bad, landed_by}
 use Rattle.pager_model.specs.Maps.{page_number}
 use Rattle.pager_model.specs.Served.{may_fail}
 use Rattle.pager_model.specs.Transfers.{is_fault}

@@ -10,12 +10,12 @@ use Rattle.vm_journal.specs.declared.entry.What.{What}
 use Rattle.vm_journal.specs.declared.entry.What.TheVariants as what
 use Rattle.pager_model.specs.Flights.{open_flights}
 use Rattle.pager_model.specs.Forget.{holder}
-use Rattle.pager_model.specs.Given.{Seen, Target, given, is_stopped, reads_made, reuse_first, seen_at}
+use Rattle.pager_policy.specs.Given.{Seen, Target, given, is_stopped, reads_made, reuse_first, seen_at}
 use Rattle.pager_model.specs.Pager.{Pager}
-use Rattle.pager_model.specs.Swap.{GivenSwap, back_of, back_page, come_free, come_gives, come_out, come_target, come_targets, is_back_on_free, is_out_page, is_saved, is_shared_unpinned, is_to_save, leave_gives, leave_page, leave_saved, leave_shared, leave_unsaved, slot_where, swap_where, write_slot, write_slots}
+use Rattle.pager_policy.specs.Swap.{GivenSwap, back_of, back_page, come_free, come_gives, come_out, come_target, come_targets, is_back_on_free, is_out_page, is_saved, is_shared_unpinned, is_to_save, leave_gives, leave_page, leave_saved, leave_shared, leave_unsaved, slot_where, swap_where, write_slot, write_slots}
 use Rattle.pager_model.specs.Lying.{lying_in}
 use Rattle.pager_model.specs.Transfers.{has_come, is_fault_role}
-use Rattle.pager_model.specs.WriteCluster.{Reason, begin_carry, begin_gives, begin_nothing, block_out, is_enough, writes_from, writes_taken}
+use Rattle.pager_policy.specs.WriteCluster.{Reason, begin_carry, begin_gives, begin_nothing, block_out, is_enough, writes_from, writes_taken}
 
 -- a read that it begins is none of a page fault
 abbrev pub BeginsNoFault : What → Type 0

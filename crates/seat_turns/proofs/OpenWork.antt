@@ -17,9 +17,9 @@ use Rattle.vm_journal.specs.declared.entry.What.TheVariants as what
 use Rattle.pager_model.specs.Flights.{is_busy, open_flights}
 use Rattle.pager_model.specs.Run.{IsRun}
 use Rattle.pager_model.specs.Step.{IsLegal}
-use Rattle.pager_model.specs.Swap.{GivenSwap, SwapIs, swap_again, swap_carry, swap_more, swap_settled, victim_gives}
+use Rattle.pager_policy.specs.Swap.{GivenSwap, SwapIs, swap_again, swap_carry, swap_more, swap_settled, victim_gives}
 use Rattle.pager_model.specs.Transfers.{has_come}
-use Rattle.pager_model.specs.WriteCluster.{BeginIs, Reason, begin_carry, begin_gives, begin_nothing}
+use Rattle.pager_policy.specs.WriteCluster.{BeginIs, Reason, begin_carry, begin_gives, begin_nothing}
 use Rattle.call_laws.specs.Laws.{VictimIsTurned}
 use Rattle.call_laws.specs.Ready.{MayWork}
 use Rattle.call_laws.proofs.FreeTurn.{free_turn}

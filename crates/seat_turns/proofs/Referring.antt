@@ -11,9 +11,9 @@ use Rattle.vm_types.specs.declared.service.Request.TheVariants as request
 use Rattle.vm_types.specs.declared.service.Service.{Service}
 use Rattle.vm_journal.specs.declared.entry.Entry.{Entry}
 use Rattle.vm_journal.specs.declared.entry.What.{What}
-use Rattle.pager_model.specs.Advance.{GivenNext, NextIs, advance_gives, next_again, next_answered, next_carry, next_more}
-use Rattle.pager_model.specs.Given.{with_reply}
-use Rattle.pager_model.specs.Serve.{GivenServe, ServeIs, serve_again, serve_answered, serve_gives, serve_more}
+use Rattle.pager_policy.specs.Advance.{GivenNext, NextIs, advance_gives, next_again, next_answered, next_carry, next_more}
+use Rattle.pager_policy.specs.Given.{with_reply}
+use Rattle.pager_policy.specs.Serve.{GivenServe, ServeIs, serve_again, serve_answered, serve_gives, serve_more}
 use Rattle.lift_carriers.specs.CarrierView.{CarrierView}
 use Rattle.vm_state.specs.History.{History, pager}
 use Rattle.vm_state.specs.LiftsLand.{added_each}

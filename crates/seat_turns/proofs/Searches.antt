@@ -6,7 +6,7 @@ use Rattle.vm_types.specs.declared.names.ProcStatus.{ProcStatus}
 use Rattle.vm_types.specs.declared.names.ProcStatus.TheVariants as status
 use Rattle.pager_model.specs.Lookups.{is_coming, is_leaving}
 use Rattle.pager_model.specs.Pager.{Pager}
-use Rattle.pager_model.specs.Swap.{is_but}
+use Rattle.pager_policy.specs.Swap.{is_but}
 use Rattle.pager_rules.proofs.Basics.{find_cons_yes}
 use Rattle.seat_turns.specs.Rests.{is_other_leaving}
 

@@ -19,11 +19,11 @@ use Rattle.vm_journal.specs.declared.entry.EvictWhy.{EvictWhy}
 use Rattle.vm_journal.specs.declared.entry.EvictWhy.TheVariants as evict
 use Rattle.vm_journal.specs.declared.entry.What.{What}
 use Rattle.vm_journal.specs.declared.entry.What.TheVariants as what
-use Rattle.pager_model.specs.Given.{is_stopped, with_reply}
+use Rattle.pager_policy.specs.Given.{is_stopped, with_reply}
 use Rattle.pager_model.specs.Lookups.{entry_of, is_resident}
 use Rattle.pager_model.specs.Pager.{Pager, Valid}
 use Rattle.pager_model.specs.Ring.{range_locked, range_pinned}
-use Rattle.pager_model.specs.Serve.{GivenServe, ServeIs, delete_given, evict_given, is_range_in_flight, limits_given, lock_given, loose_in, purge_given, serve_again, serve_answered, serve_gives, serve_more, service_gives, valid_in}
+use Rattle.pager_policy.specs.Serve.{GivenServe, ServeIs, delete_given, evict_given, is_range_in_flight, limits_given, lock_given, loose_in, purge_given, serve_again, serve_answered, serve_gives, serve_more, service_gives, valid_in}
 use Rattle.pager_model.specs.MappedRanges.{is_unmapped}
 use Rattle.fault_core.specs.Gives.{last_reply}
 use Rattle.vm_services.specs.Serves.{last_answer}
@@ -103,7 +103,7 @@ either : (s : Service) (b : Bool) (x y : GivenServe) → IsOwn s x → IsOwn s y
 either s true x y first second = first
 either s false x y first second = second
 
-served : (s : Service) (w : Answer) → IsOwn s (Rattle.pager_model.specs.Serve.served_with s w)
+served : (s : Service) (w : Answer) → IsOwn s (Rattle.pager_policy.specs.Serve.served_with s w)
 served s w = record { own = (w, refl) }
 
 module _ (config : Config) (past : List Entry) (a : Pager) (p : ℕ) where

@@ -6,7 +6,7 @@ use Rattle.vm_types.specs.declared.service.Request.{Request}
 use Rattle.vm_journal.specs.declared.entry.What.{What}
 use Rattle.frame_store.specs.LiftView.{LiftView}
 use Rattle.pager_model.specs.Flights.{Flight, awaits_reuse, carrier_of}
-use Rattle.pager_model.specs.Landings.{landed_by}
+use Rattle.pager_policy.specs.Landings.{landed_by}
 use Rattle.pager_model.specs.Transfers.{is_by}
 use Rattle.lift_carriers.specs.CarrierView.{CarrierView}
 use Rattle.vm_state.specs.Based.{base_of}

@@ -5,7 +5,7 @@ use Rattle.vm_types.specs.declared.service.Request.TheVariants.{Reference}
 use Rattle.vm_journal.specs.declared.entry.Entry.{Entry}
 use Rattle.vm_journal.specs.declared.entry.Role.TheVariants as role
 use Rattle.pager_model.specs.Flights.{Direction, Flight, reading, carrier_of}
-use Rattle.pager_model.specs.Given.{page_address}
+use Rattle.pager_policy.specs.Given.{page_address}
 use Rattle.pager_model.specs.Maps.{page_number, proc}
 use Rattle.pager_model.specs.Transfers.{is_fault}
 use Rattle.serial_laws.specs.Lost.{CarriesAll}

@@ -6,7 +6,7 @@ use Rattle.vm_types.specs.declared.config.Config.{Config}
 use Rattle.vm_journal.specs.declared.entry.Entry.{Entry}
 use Rattle.pager_model.specs.Lookups.{is_leaving}
 use Rattle.pager_model.specs.Pager.{Pager}
-use Rattle.pager_model.specs.Swap.{is_but, leave_gives, swap_again, swap_in_flight, victim_gives}
+use Rattle.pager_policy.specs.Swap.{is_but, leave_gives, swap_again, swap_in_flight, victim_gives}
 
 -- the modified list is at most LOLIMIT pages long
 abbrev pub IsWritten : Config → Pager → Type 0

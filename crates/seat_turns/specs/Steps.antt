@@ -13,8 +13,8 @@ use Rattle.vm_journal.specs.declared.entry.What.{What}
 use Rattle.vm_journal.specs.declared.entry.What.TheVariants as what
 use Rattle.frame_store.specs.LiftView.{LiftView}
 use Rattle.pager_model.specs.Flights.{awaits_reuse, carrier_of}
-use Rattle.pager_model.specs.Given.{made_by}
-use Rattle.pager_model.specs.Landings.{Outcome, landed_by}
+use Rattle.pager_policy.specs.Given.{made_by}
+use Rattle.pager_policy.specs.Landings.{Outcome, landed_by}
 use Rattle.lift_carriers.specs.CarrierView.{CarrierView}
 use Rattle.vm_state.specs.Based.{base_of}
 use Rattle.vm_state.specs.History.{History}

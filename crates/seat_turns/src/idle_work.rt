@@ -1,7 +1,7 @@
 ghost use Rattle.std.specs.Prelude.{◌≡◌, ◌+◌, ◌<◌, Some, None, IfSome, true, false, length};
 ghost use Rattle.vm_types.specs.declared.names.ProcStatus.TheVariants as status;
 ghost use Rattle.pager_model.specs.Flights.{awaits_reuse};
-ghost use Rattle.pager_model.specs.Swap.{leave_gives, swap_again, swap_in_flight};
+ghost use Rattle.pager_policy.specs.Swap.{leave_gives, swap_again, swap_in_flight};
 ghost use Rattle.vm_state.specs.Based.{base_of};
 ghost use Rattle.vm_state.specs.History.{pager};
 ghost use Rattle.call_begins.specs.MayBegin.{empty};

@@ -2,8 +2,8 @@ ghost use Rattle.std.specs.Prelude.{◌≡◌, ◌<◌, ◌≤◌, IfSome, lengt
 ghost use Rattle.std.specs.Option.{option_map};
 ghost use Rattle.vm_types.specs.declared.names.ProcStatus.TheVariants as status;
 ghost use Rattle.pager_model.specs.Lookups.{is_coming, is_leaving};
-ghost use Rattle.pager_model.specs.Policy.{coming_process};
-ghost use Rattle.pager_model.specs.Swap.{is_but};
+ghost use Rattle.pager_policy.specs.Policy.{coming_process};
+ghost use Rattle.pager_policy.specs.Swap.{is_but};
 ghost use Rattle.vm_state.specs.History.{pager};
 ghost use Rattle.vm_swapper.specs.Victims.{process_number};
 ghost use Rattle.seat_turns.specs.Rests.{is_other_leaving, lowest_leaving};

@@ -1,7 +1,7 @@
 ghost use Rattle.std.specs.Prelude.{◌≡◌, ◌<◌, None, false, length};
 ghost use Rattle.std.specs.Option.{option_map};
 ghost use Rattle.vm_types.specs.declared.names.ProcStatus.TheVariants as status;
-ghost use Rattle.pager_model.specs.Swap.{victim_gives};
+ghost use Rattle.pager_policy.specs.Swap.{victim_gives};
 ghost use Rattle.vm_state.specs.History.{pager};
 ghost use Rattle.call_begins.specs.MayBegin.{empty};
 ghost use Rattle.vm_swapper.specs.Victims.{process_number};

@@ -19,7 +19,7 @@ use Rattle.vm_types.specs.declared.service.Request.TheVariants as request
 use Rattle.vm_journal.specs.declared.entry.Entry.{Entry}
 use Rattle.vm_journal.specs.declared.entry.EvictWhy.TheVariants as evict
 use Rattle.vm_journal.specs.declared.entry.What.TheVariants as what
-use Rattle.pager_model.specs.Advance.{GivenNext, advance_gives, again_block_busy, again_charging, again_modified_full, again_not_resident, entry_given, fault_given, frame_given, gives_again, held_given, is_busy_block, limit_given, mapped_given, next_more, read_given, refused_given, replace_given, replace_seen, room_given, source_of}
+use Rattle.pager_policy.specs.Advance.{GivenNext, advance_gives, again_block_busy, again_charging, again_modified_full, again_not_resident, entry_given, fault_given, frame_given, gives_again, held_given, is_busy_block, limit_given, mapped_given, next_more, read_given, refused_given, replace_given, replace_seen, room_given, source_of}
 use Rattle.pager_model.specs.Charging.{is_uncharged}
 use Rattle.pager_model.specs.Around.{past_view}
 use Rattle.pager_model.specs.Done.{after_done, touched_at}
@@ -27,12 +27,12 @@ use Rattle.pager_model.specs.Evict.{victim_of}
 use Rattle.pager_model.specs.Flat.{FlatState, flat_refusal, is_change, is_page_file_full, is_untouched, refusal_at}
 use Rattle.pager_model.specs.Flights.{Flight, open_flights}
 use Rattle.pager_model.specs.Forget.{holder}
-use Rattle.pager_model.specs.Given.{Seen, by_seat, eviction, given, is_stopped, page_address, seen_at}
+use Rattle.pager_policy.specs.Given.{Seen, by_seat, eviction, given, is_stopped, page_address, seen_at}
 use Rattle.pager_model.specs.Maps.{pfn, Map, Mapped, is_paged, page_behind, page_number, proc}
 use Rattle.pager_model.specs.Lookups.{count_page, entry_of, is_pending, is_resident, page_at, page_by}
-use Rattle.pager_model.specs.Moves.{asking, control, rests}
+use Rattle.pager_policy.specs.Moves.{asking, control, rests}
 use Rattle.pager_model.specs.Pager.{Pager, Valid}
-use Rattle.pager_model.specs.Policy.{advance_move_by, ends_request, next_task}
+use Rattle.pager_policy.specs.Policy.{advance_move_by, ends_request, next_task}
 use Rattle.pager_model.specs.Run.{pager_after}
 use Rattle.pager_model.specs.Sets.{has_page}
 use Rattle.pager_model.specs.Spoken.{flat_after}

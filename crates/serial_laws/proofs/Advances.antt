@@ -16,7 +16,7 @@ use Rattle.pager_model.specs.Flat.{flat_refusal, touched_with}
 use Rattle.pager_model.specs.Lookups.{count_page, entry_of, page_by}
 use Rattle.pager_model.specs.Maps.{is_paged, page_number}
 use Rattle.pager_model.specs.Pager.{Pager, Valid}
-use Rattle.pager_model.specs.Policy.{next_task}
+use Rattle.pager_policy.specs.Policy.{next_task}
 use Rattle.pager_model.specs.Run.{pager_after}
 use Rattle.pager_model.specs.Sets.{has_page}
 use Rattle.pager_model.specs.Spoken.{flat_after}

@@ -12,14 +12,14 @@ use Rattle.vm_journal.specs.declared.entry.Entry.{Entry}
 use Rattle.vm_journal.specs.declared.entry.What.{What}
 use Rattle.vm_journal.specs.declared.entry.What.TheVariants as what
 use Rattle.pager_model.specs.Around.{frame_view, past_view}
-use Rattle.pager_model.specs.Given.{Given, given, is_stopped}
+use Rattle.pager_policy.specs.Given.{Given, given, is_stopped}
 use Rattle.pager_model.specs.Maps.{pfn, is_paged}
 use Rattle.pager_model.specs.Lookups.{block_of, is}
-use Rattle.pager_model.specs.Moves.{Control, carries}
+use Rattle.pager_policy.specs.Moves.{Control, carries}
 use Rattle.pager_model.specs.Pager.{Pager}
-use Rattle.pager_model.specs.Policy.{Ends, unless_all_failed, writing_move}
+use Rattle.pager_policy.specs.Policy.{Ends, unless_all_failed, writing_move}
 use Rattle.pager_model.specs.Run.{pager_after}
-use Rattle.pager_model.specs.WriteCluster.{BeginIs, Reason, begin_carry, begin_gives, begin_nothing, block_out, filed_block, is_enough, paged_block, reason_need, writes_from, writes_taken}
+use Rattle.pager_policy.specs.WriteCluster.{BeginIs, Reason, begin_carry, begin_gives, begin_nothing, block_out, filed_block, is_enough, paged_block, reason_need, writes_from, writes_taken}
 use Rattle.pager_rules.proofs.Basics.{count_cons_yes, nat_eq_refl}
 use Rattle.pager_rules.proofs.Frames.{at_state, modified_frame}
 use Rattle.pager_rules.specs.Kept.{IsKept}

@@ -14,9 +14,9 @@ use Rattle.vm_journal.specs.declared.entry.What.{What}
 use Rattle.vm_journal.specs.declared.entry.What.TheVariants as what
 use Rattle.pager_model.specs.Counted.{last_count}
 use Rattle.pager_model.specs.Flights.{Direction, Flight, awaits_reuse, fails_read, flights_with, open_flights, reading, without_flight, writing, carrier_of}
-use Rattle.pager_model.specs.Given.{by_seat, made_by, with_reply}
+use Rattle.pager_policy.specs.Given.{by_seat, made_by, with_reply}
 use Rattle.pager_model.specs.Maps.{pfn}
-use Rattle.pager_model.specs.Landings.{Outcome, landed_by, landing, reuse_of, went_badly, went_well}
+use Rattle.pager_policy.specs.Landings.{Outcome, landed_by, landing, reuse_of, went_badly, went_well}
 use Rattle.pager_model.specs.Run.{IsRun, pager_after}
 use Rattle.pager_model.specs.Transfers.{starts}
 use Rattle.pager_rules.proofs.Basics.{each_weaker, nat_eq_refl}

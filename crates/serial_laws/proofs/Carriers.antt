@@ -9,7 +9,7 @@ use Rattle.vm_journal.specs.declared.entry.What.{What}
 use Rattle.vm_journal.specs.declared.entry.What.TheVariants as what
 use Rattle.pager_model.specs.Carrier.{Carrying, carried, carrying, carrying_with}
 use Rattle.pager_model.specs.Flights.{Flight, begun_by, is_busy, open_flights, reading, writing, carrier_of}
-use Rattle.pager_model.specs.Given.{by_seat, made_by}
+use Rattle.pager_policy.specs.Given.{by_seat, made_by}
 use Rattle.pager_rules.proofs.Basics.{nat_eq_refl}
 use Rattle.serial_laws.specs.Lost.{CarriesAll}
 

@@ -19,15 +19,15 @@ use Rattle.vm_journal.specs.declared.entry.What.{What}
 use Rattle.vm_journal.specs.declared.entry.What.TheVariants as what
 use Rattle.pager_model.specs.Flights.{Flight, open_flights, carrier_of}
 use Rattle.pager_model.specs.Forget.{holder}
-use Rattle.pager_model.specs.Given.{Target, address_of, given, leading, made_by, reads_made, reuse_first, slots_of}
+use Rattle.pager_policy.specs.Given.{Target, address_of, given, leading, made_by, reads_made, reuse_first, slots_of}
 use Rattle.pager_model.specs.Lookups.{passes}
 use Rattle.pager_model.specs.Maps.{pfn, proc}
-use Rattle.pager_model.specs.Landings.{Outcome}
-use Rattle.pager_model.specs.Moves.{asking, carries, control, makes, rests}
+use Rattle.pager_policy.specs.Landings.{Outcome}
+use Rattle.pager_policy.specs.Moves.{asking, carries, control, makes, rests}
 use Rattle.pager_model.specs.Pager.{Pager}
-use Rattle.pager_model.specs.Policy.{come_move_by, ends_request, next_task, unless_all_failed}
+use Rattle.pager_policy.specs.Policy.{come_move_by, ends_request, next_task, unless_all_failed}
 use Rattle.pager_model.specs.Run.{pager_after}
-use Rattle.pager_model.specs.Swap.{GivenSwap, back_of, back_page, come_free, come_gives, come_out, come_target, come_targets, is_back_on_free, is_free_frame, is_out_page, run_from, swap_again, swap_carry, swap_in_flight, swap_more, swap_no_frame, swap_settled, swap_where, turned_resident}
+use Rattle.pager_policy.specs.Swap.{GivenSwap, back_of, back_page, come_free, come_gives, come_out, come_target, come_targets, is_back_on_free, is_free_frame, is_out_page, run_from, swap_again, swap_carry, swap_in_flight, swap_more, swap_no_frame, swap_settled, swap_where, turned_resident}
 use Rattle.pager_model.specs.Lying.{lying_in}
 use Rattle.pager_model.specs.Transfers.{has_come, is_fault}
 use Rattle.pager_rules.proofs.Lists.{found_passes}

@@ -23,7 +23,7 @@ use Rattle.vm_journal.specs.declared.entry.Role.{Role}
 use Rattle.vm_journal.specs.declared.entry.Role.TheVariants as role
 use Rattle.vm_journal.specs.declared.entry.What.{What}
 use Rattle.vm_journal.specs.declared.entry.What.TheVariants as what
-use Rattle.pager_model.specs.Advance.{cluster_targets, following, is_out, near_target, near_targets, source_of, window}
+use Rattle.pager_policy.specs.Advance.{cluster_targets, following, is_out, near_target, near_targets, source_of, window}
 use Rattle.pager_model.specs.Charging.{first_source, is_uncharged}
 use Rattle.pager_model.specs.Around.{past_view}
 use Rattle.pager_model.specs.ClusterLength.{cluster_length, leading_out}
@@ -32,14 +32,14 @@ use Rattle.vm_types.specs.Adjust.{greater, lesser}
 use Rattle.call_laws.proofs.AdvanceLegal.{lesser_first}
 use Rattle.pager_model.specs.Flat.{FlatState, flat_refusal}
 use Rattle.pager_model.specs.Flights.{Direction, Flight, failed_flight, open_flights, reading, carrier_of}
-use Rattle.pager_model.specs.Given.{Target, by_seat, made_by, page_address, reads_made, reuse_first, unsaid, with_reply}
+use Rattle.pager_policy.specs.Given.{Target, by_seat, made_by, page_address, reads_made, reuse_first, unsaid, with_reply}
 use Rattle.pager_model.specs.Maps.{pfn, Map, is_paged, is_private, page_number, proc}
 use Rattle.pager_model.specs.In.{charged_with}
-use Rattle.pager_model.specs.Landings.{Outcome, first_bad, landed_by}
+use Rattle.pager_policy.specs.Landings.{Outcome, first_bad, landed_by}
 use Rattle.pager_model.specs.Lookups.{count_page, entry_of, is_entry, page_by, section_at}
-use Rattle.pager_model.specs.Moves.{Control, asking, carries, control, goes, makes, refuses, saving}
+use Rattle.pager_policy.specs.Moves.{Control, asking, carries, control, goes, makes, refuses, saving}
 use Rattle.pager_model.specs.Pager.{Pager, Valid}
-use Rattle.pager_model.specs.Policy.{next_task, unless_first_failed}
+use Rattle.pager_policy.specs.Policy.{next_task, unless_first_failed}
 use Rattle.pager_model.specs.Reuse.{charged_reused}
 use Rattle.pager_model.specs.Run.{pager_after}
 use Rattle.pager_model.specs.Spoken.{flat_after}

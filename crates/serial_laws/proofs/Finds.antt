@@ -13,11 +13,11 @@ use Rattle.page_lists.specs.Lists.{count_of}
 use Rattle.pager_model.specs.Flights.{is_busy}
 use Rattle.pager_model.specs.Lookups.{is_coming, is_leaving, is_resident}
 use Rattle.pager_model.specs.Maps.{proc}
-use Rattle.pager_model.specs.Moves.{Doing, Move, control, while_leaving}
+use Rattle.pager_policy.specs.Moves.{Doing, Move, control, while_leaving}
 use Rattle.pager_model.specs.Pager.{Pager}
-use Rattle.pager_model.specs.Policy.{Ends, finding_move, leaving_other, other_move, victim_move, writing_move}
+use Rattle.pager_policy.specs.Policy.{Ends, finding_move, leaving_other, other_move, victim_move, writing_move}
 use Rattle.pager_model.specs.Run.{pager_after}
-use Rattle.pager_model.specs.Swap.{earlier, earliest, is_but, last_spoken, may_leave, or_else, processes_where, victim_gives}
+use Rattle.pager_policy.specs.Swap.{earlier, earliest, is_but, last_spoken, may_leave, or_else, processes_where, victim_gives}
 use Rattle.pager_model.specs.Transfers.{has_come}
 use Rattle.pager_rules.proofs.Basics.{at_number_same, find_none_from_count}
 use Rattle.pager_rules.proofs.Lists.{found_passes}

@@ -15,11 +15,11 @@ use Rattle.vm_journal.specs.declared.entry.What.{What}
 use Rattle.vm_journal.specs.declared.entry.What.TheVariants as what
 use Rattle.pager_model.specs.Carrier.{begins_with_fault}
 use Rattle.pager_model.specs.Flights.{Flight, reading, carrier_of}
-use Rattle.pager_model.specs.Given.{by_seat, made_by, with_reply}
-use Rattle.pager_model.specs.Landings.{Outcome, all_bad, first_bad, landed_by}
+use Rattle.pager_policy.specs.Given.{by_seat, made_by, with_reply}
+use Rattle.pager_policy.specs.Landings.{Outcome, all_bad, first_bad, landed_by}
 use Rattle.pager_model.specs.Maps.{page_number}
-use Rattle.pager_model.specs.Moves.{After, Control, Move, carries, goes, makes, refuses, rests}
-use Rattle.pager_model.specs.Policy.{next_task}
+use Rattle.pager_policy.specs.Moves.{After, Control, Move, carries, goes, makes, refuses, rests}
+use Rattle.pager_policy.specs.Policy.{next_task}
 use Rattle.pager_model.specs.Run.{pager_after}
 use Rattle.pager_model.specs.Step.{IsLegal}
 use Rattle.serial_laws.specs.Lost.{CarriesAll}

@@ -11,14 +11,14 @@ use Rattle.vm_journal.specs.declared.entry.EvictWhy.{EvictWhy}
 use Rattle.vm_journal.specs.declared.entry.EvictWhy.TheVariants as evict
 use Rattle.vm_journal.specs.declared.entry.What.{What}
 use Rattle.vm_journal.specs.declared.entry.What.TheVariants as what
-use Rattle.pager_model.specs.Given.{Seen, by_seat, eviction, given, is_stopped, leading, seen_at, slots_of}
+use Rattle.pager_policy.specs.Given.{Seen, by_seat, eviction, given, is_stopped, leading, seen_at, slots_of}
 use Rattle.pager_model.specs.Lookups.{passes}
 use Rattle.pager_model.specs.Maps.{pfn, is_private, proc}
-use Rattle.pager_model.specs.Moves.{Control, Doing, control, makes, while_leaving}
+use Rattle.pager_policy.specs.Moves.{Control, Doing, control, makes, while_leaving}
 use Rattle.pager_model.specs.Pager.{Pager}
-use Rattle.pager_model.specs.Policy.{Ends, leave_move, leave_move_by}
+use Rattle.pager_policy.specs.Policy.{Ends, leave_move, leave_move_by}
 use Rattle.pager_model.specs.Run.{pager_after}
-use Rattle.pager_model.specs.Swap.{GivenSwap, is_saved, is_shared_unpinned, is_still, is_to_save, leave_page, leave_saved, leave_shared, leave_unsaved, run_from, slot_where, swap_again, swap_in_flight, swap_modified_full, swap_more, swap_settled, turned_gone, write_slot, write_slots}
+use Rattle.pager_policy.specs.Swap.{GivenSwap, is_saved, is_shared_unpinned, is_still, is_to_save, leave_page, leave_saved, leave_shared, leave_unsaved, run_from, slot_where, swap_again, swap_in_flight, swap_modified_full, swap_more, swap_settled, turned_gone, write_slot, write_slots}
 use Rattle.pager_model.specs.Transfers.{is_in_flight}
 use Rattle.pager_rules.proofs.Lists.{found_passes}
 use Rattle.pager_laws.proofs.RunsAreSound.{run_kept}

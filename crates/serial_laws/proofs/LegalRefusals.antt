@@ -18,13 +18,13 @@ use Rattle.vm_journal.specs.declared.entry.What.{What}
 use Rattle.vm_journal.specs.declared.entry.What.TheVariants as what
 use Rattle.pager_model.specs.Carrier.{HasLost, carrying}
 use Rattle.pager_model.specs.Flights.{Flight, reading, carrier_of}
-use Rattle.pager_model.specs.Given.{by_seat, made_by}
-use Rattle.pager_model.specs.Landings.{Outcome, all_bad, first_bad, landed_by}
+use Rattle.pager_policy.specs.Given.{by_seat, made_by}
+use Rattle.pager_policy.specs.Landings.{Outcome, all_bad, first_bad, landed_by}
 use Rattle.pager_model.specs.Maps.{page_number}
-use Rattle.pager_model.specs.Moves.{After, Control, Move, carries, refuses}
-use Rattle.pager_model.specs.Policy.{move_of, next_task}
+use Rattle.pager_policy.specs.Moves.{After, Control, Move, carries, refuses}
+use Rattle.pager_policy.specs.Policy.{move_of, next_task}
 use Rattle.pager_model.specs.Run.{pager_after}
-use Rattle.pager_model.specs.Serial.{refusal_of}
+use Rattle.pager_policy.specs.Serial.{refusal_of}
 use Rattle.pager_model.specs.Step.{IsLegal}
 use Rattle.serial_laws.proofs.LostCarriers.{lost_when_failed}
 use Rattle.call_laws.proofs.FreeTurn.{free_turn}

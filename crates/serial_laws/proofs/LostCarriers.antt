@@ -9,9 +9,9 @@ use Rattle.vm_journal.specs.declared.entry.What.TheVariants as what
 use Rattle.pager_model.specs.Carrier.{Carrying, HasLost, begins_with_fault, carrying, carrying_with, is_lost, is_start, landed_badly, landed_well}
 use Rattle.pager_model.specs.Counted.{last_count}
 use Rattle.pager_model.specs.Flights.{Direction, Flight, is_busy, open_flights, reading, writing}
-use Rattle.pager_model.specs.Given.{by_seat, made_by}
+use Rattle.pager_policy.specs.Given.{by_seat, made_by}
 use Rattle.pager_model.specs.Maps.{pfn}
-use Rattle.pager_model.specs.Landings.{Outcome, all_bad, first_bad, is_bad_outcome, landed_by, landing, reuse_of, went_badly, went_well}
+use Rattle.pager_policy.specs.Landings.{Outcome, all_bad, first_bad, is_bad_outcome, landed_by, landing, reuse_of, went_badly, went_well}
 use Rattle.pager_model.specs.Run.{pager_after}
 use Rattle.pager_rules.proofs.Basics.{count_cons, count_cons_yes, nat_eq_refl}
 use Rattle.serial_laws.specs.Lost.{CarriesAll}

@@ -8,8 +8,8 @@ use Rattle.vm_journal.specs.declared.entry.Entry.{Entry}
 use Rattle.vm_journal.specs.declared.entry.Role.TheVariants as role
 use Rattle.vm_journal.specs.declared.entry.What.{What}
 use Rattle.vm_journal.specs.declared.entry.What.TheVariants as what
-use Rattle.pager_model.specs.Given.{by_seat, made_by}
-use Rattle.pager_model.specs.Policy.{next_task}
+use Rattle.pager_policy.specs.Given.{by_seat, made_by}
+use Rattle.pager_policy.specs.Policy.{next_task}
 use Rattle.pager_model.specs.Run.{pager_after}
 use Rattle.pager_model.specs.Spoken.{flat_after}
 use Rattle.serial_laws.proofs.Carriers.{is_beginning}

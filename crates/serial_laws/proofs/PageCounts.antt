@@ -13,7 +13,7 @@ use Rattle.vm_types.specs.declared.config.Config.{Config}
 use Rattle.pager_model.specs.Around.{PastView}
 use Rattle.pager_model.specs.Lookups.{block_of, count_page, is_assigned_to, is_owner}
 use Rattle.pager_model.specs.Pager.{Assigned, Pager}
-use Rattle.pager_model.specs.WriteCluster.{is_free_block, lowest_free}
+use Rattle.pager_policy.specs.WriteCluster.{is_free_block, lowest_free}
 use Rattle.pager_rules.proofs.Basics.{count_from_no_find, same_page_refl}
 use Rattle.pager_rules.proofs.Lists.{all_step}
 use Rattle.pager_rules.proofs.TouchedPages.{same_page_equiv}

@@ -8,7 +8,7 @@ use Rattle.vm_journal.specs.declared.entry.Role.{Role}
 use Rattle.vm_journal.specs.declared.entry.What.{What}
 use Rattle.vm_journal.specs.declared.entry.What.TheVariants as what
 use Rattle.pager_model.specs.Flights.{Flight, open_flights, reading}
-use Rattle.pager_model.specs.Given.{Target, by_seat, made_by, reads_made, reuse_first}
+use Rattle.pager_policy.specs.Given.{Target, by_seat, made_by, reads_made, reuse_first}
 use Rattle.pager_model.specs.Maps.{pfn}
 use Rattle.serial_laws.proofs.Carriers.{BeginsWith, IsBegun, begun_first, begun_made, carries_all, is_beginning}
 use Rattle.serial_laws.proofs.Known.{IsCarrying}

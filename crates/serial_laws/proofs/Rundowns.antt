@@ -7,17 +7,17 @@ use Rattle.vm_types.specs.declared.config.Config.{Config}
 use Rattle.vm_journal.specs.declared.entry.Entry.{Entry}
 use Rattle.vm_journal.specs.declared.entry.EvictWhy.TheVariants as evict
 use Rattle.vm_journal.specs.declared.entry.What.{What}
-use Rattle.pager_model.specs.Cleaning.{Cleaning, evicting, rounds}
-use Rattle.pager_model.specs.Given.{Seen, is_stopped, seen_at}
-use Rattle.pager_model.specs.Moves.{Control, Move, carries, cleaning, control, goes, rests}
+use Rattle.pager_policy.specs.Cleaning.{Cleaning, evicting, rounds}
+use Rattle.pager_policy.specs.Given.{Seen, is_stopped, seen_at}
+use Rattle.pager_policy.specs.Moves.{Control, Move, carries, cleaning, control, goes, rests}
 use Rattle.pager_model.specs.Pager.{Pager}
 use Rattle.pager_model.specs.Run.{pager_after}
-use Rattle.pager_model.specs.Rundown.{Place, at_slot, clean_move, cleaning_move, holds_shared, is_shared_listed, later_move, next_round, place_move, round_move, rounds_move, shared_place, writer_of, written_for_need}
+use Rattle.pager_policy.specs.Rundown.{Place, at_slot, clean_move, cleaning_move, holds_shared, is_shared_listed, later_move, next_round, place_move, round_move, rounds_move, shared_place, writer_of, written_for_need}
 use Rattle.serial_laws.specs.Between.{IsBetween}
 use Rattle.serial_laws.specs.Controlled.{IsControlled}
 use Rattle.serial_laws.proofs.Begins.{IsWriting, need_writing, stopped_some}
-use Rattle.pager_model.specs.Given.{made_by}
-use Rattle.pager_model.specs.Landings.{all_bad, first_bad}
+use Rattle.pager_policy.specs.Given.{made_by}
+use Rattle.pager_policy.specs.Landings.{all_bad, first_bad}
 use Rattle.vm_journal.specs.declared.entry.What.TheVariants as what
 use Rattle.serial_laws.proofs.Known.{MoveIsKnown, landed_from}
 use Rattle.serial_laws.proofs.Leaves.{evict_known}

@@ -23,14 +23,14 @@ use Rattle.vm_journal.specs.declared.entry.EvictWhy.TheVariants as evict
 use Rattle.pager_model.specs.Changes.{without_page}
 use Rattle.pager_model.specs.Flights.{open_flights}
 use Rattle.pager_model.specs.Forget.{forget_all, forgotten, holder, own_pages, range_of}
-use Rattle.pager_model.specs.Given.{eviction, given, is_stopped}
+use Rattle.pager_policy.specs.Given.{eviction, given, is_stopped}
 use Rattle.pager_model.specs.Lookups.{passes, count_page, entries_at, entry_of, is_entry, is_resident}
-use Rattle.pager_model.specs.Moves.{asking, control}
+use Rattle.pager_policy.specs.Moves.{asking, control}
 use Rattle.pager_model.specs.Pager.{Pager, Valid}
-use Rattle.pager_model.specs.Policy.{ends_request, next_task, serve_move_by}
+use Rattle.pager_policy.specs.Policy.{ends_request, next_task, serve_move_by}
 use Rattle.pager_model.specs.Ring.{range_locked, range_pinned}
 use Rattle.pager_model.specs.Run.{pager_after}
-use Rattle.pager_model.specs.Serve.{GivenServe, delete_given, evict_given, is_fixed_at, is_page_in_flight, is_range_in_flight, is_valid_at, limits_given, lock_given, loose_in, purge_given, serve_again, serve_gives, serve_in_flight, serve_modified_full, serve_more, serve_not_resident, served_with, service_gives, valid_in}
+use Rattle.pager_policy.specs.Serve.{GivenServe, delete_given, evict_given, is_fixed_at, is_page_in_flight, is_range_in_flight, is_valid_at, limits_given, lock_given, loose_in, purge_given, serve_again, serve_gives, serve_in_flight, serve_modified_full, serve_more, serve_not_resident, served_with, service_gives, valid_in}
 use Rattle.pager_model.specs.MappedRanges.{is_unmapped}
 use Rattle.pager_model.specs.Served.{after_served, may_fail}
 use Rattle.pager_model.specs.Transfers.{is_in_flight}

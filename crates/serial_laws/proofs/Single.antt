@@ -10,10 +10,10 @@ use Rattle.vm_journal.specs.declared.entry.What.TheVariants as what
 use Rattle.pager_model.specs.Changes.{is_section_block, valid_at, without_page}
 use Rattle.pager_model.specs.Counted.{last_count}
 use Rattle.pager_model.specs.Flights.{Flight, begun_in, failed_flight, open_flights, reading, carrier_of}
-use Rattle.pager_model.specs.Given.{by_seat, made_by, page_address}
+use Rattle.pager_policy.specs.Given.{by_seat, made_by, page_address}
 use Rattle.pager_model.specs.Maps.{pfn, is_private, page_number, proc}
 use Rattle.pager_model.specs.InOk.{after_in_ok}
-use Rattle.pager_model.specs.Landings.{Outcome, first_bad, landed_by, reuse_of, went_badly, went_well}
+use Rattle.pager_policy.specs.Landings.{Outcome, first_bad, landed_by, reuse_of, went_badly, went_well}
 use Rattle.pager_model.specs.Lookups.{count_page, entry_of, is_entry, page_by}
 use Rattle.pager_model.specs.Reuse.{charged_reused}
 use Rattle.pager_model.specs.Run.{pager_after}

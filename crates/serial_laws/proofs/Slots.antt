@@ -7,7 +7,7 @@ use Rattle.vm_types.specs.declared.config.Config.{Config}
 use Rattle.vm_journal.specs.declared.entry.Entry.{Entry}
 use Rattle.page_lists.specs.Lists.{count_of}
 use Rattle.pager_model.specs.Around.{past_view}
-use Rattle.pager_model.specs.Given.{Seen, seen_at, seen_by, seen_in, seen_page, slots_of}
+use Rattle.pager_policy.specs.Given.{Seen, seen_at, seen_by, seen_in, seen_page, slots_of}
 use Rattle.pager_model.specs.Lookups.{passes, entry_of, has_vpn, is_entry, slot_of}
 use Rattle.pager_model.specs.Pager.{Pager, Valid}
 use Rattle.pager_model.specs.Run.{pager_after}

@@ -17,7 +17,7 @@ use Rattle.pager_model.specs.Back.{after_any_back}
 use Rattle.vm_types.specs.Same.{same_page}
 use Rattle.pager_model.specs.Changes.{is_section_block, without_page}
 use Rattle.pager_model.specs.Flights.{Direction, Flight, failed_flight, open_flights, reading, writing}
-use Rattle.pager_model.specs.Given.{by_seat, made_by}
+use Rattle.pager_policy.specs.Given.{by_seat, made_by}
 use Rattle.pager_model.specs.In.{after_in}
 use Rattle.pager_model.specs.InOk.{after_in_ok}
 use Rattle.pager_model.specs.Lookups.{count_page, entries_at, is_entry}
@@ -25,7 +25,7 @@ use Rattle.pager_model.specs.Maps.{is_private, page_number}
 use Rattle.pager_model.specs.Out.{after_any_out}
 use Rattle.pager_model.specs.OutLanding.{after_out_ok, marked}
 use Rattle.pager_model.specs.Pager.{Pager, Valid}
-use Rattle.pager_model.specs.Policy.{next_task}
+use Rattle.pager_policy.specs.Policy.{next_task}
 use Rattle.pager_model.specs.Reuse.{charged_reused}
 use Rattle.pager_model.specs.Run.{pager_after}
 use Rattle.pager_model.specs.Spoken.{flat_after, request_of}

@@ -7,9 +7,9 @@ use Rattle.vm_journal.specs.declared.entry.Entry.{Entry}
 use Rattle.vm_journal.specs.declared.entry.What.{What}
 use Rattle.vm_journal.specs.declared.entry.What.TheVariants as what
 use Rattle.pager_model.specs.Flights.{is_busy}
-use Rattle.pager_model.specs.Given.{by_seat}
+use Rattle.pager_policy.specs.Given.{by_seat}
 use Rattle.pager_model.specs.Maps.{proc}
-use Rattle.pager_model.specs.Moves.{Control, makes}
+use Rattle.pager_policy.specs.Moves.{Control, makes}
 use Rattle.pager_model.specs.Run.{pager_after}
 use Rattle.pager_model.specs.Step.{IsLegal}
 use Rattle.pager_model.specs.Turn.{IsTurned}

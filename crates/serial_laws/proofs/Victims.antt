@@ -11,7 +11,7 @@ use Rattle.vm_journal.specs.declared.entry.Entry.{Entry}
 use Rattle.working_set.proofs.FromHand.{first_passes, slot_after-lt-length}
 use Rattle.pager_model.specs.Around.{past_view}
 use Rattle.pager_model.specs.Evict.{victim_of}
-use Rattle.pager_model.specs.Given.{Seen, seen_at}
+use Rattle.pager_policy.specs.Given.{Seen, seen_at}
 use Rattle.pager_model.specs.Pager.{Pager}
 use Rattle.pager_model.specs.Run.{pager_after}
 use Rattle.pager_model.specs.Sound.{IsBounded}

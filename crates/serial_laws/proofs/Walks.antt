@@ -11,15 +11,15 @@ use Rattle.vm_types.specs.declared.reference.Ref.{Ref}
 use Rattle.vm_types.specs.declared.service.Request.{Request}
 use Rattle.vm_types.specs.declared.service.Request.TheVariants as request
 use Rattle.vm_journal.specs.declared.entry.Entry.{Entry}
-use Rattle.pager_model.specs.Given.{given}
+use Rattle.pager_policy.specs.Given.{given}
 use Rattle.pager_model.specs.Maps.{proc}
-use Rattle.pager_model.specs.Moves.{Control, Doing, Move, asking, cleaning, control, freeing, saving, while_leaving}
+use Rattle.pager_policy.specs.Moves.{Control, Doing, Move, asking, cleaning, control, freeing, saving, while_leaving}
 use Rattle.pager_model.specs.Pager.{Pager}
-use Rattle.pager_model.specs.Policy.{asked_move, asking_move, coming_process, ends_part, ends_request, freeing_move, gone_move, is_freeing, is_saving, move_of, next_task, resident_move, saving_by, saving_move, status_move, swapper_of, task_move}
+use Rattle.pager_policy.specs.Policy.{asked_move, asking_move, coming_process, ends_part, ends_request, freeing_move, gone_move, is_freeing, is_saving, move_of, next_task, resident_move, saving_by, saving_move, status_move, swapper_of, task_move}
 use Rattle.pager_model.specs.Spoken.{spoken}
 use Rattle.pager_model.specs.Run.{pager_after}
-use Rattle.pager_model.specs.Rundown.{writer_of}
-use Rattle.pager_model.specs.WriteCluster.{begin_carry, begin_nothing, is_enough, reason_high, writes_from}
+use Rattle.pager_policy.specs.Rundown.{writer_of}
+use Rattle.pager_policy.specs.WriteCluster.{begin_carry, begin_nothing, is_enough, reason_high, writes_from}
 use Rattle.pager_rules.proofs.Basics.{at_number_same}
 use Rattle.pager_laws.proofs.OfConfigKept.{run_right}
 use Rattle.call_laws.proofs.TurnsLegal.{comer_legal, coming_legal}

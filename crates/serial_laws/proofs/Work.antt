@@ -11,12 +11,12 @@ use Rattle.vm_types.specs.declared.service.Request.{Request}
 use Rattle.vm_types.specs.declared.service.Request.TheVariants as request
 use Rattle.vm_journal.specs.declared.entry.Entry.{Entry}
 use Rattle.vm_journal.specs.declared.entry.What.TheVariants as what
-use Rattle.pager_model.specs.Given.{by_seat}
+use Rattle.pager_policy.specs.Given.{by_seat}
 use Rattle.pager_model.specs.Lookups.{count_page, page_by}
 use Rattle.pager_model.specs.Maps.{Map, page_number, proc}
-use Rattle.pager_model.specs.Moves.{Doing, asking, control, freeing, while_leaving}
+use Rattle.pager_policy.specs.Moves.{Doing, asking, control, freeing, while_leaving}
 use Rattle.pager_model.specs.Pager.{Pager}
-use Rattle.pager_model.specs.Policy.{Ends, ends_part, ends_request, next_task, swapper_of}
+use Rattle.pager_policy.specs.Policy.{Ends, ends_part, ends_request, next_task, swapper_of}
 use Rattle.pager_model.specs.Run.{pager_after}
 use Rattle.pager_rules.proofs.Basics.{at_number_cases}
 use Rattle.serial_laws.specs.Controlled.{AreTouched, IsControlled, IsLeft, IsUnmet, MayBeRefused}

@@ -13,10 +13,10 @@ use Rattle.vm_journal.specs.declared.entry.Role.TheVariants as role
 use Rattle.vm_journal.specs.declared.entry.What.{What}
 use Rattle.vm_journal.specs.declared.entry.What.TheVariants as what
 use Rattle.pager_model.specs.Flights.{Direction, Flight, open_flights, reading, writing, carrier_of}
-use Rattle.pager_model.specs.Given.{by_seat, made_by}
-use Rattle.pager_model.specs.Landings.{Outcome, all_bad}
-use Rattle.pager_model.specs.Moves.{After, Control, asking, carries, control, goes, refuses}
-use Rattle.pager_model.specs.Policy.{Ends, ends_part, ends_request, failing, unless_all_failed}
+use Rattle.pager_policy.specs.Given.{by_seat, made_by}
+use Rattle.pager_policy.specs.Landings.{Outcome, all_bad}
+use Rattle.pager_policy.specs.Moves.{After, Control, asking, carries, control, goes, refuses}
+use Rattle.pager_policy.specs.Policy.{Ends, ends_part, ends_request, failing, unless_all_failed}
 use Rattle.pager_model.specs.Run.{pager_after}
 use Rattle.pager_rules.proofs.Basics.{each_weaker}
 use Rattle.serial_laws.specs.Controlled.{IsControlled}

@@ -11,9 +11,9 @@ use Rattle.vm_journal.specs.declared.entry.Entry.{Entry}
 use Rattle.pager_model.specs.Flat.{flat_refusal}
 use Rattle.pager_model.specs.Lookups.{count_page, entries_at, entry_of, page_by}
 use Rattle.pager_model.specs.Maps.{page_number}
-use Rattle.pager_model.specs.Moves.{Control, Doing, asking, cleaning, freeing, saving}
+use Rattle.pager_policy.specs.Moves.{Control, Doing, asking, cleaning, freeing, saving}
 use Rattle.pager_model.specs.Pager.{Pager, Valid}
-use Rattle.pager_model.specs.Policy.{next_task}
+use Rattle.pager_policy.specs.Policy.{next_task}
 use Rattle.pager_model.specs.Run.{pager_after}
 use Rattle.pager_model.specs.Served.{may_fail}
 use Rattle.pager_model.specs.Spoken.{flat_after}

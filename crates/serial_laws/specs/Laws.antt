@@ -9,14 +9,14 @@ use Rattle.vm_types.specs.declared.names.ProcStatus.{ProcStatus}
 use Rattle.vm_journal.specs.declared.entry.Entry.{Entry}
 use Rattle.vm_journal.specs.declared.entry.What.{What}
 use Rattle.vm_journal.specs.declared.entry.What.TheVariants as what
-use Rattle.pager_model.specs.Given.{by_seat, made_by}
-use Rattle.pager_model.specs.Landings.{Outcome, all_bad, first_bad, landed_by}
+use Rattle.pager_policy.specs.Given.{by_seat, made_by}
+use Rattle.pager_policy.specs.Landings.{Outcome, all_bad, first_bad, landed_by}
 use Rattle.pager_model.specs.Flights.{carrier_of}
-use Rattle.pager_model.specs.Moves.{After, Control, asking, carries, control, makes, refuses, rests}
-use Rattle.pager_model.specs.Policy.{move_of, next_task}
+use Rattle.pager_policy.specs.Moves.{After, Control, asking, carries, control, makes, refuses, rests}
+use Rattle.pager_policy.specs.Policy.{move_of, next_task}
 use Rattle.pager_model.specs.Run.{IsRun, pager_after}
-use Rattle.pager_model.specs.Rundown.{at_slot}
-use Rattle.pager_model.specs.Serial.{Heard, IsMove, refusal_of}
+use Rattle.pager_policy.specs.Rundown.{at_slot}
+use Rattle.pager_policy.specs.Serial.{Heard, IsMove, refusal_of}
 use Rattle.pager_model.specs.Step.{IsLegal}
 use Rattle.call_laws.specs.Ready.{MayWork}
 use Rattle.serial_laws.specs.Between.{IsBetween}

@@ -4,7 +4,7 @@ use Rattle.vm_types.specs.declared.config.Config.{Config}
 use Rattle.vm_journal.specs.declared.entry.Entry.{Entry}
 use Rattle.pager_model.specs.Carrier.{HasLost, begins_with_fault, carrying}
 use Rattle.pager_model.specs.Flights.{Flight}
-use Rattle.pager_model.specs.Landings.{Outcome, all_bad, first_bad, landed_by}
+use Rattle.pager_policy.specs.Landings.{Outcome, all_bad, first_bad, landed_by}
 
 -- the seat's carrier is these flights, in the order in which they were begun, and none of them has landed; the
 -- seat hasn't spoken since

@@ -8,11 +8,11 @@ use Rattle.vm_types.specs.declared.names.Proc.{Proc}
 use Rattle.vm_types.specs.declared.names.Seat.{Seat}
 use Rattle.vm_journal.specs.declared.entry.Entry.{Entry}
 use Rattle.vm_journal.specs.declared.entry.What.{What}
-use Rattle.pager_model.specs.Moves.{Control as ControlIs, Move, asking, carries, control, freeing, rests}
+use Rattle.pager_policy.specs.Moves.{Control as ControlIs, Move, asking, carries, control, freeing, rests}
 use Rattle.pager_model.specs.Pager.{Pager}
-use Rattle.pager_model.specs.Policy.{asking_move, ends_part, finding_move, freeing_move, is_freeing, is_saving, leave_move, next_task, saving_by, saving_move, swapper_of, task_move}
-use Rattle.pager_model.specs.Rundown.{writer_of}
-use Rattle.pager_model.specs.WriteCluster.{BeginIs, begin_carry, begin_gives, begin_nothing, reason_high}
+use Rattle.pager_policy.specs.Policy.{asking_move, ends_part, finding_move, freeing_move, is_freeing, is_saving, leave_move, next_task, saving_by, saving_move, swapper_of, task_move}
+use Rattle.pager_policy.specs.Rundown.{writer_of}
+use Rattle.pager_policy.specs.WriteCluster.{BeginIs, begin_carry, begin_gives, begin_nothing, reason_high}
 use Rattle.pager_model.specs.Flights.{is_busy}
 use Rattle.call_begins.specs.MayBegin.{MayBegin, empty}
 use Rattle.serial_laws.specs.Controlled.{IsLeft}

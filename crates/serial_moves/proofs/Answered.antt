@@ -7,7 +7,7 @@ use Rattle.vm_journal.specs.declared.entry.Entry.{Entry}
 use Rattle.vm_journal.specs.declared.entry.What.{What}
 use Rattle.vm_journal.specs.declared.entry.What.TheVariants as what
 use Rattle.pager_model.specs.Flat.{flat_reply}
-use Rattle.pager_model.specs.Given.{by_seat, made_by, with_reply}
+use Rattle.pager_policy.specs.Given.{by_seat, made_by, with_reply}
 use Rattle.pager_model.specs.Spoken.{IsRight, flat_after}
 use Rattle.fault_core.specs.Gives.{last_reply}
 use Rattle.carried_landings.proofs.Shapes.{EndsIn}

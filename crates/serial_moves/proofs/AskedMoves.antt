@@ -9,8 +9,8 @@ use Rattle.vm_types.specs.declared.service.Request.{Request}
 use Rattle.vm_types.specs.declared.service.Request.TheVariants as request
 use Rattle.vm_types.specs.declared.service.Service.{Service}
 use Rattle.vm_types.specs.declared.config.Task.{Task}
-use Rattle.pager_model.specs.Moves.{Move, asking}
-use Rattle.pager_model.specs.Policy.{asked_move, coming_process, ends_request, gone_move, leave_move, resident_move, status_move}
+use Rattle.pager_policy.specs.Moves.{Move, asking}
+use Rattle.pager_policy.specs.Policy.{asked_move, coming_process, ends_request, gone_move, leave_move, resident_move, status_move}
 use Rattle.vm_state.specs.History.{History, pager}
 use Rattle.serial_moves.specs.Controls.{number_of}
 use Rattle.serial_moves.specs.Requests.{IsResidentReference, come_move}

@@ -2,9 +2,9 @@
 use Rattle.std.proofs.Common.{◌≡◌, Bool, refl, sym, ap, subst}
 use Rattle.vm_types.specs.BlockView.{BlockView, Tells}
 use Rattle.vm_types.specs.declared.names.Seat.{Seat}
-use Rattle.pager_model.specs.Moves.{After, Control as ControlIs, Move, asking, carries, control, makes}
-use Rattle.pager_model.specs.Policy.{come_move_by, ends_request, unless_all_failed}
-use Rattle.pager_model.specs.Swap.{GivenSwap, SwapIs, come_gives, swap_again, swap_carry, swap_in_flight, swap_modified_full, swap_more, swap_no_frame, swap_settled}
+use Rattle.pager_policy.specs.Moves.{After, Control as ControlIs, Move, asking, carries, control, makes}
+use Rattle.pager_policy.specs.Policy.{come_move_by, ends_request, unless_all_failed}
+use Rattle.pager_policy.specs.Swap.{GivenSwap, SwapIs, come_gives, swap_again, swap_carry, swap_in_flight, swap_modified_full, swap_more, swap_no_frame, swap_settled}
 use Rattle.vm_swapper.specs.Swaps.{Swaps}
 use Rattle.vm_swapper.specs.declared.swap.Swap.TheVariants.{Again, Carry, More, Settled}
 use Rattle.vm_swapper.specs.declared.swap.SwapWhy.{SwapWhy}

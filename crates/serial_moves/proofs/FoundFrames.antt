@@ -11,10 +11,10 @@ use Rattle.vm_types.specs.declared.names.Seat.{Seat}
 use Rattle.vm_journal.specs.declared.entry.Entry.{Entry}
 use Rattle.vm_journal.specs.declared.entry.What.TheVariants as what
 use Rattle.pager_model.specs.Lookups.{is_leaving}
-use Rattle.pager_model.specs.Moves.{Control as ControlIs, Doing as DoingIs, Move, control, makes}
+use Rattle.pager_policy.specs.Moves.{Control as ControlIs, Doing as DoingIs, Move, control, makes}
 use Rattle.pager_model.specs.Pager.{Pager}
-use Rattle.pager_model.specs.Policy.{Ends as EndsIs, finding_move, leaving_other, other_move, victim_move, writing_move}
-use Rattle.pager_model.specs.Swap.{victim_gives}
+use Rattle.pager_policy.specs.Policy.{Ends as EndsIs, finding_move, leaving_other, other_move, victim_move, writing_move}
+use Rattle.pager_policy.specs.Swap.{victim_gives}
 use Rattle.pager_rules.proofs.Basics.{find_cons_yes}
 use Rattle.pager_rules.proofs.Lists.{found_passes}
 use Rattle.call_begins.proofs.Steps.{paid_after}

@@ -6,8 +6,8 @@ use Rattle.vm_types.specs.declared.faults.NoMemory.{NoMemory}
 use Rattle.vm_types.specs.declared.names.Seat.{Seat}
 use Rattle.vm_journal.specs.declared.entry.Entry.{Entry}
 use Rattle.pager_model.specs.Flights.{open_flights, carrier_of}
-use Rattle.pager_model.specs.Moves.{Control as ControlIs}
-use Rattle.pager_model.specs.Policy.{Ends as EndsIs, ends_part, ends_request, unless_all_failed, unless_first_failed}
+use Rattle.pager_policy.specs.Moves.{Control as ControlIs}
+use Rattle.pager_policy.specs.Policy.{Ends as EndsIs, ends_part, ends_request, unless_all_failed, unless_first_failed}
 use Rattle.pager_model.specs.Run.{IsRun}
 use Rattle.call_begins.specs.Lifted.{HasBegunLifts, place_of}
 use Rattle.call_begins.specs.MayBegin.{empty}

@@ -3,9 +3,9 @@ use Rattle.std.proofs.Common.{◌≡◌, ℕ, List, refl, sym, ap, ◌∙◌, su
 use Rattle.vm_types.specs.BlockView.{BlockView, Tells}
 use Rattle.vm_types.specs.declared.names.Seat.{Seat}
 use Rattle.vm_journal.specs.declared.entry.What.{What}
-use Rattle.pager_model.specs.Moves.{Control as ControlIs, Doing as DoingIs, Move, carries, control, makes, rests, while_leaving}
-use Rattle.pager_model.specs.Policy.{Ends, leave_move, leave_move_by, unless_all_failed, writing_move}
-use Rattle.pager_model.specs.Swap.{SwapIs, SwapWhy as Reason, leave_gives, swap_again, swap_carry, swap_in_flight, swap_modified_full, swap_more, swap_no_frame, swap_settled}
+use Rattle.pager_policy.specs.Moves.{Control as ControlIs, Doing as DoingIs, Move, carries, control, makes, rests, while_leaving}
+use Rattle.pager_policy.specs.Policy.{Ends, leave_move, leave_move_by, unless_all_failed, writing_move}
+use Rattle.pager_policy.specs.Swap.{SwapIs, SwapWhy as Reason, leave_gives, swap_again, swap_carry, swap_in_flight, swap_modified_full, swap_more, swap_no_frame, swap_settled}
 use Rattle.vm_swapper.specs.Swaps.{Swaps, again_of, returned}
 use Rattle.vm_swapper.specs.declared.swap.Swap.TheVariants.{Again, Carry, More, Room, Settled}
 use Rattle.vm_swapper.specs.declared.swap.SwapWhy.{SwapWhy}

@@ -8,11 +8,11 @@ use Rattle.vm_types.specs.declared.reference.Ref.{Ref}
 use Rattle.vm_types.specs.declared.reply.Reply.{Reply}
 use Rattle.vm_types.specs.declared.service.Request.TheVariants as request
 use Rattle.vm_journal.specs.declared.entry.What.{What}
-use Rattle.pager_model.specs.Advance.{AgainWhy as Reason, GivenNext, NextIs, advance_gives, again_block_busy, again_charging, again_collided, again_modified_full, again_no_frame, again_not_resident, next_again, next_answered, next_carry, next_more}
+use Rattle.pager_policy.specs.Advance.{AgainWhy as Reason, GivenNext, NextIs, advance_gives, again_block_busy, again_charging, again_collided, again_modified_full, again_no_frame, again_not_resident, next_again, next_answered, next_carry, next_more}
 use Rattle.pager_model.specs.Flat.{flat_reply}
-use Rattle.pager_model.specs.Given.{with_reply}
-use Rattle.pager_model.specs.Moves.{After, Control as ControlIs, Move, asking, carries, control, rests, saving}
-use Rattle.pager_model.specs.Policy.{advance_move_by, ends_request, resident_move, unless_first_failed, writing_move}
+use Rattle.pager_policy.specs.Given.{with_reply}
+use Rattle.pager_policy.specs.Moves.{After, Control as ControlIs, Move, asking, carries, control, rests, saving}
+use Rattle.pager_policy.specs.Policy.{advance_move_by, ends_request, resident_move, unless_first_failed, writing_move}
 use Rattle.pager_model.specs.Spoken.{IsRight, flat_after}
 use Rattle.fault_core.specs.Gives.{Gives, again_of, last_reply, returned}
 use Rattle.fault_core.specs.declared.next.AgainWhy.{AgainWhy}

@@ -15,10 +15,10 @@ use Rattle.vm_journal.specs.declared.entry.Entry.{Entry}
 use Rattle.vm_journal.specs.declared.entry.What.TheVariants as what
 use Rattle.pager_model.specs.Flat.{FlatState}
 use Rattle.pager_model.specs.Flights.{awaits_reuse, fails_read, open_flights}
-use Rattle.pager_model.specs.Moves.{Control as ControlIs, control, saving}
-use Rattle.pager_model.specs.Policy.{next_task}
+use Rattle.pager_policy.specs.Moves.{Control as ControlIs, control, saving}
+use Rattle.pager_policy.specs.Policy.{next_task}
 use Rattle.pager_model.specs.Run.{pager_after}
-use Rattle.pager_model.specs.Serial.{IsRefused, refusal_of}
+use Rattle.pager_policy.specs.Serial.{IsRefused, refusal_of}
 use Rattle.pager_model.specs.Spoken.{IsRight, ShowsReply, flat_after}
 use Rattle.pager_model.specs.Step.{IsLegal}
 use Rattle.call_begins.proofs.Steps.{paid_after}

@@ -5,9 +5,9 @@ use Rattle.vm_types.specs.declared.names.Seat.{Seat}
 use Rattle.vm_types.specs.declared.reply.Answer.{Answer}
 use Rattle.vm_types.specs.declared.service.Request.TheVariants as request
 use Rattle.vm_types.specs.declared.service.Service.{Service}
-use Rattle.pager_model.specs.Moves.{Control as ControlIs, Move, asking, control, rests, saving}
-use Rattle.pager_model.specs.Policy.{ends_request, resident_move, serve_move_by, writing_move}
-use Rattle.pager_model.specs.Serve.{GivenServe, ServeIs, ServeWhy as Reason, serve_again, serve_answered, serve_gives, serve_in_flight, serve_modified_full, serve_more, serve_not_resident}
+use Rattle.pager_policy.specs.Moves.{Control as ControlIs, Move, asking, control, rests, saving}
+use Rattle.pager_policy.specs.Policy.{ends_request, resident_move, serve_move_by, writing_move}
+use Rattle.pager_policy.specs.Serve.{GivenServe, ServeIs, ServeWhy as Reason, serve_again, serve_answered, serve_gives, serve_in_flight, serve_modified_full, serve_more, serve_not_resident}
 use Rattle.vm_services.specs.Serves.{Serves, again_of, last_answer, returned}
 use Rattle.vm_services.specs.declared.next.ServeNext.{ServeNext}
 use Rattle.vm_services.specs.declared.next.ServeNext.TheVariants.{Again, Answered, More}

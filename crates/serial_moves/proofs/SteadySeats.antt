@@ -5,7 +5,7 @@ use Rattle.vm_types.specs.declared.faults.NoMemory.{NoMemory}
 use Rattle.vm_types.specs.declared.names.Seat.{Seat}
 use Rattle.vm_journal.specs.declared.entry.What.{What}
 use Rattle.pager_model.specs.Flights.{is_busy}
-use Rattle.pager_model.specs.Moves.{Control as ControlIs, Move, rests}
+use Rattle.pager_policy.specs.Moves.{Control as ControlIs, Move, rests}
 use Rattle.call_begins.specs.MayBegin.{MayBegin}
 use Rattle.call_begins.specs.ReadySeat.{IsIdleSeat}
 use Rattle.vm_state.specs.History.{History, owed}

@@ -4,7 +4,7 @@ use Rattle.vm_types.specs.declared.names.Proc.{Proc}
 use Rattle.vm_types.specs.declared.names.ProcStatus.{ProcStatus}
 use Rattle.vm_types.specs.declared.names.Seat.{Seat}
 use Rattle.vm_journal.specs.declared.entry.What.TheVariants as what
-use Rattle.pager_model.specs.Moves.{Control as ControlIs, Move, makes}
+use Rattle.pager_policy.specs.Moves.{Control as ControlIs, Move, makes}
 use Rattle.call_begins.proofs.Steps.{paid_after}
 use Rattle.serial_laws.proofs.Kept.{turns_legal}
 use Rattle.vm_state.specs.History.{History, MayAdd, added, entry_by}

@@ -2,8 +2,8 @@
 use Rattle.std.specs.Prelude.{◌≡◌, ℕ, Bool, false, Option, IfSome}
 use Rattle.std.specs.Option.{option_map}
 use Rattle.vm_types.specs.declared.names.Proc.{Proc}
-use Rattle.pager_model.specs.Moves.{Control as ControlIs, Doing as DoingIs, Move, asking, control, freeing, saving}
-use Rattle.pager_model.specs.Policy.{Ends as EndsIs, asking_move, ends_part, ends_request}
+use Rattle.pager_policy.specs.Moves.{Control as ControlIs, Doing as DoingIs, Move, asking, control, freeing, saving}
+use Rattle.pager_policy.specs.Policy.{Ends as EndsIs, asking_move, ends_part, ends_request}
 use Rattle.serial_laws.specs.Controlled.{IsLeft}
 use Rattle.carried_landings.specs.Moved.{MovesTo}
 use Rattle.vm_state.specs.History.{History, pager}

@@ -7,9 +7,9 @@ use Rattle.vm_types.specs.declared.names.ProcStatus.TheVariants as status
 use Rattle.vm_types.specs.declared.reference.Ref.{Ref}
 use Rattle.vm_types.specs.declared.service.Request.{Request}
 use Rattle.vm_types.specs.declared.service.Request.TheVariants as request
-use Rattle.pager_model.specs.Moves.{Move, asking, rests}
-use Rattle.pager_model.specs.Policy.{asked_move, come_move_by, ends_request, finding_move, resident_move}
-use Rattle.pager_model.specs.Swap.{come_gives}
+use Rattle.pager_policy.specs.Moves.{Move, asking, rests}
+use Rattle.pager_policy.specs.Policy.{asked_move, come_move_by, ends_request, finding_move, resident_move}
+use Rattle.pager_policy.specs.Swap.{come_gives}
 use Rattle.vm_state.specs.History.{History, pager}
 use Rattle.lift_carriers.specs.CarrierView.{CarrierView}
 use Rattle.serial_laws.specs.Controlled.{IsLeft}

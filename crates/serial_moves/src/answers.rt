@@ -1,7 +1,7 @@
 ghost use Rattle.std.specs.Prelude.{◌≡◌, ◌<◌, ◌&&◌, ℕ, true, None, IfOk, OnErr, IfSome};
 ghost use Rattle.std.specs.Option.{option_map};
-ghost use Rattle.pager_model.specs.Moves.{asking, control, freeing};
-ghost use Rattle.pager_model.specs.Policy.{asking_move, ends_part, freeing_move, is_freeing, is_saving, saving_move, swapper_of};
+ghost use Rattle.pager_policy.specs.Moves.{asking, control, freeing};
+ghost use Rattle.pager_policy.specs.Policy.{asking_move, ends_part, freeing_move, is_freeing, is_saving, saving_move, swapper_of};
 ghost use Rattle.vm_state.specs.History.{pager};
 ghost use Rattle.serial_laws.specs.Controlled.{IsLeft};
 ghost use Rattle.serial_moves.specs.Carriers.{AreIdle, MayFollow};

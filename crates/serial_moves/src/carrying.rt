@@ -1,8 +1,8 @@
 ghost use Rattle.std.specs.Prelude.{◌≡◌, ◌<◌, [], false, IfOk, OnErr};
 ghost use Rattle.pager_model.specs.Flights.{awaits_reuse, open_flights};
-ghost use Rattle.pager_model.specs.Moves.{asking, control, freeing, saving};
-ghost use Rattle.pager_model.specs.Policy.{unless_all_failed, unless_first_failed, writing_move};
-ghost use Rattle.pager_model.specs.Serial.{refusal_of};
+ghost use Rattle.pager_policy.specs.Moves.{asking, control, freeing, saving};
+ghost use Rattle.pager_policy.specs.Policy.{unless_all_failed, unless_first_failed, writing_move};
+ghost use Rattle.pager_policy.specs.Serial.{refusal_of};
 ghost use Rattle.vm_state.specs.History.{MayAdd, added, entry_by, pager};
 ghost use Rattle.call_begins.specs.MayBegin.{empty};
 ghost use Rattle.serial_laws.specs.Laws.{IsRefusedLegally};

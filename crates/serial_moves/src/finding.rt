@@ -1,8 +1,8 @@
 ghost use Rattle.std.specs.Prelude.{◌≡◌, ◌<◌, ◌≤◌, ℕ, IfOk, OnErr, IfSome, length};
 ghost use Rattle.std.specs.Option.{option_map};
 ghost use Rattle.pager_model.specs.Lookups.{is_leaving};
-ghost use Rattle.pager_model.specs.Moves.{Doing as DoingIs, Move};
-ghost use Rattle.pager_model.specs.Policy.{Ends as EndsIs, finding_move, leaving_other};
+ghost use Rattle.pager_policy.specs.Moves.{Doing as DoingIs, Move};
+ghost use Rattle.pager_policy.specs.Policy.{Ends as EndsIs, finding_move, leaving_other};
 ghost use Rattle.vm_state.specs.History.{pager};
 ghost use Rattle.serial_moves.specs.Carriers.{MayMove};
 ghost use Rattle.serial_moves.specs.Controls.{Moves, doing_in, ends_in, number_of};

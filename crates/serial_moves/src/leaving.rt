@@ -1,6 +1,6 @@
 ghost use Rattle.std.specs.Prelude.{◌≡◌, ◌<◌, IfOk, OnErr, length};
 ghost use Rattle.vm_types.specs.declared.names.ProcStatus.TheVariants as status;
-ghost use Rattle.pager_model.specs.Policy.{leave_move};
+ghost use Rattle.pager_policy.specs.Policy.{leave_move};
 ghost use Rattle.vm_state.specs.History.{pager};
 ghost use Rattle.serial_moves.specs.Carriers.{MayMove};
 ghost use Rattle.serial_moves.specs.Controls.{Moves, doing_in, ends_in};

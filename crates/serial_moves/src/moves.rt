@@ -1,5 +1,5 @@
 ghost use Rattle.std.specs.Prelude.{◌≡◌, ◌<◌, IfOk, OnErr};
-ghost use Rattle.pager_model.specs.Policy.{move_of};
+ghost use Rattle.pager_policy.specs.Policy.{move_of};
 ghost use Rattle.serial_laws.specs.Between.{IsBetween};
 ghost use Rattle.serial_laws.specs.Controlled.{IsControlled};
 ghost use Rattle.serial_moves.specs.Carriers.{AreIdle};

@@ -5,7 +5,7 @@ ghost use Rattle.vm_types.specs.declared.names.ProcStatus.TheVariants as status;
 ghost use Rattle.vm_types.specs.declared.reference.Ref.{Ref};
 ghost use Rattle.vm_types.specs.declared.service.Request.{Request};
 ghost use Rattle.pager_model.specs.Lookups.{is_coming, is_resident};
-ghost use Rattle.pager_model.specs.Policy.{coming_process, gone_move};
+ghost use Rattle.pager_policy.specs.Policy.{coming_process, gone_move};
 ghost use Rattle.vm_state.specs.History.{pager};
 ghost use Rattle.serial_moves.specs.Carriers.{MayMove};
 ghost use Rattle.serial_moves.specs.Controls.{Moves, number_of};

@@ -1,5 +1,5 @@
 ghost use Rattle.std.specs.Prelude.{◌≡◌};
-ghost use Rattle.pager_model.specs.Policy.{next_task};
+ghost use Rattle.pager_policy.specs.Policy.{next_task};
 
 use disk_trait::Block;
 use vm_state::State;

@@ -3,10 +3,10 @@ use Rattle.std.proofs.Common.{◌≡◌, ◌<◌, ◌+◌, Bool, true, List, [],
 use Rattle.vm_types.specs.declared.config.Config.{Config}
 use Rattle.vm_types.specs.Configuration.{IsWellFormed}
 use Rattle.vm_journal.specs.declared.entry.Entry.{Entry}
-use Rattle.pager_model.specs.Moves.{Control as ControlIs, asking, control}
-use Rattle.pager_model.specs.Policy.{move_of}
+use Rattle.pager_policy.specs.Moves.{Control as ControlIs, asking, control}
+use Rattle.pager_policy.specs.Policy.{move_of}
 use Rattle.pager_model.specs.Run.{IsRun}
-use Rattle.pager_model.specs.Serial.{IsMove, IsSerial, IsSerialTo}
+use Rattle.pager_policy.specs.Serial.{IsMove, IsSerial, IsSerialTo}
 use Rattle.pager_model.specs.Spoken.{IsRight}
 use Rattle.serial_laws.specs.Between.{IsBetween}
 use Rattle.serial_laws.specs.Controlled.{IsControlled, IsInBody}

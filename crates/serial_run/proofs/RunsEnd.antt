@@ -6,9 +6,9 @@ use Rattle.vm_journal.specs.declared.entry.Entry.{Entry}
 use Rattle.pager_model.specs.Order.{IsAnswered, IsInOrder, answered}
 use Rattle.pager_model.specs.Report.{report_of}
 use Rattle.pager_model.specs.Run.{IsRun, pager_after}
-use Rattle.pager_model.specs.Serial.{IsRundown, IsSerial, IsWhole}
+use Rattle.pager_policy.specs.Serial.{IsRundown, IsSerial, IsWhole}
 use Rattle.pager_model.specs.Spoken.{IsRight}
-use Rattle.pager_model.specs.Text.{dirty_pages}
+use Rattle.pager_model.specs.DirtyPages.{dirty_pages}
 use Rattle.content_laws.proofs.EndContent.{nowhere_uncharged}
 use Rattle.pager_laws.proofs.SerialInOrder.{serial_answered}
 use Rattle.run_text.specs.Printable.{IsPrintable}

@@ -9,8 +9,8 @@ use Rattle.pager_model.specs.Asked.{IsAsked}
 use Rattle.pager_model.specs.Maps.{is_private}
 use Rattle.pager_model.specs.Report.{report_of}
 use Rattle.pager_model.specs.Run.{pager_after}
-use Rattle.pager_model.specs.Serial.{IsSerial}
-use Rattle.pager_model.specs.Text.{dirty_pages}
+use Rattle.pager_policy.specs.Serial.{IsSerial}
+use Rattle.pager_model.specs.DirtyPages.{dirty_pages}
 use Rattle.pager_model.specs.WrittenBack.{AreWrittenBack}
 use Rattle.run_text.specs.Printable.{IsPrintable}
 use Rattle.disk_trait.specs.DepotView.{given_back}

@@ -7,7 +7,7 @@ use Rattle.vm_journal.specs.declared.entry.Entry.{Entry}
 use Rattle.pager_model.specs.Flights.{awaits_reuse, open_flights}
 use Rattle.pager_model.specs.Order.{IsAnswered, IsInOrder}
 use Rattle.pager_model.specs.Run.{IsRun}
-use Rattle.pager_model.specs.Serial.{IsSerial}
+use Rattle.pager_policy.specs.Serial.{IsSerial}
 use Rattle.pager_model.specs.Spoken.{IsRight}
 use Rattle.vm_state.specs.History.{History}
 

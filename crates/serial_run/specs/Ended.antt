@@ -9,9 +9,9 @@ use Rattle.pager_model.specs.Maps.{is_private}
 use Rattle.pager_model.specs.Order.{IsInOrder}
 use Rattle.pager_model.specs.Report.{report_of}
 use Rattle.pager_model.specs.Run.{IsRun, pager_after}
-use Rattle.pager_model.specs.Serial.{IsSerial, IsWhole}
+use Rattle.pager_policy.specs.Serial.{IsSerial, IsWhole}
 use Rattle.pager_model.specs.Spoken.{IsRight}
-use Rattle.pager_model.specs.Text.{dirty_pages}
+use Rattle.pager_model.specs.DirtyPages.{dirty_pages}
 use Rattle.pager_model.specs.WrittenBack.{AreWrittenBack, NowhereMeansUncharged}
 use Rattle.pager_model.specs.Flights.{open_flights}
 use Rattle.run_text.specs.Printable.{IsPrintable}

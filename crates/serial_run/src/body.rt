@@ -1,6 +1,6 @@
 ghost use Rattle.std.specs.Prelude.{◌≡◌, [], true, IfOk, OnOk, length};
 ghost use Rattle.vm_types.specs.Configuration.{IsWellFormed};
-ghost use Rattle.pager_model.specs.Serial.{IsSerial};
+ghost use Rattle.pager_policy.specs.Serial.{IsSerial};
 ghost use Rattle.pager_model.specs.Spoken.{IsRight};
 ghost use Rattle.serial_laws.specs.Between.{IsBetween};
 ghost use Rattle.carried_landings.specs.Moved.{IsSameBut};

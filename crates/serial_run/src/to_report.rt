@@ -3,7 +3,7 @@
 ghost use Rattle.std.specs.Prelude.{◌≡◌, ◌≤◌, [], IfOk, IsErrOf, OnOk};
 ghost use Rattle.vm_types.specs.Configuration.{IsWellFormed};
 ghost use Rattle.vm_types.specs.Counts.{Rose};
-ghost use Rattle.pager_model.specs.Serial.{IsSerial};
+ghost use Rattle.pager_policy.specs.Serial.{IsSerial};
 ghost use Rattle.carried_landings.specs.Moved.{IsSameBut};
 ghost use Rattle.serial_run.specs.AtReport.{IsAtReport, IsReached};
 ghost use Rattle.serial_run.specs.declared.finished.RunFault.{RunFault};

@@ -4,7 +4,7 @@ use Rattle.std.specs.Prelude.{IfSome}
 use Rattle.std.specs.declared.option.Option.{Option}
 use Rattle.vm_types.specs.Counts.{Rose}
 use Rattle.outside_io.specs.Views.{SinkView, SourceView}
-use Rattle.pager_model.specs.Text.{status_line}
+use Rattle.run_words.specs.Text.{status_line}
 use Rattle.command_ends.specs.Concludes.{Concludes}
 use Rattle.command_ends.specs.Ends.{Ends}
 use Rattle.command_ends.specs.Wrongs.{IsWrong, IsWrongText, TellsWrong}

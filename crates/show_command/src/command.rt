@@ -2,7 +2,7 @@ ghost use Rattle.std.specs.Prelude.{◌≡◌, ◌≤◌, ◌++◌, List, ℕ};
 ghost use Rattle.std.specs.declared.option.Option.{Option};
 ghost use Rattle.vm_types.specs.Moved.{moved};
 ghost use Rattle.outside_io.specs.Writes.{Writes};
-ghost use Rattle.pager_model.specs.Text.{status_line};
+ghost use Rattle.run_words.specs.Text.{status_line};
 ghost use Rattle.command_ends.specs.Concludes.{Concludes};
 ghost use Rattle.command_ends.specs.Ends.{Ends};
 ghost use Rattle.command_ends.specs.Wrongs.{IsWrongText, TellsWrong, dump_bad_text};

@@ -3,7 +3,7 @@
 use Rattle.std.specs.Prelude.{◌≡◌, ℕ, Bool, ◌+◌, not, List, [], ◌∷◌, ◌++◌, length, map, codes, decimal}
 use Rattle.std.specs.List.{flat_map, range_with_len}
 use Rattle.vm_types.specs.declared.config.Config.{Config}
-use Rattle.pager_model.specs.Text.{ended, status_line}
+use Rattle.run_words.specs.Text.{ended, status_line}
 use Rattle.paging_study.specs.Places.{page_at, count_places}
 use Rattle.paging_study.specs.PageString.{page_string}
 use Rattle.paging_study.specs.Recency.{is_hit}

@@ -5,7 +5,7 @@ ghost use Rattle.command_ends.specs.Concludes.{Concludes, EndsAnswered, HasTold,
 ghost use Rattle.command_ends.specs.Ends.{Ends};
 ghost use Rattle.command_ends.specs.Tells.{IsTrace, Tells};
 ghost use Rattle.command_ends.specs.Wrongs.{IsWrongText, TellsWrong};
-ghost use Rattle.pager_model.specs.Text.{status_line};
+ghost use Rattle.run_words.specs.Text.{status_line};
 ghost use Rattle.study_command.specs.StudyText.{IsStudyAnswer, answer_lines};
 ghost use Rattle.study_command.specs.Undeclared.{EndsStudied, undeclared};
 

@@ -12,7 +12,7 @@ use Rattle.pager_model.specs.Opening.{opening}
 use Rattle.pager_model.specs.Report.{Report, report_of}
 use Rattle.pager_model.specs.Run.{IsRun, pager_after}
 use Rattle.pager_model.specs.Step.{IsLegal}
-use Rattle.pager_model.specs.Text.{dirty_pages}
+use Rattle.pager_model.specs.DirtyPages.{dirty_pages}
 use Rattle.run_text.specs.Printable.{IsPrintable, IsPrintableRow}
 use Rattle.run_text.specs.Reported.{IsReported}
 use Rattle.text_tests.specs.TestRun.{shared_section, one_spec, one_mapping, test_config, the_block, the_role, the_page, read_begins, read_ends, is_written, before_report, after_report, test_report}

@@ -4,7 +4,7 @@ use Rattle.std.proofs.lemmas.List.{reverse-append}
 use Rattle.vm_types.specs.declared.config.Config.{Config}
 use Rattle.vm_journal.specs.declared.entry.Entry.{Entry}
 use Rattle.vm_journal.specs.declared.entry.What.{What}
-use Rattle.pager_model.specs.Given.{by_seat, made_by}
+use Rattle.pager_policy.specs.Given.{by_seat, made_by}
 use Rattle.pager_model.specs.Run.{IsRun}
 
 -- entries, oldest first, behind a past

@@ -9,7 +9,7 @@ use Rattle.vm_types.specs.Configuration.{IsWellFormed}
 use Rattle.vm_types.specs.declared.names.Seat.{Seat}
 use Rattle.vm_journal.specs.declared.entry.Entry.{Entry}
 use Rattle.vm_journal.specs.declared.entry.What.{What}
-use Rattle.pager_model.specs.Given.{by_seat, made_by}
+use Rattle.pager_policy.specs.Given.{by_seat, made_by}
 use Rattle.pager_model.specs.Flights.{carrier_of}
 use Rattle.pager_model.specs.Run.{IsRun}
 use Rattle.history_lock.specs.Known.{Known}

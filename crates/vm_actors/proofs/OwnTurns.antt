@@ -8,7 +8,7 @@ use Rattle.vm_types.specs.declared.names.Seat.{Seat}
 use Rattle.vm_types.specs.declared.service.Request.{Request}
 use Rattle.vm_journal.specs.declared.entry.Entry.{Entry}
 use Rattle.vm_journal.specs.declared.entry.What.{What}
-use Rattle.pager_model.specs.Given.{by_seat}
+use Rattle.pager_policy.specs.Given.{by_seat}
 use Rattle.seat_turns.specs.Steps.{AreUnspoken, TurnTells}
 use Rattle.seat_turns.specs.declared.turned.Spoken.{Spoken}
 use Rattle.seat_turns.specs.declared.turned.Turned.{Turned}

@@ -12,7 +12,7 @@ use Rattle.vm_journal.specs.Own.{own_entries}
 use Rattle.vm_journal.specs.declared.entry.Entry.{Entry}
 use Rattle.vm_journal.specs.declared.entry.What.{What}
 use Rattle.pager_model.specs.Flights.{awaits_reuse}
-use Rattle.pager_model.specs.Given.{by_seat, made_by}
+use Rattle.pager_policy.specs.Given.{by_seat, made_by}
 use Rattle.pager_model.specs.Run.{IsRun, pager_after}
 use Rattle.pager_model.specs.Spoken.{IsRight}
 use Rattle.history_lock.specs.Known.{Adds, Known}

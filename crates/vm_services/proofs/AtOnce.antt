@@ -9,7 +9,7 @@ use Rattle.vm_types.specs.declared.service.Service.{Service}
 use Rattle.vm_types.specs.declared.service.Service.TheVariants as service
 use Rattle.pager_model.specs.Pager.{Pager}
 use Rattle.pager_model.specs.Ring.{range_locked, range_pinned}
-use Rattle.pager_model.specs.Serve.{limits_given, lock_given, served_with}
+use Rattle.pager_policy.specs.Serve.{limits_given, lock_given, served_with}
 use Rattle.pager_model.specs.MappedRanges.{is_unmapped}
 use Rattle.pager_model.specs.Served.{is_slot_in}
 use Rattle.state_pages.specs.ServiceAnswers.{limit_answer, lock_answer}

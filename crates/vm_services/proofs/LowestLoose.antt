@@ -12,7 +12,7 @@ use Rattle.pager_model.specs.FlatService.{in_range}
 use Rattle.pager_model.specs.Lookups.{passes, entries_at, entry_of, has_vpn, is_entry, slot_of, slot_with as place_of}
 use Rattle.pager_model.specs.Maps.{page_number}
 use Rattle.pager_model.specs.Pager.{Pager, Valid}
-use Rattle.pager_model.specs.Serve.{is_fixed_at, is_valid_at, loose_in}
+use Rattle.pager_policy.specs.Serve.{is_fixed_at, is_valid_at, loose_in}
 use Rattle.pager_rules.proofs.Basics.{nat_eq_refl}
 use Rattle.pager_rules.proofs.Lists.{count_found, found_one, found_passes}
 use Rattle.pager_rules.specs.Kept.{IsKept}

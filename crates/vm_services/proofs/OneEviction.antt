@@ -7,11 +7,11 @@ use Rattle.vm_types.specs.declared.names.Pfn.{Pfn}
 use Rattle.vm_types.specs.declared.names.Seat.{Seat}
 use Rattle.vm_journal.specs.declared.entry.EvictWhy.{EvictWhy}
 use Rattle.vm_journal.specs.declared.entry.What.TheVariants as what
-use Rattle.pager_model.specs.Given.{eviction, given, goes_to, is_stopped, page_address}
+use Rattle.pager_policy.specs.Given.{eviction, given, goes_to, is_stopped, page_address}
 use Rattle.pager_model.specs.Lookups.{entry_of}
 use Rattle.pager_model.specs.Maps.{proc}
 use Rattle.pager_model.specs.Pager.{Valid}
-use Rattle.pager_model.specs.Serve.{evict_given, serve_again, serve_modified_full, serve_more}
+use Rattle.pager_policy.specs.Serve.{evict_given, serve_again, serve_modified_full, serve_more}
 use Rattle.pager_laws.proofs.ValidEntries.{IsValidAt, valid_at_page}
 use Rattle.call_laws.proofs.WaitsLegal.{kept, mapped_small}
 use Rattle.call_begins.proofs.Branches.{if_false, if_true}

@@ -14,7 +14,7 @@ use Rattle.pager_model.specs.Lookups.{passes, entry_of, is_entry, page_by}
 use Rattle.pager_model.specs.Maps.{is_private, page_number}
 use Rattle.pager_model.specs.Pager.{Pager, Valid}
 use Rattle.pager_model.specs.Run.{IsRun, pager_after}
-use Rattle.pager_model.specs.Serve.{is_page_in_flight, is_range_in_flight, is_valid_at}
+use Rattle.pager_policy.specs.Serve.{is_page_in_flight, is_range_in_flight, is_valid_at}
 use Rattle.pager_model.specs.Transfers.{is_in_flight}
 use Rattle.pager_rules.proofs.Basics.{count_from_no_find}
 use Rattle.pager_rules.proofs.Lists.{count_found, found_passes}

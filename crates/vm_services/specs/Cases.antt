@@ -5,7 +5,7 @@ use Rattle.vm_types.specs.declared.names.Seat.{Seat}
 use Rattle.vm_types.specs.declared.service.Service.{Service}
 use Rattle.vm_journal.specs.declared.entry.EvictWhy.{EvictWhy}
 use Rattle.pager_model.specs.Lookups.{entry_of}
-use Rattle.pager_model.specs.Serve.{GivenServe, delete_given, evict_given, service_gives, valid_in}
+use Rattle.pager_policy.specs.Serve.{GivenServe, delete_given, evict_given, service_gives, valid_in}
 use Rattle.vm_state.specs.History.{History, pager}
 
 -- a service of a resident process

@@ -6,7 +6,7 @@ use Rattle.vm_journal.specs.declared.entry.Entry.{Entry}
 use Rattle.pager_model.specs.Forget.{with_private}
 use Rattle.pager_model.specs.Lookups.{page_by}
 use Rattle.pager_model.specs.Pager.{Pager}
-use Rattle.pager_model.specs.Serve.{is_page_in_flight}
+use Rattle.pager_policy.specs.Serve.{is_page_in_flight}
 
 -- whether the process has a private page there that is in a frame with an open flight
 abbrev pub is_own_in_flight : Config → List Entry → Pager → ℕ → ℕ → Bool

@@ -5,7 +5,7 @@ use Rattle.vm_types.specs.declared.names.Seat.{Seat}
 use Rattle.vm_types.specs.declared.reply.Answer.{Answer}
 use Rattle.vm_journal.specs.declared.entry.What.{What}
 use Rattle.vm_journal.specs.declared.entry.What.TheVariants as what
-use Rattle.pager_model.specs.Serve.{GivenServe, ServeIs, ServeWhy as Reason, serve_again, serve_answered, serve_in_flight, serve_modified_full, serve_more, serve_not_resident}
+use Rattle.pager_policy.specs.Serve.{GivenServe, ServeIs, ServeWhy as Reason, serve_again, serve_answered, serve_in_flight, serve_modified_full, serve_more, serve_not_resident}
 use Rattle.call_laws.specs.AreLegal.{AreLegal}
 use Rattle.call_begins.specs.ReadySeat.{IsReadySeat}
 use Rattle.vm_state.specs.History.{History, owed}

@@ -1,7 +1,7 @@
 ghost use Rattle.std.specs.Prelude.{◌≡◌};
 ghost use Rattle.vm_types.specs.WellFormed.{IsRange};
 ghost use Rattle.vm_types.specs.declared.names.Page.{Page};
-ghost use Rattle.pager_model.specs.Serve.{is_page_in_flight, is_range_in_flight};
+ghost use Rattle.pager_policy.specs.Serve.{is_page_in_flight, is_range_in_flight};
 ghost use Rattle.vm_state.specs.History.{pager};
 ghost use Rattle.vm_services.specs.OwnFlights.{is_own_in_flight};
 

@@ -1,6 +1,6 @@
 ghost use Rattle.std.specs.Prelude.{◌≡◌};
 ghost use Rattle.vm_types.specs.WellFormed.{IsRange};
-ghost use Rattle.pager_model.specs.Serve.{is_valid_at, valid_in};
+ghost use Rattle.pager_policy.specs.Serve.{is_valid_at, valid_in};
 ghost use Rattle.pager_model.specs.MappedRanges.{is_unmapped, is_unmapped_at};
 ghost use Rattle.vm_state.specs.History.{pager};
 

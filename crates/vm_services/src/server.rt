@@ -3,7 +3,7 @@ ghost use Rattle.vm_types.specs.WellFormed.{IsServiceOf, IsWellFormedService};
 ghost use Rattle.vm_types.specs.declared.reply.Answer.{Answer};
 ghost use Rattle.vm_journal.specs.declared.entry.What.{What};
 ghost use Rattle.pager_model.specs.Lookups.{is_resident};
-ghost use Rattle.pager_model.specs.Serve.{serve_gives};
+ghost use Rattle.pager_policy.specs.Serve.{serve_gives};
 ghost use Rattle.vm_state.specs.History.{MayAdd, added, entry_by, owed, pager};
 ghost use Rattle.vm_services.specs.Cases.{at_service};
 ghost use Rattle.call_begins.specs.ReadySeat.{IsIdleSeat};

@@ -1,6 +1,6 @@
 ghost use Rattle.std.specs.Prelude.{◌≡◌, ◌<◌, length};
 ghost use Rattle.vm_types.specs.WellFormed.{IsRange};
-ghost use Rattle.pager_model.specs.Serve.{loose_in};
+ghost use Rattle.pager_policy.specs.Serve.{loose_in};
 ghost use Rattle.vm_state.specs.History.{pager};
 ghost use Rattle.vm_services.specs.Lowest.{lower, purged_in};
 

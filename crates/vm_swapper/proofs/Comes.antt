@@ -1,8 +1,8 @@
 -- The reads of a process that comes back, as the readers of a state show them.
 use Rattle.std.proofs.Common.{◌≡◌, ℕ, false, List, length, nat_eq, sym, ap, ◌∙◌}
 use Rattle.vm_types.specs.Adjust.{lesser}
-use Rattle.pager_model.specs.Given.{Target, given, reads_made}
-use Rattle.pager_model.specs.Swap.{swap_carry}
+use Rattle.pager_policy.specs.Given.{Target, given, reads_made}
+use Rattle.pager_policy.specs.Swap.{swap_carry}
 use Rattle.call_begins.proofs.Branches.{if_false}
 use Rattle.vm_state.specs.History.{History, pager}
 use Rattle.vm_swapper.specs.Cases.{at_reads}

@@ -6,7 +6,7 @@ use Rattle.vm_journal.specs.declared.entry.Entry.{Entry}
 use Rattle.vm_journal.specs.declared.entry.What.{What}
 use Rattle.vm_journal.specs.declared.entry.What.TheVariants as what
 use Rattle.pager_model.specs.Spoken.{request_of}
-use Rattle.pager_model.specs.Swap.{earliest, last_spoken}
+use Rattle.pager_policy.specs.Swap.{earliest, last_spoken}
 use Rattle.state_fits.specs.Spoken.{one_more, spoken_by, spoken_with}
 use Rattle.state_parts.specs.declared.spoken_row.SpokenRow.{SpokenRow}
 

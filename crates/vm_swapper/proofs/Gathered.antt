@@ -4,10 +4,10 @@ use Rattle.std.proofs.lemmas.List.{append_assoc, length-append}
 use Rattle.vm_types.specs.declared.config.Config.{Config}
 use Rattle.vm_types.specs.declared.names.Page.{Page}
 use Rattle.vm_journal.specs.declared.entry.Entry.{Entry}
-use Rattle.pager_model.specs.Given.{Seen, address_of, seen_at}
+use Rattle.pager_policy.specs.Given.{Seen, address_of, seen_at}
 use Rattle.pager_model.specs.Lookups.{passes}
 use Rattle.pager_model.specs.Pager.{Pager}
-use Rattle.pager_model.specs.Swap.{come_target, come_targets, is_out_page, is_to_save, run_from, write_slot, write_slots}
+use Rattle.pager_policy.specs.Swap.{come_target, come_targets, is_out_page, is_to_save, run_from, write_slot, write_slots}
 use Rattle.pager_model.specs.Lying.{lying_in}
 use Rattle.vm_swapper.specs.Runs.{address_at, address_if, and_then, frame_at, frame_if, gathered, reads_from, writes_from}
 

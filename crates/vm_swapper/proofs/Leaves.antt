@@ -6,9 +6,9 @@ use Rattle.vm_types.specs.declared.names.Seat.{Seat}
 use Rattle.vm_journal.specs.declared.entry.EvictWhy.TheVariants as evict
 use Rattle.vm_journal.specs.declared.entry.What.{What}
 use Rattle.vm_journal.specs.declared.entry.What.TheVariants as what
-use Rattle.pager_model.specs.Given.{eviction, given, goes_to, is_stopped, page_address, seen_at}
+use Rattle.pager_policy.specs.Given.{eviction, given, goes_to, is_stopped, page_address, seen_at}
 use Rattle.pager_model.specs.Maps.{proc}
-use Rattle.pager_model.specs.Swap.{leave_page, swap_again, swap_carry, swap_in_flight, swap_modified_full, swap_more}
+use Rattle.pager_policy.specs.Swap.{leave_page, swap_again, swap_carry, swap_in_flight, swap_modified_full, swap_more}
 use Rattle.call_begins.proofs.Branches.{if_false, if_true}
 use Rattle.call_begins.proofs.Steps.{paid_first}
 use Rattle.lift_carriers.specs.CarrierView.{CarrierView}

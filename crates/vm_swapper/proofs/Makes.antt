@@ -4,8 +4,8 @@ use Rattle.vm_types.specs.BlockView.{BlockView, Tells}
 use Rattle.vm_types.specs.declared.names.Proc.{Proc}
 use Rattle.vm_types.specs.declared.names.Seat.{Seat}
 use Rattle.vm_journal.specs.declared.entry.What.{What}
-use Rattle.pager_model.specs.Given.{given}
-use Rattle.pager_model.specs.Swap.{GivenSwap, SwapIs, SwapWhy as Reason, swap_again, swap_carry, swap_more, swap_settled}
+use Rattle.pager_policy.specs.Given.{given}
+use Rattle.pager_policy.specs.Swap.{GivenSwap, SwapIs, SwapWhy as Reason, swap_again, swap_carry, swap_more, swap_settled}
 use Rattle.call_laws.specs.Ready.{MayWork}
 use Rattle.pager_model.specs.Run.{IsRun}
 use Rattle.vm_types.specs.Configuration.{IsWellFormed}

@@ -7,7 +7,7 @@ use Rattle.vm_types.specs.declared.names.BlockId.TheVariants as block
 use Rattle.vm_types.specs.declared.names.Seat.{Seat}
 use Rattle.vm_journal.specs.declared.entry.Role.TheVariants as role
 use Rattle.vm_journal.specs.declared.entry.What.{What}
-use Rattle.pager_model.specs.Given.{Target, reads_made}
+use Rattle.pager_policy.specs.Given.{Target, reads_made}
 use Rattle.pager_model.specs.Maps.{proc}
 use Rattle.pager_model.specs.Run.{IsRun}
 use Rattle.call_laws.specs.AreLegal.{AreLegal}

@@ -9,13 +9,13 @@ use Rattle.vm_types.specs.declared.config.ProcSpec.{ProcSpec}
 use Rattle.vm_types.specs.declared.names.Page.{Page}
 use Rattle.vm_journal.specs.declared.entry.Entry.{Entry}
 use Rattle.pfn_database.specs.declared.row.Row.{Row}
-use Rattle.pager_model.specs.Given.{Seen as Shown, seen_at, seen_by, seen_in, seen_page}
+use Rattle.pager_policy.specs.Given.{Seen as Shown, seen_at, seen_by, seen_in, seen_page}
 use Rattle.pager_model.specs.Flights.{open_flights}
 use Rattle.pager_model.specs.Lookups.{entry_of, page_by, slot_of}
 use Rattle.pager_model.specs.OfConfig.{IsMappable, IsOfConfig}
 use Rattle.pager_model.specs.Pager.{Pager, Valid}
 use Rattle.pager_model.specs.Run.{IsRun, pager_after}
-use Rattle.pager_model.specs.Swap.{is_still}
+use Rattle.pager_policy.specs.Swap.{is_still}
 use Rattle.pager_model.specs.Transfers.{reads_on, writes_on}
 use Rattle.pager_laws.proofs.OfConfigKept.{run_right}
 use Rattle.pager_laws.proofs.RunsAreSound.{run_kept}

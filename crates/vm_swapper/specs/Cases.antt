@@ -1,7 +1,7 @@
 -- The cases of a step of a process that leaves, or comes back, one after another, on a history. This project's own.
 use Rattle.std.specs.Prelude.{ℕ, Some}
-use Rattle.pager_model.specs.Given.{given, seen_at}
-use Rattle.pager_model.specs.Swap.{GivenSwap, back_page, come_gives, come_out, leave_gives, leave_page, leave_unsaved, swap_more, turned_gone, turned_resident}
+use Rattle.pager_policy.specs.Given.{given, seen_at}
+use Rattle.pager_policy.specs.Swap.{GivenSwap, back_page, come_gives, come_out, leave_gives, leave_page, leave_unsaved, swap_more, turned_gone, turned_resident}
 use Rattle.pager_model.specs.Lying.{lying_in}
 use Rattle.vm_state.specs.History.{History, pager}
 

@@ -2,10 +2,10 @@
 use Rattle.std.specs.Prelude.{ℕ, Bool, List, Option, find}
 use Rattle.vm_types.specs.declared.config.Config.{Config}
 use Rattle.vm_journal.specs.declared.entry.Entry.{Entry}
-use Rattle.pager_model.specs.Given.{Seen, seen_at, slots_of}
+use Rattle.pager_policy.specs.Given.{Seen, seen_at, slots_of}
 use Rattle.pager_model.specs.Lookups.{passes}
 use Rattle.pager_model.specs.Pager.{Pager}
-use Rattle.pager_model.specs.Swap.{is_back_on_free, is_out_page, is_saved, is_shared_unpinned, is_to_save}
+use Rattle.pager_policy.specs.Swap.{is_back_on_free, is_out_page, is_saved, is_shared_unpinned, is_to_save}
 use Rattle.pager_model.specs.Lying.{lying_in}
 use Rattle.vm_swapper.specs.declared.looks.Look.{Look}
 use Rattle.vm_swapper.specs.declared.looks.Look.TheVariants as look

@@ -7,10 +7,10 @@ use Rattle.vm_journal.specs.declared.entry.Entry.{Entry}
 use Rattle.vm_journal.specs.declared.entry.Role.TheVariants as role
 use Rattle.vm_journal.specs.declared.entry.What.{What}
 use Rattle.vm_journal.specs.declared.entry.What.TheVariants as what
-use Rattle.pager_model.specs.Given.{Seen, Target, address_of, seen_at}
+use Rattle.pager_policy.specs.Given.{Seen, Target, address_of, seen_at}
 use Rattle.pager_model.specs.Maps.{pfn, proc}
 use Rattle.pager_model.specs.Pager.{Pager}
-use Rattle.pager_model.specs.Swap.{is_out_page, is_to_save}
+use Rattle.pager_policy.specs.Swap.{is_out_page, is_to_save}
 use Rattle.pager_model.specs.Lying.{lying_in}
 use Rattle.vm_swapper.specs.declared.runs.Wanted.{Wanted}
 use Rattle.vm_swapper.specs.declared.runs.Wanted.TheVariants as wanted

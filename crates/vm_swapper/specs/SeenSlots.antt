@@ -3,7 +3,7 @@ use Rattle.std.specs.Prelude.{◌<◌, ◌^◌}
 use Rattle.vm_types.specs.declared.config.Config.{Config}
 use Rattle.vm_types.specs.declared.names.Page.{Page}
 use Rattle.vm_types.specs.declared.names.Page.TheVariants.{Private, Shared}
-use Rattle.pager_model.specs.Given.{Seen as Shown}
+use Rattle.pager_policy.specs.Given.{Seen as Shown}
 use Rattle.vm_swapper.specs.declared.seen.Seen.{Seen}
 
 -- the same with plain numbers

@@ -5,7 +5,7 @@ use Rattle.vm_types.specs.declared.names.Proc.{Proc}
 use Rattle.vm_journal.specs.declared.entry.Entry.{Entry}
 use Rattle.pager_model.specs.Lookups.{is_coming, is_resident}
 use Rattle.pager_model.specs.Pager.{Pager}
-use Rattle.pager_model.specs.Swap.{is_but, may_leave}
+use Rattle.pager_policy.specs.Swap.{is_but, may_leave}
 
 abbrev pub process_number : Proc → ℕ
 process_number p = p.0

@@ -1,5 +1,5 @@
 ghost use Rattle.std.specs.Prelude.{◌≡◌, ◌+◌, ◌<◌, ◌≤◌, ◌↔◌, length};
-ghost use Rattle.pager_model.specs.Swap.{come_gives};
+ghost use Rattle.pager_policy.specs.Swap.{come_gives};
 ghost use Rattle.vm_types.specs.Adjust.{lesser};
 ghost use Rattle.vm_types.specs.declared.names.ProcStatus.TheVariants as status;
 ghost use Rattle.call_begins.specs.MayBegin.{MayBegin, empty};

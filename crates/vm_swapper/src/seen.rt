@@ -1,8 +1,8 @@
 ghost use Rattle.std.specs.Prelude.{◌≡◌, ◌<◌, IfSome, length, not};
 ghost use Rattle.std.specs.Option.{option_map};
-ghost use Rattle.pager_model.specs.Given.{seen_at};
+ghost use Rattle.pager_policy.specs.Given.{seen_at};
 ghost use Rattle.pager_model.specs.Maps.{is_private};
-ghost use Rattle.pager_model.specs.Swap.{is_still};
+ghost use Rattle.pager_policy.specs.Swap.{is_still};
 ghost use Rattle.vm_state.specs.History.{pager};
 ghost use Rattle.vm_swapper.specs.SeenSlots.{IsPlaced, seen_as};
 

@@ -1,9 +1,9 @@
 ghost use Rattle.std.specs.Prelude.{◌≡◌, ◌<◌, ◌&&◌, length, not};
 ghost use Rattle.pager_model.specs.Lying.{lies_in, lying_in};
-ghost use Rattle.pager_model.specs.Given.{Seen as Shown, address_of, seen_at};
+ghost use Rattle.pager_policy.specs.Given.{Seen as Shown, address_of, seen_at};
 ghost use Rattle.pager_model.specs.Lookups.{passes, is};
 ghost use Rattle.pager_model.specs.Maps.{is_private};
-ghost use Rattle.pager_model.specs.Swap.{is_back_on_free, is_out_page, is_saved, is_shared_seen, is_shared_unpinned, is_still, is_to_save};
+ghost use Rattle.pager_policy.specs.Swap.{is_back_on_free, is_out_page, is_saved, is_shared_seen, is_shared_unpinned, is_still, is_to_save};
 ghost use Rattle.vm_types.specs.declared.names.BlockId.TheVariants as block;
 ghost use Rattle.vm_types.specs.declared.names.FrameState.TheVariants as state;
 ghost use Rattle.vm_state.specs.History.{pager};

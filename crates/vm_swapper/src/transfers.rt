@@ -1,5 +1,5 @@
 ghost use Rattle.std.specs.Prelude.{◌≡◌, ◌+◌, ◌<◌, ◌≤◌, length};
-ghost use Rattle.pager_model.specs.Given.{reads_made};
+ghost use Rattle.pager_policy.specs.Given.{reads_made};
 ghost use Rattle.call_laws.specs.AreLegal.{AreLegal};
 ghost use Rattle.call_begins.specs.Lifted.{HasLifts};
 ghost use Rattle.call_begins.specs.MayBegin.{empty};

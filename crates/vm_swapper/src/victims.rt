@@ -1,7 +1,7 @@
 ghost use Rattle.std.specs.Prelude.{◌≡◌, ◌<◌, ◌&&◌, IfSome, Some, find, length, not};
 ghost use Rattle.std.specs.List.{range_with_len};
 ghost use Rattle.std.specs.Option.{option_map};
-ghost use Rattle.pager_model.specs.Swap.{earlier, earliest, is_but, last_spoken, may_leave, processes_where, victim_gives};
+ghost use Rattle.pager_policy.specs.Swap.{earlier, earliest, is_but, last_spoken, may_leave, processes_where, victim_gives};
 ghost use Rattle.vm_state.specs.History.{pager};
 ghost use Rattle.vm_swapper.specs.Victims.{leaves_coming, leaves_resident, process_number};
 

@@ -1,7 +1,7 @@
 use Rattle.std.proofs.Common.{◌∙◌, [], Option, ap, sym}
 use Rattle.pfn_database.specs.declared.row.Row.{Row}
 use Rattle.vm_types.specs.declared.names.Page.{Page}
-use Rattle.pager_model.specs.Given.{reuse_first}
+use Rattle.pager_policy.specs.Given.{reuse_first}
 use Rattle.vm_state.specs.LiftsLand.{added_each}
 use Rattle.call_begins.proofs.Heads.{head_within, may_reuse}
 use Rattle.call_begins.proofs.Rows.{row_page}

@@ -1,6 +1,6 @@
 use Rattle.std.proofs.Common.{ap, subst, ◌∙◌, ◌++◌, List, ℕ}
 use Rattle.std.specs.Prelude.{codes}
-use Rattle.pager_model.specs.Text.{ended, status_line}
+use Rattle.run_words.specs.Text.{ended, status_line}
 use Rattle.command_ends.specs.Ends.{Ends}
 use Rattle.check_command.proofs.ending.end_too_long.Goals as goal
 

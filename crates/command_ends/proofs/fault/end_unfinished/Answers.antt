@@ -1,4 +1,4 @@
-use Rattle.pager_model.specs.Text.{status_line}
+use Rattle.run_words.specs.Text.{status_line}
 use Rattle.command_ends.proofs.Ending.{ends_cut, ends_then}
 use Rattle.command_ends.proofs.fault.end_unfinished.Goals as goal
 

@@ -1,7 +1,7 @@
 use Rattle.std.proofs.Common.{◌∙◌, ◌++◌, ap, refl}
 use Rattle.std.specs.Prelude.{codes}
 use Rattle.outside_io.proofs.WritesInTurn.{writes_as}
-use Rattle.pager_model.specs.Text.{ended}
+use Rattle.run_words.specs.Text.{ended}
 use Rattle.command_ends.proofs.fault.print_unfinished.Goals as goal
 
 pub returns : goal.returns

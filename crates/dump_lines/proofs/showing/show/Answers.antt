@@ -1,5 +1,5 @@
 use Rattle.command_ends.proofs.Ending.{ends_cut, ends_then}
-use Rattle.pager_model.specs.Text.{status_line}
+use Rattle.run_words.specs.Text.{status_line}
 use Rattle.dump_lines.proofs.showing.show.Goals as goal
 
 pub returns-in-Ok : goal.returns-in-Ok

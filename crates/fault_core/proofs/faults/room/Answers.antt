@@ -1,5 +1,5 @@
 use Rattle.std.proofs.Common.{sym, ◌∙◌}
-use Rattle.pager_model.specs.Advance.{again_charging}
+use Rattle.pager_policy.specs.Advance.{again_charging}
 use Rattle.fault_core.proofs.Comes.{uncharged}
 use Rattle.fault_core.proofs.Firsts.{at_limit, below_limit, charging}
 use Rattle.fault_core.proofs.Steps.{gives_as, refers_as, seeks_as, waits}

@@ -1,5 +1,5 @@
 use Rattle.std.proofs.Common.{refl, sym, ◌∙◌}
-use Rattle.pager_model.specs.Advance.{again_block_busy, again_no_frame}
+use Rattle.pager_policy.specs.Advance.{again_block_busy, again_no_frame}
 use Rattle.vm_state.specs.History.{pager}
 use Rattle.call_begins.proofs.Heads.{head_there, some_free}
 use Rattle.fault_core.proofs.Comes.{no_frame, source_is, source_real}

@@ -1,7 +1,7 @@
 use Rattle.std.proofs.Common.{refl, sym, ap, subst, ◌∙◌, Option, ℕ}
 use Rattle.vm_types.specs.declared.names.Addr.{Addr}
 use Rattle.vm_journal.specs.declared.entry.What.TheVariants as what
-use Rattle.pager_model.specs.Advance.{again_collided, is_named}
+use Rattle.pager_policy.specs.Advance.{again_collided, is_named}
 use Rattle.vm_state.specs.History.{MayAdd, added, entry_by}
 use Rattle.fault_core.proofs.Comes.{held_within}
 use Rattle.fault_core.proofs.Firsts.{collides, may_collide, named, no_read, own_read}

@@ -2,9 +2,9 @@ use Rattle.std.proofs.Common.{refl, sym, ap, ◌∙◌, arith}
 use Rattle.pfn_database.specs.declared.row.Row.{Row}
 use Rattle.vm_journal.specs.declared.entry.EvictWhy.TheVariants as evict
 use Rattle.vm_journal.specs.declared.entry.What.TheVariants as what
-use Rattle.pager_model.specs.Advance.{again_modified_full}
+use Rattle.pager_policy.specs.Advance.{again_modified_full}
 use Rattle.pager_model.specs.Evict.{evicted_to, victim_of}
-use Rattle.pager_model.specs.Given.{page_address}
+use Rattle.pager_policy.specs.Given.{page_address}
 use Rattle.pager_model.specs.Maps.{proc}
 use Rattle.vm_state.specs.History.{pager}
 use Rattle.vm_state.specs.ProcessReadings.{slot_in}

@@ -1,5 +1,5 @@
 use Rattle.std.proofs.Common.{◌≡◌, ◌++◌, drop}
-use Rattle.pager_model.specs.Text.{pages_from}
+use Rattle.pager_model.specs.DirtyPages.{pages_from}
 use Rattle.log_report.proofs.dirty.shared_pages.Given as goal
 
 -- those that were added, and those of the sections from this one on, are all

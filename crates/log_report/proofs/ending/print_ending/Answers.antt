@@ -1,4 +1,4 @@
-use Rattle.pager_model.specs.Text.{status_line}
+use Rattle.run_words.specs.Text.{status_line}
 use Rattle.command_ends.proofs.Ending.{ends_cut, ends_then}
 use Rattle.log_report.specs.EndStatus.{end_status}
 use Rattle.log_report.proofs.ending.print_ending.Goals as goal

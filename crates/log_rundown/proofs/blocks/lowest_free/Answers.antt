@@ -1,7 +1,7 @@
 use Rattle.std.proofs.Common.{◌∙◌, ap, sym}
 use Rattle.std.specs.Option.{option_map}
 use Rattle.vm_types.specs.declared.names.BlockId.TheVariants.{PageFile}
-use Rattle.pager_model.specs.WriteCluster.{is_free_block}
+use Rattle.pager_policy.specs.WriteCluster.{is_free_block}
 use Rattle.log_pager.specs.Shown.{shown}
 use Rattle.log_rundown.proofs.Ranges.{find_here, find_next, find_none}
 use Rattle.log_rundown.proofs.blocks.lowest_free.Goals as goal

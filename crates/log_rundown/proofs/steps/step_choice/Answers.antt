@@ -2,8 +2,8 @@ use Rattle.std.proofs.Common.{◌∙◌, ◌-◌, ◌≡◌, ℕ, List, Some, No
 use Rattle.std.proofs.lemmas.List.{length-map}
 use Rattle.vm_types.specs.declared.config.Config.{Config}
 use Rattle.vm_journal.specs.declared.entry.What.{What}
-use Rattle.pager_model.specs.Cleaning.{evicting}
-use Rattle.pager_model.specs.Rundown.{written_for_need}
+use Rattle.pager_policy.specs.Cleaning.{evicting}
+use Rattle.pager_policy.specs.Rundown.{written_for_need}
 use Rattle.log_laws.specs.Underway.{Onward as OnwardIs, between_moves, is_made, plan_of, step_outs, step_plan}
 use Rattle.log_pager.specs.Shown.{shown}
 use Rattle.log_rundown.specs.Chosen.{eviction_as, move_as}

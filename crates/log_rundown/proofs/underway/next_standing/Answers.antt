@@ -1,8 +1,8 @@
 use Rattle.std.proofs.Common.{◌∙◌, List, ap, sym}
 use Rattle.pager_model.specs.Flights.{Flight}
-use Rattle.pager_model.specs.Moves.{Move}
+use Rattle.pager_policy.specs.Moves.{Move}
 use Rattle.pager_model.specs.Pager.{Pager}
-use Rattle.pager_model.specs.Rundown.{cleaning_move}
+use Rattle.pager_policy.specs.Rundown.{cleaning_move}
 use Rattle.log_laws.specs.Underway.{plan_of, step, step_landings, step_outs, step_plan}
 use Rattle.log_rundown.specs.Standing.{cleaning_as, onward_as, standing_as}
 use Rattle.log_rundown.specs.Written.{writes_as}

@@ -1,8 +1,8 @@
 use Rattle.std.proofs.Common.{◌≡◌, ◌↔◌, ◌∙◌, Bool, IsTrue, false, ap, subst, sym}
 use Rattle.std.proofs.lemmas.Bool.{false≢true}
-use Rattle.pager_model.specs.Moves.{Move, rests}
+use Rattle.pager_policy.specs.Moves.{Move, rests}
 use Rattle.pager_model.specs.Pager.{Pager}
-use Rattle.pager_model.specs.Rundown.{cleaning_move}
+use Rattle.pager_policy.specs.Rundown.{cleaning_move}
 use Rattle.log_laws.specs.Underway.{IsAtRest}
 use Rattle.log_pager.specs.Shown.{shown}
 use Rattle.log_rundown.specs.Chosen.{move_as}

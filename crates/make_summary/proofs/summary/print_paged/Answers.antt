@@ -1,7 +1,7 @@
 use Rattle.std.proofs.Common.{List, ℕ, decimal, subst}
 use Rattle.std.specs.Prelude.{codes}
 use Rattle.outside_io.specs.Writes.{Writes}
-use Rattle.pager_model.specs.Text.{ended}
+use Rattle.run_words.specs.Text.{ended}
 use Rattle.make_summary.proofs.PartsInLine.{five_parts}
 use Rattle.make_summary.proofs.summary.print_paged.Goals as goal
 

@@ -1,6 +1,6 @@
 use Rattle.std.proofs.Common.{◌<◌, sym, ap, ◌∙◌, subst, arith}
 use Rattle.vm_types.specs.Configuration.{IsBlock}
-use Rattle.pager_model.specs.WriteCluster.{new_block}
+use Rattle.pager_policy.specs.WriteCluster.{new_block}
 use Rattle.vm_state.specs.History.{pager}
 use Rattle.modified_writer.proofs.FreeBlocks.{lowest_is}
 use Rattle.modified_writer.proofs.blocks.new_block.Goals as goal

@@ -1,6 +1,6 @@
 use Rattle.std.proofs.Common.{Err, ap, inl, inr, refl}
-use Rattle.pager_model.specs.Serial.{IsSerial}
-use Rattle.pager_model.specs.Text.{run_text, status_line}
+use Rattle.pager_policy.specs.Serial.{IsSerial}
+use Rattle.run_words.specs.Text.{run_text, status_line}
 use Rattle.run_text.specs.Parts.{run_status}
 use Rattle.replay_cli.proofs.Finishing.{are_parts, finished_run, is_reported, run_outcome}
 use Rattle.replay_cli.proofs.cli.run_config.Goals as goal

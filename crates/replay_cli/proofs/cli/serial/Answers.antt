@@ -1,5 +1,5 @@
 use Rattle.replay_cli.proofs.Serving.{concludes_run, concludes_unread}
-use Rattle.pager_model.specs.Serial.{IsSerial}
+use Rattle.pager_policy.specs.Serial.{IsSerial}
 use Rattle.command_ends.proofs.Wronging.{fault_text_kept}
 use Rattle.replay_cli.proofs.cli.serial.Goals as goal
 

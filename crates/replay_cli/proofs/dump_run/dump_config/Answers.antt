@@ -1,6 +1,6 @@
 use Rattle.std.proofs.Common.{Err, ap, inl, inr, refl}
 use Rattle.vm_types.specs.Moved.{moved}
-use Rattle.pager_model.specs.Text.{status_line}
+use Rattle.run_words.specs.Text.{status_line}
 use Rattle.dump_bytes.specs.Dumped.{dumped}
 use Rattle.dump_bytes.specs.Text.{dump_text}
 use Rattle.replay_cli.proofs.Dumping.{dumped_run}

@@ -1,6 +1,6 @@
 use Rattle.std.proofs.Common.{ℕ, ◌++◌, ◌∙◌, ap, inl, reverse, sym}
 use Rattle.std.proofs.lemmas.List.{length-reverse}
-use Rattle.pager_model.specs.Text.{status_line}
+use Rattle.run_words.specs.Text.{status_line}
 use Rattle.run_text.specs.Parts.{run_status}
 use Rattle.trace_maker.specs.Made.{made_config}
 use Rattle.make_summary.specs.MakeText.{make_lines}

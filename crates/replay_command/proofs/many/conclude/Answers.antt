@@ -1,5 +1,5 @@
 use Rattle.std.proofs.Common.{refl}
-use Rattle.pager_model.specs.Text.{status_line}
+use Rattle.run_words.specs.Text.{status_line}
 use Rattle.command_ends.proofs.Wronging.{concludes_wrong, one_right}
 use Rattle.replay_command.specs.ReplayCall.{usage, obeyed}
 use Rattle.replay_command.proofs.many.conclude.Goals as goal

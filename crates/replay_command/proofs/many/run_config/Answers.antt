@@ -1,6 +1,6 @@
 use Rattle.std.proofs.Common.{Err, ap, inl, inr, refl}
 use Rattle.replay_run.specs.Replayed.{IsThreaded}
-use Rattle.pager_model.specs.Text.{run_text, status_line}
+use Rattle.run_words.specs.Text.{run_text, status_line}
 use Rattle.run_text.specs.Parts.{run_status}
 use Rattle.replay_cli.proofs.Finishing.{are_parts, finished_run, is_reported, run_outcome}
 use Rattle.replay_command.proofs.many.run_config.Goals as goal

@@ -1,5 +1,5 @@
 use Rattle.std.proofs.Common.{drop}
-use Rattle.pager_model.specs.Text.{dirty_lines}
+use Rattle.run_words.specs.Text.{dirty_lines}
 use Rattle.outside_io.proofs.WritesInTurn.{Progress}
 use Rattle.run_text.proofs.dirty_lines.print_dirty.Given as goal
 

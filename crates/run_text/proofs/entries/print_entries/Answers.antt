@@ -1,7 +1,7 @@
 use Rattle.std.proofs.Common.{◌≡◌, ◌++◌, [], drop, refl, ◌∙◌, ap, append-nil, arith}
 use Rattle.std.proofs.lemmas.List.{drop_all}
 use Rattle.std.proofs.lemmas.Result.{err_from_is_err_and}
-use Rattle.pager_model.specs.Text.{entry_lines}
+use Rattle.run_words.specs.Text.{entry_lines}
 use Rattle.outside_io.proofs.WritesInTurn.{progress_none, progress_more, progress_fault}
 use Rattle.run_text.proofs.LinesLeft.{entry_lines-kept, progress_as, progress_last}
 use Rattle.run_text.proofs.entries.print_entries.Goals as goal

@@ -1,6 +1,6 @@
 use Rattle.std.proofs.Common.{◌≡◌, ◌+◌, ◌≤◌, ◌++◌, drop}
 use Rattle.arrayvec.specs.ArrayVec.{array_vec_len}
-use Rattle.pager_model.specs.Text.{entry_lines}
+use Rattle.run_words.specs.Text.{entry_lines}
 use Rattle.outside_io.proofs.WritesInTurn.{Progress}
 use Rattle.run_text.proofs.entries.print_entries.Given as goal
 

@@ -2,7 +2,7 @@ use Rattle.std.proofs.Common.{ℕ, List, map, ap, ◌∙◌}
 use Rattle.std.proofs.lemmas.Result.{err_from_is_err_and}
 use Rattle.vm_types.specs.declared.config.Section.{Section}
 use Rattle.pager_model.specs.Report.{Report}
-use Rattle.pager_model.specs.Text.{ended, frame_lines, page_file_text, process_lines, states_text}
+use Rattle.run_words.specs.Text.{ended, frame_lines, page_file_text, process_lines, states_text}
 use Rattle.outside_io.proofs.WritesInTurn.{writes_then, writes_fault}
 use Rattle.run_text.specs.Rows.{frame_view, process_view}
 use Rattle.run_text.proofs.printing.print.Goals as goal

@@ -1,5 +1,5 @@
 use Rattle.std.proofs.Common.{drop, map}
-use Rattle.pager_model.specs.Text.{frame_lines}
+use Rattle.run_words.specs.Text.{frame_lines}
 use Rattle.run_text.specs.Rows.{frame_view}
 use Rattle.outside_io.proofs.WritesInTurn.{Progress}
 use Rattle.run_text.proofs.printing.print_frames.Given as goal

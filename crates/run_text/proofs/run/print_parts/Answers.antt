@@ -2,7 +2,7 @@ use Rattle.std.proofs.Common.{ℕ, ◌+◌, List, length}
 use Rattle.std.proofs.lemmas.Result.{err_from_is_err_and}
 use Rattle.vm_types.specs.declared.config.Section.{Section}
 use Rattle.vm_journal.specs.declared.entry.Entry.{Entry}
-use Rattle.pager_model.specs.Text.{dirty_lines, entry_lines, report_text}
+use Rattle.run_words.specs.Text.{dirty_lines, entry_lines, report_text}
 use Rattle.outside_io.proofs.WritesInTurn.{writes_then, writes_fault}
 use Rattle.run_text.proofs.run.print_parts.Goals as goal
 

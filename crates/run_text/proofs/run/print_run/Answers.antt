@@ -3,7 +3,7 @@ use Rattle.std.proofs.lemmas.List.Elements.{All-drop, All-take}
 use Rattle.vm_journal.specs.HasLine.{HasLine}
 use Rattle.vm_journal.specs.declared.entry.Entry.{Entry}
 use Rattle.pager_model.specs.Run.{pager_after}
-use Rattle.pager_model.specs.Text.{run_text, status_line}
+use Rattle.run_words.specs.Text.{run_text, status_line}
 use Rattle.command_ends.proofs.Ending.{ends_cut, ends_then}
 use Rattle.command_ends.specs.Ends.{Ends}
 use Rattle.run_text.specs.Parts.{run_status}

@@ -1,6 +1,6 @@
 use Rattle.std.proofs.Common.{ap, arith, length, sym}
 use Rattle.vm_types.specs.declared.names.Page.TheVariants.{Shared}
-use Rattle.pager_model.specs.Text.{is_dirty}
+use Rattle.pager_model.specs.DirtyPages.{is_dirty}
 use Rattle.vm_state.specs.History.{pager}
 use Rattle.rundown.proofs.DirtyHeld.{few_pages, more_added}
 use Rattle.rundown.proofs.dirty.add_dirty.Goals as goal

@@ -1,7 +1,7 @@
 use Rattle.std.proofs.Common.{◌≡◌, ◌++◌, filter, map}
 use Rattle.std.specs.List.{range_with_len}
 use Rattle.vm_types.specs.declared.names.Page.TheVariants.{Shared}
-use Rattle.pager_model.specs.Text.{is_dirty}
+use Rattle.pager_model.specs.DirtyPages.{is_dirty}
 use Rattle.vm_state.specs.History.{pager}
 use Rattle.rundown.proofs.dirty.add_dirty.Given as goal
 

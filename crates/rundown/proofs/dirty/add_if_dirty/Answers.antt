@@ -1,5 +1,5 @@
 use Rattle.std.proofs.Common.{◌∙◌, sym}
-use Rattle.pager_model.specs.Text.{is_dirty}
+use Rattle.pager_model.specs.DirtyPages.{is_dirty}
 use Rattle.vm_state.specs.History.{pager}
 use Rattle.rundown.proofs.DirtyHeld.{none_added, one_added}
 use Rattle.rundown.proofs.dirty.add_if_dirty.Goals as goal

@@ -1,5 +1,5 @@
 use Rattle.std.proofs.Common.{◌≡◌, ◌++◌, drop, filter}
-use Rattle.pager_model.specs.Text.{is_dirty, pages_from}
+use Rattle.pager_model.specs.DirtyPages.{is_dirty, pages_from}
 use Rattle.vm_state.specs.History.{pager}
 use Rattle.rundown.proofs.dirty.dirty_pages.Given as goal
 

@@ -1,5 +1,5 @@
 use Rattle.std.proofs.Common.{◌∙◌, None, Some, ap, sym}
-use Rattle.pager_model.specs.Rundown.{holds_shared}
+use Rattle.pager_policy.specs.Rundown.{holds_shared}
 use Rattle.modified_writer.proofs.ListedPages.{row_holds}
 use Rattle.rundown.proofs.listed.holds_shared.Goals as goal
 

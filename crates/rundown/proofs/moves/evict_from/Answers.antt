@@ -1,6 +1,6 @@
 use Rattle.std.specs.Prelude.{Some}
 use Rattle.std.specs.Option.{option_map}
-use Rattle.pager_model.specs.Rundown.{later_move}
+use Rattle.pager_policy.specs.Rundown.{later_move}
 use Rattle.vm_state.specs.History.{pager}
 use Rattle.rundown.specs.Cleanings.{control_at}
 use Rattle.rundown.specs.Places.{place_as}

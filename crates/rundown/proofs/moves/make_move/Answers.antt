@@ -1,7 +1,7 @@
 use Rattle.std.proofs.Common.{◌∙◌, ap, length, sym}
 use Rattle.std.specs.Option.{option_map}
-use Rattle.pager_model.specs.Cleaning.{evicting, rounds}
-use Rattle.pager_model.specs.Rundown.{cleaning_move}
+use Rattle.pager_policy.specs.Cleaning.{evicting, rounds}
+use Rattle.pager_policy.specs.Rundown.{cleaning_move}
 use Rattle.call_begins.specs.MayBegin.{empty}
 use Rattle.vm_state.specs.History.{History, pager}
 use Rattle.carried_landings.proofs.Moving.{same_then}

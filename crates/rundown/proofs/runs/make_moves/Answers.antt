@@ -1,6 +1,6 @@
 use Rattle.std.proofs.Common.{◌∙◌, Option, arith, subst}
 use Rattle.std.specs.Option.{option_map}
-use Rattle.pager_model.specs.Policy.{move_of}
+use Rattle.pager_policy.specs.Policy.{move_of}
 use Rattle.carried_landings.specs.Moved.{MovesTo}
 use Rattle.rundown.specs.Cleanings.{cleaning_in, control_at}
 use Rattle.rundown.specs.declared.cleaning.Cleaning.{Cleaning}

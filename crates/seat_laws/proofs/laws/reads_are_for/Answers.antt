@@ -1,4 +1,4 @@
-use Rattle.pager_model.specs.Advance.{advance_gives}
+use Rattle.pager_policy.specs.Advance.{advance_gives}
 use Rattle.seat_laws.proofs.ReadsBegun.{reads_begun}
 use Rattle.seat_laws.proofs.ReadsFor.{advance_reads}
 use Rattle.seat_laws.proofs.laws.reads_are_for.Goals as goal

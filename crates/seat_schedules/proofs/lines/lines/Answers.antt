@@ -1,5 +1,5 @@
 use Rattle.std.proofs.Common.{ℕ, ◌++◌, List, ap, arith}
-use Rattle.pager_model.specs.Text.{entry_lines}
+use Rattle.run_words.specs.Text.{entry_lines}
 use Rattle.seat_schedules.proofs.LinesPlayed.{line_added}
 use Rattle.seat_schedules.proofs.lines.lines.Goals as goal
 

@@ -1,5 +1,5 @@
 use Rattle.std.proofs.Common.{◌≡◌, ◌+◌, ◌++◌, drop}
-use Rattle.pager_model.specs.Text.{entry_lines}
+use Rattle.run_words.specs.Text.{entry_lines}
 use Rattle.seat_schedules.proofs.lines.lines.Given as goal
 
 -- the number of the next entry, and the text so far with the lines that are left

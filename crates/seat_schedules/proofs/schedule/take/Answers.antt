@@ -1,5 +1,5 @@
 use Rattle.std.proofs.Common.{[], ap, ◌∙◌, arith}
-use Rattle.pager_model.specs.Given.{made_by}
+use Rattle.pager_policy.specs.Given.{made_by}
 use Rattle.vm_state.specs.History.{History}
 use Rattle.seat_schedules.proofs.WorkersTogether.{respared_all, worked_all, worker_at}
 use Rattle.seat_schedules.proofs.schedule.take.Goals as goal

@@ -1,5 +1,5 @@
 use Rattle.modified_writer.specs.declared.begun.Begin.TheVariants.{Carry}
-use Rattle.pager_model.specs.WriteCluster.{reason_need}
+use Rattle.pager_policy.specs.WriteCluster.{reason_need}
 use Rattle.seat_schedules.proofs.OtherCalls.{write_worked}
 use Rattle.seat_laws.proofs.FreeSeats.{may_begin}
 use Rattle.seat_schedules.proofs.swaps.write.Goals as goal

@@ -1,5 +1,5 @@
 use Rattle.std.proofs.Common.{None, refl, ◌∙◌, sym, subst}
-use Rattle.pager_model.specs.Swap.{leave_gives}
+use Rattle.pager_policy.specs.Swap.{leave_gives}
 use Rattle.vm_state.specs.History.{pager}
 use Rattle.vm_swapper.specs.declared.swap.Swap.TheVariants.{Carry, More, Settled}
 use Rattle.carried_landings.proofs.Shapes.{leave_shape}

@@ -1,6 +1,6 @@
 use Rattle.std.proofs.Common.{None, refl, ◌∙◌}
 use Rattle.vm_state.specs.History.{pager}
-use Rattle.pager_model.specs.WriteCluster.{reason_high}
+use Rattle.pager_policy.specs.WriteCluster.{reason_high}
 use Rattle.modified_writer.specs.declared.begun.Begin.TheVariants.{Carry}
 use Rattle.seat_laws.proofs.FreeSeats.{may_begin}
 use Rattle.seat_turns.specs.declared.turned.Turned.TheVariants.{Rests}

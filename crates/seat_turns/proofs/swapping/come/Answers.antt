@@ -1,4 +1,4 @@
-use Rattle.pager_model.specs.Swap.{come_gives}
+use Rattle.pager_policy.specs.Swap.{come_gives}
 use Rattle.vm_state.specs.History.{pager}
 use Rattle.vm_swapper.specs.declared.swap.Swap.TheVariants.{Carry, More, Settled}
 use Rattle.carried_landings.proofs.Shapes.{come_shape}

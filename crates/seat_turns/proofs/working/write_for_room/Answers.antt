@@ -1,4 +1,4 @@
-use Rattle.pager_model.specs.WriteCluster.{reason_need}
+use Rattle.pager_policy.specs.WriteCluster.{reason_need}
 use Rattle.modified_writer.specs.declared.begun.Begin.TheVariants.{Carry}
 use Rattle.seat_laws.proofs.FreeSeats.{may_begin}
 use Rattle.seat_turns.proofs.OpenWork.{begin_none_tried, begin_tried, empty_at, free_at}

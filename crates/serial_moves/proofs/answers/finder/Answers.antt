@@ -1,6 +1,6 @@
 use Rattle.std.proofs.Common.{true, None, refl, sym, ◌∙◌}
-use Rattle.pager_model.specs.Moves.{asking, control, freeing}
-use Rattle.pager_model.specs.Policy.{asking_move, ends_part}
+use Rattle.pager_policy.specs.Moves.{asking, control, freeing}
+use Rattle.pager_policy.specs.Policy.{asking_move, ends_part}
 use Rattle.vm_state.specs.History.{pager}
 use Rattle.serial_moves.proofs.AfterAnswers.{asks_on, finds_on}
 use Rattle.serial_moves.proofs.answers.finder.Goals as goal

@@ -1,5 +1,5 @@
 use Rattle.std.proofs.Common.{◌<◌, length, sym, ap, ◌∙◌, subst, arith}
-use Rattle.pager_model.specs.WriteCluster.{begin_gives, reason_high}
+use Rattle.pager_policy.specs.WriteCluster.{begin_gives, reason_high}
 use Rattle.vm_state.specs.History.{History, pager}
 use Rattle.serial_moves.proofs.AfterAnswers.{as_before, enough_room, frees_next, goes_here, goes_comes, here_as, may_begin, comes_as, never_room, save_loaded_at, save_may, save_moved, still_steady, unchanged}
 use Rattle.serial_moves.proofs.IdleCarriers.{carrier_there, emptied_again, empty_at, idle_then, kept_at, read_again, written_there}

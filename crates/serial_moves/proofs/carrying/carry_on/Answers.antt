@@ -1,6 +1,6 @@
 use Rattle.std.proofs.Common.{ap, sym, ◌∙◌}
-use Rattle.pager_model.specs.Moves.{asking, control}
-use Rattle.pager_model.specs.Policy.{ends_part}
+use Rattle.pager_policy.specs.Moves.{asking, control}
+use Rattle.pager_policy.specs.Policy.{ends_part}
 use Rattle.serial_moves.specs.Controls.{control_in, ends_in}
 use Rattle.serial_moves.proofs.LandedCarriers.{emptied, landed_here, none_open, own_lifts, own_whole, part_failed, request_failed, request_legal, some_landed}
 use Rattle.serial_moves.proofs.carrying.carry_on.Goals as goal

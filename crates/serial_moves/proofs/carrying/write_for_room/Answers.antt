@@ -1,5 +1,5 @@
 use Rattle.std.proofs.lemmas.Result.{IfOk-weaker}
-use Rattle.pager_model.specs.Policy.{unless_all_failed, writing_move}
+use Rattle.pager_policy.specs.Policy.{unless_all_failed, writing_move}
 use Rattle.vm_state.specs.History.{pager}
 use Rattle.carried_landings.specs.CarriedOn.{IsCarriedOn}
 use Rattle.carried_landings.specs.Moved.{IsMoved}

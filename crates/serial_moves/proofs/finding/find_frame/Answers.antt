@@ -1,6 +1,6 @@
 use Rattle.std.proofs.Common.{sym, subst}
 use Rattle.vm_types.specs.declared.names.ProcStatus.TheVariants as status
-use Rattle.pager_model.specs.Moves.{while_leaving}
+use Rattle.pager_policy.specs.Moves.{while_leaving}
 use Rattle.vm_state.specs.History.{pager}
 use Rattle.carried_landings.specs.Moved.{IsMoved}
 use Rattle.serial_moves.specs.Controls.{control_in, doing_in, ends_in}

@@ -1,5 +1,5 @@
 use Rattle.std.proofs.Common.{refl, subst}
-use Rattle.pager_model.specs.Policy.{move_of}
+use Rattle.pager_policy.specs.Policy.{move_of}
 use Rattle.serial_moves.specs.Controls.{ComesTo, control_in}
 use Rattle.serial_moves.proofs.IdleCarriers.{idle_then}
 use Rattle.serial_moves.proofs.PreparedMoves.{config_kept, fits_then, moved_then, over_config, over_here, over_left, over_moved, over_steady, steady_then}

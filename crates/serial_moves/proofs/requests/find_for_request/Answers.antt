@@ -1,6 +1,6 @@
 use Rattle.std.proofs.Common.{refl}
-use Rattle.pager_model.specs.Moves.{asking, rests}
-use Rattle.pager_model.specs.Policy.{ends_request}
+use Rattle.pager_policy.specs.Moves.{asking, rests}
+use Rattle.pager_policy.specs.Policy.{ends_request}
 use Rattle.serial_moves.proofs.SteadySeats.{here_as, leads_as, rests_there}
 use Rattle.serial_moves.proofs.requests.find_for_request.Goals as goal
 

@@ -1,7 +1,7 @@
 use Rattle.std.proofs.Common.{ap, sym}
 use Rattle.vm_types.specs.declared.names.ProcStatus.TheVariants as status
-use Rattle.pager_model.specs.Moves.{asking, control, while_leaving}
-use Rattle.pager_model.specs.Policy.{gone_move}
+use Rattle.pager_policy.specs.Moves.{asking, control, while_leaving}
+use Rattle.pager_policy.specs.Policy.{gone_move}
 use Rattle.serial_moves.proofs.TurnedMoves.{may_turn, turned_moved}
 use Rattle.serial_moves.proofs.requests.gone.Goals as goal
 

@@ -1,6 +1,6 @@
 use Rattle.std.proofs.Common.{◌∙◌, refl}
-use Rattle.pager_model.specs.Moves.{asking, control}
-use Rattle.pager_model.specs.Policy.{ends_request, writing_move}
+use Rattle.pager_policy.specs.Moves.{asking, control}
+use Rattle.pager_policy.specs.Policy.{ends_request, writing_move}
 use Rattle.vm_state.specs.History.{History, pager}
 use Rattle.serial_moves.specs.Requests.{finding_for}
 use Rattle.serial_moves.proofs.ReferenceMoves.{advance_answered, advance_carried, advance_finds, advance_loaded, advance_may, advance_more, advance_rests, advance_same, advance_writes}

@@ -1,6 +1,6 @@
 use Rattle.std.proofs.Common.{refl}
-use Rattle.pager_model.specs.Moves.{asking, control}
-use Rattle.pager_model.specs.Policy.{ends_request, writing_move}
+use Rattle.pager_policy.specs.Moves.{asking, control}
+use Rattle.pager_policy.specs.Policy.{ends_request, writing_move}
 use Rattle.vm_state.specs.History.{History, pager}
 use Rattle.serial_moves.proofs.ServiceMoves.{serve_answers, serve_makes, serve_rests, serve_same, serve_writes}
 use Rattle.serial_moves.proofs.SteadySeats.{has_room, here_there, idle_seat, may_there, moved_there, never_short}

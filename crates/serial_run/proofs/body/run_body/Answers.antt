@@ -1,5 +1,5 @@
 use Rattle.std.proofs.Common.{◌∙◌, Option, arith, refl, subst}
-use Rattle.pager_model.specs.Policy.{move_of}
+use Rattle.pager_policy.specs.Policy.{move_of}
 use Rattle.serial_moves.specs.Controls.{Moves, control_in}
 use Rattle.serial_moves.specs.declared.control.Control.{Control}
 use Rattle.serial_run.proofs.BodyRuns.{at_first, goes_on, in_body, is_longer, rests_between, rests_right, rests_same, rests_there, still_idle}

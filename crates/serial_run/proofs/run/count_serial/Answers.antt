@@ -2,7 +2,7 @@ use Rattle.std.proofs.Common.{◌∙◌, ◌++◌, List, ap, map, refl, subst}
 use Rattle.vm_state.specs.History.{History}
 use Rattle.vm_types.specs.BlockView.{Retired}
 use Rattle.vm_types.specs.declared.config.Config.{Config}
-use Rattle.pager_model.specs.Serial.{IsSerial}
+use Rattle.pager_policy.specs.Serial.{IsSerial}
 use Rattle.disk_trait.specs.DepotView.{given_back}
 use Rattle.serial_run.proofs.RunsFinish.{is_counted}
 use Rattle.serial_run.proofs.run.count_serial.Goals as goal

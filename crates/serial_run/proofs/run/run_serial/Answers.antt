@@ -1,6 +1,6 @@
 use Rattle.std.proofs.Common.{◌∙◌, ◌++◌, List, ap}
 use Rattle.vm_types.specs.BlockView.{Retired}
-use Rattle.pager_model.specs.Serial.{IsSerial}
+use Rattle.pager_policy.specs.Serial.{IsSerial}
 use Rattle.serial_run.proofs.RunsEnd.{reached_there}
 use Rattle.serial_run.proofs.RunsFinish.{finished_by}
 use Rattle.serial_run.proofs.run.run_serial.Goals as goal

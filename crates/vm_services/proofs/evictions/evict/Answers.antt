@@ -2,9 +2,9 @@ use Rattle.std.proofs.Common.{sym, ap, ◌∙◌, arith}
 use Rattle.pfn_database.specs.declared.row.Row.{Row}
 use Rattle.vm_journal.specs.declared.entry.What.TheVariants as what
 use Rattle.pager_model.specs.Evict.{evicted_to}
-use Rattle.pager_model.specs.Given.{page_address}
+use Rattle.pager_policy.specs.Given.{page_address}
 use Rattle.pager_model.specs.Maps.{proc}
-use Rattle.pager_model.specs.Serve.{serve_modified_full}
+use Rattle.pager_policy.specs.Serve.{serve_modified_full}
 use Rattle.call_begins.proofs.Rows.{row_goes}
 use Rattle.vm_services.proofs.OneEviction.{evicts, frame_within, may_evict, page_small, stops}
 use Rattle.vm_services.proofs.Steps.{goes_on, waits}

@@ -1,6 +1,6 @@
 use Rattle.std.proofs.Common.{◌≡◌, ◌+◌, ◌-◌, ◌/◌}
 use Rattle.std.specs.List.{list_any, range_with_len}
-use Rattle.pager_model.specs.Serve.{is_range_in_flight}
+use Rattle.pager_policy.specs.Serve.{is_range_in_flight}
 use Rattle.vm_state.specs.History.{pager}
 use Rattle.vm_services.specs.OwnFlights.{is_own_in_flight}
 use Rattle.vm_services.proofs.flights.is_range_in_flight.Given as goal

@@ -1,5 +1,5 @@
 use Rattle.std.proofs.Common.{◌/◌, sym, ◌∙◌}
-use Rattle.pager_model.specs.Serve.{is_valid_at}
+use Rattle.pager_policy.specs.Serve.{is_valid_at}
 use Rattle.vm_state.specs.History.{pager}
 use Rattle.vm_services.proofs.Searches.{find_here, find_on}
 use Rattle.vm_services.proofs.ranges.valid_in.Goals as goal

@@ -1,7 +1,7 @@
 use Rattle.std.proofs.Common.{◌≡◌, ◌+◌, ◌-◌, ◌/◌, find}
 use Rattle.std.specs.List.{range_with_len}
 use Rattle.pager_model.specs.Forget.{range_of}
-use Rattle.pager_model.specs.Serve.{is_valid_at}
+use Rattle.pager_policy.specs.Serve.{is_valid_at}
 use Rattle.vm_state.specs.History.{pager}
 use Rattle.vm_services.proofs.ranges.valid_in.Given as goal
 

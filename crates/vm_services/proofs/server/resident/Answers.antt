@@ -1,5 +1,5 @@
 use Rattle.std.proofs.Common.{◌∙◌, sym, ap}
-use Rattle.pager_model.specs.Serve.{served_with}
+use Rattle.pager_policy.specs.Serve.{served_with}
 use Rattle.vm_state.specs.Answering.{answer_in}
 use Rattle.vm_state.specs.History.{pager}
 use Rattle.vm_services.proofs.AtOnce.{at_once}

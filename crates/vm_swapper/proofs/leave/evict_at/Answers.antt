@@ -1,7 +1,7 @@
 use Rattle.std.proofs.Common.{ap, refl, sym, ◌∙◌}
 use Rattle.pfn_database.specs.declared.row.Row.{Row}
 use Rattle.pager_model.specs.Evict.{evicted_to}
-use Rattle.pager_model.specs.Swap.{swap_in_flight, swap_modified_full}
+use Rattle.pager_policy.specs.Swap.{swap_in_flight, swap_modified_full}
 use Rattle.call_begins.proofs.Rows.{row_goes}
 use Rattle.vm_swapper.proofs.Leaves.{evicts, may_evict, none_seen, stops}
 use Rattle.vm_swapper.proofs.Makes.{goes_on, waits}

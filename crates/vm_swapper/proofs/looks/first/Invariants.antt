@@ -1,6 +1,6 @@
 use Rattle.std.proofs.Common.{◌≡◌, ◌-◌, find, length}
 use Rattle.std.specs.List.{range_with_len}
-use Rattle.pager_model.specs.Given.{slots_of}
+use Rattle.pager_policy.specs.Given.{slots_of}
 use Rattle.vm_state.specs.History.{pager}
 use Rattle.vm_swapper.specs.Looks.{has}
 use Rattle.vm_swapper.proofs.looks.first.Given as goal

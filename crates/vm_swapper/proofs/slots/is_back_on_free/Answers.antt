@@ -4,7 +4,7 @@ use Rattle.vm_types.specs.declared.names.FrameState.{FrameState}
 use Rattle.vm_types.specs.declared.names.FrameState.TheVariants as state
 use Rattle.pager_model.specs.Forget.{holder}
 use Rattle.pager_model.specs.Lookups.{passes, is}
-use Rattle.pager_model.specs.Swap.{is_free_frame}
+use Rattle.pager_policy.specs.Swap.{is_free_frame}
 use Rattle.call_begins.proofs.Rows.{row_state}
 use Rattle.vm_state.specs.History.{pager}
 use Rattle.state_pages.specs.declared.found.Backing.{Backing}

@@ -1,6 +1,6 @@
 use Rattle.std.proofs.Common.{◌&&◌, ◌∙◌, Bool, ap, not, sym}
 use Rattle.pfn_database.specs.declared.row.Row.{Row}
-use Rattle.pager_model.specs.Swap.{is_still}
+use Rattle.pager_policy.specs.Swap.{is_still}
 use Rattle.vm_swapper.proofs.SlotsSeen.{row_modify}
 use Rattle.vm_swapper.proofs.slots.is_clean.Goals as goal
 

@@ -2,7 +2,7 @@ use Rattle.std.proofs.Common.{◌&&◌, Bool, not, ap, ◌∙◌}
 use Rattle.vm_types.specs.declared.names.BlockId.TheVariants as block
 use Rattle.pager_model.specs.Lying.{lies_in}
 use Rattle.pager_model.specs.Maps.{is_private}
-use Rattle.pager_model.specs.Swap.{is_still}
+use Rattle.pager_policy.specs.Swap.{is_still}
 use Rattle.vm_state.specs.History.{pager}
 use Rattle.vm_swapper.proofs.SlotsSeen.{pinned_first}
 use Rattle.vm_swapper.proofs.slots.is_saved.Goals as goal

@@ -1,7 +1,7 @@
 use Rattle.std.proofs.Common.{◌≡◌, ◌<◌, IfSome, length, ℕ}
 use Rattle.std.specs.Option.{option_map}
 use Rattle.vm_types.specs.declared.names.Proc.{Proc}
-use Rattle.pager_model.specs.Swap.{last_spoken}
+use Rattle.pager_policy.specs.Swap.{last_spoken}
 use Rattle.vm_state.specs.History.{pager}
 use Rattle.vm_swapper.specs.Victims.{leaves_resident, process_number}
 use Rattle.vm_swapper.proofs.EarliestSpoken.{earliest_from}

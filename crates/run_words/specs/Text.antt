@@ -19,6 +19,7 @@ use Rattle.pager_model.specs.Forget.{holds_page}
 use Rattle.pager_model.specs.Pager.{Pager}
 use Rattle.pager_model.specs.Report.{FrameRow, ProcessRow, Report, report_of}
 use Rattle.pager_model.specs.Run.{pager_after}
+use Rattle.pager_model.specs.DirtyPages.{dirty_pages}
 
 abbrev pub ended : List ℕ → List ℕ
 ended line = line ++ 10 ∷ []
@@ -75,20 +76,6 @@ abbrev pub report_text : List Section → Report → List ℕ
 report_text names report =
     ended (codes "PFN AT " ++ decimal report.at) ++ ended (states_text report.states) ++ frame_lines names 0 report.frames
     ++ ended (page_file_text report) ++ process_lines 0 report.processes
-
--- the pages of sections that are shared, in order of section and page
-abbrev pub pages_from : ℕ → List Section → List Page
-pages_from s [] = []
-pages_from s (section ∷ sections) =
-    (if is_shared_kind section.kind then map (Shared (record { 0 = s })) (range_with_len 0 (section_pages section)) else []) ++ pages_from (s + 1) sections
-
--- whether some frame holds the page with modify set
-abbrev pub is_dirty : Config → Pager → Page → Bool
-is_dirty config a page = list_any (λ f. holds_page page (a.page f) && a.modify f) (range_with_len 0 config.frames)
-
--- the shared pages that are held with modify set
-abbrev pub dirty_pages : Config → Pager → List Page
-dirty_pages config a = filter (is_dirty config a) (pages_from 0 config.sections)
 
 abbrev pub dirty_lines : List Section → List Page → List ℕ
 dirty_lines names pages = flat_map (λ page. ended (codes "DIRTY " ++ page_text names page)) pages

@@ -12,12 +12,12 @@ use Rattle.vm_journal.specs.declared.entry.Entry.{Entry}
 use Rattle.vm_journal.specs.declared.entry.What.{What}
 use Rattle.vm_journal.specs.declared.entry.What.TheVariants as what
 use Rattle.pager_model.specs.Flights.{awaits_reuse, open_flights, carrier_of}
-use Rattle.pager_model.specs.Given.{with_reply, by_seat, made_by}
-use Rattle.pager_model.specs.Landings.{Outcome, all_bad, first_bad, landed_by}
-use Rattle.pager_model.specs.Moves.{After, Control, Move, asking, carries, control, goes, makes, refuses, rests, saving}
+use Rattle.pager_policy.specs.Given.{with_reply, by_seat, made_by}
+use Rattle.pager_policy.specs.Landings.{Outcome, all_bad, first_bad, landed_by}
+use Rattle.pager_policy.specs.Moves.{After, Control, Move, asking, carries, control, goes, makes, refuses, rests, saving}
 use Rattle.pager_model.specs.Order.{IsAnswered}
-use Rattle.pager_model.specs.Policy.{move_of, next_task}
-use Rattle.pager_model.specs.Rundown.{at_slot}
+use Rattle.pager_policy.specs.Policy.{move_of, next_task}
+use Rattle.pager_policy.specs.Rundown.{at_slot}
 
 -- what a move is told: the outcomes of its landings, and the reply that it shows if it answers a reference
 pub record Heard : Type 0 where

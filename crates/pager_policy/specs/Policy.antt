@@ -13,17 +13,17 @@ use Rattle.vm_types.specs.declared.service.Request.TheVariants as request
 use Rattle.vm_journal.specs.declared.entry.Entry.{Entry}
 use Rattle.vm_journal.specs.declared.entry.What.{What}
 use Rattle.vm_journal.specs.declared.entry.What.TheVariants as what
-use Rattle.pager_model.specs.Advance.{NextIs, advance_gives, again_modified_full, again_no_frame, next_again, next_answered, next_carry, next_more}
+use Rattle.pager_policy.specs.Advance.{NextIs, advance_gives, again_modified_full, again_no_frame, next_again, next_answered, next_carry, next_more}
 use Rattle.pager_model.specs.Lookups.{is_coming, is_leaving}
 use Rattle.pager_model.specs.Maps.{proc}
-use Rattle.pager_model.specs.Moves.{After, Control, Doing, Move, asking, carries, cleaning, control, freeing, goes, makes, refuses, rests, saving, while_leaving}
+use Rattle.pager_policy.specs.Moves.{After, Control, Doing, Move, asking, carries, cleaning, control, freeing, goes, makes, refuses, rests, saving, while_leaving}
 use Rattle.pager_model.specs.Pager.{Pager}
 use Rattle.pager_model.specs.Run.{pager_after}
-use Rattle.pager_model.specs.Rundown.{cleaning_move, writer_of}
-use Rattle.pager_model.specs.Serve.{ServeIs, serve_again, serve_answered, serve_gives, serve_modified_full, serve_more}
+use Rattle.pager_policy.specs.Rundown.{cleaning_move, writer_of}
+use Rattle.pager_policy.specs.Serve.{ServeIs, serve_again, serve_answered, serve_gives, serve_modified_full, serve_more}
 use Rattle.pager_model.specs.Spoken.{spoken}
-use Rattle.pager_model.specs.Swap.{SwapIs, come_gives, leave_gives, swap_again, swap_carry, swap_modified_full, swap_more, swap_no_frame, swap_settled, victim_gives}
-use Rattle.pager_model.specs.WriteCluster.{BeginIs, begin_carry, begin_gives, begin_nothing, reason_high, reason_need}
+use Rattle.pager_policy.specs.Swap.{SwapIs, come_gives, leave_gives, swap_again, swap_carry, swap_modified_full, swap_more, swap_no_frame, swap_settled, victim_gives}
+use Rattle.pager_policy.specs.WriteCluster.{BeginIs, begin_carry, begin_gives, begin_nothing, reason_high, reason_need}
 
 abbrev pub swapper_of : Config → ℕ
 swapper_of config = length config.procs + 1

@@ -7,7 +7,7 @@ use Rattle.vm_journal.specs.declared.entry.What.{What}
 use Rattle.vm_journal.specs.declared.entry.What.TheVariants as what
 use Rattle.pager_model.specs.Counted.{last_count}
 use Rattle.pager_model.specs.Flights.{Direction, Flight, reading, writing}
-use Rattle.pager_model.specs.Given.{made_by}
+use Rattle.pager_policy.specs.Given.{made_by}
 use Rattle.pager_model.specs.Maps.{pfn}
 use Rattle.pager_model.specs.Run.{pager_after}
 

@@ -10,7 +10,7 @@ use Rattle.vm_types.specs.declared.names.BlockId.TheVariants as block
 use Rattle.vm_types.specs.declared.config.Config.{Config}
 use Rattle.vm_journal.specs.declared.entry.What.{What}
 use Rattle.vm_journal.specs.declared.entry.What.TheVariants as what
-use Rattle.pager_model.specs.Given.{Given, given}
+use Rattle.pager_policy.specs.Given.{Given, given}
 use Rattle.pager_model.specs.Maps.{pfn, is_paged}
 use Rattle.vm_types.specs.BlockOrder.{if_next}
 use Rattle.pager_model.specs.Lookups.{block_of, is_owner}

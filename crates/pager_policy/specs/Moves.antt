@@ -1,7 +1,7 @@
 -- Moves of the serial policy: one call with the carrying that follows it, or one TURN. This project's own.
 use Rattle.std.specs.Prelude.{ℕ, Bool, List, Option, Some, None}
 use Rattle.vm_journal.specs.declared.entry.What.{What}
-use Rattle.pager_model.specs.Cleaning.{Cleaning}
+use Rattle.pager_policy.specs.Cleaning.{Cleaning}
 
 -- where the policy is between two moves: at the next request; after an answer, in the writer's part or in the
 -- swapper's part (either may have begun) for the answered process; or in the rundown

@@ -21,7 +21,7 @@ use Rattle.vm_journal.specs.declared.entry.Entry.{Entry}
 use Rattle.vm_journal.specs.declared.entry.Role.TheVariants as role
 use Rattle.vm_journal.specs.declared.entry.EvictWhy.TheVariants as evict
 use Rattle.vm_journal.specs.declared.entry.What.TheVariants as what
-use Rattle.pager_model.specs.Given.{unsaid, Given, Seen, Target, eviction, given, is_stopped, page_address, reads_made, reuse_first, seen_at}
+use Rattle.pager_policy.specs.Given.{unsaid, Given, Seen, Target, eviction, given, is_stopped, page_address, reads_made, reuse_first, seen_at}
 use Rattle.pager_model.specs.ClusterLength.{cluster_length}
 use Rattle.pager_model.specs.Evict.{victim_of}
 use Rattle.pager_model.specs.Flat.{flat_refusal}

@@ -17,7 +17,7 @@ use Rattle.vm_journal.specs.declared.entry.EvictWhy.TheVariants as evict
 use Rattle.vm_journal.specs.declared.entry.What.TheVariants as what
 use Rattle.pager_model.specs.Flights.{open_flights}
 use Rattle.pager_model.specs.Forget.{holder, own_pages, range_of}
-use Rattle.pager_model.specs.Given.{Given, eviction, given, is_stopped}
+use Rattle.pager_policy.specs.Given.{Given, eviction, given, is_stopped}
 use Rattle.pager_model.specs.Lookups.{passes, entries_at, entry_of, is_resident, slot_of, slot_with}
 use Rattle.pager_model.specs.Pager.{Pager, Valid}
 use Rattle.pager_model.specs.Ring.{range_locked, range_pinned}

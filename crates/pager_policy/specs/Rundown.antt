@@ -7,15 +7,15 @@ use Rattle.vm_types.specs.declared.config.Config.{Config}
 use Rattle.vm_journal.specs.declared.entry.Entry.{Entry}
 use Rattle.vm_journal.specs.declared.entry.EvictWhy.TheVariants as evict
 use Rattle.vm_journal.specs.declared.entry.What.{What}
-use Rattle.pager_model.specs.Advance.{following}
-use Rattle.pager_model.specs.Cleaning.{Cleaning, evicting, rounds}
-use Rattle.pager_model.specs.Given.{Seen, eviction, is_stopped, seen_at, slots_of}
+use Rattle.pager_policy.specs.Advance.{following}
+use Rattle.pager_policy.specs.Cleaning.{Cleaning, evicting, rounds}
+use Rattle.pager_policy.specs.Given.{Seen, eviction, is_stopped, seen_at, slots_of}
 use Rattle.pager_model.specs.Lookups.{passes}
 use Rattle.pager_model.specs.Maps.{is_private}
-use Rattle.pager_model.specs.Moves.{Control, Move, carries, cleaning, control, goes, makes, rests}
+use Rattle.pager_policy.specs.Moves.{Control, Move, carries, cleaning, control, goes, makes, rests}
 use Rattle.pager_model.specs.Pager.{Pager}
-use Rattle.pager_model.specs.Swap.{is_shared_seen}
-use Rattle.pager_model.specs.WriteCluster.{begin_gives, reason_need}
+use Rattle.pager_policy.specs.Swap.{is_shared_seen}
+use Rattle.pager_policy.specs.WriteCluster.{begin_gives, reason_need}
 
 abbrev pub writer_of : Config → ℕ
 writer_of config = length config.procs

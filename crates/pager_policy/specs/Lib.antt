@@ -1,0 +1,11 @@
+pub mod Advance
+pub mod Cleaning
+pub mod Given
+pub mod Landings
+pub mod Moves
+pub mod Policy
+pub mod Rundown
+pub mod Serial
+pub mod Serve
+pub mod Swap
+pub mod WriteCluster
