@@ -1,3 +1,4 @@
 pub mod AreLegal
-pub mod Ready
 pub mod Laws
+pub mod Ready
+pub mod SerialOrder

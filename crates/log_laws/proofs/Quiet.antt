@@ -19,8 +19,8 @@ use Rattle.pager_policy.specs.Rundown.{Place, at_slot, clean_move, cleaning_move
 use Rattle.pager_policy.specs.Serial.{GoesOn, Heard, IsMade, IsReached}
 use Rattle.pager_model.specs.Spoken.{IsRight, ShowsReply, flat_after, request_of}
 use Rattle.pager_policy.specs.WriteCluster.{reason_need}
-use Rattle.pager_laws.proofs.CallsSay.{begin_silent}
-use Rattle.pager_laws.proofs.Said.{IsSilentStep, Silent, landed_silent, said_shown, silent_made, silent_then}
+use Rattle.call_laws.proofs.CallsSay.{begin_silent}
+use Rattle.call_laws.proofs.Said.{IsSilentStep, Silent, landed_silent, said_shown, silent_made, silent_then}
 use Rattle.pager_rules.proofs.Basics.{nat_eq_refl}
 
 -- the policy is in the rundown

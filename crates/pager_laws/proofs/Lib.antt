@@ -1,5 +1,4 @@
 pub mod BackKept
-pub mod CallsSay
 pub mod CarriersBalance
 pub mod ComingKept
 pub mod DeleteIsFlat
@@ -23,7 +22,6 @@ pub mod KeptIsSound
 pub mod LimitKept
 pub mod LocksKept
 pub mod MapChanged
-pub mod MovesSay
 pub mod OfConfigKept
 pub mod OpeningKept
 pub mod OutFailKept
@@ -36,10 +34,7 @@ pub mod ReuseKept
 pub mod RingBounds
 pub mod RunLines
 pub mod RunsAreSound
-pub mod Said
 pub mod SectionNumbers
-pub mod SerialInOrder
-pub mod SerialIsOne
 pub mod ServedKept
 pub mod StepKept
 pub mod TurnKept

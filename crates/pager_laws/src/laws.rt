@@ -11,10 +11,6 @@ ghost use Rattle.pager_laws.specs.Laws.{
   CountsAreFew,
   OpenExactly,
   StartsOnce,
-  SerialIsInOrder,
-  SerialEndsAnswered,
-  SerialIsOne,
-  RundownIsOne,
 };
 
 /// The working form of soundness: the opening state of a well-formed configuration has it, a legal
@@ -57,14 +53,4 @@ pub fn counts_are_few()
 pub fn flights_are_open()
     ensures exactly { OpenExactly }
     ensures once { StartsOnce }
-{}
-
-/// What the serial policy gives has each process's requests once and in order; when no task is left,
-/// all of them. Two finished serial journals of one configuration that were told the same outcomes of
-/// landings and have right values are equal, and so are two rundowns of one journal.
-pub fn serial_is_in_order()
-    ensures order { SerialIsInOrder }
-    ensures answered { SerialEndsAnswered }
-    ensures one { SerialIsOne }
-    ensures rundown { RundownIsOne }
 {}

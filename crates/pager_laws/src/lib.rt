@@ -1,7 +1,6 @@
-//! The laws of the pager's model: legal steps of all sixteen kinds keep soundness, so every run is
-//! sound at each of its prefixes; what the serial policy gives is in order; and what holds of each state
-//! that can be reached, and speaks of no part of it: the frame that holds a page, the page of a valid entry,
-//! the length of a ring, the numbers of section pages.
+//! The laws of the pager's model: legal steps of all sixteen kinds keep soundness, so every run is sound at each
+//! of its prefixes; and what holds of each state that can be reached, and speaks of no part of it: the frame that
+//! holds a page, the page of a valid entry, the length of a ring, the numbers of section pages.
 #![tactic(auto)]
 
 mod laws;
@@ -9,6 +8,6 @@ mod lines;
 
 pub use laws::{
     carriers_balance, counts_are_few, flat_machine_follows, flights_are_open,
-    runs_are_of_configuration, runs_are_sound, serial_is_in_order, steps_keep_soundness,
+    runs_are_of_configuration, runs_are_sound, steps_keep_soundness,
 };
 pub use lines::runs_have_lines;

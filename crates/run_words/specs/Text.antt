@@ -1,11 +1,8 @@
 -- The printed text of a run: entry lines, the report, the lines after it, and the status. Each line ends with
 -- byte 10. This project's own.
-use Rattle.std.specs.Prelude.{ℕ, Bool, ◌+◌, ◌&&◌, List, [], ◌∷◌, ◌++◌, Option, Some, None, length, filter, map, reverse, slice_index_or, codes, decimal, if◌then◌else◌}
-use Rattle.std.specs.List.{range_with_len, list_any, flat_map}
-use Rattle.vm_types.specs.Configuration.{section_pages}
-use Rattle.vm_types.specs.Kinds.{is_shared_kind}
+use Rattle.std.specs.Prelude.{ℕ, ◌+◌, List, [], ◌∷◌, ◌++◌, Option, Some, None, length, reverse, slice_index_or, codes, decimal}
+use Rattle.std.specs.List.{flat_map}
 use Rattle.vm_types.specs.declared.names.Page.{Page}
-use Rattle.vm_types.specs.declared.names.Page.TheVariants.{Shared}
 use Rattle.vm_types.specs.declared.names.FrameState.{FrameState}
 use Rattle.vm_types.specs.declared.names.FrameState.TheVariants as state
 use Rattle.vm_types.specs.declared.config.Config.{Config}
@@ -15,8 +12,6 @@ use Rattle.vm_journal.specs.Line.{line_text}
 use Rattle.vm_text.specs.Names.{process_name, page_text}
 use Rattle.vm_text.specs.States.{state_word, status_word, mark_text}
 use Rattle.vm_types.specs.declared.config.Config.{Config}
-use Rattle.pager_model.specs.Forget.{holds_page}
-use Rattle.pager_model.specs.Pager.{Pager}
 use Rattle.pager_model.specs.Report.{FrameRow, ProcessRow, Report, report_of}
 use Rattle.pager_model.specs.Run.{pager_after}
 use Rattle.pager_model.specs.DirtyPages.{dirty_pages}

@@ -10,7 +10,7 @@ use Rattle.pager_policy.specs.Serial.{IsRundown, IsSerial, IsWhole}
 use Rattle.pager_model.specs.Spoken.{IsRight}
 use Rattle.pager_model.specs.DirtyPages.{dirty_pages}
 use Rattle.content_laws.proofs.EndContent.{nowhere_uncharged}
-use Rattle.pager_laws.proofs.SerialInOrder.{serial_answered}
+use Rattle.call_laws.proofs.SerialInOrder.{serial_answered}
 use Rattle.run_text.specs.Printable.{IsPrintable}
 use Rattle.policy_ends.proofs.CleanRuns.{no_failure_no_dirt}
 use Rattle.policy_ends.proofs.DirtyRuns.{dirty_because}

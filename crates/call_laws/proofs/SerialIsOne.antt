@@ -17,7 +17,7 @@ use Rattle.pager_model.specs.Run.{pager_after}
 use Rattle.pager_policy.specs.Rundown.{at_slot}
 use Rattle.pager_policy.specs.Serial.{GoesOn, Heard, IsMade, IsReached, IsRefused, IsRundown, IsSerialTo, Rests}
 use Rattle.pager_model.specs.Spoken.{IsRight, flat_after}
-use Rattle.pager_laws.specs.Laws.{all_told}
+use Rattle.call_laws.specs.SerialOrder.{all_told}
 
 -- ---- right values of a longer journal are right in a shorter one
 right_made : (config : Config) (seat : ℕ) (ws : List What) (past : List Entry) → IsRight config (made_by seat ws past) → IsRight config past

@@ -7,7 +7,7 @@ use Rattle.pager_policy.specs.Policy.{ends_request, ends_part}
 use Rattle.pager_policy.specs.Cleaning.{evicting, rounds}
 use Rattle.pager_policy.specs.Given.{is_stopped, seen_at, Seen}
 use Rattle.pager_policy.specs.Advance.{next_again, NextIs, advance_gives}
-use Rattle.pager_laws.proofs.CallsSay.{serve_says, come_silent, leave_silent, advance_says, SaysBy, ServedBy, begin_silent}
+use Rattle.call_laws.proofs.CallsSay.{serve_says, come_silent, leave_silent, advance_says, SaysBy, ServedBy, begin_silent}
 use Rattle.pager_policy.specs.Serve.{serve_again, serve_gives, ServeIs}
 use Rattle.pager_policy.specs.Swap.{swap_again, come_gives, leave_gives, victim_gives, SwapIs}
 use Rattle.pager_policy.specs.Cleaning.{rounds, evicting, Cleaning}
@@ -28,7 +28,7 @@ use Rattle.vm_journal.specs.declared.entry.What.{What}
 use Rattle.pager_policy.specs.Moves.{while_leaving, control, Move, makes, carries, rests, Control, Doing, asking, saving, freeing, cleaning}
 use Rattle.pager_model.specs.Pager.{Pager}
 use Rattle.pager_policy.specs.Policy.{leaving_other, is_freeing, advance_move_by, serve_move_by, coming_process, leave_move_by, ends_part, come_move_by, saving_by, writing_move, leave_move, is_saving, finding_move, other_move, swapper_of, ends_request, freeing_move, asking_move, gone_move, resident_move, status_move, victim_move, asked_move, saving_move, task_move, Ends, next_task, move_of}
-use Rattle.pager_laws.proofs.Said.{Silent, said}
+use Rattle.call_laws.proofs.Said.{Silent, said}
 
 pub record AnswersTask (config : Config) (past : List Entry) (seat : ℕ) (ws : List What) : Type 0 where
   pub task : Task

@@ -35,7 +35,7 @@ use Rattle.pager_model.specs.Spoken.{flat_after}
 use Rattle.pager_policy.specs.Swap.{is_to_save, is_saved, is_out_page, is_back_on_free, swap_where, slot_where, GivenSwap, leave_gives, leave_page, leave_saved, leave_shared, leave_unsaved, write_slot, write_slots, come_gives, come_free, come_out, back_page, back_of, is_shared_unpinned}
 use Rattle.pager_model.specs.Lying.{lying_in}
 use Rattle.pager_policy.specs.WriteCluster.{begin_carry, begin_nothing, writes_taken, Reason, begin_gives, block_out, is_enough, writes_from}
-use Rattle.pager_laws.proofs.Said.{Silent, said, silent_join, reads_silent, reused_said}
+use Rattle.call_laws.proofs.Said.{Silent, said, silent_join, reads_silent, reused_said}
 
 -- ---- a reference
 abbrev pub SaysBy : NextIs → List Request → Ref → Type 0

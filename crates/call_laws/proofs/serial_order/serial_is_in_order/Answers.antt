@@ -1,6 +1,6 @@
-use Rattle.pager_laws.proofs.SerialInOrder.{serial_answered, serial_in_order}
-use Rattle.pager_laws.proofs.SerialIsOne.{rundown_is_one, serial_is_one}
-use Rattle.pager_laws.proofs.laws.serial_is_in_order.Goals as goal
+use Rattle.call_laws.proofs.SerialInOrder.{serial_answered, serial_in_order}
+use Rattle.call_laws.proofs.SerialIsOne.{rundown_is_one, serial_is_one}
+use Rattle.call_laws.proofs.serial_order.serial_is_in_order.Goals as goal
 
 pub returns-clause-order : goal.returns-clause-order
 returns-clause-order c = serial_in_order

@@ -17,8 +17,8 @@ use Rattle.pager_model.specs.Order.{answered, requests_of, spoken_by, IsInOrder,
 use Rattle.pager_policy.specs.Policy.{move_of, next_task}
 use Rattle.pager_model.specs.Spoken.{spoken}
 use Rattle.pager_policy.specs.Serial.{GoesOn, Heard, IsMade, IsReached, IsRefused, IsSerialTo, refusal_of}
-use Rattle.pager_laws.proofs.MovesSay.{AnswersTask, SaysRight, move_says}
-use Rattle.pager_laws.proofs.Said.{said_shown, IsSilentStep, answered_made, landed_silent, said, said_by, silent_made, silent_then, spoken_made}
+use Rattle.call_laws.proofs.MovesSay.{AnswersTask, SaysRight, move_says}
+use Rattle.call_laws.proofs.Said.{said_shown, IsSilentStep, answered_made, landed_silent, said, said_by, silent_made, silent_then, spoken_made}
 
 -- ---- the requests of a prefix of the body
 requests_join : (p : ℕ) (xs ys : List Task) → requests_of p (xs ++ ys) ≡ requests_of p xs ++ requests_of p ys
