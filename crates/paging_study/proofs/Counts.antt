@@ -59,3 +59,12 @@ last_place-passes f (suc n) some = elim (cases_Bool (f (suc n))) [
   | inl passes ↦ rw (passes, passes) refl
   | inr fails ↦ let some' : 1 ≤ last_place f n = rw fails at some in rw fails (last_place-passes f n some')
 ]
+
+-- none passes after the end
+pub same_past : (flag : ℕ → Bool) (end more : ℕ) → ((n : ℕ) → end ≤ n → flag (suc n) ≡ false) → count_places flag (end + more) ≡ count_places flag end
+same_past flag end zero none = ap (λ (k : ℕ). count_places flag k) (omega arith)
+same_past flag end (suc more) none =
+    let next : end + suc more ≡ suc (end + more) = omega arith in
+    let step : count_places flag (end + suc more) ≡ count_places flag (end + more) + one_if (flag (suc (end + more))) = ap (λ (k : ℕ). count_places flag k) next in
+    let here : one_if (flag (suc (end + more))) ≡ 0 = ap one_if (none (end + more) (omega arith)) in
+    omega (arith, step, here, same_past flag end more none)

@@ -1,17 +1,13 @@
 -- One place of the forward pass: an interval may end there, one may be dropped, and one may begin.
-use Rattle.std.proofs.Common.{◌≡◌, ◌≢◌, ℕ, suc, zero, ◌+◌, ◌-◌, ◌<◌, ◌≤◌, Bool, true, false, List, [], ◌∷◌, ◌++◌, length, length-append, ap, sym, ◌∙◌, refl, subst, inl, inr, arith, eqb, leb, ltb, ◌&&◌, ◌||◌, not}
-use Rattle.std.specs.BTreeSet.{BTreeSet, contains}
-use Rattle.std.specs.BTreeMap.{is_at}
-use Rattle.std.specs.List.{list_any}
-use Rattle.std.specs.Ordering.{nat_cmp}
-use Rattle.std.specs.declared.cmp.Ordering.{Ordering}
+use Rattle.std.proofs.Common.{◌≡◌, ◌≢◌, ℕ, suc, zero, ◌+◌, ◌-◌, ◌<◌, ◌≤◌, Bool, true, false, List, [], ◌∷◌, ◌++◌, length, length-append, get_or, ap, sym, ◌∙◌, refl, subst, inl, inr, arith, eqb, leb, ltb, ◌&&◌, ◌||◌, not}
+use Rattle.std.specs.List.{All}
 use Rattle.std.proofs.lemmas.Bool.{cases_lt, cases_eq, false_from_ne_true, both_ways, eqb-true, eq-eqb, ne_eqb, and_parts, and_from, and_left, and_right, or_from, or_right, le-leb, lt-leb, lt-ltb, le-ltb, not_from_false}
-use Rattle.std.proofs.lemmas.List.{get_or_append_left, get_or-append_right}
+use Rattle.std.proofs.lemmas.List.{get_or_append_left, get_or-append_right, get_or_past}
 use Rattle.paging_study.specs.Places.{one_if, page_at, count_places, any_place}
 use Rattle.paging_study.specs.Intervals.{begins, is_inside}
 use Rattle.paging_study.specs.Least.{is_dropped, is_open, IsDrop, AreEnds}
 use Rattle.paging_study.specs.Open.{Holds, LosesLast, is_pending}
-use Rattle.paging_study.proofs.Counts.{count_same, count_none}
+use Rattle.paging_study.proofs.Counts.{count_same}
 use Rattle.paging_study.proofs.Begins.{any_place-some, begins-lt, Inside, inside}
 use Rattle.paging_study.proofs.Holds.{holds_same}
 
@@ -68,7 +64,7 @@ module _ (page drop drop' : ℕ → ℕ) (n : ℕ) (agree : (i : ℕ) → i < n 
       }
 
 -- the state of the pass after n places
-pub record Forward (page : ℕ → ℕ) (places room : ℕ) (open_ends : BTreeSet ℕ) (drops : List ℕ) (faults n : ℕ) : Type 0 where
+pub record Forward (page : ℕ → ℕ) (places room : ℕ) (open_ends : List Bool) (drops : List ℕ) (faults n : ℕ) : Type 0 where
   pub length_is : length drops ≡ n
   pub holds : Holds open_ends (is_pending page (page_at drops) n) places
   pub rules : (t : ℕ) → t < n → IsDrop page (page_at drops) places room t
@@ -124,11 +120,8 @@ none_began b = elim (cases_lt b 1) [
   | inr le ↦ and_right _ _ (le-ltb b 1 (omega arith))
 ]
 
-no_keys : (cmp : ℕ → ℕ → Ordering) (s : BTreeSet ℕ) (k : ℕ) → s.keys ≡ [] → contains cmp s k ≡ false
-no_keys cmp s k empty = ap (λ (ks : List ℕ). list_any (is_at (cmp k)) ks) empty
-
 -- one place: the interval that ends here leaves, d is dropped, and the one that begins here joins
-module _ (page ends : ℕ → ℕ) (places room n : ℕ) (below : n < places) (are : AreEnds page places ends) (open_ends closed dropped begun : BTreeSet ℕ) (drops : List ℕ) (faults d : ℕ)
+module _ (page ends : ℕ → ℕ) (places room n : ℕ) (below : n < places) (are : AreEnds page places ends) (open_ends closed dropped begun : List Bool) (drops : List ℕ) (faults d : ℕ)
     (state : Forward page places room open_ends drops faults n)
     (loses : LosesLast closed dropped room d (λ end. is_pending page (page_at drops) n end && not (eqb end (suc n))) places)
     (joined : Holds begun (λ end. ((is_pending page (page_at drops) n end && not (eqb end (suc n))) && not (eqb end d)) || eqb end (ends (suc n))) places) where
@@ -258,13 +251,15 @@ module _ (page ends : ℕ → ℕ) (places room n : ℕ) (below : n < places) (a
       (subst (λ (f : ℕ). Forward page places room begun (drops ++ d ∷ []) (faults + f) (suc n)) more' forward_suc)
 
 -- before the first place nothing is open
-pub forward_none : (page : ℕ → ℕ) (places room : ℕ) (open_ends : BTreeSet ℕ) → open_ends.keys ≡ [] → Forward page places room open_ends [] 0 0
-forward_none page places room open_ends empty = record {
+none_open : (flags : List Bool) → All (λ flag. flag ≡ false) flags → (i : ℕ) → get_or flags i false ≡ false
+none_open flags none i = elim (cases_lt i (length flags)) [ inl within ↦ none i false within | inr past ↦ get_or_past flags i false past ]
+
+pub forward_none : (page : ℕ → ℕ) (places room : ℕ) (open_ends : List Bool) → All (λ flag. flag ≡ false) open_ends → Forward page places room open_ends [] 0 0
+forward_none page places room open_ends none = record {
   length_is = refl;
   holds = record {
-    has_it = λ i below. no_keys nat_cmp open_ends (suc i) empty ∙ sym (and_left _ _ (and_left _ _ (none_began (begins page (suc i)))));
-    only = λ end there. absurd (both_ways _ (no_keys nat_cmp open_ends end empty) there);
-    count = ap length empty ∙ sym (count_none (is_pending page (page_at []) 0) places (λ i below. and_left _ _ (and_left _ _ (none_began (begins page (suc i))))));
+    has_it = λ i below. none_open open_ends none i ∙ sym (and_left _ _ (and_left _ _ (none_began (begins page (suc i)))));
+    only = λ i there. absurd (both_ways _ (none_open open_ends none i) there);
   };
   rules = λ t below. absurd (omega arith);
   counted = refl;

@@ -17,3 +17,5 @@ pub mod OneChoice
 pub mod LetGo
 pub mod MarkCounts
 pub mod Hints
+pub mod BitSteps
+pub mod Levels

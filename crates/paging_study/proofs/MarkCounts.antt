@@ -5,7 +5,7 @@ use Rattle.std.proofs.lemmas.List.{get_or-set_same, get_or-set_other}
 use Rattle.std.proofs.lemmas.Nat.{div-add-mod', mod_below, div_below}
 use Rattle.paging_study.specs.Places.{one_if, flag_at, count_places}
 use Rattle.paging_study.specs.Marks.{AreCounts}
-use Rattle.paging_study.proofs.Counts.{count_none, count_same, count_but_one}
+use Rattle.paging_study.proofs.Counts.{count_none, count_same, count_but_one, same_past}
 use Rattle.std.specs.List.{count_by}
 use Rattle.std.proofs.lemmas.List.Sums.{sum_by-cons}
 use Rattle.paging_study.proofs.Forward.{one_if-le}
@@ -55,7 +55,7 @@ module _ (flags : List Bool) (i : ℕ) (flag : Bool) where
   set_below : (n : ℕ) → n ≤ i → count_places (flag_at (set flags i flag)) n ≡ count_places (flag_at flags) n
   set_below n within = count_same (flag_at (set flags i flag)) (flag_at flags) n (λ j below. get_or-set_other flags i (suc j - 1) flag false (λ e. omega arith))
 
-  set_above : (n : ℕ) → i < n → i < length flags → count_places (flag_at (set flags i flag)) n + one_if (get_or flags i false) ≡ count_places (flag_at flags) n + one_if flag
+  pub set_above : (n : ℕ) → i < n → i < length flags → count_places (flag_at (set flags i flag)) n + one_if (get_or flags i false) ≡ count_places (flag_at flags) n + one_if flag
   set_above n past below =
       let at : suc i - 1 ≡ i = omega arith in
       let was : one_if (flag_at flags (suc i)) ≡ one_if (get_or flags i false) = ap (λ (k : ℕ). one_if (get_or flags k false)) at in
@@ -134,7 +134,7 @@ not_marked zero k = refl
 not_marked (suc n) zero = refl
 not_marked (suc n) (suc k) = not_marked n k
 
-same_there : (m k x : ℕ) → get_or (replicate m x) k x ≡ x
+pub same_there : (m k x : ℕ) → get_or (replicate m x) k x ≡ x
 same_there zero k x = refl
 same_there (suc m) zero x = refl
 same_there (suc m) (suc k) x = same_there m k x
@@ -144,15 +144,6 @@ none_counted size n m flags counts flags_are counts_are g below =
     let none : (k : ℕ) → count_places (flag_at flags) k ≡ 0 = λ k. count_none (flag_at flags) k (λ i i_below. ap (λ (xs : List Bool). get_or xs (suc i - 1) false) flags_are ∙ not_marked n (suc i - 1)) in
     let here : get_or counts g 0 ≡ 0 = ap (λ (xs : List ℕ). get_or xs g 0) counts_are ∙ same_there m g 0 in
     omega (arith, none (g * size), none (g * size + size), here)
-
--- no place after the end is marked
-same_past : (flag : ℕ → Bool) (end more : ℕ) → ((n : ℕ) → end ≤ n → flag (suc n) ≡ false) → count_places flag (end + more) ≡ count_places flag end
-same_past flag end zero none = ap (λ (k : ℕ). count_places flag k) (omega arith)
-same_past flag end (suc more) none =
-    let next : end + suc more ≡ suc (end + more) = omega arith in
-    let step : count_places flag (end + suc more) ≡ count_places flag (end + more) + one_if (flag (suc (end + more))) = ap (λ (k : ℕ). count_places flag k) next in
-    let here : one_if (flag (suc (end + more))) ≡ 0 = ap one_if (none (end + more) (omega arith)) in
-    omega (arith, step, here, same_past flag end more none)
 
 -- the places of a group up to the first whole eight, the eights up to the first whole block, and the blocks
 pub three_parts : (flags : List Bool) (eights blocks : List ℕ) (first end eight block past near more far : ℕ) → AreCounts 8 flags eights → AreCounts 128 flags blocks

@@ -10,3 +10,4 @@ pub mod Laws
 pub mod Distinct
 pub mod Dropped
 pub mod Marks
+pub mod Bits

@@ -3,6 +3,7 @@
 //! of a page that follow each other.
 #![tactic(auto)]
 
+mod bits;
 mod cuts;
 mod distinct;
 mod dropped;
@@ -13,6 +14,7 @@ mod laws;
 mod least;
 mod lru;
 mod marks;
+mod place_set;
 mod references;
 mod ring;
 mod string;

@@ -8,6 +8,8 @@ use Rattle.paging_study.proofs.drops.drops_of.Given as goal
 abbrev pub invariant-loop-i : goal.invariant-loop-i
 invariant-loop-i l = record {
   state : (page : ℕ → ℕ) → AreEnds page (length l.ends) (page_at l.ends) → Forward page (length l.ends) l.room l.open l.drops.items l.faults l.i;
+  room : length l.ends ≤ length l.open;
+  small : length l.open ≤ 200000;
   len : length l.drops.items ≡ l.i;
   few : l.faults ≤ l.i;
 }

@@ -12,6 +12,15 @@ use Rattle.paging_study.proofs.least.least_faults.Goals as goal
 pub ends_of-requires-clause-before : goal.ends_of-requires-clause-before
 ends_of-requires-clause-before c = begins_before c.args.pages.now.pages.items c.args.pages.now.firsts.items c.deref.result.now c.deref.ensures.value c.args.pages.now.begins
 
+-- each end is a place
+pub drops_of-requires-clause-within : goal.drops_of-requires-clause-within
+drops_of-requires-clause-within c =
+    let ends : List ℕ = c.in_ok-ends.ends.items in
+    let is : c.deref-2.result.now ≡ ends = c.deref-2.ensures.value in
+    let places : length ends ≡ length c.args.pages.now.pages.items = c.in_ok-ends.ensures.len ∙ (ap length c.deref.ensures.value ∙ c.args.pages.now.len) in
+    subst (λ (xs : List ℕ). All (λ end. end ≤ length xs) xs) (sym is)
+    (ends_all_within c.args.pages.now.pages.items ends (length ends) (ends_from c.args.pages.now.pages.items c.args.pages.now.firsts.items c.deref.result.now ends c.deref.ensures.value c.args.pages.now.begins c.args.pages.now.len c.in_ok-ends.ensures.ends) places (omega arith))
+
 -- each drop is the end of an interval
 pub gone_of-requires : goal.gone_of-requires
 gone_of-requires c =
