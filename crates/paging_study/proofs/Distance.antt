@@ -1,6 +1,6 @@
 -- The places that are the last with their page, and the distances that they give.
 use Rattle.std.proofs.Common.{◌≡◌, ◌≢◌, ℕ, suc, zero, ◌+◌, ◌-◌, ◌<◌, ◌≤◌, Bool, true, false, List, [], ◌∷◌, ◌++◌, length, get_or, ap, sym, ◌∙◌, refl, subst, inl, inr, arith, eqb, leb, ltb, ◌&&◌, ◌||◌, not}
-use Rattle.std.proofs.lemmas.Bool.{cases_lt, cases_eq, cases_Bool, eqb-true, eqb-false, eq-eqb, ne_eqb, and_left, and_right, or_right, lt-ltb, le-ltb, not_from_true}
+use Rattle.std.proofs.lemmas.Bool.{cases_lt, cases_eq, cases_Bool, eqb-true, eqb-false, eq-eqb, ne_eqb, and_left, and_right, or_right, lt-ltb, le-ltb, lt-leb, not_from_true}
 use Rattle.std.proofs.lemmas.List.{get_or_append_left, get_or-append_right, get_or_past}
 use Rattle.paging_study.specs.Places.{one_if, flag_at, count_places, last_place}
 use Rattle.paging_study.specs.Intervals.{begins}
@@ -116,11 +116,14 @@ between_is page flags n first between first_is within last is =
     rw (first_is, flag) refl) in
     is ∙ (same ∙ ap (λ (k : ℕ). count_places (λ t. ltb (begins page (suc n)) t && is_last page k t) k) (sym before))
 
-pub hit_step : (page : ℕ → ℕ) (n first between d h h' : ℕ) → first ≡ begins page (suc n) → between ≡ distance page (suc n)
+pub hit_step : (page : ℕ → ℕ) (n first between d h h' : ℕ) → first ≡ begins page (suc n) → (1 ≤ first → between ≡ distance page (suc n))
     → h ≡ count_places (is_at_distance page d) n → h' ≡ h + one_if (leb 1 first && eqb between d) → h' ≡ count_places (is_at_distance page d) (n + 1)
 hit_step page n first between d h h' first_is is was now =
     let next : n + 1 ≡ suc n = omega arith in
-    let test : (leb 1 first && eqb between d) ≡ is_at_distance page d (suc n) = rw (first_is, is) refl in
+    let test : (leb 1 first && eqb between d) ≡ is_at_distance page d (suc n) = elim (cases_lt 0 first) [
+      | inl some ↦ rw (first_is, is some) refl
+      | inr none ↦ and_left _ _ (lt-leb 1 first (omega arith)) ∙ sym (and_left _ _ (lt-leb 1 (begins page (suc n)) (omega arith)))
+    ] in
     let one : one_if (leb 1 first && eqb between d) ≡ one_if (is_at_distance page d (suc n)) = ap one_if test in
     rw next (omega arith)
 

@@ -1,5 +1,5 @@
-ghost use Rattle.std.specs.Prelude.{◌≡◌, ℕ, suc, false, ◌+◌, ◌<◌, ◌≤◌, ◌==◌, ◌&&◌, ◌||◌, nat_le, not, length, slice_index, slice_index_or, IfOk};
-ghost use Rattle.paging_study.specs.Places.{one_if, page_at, count_places};
+ghost use Rattle.std.specs.Prelude.{◌≡◌, ℕ, suc, false, ◌+◌, ◌<◌, ◌≤◌, ◌==◌, ◌&&◌, ◌||◌, nat_lt, nat_le, not, length, slice_index, slice_index_or, IfOk};
+ghost use Rattle.paging_study.specs.Places.{one_if, page_at, flag_at, count_places};
 ghost use Rattle.paging_study.specs.Recency.{is_hit, is_at_distance};
 
 use crate::marks::Marks;
@@ -38,11 +38,25 @@ fn hits_of(alloc: Global, pages: &PageString, frames: u32) -> Result<Vec<u32>, N
     let mut hits = vec![in alloc; 0; frames as usize]?;
     let mut last = Marks::new(alloc, pages.firsts.len())?;
     for (i, first) in pages.firsts.iter().enumerate() {
-        let between = last.count(*first as usize, i);
+        let between = since(&last, *first, i);
         count_hit(&mut hits, *first, between);
         move_last(&mut last, *first, i);
     }
     Ok(hits)
+}
+
+/// How many of the places after the first one and up to `i` are marked, after which none is; 0 if there
+/// is no first one.
+fn since(last: &Marks, first: u32, i: usize) -> usize
+    requires order { first ≤ i }
+    requires within { i < length last.now.flags.items }
+    requires rest { (n : ℕ) → i ≤ n → flag_at last.now.flags.items (suc n) ≡ false }
+    ensures { 1 ≤ first → result ≡ count_places (λ n. nat_lt first n && flag_at last.now.flags.items n) i }
+{
+    if first == 0 {
+        return 0;
+    }
+    last.count(first as usize, i)
 }
 
 /// Counts a reference, if its page was referenced before, among those with so many other pages since.

@@ -1,7 +1,8 @@
 ghost use Rattle.std.specs.Prelude.{◌≡◌, ◌≢◌, ℕ, true, false, None, ◌-◌, ◌<◌, ◌≤◌, ◌⊎◌, length, not, slice_index, slice_index_or, IfOk};
 ghost use Rattle.vm_types.specs.Ring.{choose};
+ghost use Rattle.working_set.specs.Slots.{IsEmptySlot};
 ghost use Rattle.paging_study.specs.Places.{one_if};
-ghost use Rattle.paging_study.specs.RingFaults.{holds, is_held, referenced, ring_faults, slot_chosen};
+ghost use Rattle.paging_study.specs.RingFaults.{holds, is_held, placed, referenced, ring_faults, slot_chosen};
 
 use crate::string::PageString;
 use std::alloc::Global;
@@ -58,9 +59,7 @@ fn refer(ring: &mut Ring, frames: u32, last: u32, page: u32) -> (u32, u32)
     if has_page(ring, last, page) {
         return (last, 0);
     }
-    let slot = next_slot(ring, frames);
-    load(ring, frames, page);
-    (slot, 1)
+    (load(ring, frames, page), 1)
 }
 
 /// Whether the slot holds the page.
@@ -71,33 +70,32 @@ fn has_page(ring: &Ring, slot: u32, page: u32) -> bool
     ring.at(slot) == Some(page)
 }
 
-/// The slot that the ring chooses.
-fn next_slot(ring: &Ring, frames: u32) -> u32
-    requires len { length ring.now.slots ≡ frames }
+/// Puts a page that no slot holds into the slot that the ring chooses, and gives the slot.
+fn load(ring: &mut Ring, frames: u32, page: u32) -> u32
+    requires len { length ring.old.slots ≡ frames }
     requires some { 1 ≤ frames }
-    ensures chosen { result ≡ slot_chosen (choose ring.now frames) }
+    requires misses { holds ring.old page ≡ false }
+    ensures ring { ring.new ≡ referenced frames ring.old page }
+    ensures chosen { result ≡ slot_chosen (choose ring.old frames) }
     ensures exists { result < frames }
+    ensures len { length ring.new.slots ≡ length ring.old.slots }
 {
     match ring.choose(frames) {
-        Choice::Empty(slot) => slot,
-        Choice::Victim(slot) => slot,
+        Choice::Empty(slot) => put(ring, slot, page),
+        Choice::Victim(slot) => {
+            ring.clear(slot, true);
+            put(ring, slot, page)
+        }
         Choice::AllLocked => 0,
     }
 }
 
-/// Puts a page that no slot holds into the slot that the ring chooses.
-fn load(ring: &mut Ring, frames: u32, page: u32)
-    requires len { length ring.old.slots ≡ frames }
-    requires misses { holds ring.old page ≡ false }
-    ensures ring { ring.new ≡ referenced frames ring.old page }
-    ensures len { length ring.new.slots ≡ length ring.old.slots }
+/// Puts a page into an empty slot, and the hand on the slot after it. Gives the slot.
+fn put(ring: &mut Ring, slot: u32, page: u32) -> u32
+    requires { IsEmptySlot ring.old slot }
+    ensures placed { ring.new ≡ placed ring.old slot page }
+    ensures slot { result ≡ slot }
 {
-    match ring.choose(frames) {
-        Choice::Empty(slot) => ring.place(slot, page, true),
-        Choice::Victim(slot) => {
-            ring.clear(slot, true);
-            ring.place(slot, page, true);
-        }
-        Choice::AllLocked => {}
-    }
+    ring.place(slot, page, true);
+    slot
 }

@@ -8,4 +8,4 @@ use Rattle.paging_study.proofs.ring.load.Goals as goal
 pub returns-in-Victim-clause-ring : goal.returns-in-Victim-clause-ring
 returns-in-Victim-clause-ring c =
     let chosen : choose c.args.ring.now c.args.frames ≡ Victim c.in-Victim.slot = search rules in
-    victim_replaced c.args.ring.now c.clear.new.self c.place-in-Victim.new.self c.args.frames c.args.page c.in-Victim.slot c.requires.misses chosen c.clear.ensures.cleared c.place-in-Victim.ensures.placed
+    victim_replaced c.args.ring.now c.clear.new.self c.put-in-Victim.new.ring c.args.frames c.args.page c.in-Victim.slot c.requires.misses chosen c.clear.ensures.cleared c.put-in-Victim.ensures.placed

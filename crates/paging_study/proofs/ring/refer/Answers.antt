@@ -26,4 +26,4 @@ returns-clause-fault c =
 pub returns-clause-held : goal.returns-clause-held
 returns-clause-held c =
     let none : holds c.args.ring.now c.args.page ≡ false = misses_from c.args.ring.now c.args.last c.args.page c.requires.only (sym c.has_page.ensures ∙ c.if-has_page.false) in
-    loaded_held c.args.ring.now c.load.new.ring c.args.frames c.args.page c.next_slot-slot.result none c.load.ensures.ring c.next_slot-slot.ensures.chosen (omega (arith, c.next_slot-slot.ensures.exists, c.requires.len))
+    loaded_held c.args.ring.now c.load.new.ring c.args.frames c.args.page c.load.result none c.load.ensures.ring c.load.ensures.chosen (omega (arith, c.load.ensures.exists, c.requires.len))
