@@ -13,7 +13,7 @@ pub(crate) fn set_bit(words: &mut Vec<u64>, n: usize)
     words[n / 64] = with_bit(words[n / 64], (n % 64) as u32);
 }
 
-/// Clears the bit of a number, if it is to leave. Says if no bit of its word is set since then.
+/// Clears the bit of a number, if it is to leave. Says if that left its word without a bit.
 pub(crate) fn clear_bit(words: &mut Vec<u64>, n: usize, leaves: bool) -> bool
     requires { n / 64 < length words.old.items }
     ensures bits { (m : ℕ) → is_set words.new.items m ≡ (is_set words.old.items m && not (leaves && m == n)) }

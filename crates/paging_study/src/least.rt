@@ -25,7 +25,7 @@ pub struct Least {
 }
 
 /// The least number of faults that references to these pages can have with so many frames, 1 to 1024.
-/// Takes time as the number of references times the logarithm of the number of frames.
+/// Takes time as the number of references.
 ///
 /// # Errors
 /// `NoMemory` if memory runs out.

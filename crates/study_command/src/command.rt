@@ -86,8 +86,7 @@ fn conclude<K: Sink>(
 /// wrong with the input, or that the trace doesn't have the process, and keeps the first 80 bytes of a faulty
 /// line in `kept`.
 ///
-/// Takes time as the references times the logarithm of the frames, and for LRU as a 128th part of the
-/// references between two to the same page.
+/// Takes time as the references, and for LRU as a 128th part of those between two to the same page.
 pub fn study_trace<S: Source, K: Sink>(
     alloc: Global,
     study: Study,
