@@ -22,7 +22,7 @@ from run import Draws, built_program
 REFERENCES = 100_000
 FRAMES = 1024
 WANTED = 1.0  # seconds
-MOST = 170_000_000  # instructions
+MOST = 80_000_000  # instructions
 
 HEAD = "VMTRACE 1\nFRAMES 8\nPAGEFILE 1\nPROCESS A 4 4 4 0\nBODY\n"
 
