@@ -12,7 +12,7 @@ use Rattle.vm_journal.specs.declared.entry.Entry.{Entry}
 use Rattle.vm_journal.specs.Own.{own_entries}
 use Rattle.history_lock.specs.declared.view.View.{View}
 use Rattle.history_lock.specs.declared.stage.Stage.{Stage}
-use Rattle.history_lock.specs.declared.stage.Stage.TheVariants.{Idle, Joined, Waiting, Holding, Published, Spent}
+use Rattle.history_lock.specs.declared.stage.Stage.TheVariants.{Idle, Sleeping, Joined, Waiting, Holding, Published, Spent}
 use Rattle.history_lock.specs.Known.{Known, OwnsAll}
 use Rattle.history_lock.specs.Views.{starting, IsIn, IsLive}
 use Rattle.history_lock.specs.Rule.{HasSlot, Fits, Serves}
@@ -22,6 +22,7 @@ use Rattle.history_lock.proofs.Facts.{Rule, not_inside}
 
 in_lives : (st : Stage) → IsIn st → IsLive st
 in_lives Idle i = absurd i
+in_lives Sleeping i = absurd i
 in_lives (Joined ys ks ms) i = absurd i
 in_lives (Waiting t) i = absurd i
 in_lives (Holding t) i = tt
@@ -41,10 +42,11 @@ module _ {T B : Type 0} (journal : T → List Entry) (base : T → B) where
   }
   one_fits b n some_pass (suc j) v e = absurd (some-ne-none v (sym e))
 
-  pub starts : (value : T) (n : ℕ) → 0 < n → n < 4294967296 → journal value ≡ [] → Serves journal base (base value) n (opening (0 ∷ 0 ∷ 0 ∷ []) (Some value ∷ []) (starting (base value) n))
+  pub starts : (value : T) (n : ℕ) → 0 < n → n < 4294967296 → journal value ≡ [] → Serves journal base (base value) n (opening (0 ∷ 0 ∷ 0 ∷ 0 ∷ []) (Some value ∷ []) (starting (base value) n))
   starts value n some_pass few empty = let long : length (range_with_len 0 n) ≡ n = length-range_with_len 0 n in record {
     next = 0;
     serving = 0;
+    asleep = 0;
     present = [];
     owner = λ _. 0;
     holder = λ _. 0;
@@ -52,6 +54,7 @@ module _ {T B : Type 0} (journal : T → List Entry) (base : T → B) where
     words = refl;
     few = few;
     out = refl;
+    counted = refl;
     many = omega arith;
     each = one_fits (base value) n some_pass;
     owned = λ k l. (starting (base value) n, refl, range_has 0 n k (omega arith) (omega arith));

@@ -10,7 +10,7 @@ use Rattle.vm_journal.specs.declared.entry.Entry.{Entry}
 use Rattle.vm_journal.specs.Own.{own_entries}
 use Rattle.history_lock.specs.declared.view.View.{View}
 use Rattle.history_lock.specs.declared.stage.Stage.{Stage}
-use Rattle.history_lock.specs.declared.stage.Stage.TheVariants.{Idle, Joined, Waiting, Holding, Published, Spent}
+use Rattle.history_lock.specs.declared.stage.Stage.TheVariants.{Idle, Sleeping, Joined, Waiting, Holding, Published, Spent}
 use Rattle.history_lock.specs.Views.{tickets, IsIn, IsLive}
 use Rattle.history_lock.specs.Rule.{total, HasParts, HasTicket, HasSlot, Serves}
 use Rattle.history_lock.proofs.Sums.{total-le, at_below, at_one}
@@ -20,6 +20,7 @@ wraps a k = omega arith
 
 pub tickets_le : (st : Stage) (n : ℕ) → (IsLive st → 0 < n) → tickets st ≤ n
 tickets_le Idle n h = omega arith
+tickets_le Sleeping n h = omega arith
 tickets_le (Joined ys ks ms) n h = omega arith
 tickets_le (Waiting t) n h = omega (arith, h tt)
 tickets_le (Holding t) n h = omega (arith, h tt)
@@ -29,6 +30,7 @@ tickets_le Spent n h = omega arith
 -- the view that is inside has the ticket that is served
 pub in_ticket : (holder : ℕ → ℕ) (inside : StdOption ℕ) (serving next j : ℕ) (st : Stage) → IsIn st → HasTicket holder inside serving next j st → (holder serving ≡ j) × (inside ≡ Some j)
 in_ticket holder inside serving next j Idle i h = absurd i
+in_ticket holder inside serving next j Sleeping i h = absurd i
 in_ticket holder inside serving next j (Joined ys ks ms) i h = absurd i
 in_ticket holder inside serving next j (Waiting t) i h = absurd i
 in_ticket holder inside serving next j (Holding t) i h = (ap holder (sym h.0) ∙ h.2, h.3)
@@ -39,6 +41,7 @@ in_ticket holder inside serving next j Spent i h = absurd i
 pub ticket_later : (holder holder' : ℕ → ℕ) (inside : StdOption ℕ) (serving next next' j : ℕ) → ((t : ℕ) → t < next → holder' t ≡ holder t) → next ≤ next' → (st : Stage)
     → HasTicket holder inside serving next j st → HasTicket holder' inside serving next' j st
 ticket_later holder holder' inside serving next next' j same le Idle h = tt
+ticket_later holder holder' inside serving next next' j same le Sleeping h = tt
 ticket_later holder holder' inside serving next next' j same le (Joined ys ks ms) h = tt
 ticket_later holder holder' inside serving next next' j same le (Waiting t) h = let l = h.1 in (h.0, omega arith, same t l ∙ h.2)
 ticket_later holder holder' inside serving next next' j same le (Holding t) h = let l = h.1 in (h.0, omega arith, same t l ∙ h.2, h.3)
@@ -48,6 +51,7 @@ ticket_later holder holder' inside serving next next' j same le Spent h = tt
 -- while nobody is inside, one may go in
 pub ticket_enters : (holder : ℕ → ℕ) (serving next j i : ℕ) (st : Stage) → HasTicket holder None serving next j st → HasTicket holder (Some i) serving next j st
 ticket_enters holder serving next j i Idle h = tt
+ticket_enters holder serving next j i Sleeping h = tt
 ticket_enters holder serving next j i (Joined ys ks ms) h = tt
 ticket_enters holder serving next j i (Waiting t) h = h
 ticket_enters holder serving next j i (Holding t) h = let e = h.3 in absurd (cc)
@@ -57,6 +61,7 @@ ticket_enters holder serving next j i Spent h = tt
 -- the one that is inside goes out, and the next ticket is served
 pub ticket_passes : (holder : ℕ → ℕ) (serving next j i : ℕ) → holder serving ≡ i → j ≢ i → (st : Stage) → HasTicket holder (Some i) serving next j st → HasTicket holder None (serving + 1) next j st
 ticket_passes holder serving next j i hs ne Idle h = tt
+ticket_passes holder serving next j i hs ne Sleeping h = tt
 ticket_passes holder serving next j i hs ne (Joined ys ks ms) h = tt
 ticket_passes holder serving next j i hs ne (Waiting t) h = let le = h.0 in dite (ℕ_discrete t serving) (λ e. absurd (ne (sym h.2 ∙ (ap holder e ∙ hs)))) (λ n. (omega arith, h.1, h.2))
 ticket_passes holder serving next j i hs ne (Holding t) h = let e = h.3 in absurd (ne (cc))
@@ -115,6 +120,7 @@ module _ {T B : Type 0} (journal : T → List Entry) (base : T → B) where
 -- what the parts of a pass had seen still has all entries of their numbers
 pub parts_later : (numbers : List ℕ) (seen present now : List Entry) → ((k : ℕ) → Contains numbers k → own_entries k now ≡ own_entries k present) → (st : Stage) → HasParts numbers seen present st → HasParts numbers seen now st
 parts_later numbers seen present now same Idle h = tt
+parts_later numbers seen present now same Sleeping h = tt
 parts_later numbers seen present now same (Joined ys ks ms) h = (λ k has a. same k has ∙ h.0 k has a, λ k has a. same k has ∙ h.1 k has a)
 parts_later numbers seen present now same (Waiting t) h = tt
 parts_later numbers seen present now same (Holding t) h = tt

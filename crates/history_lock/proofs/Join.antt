@@ -13,7 +13,7 @@ use Rattle.vm_journal.specs.declared.entry.Entry.{Entry}
 use Rattle.vm_journal.specs.Own.{own_entries}
 use Rattle.history_lock.specs.declared.view.View.{View}
 use Rattle.history_lock.specs.declared.stage.Stage.TheVariants.{Idle, Joined}
-use Rattle.history_lock.specs.Views.{tickets, longer, merged, gone}
+use Rattle.history_lock.specs.Views.{tickets, sleeps, longer, merged, gone}
 use Rattle.history_lock.specs.Rule.{IsTicketOf, total, Fits}
 use Rattle.history_lock.specs.Plays.{settled}
 use Rattle.history_lock.proofs.Prefixes.{longer_has, longer_begins}
@@ -33,6 +33,9 @@ module _ {T B : Type 0} (journal : T → List Entry) (base : T → B) (b : B) (s
       let f₂ : total f all + 0 ≡ total f vs + 0 = total-set f vs other w gone at' in
       let g₁ : total g vs + length u.numbers ≡ total g s.views + length (u.numbers ++ y.numbers) = total-set g s.views id v m at in
       let g₂ : total g all + length y.numbers ≡ total g vs + 0 = total-set g vs other w gone at' in
+      let h : View B → ℕ = λ x. sleeps x.stage in
+      let h₁ : total h vs + 0 ≡ total h s.views + 0 = total-set h s.views id v m at in
+      let h₂ : total h all + 0 ≡ total h vs + 0 = total-set h vs other w gone at' in
       let both : length (u.numbers ++ y.numbers) ≡ length u.numbers + length y.numbers = length-append u.numbers y.numbers in
       let out : r.next ≡ r.serving + total f s.views = r.out in let many : total g s.views ≡ seats = r.many in
       let K : ℕ → View B → Type 0 = λ j d. Fits b seats owner r.holder r.inside r.serving r.next r.present j d in
@@ -74,6 +77,7 @@ module _ {T B : Type 0} (journal : T → List Entry) (base : T → B) (b : B) (s
       record {
         next = r.next;
         serving = r.serving;
+        asleep = r.asleep;
         present = r.present;
         owner = owner;
         holder = r.holder;
@@ -81,6 +85,7 @@ module _ {T B : Type 0} (journal : T → List Entry) (base : T → B) (b : B) (s
         words = r.words;
         few = r.few;
         out = omega arith;
+        counted = omega (arith, h₁, h₂, r.counted);
         many = omega arith;
         each = set_each K vs other gone spent (λ j d n there. first j d there n);
         owned = λ k l. let old = r.owned k l in elim (decide_contains y.numbers k) [
@@ -114,6 +119,7 @@ module _ {T B : Type 0} (journal : T → List Entry) (base : T → B) (b : B) (s
       let f : View B → ℕ = λ x. tickets x.stage in let g : View B → ℕ = λ x. length x.numbers in
       let same : total f (set s.views id w) + 0 ≡ total f s.views + 0 = total-set f s.views id v w at in
       let as_many : total g (set s.views id w) + length u.numbers ≡ total g s.views + length u.numbers = total-set g s.views id v w at in
+      let slept : total (λ (x : View B). sleeps x.stage) (set s.views id w) + 0 ≡ total (λ (x : View B). sleeps x.stage) s.views + 0 = total-set (λ (x : View B). sleeps x.stage) s.views id v w at in
       let out : r.next ≡ r.serving + total f s.views = r.out in let many : total g s.views ≡ seats = r.many in
       let begin = longer_begins u.seen xs r.present fits.seen fits.heard in
       let long : IsPrefix (longer u.seen xs) r.present = longer_has (λ l. IsPrefix l r.present) u.seen xs fits.seen fits.heard in
@@ -124,6 +130,7 @@ module _ {T B : Type 0} (journal : T → List Entry) (base : T → B) (b : B) (s
         record {
           next = r.next;
           serving = r.serving;
+          asleep = r.asleep;
           present = r.present;
           owner = r.owner;
           holder = r.holder;
@@ -131,6 +138,7 @@ module _ {T B : Type 0} (journal : T → List Entry) (base : T → B) (b : B) (s
           words = set-get_or s.words 2 0 ∙ r.words;
           few = r.few;
           out = omega arith;
+          counted = omega (arith, slept, r.counted);
           many = omega arith;
           each = set_each (λ j d. Fits b seats r.owner r.holder r.inside r.serving r.next r.present j d) s.views id w
               record {

@@ -2,6 +2,7 @@ pub mod Prefixes
 pub mod Own
 pub mod Sums
 pub mod Facts
+pub mod Asleep
 pub mod Ticket
 pub mod Look
 pub mod Publish
@@ -12,5 +13,6 @@ pub mod Ranges
 pub mod Ends
 pub mod Entered
 pub mod Left
+pub mod Boxed
 pub mod Dealt
 pub mod Places

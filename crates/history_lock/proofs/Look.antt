@@ -12,7 +12,7 @@ use Rattle.vm_journal.specs.declared.entry.Entry.{Entry}
 use Rattle.vm_journal.specs.Own.{own_entries}
 use Rattle.history_lock.specs.declared.view.View.{View}
 use Rattle.history_lock.specs.declared.stage.Stage.TheVariants.{Waiting, Holding}
-use Rattle.history_lock.specs.Views.{tickets}
+use Rattle.history_lock.specs.Views.{tickets, sleeps}
 use Rattle.history_lock.specs.Rule.{IsTicketOf, total, HasTicket, HasSlot, Fits}
 use Rattle.history_lock.specs.Plays.{looked}
 use Rattle.history_lock.proofs.Prefixes.{prefix_self}
@@ -36,6 +36,7 @@ module _ {T B : Type 0} (journal : T → List Entry) (base : T → B) (b : B) (s
       let f : View B → ℕ = λ x. tickets x.stage in let g : View B → ℕ = λ x. length x.numbers in
       let more : total f (set s.views id w) + 1 ≡ total f s.views + 1 = total-set f s.views id v w at in
       let as_many : total g (set s.views id w) + length u.numbers ≡ total g s.views + length u.numbers = total-set g s.views id v w at in
+      let slept : total (λ (x : View B). sleeps x.stage) (set s.views id w) + 0 ≡ total (λ (x : View B). sleeps x.stage) s.views + 0 = total-set (λ (x : View B). sleeps x.stage) s.views id v w at in
       let out : r.next ≡ r.serving + total f s.views = r.out in let many : total g s.views ≡ seats = r.many in (
         w,
         takes 0 (Some value),
@@ -43,6 +44,7 @@ module _ {T B : Type 0} (journal : T → List Entry) (base : T → B) (b : B) (s
         record {
           next = r.next;
           serving = r.serving;
+          asleep = r.asleep;
           present = r.present;
           owner = r.owner;
           holder = r.holder;
@@ -50,6 +52,7 @@ module _ {T B : Type 0} (journal : T → List Entry) (base : T → B) (b : B) (s
           words = set-get_or s.words 1 0 ∙ r.words;
           few = r.few;
           out = omega arith;
+          counted = omega (arith, slept, r.counted);
           many = omega arith;
           each = set_each (λ j d. Fits b seats r.owner r.holder (Some id) r.serving r.next r.present j d) s.views id w
               record {

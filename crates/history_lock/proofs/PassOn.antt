@@ -5,7 +5,7 @@ use Rattle.atomic_table.specs.Table.{Me, step, Allows, gives}
 use Rattle.vm_journal.specs.declared.entry.Entry.{Entry}
 use Rattle.history_lock.specs.declared.view.View.{View}
 use Rattle.history_lock.specs.declared.stage.Stage.TheVariants.{Idle, Published}
-use Rattle.history_lock.specs.Views.{tickets}
+use Rattle.history_lock.specs.Views.{tickets, sleeps}
 use Rattle.history_lock.specs.Rule.{IsTicketOf, total, HasTicket, HasSlot, Fits}
 use Rattle.history_lock.specs.Plays.{passed}
 use Rattle.history_lock.proofs.Sums.{total-set, set_each, at_one}
@@ -25,6 +25,7 @@ module _ {T B : Type 0} (journal : T → List Entry) (base : T → B) (b : B) (s
       let f : View B → ℕ = λ x. tickets x.stage in let g : View B → ℕ = λ x. length x.numbers in
       let less : total f (set s.views id w) + 1 ≡ total f s.views + 0 = total-set f s.views id v w at in
       let as_many : total g (set s.views id w) + length u.numbers ≡ total g s.views + length u.numbers = total-set g s.views id v w at in
+      let slept : total (λ (x : View B). sleeps x.stage) (set s.views id w) + 0 ≡ total (λ (x : View B). sleeps x.stage) s.views + 0 = total-set (λ (x : View B). sleeps x.stage) s.views id v w at in
       let out : r.next ≡ r.serving + total f s.views = r.out in let many : total g s.views ≡ seats = r.many in (
         w,
         gives,
@@ -32,13 +33,15 @@ module _ {T B : Type 0} (journal : T → List Entry) (base : T → B) (b : B) (s
         record {
           next = r.next;
           serving = r.serving + 1;
+          asleep = r.asleep;
           present = r.present;
           owner = r.owner;
           holder = r.holder;
           inside = None;
-          words = ap (λ (ws : List ℕ). set ws 1 ((get_or ws 1 0 + 1) % 18446744073709551616)) r.words ∙ ap (λ (x : ℕ). r.next % 18446744073709551616 ∷ x ∷ length r.present % 18446744073709551616 ∷ []) (wraps r.serving 1);
+          words = ap (λ (ws : List ℕ). set ws 1 ((get_or ws 1 0 + 1) % 18446744073709551616)) r.words ∙ ap (λ (x : ℕ). r.next % 18446744073709551616 ∷ x ∷ length r.present % 18446744073709551616 ∷ r.asleep % 18446744073709551616 ∷ []) (wraps r.serving 1);
           few = r.few;
           out = omega arith;
+          counted = omega (arith, slept, r.counted);
           many = omega arith;
           each = set_each (λ j d. Fits b seats r.owner r.holder None (r.serving + 1) r.next r.present j d) s.views id w
               record {

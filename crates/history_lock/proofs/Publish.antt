@@ -7,7 +7,7 @@ use Rattle.vm_journal.specs.declared.entry.Entry.{Entry}
 use Rattle.history_lock.specs.declared.view.View.{View}
 use Rattle.history_lock.specs.declared.stage.Stage.TheVariants.{Holding, Published}
 use Rattle.history_lock.specs.Known.{Adds}
-use Rattle.history_lock.specs.Views.{tickets}
+use Rattle.history_lock.specs.Views.{tickets, sleeps}
 use Rattle.history_lock.specs.Rule.{IsTicketOf, total, HasSlot, Fits}
 use Rattle.history_lock.specs.Plays.{published}
 use Rattle.history_lock.proofs.Prefixes.{prefix_self, prefix_trans}
@@ -30,6 +30,7 @@ module _ {T B : Type 0} (journal : T → List Entry) (base : T → B) (b : B) (s
       let f : View B → ℕ = λ x. tickets x.stage in let g : View B → ℕ = λ x. length x.numbers in
       let more : total f (set s.views id w) + 1 ≡ total f s.views + 1 = total-set f s.views id v w at in
       let as_many : total g (set s.views id w) + length u.numbers ≡ total g s.views + length u.numbers = total-set g s.views id v w at in
+      let slept : total (λ (x : View B). sleeps x.stage) (set s.views id w) + 0 ≡ total (λ (x : View B). sleeps x.stage) s.views + 0 = total-set (λ (x : View B). sleeps x.stage) s.views id v w at in
       let out : r.next ≡ r.serving + total f s.views = r.out in let many : total g s.views ≡ seats = r.many in (
         w,
         keeps,
@@ -37,14 +38,16 @@ module _ {T B : Type 0} (journal : T → List Entry) (base : T → B) (b : B) (s
         record {
           next = r.next;
           serving = r.serving;
+          asleep = r.asleep;
           present = now;
           owner = r.owner;
           holder = r.holder;
           inside = r.inside;
           words = ap (λ (ws : List ℕ). set ws 2 ((get_or ws 2 0 + added) % 18446744073709551616)) r.words
-              ∙ ap (λ (x : ℕ). r.next % 18446744073709551616 ∷ r.serving % 18446744073709551616 ∷ x ∷ []) (wraps (length r.present) added ∙ ap (λ (x : ℕ). x % 18446744073709551616) count);
+              ∙ ap (λ (x : ℕ). r.next % 18446744073709551616 ∷ r.serving % 18446744073709551616 ∷ x ∷ r.asleep % 18446744073709551616 ∷ []) (wraps (length r.present) added ∙ ap (λ (x : ℕ). x % 18446744073709551616) count);
           few = r.few;
           out = omega arith;
+          counted = omega (arith, slept, r.counted);
           many = omega arith;
           each = set_each (λ j d. Fits b seats r.owner r.holder r.inside r.serving r.next now j d) s.views id w
               record {

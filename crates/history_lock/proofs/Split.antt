@@ -8,7 +8,7 @@ use Rattle.atomic_table.specs.Table.{Splits}
 use Rattle.atomic_table.proofs.Lists.{set_here, set_else, at_longer, at_last}
 use Rattle.vm_journal.specs.declared.entry.Entry.{Entry}
 use Rattle.history_lock.specs.declared.view.View.{View}
-use Rattle.history_lock.specs.Views.{tickets, unseen, kept, given}
+use Rattle.history_lock.specs.Views.{tickets, sleeps, unseen, kept, given}
 use Rattle.history_lock.specs.Rule.{IsTicketOf, total, Fits}
 use Rattle.history_lock.proofs.Sums.{total-set, total-append, set_each, at_end, at_below, at_one, sole, has_first, has_later, has_cases, decide_contains, moved, moved_there, moved_else}
 use Rattle.history_lock.proofs.Facts.{Rule, stays, slot_moves, not_inside}
@@ -27,6 +27,9 @@ module _ {T B : Type 0} (journal : T → List Entry) (base : T → B) (b : B) (s
       let more' : total f (vs ++ z ∷ []) ≡ total f vs + (0 + 0) = total-append f vs (z ∷ []) in
       let as_many : total g vs + length (k ∷ x ∷ ks) ≡ total g s.views + 1 = total-set g s.views id v w at in
       let as_many' : total g (vs ++ z ∷ []) ≡ total g vs + (length (x ∷ ks) + 0) = total-append g vs (z ∷ []) in
+      let h : View B → ℕ = λ y. sleeps y.stage in
+      let slept : total h vs + 0 ≡ total h s.views + 0 = total-set h s.views id v w at in
+      let slept' : total h (vs ++ z ∷ []) ≡ total h vs + (0 + 0) = total-append h vs (z ∷ []) in
       let out : r.next ≡ r.serving + total f s.views = r.out in let many : total g s.views ≡ seats = r.many in
       let first : View B → (j : ℕ) → Type 0 = λ d j. Fits b seats owner r.holder r.inside r.serving r.next r.present j d in
       let low : first w id = record {
@@ -61,6 +64,7 @@ module _ {T B : Type 0} (journal : T → List Entry) (base : T → B) (b : B) (s
       record {
         next = r.next;
         serving = r.serving;
+        asleep = r.asleep;
         present = r.present;
         owner = owner;
         holder = r.holder;
@@ -68,6 +72,7 @@ module _ {T B : Type 0} (journal : T → List Entry) (base : T → B) (b : B) (s
         words = r.words;
         few = r.few;
         out = omega arith;
+        counted = omega (arith, slept, slept', r.counted);
         many = omega arith;
         each = λ j d e. ⊎_elim (set_each (λ i y. first y i) s.views id w low rest j d) (λ (t : (j ≡ length vs) × (z ≡ d)). subst (λ (p : ℕ × View B). first p.1 p.0) (λ h. (sym (t.0 ∙ long) h, t.1 h)) high) (at_end vs z d j e);
         owned = λ i l. let old = r.owned i l in elim (decide_contains (x ∷ ks) i) [

@@ -9,7 +9,7 @@ use Rattle.atomic_table.proofs.Lists.{set_else, set_here}
 use Rattle.vm_journal.specs.declared.entry.Entry.{Entry}
 use Rattle.history_lock.specs.declared.view.View.{View}
 use Rattle.history_lock.specs.declared.stage.Stage.TheVariants.{Idle, Waiting}
-use Rattle.history_lock.specs.Views.{tickets}
+use Rattle.history_lock.specs.Views.{tickets, sleeps}
 use Rattle.history_lock.specs.Rule.{IsTicketOf, total, Fits}
 use Rattle.history_lock.specs.Plays.{took}
 use Rattle.history_lock.proofs.Sums.{total-set, set_each, at_below}
@@ -24,6 +24,7 @@ module _ {T B : Type 0} (journal : T → List Entry) (base : T → B) (b : B) (s
       let all : r.next ≤ r.serving + seats = bound journal base b seats s r in
       let more : total f (set s.views id w) + 0 ≡ total f s.views + 1 = total-set f s.views id v w at in
       let same : total g (set s.views id w) + length u.numbers ≡ total g s.views + length u.numbers = total-set g s.views id v w at in
+      let slept : total (λ (x : View B). sleeps x.stage) (set s.views id w) + 0 ≡ total (λ (x : View B). sleeps x.stage) s.views + 0 = total-set (λ (x : View B). sleeps x.stage) s.views id v w at in
       let out : r.next ≡ r.serving + total f s.views = r.out in let many : total g s.views ≡ seats = r.many in
       let fits = r.each id v at in
       let old : (t : ℕ) → t < r.next → holder t ≡ r.holder t = λ t l. ap (λ x. cond x id (r.holder t)) (ne_eqb t r.next (λ e. omega arith)) in (
@@ -33,13 +34,15 @@ module _ {T B : Type 0} (journal : T → List Entry) (base : T → B) (b : B) (s
         record {
           next = r.next + 1;
           serving = r.serving;
+          asleep = r.asleep;
           present = r.present;
           owner = r.owner;
           holder = holder;
           inside = r.inside;
-          words = ap (λ (ws : List ℕ). set ws 0 ((get_or ws 0 0 + 1) % 18446744073709551616)) r.words ∙ ap (λ (x : ℕ). x ∷ r.serving % 18446744073709551616 ∷ length r.present % 18446744073709551616 ∷ []) (wraps r.next 1);
+          words = ap (λ (ws : List ℕ). set ws 0 ((get_or ws 0 0 + 1) % 18446744073709551616)) r.words ∙ ap (λ (x : ℕ). x ∷ r.serving % 18446744073709551616 ∷ length r.present % 18446744073709551616 ∷ r.asleep % 18446744073709551616 ∷ []) (wraps r.next 1);
           few = r.few;
           out = omega arith;
+          counted = omega (arith, slept, r.counted);
           many = omega arith;
           each = set_each (λ j d. Fits b seats r.owner holder r.inside r.serving (r.next + 1) r.present j d) s.views id w
               record {

@@ -4,7 +4,7 @@ use mathlib.Core.List.{IsPrefix}
 use Rattle.atomic_table.specs.Table.{Me, Step, rest}
 use Rattle.vm_journal.specs.declared.entry.Entry.{Entry}
 use Rattle.history_lock.specs.declared.view.View.{View}
-use Rattle.history_lock.specs.declared.stage.Stage.TheVariants.{Idle, Waiting, Holding, Published}
+use Rattle.history_lock.specs.declared.stage.Stage.TheVariants.{Idle, Sleeping, Waiting, Holding, Published}
 use Rattle.history_lock.specs.Views.{ticket, heard, told}
 use Rattle.history_lock.specs.Rule.{HasParts}
 use Rattle.history_lock.specs.Known.{Known}
@@ -15,6 +15,14 @@ held journal [] = []
 held journal (x ∷ xs) = elim (x.1) [ None ↦ [] | Some value ↦ journal value ]
 
 module _ {T B : Type 0} where
+  -- the pass is counted among those that sleep
+  abbrev pub slept : Step (Option T) → Me (Option T) (View B) → ℕ → Me (Option T) (View B) → Type 0
+  slept st m r n = n ≡ (record m.0 { stage = Sleeping }, m.1)
+
+  -- it is counted there no longer
+  abbrev pub rose : Step (Option T) → Me (Option T) (View B) → ℕ → Me (Option T) (View B) → Type 0
+  rose st m r n = n ≡ (record m.0 { stage = Idle }, m.1)
+
   -- the pass has a ticket, which the word shows
   abbrev pub took : Step (Option T) → Me (Option T) (View B) → ℕ → Me (Option T) (View B) → Type 0
   took st m r n = (t : ℕ) × (t % 18446744073709551616 ≡ r) × (n ≡ (record m.0 { stage = Waiting t }, m.1))

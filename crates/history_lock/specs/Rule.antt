@@ -8,8 +8,8 @@ use Rattle.vm_journal.specs.declared.entry.Entry.{Entry}
 use Rattle.vm_journal.specs.Own.{own_entries}
 use Rattle.history_lock.specs.declared.view.View.{View}
 use Rattle.history_lock.specs.declared.stage.Stage.{Stage}
-use Rattle.history_lock.specs.declared.stage.Stage.TheVariants.{Idle, Joined, Waiting, Holding, Published, Spent}
-use Rattle.history_lock.specs.Views.{tickets, heard, told, IsIn, IsLive}
+use Rattle.history_lock.specs.declared.stage.Stage.TheVariants.{Idle, Sleeping, Joined, Waiting, Holding, Published, Spent}
+use Rattle.history_lock.specs.Views.{tickets, sleeps, heard, told, IsIn, IsLive}
 
 abbrev pub total : {A : Type 0} → (A → ℕ) → List A → ℕ
 total f [] = 0
@@ -18,6 +18,7 @@ total f (x ∷ xs) = f x + total f xs
 -- A view's ticket is one from `serving` on and below `next`, and `holder` names the view of each. The view that is inside has the ticket `serving`.
 abbrev pub HasTicket : (ℕ → ℕ) → StdOption ℕ → ℕ → ℕ → ℕ → Stage → Type 0
 HasTicket holder inside serving next j Idle = Unit {0}
+HasTicket holder inside serving next j Sleeping = Unit {0}
 HasTicket holder inside serving next j (Joined ys ks ms) = Unit {0}
 HasTicket holder inside serving next j (Waiting t) = (serving ≤ t) × (t < next) × (holder t ≡ j)
 HasTicket holder inside serving next j (Holding t) = (t ≡ serving) × (t < next) × (holder t ≡ j) × (inside ≡ Some j)
@@ -27,6 +28,7 @@ HasTicket holder inside serving next j Spent = Unit {0}
 -- The pass has this ticket.
 abbrev pub IsTicketOf : ℕ → Stage → Type 0
 IsTicketOf t Idle = ⊥
+IsTicketOf t Sleeping = ⊥
 IsTicketOf t (Joined ys ks ms) = ⊥
 IsTicketOf t (Waiting own) = own ≡ t
 IsTicketOf t (Holding own) = own ≡ t
@@ -36,6 +38,7 @@ IsTicketOf t Spent = ⊥
 -- Of a pass that has just taken in another one: what each of the two had seen has all entries of the numbers that it had.
 abbrev pub HasParts : List ℕ → List Entry → List Entry → Stage → Type 0
 HasParts numbers seen present Idle = Unit {0}
+HasParts numbers seen present Sleeping = Unit {0}
 HasParts numbers seen present (Joined ys ks ms) =
     ((k : ℕ) → Contains numbers k → Contains ks k → own_entries k present ≡ own_entries k seen)
     × ((k : ℕ) → Contains numbers k → Contains ms k → own_entries k present ≡ own_entries k ys)
@@ -61,17 +64,20 @@ module _ {T B : Type 0} (journal : T → List Entry) (base : T → B) where
   HasSlot None b present homes views = (value : T) × (homes ≡ some (Some value) ∷ []) × (base value ≡ b) × (journal value ≡ present)
   HasSlot (Some i) b present homes views = (v : View B) × (get_elem? views i ≡ some v) × IsIn v.stage × (v.seen ≡ present) × (homes ≡ none ∷ [])
 
-  -- Word 0 is the next ticket, word 1 the ticket that is served, and word 2 the length of the present journal, each modulo 2^64.
+  -- Word 0 is the next ticket, word 1 the ticket that is served, word 2 the length of the present journal, and word 3 the
+  -- number of passes that are counted among those that sleep, each modulo 2^64.
   pub record Serves (b : B) (seats : ℕ) (s : State (StdOption T) (View B)) : Type 0 where
     pub next : ℕ
     pub serving : ℕ
+    pub asleep : ℕ
     pub present : List Entry
     pub owner : ℕ → ℕ
     pub holder : ℕ → ℕ
     pub inside : StdOption ℕ
-    pub words : s.words ≡ next % 18446744073709551616 ∷ serving % 18446744073709551616 ∷ length present % 18446744073709551616 ∷ []
+    pub words : s.words ≡ next % 18446744073709551616 ∷ serving % 18446744073709551616 ∷ length present % 18446744073709551616 ∷ asleep % 18446744073709551616 ∷ []
     pub few : seats < 4294967296
     pub out : next ≡ serving + total (λ v. tickets v.stage) s.views
+    pub counted : total (λ v. sleeps v.stage) s.views ≡ asleep
     pub many : total (λ v. length v.numbers) s.views ≡ seats
     pub each : (j : ℕ) (v : View B) → get_elem? s.views j ≡ some v → Fits b seats owner holder inside serving next present j v
     pub owned : (k : ℕ) → k < seats → (v : View B) × (get_elem? s.views (owner k) ≡ some v) × Contains v.numbers k

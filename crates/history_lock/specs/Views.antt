@@ -4,7 +4,7 @@ use Rattle.std.specs.List.{range_with_len}
 use Rattle.vm_journal.specs.declared.entry.Entry.{Entry}
 use Rattle.history_lock.specs.declared.view.View.{View}
 use Rattle.history_lock.specs.declared.stage.Stage.{Stage}
-use Rattle.history_lock.specs.declared.stage.Stage.TheVariants.{Idle, Joined, Waiting, Holding, Published, Spent}
+use Rattle.history_lock.specs.declared.stage.Stage.TheVariants.{Idle, Sleeping, Joined, Waiting, Holding, Published, Spent}
 
 -- the first of two journals, or the second if that is longer
 abbrev pub longer : List Entry → List Entry → List Entry
@@ -12,6 +12,7 @@ longer xs ys = if nat_lt (length xs) (length ys) then ys else xs
 
 abbrev pub ticket : Stage → ℕ
 ticket Idle = 0
+ticket Sleeping = 0
 ticket (Joined ys ks ms) = 0
 ticket (Waiting t) = t
 ticket (Holding t) = t
@@ -21,15 +22,27 @@ ticket Spent = 0
 -- how many tickets a pass has
 abbrev pub tickets : Stage → ℕ
 tickets Idle = 0
+tickets Sleeping = 0
 tickets (Joined ys ks ms) = 0
 tickets (Waiting t) = 1
 tickets (Holding t) = 1
 tickets (Published t) = 1
 tickets Spent = 0
 
+-- how often a pass is counted among those that sleep
+abbrev pub sleeps : Stage → ℕ
+sleeps Idle = 0
+sleeps Sleeping = 1
+sleeps (Joined ys ks ms) = 0
+sleeps (Waiting t) = 0
+sleeps (Holding t) = 0
+sleeps (Published t) = 0
+sleeps Spent = 0
+
 -- the journal that the pass which was taken in has seen
 abbrev pub heard : Stage → List Entry
 heard Idle = []
+heard Sleeping = []
 heard (Joined ys ks ms) = ys
 heard (Waiting t) = []
 heard (Holding t) = []
@@ -39,6 +52,7 @@ heard Spent = []
 -- the longer of the journals that a pass has seen itself and by the pass which it took in
 abbrev pub told : Stage → List Entry → List Entry
 told Idle xs = xs
+told Sleeping xs = xs
 told (Joined ys ks ms) xs = longer xs ys
 told (Waiting t) xs = xs
 told (Holding t) xs = xs
@@ -48,6 +62,7 @@ told Spent xs = xs
 -- the value is away with the pass
 abbrev pub IsIn : Stage → Type 0
 IsIn Idle = ⊥
+IsIn Sleeping = ⊥
 IsIn (Joined ys ks ms) = ⊥
 IsIn (Waiting t) = ⊥
 IsIn (Holding t) = Unit {0}
@@ -56,6 +71,7 @@ IsIn Spent = ⊥
 
 abbrev pub IsLive : Stage → Type 0
 IsLive Idle = Unit {0}
+IsLive Sleeping = Unit {0}
 IsLive (Joined ys ks ms) = Unit {0}
 IsLive (Waiting t) = Unit {0}
 IsLive (Holding t) = Unit {0}

@@ -22,8 +22,8 @@ use vm_types::NoMemory;
 /// of whether or when a pass gets its turn, or in which order.
 #[derive(Drop)]
 pub struct HistoryLock<T: Kept + Drop> {
-    table: Table<Option<T>, View<T::Base>, Opening<T>, Turns<T>, Global>,
-    ghost sized: { (table.shared.table_id.words ≡ 3) × (table.shared.table_id.slots ≡ 1) },
+    table: Table<Option<Box<T>>, View<T::Base>, Opening<T>, Turns<T>, Global>,
+    ghost sized: { (table.shared.table_id.words ≡ 4) × (table.shared.table_id.slots ≡ 1) },
 }
 
 impl<T: Kept + Drop> HistoryLock<T> {
@@ -49,8 +49,9 @@ impl<T: Kept + Drop> HistoryLock<T> {
             value: Snapshot::of(&value),
             passes: n,
         };
-        slots.push_reserved(Some(value));
-        match Table::new(alloc, &[0, 0, 0], slots, &opening) {
+        let held = Box::new(alloc, value)?;
+        slots.push_reserved(Some(held));
+        match Table::new(alloc, &[0, 0, 0, 0], slots, &opening) {
             Ok((table, seat)) => {
                 deal(&table.shared, seat, n, &mut passes);
                 Ok((HistoryLock { table }, passes))
@@ -72,7 +73,7 @@ impl<T: Kept + Drop> HistoryLock<T> {
         ensures same { IsSameLock pass.old pass.new }
     {
         let shared = &self.table.shared;
-        await_free(rt, shared);
+        await_free(rt, shared, &mut pass.seat);
         let ticket = shared.fetch_add::<Take>(&mut pass.seat, 0, 1);
         let value = await_turn(rt, shared, &mut pass.seat, ticket);
         let found = value.entries().len();
@@ -98,7 +99,10 @@ impl<T: Kept + Drop> HistoryLock<T> {
         drop(shared.exchange(&mut pass.seat, 0, Some(value)));
         shared.fetch_add::<Publish<T>>(&mut pass.seat, 2, added as u64);
         shared.fetch_add::<PassOn>(&mut pass.seat, 1, 1);
-        shared.wake_one(1);
+        // Not before the turn is passed on: `await_free` says why.
+        if shared.peek(3) > 0 {
+            shared.wake_one(1);
+        }
     }
 
     /// Makes two passes one. Doesn't wait, and doesn't allocate.
@@ -137,6 +141,6 @@ impl<T: Kept + Drop> HistoryLock<T> {
         let mut closed = table.close_with(seat);
         let value = closed.take(0);
         closed.free();
-        value.unwrap()
+        Box::into_inner(value.unwrap())
     }
 }

@@ -6,5 +6,5 @@ use vm_journal::Kept;
 /// numbers with it.
 #[derive(Drop)]
 pub struct Pass<T: Kept> {
-    pub(crate) seat: atomic_table::Seat<Option<T>, View<T::Base>>,
+    pub(crate) seat: atomic_table::Seat<Option<Box<T>>, View<T::Base>>,
 }

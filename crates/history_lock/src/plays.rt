@@ -1,5 +1,6 @@
 //! What each step on the lock's words tells, and how views are cut and joined.
-ghost use Rattle.history_lock.specs.Plays.{took, looked, published, passed, settled};
+ghost use Rattle.history_lock.specs.Plays.{slept, rose, took, looked, published, passed, settled};
+ghost use Rattle.history_lock.specs.Values.{of_box};
 ghost use Rattle.history_lock.specs.Views.{kept, given, merged, gone};
 
 use crate::view::View;
@@ -7,10 +8,24 @@ use atomic_table::{Join, Play, Split};
 use std::marker::PhantomData;
 use vm_journal::Kept;
 
+/// Counts the pass among those that sleep.
+pub(crate) struct Sleep;
+
+impl<T, B> Play<Option<Box<T>>, View<B>> for Sleep {
+    ghost then = { slept };
+}
+
+/// Counts it there no longer.
+pub(crate) struct Rise;
+
+impl<T, B> Play<Option<Box<T>>, View<B>> for Rise {
+    ghost then = { rose };
+}
+
 /// Takes a ticket.
 pub(crate) struct Take;
 
-impl<T, B> Play<Option<T>, View<B>> for Take {
+impl<T, B> Play<Option<Box<T>>, View<B>> for Take {
     ghost then = { took };
 }
 
@@ -19,8 +34,8 @@ pub(crate) struct Look<T> {
     of: PhantomData<T>,
 }
 
-impl<T: Kept> Play<Option<T>, View<T::Base>> for Look<T> {
-    ghost then = { looked T.journal T.base };
+impl<T: Kept> Play<Option<Box<T>>, View<T::Base>> for Look<T> {
+    ghost then = { looked (of_box T.journal) (of_box T.base) };
 }
 
 /// Publishes the journal's new length.
@@ -28,21 +43,21 @@ pub(crate) struct Publish<T> {
     of: PhantomData<T>,
 }
 
-impl<T: Kept> Play<Option<T>, View<T::Base>> for Publish<T> {
-    ghost then = { published T.journal };
+impl<T: Kept> Play<Option<Box<T>>, View<T::Base>> for Publish<T> {
+    ghost then = { published (of_box T.journal) };
 }
 
 /// Passes the turn on, and gives the value back.
 pub(crate) struct PassOn;
 
-impl<T, B> Play<Option<T>, View<B>> for PassOn {
+impl<T, B> Play<Option<Box<T>>, View<B>> for PassOn {
     ghost then = { passed };
 }
 
 /// Finds which of two journals is the longer, after a join.
 pub(crate) struct Settle;
 
-impl<T, B> Play<Option<T>, View<B>> for Settle {
+impl<T, B> Play<Option<Box<T>>, View<B>> for Settle {
     ghost then = { settled };
 }
 

@@ -5,6 +5,8 @@ use vm_journal::Entry;
 pub enum Stage {
     /// It has no ticket.
     Idle,
+    /// It has no ticket, and is counted among those that sleep until a turn ends.
+    Sleeping,
     /// It took in another pass, which had seen this journal. The first numbers are those that it had
     /// itself, and the others those that the other pass brought.
     Joined(LinkedList<Entry>, LinkedList<u32>, LinkedList<u32>),

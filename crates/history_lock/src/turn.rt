@@ -5,7 +5,7 @@ ghost use Rattle.history_lock.specs.Values.{value_of};
 
 /// A turn at a lock: it holds the lock's value, and ends in `leave`. It can't be dropped.
 pub struct Turn<T> {
-    pub(crate) value: T,
+    pub(crate) value: Box<T>,
     /// How many entries the journal had at `enter`.
     pub(crate) found: usize,
 }
@@ -15,7 +15,7 @@ impl<T> Turn<T> {
     pub fn value(&self) -> &T
         ensures { result.now ≡ value_of self.now }
     {
-        &self.value
+        self.value.as_ref()
     }
 
     /// The value, to be changed. Doesn't allocate.
@@ -23,6 +23,6 @@ impl<T> Turn<T> {
         ensures* writes_back { sem 𝓛 (LendsValue T.row self.entry result) }
         ensures value { result.now ≡ value_of self.old }
     {
-        &mut self.value
+        self.value.as_mut()
     }
 }

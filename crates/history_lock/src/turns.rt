@@ -9,11 +9,12 @@ pub struct Turns<T> {
     of: PhantomData<T>,
 }
 
-impl<T: Kept> TableRule<Option<T>, View<T::Base>, Opening<T>> for Turns<T> {
+impl<T: Kept> TableRule<Option<Box<T>>, View<T::Base>, Opening<T>> for Turns<T> {
     ghost use Rattle.history_lock.specs.Rule.{Serves};
+    ghost use Rattle.history_lock.specs.Values.{of_box};
     ghost use Rattle.history_lock.specs.Views.{starting};
 
-    ghost holds = { λ key. Serves T.journal T.base (T.base key.value.value) key.passes };
+    ghost holds = { λ key. Serves (of_box T.journal) (of_box T.base) (T.base key.value.value) key.passes };
 
     ghost first = { λ key. starting (T.base key.value.value) key.passes };
 }

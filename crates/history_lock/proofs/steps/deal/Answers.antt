@@ -3,12 +3,13 @@ use Rattle.std.proofs.Common.{rules, ◌≡◌, ℕ, ◌+◌, ◌-◌, [], ◌�
 use Rattle.std.specs.List.{range_with_len}
 use Rattle.history_lock.specs.declared.pass.Pass.{Pass}
 use Rattle.history_lock.specs.Views.{unseen}
+use Rattle.history_lock.specs.Values.{of_box}
 use Rattle.history_lock.proofs.Dealt.{cuts, first_one, others}
 use Rattle.history_lock.proofs.Places.{pushed}
 use Rattle.history_lock.proofs.steps.deal.Goals as goal
 
 pub split_seat-others-requires : goal.split_seat-others-requires
-split_seat-others-requires g c = let i : ℕ = length c.loop-i.passes.items in let count = c.loop-i.invariant.count in (search rules, search rules, cuts g.T.Kept.journal g.T.Kept.base _ _ _ i _ _ _ (ap (λ m. m.0) c.loop-i.invariant.rest) (omega arith))
+split_seat-others-requires g c = let i : ℕ = length c.loop-i.passes.items in let count = c.loop-i.invariant.count in (search rules, search rules, cuts (of_box g.T.Kept.journal) (of_box g.T.Kept.base) _ _ _ i _ _ _ (ap (λ m. m.0) c.loop-i.invariant.rest) (omega arith))
 
 pub loop-i-preserved : goal.loop-i-preserved
 loop-i-preserved g c = let i : ℕ = length c.loop-i.passes.items in let count = c.loop-i.invariant.count in let cut = c.split_seat-others.ensures in

@@ -1,0 +1,6 @@
+-- The pass is as before at each look.
+use Rattle.std.proofs.Common.{◌≡◌}
+use Rattle.history_lock.proofs.steps.await_free.Given as goal
+
+abbrev pub invariant-loop : goal.invariant-loop
+invariant-loop g l = (l.seat.table_id ≡ l.initial.seat.table_id) × (l.seat.me ≡ l.initial.seat.me)
