@@ -3,9 +3,8 @@
 import dataclasses
 import re
 
-from sources import PAGE_BYTES, SERVICES, RecordError, check_address
+from trace_limits import LETTERS, PAGE_BYTES, RANGE_PAGES, SERVICES, RecordError, check_address
 
-LETTERS = "ABCDEFGHIJKLMNOP"
 SECTION_NAME = re.compile(r"[A-Z][A-Z0-9_]{1,14}")
 
 
@@ -31,8 +30,9 @@ class Common:
 def pages_at(rest, word, form):
     """The first page and the number of pages of ADDRESS:PAGES, which ends the word."""
     address, _, pages = rest.partition(":")
-    if not pages.isdecimal() or not 1 <= int(pages) <= 4096:
-        raise ValueError(f"\"{word}\" isn't {form}; a range has 1 to 4096 pages")
+    if not re.fullmatch(r"[0-9]{1,9}", pages) or not 1 <= int(pages) <= RANGE_PAGES \
+            or not re.fullmatch(r"(0[xX])?[0-9A-Fa-f]{1,16}", address):
+        raise ValueError(f"\"{word}\" isn't {form}; a range has 1 to {RANGE_PAGES} pages")
     at = int(address, 16)
     check_address(at, int(pages) * PAGE_BYTES, word)
     if at % PAGE_BYTES:
@@ -45,7 +45,7 @@ def range_of(word):
     form = "PROCESS:ADDRESS:PAGES, such as A:00000200:4"
     letter, _, rest = word.partition(":")
     if len(letter) != 1 or letter not in LETTERS:
-        raise ValueError(f"\"{word}\" isn't {form}; a range has 1 to 4096 pages")
+        raise ValueError(f"\"{word}\" isn't {form}; a range has 1 to {RANGE_PAGES} pages")
     return Range(LETTERS.index(letter), *pages_at(rest, word, form))
 
 
@@ -61,11 +61,12 @@ def common_of(word):
     return Common(name, [LETTERS.index(letter) for letter in letters], *pages_at(rest, word, form))
 
 
-def pages_of(request):
-    """The pages of a request: those of a service's range, or the one of a reference."""
-    _, op, address, size, _ = request
-    first = address // PAGE_BYTES
-    return range(first, first + size) if op in SERVICES else range(first, first + 1)
+def pages_of(requests):
+    """The process, the op and the pages of each request: those of a service's range, or the one of a
+    reference."""
+    pages = [page for _, page in requests.named]
+    for process, op, place, _, size, _ in requests:
+        yield process, op, range(pages[place], pages[place] + (size if op in SERVICES else 1))
 
 
 class Kept:
@@ -83,12 +84,11 @@ class Kept:
         self.mapped = [{page for one in ranges for page in range(one.first, one.first + one.pages)}
                        for ranges in given]
         self.created = [set() for _ in found.owners]
-        for request in found.requests:
-            process, op = request[:2]
+        for process, op, pages in pages_of(found.requests):
             if op == "CRETVA":
-                self.created[process].update(set(pages_of(request)) - self.mapped[process])
+                self.created[process].update(set(pages) - self.mapped[process])
             elif op not in ("PURGWS", "ADJWSL") and not given[process]:
-                self.mapped[process].update(set(pages_of(request)) - self.created[process])
+                self.mapped[process].update(set(pages) - self.created[process])
         self.commons = options.common
         self.leave_commons()
 
@@ -109,8 +109,9 @@ class Kept:
             self.mapped[process] -= pages
 
     @staticmethod
-    def address(_, address):
-        return address
+    def page_addresses(named):
+        """Where each of these pages stands in the trace."""
+        return [page * PAGE_BYTES for _, page in named]
 
     def runs(self, process):
         """The mapped pages as runs of neighbours: (first page, pages)."""

@@ -1,126 +1,180 @@
 """Chooses the references, splits them, and gives each page of a recording its place."""
 
+import array
 import bisect
+import functools
 import itertools
 
-from keeping import LETTERS, Kept
-from sources import P1_END, PAGE_BYTES, SERVICES, RecordError
+from keeping import Kept
+from request_arrays import Requests
+from trace_limits import (LETTERS, P0_PAGES, P1_END, P1_PAGES, PAGE_BYTES, PINS, PROCESSES, SECTION_PAGES, SERVICES,
+                          RecordError, most_requests)
 
-P0_PAGES = 4096
-P1_PAGES = 1024
-REQUESTS = 100_000
-PROCESSES = 16
-SECTION_PAGES = 16_384
+# more pages than all the places that a process may have: a recording that uses more is cut in any case
+PLACES = P0_PAGES + P1_PAGES + SECTION_PAGES
 
 
-def split(address, size, widths):
-    """The aligned pieces of a reference. An aligned piece never lies in two pages."""
-    pieces = []
-    while size:
-        width = max(w for w in widths if w <= size and address % w == 0)
-        pieces.append((address, width))
-        address += width
-        size -= width
+@functools.lru_cache(maxsize=None)
+def split(offset, size, widths):
+    """The aligned pieces of a reference, from the offset of its address in a longword: how far from its begin
+    each lies, and its width. An aligned piece never lies in two pages."""
+    pieces, done = [], 0
+    while done < size:
+        width = max(w for w in widths if w <= size - done and (offset + done) % w == 0)
+        pieces.append((done, width))
+        done += width
     return pieces
 
 
 def interleave(recordings, quantum):
-    """Takes `quantum` references of each recording in turn until all have ended."""
-    waiting = [iter(one) for one in recordings]
+    """Takes `quantum` references of each recording in turn until all have ended: (place of the recording, number
+    in it, reference)."""
+    waiting = [(place, iter(one.taken)) for place, one in enumerate(recordings)]
     while waiting:
         left = []
-        for recording in waiting:
+        for place, recording in waiting:
             taken = list(itertools.islice(recording, quantum))
-            yield from taken
+            for number, reference in taken:
+                yield place, number, reference
             if len(taken) == quantum:
-                left.append(recording)
+                left.append((place, recording))
         waiting = left
 
 
-def cut_value(value, address, start, width):
+def cut_value(value, begin, width):
     """The bytes of a value that go to one piece, least significant byte first."""
-    return None if value is None else (value >> (8 * (address - start))) % (1 << (8 * width))
+    return None if value is None else (value >> (8 * begin)) % (1 << (8 * width))
 
 
-class Recording:
-    """The requests before they have places: (process, op, address, width, value)."""
+FOUR = frozenset({4})
 
-    def __init__(self):
-        self.requests = []
-        self.owners = []
+
+class Gathered:
+    """The requests before they have places, and which references they are."""
+
+    def __init__(self, recordings):
+        self.recordings = recordings
+        self.requests = Requests()
+        self.owners = {}
         self.notes = []
-        self.begins = []
-        self.ends = []
-        self.all = 0
+        self.pins = False                   # whether one of them locks pages in memory
+        self.ends = array.array("I")        # the number of requests behind each reference
+        self.sources = array.array("H")     # the place of each reference's recording
+        self.numbers = array.array("Q")     # the number of each reference in its recording
         self.fetched = set()
         self.written = set()
         self.highest = {}
 
     def process_of(self, owner):
-        if owner not in self.owners:
-            if len(self.owners) == PROCESSES:
-                raise RecordError(f"more than {PROCESSES} processes: \"{owner}\" is one too many")
-            self.owners.append(owner)
-        return self.owners.index(owner)
+        process = self.owners.setdefault(owner, len(self.owners))
+        if process == PROCESSES:
+            raise RecordError(f"more than {PROCESSES} processes: \"{owner}\" is one too many")
+        return process
 
-    def add(self, reference, widths):
-        """Adds one reference; false where it doesn't fit any more."""
+    def add(self, source, number, reference, pieces):
+        """Adds one reference, as these pieces of it."""
         owner, op, address, size, value = reference
         process = self.process_of(owner)
         if op in SERVICES:
-            added = [(process, op, address, size, value)]
+            self.requests.add(process, op, address, size, value)
         else:
-            added = self.pieces(process, reference, widths)
-        if len(self.requests) + len(added) > REQUESTS:
-            return False
-        self.requests += added
+            self.add_pieces(process, reference, pieces)
+        self.highest[process] = max(self.highest.get(process, 0), address + pieces[-1][0])
         self.ends.append(len(self.requests))
-        self.highest[process] = max(self.highest.get(process, 0), added[-1][2])
-        return True
+        self.sources.append(source)
+        self.numbers.append(number)
+        return self.requests.used[process] <= PLACES
 
-    def pieces(self, process, reference, widths):
+    def add_pieces(self, process, reference, pieces):
         """The requests that a reference becomes."""
-        _, op, address, size, value = reference
-        added = []
-        for at, width in split(address, size, {4} if op == "A" else widths):
-            part = cut_value(value, at, address, width)
+        _, op, address, _, value = reference
+        for begin, width in pieces:
+            at, part = address + begin, cut_value(value, begin, width)
             for letter in {"M": "RW", "I": "R"}.get(op, op):
-                added.append((process, letter, at, width, part))
-            self.note_page(process, op, at // PAGE_BYTES)
-        return added
+                self.requests.add(process, letter, at, width, part)
+            if op == "I":
+                self.fetched.add((process, at // PAGE_BYTES))
+            elif op != "R":
+                self.written.add((process, at // PAGE_BYTES))
 
     def kept(self):
         """How many references the requests are, the last one in part where it was cut there."""
         return bisect.bisect_left(self.ends, len(self.requests)) + 1
 
-    def share(self):
-        """What of the recording was kept, in words."""
-        return (f"{self.kept()} of the {self.all} references of the recording "
-                f"({100 * self.kept() / self.all:.3g} %), {len(self.requests)} requests")
+    def cut_at(self, source, number, why):
+        """Notes before which reference the requests end."""
+        name = self.recordings[source].name
+        self.notes.append(f"cut before reference {number} of {name}: {why}")
 
-    def note_page(self, process, op, page):
-        if op == "I":
-            self.fetched.add((process, page))
-        elif op != "R":
-            self.written.add((process, page))
+    def cut_requests(self, count, why):
+        """Leaves the first requests alone."""
+        at = bisect.bisect_right(self.ends, count)
+        self.cut_at(self.sources[at], self.numbers[at], why)
+        self.requests.cut(count)
+
+    def all(self):
+        return sum(one.all() for one in self.recordings)
+
+    def is_whole(self):
+        """Whether each reference was kept, and is one request."""
+        return len(self.requests) == self.kept() == self.all()
+
+    def share(self):
+        """What of the recordings was kept, in words."""
+        kept, until = self.kept(), " until it was ended" if any(one.was_ended() for one in self.recordings) else ""
+        percent = f"{100 * kept / self.all():.3g}"
+        percent = "99.9" if percent == "100" and kept < self.all() else percent
+        return (f"{kept} of the {self.all()} references of the recording{'s' * (len(self.recordings) > 1)}{until} "
+                f"({percent} %), {len(self.requests)} requests")
+
+    @functools.cached_property
+    def parts(self):
+        """Which part of each recording was kept, in words, where it wasn't all; once nothing more is cut."""
+        return list(self.told_parts())
+
+    def told_parts(self):
+        spans = {}
+        for source, number in zip(self.sources[:self.kept()], self.numbers):
+            span = spans.setdefault(source, [number, number, 0])
+            span[1] = number
+            span[2] += 1
+        for source, one in enumerate(self.recordings):
+            first, last, count = spans.get(source, (0, 0, 0))
+            if one.begins and one.before and count:
+                yield f"{one.name}: from {one.begins} on, after {one.before} references"
+            if count == one.all():
+                continue
+            span = f"references {first} to {last}" if count == last - first + 1 else \
+                f"{count} references from number {first} to {last}"
+            yield f"{one.name}: {span if count else 'none'} of {one.all()}"
+
+
+def pieces_of(reference, widths):
+    """The aligned pieces of a reference; a service is one whole."""
+    _, op, address, size, _ = reference
+    if op in SERVICES:
+        return [(0, size)]
+    if op == "A" and address % 4:
+        raise RecordError(f"an add at {address:X}, which is no multiple of 4")
+    return split(address % 4, size, FOUR if op == "A" else widths)
 
 
 def gather(recordings, options):
     """All requests of the recordings, up to the number that a trace may have."""
-    found = Recording()
-    for reference in interleave([one.taken for one in recordings], options.quantum):
-        if reference[1] == "A" and reference[2] % 4:
-            raise RecordError(f"an add at {reference[2]:X}, which is no multiple of 4")
-        if not found.add(reference, options.widths):
-            found.notes.append(f"cut after {len(found.ends)} references: a trace has at most "
-                               f"{REQUESTS} requests")
+    found = Gathered(recordings)
+    room = most_requests(options.frames, bool(options.common))
+    for source, number, reference in interleave(recordings, options.quantum):
+        pieces = pieces_of(reference, options.widths)
+        if reference[1] in PINS:
+            found.pins, room = True, most_requests(options.frames, True)
+        if len(found.requests) + len(pieces) * (1 + (reference[1] == "M")) > room:
+            found.cut_at(source, number, f"a trace has at most {room} requests")
+            break
+        if not found.add(source, number, reference, pieces):
             break
     for one in recordings:
         one.finish()
-        found.all += one.all()
-        found.begins += [f"{one.name}: from {one.begins} on, after {one.before} references"
-                         ] if one.begins and one.before else []
-        found.notes += [f"{one.name}: {one.note}"] if one.note else []
+        found.notes += [f"{one.name}: {note}" for note in one.notes]
     if not found.requests:
         raise RecordError("no reference is left to write; the part that was asked for is empty")
     return found
@@ -136,9 +190,7 @@ class Place:
         self.text = {}
 
     def find(self, page, section_page):
-        """Gives the page a place where it has none; false where there is no room."""
-        if page in self.zero or page in self.stack or page in self.text:
-            return True
+        """Gives the page a place; false where there is no room."""
         if section_page is not None:
             self.text[page] = section_page
         elif self.stack_from is not None and page >= self.stack_from:
@@ -213,19 +265,34 @@ class Layout:
     def section_lines(self):
         return [f"SECTION {name} SHARED {len(pages)}" for name, pages in self.sections.items() if pages]
 
+    def map_lines(self):
+        """The maps of all processes: one for zero pages, one for the stack, one for each section."""
+        lines = []
+        for letter, process in zip(LETTERS, range(len(self.places))):
+            place = self.places[process]
+            if place.zero:
+                lines.append(f"MAPZERO {letter} 00000000 {len(place.zero)} UW")
+            if place.stack:
+                first = min(place.stack.values()) * PAGE_BYTES
+                lines.append(f"MAPZERO {letter} {first:08X} {len(place.stack)} UW")
+            if place.text:
+                name, at = self.groups[process], len(place.zero) * PAGE_BYTES
+                lines.append(f"MAPSEC {letter} {at:08X} {len(self.sections[name])} {name} 0 UR")
+        return lines
+
     def charged_pages(self):
         """The pages that may want a block of the page file."""
         return sum(len(place.zero) + len(place.stack) for place in self.places)
 
-    def address(self, process, address):
-        """Where an address of the recording stands in the trace."""
-        page, offset = divmod(address, PAGE_BYTES)
+    def page_address(self, process, page):
+        """Where a page of the recording stands in the trace."""
         place = self.places[process]
         if page in place.text:
-            number = len(place.zero) + place.text[page]
-        else:
-            number = place.stack.get(page, place.zero.get(page))
-        return number * PAGE_BYTES + offset
+            return (len(place.zero) + place.text[page]) * PAGE_BYTES
+        return place.stack.get(page, place.zero.get(page)) * PAGE_BYTES
+
+    def page_addresses(self, named):
+        return [self.page_address(process, page) for process, page in named]
 
 
 def lay_out(found, options):
@@ -233,16 +300,10 @@ def lay_out(found, options):
     recording is cut."""
     if options.keep_addresses:
         return Kept(found, options)
-    seen = set()
     layout = Layout(found, options)
-    for number, (process, _, address, _, _) in enumerate(found.requests):
-        key = (process, address // PAGE_BYTES)
-        if key in seen:
-            continue
-        seen.add(key)
-        fault = layout.put(*key)
+    for (process, page), first_use in zip(found.requests.named, found.requests.first_uses):
+        fault = layout.put(process, page)
         if fault:
-            found.notes.append(f"cut after {number} requests: {fault}")
-            found.requests = found.requests[:number]
+            found.cut_requests(first_use, fault)
             return lay_out(found, options)
     return layout

@@ -3,18 +3,20 @@ of a block of which nothing is taken only the lines are counted, so a long one c
 
 import collections
 import dataclasses
+import zlib
 
-from programs import begin_of_program
-from sources import RecordError
+from programs import begin_of
+from trace_limits import RecordError
 
 BLOCK_BYTES = 1 << 16
+MOST_LINE_BYTES = 1 << 16
 
 
 @dataclasses.dataclass
 class Part:
     """What is taken: from where on, how many are left out and taken, and every which window."""
 
-    start: object = None    # "start", "main", ("fetch", address), ("number", n), or None
+    start: object = None    # "start", ("symbol", name), ("fetch", address), ("number", n), or None
     skip: int = 0
     count: int = None
     last: int = None
@@ -39,7 +41,7 @@ class Block:
 
     def __init__(self, text, first, form):
         self.text, self.first, self.form = text, first, form
-        self.lines = text.count(b"\n") + (not text.endswith(b"\n"))
+        self.units = text.count(b"\n") + (not text.endswith(b"\n"))
 
     def count_of(self, prefixes):
         return sum(self.text.count(b"\n" + one) + self.text.startswith(one) for one in prefixes)
@@ -47,69 +49,125 @@ class Block:
     def size(self, fetches):
         """How many references there are, or None where each line has to be read to know it."""
         data, fetched = self.count_of(self.form.data), self.count_of(self.form.fetches)
-        if data + fetched + self.count_of(self.form.others) != self.lines:
+        if data + fetched + self.count_of(self.form.others) != self.units:
             return None
         return data + fetched if fetches else data
 
+    def lines(self):
+        """The lines, with their numbers."""
+        text = self.text.decode("ascii", "replace").removesuffix("\n")
+        lines = text.split("\n")
+        if "\r" in text:
+            lines = [line.removesuffix("\r") for line in lines]
+        return enumerate(lines, self.first)
+
     def references(self, name):
-        for number, line in enumerate(self.text.decode("ascii", "replace").splitlines(), self.first):
-            found = self.form.parse(line, f"{name}, line {number}")
-            if found:
-                yield found
+        for number, line in self.lines():
+            yield from self.form.parse(line, f"{name}, line {number}")
 
     def numbered(self, fetches):
         """The lines of references, with their numbers; of a block whose size is known."""
         prefixes = self.form.data + (self.form.fetches if fetches else ())
         starts = tuple(one.decode("ascii") for one in prefixes)
-        for number, line in enumerate(self.text.decode("ascii", "replace").splitlines(), self.first):
-            if line.startswith(starts):
-                yield number, line
+        return ((number, line) for number, line in self.lines() if line.startswith(starts))
+
+
+class RecordBlock:
+    """Binary records, the first of them with its number."""
+
+    def __init__(self, data, first, form):
+        self.text, self.first, self.form = data, first, form
+        self.units = len(data) // form.record_bytes
+
+    def size(self, _):
+        """Each record is read, since one may be at fault by what stands before it."""
+        return None
+
+    def references(self, name):
+        step = self.form.record_bytes
+        for number in range(self.units):
+            at = (self.first - 1 + number) * step
+            yield from self.form.parse(self.text[number * step:(number + 1) * step],
+                                       f"{name}, record {self.first + number} (byte {at})")
 
 
 class Recorded:
-    """One recording: its references that are asked for, and how many there were.
+    """One recording: its references that are asked for, each with its number from 1 on, and how many there
+    were.
 
     `before` counts those before the start, `after` those from it on, whether they were taken or not;
-    `begins` says what stands at the start, and `note` what the user should know.
+    `begins` says what stands at the start, and `notes` what the user should know.
     """
 
     def __init__(self, name, form, opened, part, ended=lambda: False):
         self.name, self.form, self.part = name, form, part
         self.file, self.ended = opened, ended
         self.before = self.after = 0
-        self.line = 1
+        self.unit = 1
         self.over = False
-        self.note = ""
+        self.notes = [form.note] if form.note else []
         self.begins = ""
         self.left = part.count
         self.taken = self.take()
 
     def blocks(self):
+        read, make = (self.lines, Block) if self.form.record_bytes is None else (self.records, RecordBlock)
         while True:
-            text = self.file.read(BLOCK_BYTES)
+            text = read()
             if not text:
                 self.over = True
+                self.form.end(self.name)
                 return
-            if not text.endswith(b"\n"):
-                text += self.file.readline()
-            block = Block(text, self.line, self.form)
-            self.line += block.lines
+            block = make(text, self.unit, self.form)
+            self.unit += block.units
             yield block
+
+    def read(self, call, count):
+        """What a read of the file gives."""
+        try:
+            return call(count)
+        except (OSError, EOFError, zlib.error) as fault:
+            raise RecordError(f"{self.name} can't be read: {getattr(fault, 'strerror', None) or fault}") from None
+
+    def lines(self):
+        """Some whole lines, or nothing at the end."""
+        text = self.read(self.file.read, BLOCK_BYTES)
+        if text and not text.endswith(b"\n"):
+            rest = self.read(self.file.readline, MOST_LINE_BYTES)
+            text += rest
+            if not text.endswith(b"\n"):
+                line = self.unit + text.count(b"\n")
+                if len(rest) == MOST_LINE_BYTES:
+                    raise RecordError(f"{self.name}, line {line}: it has more than {MOST_LINE_BYTES} bytes")
+                if not self.form.unended:
+                    raise RecordError(f"{self.name}, line {line}: the last line isn't ended, so the recording is "
+                                      "cut there")
+        return text
+
+    def records(self):
+        """Some whole records, or nothing at the end."""
+        step = self.form.record_bytes
+        data = self.read(self.file.read, max(BLOCK_BYTES // step, 1) * step)
+        if len(data) % step:
+            at = (self.unit - 1) * step + len(data)
+            raise RecordError(f"{self.name}: it has {at} bytes, which is no multiple of the {step} of a record")
+        return data
 
     def wanted(self, block):
         """The references of a block that count: fetches only where they were asked for."""
         return (one for one in block.references(self.name) if self.part.fetches or one[1] != "I")
 
     def found_start(self, blocks):
-        """Finds where the part starts; gives the references of that block from there on."""
+        """Finds where the part starts; gives the first block where it is the start, or else the references
+        from the start on of the block that has it."""
         head = next(blocks, None)
         start = self.part.start
-        if start in (None, "main") and head:
-            place, self.begins, self.note = begin_of_program(head.text)
-            if start and place is None:
-                raise RecordError(f"{self.name}: {self.note or 'it has no main'}; "
-                                  "--from start takes it from its beginning")
-            start = "start" if place is None else ("fetch", place)
+        if head and start != "start" and (start is None or start[0] != "number"):
+            try:
+                start, self.begins, note = begin_of(start, head.text, self.form.tells_loading)
+            except RecordError as fault:
+                raise RecordError(f"{self.name}: {fault}") from None
+            self.notes += [note] if note else []
         if start in (None, "start"):
             return head, None
         kind, number = start
@@ -138,9 +196,9 @@ class Recorded:
     def split(self, block, begins):
         found = None
         for one in block.references(self.name):
+            counts = self.part.fetches or one[1] != "I"
             if found is None and begins(one):
                 found = []
-            counts = self.part.fetches or one[1] != "I"
             if found is None:
                 self.before += counts
             elif counts:
@@ -163,7 +221,7 @@ class Recorded:
             yield block.size(self.part.fetches), block
 
     def listed(self, piece):
-        return self.wanted(piece) if isinstance(piece, Block) else piece
+        return self.wanted(piece) if isinstance(piece, (Block, RecordBlock)) else piece
 
     def take_first(self, pieces):
         for size, piece in pieces:
@@ -174,7 +232,7 @@ class Recorded:
             for one in self.chosen(size, piece):
                 if self.left != 0:
                     self.left = None if self.left is None else self.left - 1
-                    yield one
+                    yield self.before + self.after, one
             if self.left == 0 and self.ended():
                 return
 
@@ -189,7 +247,7 @@ class Recorded:
         for number, line in piece.numbered(self.part.fetches):
             self.after += 1
             if self.part.takes(self.after - 1):
-                yield piece.form.parse(line, f"{self.name}, line {number}")
+                yield from piece.form.parse(line, f"{self.name}, line {number}")
 
     def take_last(self, pieces):
         """Keeps no more pieces than have the last references."""
@@ -203,13 +261,13 @@ class Recorded:
             held += size
             while held - kept[0][0] >= self.part.last:
                 held -= kept.popleft()[0]
-        out = max(held - self.part.last, self.part.skip - (self.after - held), 0)
+        number = self.before + self.after - held
+        first = max(self.before + self.after - self.part.last, self.before + self.part.skip)
         for _, piece in kept:
             for one in self.listed(piece):
-                if out:
-                    out -= 1
-                else:
-                    yield one
+                number += 1
+                if number > first:
+                    yield number, one
 
     def finish(self):
         """Counts what wasn't read, unless it is a program that is ended now."""
@@ -217,10 +275,13 @@ class Recorded:
         if not self.ended():
             for _ in self.taken:
                 pass
-        elif not self.over:
-            self.note += "; " * bool(self.note) + ("it was ended when enough was recorded, and --whole "
-                                                   "counts all of its references")
+        elif self.was_ended():
+            self.notes.append("it was ended when enough was recorded; --whole counts all of its references")
         self.file.close()
+
+    def was_ended(self):
+        """Whether it is of a program that was ended before its own end."""
+        return self.ended() and not self.over
 
     def all(self):
         return self.before + self.after

@@ -2,9 +2,9 @@
 
 import textwrap
 
-from keeping import LETTERS, Kept
-from placing import PAGE_BYTES
-from sources import PINS, SERVICES, RecordError
+from keeping import Kept
+from trace_limits import (GREATEST_EXTENT, LEAST_FRAMES, LETTERS, MOST_FRAMES, PAGE_BYTES, PAGEFILE, SERVICES, VERSIONS,
+                          CODES, RecordError, version_for)
 
 PARAMETERS = {
     "PFC": (1, 8), "HILIMIT": (0, 16384), "LOLIMIT": (0, 16384), "WAITLIMIT": (1, 16384),
@@ -12,9 +12,6 @@ PARAMETERS = {
     "PFRATH": (0, 100000), "PFRATL": (0, 100000), "WSINC": (0, 1024), "WSDEC": (0, 1024),
     "AWSMIN": (2, 1024), "BORROWLIM": (0, 4096)}
 DEFAULTS = {"HILIMIT": 128, "LOLIMIT": 32, "WAITLIMIT": 256, "FREELIM": 0, "FREEGOAL": 0}
-FRAMES = {1: (8, 4096), 2: (8, 16384)}
-PAGEFILE = (1, 16384)
-GREATEST_EXTENT = 1024
 COMMENT_BYTES = 200
 
 
@@ -42,7 +39,7 @@ def process_bounds(options, processes, version):
         if not lock + 2 <= limit <= quota <= extent <= GREATEST_EXTENT:
             raise RecordError(f"process {letter}: locks + 2 <= limit <= quota <= extent <= "
                               f"{GREATEST_EXTENT} doesn't hold of {lock}, {limit}, {quota}, {extent}")
-    pins = sum(locks) if version == 2 else 0
+    pins = sum(locks) if VERSIONS[version].pins else 0
     if max(extents) + pins + 2 > options.frames:
         also = f"the locks of all processes, {pins}, " if pins else ""
         raise RecordError(f"the greatest extent, {max(extents)}, {also}and 2 are more than the "
@@ -50,12 +47,16 @@ def process_bounds(options, processes, version):
     return bounds
 
 
-def check_parameters(parameters):
-    for name, number in parameters.items():
+def check_machine(options):
+    """The machine's numbers, which don't depend on what is recorded."""
+    bounded("--frames", options.frames, (LEAST_FRAMES, MOST_FRAMES))
+    if options.pagefile is not None:
+        bounded("--pagefile", options.pagefile, PAGEFILE)
+    for name, number in options.parameters.items():
         if name not in PARAMETERS:
             raise RecordError(f"\"{name}\" is no parameter; there are {', '.join(PARAMETERS)}")
         bounded(name, number, PARAMETERS[name])
-    all_of = {**DEFAULTS, **parameters}
+    all_of = {**DEFAULTS, **options.parameters}
     if not all_of["LOLIMIT"] <= all_of["HILIMIT"] <= all_of["WAITLIMIT"]:
         raise RecordError("LOLIMIT <= HILIMIT <= WAITLIMIT doesn't hold")
     if all_of["FREELIM"] > all_of["FREEGOAL"]:
@@ -72,109 +73,69 @@ def comment(text):
     return [f"! {piece}" for piece in pieces]
 
 
-def mapping_comments(layout, owners):
+def mapping_comments(layout, named):
     """Which pages of the recording stand where, a run of neighbours in a line. Pages that kept their
     addresses need none."""
     if isinstance(layout, Kept):
         return []
     lines = ["! process place pages first-address-in-the-recording"]
-    for process in range(len(owners)):
-        place = layout.places[process]
-        pages = sorted([*place.zero, *place.stack, *place.text],
-                       key=lambda page, p=process: layout.address(p, page * PAGE_BYTES))
-        runs = []
-        for page in pages:
-            at = layout.address(process, page * PAGE_BYTES)
-            if runs and page == runs[-1][1] + runs[-1][2] and \
-                    at == runs[-1][0] + runs[-1][2] * PAGE_BYTES:
-                runs[-1][2] += 1
-            else:
-                runs.append([at, page, 1])
-        lines += [f"! {LETTERS[process]} {at:08X} {count} {page * PAGE_BYTES:X}"
-                  for at, page, count in runs]
-    return lines
+    runs = []
+    for (process, page), at in sorted(zip(named, layout.page_addresses(named)),
+                                      key=lambda one: (one[0][0], one[1])):
+        if runs and runs[-1][0] == process and page == runs[-1][2] + runs[-1][3] and \
+                at == runs[-1][1] + runs[-1][3] * PAGE_BYTES:
+            runs[-1][3] += 1
+        else:
+            runs.append([process, at, page, 1])
+    return lines + [f"! {LETTERS[process]} {at:08X} {count} {page * PAGE_BYTES:X}"
+                    for process, at, page, count in runs]
 
 
-def map_lines(layout, options):
-    """The maps of all processes: one for zero pages, one for the stack, one for each section."""
-    if isinstance(layout, Kept):
-        return layout.map_lines()
-    lines = []
-    for process, place in enumerate(layout.places):
-        letter = LETTERS[process]
-        if place.zero:
-            lines.append(f"MAPZERO {letter} 00000000 {len(place.zero)} UW")
-        if place.stack:
-            first = min(place.stack.values()) * PAGE_BYTES
-            lines.append(f"MAPZERO {letter} {first:08X} {len(place.stack)} UW")
-        if place.text:
-            name = layout.groups[process]
-            at = len(place.zero) * PAGE_BYTES
-            lines.append(f"MAPSEC {letter} {at:08X} {len(layout.sections[name])} {name} 0 "
-                         f"{options.protection}")
-    return lines
+def service_line(letter, name, address, pages, value):
+    if name == "ADJWSL":
+        return f"{letter} {name} {value}"
+    code = "" if value is None else f" {CODES[value]}"
+    return f"{letter} {name} {address:08X} {pages}{code}"
 
 
-def value_of(value, number, width, zero):
-    """The recording's value, or where it has none zero or the number of the request."""
-    if value is None:
-        value = 0 if zero else number
-    return value % (1 << (8 * width))
-
-
-def service_line(letter, name, address, pages, rest):
-    where = [] if name == "ADJWSL" else [f"{address:08X}", str(pages)]
-    return " ".join([letter, name, *where, *([rest] if rest else [])])
-
-
-def request_lines(found, layout, zero):
-    lines = []
-    for number, (process, op, address, width, value) in enumerate(found.requests, 1):
-        if op in SERVICES:
-            lines.append(service_line(LETTERS[process], op, address, width, value))
-            continue
-        words = f"{LETTERS[process]} {op}{width} {layout.address(process, address):08X}"
-        if op != "R":
-            words += f" {value_of(value, number, width, zero):0{2 * width}X}"
-        lines.append(words)
-    return lines
+def request_lines(requests, layout, zero):
+    """The lines of the requests. What a write's value isn't known of has zero or the number of the request."""
+    addresses = layout.page_addresses(requests.named)
+    for number, (process, op, place, offset, width, value) in enumerate(requests, 1):
+        letter, address = LETTERS[process], addresses[place] + offset
+        if op == "R":
+            yield f"{letter} R{width} {address:08X}"
+        elif op in SERVICES:
+            yield service_line(letter, op, address, width, value)
+        else:
+            if value is None:
+                value = 0 if zero else number
+            yield f"{letter} {op}{width} {address:08X} {value % (1 << 8 * width):0{2 * width}X}"
 
 
 def needed_blocks(layout):
     """A page file in which every page that may want one finds a block."""
-    pages = layout.charged_pages()
-    return min(PAGEFILE[1], max(PAGEFILE[0], pages))
+    return min(PAGEFILE[1], max(PAGEFILE[0], layout.charged_pages()))
 
 
 def head_comments(options, found, layout):
-    lines = comment("Recorded by record/record.py " + options.words)
-    for process, owner in enumerate(found.owners):
-        lines += comment(f"process {LETTERS[process]} is {owner}")
-    for note in [found.share(), *found.begins, *found.notes]:
+    lines = comment(f"Recorded by record/{options.script} {options.words}")
+    for letter, owner in zip(LETTERS, found.owners):
+        lines += comment(f"process {letter} is {owner}")
+    for note in [found.share(), *found.parts, *found.notes]:
         lines += comment(note)
-    return lines + mapping_comments(layout, found.owners)
+    return lines + mapping_comments(layout, found.requests.named)
 
 
-def version_of(options, found):
-    """2 where the trace has what version 1 hasn't: pins, sections in the page file, or more frames."""
-    pins = any(op in PINS for _, op, *_ in found.requests)
-    return 2 if pins or options.common or options.frames > FRAMES[1][1] else 1
-
-
-def trace_text(options, found, layout):
-    """The whole trace."""
-    version = version_of(options, found)
-    bounded("--frames", options.frames, FRAMES[2])
-    pagefile = bounded("--pagefile", options.pagefile or needed_blocks(layout), PAGEFILE)
-    check_parameters(options.parameters)
+def trace_lines(options, found, layout):
+    """All lines of the trace. Those before the requests are checked before the first one is given."""
+    version = version_for(options.frames, len(found.requests), found.pins or bool(options.common))
     bounds = process_bounds(options, len(found.owners), version)
-    lines = [f"VMTRACE {version}"]
-    lines += head_comments(options, found, layout) if options.comments else []
-    lines += [f"FRAMES {options.frames}", f"PAGEFILE {pagefile}"]
-    lines += [f"PARAM {name} {number}" for name, number in options.parameters.items()]
-    lines += layout.section_lines()
-    lines += [f"PROCESS {letter} {' '.join(map(str, four))}"
-              for letter, four in zip(LETTERS, bounds)]
-    lines += map_lines(layout, options)
-    lines += ["BODY", *request_lines(found, layout, options.zero), "END", ""]
-    return "\n".join(lines)
+    head = [f"VMTRACE {version}"]
+    head += head_comments(options, found, layout) if options.comments else []
+    head += [f"FRAMES {options.frames}", f"PAGEFILE {options.pagefile or needed_blocks(layout)}"]
+    head += [f"PARAM {name} {number}" for name, number in options.parameters.items()]
+    head += layout.section_lines()
+    head += [f"PROCESS {letter} {' '.join(map(str, four))}" for letter, four in zip(LETTERS, bounds)]
+    head += layout.map_lines()
+    return head + ["BODY"], request_lines(found.requests, layout, options.zero)

@@ -1,74 +1,45 @@
 #!/usr/bin/env python3
-"""Tests the recorder: python3 record/test/test_record.py
+"""Tests the recorder and the converter: python3 record/test/test_record.py
 
-What needs valgrind, SIMH's VAX or the built program is left out where they aren't there, and named.
+What needs valgrind, SIMH's VAX, QEMU's plugin or the built program is left out where they aren't there, and named.
 """
 
+import contextlib
+import gzip
 import io
+import os
 import pathlib
 import shutil
 import struct
-import subprocess
 import sys
-import tempfile
 import unittest
 
 sys.dont_write_bytecode = True
 
+from cases import EXAMPLES, HERE, PROGRAM, Case, body, lines_of, script, serial
 from checker import check
 
-HERE = pathlib.Path(__file__).resolve().parent
 sys.path.append(str(HERE.parent))
 
+import placing
+import record as record_module
 import recording
 import sources
-
-TOP = HERE.parent.parent
-RECORDER = HERE.parent / "record.py"
-# the program that is built here, or the one of the release
-PROGRAM = next((path for path in (TOP / "crates" / "neqysbar" / "out" / "neqysbar",
-                                  TOP / "release" / "neqysbar") if path.exists()), None)
-EXAMPLES = TOP / "examples" / "recorded"
+import trace_limits
+from test_simh import *
 
 
-def record(*words):
-    """The status, the trace and the messages of one call."""
-    done = subprocess.run([sys.executable, str(RECORDER), *map(str, words)], capture_output=True,
-                          text=True, check=False)
-    return done.returncode, done.stdout, done.stderr
+def record(*words, **more):
+    return script("record.py", *words, **more)
 
 
-def lines_of(trace, *firsts):
-    """The trace's lines that begin with one of these words."""
-    return [line for line in trace.splitlines() if line.split()[0] in firsts]
-
-
-def body(trace):
-    lines = trace.splitlines()
-    return lines[lines.index("BODY") + 1:lines.index("END")]
-
-
-class Case(unittest.TestCase):
-    """A folder for recordings, and a call whose trace has to keep the format."""
-
-    def setUp(self):
-        self.folder = tempfile.TemporaryDirectory()
-        self.addCleanup(self.folder.cleanup)
-
-    def file(self, name, text):
-        path = pathlib.Path(self.folder.name) / name
-        path.write_text(text, encoding="latin-1")
-        return path
-
-    def trace(self, *words):
-        status, trace, messages = record(*words)
-        self.assertEqual((status, check(trace)), (0, ""), messages)
-        return trace
-
-    def refused(self, message, *words):
-        status, trace, messages = record(*words)
-        self.assertEqual((status, trace), (2, ""))
-        self.assertIn(message, messages)
+def options_of(*words):
+    """The options of a command line, without a process of its own."""
+    kept, sys.argv = sys.argv, ["record.py", *words]
+    try:
+        return record_module.read_words()
+    finally:
+        sys.argv = kept
 
 
 class Recordings(Case):
@@ -133,15 +104,20 @@ END
             "A R4 00000004", "A R4 00000008", "B R4 00000044", "B R4 00000048"])
 
 
-def elf(main):
-    """A program of 64 bits, its entry point at 1000, with or without a function main."""
-    names, symbols = b"\0main\0", struct.pack("<IBBHQQ", 0, 0, 0, 0, 0, 0)
-    symbols += struct.pack("<IBBHQQ", 1, 2, 0, 1, main, 4) if main else b""
-    at = 64 + len(names) + len(symbols)
+def elf(symbols):
+    """A position independent program of 64 bits, its entry point at 1000 and its instructions from there to 1FFF,
+    with these functions."""
+    names, table = b"\0", struct.pack("<IBBHQQ", 0, 0, 0, 0, 0, 0)
+    for name, address in symbols:
+        table += struct.pack("<IBBHQQ", len(names), 2, 0, 1, address, 4)
+        names += name.encode() + b"\0"
+    code = struct.pack("<IIQQQQQQ", 1, 5, 0x1000, 0x1000, 0x1000, 0x1000, 0x1000, 0x1000)
+    begin = 64 + len(code)
+    at = begin + len(names) + len(table)
     head = b"\x7fELF\x02\x01\x01" + bytes(9) + struct.pack(
-        "<HHIQQQIHHHHHH", 3, 62, 1, 0x1000, 0, at, 0, 64, 0, 0, 64, 2, 0)
-    tables = [(2, 64 + len(names), len(symbols), 1), (3, 64, len(names), 0)]
-    return head + names + symbols + b"".join(
+        "<HHIQQQIHHHHHH", 3, 62, 1, 0x1000, 64, at, 0, 64, 56, 1, 64, 2, 0)
+    tables = [(2, begin + len(names), len(table), 1), (3, begin, len(names), 0)]
+    return head + code + names + table + b"".join(
         struct.pack("<IIQQQQIIQQ", 0, kind, 0, 0, place, size, link, 0, 0, 24)
         for kind, place, size, link in tables)
 
@@ -151,8 +127,8 @@ class Parts(Case):
 
     LINES = "".join(f"I  {0x109000 + n:08x},1\n L {n * 4:x},4\n" for n in range(40))
 
-    def loaded(self, main):
-        program = self.file("program", elf(main).decode("latin-1"))
+    def loaded(self, *symbols):
+        program = self.file("program", elf(symbols).decode("latin-1"))
         return self.file("one", f"==1== Lackey\n--1-- Reading syms from {program}\n--1--    svma 0x00000"
                          f"01004, avma 0x0000109004\n--1-- a message\n0x30a: [0]=\n{self.LINES}")
 
@@ -160,21 +136,46 @@ class Parts(Case):
         return body(self.trace(*words))[0]
 
     def test_begins_at_main(self):
-        for main, place, word in [(0x1020, 32, "main"), (0, 0, "the entry point")]:
-            one = self.loaded(main)
+        for symbols, place, word in [([("main", 0x1020)], 32, "main"), ([], 0, "the entry point")]:
+            one = self.loaded(*symbols)
             trace = self.trace("--lackey", one)
             self.assertEqual(len(body(trace)), 40 - place)
             self.assertEqual(f"from {word} of" in trace, place > 0)
             self.assertEqual(len(body(self.trace("--from", "start", "--lackey", one))), 40)
         self.assertIn("! 8 of the 40 references of the recording (20 %), 8 requests",
-                      self.trace("--lackey", self.loaded(0x1020)))
+                      self.trace("--lackey", self.loaded(("main", 0x1020))))
         one = self.file("two", "==1== Lackey\n" + self.LINES)
         status, trace, messages = record("--lackey", one)
         self.assertEqual((status, len(body(trace))), (0, 40))
         self.assertIn("doesn't say where the program was loaded (valgrind does with -v -v)", messages)
         self.refused("--from start takes it from its beginning", "--from", "main", "--lackey", one)
         one = self.file("one", "--1-- Reading syms from /no/such\n--1--    svma 0x1, avma 0x2\n" + self.LINES)
-        self.assertIn("begins isn't known: No such file", record("--lackey", one)[2])
+        self.assertIn("/no/such can't be looked at: No such file", record("--lackey", one)[2])
+
+    def test_symbols(self):
+        """A symbol, and an address as nm gives it, are found where the program was loaded."""
+        one = self.loaded(("main", 0x1020), ("sum", 0x1007), ("twice", 0x1001), ("twice", 0x1002))
+        for place, first, words in [("sum", 7, "from sum of"), ("main", 32, "from main of"), ("0x1009", 9, "from 0x1009"),
+                                    ("0x109009", 9, ""), ("0x1000", 0, "")]:
+            with self.subTest(place):
+                trace = self.trace("--from", place, "--zero", "--lackey", one)
+                self.assertEqual((body(trace)[0], words in trace), (f"A R4 {first * 4:08X}", True))
+        for place, message in [("sun", "has no symbol sun; near to it are sum"), ("0x1fff", "never has a fetch at 109FFF"),
+                               ("twice", "has several symbols twice, at 0x1001, 0x1002")]:
+            self.refused(message, "--from", place, "--lackey", one)
+        self.refused("it has no symbols, as a stripped program", "--from", "sum", "--lackey", self.loaded())
+
+    def test_damaged_program(self):
+        """No byte of a program's file, changed or cut off, leads to anything but a trace or a message."""
+        one = self.loaded(("main", 0x1020), ("sum", 0x1007))
+        program = pathlib.Path(self.folder.name) / "program"
+        good = program.read_bytes()
+        options = options_of("--from", "sum", "--lackey", str(one))
+        for at in range(len(good)):
+            for bad in (good[:at], good[:at] + bytes([good[at] ^ 0xFF]) + good[at + 1:]):
+                program.write_bytes(bad)
+                with contextlib.suppress(trace_limits.RecordError), record_module.open_recordings(options) as opened:
+                    placing.gather(opened, options)
 
     def test_other_starts(self):
         one = self.file("one", self.LINES)
@@ -190,7 +191,9 @@ class Parts(Case):
         self.assertEqual(self.first("--from", "0x1004", "--din", three), "A R4 00000024")
         self.refused("never has a fetch at 999", "--from", "0x999", "--lackey", one)
         self.refused("never has a reference 41", "--from", 41, "--lackey", one)
-        self.refused("is none of start, main, an address", "--from", "there", "--lackey", one)
+        self.refused("is none of start, a symbol as main, an address", "--from", "-9", "--lackey", one)
+        self.refused("doesn't say where the program was loaded", "--from", "there", "--lackey", one)
+        self.refused("--from there needs a recording of valgrind's lackey", "--from", "there", "--din", three)
         self.refused("--last can't go with", "--last", 3, "--count", 3, "--lackey", one)
         self.refused("at most 100000", "--last", 100_001, "--lackey", one)
 
@@ -211,7 +214,9 @@ class Parts(Case):
             for recording.BLOCK_BYTES in (17, 100, 1 << 16):
                 one = recording.Recorded("one", sources.Lackey("one"), io.BytesIO(text),
                                          recording.Part(**{"start": "start", **words}))
-                found.append((list(one.taken), one.before, one.after))
+                taken = list(one.taken)
+                self.assertEqual([number for number, _ in taken], sorted({number for number, _ in taken}))
+                found.append((taken, one.before, one.after))
             with self.subTest(words):
                 self.assertEqual(found[0], found[2])
                 self.assertEqual(found[1], found[2])
@@ -220,6 +225,58 @@ class Parts(Case):
     def test_faults_in_what_is_left_out(self):
         one = self.file("one", self.LINES + "hello\n" + self.LINES)
         self.refused("line 81: \"hello\" is no line of lackey", "--count", 2, "--lackey", one)
+
+
+class Files(Case):
+    """Where recordings come from, and where a trace goes."""
+
+    LINES = " L 1000,8\n S 1008,4\n"
+
+    def test_packed_and_standard_input(self):
+        plain = self.trace("--no-comments", "--lackey", self.file("one", self.LINES))
+        packed = pathlib.Path(self.folder.name) / "one.gz"
+        packed.write_bytes(gzip.compress(self.LINES.encode()))
+        self.assertEqual(self.trace("--no-comments", "--lackey", packed), plain)
+        self.assertEqual(self.trace("--no-comments", "--lackey", "-", input=self.LINES.encode()), plain)
+        for kind, text in [("--din", "0 1000\n"), ("--list", "p R4 1000\n")]:
+            packed.write_bytes(gzip.compress(text.encode()))
+            self.assertEqual(len(body(self.trace(kind, packed))), 1)
+            self.assertEqual(len(body(self.trace(kind, "-", input=text.encode()))), 1)
+        self.refused("standard input is given twice", "--din", "-", "--list", "-")
+        for bad, message in [(gzip.compress(self.LINES.encode())[:-9], "Compressed file ended before"),
+                             (b"no gzip", "Not a gzipped file"), (gzip.compress(b"x" * 999)[:12] + b"yyyyyyyyyyy", "")]:
+            packed.write_bytes(bad)
+            self.refused(f"{packed} can't be read: {message}", "--lackey", packed)
+
+    def test_output(self):
+        """The trace has its name once it is whole; a run that fails leaves what was there."""
+        one, out = self.file("one", self.LINES), pathlib.Path(self.folder.name) / "out"
+        self.assertEqual(record("--output", out, "--lackey", one)[0], 0)
+        good = out.read_text()
+        self.assertEqual(check(good), "")
+        self.assertEqual(out.stat().st_mode & 0o777, 0o666 & ~os.umask(0o022))
+        self.refused("is no line of lackey", "--output", out, "--lackey", self.file("two", self.LINES + "hello\n"))
+        self.assertEqual((out.read_text(), sorted(os.listdir(self.folder.name))), (good, ["one", "out", "two"]))
+        self.refused("is a recording, and would be written over", "--output", one, "--lackey", one)
+        self.refused("/no/such/folder/out can't be written", "--output", "/no/such/folder/out", "--lackey", one)
+        self.assertEqual(record("--output", "/dev/null", "--lackey", one)[0], 0)
+        self.assertTrue(pathlib.Path("/dev/null").is_char_device())
+        full = pathlib.Path("/dev/full")
+        if full.is_char_device():
+            self.refused("/dev/full can't be written: No space left", "--output", full, "--lackey", one)
+
+    def test_what_was_kept(self):
+        """References and requests are told, and which references of each recording were kept."""
+        one, two = self.file("one", self.LINES), self.file("two", self.LINES * 3)
+        status, trace, messages = record("--skip", 1, "--count", 2, "--no-comments", "--lackey", one, "--lackey", two)
+        self.assertEqual((status, check(trace)), (0, ""))
+        for line in ["record: 3 of the 8 references of the recordings (37.5 %), 4 requests",
+                     f"record: {one}: references 2 to 2 of 2", f"record: {two}: references 2 to 3 of 6"]:
+            self.assertIn(line, messages.splitlines())
+        trace = self.trace("--sample", 2, "--window", 1, "--lackey", two)
+        self.assertIn("two: 3 references from number 1 to 5 of 6", trace)
+        messages = record("--lackey", one)[2]
+        self.assertIn("record: 2 of the 2 references of the recording (100 %), 3 requests", messages)
 
 
 class Places(Case):
@@ -287,10 +344,8 @@ A DELTVA 00000400 2
 END
 """)
         if PROGRAM:
-            done = subprocess.run([PROGRAM, "serial"], input=trace, capture_output=True, text=True,
-                                  check=False)
-            self.assertEqual(done.returncode, 0)
-            self.assertNotIn("DENIED", done.stdout)
+            status, lines = serial(trace)
+            self.assertEqual((status, [line for line in lines if "DENIED" in line]), (0, []))
 
     def test_ranges(self):
         one = self.file("one", self.LIST)
@@ -324,10 +379,9 @@ A ULKPAG 00004000 2
 END
 """)
         if PROGRAM:
-            done = subprocess.run([PROGRAM, "serial"], input=trace, capture_output=True, text=True,
-                                  check=False)
-            self.assertEqual(done.returncode, 0)
-            self.assertIn("B DONE R4 00004000 00000007", done.stdout)
+            status, lines = serial(trace)
+            self.assertEqual(status, 0)
+            self.assertIn("B DONE R4 00004000 00000007", "\n".join(lines))
         trace = self.trace("--no-comments", "--frames", 5000, "--list", self.file("two", "p R4 0\n"))
         self.assertEqual(trace.split("\n")[:2], ["VMTRACE 2", "FRAMES 5000"])
 
@@ -376,8 +430,10 @@ class Limits(Case):
         one = self.file("one", "".join(f" L {n % 64 * 8:x},8\n" for n in range(50_003)))
         status, trace, messages = record("--lackey", one)
         self.assertEqual((status, check(trace), len(body(trace))), (0, "", 100_000))
-        self.assertIn("cut after 50000 references", messages)
-        self.assertIn("! cut after 50000 references", trace)
+        self.assertIn("cut before reference 50001 of ", messages)
+        self.assertIn("! 50000 of the 50003 references of the recording (99.9 %), 100000 requests\n", trace)
+        self.assertRegex(trace, r"(?s)! \S+one: references 1 to 50000 of 50003\n! cut before reference 50001 of "
+                         r".*one: a trace has at\s(! )?most 100000 requests")
 
     def test_pages(self):
         one = self.file("one", "".join(f" L {n * 512:x},4\n" for n in range(4098)))
@@ -470,51 +526,18 @@ class RealPrograms(Case):
         self.assertRegex(trace, r"! /bin/true: from (main|the entry point) of /\S*true on, after \d+ ")
         self.assertRegex(messages, r"record: \d+ of the \d+ references")
 
-    def simulated(self, *words):
-        """The lines of a program that is stepped on SIMH's VAX, without comments and fetches."""
-        done = subprocess.run([sys.executable, str(HERE.parent / "simh.py"), *map(str, words)],
-                              capture_output=True, text=True, check=False)
-        return done.returncode, done.stdout, done.stderr
-
-    @unittest.skipUnless(shutil.which("vax"), "SIMH's VAX isn't there")
-    def test_operands(self):
-        status, listed, messages = self.simulated("--start", 200, HERE / "operands.ini")
-        self.assertEqual(status, 0, messages)
-        self.assertEqual([line[4:] for line in listed.splitlines() if line[0] != "#" and line[4] != "I"], [
-            "R1 500", "W1 505 0", "R2 5FE", "R4 600", "R4 700", "R4 604", "M4 710 0", "M2 506 1",
-            "R4 700", "W4 1FFC 0", "R4 1FFC", "W4 1FFC 0", "R4 600", "R4 604", "W4 680 700", "W4 684 710"])
-
-    @unittest.skipUnless(shutil.which("vax"), "SIMH's VAX isn't there")
-    def test_vax_program(self):
-        status, listed, messages = self.simulated("--start", 200, EXAMPLES / "vax-sum.ini")
-        self.assertEqual(status, 0, messages)
-        trace = self.trace("--no-comments", "--keep-addresses", "--fetches", "--frames", 16, "--limit", 6, "--quota", 8,
-                           "--extent", 8, "--list", self.file("list", listed))
-        self.assertEqual(trace, (EXAMPLES / "vax-sum.trace").read_text(encoding="ascii"))
-        # the sum of 1 to 12
-        self.assertEqual(body(trace)[-1], "A W4 00001000 0000004E")
-        for words, wanted in ((["--steps", 3], "doesn't halt"), (["--simulator", "no-such-vax"], "there is no")):
-            status, _, messages = self.simulated("--start", 200, *words, EXAMPLES / "vax-sum.ini")
-            self.assertEqual((status, wanted in messages), (2, True), messages)
-        other = self.file("other.ini", "deposit -m 200 MOVC3 #4,400,500\ndeposit -m 20C HALT\n")
-        status, _, messages = self.simulated("--start", 200, other)
-        self.assertEqual((status, "MOVC3 isn't known" in messages), (2, True), messages)
-
     @unittest.skipUnless(PROGRAM, "the program isn't there")
     def test_program_takes_it(self):
         one = self.file("one", "p W4 8000 2A\np R4 8000\np R1 9000\n")
         trace = self.trace("--no-comments", "--frames", 8, "--limit", 4, "--list", one)
-        done = subprocess.run([PROGRAM, "serial"], input=trace, capture_output=True, text=True,
-                              check=False)
-        self.assertEqual((done.returncode, done.stdout.splitlines()[-1]), (0, "STATUS 0"))
+        status, lines = serial(trace)
+        self.assertEqual((status, lines[-1]), (0, "STATUS 0"))
 
     @unittest.skipUnless(PROGRAM, "the program isn't there")
     def test_program_takes_the_examples(self):
         for path in sorted(EXAMPLES.glob("*.trace")):
             with self.subTest(path.name):
-                done = subprocess.run([PROGRAM, "serial"], input=path.read_bytes(),
-                                      capture_output=True, check=False)
-                self.assertEqual(done.returncode, 0)
+                self.assertEqual(serial(path.read_text(encoding="ascii"))[0], 0)
 
     def test_examples_keep_the_format(self):
         for path in sorted(EXAMPLES.glob("*.trace")):
