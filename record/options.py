@@ -6,7 +6,7 @@ import shlex
 import signal
 import sys
 
-from files import Output, check_names
+from files import Output
 from keeping import SECTION_NAME
 from placing import gather, lay_out
 from recording import Part
@@ -129,7 +129,7 @@ def add_output(words):
 
 def read_options(words, script):
     """The options that both have, checked."""
-    words.set_defaults(recordings=[], keep_addresses=False, common=[], script=script)
+    words.set_defaults(keep_addresses=False, common=[], script=script)
     options = words.parse_args()
     options.words = shlex.join(sys.argv[1:])
     if options.last and (options.count or options.sample > 1):
@@ -142,7 +142,6 @@ def read_options(words, script):
     names = [name for name, _ in options.text] + [one.name for one in options.common]
     if len(set(names)) != len(names):
         raise RecordError("a section is given twice")
-    check_names([name for _, name in options.recordings], options.output)
     check_machine(options)
     return options
 

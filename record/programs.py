@@ -15,6 +15,7 @@ READING = re.compile(rb"^--\d+-- Reading syms from (.*)\n(?:--\d+-- +svma 0x([0-
 # a child that has forked and started no program of its own would write between its parent's lines
 LACKEY_WORDS = ["valgrind", "-v", "-v", "--tool=lackey", "--trace-mem=yes", "--child-silent-after-fork=yes"]
 NOT_TOLD = "it doesn't say where the program was loaded (valgrind does with -v -v)"
+NOT_TOLD_OF = "it doesn't say where the program was loaded (valgrind doesn't of a program without data of its own)"
 
 
 def loaded_program(head):
@@ -24,6 +25,8 @@ def loaded_program(head):
     if not found:
         raise ValueError(NOT_TOLD)
     name = os.fsdecode(found[1])
+    if os.path.basename(name).startswith("lackey-"):    # valgrind's own comes behind the program's
+        raise ValueError(NOT_TOLD_OF)
     try:
         if found[2] is None:
             raise ValueError("valgrind doesn't say where it was loaded")
@@ -71,7 +74,7 @@ def begin_of(start, head, tells_loading):
         return ("fetch", address), words, ""
     except ValueError as fault:
         if start is None:
-            return "start", "", f"{fault}, so it begins with its first reference, which is the dynamic loader's"
+            return "start", "", f"{fault}, so it begins with its first reference"
         if start[0] == "symbol":
             raise RecordError(f"{fault}; --from start takes it from its beginning") from None
         return start, "", ""

@@ -18,7 +18,7 @@ import sys
 sys.dont_write_bytecode = True
 
 from children import child_traces
-from files import open_recording, spoken
+from files import check_names, open_recording, spoken
 from keeping import common_of, range_of
 from options import add_choices, add_machine, add_output, one_trace, part_of, read_options, run
 from programs import start_lackey
@@ -83,7 +83,9 @@ def read_words():
     add_addresses(words)
     add_machine(words)
     add_output(words)
+    words.set_defaults(recordings=[])
     options = read_options(words, "record.py")
+    check_names([name for _, name in options.recordings], options.output)
     if options.run is not None and not options.run:
         raise RecordError("--run has no program")
     if not options.recordings and not options.run:

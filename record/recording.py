@@ -105,7 +105,7 @@ class Recorded:
         self.before = self.after = 0
         self.unit = 1
         self.over = False
-        self.notes = [form.note] if form.note else []
+        self.notes = []
         self.begins = ""
         self.left = part.count
         self.taken = self.take()
@@ -277,6 +277,7 @@ class Recorded:
                 pass
         elif self.was_ended():
             self.notes.append("it was ended when enough was recorded; --whole counts all of its references")
+        self.notes += [self.form.note] if self.form.note else []
         self.file.close()
 
     def was_ended(self):

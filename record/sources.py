@@ -126,6 +126,9 @@ class Listed(Form):
         found = LIST_OP.fullmatch(words[1])
         if not found:
             raise RecordError(f"{where}: \"{shown(words[1])}\" is no op; R4, W1, M8, A4 and I2 are some")
+        if not words[0].isascii() or words[0].endswith(":"):
+            raise RecordError(f"{where}: \"{shown(words[0])}\" is no name of a process: it is ASCII, and ends with no "
+                              "colon (convert.py reads pinatrace)")
         size = check_size(int(found.group(2) or self.width), where)
         if found.group(1) == "A" and size != 4:
             raise RecordError(f"{where}: an add has four bytes")

@@ -26,6 +26,7 @@ import record as record_module
 import recording
 import sources
 import trace_limits
+from test_convert import *
 from test_simh import *
 
 
