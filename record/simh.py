@@ -8,65 +8,67 @@ PROGRAM.ini has commands of the simulator that put a program into memory, as `de
 and none that runs it. The program is stepped from the address of --start on until it halts, and the
 simulator's registers before each step give the addresses of its operands. Memory mapping is off, so
 addresses stand as the program has them. The list has a line for each instruction fetch, each read, each
-write with what was written, and each read and write of the stack that JSB, BSB, RSB and PUSHL make.
+write with what was written, and each read and write of the stack that calls, returns, pushes and pops make.
 
-It needs Python 3.9 and the simulator: the program `vax` of Debian's package simh, or the one that
---simulator names. It was tried with SIMH 3.8-1.
+The status is 0; 1 if the simulator refuses a command, whose line and fault are told; 2 if the program can't be
+recorded. With 1 and 2 no list is written. It needs Python 3.9 and the simulator: the program `vax` of Debian's
+package simh, or the one that --simulator names. It was tried with SIMH 3.8-1.
 """
 
 import argparse
+import os
 import re
 import subprocess
 import sys
 import tempfile
 
-WIDTHS = {"b": 1, "w": 2, "l": 4, "q": 8}
-REGISTERS = [f"R{n}" for n in range(12)] + ["AP", "FP", "SP", "PC"]
+sys.dont_write_bytecode = True
+
+from vax_instructions import REGISTERS, NoRecording, Step, Unknown
+
 HEXADECIMAL = re.compile(r"[0-9A-F]+")
-OPERAND = re.compile(r"(?P<deferred>@)?(?P<literal>#)?(?P<number>-?[0-9A-F]+)?"
-                     r"(?P<less>-)?(?:\((?P<base>[A-Z0-9]+)\)(?P<more>\+)?)?(?:\[(?P<index>[A-Z0-9]+)\])?")
+SECONDS = 600
+MARK = "@@"
 
 
-def instructions():
-    """The operands of each instruction: r is read, w written, m both, a an address, j a branch."""
-    known = {"NOP": "", "HALT": "", "RSB": "pop", "PUSHL": "rl push", "MOVQ": "rq wq", "CLRQ": "wq",
-             "MOVZBW": "rb ww", "MOVZBL": "rb wl", "MOVZWL": "rw wl", "CVTBW": "rb ww", "CVTBL": "rb wl",
-             "CVTWL": "rw wl", "CVTWB": "rw wb", "CVTLB": "rl wb", "CVTLW": "rl ww", "ASHL": "rb rl wl",
-             "JMP": "al", "JSB": "al push", "BSBB": "j push", "BSBW": "j push", "SOBGTR": "ml j", "SOBGEQ": "ml j",
-             "AOBLSS": "rl ml j", "AOBLEQ": "rl ml j", "BLBS": "rl j", "BLBC": "rl j"}
-    for jump in "BRB BRW BEQL BNEQ BGTR BLEQ BGEQ BLSS BGTRU BLEQU BVC BVS BGEQU BLSSU BCC BCS".split():
-        known[jump] = "j"
-    for width in "BWL":
-        small = width.lower()
-        for name, operands in {"MOV": "r w", "MNEG": "r w", "MCOM": "r w", "CLR": "w", "TST": "r", "CMP": "r r",
-                               "BIT": "r r", "INC": "m", "DEC": "m"}.items():
-            known[name + width] = " ".join(one + small for one in operands.split())
-        for name in "ADD SUB MUL DIV BIS BIC XOR".split():
-            known[f"{name}{width}2"] = f"r{small} m{small}"
-            known[f"{name}{width}3"] = f"r{small} r{small} w{small}"
-        known["MOVA" + width] = f"a{small} wl"
-        known["PUSHA" + width] = f"a{small} push"
-    return known
-
-
-INSTRUCTIONS = instructions()
-
-
-class NoRecording(Exception):
-    """The program can't be recorded."""
+class BadCommand(Exception):
+    """The simulator refuses a command of the program."""
 
 
 def simulate(simulator, commands):
-    """What the simulator prints for these commands, without the first lines."""
+    """What the simulator prints for these commands, without the first lines; and the name by which it calls them."""
     with tempfile.NamedTemporaryFile("w", suffix=".ini") as script:
         script.write("\n".join(commands + ["exit"]) + "\n")
         script.flush()
         try:
             done = subprocess.run([simulator, script.name], stdin=subprocess.DEVNULL, capture_output=True,
-                                  text=True, errors="replace", timeout=600, check=False)
+                                  text=True, errors="replace", timeout=SECONDS, check=False)
         except FileNotFoundError:
             raise NoRecording(f"there is no {simulator}: it is in Debian's package simh") from None
-    return done.stdout.splitlines()
+        except subprocess.TimeoutExpired:
+            raise NoRecording(f"the simulator takes more than {SECONDS} seconds") from None
+    return done.stdout.splitlines(), script.name
+
+
+def read_commands(name):
+    """The commands of a file, with their lines."""
+    with open(name, encoding="ascii") as source:
+        return [(number, line.strip()) for number, line in enumerate(source, 1) if line.strip()]
+
+
+def check_commands(simulator, numbered):
+    """Has each command carried out, and raises BadCommand for the first that the simulator refuses."""
+    marked = [one for number, command in numbered for one in (f"echo {MARK}{number}", command)]
+    lines, script = simulate(simulator, [*marked, f"echo {MARK}end"])
+    place = None
+    for line, following in zip(lines, [*lines[1:], ""]):
+        if line.startswith(MARK):
+            place = line.removeprefix(MARK)
+        elif line.startswith(f"{script}> "):
+            raise BadCommand(f"line {place}: {line.removeprefix(f'{script}> ')}: {following}")
+    if place != "end":
+        raise BadCommand(f"line {place}: the simulator doesn't go on behind this command" if place else
+                         "the simulator carries out no command")
 
 
 def steps_of(lines):
@@ -84,71 +86,21 @@ def steps_of(lines):
     return states
 
 
-def operand(text, registers, width, memory):
-    """The address of an operand, or none if it has none, with the address of a pointer to it that is
-    read; registers that count up or down are changed."""
-    if text in REGISTERS:
-        return None, None
-    found = OPERAND.fullmatch(text)
-    if not found or (found["less"] and found["more"]):
-        raise NoRecording(f"the operand {text} isn't known")
-    base, number = found["base"], found["number"]
-    if found["literal"] and not found["deferred"]:
-        return None, None
-    if base is None:
-        address = int(number, 16)
-    else:
-        if found["less"]:
-            registers[base] = (registers[base] - width) % 2**32
-        address = (registers[base] + int(number or "0", 16)) % 2**32
-        if found["more"]:
-            registers[base] = (address + (4 if found["deferred"] else width)) % 2**32
-    pointer = None
-    if found["deferred"] and not found["literal"]:
-        pointer, address = address, memory(address)
-    if found["index"]:
-        address = (address + registers[found["index"]] * width) % 2**32
-    return address, pointer
-
-
-def references(text, before, after, memory):
-    """The references of an instruction: op, bytes and address of each."""
-    name, _, rest = text.partition(" ")
-    if name not in INSTRUCTIONS:
-        raise NoRecording(f"the instruction {name} isn't known: INSTRUCTIONS in simh.py has those that are")
-    registers, made = dict(before), []
-    operands = rest.split(",") if rest else []
-    kinds = INSTRUCTIONS[name].split()
-    for kind, one in zip([kind for kind in kinds if kind not in ("push", "pop", "j")], operands):
-        width = WIDTHS[kind[1]]
-        address, pointer = operand(one, registers, width, memory)
-        if pointer is not None:
-            made.append(("R", 4, pointer))
-        if address is not None and kind[0] != "a":
-            op = {"r": "R", "w": "W", "m": "M"}[kind[0]]
-            made += [(op, min(width, 4), address + part) for part in range(0, width, 4)]
-    if "push" in kinds:
-        made.append(("W", 4, after["SP"]))
-    if "pop" in kinds:
-        made.append(("R", 4, before["SP"]))
-    return made
-
-
 def looked_at(simulator, commands, start, looks, steps):
-    """The values in memory: `looks` has for each moment, ("before" or "after", step), addresses, and how
-    many bytes are looked at as one."""
+    """The bytes in memory: `looks` has for each moment, ("before" or "after", step), pairs of an address and a number
+    of bytes. The answer has each byte by its moment and address."""
     script = [f"deposit pc {start:X}"]
     for at in range(steps):
         for moment in (("before", at), ("after", at)):
-            script.append(" ".join(("echo", moment[0], str(at))))
-            script += [f"ex -{'l' if size == 4 else 'b'} {address:X}" for address, size in looks.get(moment, ())]
+            script.append(f"echo {MARK}{moment[0]} {at}")
+            script += [f"ex -b {address:X}:{address + size - 1:X}" for address, size in looks.get(moment, ())]
             if moment[0] == "before":
                 script.append("step")
     found, moment = {}, None
-    for line in simulate(simulator, commands + script):
+    for line in simulate(simulator, commands + script)[0]:
         words = line.split()
-        if words[:1] in (["before"], ["after"]):
-            moment = words[0], int(words[1])
+        if line.startswith(MARK):
+            moment = words[0].removeprefix(MARK), int(words[1])
         elif len(words) == 2 and words[0].endswith(":") and all(map(HEXADECIMAL.fullmatch, (words[0][:-1], words[1]))):
             found[moment, int(words[0][:-1], 16)] = int(words[1], 16)
     return found
@@ -157,7 +109,7 @@ def looked_at(simulator, commands, start, looks, steps):
 def instructions_at(simulator, commands, places):
     """The text and the bytes of the instruction at each of these addresses."""
     shown, last = {}, None
-    for line in simulate(simulator, commands + [f"ex -m {place:X}:{place + 64:X}" for place in places]):
+    for line in simulate(simulator, commands + [f"ex -m {place:X}:{place + 64:X}" for place in places])[0]:
         name, _, text = line.partition(":\t")
         if HEXADECIMAL.fullmatch(name):
             place = int(name, 16)
@@ -167,56 +119,121 @@ def instructions_at(simulator, commands, places):
     return shown
 
 
-def record(simulator, commands, start, most):
-    """The lines of the list."""
-    walk = [f"deposit pc {start:X}"] + ["ex " + ",".join(REGISTERS), "step"] * most
-    states = steps_of(simulate(simulator, commands + walk))
-    if not states:
-        raise NoRecording("the simulator has shown no registers")
-    shown = instructions_at(simulator, commands, {state["PC"] for state in states})
-    if shown.get(states[-1]["PC"], ("",))[0] != "HALT":
-        raise NoRecording(f"the program doesn't halt within {most} steps; --steps gives more")
-    walked = list(zip(range(most), states, states[1:]))
+class Program:
+    """A program that was stepped: its instructions, and the registers before and after each of them."""
 
-    def all_references(memory):
-        return [references(shown[before["PC"]][0], before, after, lambda address, at=at: memory(at, address))
-                for at, before, after in walked]
+    def __init__(self, simulator, commands, start, most):
+        self.simulator, self.commands, self.start = simulator, commands, start
+        walk = [f"deposit pc {start:X}"] + ["ex " + ",".join(REGISTERS), "step"] * most
+        states = steps_of(simulate(simulator, commands + walk)[0])
+        if not states:
+            raise NoRecording("the simulator has shown no registers")
+        self.shown = instructions_at(simulator, commands, {state["PC"] for state in states})
+        if self.shown.get(states[-1]["PC"], ("",))[0] != "HALT":
+            raise NoRecording(f"the program doesn't halt within {most} steps; --steps gives more")
+        self.walked = list(zip(range(most), states, states[1:]))
+        self.halted = states[-1]["PC"]
+        if not self.walked:
+            raise NoRecording(f"there is nothing but a HALT at {start:X}")
+        for _, before, _ in self.walked:
+            if before["PC"] not in self.shown:
+                raise NoRecording(f"the simulator doesn't show the instruction at {before['PC']:X}")
+        self.memory = {}
 
-    looks = {}
-    all_references(lambda at, address: looks.setdefault(("before", at), []).append((address, 4)) or 0)
-    pointers = looked_at(simulator, commands, start, looks, len(walked)) if looks else {}
-    made = all_references(lambda at, address: pointers[("before", at), address])
-    looks = {("after", at): [(address + n, 1) for op, size, address in one if op in "WM" for n in range(size)]
-             for at, one in enumerate(made)}
-    written = looked_at(simulator, commands, start, looks, len(walked))
-    lines = []
-    for at, before, after in walked:
-        text, length = shown[before["PC"]]
-        lines.append(f"# {before['PC']:08X} {text}")
-        lines.append(f"VAX I{length} {before['PC']:X}")
-        for op, size, address in made[at]:
-            value = ""
-            if op in "WM":
-                value = f" {sum(written[('after', at), address + n] << 8 * n for n in range(size)):X}"
-            lines.append(f"VAX {op}{size} {address:X}{value}")
-    return lines
+    def look(self, looks):
+        found = looked_at(self.simulator, self.commands, self.start, looks, len(self.walked))
+        for moment, wanted in looks.items():
+            for address, size in wanted:
+                if any((moment, address + n) not in found for n in range(size)):
+                    raise NoRecording(f"there is no memory at {address:X}, which step {moment[1] + 1} uses")
+        self.memory.update(found)
+
+    def value(self, moment, address, size):
+        """What memory has at a moment, the lowest byte first."""
+        try:
+            return sum(self.memory[moment, address + n] << 8 * n for n in range(size))
+        except KeyError:
+            raise Unknown(moment, address, size) from None
+
+    def references(self):
+        """The references of each step. What they depend on is looked up in as many runs as one thing in memory leads
+        to another."""
+        made = {}
+        while len(made) < len(self.walked):
+            looks = {}
+            for at, before, after in self.walked:
+                if at in made:
+                    continue
+                text, length = self.shown[before["PC"]]
+                try:
+                    made[at] = Step(text, before["PC"] + length, before, after, lambda address, size, at=at: self.value(
+                        ("before", at), address, size)).references()
+                except Unknown as unknown:
+                    moment, address, size = unknown.args
+                    looks[moment] = [(address, size)]
+            if looks:
+                self.look(looks)
+        return [made[at] for at, _, _ in self.walked]
+
+    def lines(self):
+        """The lines of the list."""
+        made = self.references()
+        self.look({("after", at): [(address, size) for op, size, address in one if op in "WM"]
+                   for at, one in enumerate(made)})
+        for at, before, _ in self.walked:
+            text, length = self.shown[before["PC"]]
+            yield f"# {before['PC']:08X} {text}"
+            yield f"VAX I{length} {before['PC']:X}"
+            for op, size, address in made[at]:
+                value = f" {self.value(('after', at), address, size):X}" if op in "WM" else ""
+                yield f"VAX {op}{size} {address:X}{value}"
+
+
+def hexadecimal(word):
+    if not re.fullmatch(r"[0-9A-Fa-f]{1,8}", word):
+        raise argparse.ArgumentTypeError(f"\"{word}\" is no hexadecimal number of up to eight digits")
+    return int(word, 16)
+
+
+def at_least_one(word):
+    if not re.fullmatch(r"[0-9]{1,9}", word) or not int(word):
+        raise argparse.ArgumentTypeError(f"\"{word}\" is no decimal number from 1 on")
+    return int(word)
 
 
 def main():
     reader = argparse.ArgumentParser(description=__doc__, formatter_class=argparse.RawDescriptionHelpFormatter)
     reader.add_argument("program", help="commands that put the program into memory")
-    reader.add_argument("--start", type=lambda word: int(word, 16), required=True, help="its first address, hexadecimal")
-    reader.add_argument("--steps", type=int, default=2000, help="at most so many instructions, 2000 if it isn't given")
+    reader.add_argument("--start", type=hexadecimal, required=True, help="its first address, hexadecimal")
+    reader.add_argument("--steps", type=at_least_one, default=2000,
+                        help="at most so many instructions, 2000 if it isn't given")
     reader.add_argument("--simulator", default="vax")
     words = reader.parse_args()
     try:
-        with open(words.program, encoding="ascii") as source:
-            commands = [line.strip() for line in source if line.strip()]
-        print("\n".join(record(words.simulator, commands, words.start, words.steps)))
-    except (NoRecording, OSError, UnicodeDecodeError, KeyError, subprocess.TimeoutExpired) as fault:
+        numbered = read_commands(words.program)
+        check_commands(words.simulator, numbered)
+        commands = [command for _, command in numbered]
+        program = Program(words.simulator, commands, words.start, words.steps)
+        text = "\n".join(program.lines())
+        print(text, flush=True)
+        print(f"simh: {len(program.walked)} instructions, to the HALT at {program.halted:X}", file=sys.stderr)
+    except BadCommand as fault:
+        print(f"simh: {words.program}, {fault}", file=sys.stderr)
+        return 1
+    except UnicodeDecodeError:
+        print(f"simh: {words.program}: it has bytes that aren't ASCII", file=sys.stderr)
+    except NoRecording as fault:
         print(f"simh: {fault}", file=sys.stderr)
-        sys.exit(2)
+    except OSError as fault:
+        print(f"simh: {fault.filename or 'standard output'}: {fault.strerror}", file=sys.stderr)
+        if not fault.filename:
+            os.dup2(os.open(os.devnull, os.O_WRONLY), sys.stdout.fileno())
+    except KeyboardInterrupt:
+        print("simh: broken off", file=sys.stderr)
+    else:
+        return 0
+    return 2
 
 
 if __name__ == "__main__":
-    main()
+    sys.exit(main())
