@@ -6,7 +6,7 @@ import csv
 import re
 import struct
 
-from sources import Form, check_size, hexadecimal, shown
+from sources import Form, check_size, hexadecimal, no_sizes, shown
 from trace_limits import PAGE_BYTES, RecordError
 
 PINATRACE = re.compile(r"0x([0-9a-f]{1,16}): ([RW]) 0x([0-9a-f]{1,16})")
@@ -21,10 +21,6 @@ NO_NEXT = -1
 OPS = {"r": "R", "w": "W", "i": "I"}
 EVENT_OPS = ("R", "W", "M", "skip")
 TABLE_OPS = ("R", "W", "M", "A", "I")
-
-
-def no_sizes(form, size):
-    return f"{form} has no sizes, so each reference is taken as {size} bytes (--size)"
 
 
 class ExtendedDin(Form):

@@ -47,6 +47,7 @@ def cut_value(value, begin, width):
 
 
 FOUR = frozenset({4})
+REQUESTS_OF = {"M": "RW", "I": "R"}     # where an op isn't the request's own
 
 
 class Gathered:
@@ -90,7 +91,7 @@ class Gathered:
         _, op, address, _, value = reference
         for begin, width in pieces:
             at, part = address + begin, cut_value(value, begin, width)
-            for letter in {"M": "RW", "I": "R"}.get(op, op):
+            for letter in REQUESTS_OF.get(op, op):
                 self.requests.add(process, letter, at, width, part)
             if op == "I":
                 self.fetched.add((process, at // PAGE_BYTES))
@@ -131,6 +132,10 @@ class Gathered:
     def parts(self):
         """Which part of each recording was kept, in words, where it wasn't all; once nothing more is cut."""
         return list(self.told_parts())
+
+    def limits(self):
+        """What the forms of the recordings leave open, in words."""
+        return [f"{one.name}: {one.form.note}" for one in self.recordings if one.form.note]
 
     def told_parts(self):
         spans = {}

@@ -277,7 +277,6 @@ class Recorded:
                 pass
         elif self.was_ended():
             self.notes.append("it was ended when enough was recorded; --whole counts all of its references")
-        self.notes += [self.form.note] if self.form.note else []
         self.file.close()
 
     def was_ended(self):

@@ -39,6 +39,11 @@ def check_size(size, place):
     return size
 
 
+def no_sizes(form, size):
+    """What the trace says of a form without sizes."""
+    return f"{form} has no sizes, so each reference is taken as {size} byte{'s' * (size > 1)} (--size)"
+
+
 class Form:
     """What the forms of recordings have in common."""
 
@@ -93,7 +98,7 @@ class Din(Form):
 
     def __init__(self, owner, width):
         self.owner, self.width = owner, width
-        self.note = f"din has no sizes, so each reference is taken as {width} bytes (--size)"
+        self.note = no_sizes("din", width)
 
     def parse(self, line, where):
         words = line.split()

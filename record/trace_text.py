@@ -122,7 +122,7 @@ def head_comments(options, found, layout):
     lines = comment(f"Recorded by record/{options.script} {options.words}")
     for letter, owner in zip(LETTERS, found.owners):
         lines += comment(f"process {letter} is {owner}")
-    for note in [found.share(), *found.parts, *found.notes]:
+    for note in [found.share(), *found.parts, *found.notes, *found.limits()]:
         lines += comment(note)
     return lines + mapping_comments(layout, found.requests.named)
 
