@@ -70,14 +70,16 @@ class Process:
 
 def in_order(processes):
     """Each process before those that it started, and these in the order of their ends."""
-    known = {one.pid for one in processes}
-
-    def under(parents):
-        for one in sorted(parents, key=lambda one: one.ended):
-            yield one
-            yield from under([child for child in processes if child.parent == one.pid and child is not one])
-
-    return list(under([one for one in processes if one.parent not in known]))
+    known, children = {one.pid for one in processes}, {}
+    for one in sorted(processes, key=lambda one: one.ended):
+        children.setdefault(one.parent if one.parent in known else None, []).append(one)
+    waiting = children.pop(None, [])[::-1]
+    while waiting or children:
+        # a process whose number was given again may have its parent below it
+        one = waiting.pop() if waiting else children[next(iter(children))].pop()
+        waiting += children.pop(one.pid, [])[::-1]
+        children = {pid: left for pid, left in children.items() if left}
+        yield one
 
 
 def trace_of(options, process, folder):

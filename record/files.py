@@ -25,6 +25,8 @@ def spoken(name):
 def open_recording(name):
     """A file, one that gzip has packed, or standard input."""
     if name == "-":
+        if sys.stdin is None:
+            raise RecordError("there is no standard input")
         return sys.stdin.buffer
     try:
         return gzip.open(name, "rb") if name.endswith(".gz") else open(name, "rb")
@@ -52,6 +54,8 @@ class Output:
 
     def __enter__(self):
         if self.name is None:
+            if sys.stdout is None:
+                raise WriteError("there is no standard output")
             self.file = sys.stdout
         elif os.path.exists(self.name) and not stat.S_ISREG(os.stat(self.name).st_mode):
             self.file = open(self.name, "w", encoding="ascii")
@@ -61,11 +65,17 @@ class Output:
                 handle, self.path = tempfile.mkstemp(dir=os.path.dirname(self.name), prefix=".record-")
             except OSError as fault:
                 raise WriteError(f"{self.name} can't be written: {fault.strerror}") from None
-            mask = os.umask(0)
-            os.umask(mask)
-            os.chmod(self.path, 0o666 & ~mask)
+            os.chmod(self.path, self.mode())
             self.file = os.fdopen(handle, "w", encoding="ascii")
         return self
+
+    def mode(self):
+        """The permissions that a new file has, or those of the one that is there."""
+        with contextlib.suppress(FileNotFoundError):
+            return stat.S_IMODE(os.stat(self.name).st_mode)
+        mask = os.umask(0)
+        os.umask(mask)
+        return 0o666 & ~mask
 
     def write(self, lines):
         lines = iter(lines)

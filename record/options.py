@@ -183,6 +183,6 @@ def run(name, work):
         told, status = ["out of memory"], FAULTY
     except KeyboardInterrupt:
         told, status = ["broken off"], FAULTY
-    for line in told:
+    for line in told if sys.stderr else ():
         print(f"{name}: {line}", file=sys.stderr)
     return status

@@ -58,6 +58,9 @@ def read_commands(name):
 
 def check_commands(simulator, numbered):
     """Has each command carried out, and raises BadCommand for the first that the simulator refuses."""
+    for number, command in numbered:
+        if command.split()[0].lower() == "do":
+            raise BadCommand(f"line {number}: {command}: its commands have to stand in the file itself")
     marked = [one for number, command in numbered for one in (f"echo {MARK}{number}", command)]
     lines, script = simulate(simulator, [*marked, f"echo {MARK}end"])
     place = None

@@ -1,22 +1,13 @@
 """Tests the converter; test_record.py runs it too."""
 
-import contextlib
-import io
-import os
-import pathlib
 import random
 import re
 import struct
-import sys
 import unittest
 
-from cases import HERE, PROGRAM, SAMPLES, Case, body, lines_of, serial
-from checker import check
-
-sys.path.append(str(HERE.parent))
+from cases import PROGRAM, SAMPLES, Case, body, changed, lines_of, serial
 
 import convert
-from options import run
 
 # the samples: format, file, further words, references, requests, processes. The lines of each kind were counted with
 # grep: 243 fetches, 36 reads, 37 writes and 4 modifications. With a size of 1 each read and write is one request;
@@ -38,24 +29,10 @@ CONVERTED = [
     ("csv", "tiny.csv", [], 77, 116, 1),
 ]
 # the words that each format wants for its sample
-SAMPLE_WORDS = {form: (name, [word for word in words if word != "--fetches"]) for form, name, words, *_ in CONVERTED[1:]}
-# how the lines of each format end: whether the last one must
+SAMPLE_WORDS = {form: (name, [word for word in words if word != "--fetches"])
+                for form, name, words, *_ in CONVERTED[1:]}
+# the formats whose last line need not be ended
 UNENDED = ("csv",)
-
-
-def converted(form, path, *words):
-    """The status, the trace and the messages of a call in this process; a fault of the program isn't caught."""
-    out = pathlib.Path(path).parent / "out.trace"
-    kept, sys.argv = sys.argv, ["convert.py", form, "--output", str(out), *map(str, words), str(path)]
-    messages = io.StringIO()
-    try:
-        with contextlib.redirect_stderr(messages):
-            status = run("convert", convert.work)
-    finally:
-        sys.argv = kept
-    trace = out.read_text(encoding="ascii") if out.exists() else ""
-    out.unlink(missing_ok=True)
-    return status, trace, messages.getvalue()
 
 
 def references_of_lackey():
@@ -80,7 +57,7 @@ class Samples(Case):
         """Each sample gives a trace that the program runs, with the references and requests that are told."""
         for form, name, words, references, requests, processes in CONVERTED:
             with self.subTest(name, words=words):
-                trace = self.trace(form, *words, SAMPLES / name, tool="convert.py")
+                trace = self.trace(form, *words, SAMPLES / name, tool=convert)
                 requests = requests or len(body(trace))
                 share = f"! {references} of the {references} references of the recording (100 %), {requests} requests"
                 self.assertIn(share, trace.splitlines())
@@ -96,28 +73,28 @@ class Samples(Case):
         for form, words in [("din", []), ("execlog", []), ("pinatrace", [])]:
             words = [*words, "--size", 1, "--zero"]
             sample = SAMPLES / f"tiny.{form}"
-            self.assertEqual(body(self.trace(form, *words, sample, tool="convert.py")), data)
+            self.assertEqual(body(self.trace(form, *words, sample, tool=convert)), data)
             if form != "pinatrace":
-                self.assertEqual(body(self.trace(form, "--fetches", *words, sample, tool="convert.py")), both)
-        sized = {form: body(self.trace(form, "--zero", *words, SAMPLES / f"tiny.{form}", tool="convert.py"))
+                self.assertEqual(body(self.trace(form, "--fetches", *words, sample, tool=convert)), both)
+        sized = {form: body(self.trace(form, "--zero", *words, SAMPLES / f"tiny.{form}", tool=convert))
                  for form, words in [("lackey", []), ("din-extended", SIZED), ("csv", [])]}
         self.assertEqual(sized["lackey"], sized["csv"])
         self.assertEqual(sized["lackey"], sized["din-extended"])
 
     def test_events(self):
         """What a sample of perf is comes from its event, or from the user."""
-        trace = self.trace("perf", "--no-comments", "--zero", SAMPLES / "loads.perf", tool="convert.py")
+        trace = self.trace("perf", "--no-comments", "--zero", SAMPLES / "loads.perf", tool=convert)
         self.assertEqual(body(trace), ["A R4 00000110", "A W4 000003D8 00000000", "B R4 000001E0"])
         words = ["--event", "cpu/mem-stores/P=skip", "--event", "cpu/mem-loads,ldlat=30/P=W"]
-        trace = self.trace("perf", *words, "--zero", SAMPLES / "loads.perf", tool="convert.py")
+        trace = self.trace("perf", *words, "--zero", SAMPLES / "loads.perf", tool=convert)
         self.assertEqual(body(trace), ["A W4 00000110 00000000", "B W4 000001E0 00000000"])
         self.refused("the event page-faults doesn't say whether it reads or writes; --event page-faults=R tells it",
-                     "perf", SAMPLES / "true.perf", tool="convert.py")
+                     "perf", SAMPLES / "true.perf", tool=convert)
 
     def test_objects(self):
         """Each object is a page, in order of first use."""
         pages = {thing: place for place, thing in enumerate([7, 9, 2**63 + 5, 11, 12])}
-        trace = self.trace("oracle-general", SAMPLES / "objects.oracleGeneral", tool="convert.py")
+        trace = self.trace("oracle-general", SAMPLES / "objects.oracleGeneral", tool=convert)
         self.assertEqual(body(trace), [f"A R4 {512 * pages[thing]:08X}" for thing in
                                        [7, 9, 7, 2**63 + 5, 9, 7, 11, 7, 2**63 + 5, 12, 7, 9]])
         self.assertIn(f"! A 00000400 1 {(2**63 + 5) * 512:X}", trace.splitlines())
@@ -129,22 +106,23 @@ class Samples(Case):
         for name, called in [("process", "who"), ("address", "where"), ("op", "what"), ("value", "much"),
                              ("size", "bytes")]:
             words += ["--column", f"{name}={called}"]
-        trace = self.trace("csv", *words, one, tool="convert.py")
+        trace = self.trace("csv", *words, one, tool=convert)
         self.assertEqual(body(trace), ["A W4 00000100 0000002A", "B R2 00000102", "A A4 00000104 00000001"])
         two = self.file("two", "address\n\"1024\"\n0x402\n")
-        self.assertEqual(body(self.trace("csv", "--op", "R", "--size", 2, "--base", 10, two, tool="convert.py")),
+        self.assertEqual(body(self.trace("csv", "--op", "R", "--size", 2, "--base", 10, two, tool=convert)),
                          ["A R2 00000000", "A R2 00000002"])
 
     def test_parts(self):
         """The recorder's choices hold of the converter too, and several files are several processes."""
         words = ["--size", 1, "--zero", "--skip", 2, "--count", 3, "--quantum", 2]
-        trace = self.trace("pinatrace", *words, SAMPLES / "tiny.pinatrace", SAMPLES / "tiny.pinatrace", tool="convert.py")
+        sample = SAMPLES / "tiny.pinatrace"
+        trace = self.trace("pinatrace", *words, sample, sample, tool=convert)
         self.assertEqual([line[0] for line in body(trace)], list("AABBAB"))
         self.assertIn("! 6 of the 162 references of the recordings (3.7 %), 6 requests", trace.splitlines())
-        trace = self.trace("execlog", "--size", 1, "--from", "0x401019", SAMPLES / "tiny.execlog", tool="convert.py")
+        trace = self.trace("execlog", "--size", 1, "--from", "0x401019", SAMPLES / "tiny.execlog", tool=convert)
         self.assertRegex(trace, r"references \d+ to 81 of 81")
         self.refused("--from main needs a recording of valgrind's lackey", "--from", "main", "execlog",
-                     SAMPLES / "tiny.execlog", tool="convert.py")
+                     SAMPLES / "tiny.execlog", tool=convert)
 
 
 class Refused(Case):
@@ -182,26 +160,27 @@ class Refused(Case):
                 ("csv", [], "op,address\nA,0x2\n", "an add at 2, which is no multiple of 4"),
                 ("csv", [], "op,address,process\nR,0x2,\xe4\n", "line 2: it has bytes that aren't ASCII")]:
             with self.subTest(form, text=text):
-                self.refused(message, form, *words, self.file("one", text), tool="convert.py")
+                self.refused(message, form, *words, self.file("one", text), tool=convert)
 
     def test_words(self):
         """Options that a format hasn't are refused, and so is a list that is no list."""
-        for message, words in [("--fetches is for lackey", ["pinatrace", "--fetches"]), ("--op is for csv", ["din", "--op", "R"]),
-                               ("--event is for perf", ["csv", "--event", "x=R"]), ("isn't EVENT=OP", ["perf", "--event", "R"]),
-                               ("isn't NAME=COLUMN", ["csv", "--column", "at=x"]), ("invalid choice", ["gem5"]),
-                               ("isn't one character", ["csv", "--delimiter", "ab"]),
-                               ("a reference of 5000 bytes", ["pinatrace", "--size", 5000])]:
+        for message, words in [
+                ("--fetches is for lackey", ["pinatrace", "--fetches"]), ("--op is for csv", ["din", "--op", "R"]),
+                ("--event is for perf", ["csv", "--event", "x=R"]), ("isn't EVENT=OP", ["perf", "--event", "R"]),
+                ("isn't NAME=COLUMN", ["csv", "--column", "at=x"]), ("invalid choice", ["gem5"]),
+                ("isn't one character", ["csv", "--delimiter", "ab"]),
+                ("a reference of 5000 bytes", ["pinatrace", "--size", 5000])]:
             with self.subTest(message):
-                self.refused(message, *words, SAMPLES / "tiny.pinatrace", tool="convert.py")
+                self.refused(message, *words, SAMPLES / "tiny.pinatrace", tool=convert)
         self.refused("is no name of a process", "--list", SAMPLES / "tiny.pinatrace")
 
     def test_far_addresses(self):
         """Any address of 64 bits is folded: its page has a place in order of first use, as long as there are some."""
         one = self.file("one", "0x1: R 0xffffffffffffffff\n0x1: W 0xfffffffffffffffc\n#eof\n")
-        trace = self.trace("pinatrace", "--zero", one, tool="convert.py")
+        trace = self.trace("pinatrace", "--zero", one, tool=convert)
         self.assertEqual(body(trace), ["A R1 000001FF", "A R2 00000200", "A R1 00000202", "A W4 000001FC 00000000"])
         many = self.file("many", "".join(f"0x1: R 0x{n << 40:x}\n" for n in range(4098)) + "#eof\n")
-        trace = self.trace("pinatrace", many, tool="convert.py")
+        trace = self.trace("pinatrace", many, tool=convert)
         self.assertEqual(len(body(trace)), 4096)
         self.assertRegex(trace, r"cut before reference 4097 of \S+many:\s(! )?process A uses more than 4096 pages")
 
@@ -211,25 +190,14 @@ class Mutations(Case):
 
     CHANGES = 150
 
-    def tried(self, form, data, words):
-        """The status and the messages, after a look at the trace: whole and right, or none."""
-        path = pathlib.Path(self.folder.name) / "sample"
-        path.write_bytes(data)
-        status, trace, messages = converted(form, path, *words)
-        self.assertEqual(sorted(os.listdir(self.folder.name)), ["sample"])
-        self.assertEqual(check(trace) if status == 0 else (trace, status), "" if status == 0 else ("", 2), messages)
-        return status, messages
-
     def test_bytes(self):
         for form, (name, words) in SAMPLE_WORDS.items():
             data, chance = (SAMPLES / name).read_bytes(), random.Random(4711)
             statuses = set()
             for _ in range(self.CHANGES):
-                at, byte = chance.randrange(len(data)), bytes([chance.randrange(256)])
-                changed = chance.choice([data[:at] + byte + data[at + 1:], data[:at] + byte + data[at:],
-                                         data[:at] + data[at + 1:], data[:at] + data[at:at + 40] + data[at:]])
-                with self.subTest(form, changed=changed):
-                    statuses.add(self.tried(form, changed, words)[0])
+                bad = changed(data, chance)
+                with self.subTest(form, bad=bad):
+                    statuses.add(self.tried(convert, bad, form, *words)[0])
             self.assertIn(2, statuses)
 
     def test_cuts(self):
@@ -240,7 +208,7 @@ class Mutations(Case):
                 at = chance.randrange(1, len(data))
                 whole = at % 24 == 0 if form == "oracle-general" else form != "pinatrace" and data[at - 1:at] == b"\n"
                 with self.subTest(form, at=at):
-                    status, messages = self.tried(form, data[:at], words)
+                    status, messages = self.tried(convert, data[:at], form, *words)
                     if form not in UNENDED:
                         empty = "no reference is left" in messages
                         self.assertEqual(status, 0 if whole and not empty else 2, messages)
@@ -251,7 +219,8 @@ class Mutations(Case):
             lines, chance = (SAMPLES / name).read_bytes().splitlines(keepends=True), random.Random(4713)
             for at in [chance.randrange(1, len(lines)) for _ in range(20)] if form != "oracle-general" else ():
                 with self.subTest(form, at=at):
-                    status, messages = self.tried(form, b"".join([*lines[:at], b"hello, world; 1 2\n", *lines[at:]]), words)
+                    bad = b"".join([*lines[:at], b"hello, world; 1 2\n", *lines[at:]])
+                    status, messages = self.tried(convert, bad, form, *words)
                     self.assertEqual((status, f"line {at + 1}: " in messages), (2, True), messages)
 
 

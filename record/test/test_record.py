@@ -1,7 +1,7 @@
 #!/usr/bin/env python3
 """Tests the recorder and the converter: python3 record/test/test_record.py
 
-What needs valgrind, SIMH's VAX, QEMU's plugin or the built program is left out where they aren't there, and named.
+What needs valgrind, SIMH's VAX or the built program is left out where they aren't there, and named.
 """
 
 import contextlib
@@ -10,19 +10,21 @@ import io
 import os
 import pathlib
 import shutil
+import random
 import struct
+import subprocess
 import sys
+import time
 import unittest
+import unittest.mock
 
 sys.dont_write_bytecode = True
 
-from cases import EXAMPLES, HERE, PROGRAM, Case, body, lines_of, script, serial
+from cases import EXAMPLES, HERE, PROGRAM, Case, body, call, changed, lines_of, script, serial
 from checker import check
 
-sys.path.append(str(HERE.parent))
-
 import placing
-import record as record_module
+import record
 import recording
 import sources
 import trace_limits
@@ -30,15 +32,11 @@ from test_convert import *
 from test_simh import *
 
 
-def record(*words, **more):
-    return script("record.py", *words, **more)
-
-
 def options_of(*words):
     """The options of a command line, without a process of its own."""
     kept, sys.argv = sys.argv, ["record.py", *words]
     try:
-        return record_module.read_words()
+        return record.read_words()
     finally:
         sys.argv = kept
 
@@ -146,12 +144,12 @@ class Parts(Case):
         self.assertIn("! 8 of the 40 references of the recording (20 %), 8 requests",
                       self.trace("--lackey", self.loaded(("main", 0x1020))))
         one = self.file("two", "==1== Lackey\n" + self.LINES)
-        status, trace, messages = record("--lackey", one)
+        status, trace, messages = script("record.py", "--lackey", one)
         self.assertEqual((status, len(body(trace))), (0, 40))
         self.assertIn("doesn't say where the program was loaded (valgrind does with -v -v)", messages)
         self.refused("--from start takes it from its beginning", "--from", "main", "--lackey", one)
         one = self.file("one", "--1-- Reading syms from /no/such\n--1--    svma 0x1, avma 0x2\n" + self.LINES)
-        self.assertIn("/no/such can't be looked at: No such file", record("--lackey", one)[2])
+        self.assertIn("/no/such can't be looked at: No such file", script("record.py", "--lackey", one)[2])
 
     def test_symbols(self):
         """A symbol, and an address as nm gives it, are found where the program was loaded."""
@@ -175,7 +173,7 @@ class Parts(Case):
         for at in range(len(good)):
             for bad in (good[:at], good[:at] + bytes([good[at] ^ 0xFF]) + good[at + 1:]):
                 program.write_bytes(bad)
-                with contextlib.suppress(trace_limits.RecordError), record_module.open_recordings(options) as opened:
+                with contextlib.suppress(trace_limits.RecordError), record.open_recordings(options) as opened:
                     placing.gather(opened, options)
 
     def test_other_starts(self):
@@ -238,11 +236,12 @@ class Files(Case):
         packed = pathlib.Path(self.folder.name) / "one.gz"
         packed.write_bytes(gzip.compress(self.LINES.encode()))
         self.assertEqual(self.trace("--no-comments", "--lackey", packed), plain)
-        self.assertEqual(self.trace("--no-comments", "--lackey", "-", input=self.LINES.encode()), plain)
+        done = script("record.py", "--no-comments", "--lackey", "-", input=self.LINES.encode())
+        self.assertEqual(done[:2], (0, plain))
         for kind, text in [("--din", "0 1000\n"), ("--list", "p R4 1000\n")]:
             packed.write_bytes(gzip.compress(text.encode()))
             self.assertEqual(len(body(self.trace(kind, packed))), 1)
-            self.assertEqual(len(body(self.trace(kind, "-", input=text.encode()))), 1)
+            self.assertEqual(len(body(script("record.py", kind, "-", input=text.encode())[1])), 1)
         self.refused("standard input is given twice", "--din", "-", "--list", "-")
         for bad, message in [(gzip.compress(self.LINES.encode())[:-9], "Compressed file ended before"),
                              (b"no gzip", "Not a gzipped file"), (gzip.compress(b"x" * 999)[:12] + b"yyyyyyyyyyy", "")]:
@@ -252,7 +251,7 @@ class Files(Case):
     def test_output(self):
         """The trace has its name once it is whole; a run that fails leaves what was there."""
         one, out = self.file("one", self.LINES), pathlib.Path(self.folder.name) / "out"
-        self.assertEqual(record("--output", out, "--lackey", one)[0], 0)
+        self.assertEqual(script("record.py", "--output", out, "--lackey", one)[0], 0)
         good = out.read_text()
         self.assertEqual(check(good), "")
         self.assertEqual(out.stat().st_mode & 0o777, 0o666 & ~os.umask(0o022))
@@ -260,7 +259,7 @@ class Files(Case):
         self.assertEqual((out.read_text(), sorted(os.listdir(self.folder.name))), (good, ["one", "out", "two"]))
         self.refused("is a recording, and would be written over", "--output", one, "--lackey", one)
         self.refused("/no/such/folder/out can't be written", "--output", "/no/such/folder/out", "--lackey", one)
-        self.assertEqual(record("--output", "/dev/null", "--lackey", one)[0], 0)
+        self.assertEqual(script("record.py", "--output", "/dev/null", "--lackey", one)[0], 0)
         self.assertTrue(pathlib.Path("/dev/null").is_char_device())
         full = pathlib.Path("/dev/full")
         if full.is_char_device():
@@ -269,15 +268,44 @@ class Files(Case):
     def test_what_was_kept(self):
         """References and requests are told, and which references of each recording were kept."""
         one, two = self.file("one", self.LINES), self.file("two", self.LINES * 3)
-        status, trace, messages = record("--skip", 1, "--count", 2, "--no-comments", "--lackey", one, "--lackey", two)
+        status, trace, messages = script("record.py", "--skip", 1, "--count", 2, "--no-comments", "--lackey", one, "--lackey", two)
         self.assertEqual((status, check(trace)), (0, ""))
         for line in ["record: 3 of the 8 references of the recordings (37.5 %), 4 requests",
                      f"record: {one}: references 2 to 2 of 2", f"record: {two}: references 2 to 3 of 6"]:
             self.assertIn(line, messages.splitlines())
         trace = self.trace("--sample", 2, "--window", 1, "--lackey", two)
         self.assertIn("two: 3 references from number 1 to 5 of 6", trace)
-        messages = record("--lackey", one)[2]
+        messages = script("record.py", "--lackey", one)[2]
         self.assertIn("record: 2 of the 2 references of the recording (100 %), 3 requests", messages)
+
+
+    def test_broken_off(self):
+        """A run that is ended, or whose output is closed, leaves nothing and shows no traceback."""
+        folder, out = pathlib.Path(self.folder.name), pathlib.Path(self.folder.name) / "out"
+        child = subprocess.Popen([sys.executable, str(HERE.parent / "record.py"), "--output", str(out), "--lackey", "-"],
+                                 stdin=subprocess.PIPE, stderr=subprocess.PIPE)
+        child.stdin.write(b" L 0,4\n" * 100_000)
+        child.stdin.flush()
+        deadline = time.monotonic() + 60
+        while not os.listdir(folder) and time.monotonic() < deadline:
+            time.sleep(0.05)
+        child.terminate()
+        messages = child.communicate()[1]
+        self.assertEqual((child.returncode, messages), (2, b"record: broken off\n"))
+        self.assertEqual(os.listdir(folder), [])
+        one = self.file("one", " L 0,4\n" * 90_000)
+        child = subprocess.Popen([sys.executable, str(HERE.parent / "record.py"), "--lackey", str(one)],
+                                 stdout=subprocess.PIPE, stderr=subprocess.PIPE)
+        child.stdout.read(100)
+        child.stdout.close()
+        self.assertEqual(child.stderr.read(), b"record: standard output can't be written: Broken pipe\n")
+        child.stderr.close()
+        self.assertEqual(child.wait(), 2)
+        for closed, wanted in [("<&-", "record: there is no standard input\n"), (">&-", "record: there is no standard output\n"),
+                               ("2>&-", "")]:
+            done = subprocess.run(["sh", "-c", f"exec {sys.executable} {HERE.parent}/record.py --lackey - {closed}"],
+                                  input=b" L 0,8\n", capture_output=True, check=False)
+            self.assertEqual((done.returncode, done.stderr.decode()), (2 if wanted else 0, wanted))
 
 
 class Places(Case):
@@ -350,7 +378,7 @@ END
 
     def test_ranges(self):
         one = self.file("one", self.LIST)
-        status, trace, _ = record("--keep-addresses", "--map", "A:200:2", "--map", "A:7FFEDA00:3",
+        status, trace, _ = script("record.py", "--keep-addresses", "--map", "A:200:2", "--map", "A:7FFEDA00:3",
                                   "--list", one)
         self.assertEqual(status, 0)
         self.assertEqual(lines_of(trace, "MAPZERO"), [
@@ -426,10 +454,20 @@ END
         self.refused("isn't PROCESS:ADDRESS:PAGES", "--keep-addresses", "--map", "A:0", "--list", one)
 
 
+    def test_changed_lists(self):
+        """Lists that are cut or have a byte too many or too few give a right trace or a message."""
+        chance = random.Random(4714)
+        for words in (["--list"], ["--keep-addresses", "--list"]):
+            for at in range(200):
+                bad = changed(self.LIST.encode(), chance) if at % 2 else self.LIST.encode()[:at]
+                with self.subTest(words, bad=bad):
+                    self.tried(record, bad, "--no-comments", *words)
+
+
 class Limits(Case):
     def test_requests(self):
         one = self.file("one", "".join(f" L {n % 64 * 8:x},8\n" for n in range(50_003)))
-        status, trace, messages = record("--lackey", one)
+        status, trace, messages = script("record.py", "--lackey", one)
         self.assertEqual((status, check(trace), len(body(trace))), (0, "", 100_000))
         self.assertIn("cut before reference 50001 of ", messages)
         self.assertIn("! 50000 of the 50003 references of the recording (99.9 %), 100000 requests\n", trace)
@@ -438,12 +476,28 @@ class Limits(Case):
 
     def test_pages(self):
         one = self.file("one", "".join(f" L {n * 512:x},4\n" for n in range(4098)))
-        status, trace, messages = record("--lackey", one)
+        status, trace, messages = script("record.py", "--lackey", one)
         self.assertEqual((status, check(trace), len(body(trace))), (0, "", 4096))
         self.assertIn("uses more than 4096 pages", messages)
-        status, trace, messages = record("--lackey", one, "--stack", 2048)
+        status, trace, messages = script("record.py", "--lackey", one, "--stack", 2048)
         self.assertEqual((status, check(trace), len(body(trace))), (0, "", 1025))
         self.assertIn("uses more than 1024 stack pages", messages)
+
+    def test_versions(self):
+        """A version that may have more requests is taken where they are needed, and its limit holds."""
+        more = trace_limits.Version(frames=4096, requests=100_005, pins=False)
+        out = pathlib.Path(self.folder.name) / "out"
+        one = self.file("one", " L 0,4\n" * 100_010)
+        with unittest.mock.patch.dict(trace_limits.VERSIONS, {3: more}):
+            status, _, messages = call(record, "record", "--output", out, "--lackey", one)
+            trace = out.read_text()
+            self.assertEqual((status, trace[:10], len(body(trace))), (0, "VMTRACE 3\n", 100_005))
+            self.assertIn("cut before reference 100006 of", messages)
+            for words, first, requests in [(["--frames", 5000], "VMTRACE 2\n", 100_000),
+                                           (["--count", 100_000], "VMTRACE 1\n", 100_000)]:
+                self.assertEqual(call(record, "record", *words, "--output", out, "--lackey", one)[0], 0)
+                trace = out.read_text()
+                self.assertEqual((trace[:10], len(body(trace))), (first, requests))
 
     def test_processes(self):
         text = "".join(f"p{n} R4 {n:x}00\n" for n in range(17))
@@ -522,10 +576,32 @@ class RealPrograms(Case):
 
     @unittest.skipUnless(shutil.which("valgrind"), "valgrind isn't there")
     def test_begins_at_the_program(self):
-        status, trace, messages = record("--count", 100, "--run", "/bin/true")
+        status, trace, messages = script("record.py", "--count", 100, "--run", "/bin/true")
         self.assertEqual((status, check(trace)), (0, ""), messages)
         self.assertRegex(trace, r"! /bin/true: from (main|the entry point) of /\S*true on, after \d+ ")
         self.assertRegex(messages, r"record: \d+ of the \d+ references")
+
+    @unittest.skipUnless(shutil.which("valgrind"), "valgrind isn't there")
+    def test_children(self):
+        """A shell, what it forks and what it starts have a trace each, from where the words ask for."""
+        folder = pathlib.Path(self.folder.name) / "all"
+        words = ["--children", "--count", 300, "--output", folder, "--run", "sh", "-c", "(:; echo) | cat; /bin/true"]
+        status, trace, messages = script("record.py", *words)
+        self.assertEqual((status, trace), (0, ""), messages)
+        names = sorted(name.split(".")[0] for name in os.listdir(folder))
+        self.assertEqual(names, ["cat", "sh", "sh", "true"])
+        for path in folder.iterdir():
+            text = path.read_text()
+            self.assertEqual((check(text), "! 300 of the " in text), ("", True))
+            self.assertRegex(text, rf"! process A is process {path.name.split('.')[1]}, started by \d+")
+            self.assertIn(f"record: {path.name}: process ", messages)
+        self.assertEqual(messages.count("by a fork, without a program of its own"), 1)
+        self.assertEqual(os.listdir(self.folder.name), ["all"])
+        self.refused("no process of /bin/true gives a trace", "--children", "--skip", 10**8, "--output", folder,
+                     "--run", "/bin/true")
+        self.assertEqual(len(os.listdir(folder)), 4)
+        self.refused("is no folder", "--children", "--output", self.file("one", ""), "--run", "/bin/true")
+        self.refused("--children needs --run", "--children", "--output", "x", "--list", self.file("one", ""))
 
     @unittest.skipUnless(PROGRAM, "the program isn't there")
     def test_program_takes_it(self):
@@ -547,4 +623,9 @@ class RealPrograms(Case):
 
 
 if __name__ == "__main__":
+    for needed in ("valgrind", "vax"):
+        if not shutil.which(needed):
+            print(f"record: there is no {needed}, and what needs it isn't tried")
+    if not PROGRAM:
+        print("record: the program isn't there, and no trace is run")
     unittest.main()

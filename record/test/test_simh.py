@@ -132,6 +132,7 @@ class Simulated(Case):
                  (1, "line 3: deposit -m 20A MOVLL #4000,R1: Invalid argument")),
                 ("nonsense here\n", [], (1, "line 1: nonsense here: Unknown command")),
                 (good + "\n\nload /no/such/file\n", [], (1, "load /no/such/file: File open error")),
+                ("do other.ini\n" + good, [], (1, "line 1: do other.ini: its commands have to stand in the file")),
                 ("exit\n" + good, [], (1, "line 1: the simulator doesn't go on behind this command")),
                 (good, ["--steps", 3], (2, "doesn't halt within 3 steps")),
                 (good, ["--simulator", "no-such-vax"], (2, "there is no no-such-vax")),
