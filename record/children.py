@@ -98,6 +98,8 @@ def child_traces(options):
     goal = os.path.realpath(options.output)
     if os.path.exists(goal) and not os.path.isdir(goal):
         raise RecordError(f"{options.output} is no folder, and --children needs one")
+    if not os.path.isdir(os.path.dirname(goal)):
+        raise RecordError(f"{options.output} can't be made: {os.path.dirname(goal)} isn't there")
     with contextlib.ExitStack() as ends:
         logs = ends.enter_context(tempfile.TemporaryDirectory(prefix="record-"))
         made = ends.enter_context(tempfile.TemporaryDirectory(prefix=".record-", dir=os.path.dirname(goal)))

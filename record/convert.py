@@ -69,7 +69,8 @@ def read_words():
     words.add_argument("format", choices=FORMS, metavar="FORMAT", help="what the recordings are: one of those above")
     words.add_argument("files", nargs="+", metavar="FILE", help="the recordings, in this order")
     group = words.add_argument_group("what a format leaves open")
-    group.add_argument("--sizes", choices=("decimal", "hexadecimal"), help="how din-extended has sizes of several digits")
+    group.add_argument("--sizes", choices=("decimal", "hexadecimal"),
+                       help="how din-extended has sizes of several digits")
     group.add_argument("--event", type=event, action="append", default=[], metavar="EVENT=OP",
                        help="what this event of perf is: R, W, M or skip")
     group.add_argument("--column", type=column, action="append", default=[], metavar="NAME=COLUMN",

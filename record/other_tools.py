@@ -143,9 +143,9 @@ class OracleGeneral(Form):
         elif following != NO_NEXT and following <= self.number:
             why = f"its next request has the number {following}"
         if why:
-            raise RecordError(f"{where}: {why}, so it is no record of oracleGeneral: the time of 4 bytes, which doesn't "
-                              "go back, the object of 8, its size of 4, and the number of its next request of 8, "
-                              "which is later or -1, each with the lowest byte first")
+            raise RecordError(f"{where}: {why}, so it is no record of oracleGeneral: the time of 4 bytes, which "
+                              "doesn't go back, the object of 8, its size of 4, and the number of its next request of "
+                              "8, which is later or -1, each with the lowest byte first")
         self.time, self.number = time, self.number + 1
         return ((self.owner, "R", thing * PAGE_BYTES, self.width, None),)
 

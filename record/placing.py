@@ -46,6 +46,14 @@ def cut_value(value, begin, width):
     return None if value is None else (value >> (8 * begin)) % (1 << (8 * width))
 
 
+def percent(kept, of):
+    """Which part that is, in three digits; all is said of all alone, and none of none."""
+    part = f"{100 * kept / of:.3g}"
+    if part == "100" and kept < of:
+        return "99.9"
+    return part if 1000 * 100 * kept >= of else "less than 0.001"
+
+
 FOUR = frozenset({4})
 REQUESTS_OF = {"M": "RW", "I": "R"}     # where an op isn't the request's own
 
@@ -102,15 +110,16 @@ class Gathered:
         """How many references the requests are, the last one in part where it was cut there."""
         return bisect.bisect_left(self.ends, len(self.requests)) + 1
 
-    def cut_at(self, source, number, why):
-        """Notes before which reference the requests end."""
+    def cut_at(self, source, number, why, word="before"):
+        """Notes before or within which reference the requests end."""
         name = self.recordings[source].name
-        self.notes.append(f"cut before reference {number} of {name}: {why}")
+        self.notes.append(f"cut {word} reference {number} of {name}: {why}")
 
     def cut_requests(self, count, why):
         """Leaves the first requests alone."""
         at = bisect.bisect_right(self.ends, count)
-        self.cut_at(self.sources[at], self.numbers[at], why)
+        within = count > (self.ends[at - 1] if at else 0)
+        self.cut_at(self.sources[at], self.numbers[at], why, "within" if within else "before")
         self.requests.cut(count)
 
     def all(self):
@@ -123,10 +132,8 @@ class Gathered:
     def share(self):
         """What of the recordings was kept, in words."""
         kept, until = self.kept(), " until it was ended" if any(one.was_ended() for one in self.recordings) else ""
-        percent = f"{100 * kept / self.all():.3g}"
-        percent = "99.9" if percent == "100" and kept < self.all() else percent
         return (f"{kept} of the {self.all()} references of the recording{'s' * (len(self.recordings) > 1)}{until} "
-                f"({percent} %), {len(self.requests)} requests")
+                f"({percent(kept, self.all())} %), {len(self.requests)} requests")
 
     @functools.cached_property
     def parts(self):

@@ -26,9 +26,10 @@ class Unknown(Exception):
 def simple():
     """The operands of the instructions that do nothing in memory beside them: r is read, w written, m both, a is an
     address and v the base of a bit field; j stands for a branch."""
-    known = {"NOP": "", "HALT": "", "MOVQ": "rq wq", "CLRQ": "wq", "MOVZBW": "rb ww", "MOVZBL": "rb wl", "MOVZWL": "rw wl",
-             "CVTBW": "rb ww", "CVTBL": "rb wl", "CVTWL": "rw wl", "CVTWB": "rw wb", "CVTLB": "rl wb", "CVTLW": "rl ww",
-             "ASHL": "rb rl wl", "ASHQ": "rb rq wq", "ROTL": "rb rl wl", "EMUL": "rl rl rl wq", "EDIV": "rl rq wl wl",
+    known = {"NOP": "", "HALT": "", "MOVQ": "rq wq", "CLRQ": "wq", "MOVZBW": "rb ww", "MOVZBL": "rb wl",
+             "MOVZWL": "rw wl", "CVTBW": "rb ww", "CVTBL": "rb wl", "CVTWL": "rw wl", "CVTWB": "rw wb",
+             "CVTLB": "rl wb", "CVTLW": "rl ww", "ASHL": "rb rl wl", "ASHQ": "rb rq wq",
+             "ROTL": "rb rl wl", "EMUL": "rl rl rl wq", "EDIV": "rl rq wl wl",
              "ADWC": "rl ml", "SBWC": "rl ml", "INDEX": "rl rl rl rl rl wl", "MOVPSL": "wl", "BISPSW": "rw",
              "BICPSW": "rw", "JMP": "al", "SOBGTR": "ml j", "SOBGEQ": "ml j", "AOBLSS": "rl ml j", "AOBLEQ": "rl ml j",
              "BLBS": "rl j", "BLBC": "rl j"}
@@ -213,8 +214,8 @@ class Step:
     def __init__(self, text, following, before, after, memory):
         self.name, _, rest = text.partition(" ")
         if self.name not in INSTRUCTIONS:
-            raise NoRecording(f"the instruction {self.name} isn't known: INSTRUCTIONS in vax_instructions.py has those that "
-                              "are")
+            raise NoRecording(f"the instruction {self.name} isn't known: INSTRUCTIONS in vax_instructions.py has those "
+                              "that are")
         self.next, self.before, self.after, self.memory = following, before, after, memory
         kinds, self.work = INSTRUCTIONS[self.name]
         self.kinds = [kind for kind in kinds if kind != "j"]

@@ -154,12 +154,13 @@ class Parts(Case):
     def test_symbols(self):
         """A symbol, and an address as nm gives it, are found where the program was loaded."""
         one = self.loaded(("main", 0x1020), ("sum", 0x1007), ("twice", 0x1001), ("twice", 0x1002))
-        for place, first, words in [("sum", 7, "from sum of"), ("main", 32, "from main of"), ("0x1009", 9, "from 0x1009"),
-                                    ("0x109009", 9, ""), ("0x1000", 0, "")]:
+        for place, first, words in [("sum", 7, "from sum of"), ("main", 32, "from main of"),
+                                    ("0x1009", 9, "from 0x1009"), ("0x109009", 9, ""), ("0x1000", 0, "")]:
             with self.subTest(place):
                 trace = self.trace("--from", place, "--zero", "--lackey", one)
                 self.assertEqual((body(trace)[0], words in trace), (f"A R4 {first * 4:08X}", True))
-        for place, message in [("sun", "has no symbol sun; near to it are sum"), ("0x1fff", "never has a fetch at 109FFF"),
+        for place, message in [("sun", "has no symbol sun; near to it are sum"),
+                               ("0x1fff", "never has a fetch at 109FFF"),
                                ("twice", "has several symbols twice, at 0x1001, 0x1002")]:
             self.refused(message, "--from", place, "--lackey", one)
         self.refused("it has no symbols, as a stripped program", "--from", "sum", "--lackey", self.loaded())
@@ -268,7 +269,8 @@ class Files(Case):
     def test_what_was_kept(self):
         """References and requests are told, and which references of each recording were kept."""
         one, two = self.file("one", self.LINES), self.file("two", self.LINES * 3)
-        status, trace, messages = script("record.py", "--skip", 1, "--count", 2, "--no-comments", "--lackey", one, "--lackey", two)
+        words = ["--skip", 1, "--count", 2, "--no-comments", "--lackey", one, "--lackey", two]
+        status, trace, messages = script("record.py", *words)
         self.assertEqual((status, check(trace)), (0, ""))
         for line in ["record: 3 of the 8 references of the recordings (37.5 %), 4 requests",
                      f"record: {one}: references 2 to 2 of 2", f"record: {two}: references 2 to 3 of 6"]:
@@ -282,8 +284,9 @@ class Files(Case):
     def test_broken_off(self):
         """A run that is ended, or whose output is closed, leaves nothing and shows no traceback."""
         folder, out = pathlib.Path(self.folder.name), pathlib.Path(self.folder.name) / "out"
-        child = subprocess.Popen([sys.executable, str(HERE.parent / "record.py"), "--output", str(out), "--lackey", "-"],
-                                 stdin=subprocess.PIPE, stderr=subprocess.PIPE)
+        command = [sys.executable, str(HERE.parent / "record.py")]
+        child = subprocess.Popen([*command, "--output", str(out), "--lackey", "-"], stdin=subprocess.PIPE,
+                                 stderr=subprocess.PIPE)
         child.stdin.write(b" L 0,4\n" * 100_000)
         child.stdin.flush()
         deadline = time.monotonic() + 60
@@ -294,16 +297,15 @@ class Files(Case):
         self.assertEqual((child.returncode, messages), (2, b"record: broken off\n"))
         self.assertEqual(os.listdir(folder), [])
         one = self.file("one", " L 0,4\n" * 90_000)
-        child = subprocess.Popen([sys.executable, str(HERE.parent / "record.py"), "--lackey", str(one)],
-                                 stdout=subprocess.PIPE, stderr=subprocess.PIPE)
+        child = subprocess.Popen([*command, "--lackey", str(one)], stdout=subprocess.PIPE, stderr=subprocess.PIPE)
         child.stdout.read(100)
         child.stdout.close()
         self.assertEqual(child.stderr.read(), b"record: standard output can't be written: Broken pipe\n")
         child.stderr.close()
         self.assertEqual(child.wait(), 2)
-        for closed, wanted in [("<&-", "record: there is no standard input\n"), (">&-", "record: there is no standard output\n"),
-                               ("2>&-", "")]:
-            done = subprocess.run(["sh", "-c", f"exec {sys.executable} {HERE.parent}/record.py --lackey - {closed}"],
+        for closed, wanted in [("<&-", "record: there is no standard input\n"),
+                               (">&-", "record: there is no standard output\n"), ("2>&-", "")]:
+            done = subprocess.run(["sh", "-c", f"exec \"$@\" --lackey - {closed}", "sh", *command],
                                   input=b" L 0,8\n", capture_output=True, check=False)
             self.assertEqual((done.returncode, done.stderr.decode()), (2 if wanted else 0, wanted))
 
@@ -482,6 +484,10 @@ class Limits(Case):
         status, trace, messages = script("record.py", "--lackey", one, "--stack", 2048)
         self.assertEqual((status, check(trace), len(body(trace))), (0, "", 1025))
         self.assertIn("uses more than 1024 stack pages", messages)
+        two = self.file("two", "".join(f" L {n * 512 + 508:x},{4 + n // 4095 * 4}\n" for n in range(4097)))
+        status, trace, messages = script("record.py", "--lackey", two)
+        self.assertEqual((status, check(trace), len(body(trace))), (0, "", 4096))
+        self.assertIn(f"cut within reference 4096 of {two}: process A uses more than 4096 pages", messages)
 
     def test_versions(self):
         """A version that may have more requests is taken where they are needed, and its limit holds."""
