@@ -14,6 +14,7 @@ READING = re.compile(rb"^--\d+-- Reading syms from (.*)\n(?:--\d+-- +svma 0x([0-
                      rb"avma 0x([0-9a-f]+))?", re.M)
 # a child that has forked and started no program of its own would write between its parent's lines
 LACKEY_WORDS = ["valgrind", "-v", "-v", "--tool=lackey", "--trace-mem=yes", "--child-silent-after-fork=yes"]
+CHILDREN_FAULTS = 8     # of the words behind the name in the process's stat: page faults of those that it waited for
 NOT_TOLD = "it doesn't say where the program was loaded (valgrind does with -v -v)"
 NOT_TOLD_OF = "it doesn't say where the program was loaded (valgrind doesn't of a program without data of its own)"
 
@@ -78,6 +79,18 @@ def begin_of(start, head, tells_loading):
         if start[0] == "symbol":
             raise RecordError(f"{fault}; --from start takes it from its beginning") from None
         return start, "", ""
+
+
+def started_others(pid, ended):
+    """Whether a process has waited for processes that it started; one that has ended isn't waited for before."""
+    try:
+        if ended:
+            os.waitid(os.P_PID, pid, os.WEXITED | os.WNOWAIT)
+        with open(f"/proc/{pid}/stat", "rb") as file:
+            words = file.read().rpartition(b")")[2].split()
+    except OSError:
+        return False
+    return int(words[CHILDREN_FAULTS]) > 0
 
 
 def check_there(words):

@@ -119,7 +119,7 @@ def open_recordings(options):
             ends.callback(child.terminate)
             ends.enter_context(file)
             words = shlex.join(options.run)
-            opened.append(Recorded(words, Lackey(words), file, part, lambda: not options.whole))
+            opened.append(Recorded(words, Lackey(words), file, part, lambda: not options.whole, child.pid))
         yield opened
 
 

@@ -5,7 +5,7 @@ import collections
 import dataclasses
 import zlib
 
-from programs import begin_of
+from programs import begin_of, started_others
 from trace_limits import RecordError
 
 BLOCK_BYTES = 1 << 16
@@ -99,9 +99,9 @@ class Recorded:
     `begins` says what stands at the start, and `notes` what the user should know.
     """
 
-    def __init__(self, name, form, opened, part, ended=lambda: False):
+    def __init__(self, name, form, opened, part, ended=lambda: False, pid=None):
         self.name, self.form, self.part = name, form, part
-        self.file, self.ended = opened, ended
+        self.file, self.ended, self.pid = opened, ended, pid
         self.before = self.after = 0
         self.unit = 1
         self.over = False
@@ -278,6 +278,8 @@ class Recorded:
         elif self.was_ended():
             self.notes.append("it was ended when enough was recorded; --whole counts all of its references")
         self.file.close()
+        if self.pid is not None and started_others(self.pid, self.over):
+            self.notes.append("it started other processes, which aren't recorded; --children records them too")
 
     def was_ended(self):
         """Whether it is of a program that was ended before its own end."""

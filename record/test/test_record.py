@@ -588,6 +588,13 @@ class RealPrograms(Case):
         self.assertRegex(messages, r"record: \d+ of the \d+ references")
 
     @unittest.skipUnless(shutil.which("valgrind"), "valgrind isn't there")
+    def test_others_are_named(self):
+        """A program that starts others is said to do so, where they aren't recorded."""
+        for words, wanted in [("/bin/true; :", True), (":; :", False)]:
+            messages = script("record.py", "--whole", "--count", 100, "--run", "sh", "-c", words)[2]
+            self.assertEqual("it started other processes, which aren't recorded; --children" in messages, wanted, messages)
+
+    @unittest.skipUnless(shutil.which("valgrind"), "valgrind isn't there")
     def test_children(self):
         """A shell, what it forks and what it starts have a trace each, from where the words ask for."""
         folder = pathlib.Path(self.folder.name) / "all"
