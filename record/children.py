@@ -33,6 +33,11 @@ def lives(pid):
         return False
 
 
+def recorded_in(folder):
+    """The numbers of the processes; a file may also be what the system keeps of one that has failed."""
+    return [name for name in os.listdir(folder) if name.isdecimal()]
+
+
 def run_all(words, folder):
     """Runs the program until it and all processes that it started have ended. Each writes a file of its own,
     under its process's number."""
@@ -41,10 +46,11 @@ def run_all(words, folder):
             start_new_session=True) as child:
         try:
             child.wait()
-            while any(map(lives, os.listdir(folder))):
+            while any(map(lives, recorded_in(folder))):
                 time.sleep(WAIT_SECONDS)
         except BaseException:
-            os.killpg(child.pid, signal.SIGKILL)
+            with contextlib.suppress(ProcessLookupError):
+                os.killpg(child.pid, signal.SIGKILL)
             raise
 
 
@@ -105,7 +111,7 @@ def child_traces(options):
         made = ends.enter_context(tempfile.TemporaryDirectory(prefix=".record-", dir=os.path.dirname(goal)))
         run_all(options.run, logs)
         told = []
-        for process in in_order([Process(logs, pid) for pid in os.listdir(logs)]):
+        for process in in_order([Process(logs, pid) for pid in recorded_in(logs)]):
             try:
                 told += trace_of(options, process, made)
             except WriteError:
