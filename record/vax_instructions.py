@@ -5,7 +5,6 @@ import re
 
 WIDTHS = {"b": 1, "w": 2, "l": 4, "q": 8}
 REGISTERS = [f"R{n}" for n in range(12)] + ["AP", "FP", "SP", "PC"]
-STACKED = REGISTERS[:15]    # those that a register mask may name
 OPERAND = re.compile(r"(?P<deferred>@)?(?P<literal>#)?(?P<number>-?[0-9A-F]+)?"
                      r"(?P<less>-)?(?:\((?P<base>[A-Z0-9]+)\)(?P<more>\+)?)?(?:\[(?P<index>[A-Z0-9]+)\])?")
 FRAME_BYTES = 20            # condition handler, mask and PSW, AP, FP and PC
