@@ -1,0 +1,75 @@
+# Installs what release/ holds; nothing is built or proved here.
+#
+#     make install PREFIX=/usr/local [DESTDIR=..]     program, library, header, man page, completion, page
+#     make uninstall PREFIX=/usr/local [DESTDIR=..]
+#     make deb                                        a Debian package in out/
+#
+# docs/INSTALL.md says more.
+
+PREFIX = /usr/local
+DESTDIR =
+LIBDIR = $(PREFIX)/lib
+ZSHDIR = $(PREFIX)/share/zsh/site-functions
+
+# the shared library, and the name by which programs that are linked with it ask for it, if it has one
+LIBRARY = release/libneqysbar.so
+SONAME := $(shell grep -aom 1 'libneqysbar\.so\.[0-9][0-9]*' $(LIBRARY))
+
+VERSION := $(shell cat VERSION)
+TEXTS = help/neqysbar.txt $(foreach command,serial replay make check study dump show,help/$(command).txt)
+
+# the folders that are this program's own
+home = $(DESTDIR)$(PREFIX)/lib/neqysbar
+page = $(DESTDIR)$(PREFIX)/share/neqysbar/player
+documents = $(DESTDIR)$(PREFIX)/share/doc/neqysbar
+# and those that it shares
+binaries = $(DESTDIR)$(PREFIX)/bin
+headers = $(DESTDIR)$(PREFIX)/include
+libraries = $(DESTDIR)$(LIBDIR)
+manual = $(DESTDIR)$(PREFIX)/share/man/man1
+bash = $(DESTDIR)$(PREFIX)/share/bash-completion/completions
+zsh = $(DESTDIR)$(ZSHDIR)
+
+put = install -m 644
+put_program = install -m 755
+
+.PHONY: help install uninstall deb
+help:
+	@sed -n 's/^# \{0,1\}//p; /^$$/q' Makefile
+
+install:
+	@release/is_of_sources || { echo "make: release/ isn't built from the sources that are here: release/make does it" >&2; exit 1; }
+	@case "$(PREFIX)" in /*) ;; *) echo "make: PREFIX has to begin with /" >&2; exit 1 ;; esac
+	umask 022 && install -d "$(home)/release" "$(home)/help" "$(binaries)" "$(headers)" "$(libraries)/pkgconfig" \
+	    "$(manual)" "$(bash)" "$(zsh)" "$(page)" "$(documents)/docs" "$(documents)/python" \
+	    "$(documents)/examples/lessons" "$(documents)/examples/recorded"
+	$(put_program) neqysbar "$(home)/"
+	$(put_program) release/neqysbar "$(home)/release/"
+	$(put) VERSION "$(home)/"
+	$(put) $(TEXTS) "$(home)/help/"
+	ln -sf ../lib/neqysbar/neqysbar "$(binaries)/neqysbar"
+	$(put) library/neqysbar.h "$(headers)/"
+	$(put) release/libneqysbar.a "$(libraries)/"
+	$(put) $(LIBRARY) "$(libraries)/$(or $(SONAME),libneqysbar.so)"
+	$(if $(SONAME),ln -sf $(SONAME) "$(libraries)/libneqysbar.so")
+	sed 's|@PREFIX@|$(PREFIX)|; s|@LIBDIR@|$(LIBDIR)|; s|@VERSION@|$(VERSION)|' packaging/neqysbar.pc.in >"$(libraries)/pkgconfig/neqysbar.pc"
+	awk -v version="$(VERSION)" -f help/man.awk $(TEXTS) >"$(manual)/neqysbar.1"
+	awk -v shell=bash -f help/completion.awk $(TEXTS) >"$(bash)/neqysbar"
+	awk -v shell=zsh -f help/completion.awk $(TEXTS) >"$(zsh)/_neqysbar"
+	chmod 644 "$(libraries)/pkgconfig/neqysbar.pc" "$(manual)/neqysbar.1" "$(bash)/neqysbar" "$(zsh)/_neqysbar"
+	$(put) $(wildcard player/*.html player/*.css player/*.js player/*.wasm) "$(page)/"
+	$(put) README.md "$(documents)/"
+	$(put) $(wildcard docs/*.md) "$(documents)/docs/"
+	$(put) python/neqysbar.py "$(documents)/python/"
+	$(put) $(filter-out examples/test_scripts.py %.py,$(wildcard examples/*.*)) "$(documents)/examples/"
+	$(put_program) $(filter-out examples/test_scripts.py,$(wildcard examples/*.py)) "$(documents)/examples/"
+	$(put) $(wildcard examples/lessons/*.*) "$(documents)/examples/lessons/"
+	$(put) $(wildcard examples/recorded/*.*) "$(documents)/examples/recorded/"
+
+uninstall:
+	rm -rf "$(home)" "$(DESTDIR)$(PREFIX)/share/neqysbar" "$(documents)"
+	rm -f "$(binaries)/neqysbar" "$(headers)/neqysbar.h" "$(libraries)/libneqysbar.a" "$(libraries)/libneqysbar.so" $(if $(SONAME),"$(libraries)/$(SONAME)") \
+	    "$(libraries)/pkgconfig/neqysbar.pc" "$(manual)/neqysbar.1" "$(bash)/neqysbar" "$(zsh)/_neqysbar"
+
+deb:
+	packaging/deb
