@@ -10,23 +10,20 @@
 It needs Python 3.9 and no packages. NEQYSBAR in the environment may name another program.
 """
 
-import pathlib
 import subprocess
 import sys
 
 sys.dont_write_bytecode = True
 
 import summary
-from study_curves import PROGRAM
+from scripts import HERE, Refused, ended, output_of, words_of
 
-HERE = pathlib.Path(__file__).parent
 LESSONS = HERE / "lessons"
 
 
 def entries(trace):
     """The entries of a run of this trace."""
-    done = subprocess.run([PROGRAM, "serial"], input=trace, capture_output=True, text=True, check=True)
-    return summary.entries_of(done.stdout.splitlines())[0]
+    return summary.entries_of(output_of(["serial"], trace.encode())[0].splitlines())[0]
 
 
 def counts(trace):
@@ -52,8 +49,9 @@ def table(*rows):
 
 def cycling(procs, frames):
     words = ["--procs", procs, "--pages", 6, "--frames", frames, "--refs", 600]
-    done = subprocess.run([sys.executable, HERE / "cycling_trace.py", *map(str, words)],
-                          capture_output=True, text=True, check=True)
+    done = subprocess.run([sys.executable, HERE / "cycling_trace.py", *map(str, words)], capture_output=True, text=True)
+    if done.returncode:
+        raise Refused(done.stderr.strip())
     return done.stdout
 
 
@@ -125,7 +123,12 @@ def of_limits(trace, limit):
 
 TABLES = {"frames": frames, "writing": writing, "processes": processes, "memory": memory, "limits": limits}
 
+
+def main():
+    words = words_of(__doc__)
+    words.add_argument("table", choices=TABLES)
+    TABLES[words.parse_args().table]()
+
+
 if __name__ == "__main__":
-    if len(sys.argv) != 2 or sys.argv[1] not in TABLES:
-        sys.exit(__doc__)
-    TABLES[sys.argv[1]]()
+    ended("lessons", main)

@@ -17,8 +17,9 @@ LIB, two IMG, two the last zero pages); the page, of three draws in four from th
 region; the longword in the page; the op, half of them reads, a quarter writes, a quarter adds; the value.
 """
 
-import argparse
 import sys
+
+from scripts import ended, number, words_of
 
 PARAMETERS = {
     "PFC": 8, "HILIMIT": 64, "LOLIMIT": 16, "WAITLIMIT": 128, "WRTCLUSTER": 16, "FREELIM": 16,
@@ -75,17 +76,8 @@ def body(seed, procs, refs):
         yield " ".join(words)
 
 
-def number(least, most):
-    """A reader of numbers in these bounds."""
-    def read(word):
-        if not word.isdecimal() or not least <= int(word) <= most:
-            raise argparse.ArgumentTypeError(f"{word} is not {least} to {most}")
-        return int(word)
-    return read
-
-
 def main():
-    words = argparse.ArgumentParser(description=__doc__, formatter_class=argparse.RawDescriptionHelpFormatter)
+    words = words_of(__doc__)
     words.add_argument("--seed", type=number(0, 2**32 - 1), required=True)
     words.add_argument("--procs", type=number(1, 16), required=True)
     words.add_argument("--refs", type=number(1, 100_000), required=True)
@@ -100,7 +92,4 @@ def main():
 
 
 if __name__ == "__main__":
-    try:
-        main()
-    except BrokenPipeError:
-        sys.stderr.close()
+    ended("made_trace", main)

@@ -1,21 +1,20 @@
 #!/usr/bin/env python3
 """Draws what the references of a process cost against the number of frames.
 
-For each number of frames it runs `study` of the program over the trace, and takes the faults of the
-ring, of LRU and the least ones from the lines. It writes an SVG picture with the three curves, and
-prints the numbers. It needs nothing but Python 3.9 and the program.
+    examples/study_curves.py examples/recorded/sort.trace A 16 sort.svg
 
-    python3 examples/study_curves.py examples/recorded/sort.trace A 16 examples/sort-study.svg
+For each number of frames, from 1 to the one that is named, at most 1024, it runs `study` of the program
+over the trace, and takes the faults of the ring, of LRU and the least ones from the lines. It writes an
+SVG picture with the three curves, and prints the numbers. It needs Python 3.9 and no packages. NEQYSBAR
+in the environment may name another program.
 """
 
+import html
 import os
-import subprocess
-import sys
 
-TOP = os.path.dirname(os.path.dirname(os.path.abspath(__file__)))
-# the program, which NEQYSBAR in the environment may name
-PROGRAM = os.environ.get("NEQYSBAR") or os.path.join(TOP, "neqysbar")
+from scripts import Refused, ended, number, output_of, words_of
 
+MOST_FRAMES = 1024
 WIDTH, HEIGHT = 640, 400
 LEFT, RIGHT, ABOVE, BELOW = 70, 20, 30, 50
 # a curve's name, its colour, and the dashes that tell it from the others without colours
@@ -24,14 +23,12 @@ CURVES = (("ring", "#b04a2f", "none"), ("LRU", "#2f6fb0", "9 4"), ("least", "#3a
 
 def faults(trace, process, frames):
     """The faults of the ring, of LRU and the least, with so many frames."""
-    with open(trace, "rb") as source:
-        run = subprocess.run(
-            [PROGRAM, "study", "--process", process, "--frames", str(frames)],
-            stdin=source, stdout=subprocess.PIPE, text=True, check=True,
-        )
+    text, messages = output_of(["study", "--process", process, "--frames", str(frames)], trace)
     found = {}
-    for line in run.stdout.splitlines():
+    for line in text.splitlines():
         words = line.split()
+        if words[0] == "PAGES" and words[1] == "0":
+            raise Refused(messages.removeprefix("neqysbar: ") or f"process {process} has no references")
         if words[0] in ("RING", "LRU", "LEAST") and words[1] == str(frames):
             found[words[0]] = int(words[2])
     return found["RING"], found["LRU"], found["LEAST"]
@@ -59,7 +56,7 @@ def picture(title, rows):
     out = [
         f'<svg xmlns="http://www.w3.org/2000/svg" viewBox="0 0 {WIDTH} {HEIGHT}" font-family="sans-serif" font-size="12">',
         f'<rect width="{WIDTH}" height="{HEIGHT}" fill="white"/>',
-        f'<text x="{LEFT}" y="18" font-size="14">{title}</text>',
+        f'<text x="{LEFT}" y="18" font-size="14">{html.escape(title)}</text>',
     ]
     step = step_of(most_faults)
     for count in range(0, most_faults + 1, step):
@@ -83,16 +80,26 @@ def picture(title, rows):
 
 
 def main():
-    if len(sys.argv) != 5:
-        sys.exit(__doc__)
-    trace, process, most, path = sys.argv[1:]
-    rows = [(frames, *faults(trace, process, frames)) for frames in range(1, int(most) + 1)]
+    words = words_of(__doc__)
+    words.add_argument("trace", help="a file with a trace")
+    words.add_argument("process", choices=[chr(65 + place) for place in range(16)], metavar="process", help="A to P")
+    words.add_argument("frames", type=number(1, MOST_FRAMES), help=f"1 to {MOST_FRAMES}")
+    words.add_argument("picture", help="the file for the picture")
+    asked = words.parse_args()
+    folder = os.path.dirname(asked.picture) or "."
+    if not os.path.isdir(folder):
+        raise Refused(f"there is no folder {folder} for the picture")
+    if os.path.isdir(asked.picture):
+        raise Refused(f"{asked.picture} is a folder, and no file for the picture")
+    with open(asked.trace, "rb") as source:
+        trace = source.read()
+    rows = [(frames, *faults(trace, asked.process, frames)) for frames in range(1, asked.frames + 1)]
     print("frames   ring    LRU  least")
     for row in rows:
         print("{:6d} {:6d} {:6d} {:6d}".format(*row))
-    with open(path, "w", encoding="ascii", newline="\n") as out:
-        out.write(picture(f"Process {process} of {os.path.basename(trace)}", rows))
+    with open(asked.picture, "w", encoding="utf-8", newline="\n") as out:
+        out.write(picture(f"Process {asked.process} of {os.path.basename(asked.trace)}", rows))
 
 
 if __name__ == "__main__":
-    main()
+    ended("study_curves", main)

@@ -31,10 +31,11 @@ It needs Python 3.9 and `python/neqysbar.py`, and no packages. What isn't the ou
 
 import csv
 import json
-import pathlib
 import sys
 
-sys.path.insert(0, str(pathlib.Path(__file__).resolve().parent.parent / "python"))
+from scripts import HERE, Refused, ended, words_of
+
+sys.path.insert(0, str(HERE.parent / "python"))
 from neqysbar import NoEntry, entry_of  # noqa: E402
 
 COLUMNS = (
@@ -46,7 +47,8 @@ FIELDS = (
     "role process state why start before after faults status"
 ).split()
 
-class NoRun(Exception):
+
+class NoRun(Refused):
     """The input is no output of a run."""
 
 
@@ -137,37 +139,37 @@ def text_of(rows, entries, status):
     return "\n".join(out) + "\n"
 
 
-def main():
-    words = sys.argv[1:]
-    options = {word for word in words if word.startswith("--")}
-    paths = [word for word in words if not word.startswith("--")]
-    if not options <= {"--csv", "--json", "--lines"} or len(paths) > 1 or {"--csv", "--json"} <= options:
-        sys.exit(__doc__)
-    if "--lines" in options and len(options) == 1:
-        options.add("--csv")
+def lines_of(path):
+    """The lines of a file, or of standard input."""
     try:
-        if paths:
-            with open(paths[0], encoding="ascii") as source:
-                entries, status = entries_of(source)
-        else:
-            entries, status = entries_of(sys.stdin)
-    except (NoRun, OSError, UnicodeDecodeError) as fault:
-        print(f"summary: {fault}", file=sys.stderr)
-        sys.exit(2)
-    rows, fields = (entries, FIELDS) if "--lines" in options else (rows_of(entries), ["process", *COLUMNS, "hit_rate"])
-    if "--csv" in options:
+        if path is None:
+            return sys.stdin.buffer.read().decode("ascii").splitlines()
+        with open(path, encoding="ascii") as source:
+            return source.read().splitlines()
+    except UnicodeDecodeError as fault:
+        raise NoRun(f"this is no output of a run: byte {fault.start + 1} isn't ASCII") from None
+
+
+def main():
+    words = words_of(__doc__)
+    form = words.add_mutually_exclusive_group()
+    form.add_argument("--csv", action="store_true", help="write CSV")
+    form.add_argument("--json", action="store_true", help="write JSON")
+    words.add_argument("--lines", action="store_true", help="a row for each entry line; CSV, unless --json is there")
+    words.add_argument("file", nargs="?", help="the output of a run; without it standard input is read")
+    asked = words.parse_args()
+    entries, status = entries_of(lines_of(asked.file))
+    rows, fields = (entries, FIELDS) if asked.lines else (rows_of(entries), ["process", *COLUMNS, "hit_rate"])
+    if asked.json:
+        for row in rows:
+            print(json.dumps(row))
+    elif asked.csv or asked.lines:
         out = csv.DictWriter(sys.stdout, fields, restval="", lineterminator="\n")
         out.writeheader()
         out.writerows(rows)
-    elif "--json" in options:
-        for row in rows:
-            print(json.dumps(row))
     else:
         sys.stdout.write(text_of(rows, entries, status))
 
 
 if __name__ == "__main__":
-    try:
-        main()
-    except BrokenPipeError:
-        sys.stderr.close()
+    ended("summary", main)

@@ -129,6 +129,93 @@ class Curves(unittest.TestCase):
             self.assertEqual(path.read_bytes(), (HERE / "sort-study.svg").read_bytes())
 
 
+SCRIPTS = "summary made_trace cycling_trace study_curves lessons".split()
+CYCLING = {"procs": 3, "pages": 6, "frames": 16, "refs": 20}
+
+
+def cycling(**changed):
+    return [f"--{name}={value}" for name, value in {**CYCLING, **changed}.items() if value is not None]
+
+
+class CyclingTrace(unittest.TestCase):
+    def test_what_it_writes_is_a_trace(self):
+        for changed in ({}, {"procs": 1}, {"procs": 16, "refs": 10}, {"pages": 1, "limit": 2}, {"pages": 14},
+                        {"frames": 8}, {"frames": 4096, "pages": 1024}, {"limit": 14}, {"limit": 2}, {"refs": 1},
+                        {"procs": 4, "pages": 4096, "limit": 2}, {"procs": 1, "refs": 100000},
+                        {"frames": 1026, "limit": 1024}):
+            status, trace, messages = script("cycling_trace.py", *cycling(**changed))
+            self.assertEqual((status, messages), (0, ""), changed)
+            self.assertEqual(run(PROGRAM, "serial", text=trace)[0], 0, changed)
+
+    def test_what_would_be_no_trace_is_refused(self):
+        for changed in ({"procs": 0}, {"procs": 17}, {"procs": -1}, {"procs": "x"}, {"procs": ""}, {"procs": None},
+                        {"pages": 0}, {"pages": 1}, {"pages": 4097}, {"pages": 15}, {"frames": 7}, {"frames": 4097},
+                        {"refs": 0}, {"refs": 100001}, {"refs": 33334}, {"limit": 0}, {"limit": 1}, {"limit": 15},
+                        {"limit": 1025, "frames": 4096}, {"pages": 1025, "frames": 4096},
+                        {"procs": 5, "pages": 4096, "limit": 2}, {"pages": "\u0665"}):
+            status, trace, messages = script("cycling_trace.py", *cycling(**changed))
+            self.assertEqual((status, trace), (2, ""), changed)
+            self.assertRegex(messages, r"^(usage|cycling_trace): ", changed)
+            self.assertNotIn("Traceback", messages)
+
+
+class Endings(unittest.TestCase):
+    """Words and ends that fail are said in a line or two, with status 2."""
+
+    def test_each_script_is_run_by_its_name(self):
+        for name in SCRIPTS:
+            status, output, messages = run(HERE / f"{name}.py", "--help")
+            self.assertEqual((status, messages), (0, ""))
+            self.assertIn(f"examples/{name}.py", output)
+            self.assertIn("Python 3.9", output)
+
+    def test_wrong_words(self):
+        sort = HERE / "recorded" / "sort.trace"
+        for name, words, wanted in (
+            ("study_curves", (), "required: trace"), ("study_curves", (HERE / "none.trace", "A", 3, "x.svg"), "none.trace: No such file"),
+            ("study_curves", (HERE, "A", 3, "x.svg"), "Is a directory"), ("study_curves", (sort, "A", 5000, "x.svg"), "5000 is not 1 to 1024"),
+            ("study_curves", (sort, "A", 0, "x.svg"), "0 is not 1 to 1024"), ("study_curves", (sort, "A", "x", "x.svg"), "x is not"),
+            ("study_curves", (sort, "a", 3, "x.svg"), "invalid choice"), ("study_curves", (sort, "B", 3, "x.svg"), "doesn't declare"),
+            ("study_curves", (sort, "A", 1, "none/x.svg"), "no folder none"), ("study_curves", (sort, "A", 1, HERE), "is a folder"),
+            ("study_curves", (HERE / "sort-study.svg", "A", 1, "x.svg"), "neqysbar: line 1:"),
+            ("study_curves", (HERE / "no-requests.trace", "A", 1, "x.svg"), "has no references"),
+            ("lessons", (), "required: table"), ("lessons", ("frame",), "invalid choice: 'frame'"), ("lessons", ("frames", "x"), "unrecognized"),
+            ("summary", ("--cvs",), "--cvs"), ("summary", ("a", "b"), "unrecognized"), ("summary", ("--csv", "--json"), "not allowed with"),
+            ("summary", (HERE / "none.out",), "none.out: No such file"), ("summary", (HERE,), "Is a directory"),
+            ("summary", (HERE / "first-run.dump",), "isn't ASCII"), ("made_trace", ("--seed", 1), "required: --procs, --refs"),
+            ("made_trace", ("--seed", 1, "--procs", 17, "--refs", 1), "17 is not 1 to 16"),
+        ):
+            with tempfile.TemporaryDirectory() as folder:
+                done = subprocess.run([sys.executable, HERE / f"{name}.py", *map(str, words)], capture_output=True, text=True,
+                                      stdin=subprocess.DEVNULL, cwd=folder)
+                self.assertEqual((done.returncode, done.stdout), (2, ""), (name, words))
+                self.assertIn(wanted, done.stderr)
+                self.assertNotIn("Traceback", done.stderr)
+                self.assertEqual(list(pathlib.Path(folder).iterdir()), [])
+
+    def test_no_program(self):
+        for named, wanted in (("none", "none can't be run: No such file"), ("/", "/ can't be run"), ("/bin/false", "ends with status 1")):
+            for name, words in (("lessons", ["frames"]), ("study_curves", [HERE / "lessons" / "belady.trace", "A", 2, "x.svg"])):
+                done = subprocess.run([sys.executable, HERE / f"{name}.py", *map(str, words)], capture_output=True, text=True,
+                                      env={**os.environ, "NEQYSBAR": named})
+                self.assertEqual((done.returncode, done.stdout), (2, ""))
+                self.assertIn(wanted, done.stderr)
+                self.assertNotIn("Traceback", done.stderr)
+
+    def test_output_that_is_not_taken(self):
+        calls = {"made_trace": ["--seed", "1", "--procs", "1", "--refs", "9000"], "cycling_trace": cycling(refs=3000),
+                 "summary": ["--lines", HERE / "sort-stack.out"], "lessons": ["frames"],
+                 "study_curves": [HERE / "lessons" / "belady.trace", "A", "3", os.devnull]}
+        for name, words in calls.items():
+            words = [sys.executable, str(HERE / f"{name}.py"), *map(str, words)]
+            with open("/dev/full", "wb") as full:
+                done = subprocess.run(words, stdout=full, stderr=subprocess.PIPE, text=True)
+            self.assertEqual((done.returncode, done.stderr), (2, f"{name}: standard output: No space left on device\n"))
+            done = subprocess.run(["bash", "-c", '"$@" | head -n 1 >/dev/null; exit "${PIPESTATUS[0]}"', "bash", *words],
+                                  stderr=subprocess.PIPE, text=True)
+            self.assertEqual((done.returncode in (0, 141), done.stderr), (True, ""), name)
+
+
 if __name__ == "__main__":
     if len(sys.argv) > 1 and not sys.argv[1].startswith("-"):
         PROGRAM = os.environ["NEQYSBAR"] = str(pathlib.Path(sys.argv.pop(1)).resolve())
