@@ -25,6 +25,8 @@ ROOM=1000000
 looks_of() {
     {
         cd -P -- "$1" || exit
+        # times have a point in any language
+        export LC_ALL=C
         # shellcheck disable=SC2185
         find -files0-from - -maxdepth 0 -printf '%m %s %C@ %p\n' ||
             exec xargs -r -0 -s "$ROOM" stat --printf '%a %s %.Z %n\n' --
