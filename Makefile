@@ -35,7 +35,7 @@ put_program = install -m 755
 
 .PHONY: help install uninstall deb
 help:
-	@sed -n 's/^# \{0,1\}//p; /^$$/q' Makefile
+	@sed -n '/^#/!q; s/^# \{0,1\}//p' Makefile
 
 install:
 	@release/is_of_sources || { echo "make: release/ isn't built from the sources that are here: release/make does it" >&2; exit 1; }

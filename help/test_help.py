@@ -259,15 +259,19 @@ class Made(unittest.TestCase):
     @unittest.skipUnless(shutil.which("bash"), "there is no bash")
     def test_the_completion_for_bash(self):
         source = made("completion.awk", shell="bash")
-        call = ('eval "$1"; shift; COMP_WORDS=("$@"); COMP_CWORD=$(($# - 1)); _neqysbar; echo "${COMPREPLY[*]}"')
+        call = ('eval "$1"; shift; compopt() { :; }; COMP_WORDS=("$@"); COMP_CWORD=$(($# - 1)); _neqysbar; echo "${COMPREPLY[*]}"')
         for words, wanted in (
             (("",), " ".join(COMMANDS) + " help --help --version"), (("s",), "serial study show"),
             (("help", ""), " ".join(COMMANDS)), (("help", "serial", ""), ""), (("serial", ""), "--help"),
             (("study", ""), "--process --frames --help"), (("study", "--process", ""), "A B C D E F G H I J K L M N O P"),
             (("study", "--frames", ""), ""), (("study", "--frames", "3", ""), "--process"),
             (("make", "--seed", "1", "--refs", "2", "--"), "--procs"), (("frob", "--frames", ""), ""),
+            (("serial", "<", "VERS"), "VERSION"), (("serial", "2>", "VERS"), "VERSION"),
         ):
-            self.assertEqual(run("bash", "-c", call, "bash", source, "neqysbar", *words), (0, wanted + "\n", ""), words)
+            found = run("bash", "-c", call, "bash", source, "neqysbar", *words, cwd=TOP)
+            self.assertEqual(found, (0, wanted + "\n", ""), words)
+        if shutil.which("shellcheck"):
+            self.assertEqual(run("shellcheck", "-s", "bash", "-", input=source), (0, "", ""))
 
     @unittest.skipUnless(shutil.which("zsh"), "there is no zsh")
     def test_the_completion_for_zsh(self):
