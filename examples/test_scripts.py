@@ -159,6 +159,35 @@ class CyclingTrace(unittest.TestCase):
             self.assertNotIn("Traceback", messages)
 
 
+SORT = HERE / "recorded" / "sort.trace"
+# a script, words that are wrong, and what the message has
+WRONG = (
+    ("study_curves", (), "required: trace"),
+    ("study_curves", (HERE / "none.trace", "A", 3, "x.svg"), "none.trace: No such file"),
+    ("study_curves", (HERE, "A", 3, "x.svg"), "Is a directory"),
+    ("study_curves", (SORT, "A", 5000, "x.svg"), "5000 is not 1 to 1024"),
+    ("study_curves", (SORT, "A", 0, "x.svg"), "0 is not 1 to 1024"),
+    ("study_curves", (SORT, "A", "x", "x.svg"), "x is not"),
+    ("study_curves", (SORT, "a", 3, "x.svg"), "invalid choice"),
+    ("study_curves", (SORT, "B", 3, "x.svg"), "doesn't declare"),
+    ("study_curves", (SORT, "A", 1, "none/x.svg"), "no folder none"),
+    ("study_curves", (SORT, "A", 1, HERE), "is a folder"),
+    ("study_curves", (HERE / "sort-study.svg", "A", 1, "x.svg"), "neqysbar: line 1:"),
+    ("study_curves", (HERE / "no-requests.trace", "A", 1, "x.svg"), "has no references"),
+    ("lessons", (), "required: table"),
+    ("lessons", ("frame",), "invalid choice: 'frame'"),
+    ("lessons", ("frames", "x"), "unrecognized"),
+    ("summary", ("--cvs",), "--cvs"),
+    ("summary", ("a", "b"), "unrecognized"),
+    ("summary", ("--csv", "--json"), "not allowed with"),
+    ("summary", (HERE / "none.out",), "none.out: No such file"),
+    ("summary", (HERE,), "Is a directory"),
+    ("summary", (HERE / "first-run.dump",), "isn't ASCII"),
+    ("made_trace", ("--seed", 1), "required: --procs, --refs"),
+    ("made_trace", ("--seed", 1, "--procs", 17, "--refs", 1), "17 is not 1 to 16"),
+)
+
+
 class Endings(unittest.TestCase):
     """Words and ends that fail are said in a line or two, with status 2."""
 
@@ -170,21 +199,7 @@ class Endings(unittest.TestCase):
             self.assertIn("Python 3.9", output)
 
     def test_wrong_words(self):
-        sort = HERE / "recorded" / "sort.trace"
-        for name, words, wanted in (
-            ("study_curves", (), "required: trace"), ("study_curves", (HERE / "none.trace", "A", 3, "x.svg"), "none.trace: No such file"),
-            ("study_curves", (HERE, "A", 3, "x.svg"), "Is a directory"), ("study_curves", (sort, "A", 5000, "x.svg"), "5000 is not 1 to 1024"),
-            ("study_curves", (sort, "A", 0, "x.svg"), "0 is not 1 to 1024"), ("study_curves", (sort, "A", "x", "x.svg"), "x is not"),
-            ("study_curves", (sort, "a", 3, "x.svg"), "invalid choice"), ("study_curves", (sort, "B", 3, "x.svg"), "doesn't declare"),
-            ("study_curves", (sort, "A", 1, "none/x.svg"), "no folder none"), ("study_curves", (sort, "A", 1, HERE), "is a folder"),
-            ("study_curves", (HERE / "sort-study.svg", "A", 1, "x.svg"), "neqysbar: line 1:"),
-            ("study_curves", (HERE / "no-requests.trace", "A", 1, "x.svg"), "has no references"),
-            ("lessons", (), "required: table"), ("lessons", ("frame",), "invalid choice: 'frame'"), ("lessons", ("frames", "x"), "unrecognized"),
-            ("summary", ("--cvs",), "--cvs"), ("summary", ("a", "b"), "unrecognized"), ("summary", ("--csv", "--json"), "not allowed with"),
-            ("summary", (HERE / "none.out",), "none.out: No such file"), ("summary", (HERE,), "Is a directory"),
-            ("summary", (HERE / "first-run.dump",), "isn't ASCII"), ("made_trace", ("--seed", 1), "required: --procs, --refs"),
-            ("made_trace", ("--seed", 1, "--procs", 17, "--refs", 1), "17 is not 1 to 16"),
-        ):
+        for name, words, wanted in WRONG:
             with tempfile.TemporaryDirectory() as folder:
                 done = subprocess.run([sys.executable, HERE / f"{name}.py", *map(str, words)], capture_output=True, text=True,
                                       stdin=subprocess.DEVNULL, cwd=folder)
@@ -194,7 +209,8 @@ class Endings(unittest.TestCase):
                 self.assertEqual(list(pathlib.Path(folder).iterdir()), [])
 
     def test_no_program(self):
-        for named, wanted in (("none", "none can't be run: No such file"), ("/", "/ can't be run"), ("/bin/false", "ends with status 1")):
+        programs = {"none": "none can't be run: No such file", "/": "/ can't be run", "/bin/false": "ends with status 1"}
+        for named, wanted in programs.items():
             for name, words in (("lessons", ["frames"]), ("study_curves", [HERE / "lessons" / "belady.trace", "A", 2, "x.svg"])):
                 done = subprocess.run([sys.executable, HERE / f"{name}.py", *map(str, words)], capture_output=True, text=True,
                                       env={**os.environ, "NEQYSBAR": named})
