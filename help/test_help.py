@@ -151,7 +151,7 @@ class Texts(unittest.TestCase):
                 calls = ((words, own, os.devnull), ([*words, "x"], own, os.devnull), (words, "/", os.devnull),
                          (words, own, "/dev/full"), *((words, f"{room}/{status}", os.devnull) for status in bad))
                 seen = {status_of(*call) for call in calls}
-                told = re.findall(r"\d", " ".join(section(name, "STATUS")).split(" as neqysbar help")[0])
+                told = re.findall(r"^(\d) {2}", "\n".join(section(name, "STATUS")), re.M)
                 # want of memory, and what no trace of make does, are tried elsewhere
                 self.assertEqual(seen | {7} | ({5} if name == "make" else set()), set(map(int, told)), name)
 
