@@ -4,7 +4,9 @@
 PROGRAM is the one whose output is summed up; without it the script `neqysbar` of the repository runs.
 """
 
+import contextlib
 import csv
+import importlib
 import io
 import json
 import os
@@ -19,6 +21,7 @@ sys.dont_write_bytecode = True
 HERE = pathlib.Path(__file__).resolve().parent
 sys.path.insert(0, str(HERE))
 
+import scripts
 import summary
 
 PROGRAM = str(HERE.parent / "neqysbar")
@@ -39,6 +42,20 @@ def run(*words, text=None):
 
 def script(name, *words, text=None):
     return run(sys.executable, HERE / name, *words, text=text)
+
+
+def called(name, *words):
+    """The same of a script that is called in this process, which is quicker, and that opens no file."""
+    output, messages, status = io.StringIO(), io.StringIO(), 0
+    before, sys.argv = sys.argv, [f"{name}.py", *map(str, words)]
+    try:
+        with contextlib.redirect_stdout(output), contextlib.redirect_stderr(messages):
+            scripts.ended(name, importlib.import_module(name).main)
+    except SystemExit as end:
+        status = end.code
+    finally:
+        sys.argv = before
+    return status, output.getvalue(), messages.getvalue()
 
 
 class Summary(unittest.TestCase):
@@ -143,7 +160,7 @@ class CyclingTrace(unittest.TestCase):
                         {"frames": 8}, {"frames": 4096, "pages": 1024}, {"limit": 14}, {"limit": 2}, {"refs": 1},
                         {"procs": 4, "pages": 4096, "limit": 2}, {"procs": 1, "refs": 100000},
                         {"frames": 1026, "limit": 1024}):
-            status, trace, messages = script("cycling_trace.py", *cycling(**changed))
+            status, trace, messages = called("cycling_trace", *cycling(**changed))
             self.assertEqual((status, messages), (0, ""), changed)
             self.assertEqual(run(PROGRAM, "serial", text=trace)[0], 0, changed)
 
@@ -153,7 +170,7 @@ class CyclingTrace(unittest.TestCase):
                         {"refs": 0}, {"refs": 100001}, {"refs": 33334}, {"limit": 0}, {"limit": 1}, {"limit": 15},
                         {"limit": 1025, "frames": 4096}, {"pages": 1025, "frames": 4096},
                         {"procs": 5, "pages": 4096, "limit": 2}, {"pages": "\u0665"}):
-            status, trace, messages = script("cycling_trace.py", *cycling(**changed))
+            status, trace, messages = called("cycling_trace", *cycling(**changed))
             self.assertEqual((status, trace), (2, ""), changed)
             self.assertRegex(messages, r"^(usage|cycling_trace): ", changed)
             self.assertNotIn("Traceback", messages)
