@@ -58,7 +58,7 @@ install:
 	awk -v shell=zsh -f help/completion.awk $(TEXTS) >"$(zsh)/_neqysbar"
 	chmod 644 "$(libraries)/pkgconfig/neqysbar.pc" "$(manual)/neqysbar.1" "$(bash)/neqysbar" "$(zsh)/_neqysbar"
 	$(put) $(wildcard player/*.html player/*.css player/*.js player/*.wasm) "$(page)/"
-	$(put) README.md "$(documents)/"
+	$(put) README.md CHANGELOG.md "$(documents)/"
 	$(put) $(wildcard docs/*.md) "$(documents)/docs/"
 	$(put) python/neqysbar.py "$(documents)/python/"
 	$(put) $(filter-out examples/test_scripts.py %.py,$(wildcard examples/*.*)) "$(documents)/examples/"

@@ -108,6 +108,11 @@ class Texts(unittest.TestCase):
                 self.assertRegex(line, r"^(\S|$| {4}\S| {12}\S)", name)
         self.assertEqual(sorted(path.stem for path in HERE.glob("*.txt")), sorted(("neqysbar", *COMMANDS)))
 
+    def test_the_files_are_there(self):
+        for line in section("neqysbar", "FILES"):
+            if "/" in line and not line.startswith(" ") and " " not in line:
+                self.assertTrue((TOP / line).exists(), line)
+
     def test_each_command_is_told_alike(self):
         for name in COMMANDS:
             headings = re.findall(r"^([A-Z]+)$", text_of(name), re.M)
