@@ -41,8 +41,7 @@ install:
 	@release/is_of_sources || { echo "make: release/ isn't built from the sources that are here: release/make does it" >&2; exit 1; }
 	@case "$(PREFIX)" in /*) ;; *) echo "make: PREFIX has to begin with /" >&2; exit 1 ;; esac
 	umask 022 && install -d "$(home)/release" "$(home)/help" "$(binaries)" "$(headers)" "$(libraries)/pkgconfig" \
-	    "$(manual)" "$(bash)" "$(zsh)" "$(page)" "$(documents)/docs" "$(documents)/python" \
-	    "$(documents)/examples/lessons" "$(documents)/examples/recorded"
+	    "$(manual)" "$(bash)" "$(zsh)" "$(page)" "$(documents)/docs" "$(documents)/python"
 	$(put_program) neqysbar "$(home)/"
 	$(put_program) release/neqysbar "$(home)/release/"
 	$(put) VERSION "$(home)/"
@@ -61,10 +60,9 @@ install:
 	$(put) README.md CHANGELOG.md "$(documents)/"
 	$(put) $(wildcard docs/*.md) "$(documents)/docs/"
 	$(put) python/neqysbar.py "$(documents)/python/"
-	$(put) $(filter-out examples/test_scripts.py %.py,$(wildcard examples/*.*)) "$(documents)/examples/"
-	$(put_program) $(filter-out examples/test_scripts.py,$(wildcard examples/*.py)) "$(documents)/examples/"
-	$(put) $(wildcard examples/lessons/*.*) "$(documents)/examples/lessons/"
-	$(put) $(wildcard examples/recorded/*.*) "$(documents)/examples/recorded/"
+	umask 022 && find examples -type f ! -path '*/__pycache__/*' ! -name check ! -name test_scripts.py \
+	    -exec sh -c 'for file; do install -D -m "$$([ -x "$$file" ] && echo 755 || echo 644)" "$$file" "$$0/$$file"; done' \
+	    "$(documents)" {} +
 
 uninstall:
 	rm -rf "$(home)" "$(DESTDIR)$(PREFIX)/share/neqysbar" "$(documents)"
