@@ -1,26 +1,13 @@
 "use strict";
 // Says a line in words: what happened, why, and by which rule. The state is the one before it.
 (function (Player) {
-  const SEATS = { MPW: "the modified page writer", SWP: "the swapper" };
+  const { seatName, blockName, costOf, writeReason, limitReason, leavingReason } = Player.reasons;
   const MODES = { K: "kernel", E: "executive", S: "supervisor" };
   const WIDTHS = { 1: "byte", 2: "word", 4: "longword" };
   const EXPLAIN = {};
 
-  function seatName(seat) {
-    return SEATS[seat] || `process ${seat}`;
-  }
-
   function capital(text) {
     return text[0].toUpperCase() + text.slice(1);
-  }
-
-  function blockName(block) {
-    if (block[0] === "P") {
-      return `page file block ${block.slice(2)}`;
-    }
-    const [owner, number] = block.slice(2).split("/");
-    return block[0] === "X" ? `the swap block of ${owner}'s slot ${number}`
-      : `block ${number} of section ${owner}`;
   }
 
   function access(record) {
@@ -30,12 +17,7 @@
     return { mode, width, kind: bare[0] };
   }
 
-  function list(state, name) {
-    return name === "MODIFIED" ? `the modified list (${state.modified.length} before)`
-      : `the free list (${state.free.length} before)`;
-  }
-
-  EXPLAIN.DONE = function (state, record) {
+  EXPLAIN.DONE = function (state, record, run, line) {
     const { mode, width, kind } = access(record);
     const where = `the ${width} at ${record.address}${mode}`;
     const what = {
@@ -43,10 +25,10 @@
       W: `writes ${record.value} to ${where}.`,
       A: `adds ${record.value} to ${where} in one interlocked step; it held ${record.old} before.`,
     }[kind];
-    return { what: `Process ${record.seat} ${what}`,
-      why: "The page is mapped, the access is allowed, and the page is in the working set.",
-      rule: kind === "R" ? "Reference answered: a valid page is read without the pager."
-        : "Reference answered: a write sets the frame's modify mark." };
+    const { fault, why } = costOf(run, line);
+    return { what: `Process ${record.seat} ${what}`, why,
+      rule: `Reference answered: ${fault ? "after its fault the page is valid" : "the page is valid"}` +
+        `${kind === "R" ? "." : ", and a write sets the frame's modify mark."}` };
   };
 
   const DENIALS = {
@@ -163,27 +145,14 @@
       why: failures(record), rule: "Read error: the next line empties the frame." };
   };
 
-  // By which limit the modified list is written; the limits are known with the trace alone.
-  function writerReason(state, record) {
-    const { HILIMIT, LOLIMIT, WAITLIMIT } = state.config.parameters;
-    if (!state.config.known || record.seat === "SWP") {
-      return "";
-    }
-    return record.seat === "MPW"
-      ? ` The writer begins when the list has more pages than HILIMIT, ${HILIMIT}, and goes on until it ` +
-        `has at most LOLIMIT, ${LOLIMIT}.`
-      : ` A process that lacks a frame, or finds WAITLIMIT pages on the list, here ${WAITLIMIT}, writes ` +
-        "itself.";
-  }
-
-  EXPLAIN.OUT = function (state, record) {
+  EXPLAIN.OUT = function (state, record, run, line) {
     const frame = state.frames[record.frame];
     const swap = record.block[0] === "X";
     return { what: `${capital(seatName(record.seat))} begins to write ` +
       `${frame ? frame.page : "a page"} from frame F${record.frame} to ${blockName(record.block)}.`,
       why: swap ? "Its process is leaving memory, and the page goes to the swap block of its slot."
-        : `The frame heads ${list(state, "MODIFIED")}; it can't be reused before its page is written.` +
-          (frame && frame.state === "MODIFIED" ? writerReason(state, record) : ""),
+        : `The frame heads the modified list, and can't be reused before its page is written. ${
+          writeReason(state, record, run, line)}`,
       rule: swap ? "Outswap: private pages are written to swap blocks."
         : "Modified page writing: pages are taken from the head of the modified list." };
   };
@@ -211,11 +180,11 @@
   };
 
   const EVICT_REASONS = {
-    REPLACE: ["its working set is at its limit, and this is the first page from the hand on that " +
+    REPLACE: ["its working set is at its limit$, and this is the first page from the hand on that " +
       "isn't locked", "Replacement: the ring is gone round from the hand, and locked pages stay"],
     PURGE: ["it asked to purge this range", "Purge: pages of the range that aren't locked leave"],
     DELETE: ["it deletes this range", "Deletion: valid pages leave before the range is unmapped"],
-    LEAVE: ["the process is being swapped out", "Outswap: the working set is emptied"],
+    LEAVE: ["it is being swapped out", "Outswap: the working set is emptied"],
     RUNDOWN: ["all requests are answered, and shared pages are written back at the end",
       "Rundown: shared pages leave all working sets"],
   };
@@ -227,11 +196,14 @@
   };
 
   EXPLAIN.EVICT = function (state, record) {
-    const [why, rule] = EVICT_REASONS[record.why];
+    const [reason, rule] = EVICT_REASONS[record.why];
+    const process = state.processes[Player.processNumber(record.process)];
+    const why = reason.replace("$", process && process.limit ? `, ${process.limit} pages` : "");
     const page = state.frames[record.frame] ? state.frames[record.frame].page : "The page";
     return { what: `${page} in frame F${record.frame} leaves the working set of process ` +
       `${record.process}.`,
-      why: `Of process ${record.process}: ${why}. ${EVICT_STATES[record.state]}`,
+      why: `${record.why === "RUNDOWN" ? capital(why) : `Process ${record.process}: ${why}`}. ${
+        EVICT_STATES[record.state]}`,
       rule: `${rule}.` };
   };
 
@@ -241,7 +213,7 @@
     const way = record.limit > old ? "is raised" : record.limit < old ? "is lowered" : "stays";
     return { what: `The working set limit of process ${record.seat} ${way}: ${old} before, ` +
       `${record.limit} now.`,
-      why: `It had ${record.faults} faults in the last period.`,
+      why: limitReason(state, record),
       rule: "Automatic adjustment: many faults raise the limit, few faults lower it." };
   };
 
@@ -252,24 +224,9 @@
     RESIDENT: ["is in memory again", "All its pages have come back from its swap blocks."],
   };
 
-  // Why a process has to leave: who lacks frames, and how many there are.
-  function leavingReason(state, record) {
-    const lists = `the free list has ${state.free.length} frames, and the modified list ` +
-      `${state.modified.length}`;
-    const { FREELIM, FREEGOAL } = state.config.parameters;
-    if (record.seat === "SWP") {
-      return `After an answer ${lists}.` + (state.config.known ? " The swapper begins when fewer are free " +
-        `than FREELIM, ${FREELIM}, and goes on until FREEGOAL, ${FREEGOAL}, are.` : "");
-    }
-    const process = state.processes[Player.processNumber(record.seat)];
-    const coming = process && process.status !== "RESIDENT" ? ", which is being swapped in," : "";
-    return `Process ${record.seat}${coming} lacks a frame: ${lists}. The resident process whose last ` +
-      "answer is the longest ago has to leave.";
-  }
-
-  EXPLAIN.TURN = function (state, record) {
+  EXPLAIN.TURN = function (state, record, run) {
     const what = TURNS[record.status][0];
-    const why = TURNS[record.status][1] || leavingReason(state, record);
+    const why = TURNS[record.status][1] || leavingReason(state, record, run);
     return { what: `Process ${record.process} ${what}; ${seatName(record.seat)} does it.`, why,
       rule: `Swapper: the status of process ${record.process} is ${record.status} now.` };
   };
@@ -323,7 +280,7 @@
     rule: "Rundown: what could not be written is named." });
   const STATUSES = ["the run is whole", "the words of the command line are wrong",
     "the input is no trace", "reading the input failed", "writing the output failed",
-    "a shared page is dirty at the end", "a block could not be made", "memory ended",
+    "a shared page is dirty at the end", "a block could not be made", "out of memory",
     "the log isn't legal"];
   EXPLAIN.STATUS = (state, record) => ({ what: `The program ended with status ${record.status}: ` +
     `${STATUSES[record.status]}.`, why: "", rule: "Exit status." });
@@ -335,8 +292,9 @@
     `${record.text}`, why: "It is skipped. What is shown from here on may be wrong.",
     rule: "No rule of the log's format fits it." });
 
-  // What the line says, why, and by which rule.
-  Player.explain = function (state, record) {
-    return EXPLAIN[record.kind](state, record);
+  // What the line says, why, and by which rule. The state is the one before it. With the run and the
+  // number of the line what came before and comes after it is known too.
+  Player.explain = function (state, record, run, line) {
+    return EXPLAIN[record.kind](state, record, run || null, line || 0);
   };
 })(globalThis.Player = globalThis.Player || {});

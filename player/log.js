@@ -148,13 +148,18 @@
     return { kind: "UNKNOWN", text };
   };
 
-  // All records of a log, one per line; an empty end isn't a line.
-  Player.parseLog = function (text) {
-    const lines = text.split("\n");
+  // The lines of a log; an empty end isn't a line.
+  Player.logLines = function (text) {
+    const lines = (text.includes("\r") ? text.replaceAll("\r\n", "\n") : text).split("\n");
     if (lines[lines.length - 1] === "") {
       lines.pop();
     }
-    return lines.map((line) => Player.parseLine(line.endsWith("\r") ? line.slice(0, -1) : line));
+    return lines;
+  };
+
+  // All records of a log, one per line.
+  Player.parseLog = function (text) {
+    return Player.logLines(text).map(Player.parseLine);
   };
 
   Player.ENTRY_KINDS = [...Object.keys(ENTRIES), "SERVED"];

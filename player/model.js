@@ -96,7 +96,7 @@
     if (!state.processes[p]) {
       throw new Error(`there is no process ${Player.letter(p)}`);
     }
-    state.processes[p] = Object.freeze({ ...state.processes[p], ...change });
+    state.processes[p] = { ...state.processes[p], ...change };
   }
 
   function isPrivate(page) {

@@ -1,440 +1,213 @@
 "use strict";
-// The page: files in, buttons and keys, and the current line in words.
+// The page as a whole: the list of examples, messages, what is kept for a reload, the address, and the start.
 (function (Player) {
-  const AROUND = 9;
-  const texts = { log: "", trace: "", logName: "", traceName: "" };
-  let run = null;
-  let timer = 0;
-  let example = "";
-  let opening = [];
-  let verdict = null;
+  const { make, element } = Player;
+  const FIRST_EXAMPLE = "belady";
+  const KEEP_EVERY = 300;
+  // As in player.css: there the trace and the settings are folded at first.
+  const PHONE = "(max-width: 44rem), (max-height: 30rem)";
+  let later = 0;
+  let linked = null;
+  let kept = { text: "", log: "", example: "" };
 
-  function element(id) {
-    return document.getElementById(id);
-  }
+  // ---- messages ----
 
   function showTrouble(lines) {
     element("trouble").hidden = !lines.length;
     element("trouble").textContent = lines.join("\n");
   }
+  Player.showTrouble = showTrouble;
 
-  // ---- files ----
+  Player.clearTrouble = function () {
+    showTrouble(Player.troubles());
+  };
 
-  // What a button's file should be, where a file is something else.
-  function strayText(kinds, wanted, name) {
-    if (!wanted || kinds.includes(wanted)) {
-      return "";
+  // ---- examples ----
+
+  Player.exampleNamed = function (name) {
+    const found = Player.EXAMPLES.find((one) => one.name === name);
+    if (!found) {
+      throw new Error(`There is no example "${name}". There are ${
+        Player.EXAMPLES.map((one) => one.name).join(", ")}.`);
     }
-    return wanted === "log"
-      ? `${name} is a trace, what is fed to the program. It was taken as the trace; now choose its log, ` +
-        "what the program prints for it."
-      : `${name} is a log, what the program prints. It was taken as the log; its trace is what was fed ` +
-        "to the program.";
+    return { text: found.trace, log: found.log, name: found.name, example: found.name };
+  };
+
+  function offerExamples() {
+    const own = make("option", "Your own trace");
+    own.value = "";
+    const groups = [...new Set(Player.EXAMPLES.map((one) => one.group))].map((label) => {
+      const group = make("optgroup");
+      group.label = label;
+      group.append(...Player.EXAMPLES.filter((one) => one.group === label)
+        .map((one) => Object.assign(make("option", one.title), { value: one.name })));
+      return group;
+    });
+    element("example").replaceChildren(own, ...groups);
+    element("example").addEventListener("change", (event) => {
+      Player.stopPlaying();
+      if (event.target.value) {
+        openExample(event.target.value);
+      } else {
+        showExample();
+      }
+    });
   }
 
-  // A new log alone forgets the trace of the log before it. Where a file is at fault, all stays as it is.
-  async function takeFiles(files, wanted) {
+  function openExample(name, line) {
+    const opened = Player.exampleNamed(name);
+    Player.wantLine(line ?? Player.EXAMPLES.find((one) => one.name === name).line);
+    Player.editor.change(opened, false);
+  }
+
+  function showExample() {
+    const { example, log } = Player.editor.current();
+    const found = Player.EXAMPLES.find((one) => one.name === example);
+    element("example").value = found ? example : "";
+    element("about").textContent = found ? found.about : log ? "An opened log, with what was opened beside it."
+      : "Your own trace: it is kept in this browser, and a link can carry it.";
+  }
+
+  // ---- what is kept, and the address ----
+
+  // Keeps what changed since it was kept last. At the page's end there is no time to compress it.
+  async function keep(atEnd) {
+    clearTimeout(later);
+    later = 0;
+    const now = Player.editor.current();
+    Player.keepLine(Session.line);
+    noteAddress();
+    if (kept.text === now.text && kept.log === now.log && kept.example === now.example) {
+      return;
+    }
+    kept = { text: now.text, log: now.log, name: now.name, example: now.example };
+    const packed = Player.isMuch(kept) && !atEnd;
+    const done = packed ? await Player.keepPacked(kept) : Player.keepPage(kept);
+    if (!done && now.text) {
+      Player.say("This trace is too long for the browser to keep: a reload would lose it. Save it as a file.",
+        "fault");
+    }
+  }
+
+  function keepLater() {
+    later = later || setTimeout(() => keep(false), KEEP_EVERY);
+  }
+
+  // The address is the link to the line, as long as what is shown is an example or a link's trace.
+  function noteAddress() {
+    const { text, log, example } = Player.editor.current();
+    const words = example ? `example=${example}`
+      : linked && linked.text === text && linked.log === log ? linked.words : "";
+    const wanted = words ? `#${words}&line=${Session.line}` : "";
+    if (location.hash !== wanted) {
+      history.replaceState(null, "", wanted || location.pathname + location.search);
+    }
+  }
+
+  Player.noteLink = function (words) {
+    const { text, log } = Player.editor.current();
+    linked = { text, log, words };
+  };
+
+  function linkWords(hash) {
+    return hash.replace(/^#/, "").replace(/&?line=\d+/, "");
+  }
+
+  async function followLink() {
     try {
-      const taken = {};
-      const notes = [];
-      for (const file of files) {
-        const found = Player.sortText(await file.text(), file.name);
-        Object.keys(found).forEach((kind) => Object.assign(taken,
-          { [kind]: found[kind], [`${kind}Name`]: file.name }));
-        notes.push(strayText(Object.keys(found), wanted, file.name));
+      const found = await Player.readLink(location.hash);
+      if (found && found.opened) {
+        const same = found.opened.text === Session.text;
+        Player.wantLine(found.line ?? startOf(found.opened));
+        if (same) {
+          Session.go(found.line ?? Session.line);
+          Player.wantLine(null);
+        } else {
+          Player.editor.change(found.opened, false);
+        }
+        Player.noteLink(linkWords(location.hash));
+      } else if (found) {
+        Session.go(found.line);
       }
-      if (run && taken.log && !taken.trace) {
-        Object.assign(texts, { trace: "", traceName: "" });
-      }
-      takeTexts(taken, notes.filter(Boolean));
     } catch (fault) {
       showTrouble([fault.message]);
     }
   }
 
-  function takeTexts(taken, notes) {
-    const before = { ...texts };
-    Object.assign(texts, taken);
+  function startOf(opened) {
+    const found = Player.EXAMPLES.find((one) => one.name === opened.example);
+    return found ? found.line : 0;
+  }
+
+  // ---- the start ----
+
+  // What the page opens with: a link's trace, else what was there before, else an example. Undo leads from a
+  // link's trace to what was there before.
+  async function begin() {
+    const before = await Player.keptPage();
+    let found = null;
+    let trouble = "";
     try {
-      openRun(notes);
+      found = await Player.readLink(location.hash);
     } catch (fault) {
-      Object.assign(texts, before);
-      throw fault;
+      trouble = fault.message;
     }
+    const first = before || Player.exampleNamed(FIRST_EXAMPLE);
+    const opened = found && found.opened;
+    Player.wantLine(before ? before.line : startOf(first));
+    Player.editor.begin(first);
+    if (opened && opened.text !== first.text) {
+      Player.wantLine(found.line ?? startOf(opened));
+      Player.editor.change(opened, false);
+    } else if (found) {
+      Player.wantLine(found.line ?? (opened ? startOf(opened) : 0));
+    }
+    if (opened) {
+      Player.noteLink(linkWords(location.hash));
+    }
+    return trouble;
   }
 
-  // ---- examples and links ----
-
-  function showExample(name, line) {
-    const found = Player.EXAMPLES.find((one) => one.name === name);
-    if (!found) {
-      showTrouble([`There is no example "${name}". There are ${
-        Player.EXAMPLES.map((one) => one.name).join(", ")}.`]);
-      return;
-    }
-    example = "";
-    takeTexts({ log: found.log, trace: found.trace, logName: `${name} (example)`,
-      traceName: `${name} (example)` }, []);
-    example = name;
-    show(line || 0);
+  function listenToGutter() {
+    element("gutter").addEventListener("click", (event) => {
+      const row = Number(event.target.dataset.row);
+      const found = Session.run && Session.run.requests.find((one) => one.traceLine === row);
+      if (found) {
+        Session.go(found.first);
+      }
+    });
   }
 
-  // The link of the page: #example=NAME&line=N.
-  function followLink() {
-    const words = new URLSearchParams(location.hash.slice(1));
-    const line = /^\d+$/.test(words.get("line") || "") ? Number(words.get("line")) : 0;
-    if (words.get("example") && words.get("example") !== example) {
-      showExample(words.get("example"), line);
-    } else if (run && words.has("line") && line !== run.at) {
-      show(line);
-    }
+  function markRequest() {
+    const request = Session.run && Session.runText === Session.text
+      ? Player.requestOf(Session.run, Session.line) : null;
+    Player.editor.mark({ fault: Player.fault, request: request ? request.traceLine : 0 });
   }
 
-  function noteLink() {
-    if (example) {
-      history.replaceState(null, "", `#example=${example}&line=${run.at}`);
-    } else if (location.hash) {
-      history.replaceState(null, "", location.pathname + location.search);
-    }
-  }
-
-  function offerExamples() {
-    element("examples").replaceChildren(...Player.EXAMPLES.map((one) => {
-      const button = Player.make("button", one.title);
-      button.addEventListener("click", () => showExample(one.name, 0));
-      return button;
-    }));
+  async function start() {
+    const loading = Player.loadProgram();
+    const phone = matchMedia(PHONE).matches;
+    ["trace-part", "view"].forEach((id) => { element(id).open = !phone; });
+    [Player.startViews, Player.startLines, Player.startTimeline, Player.startStep, Player.startControls,
+      Player.startEditor, Player.startRunning, Player.startFiles, Player.startArrows, offerExamples, listenToGutter]
+      .forEach((begun) => begun());
+    Session.on("line", markRequest);
+    Session.on("line", keepLater);
+    Session.on("run", showExample);
+    Session.on("look", Player.editor.look);
     window.addEventListener("hashchange", followLink);
-    followLink();
-  }
-
-  function openRun(notes) {
-    element("loaded").textContent = `Log: ${texts.logName || "none yet"}. ` +
-      `Trace: ${texts.traceName || "none"}.`;
-    if (!texts.log) {
-      showTrouble(notes);
-      return;
+    window.addEventListener("pagehide", () => keep(true));
+    const trouble = await begin();
+    try {
+      await loading;
+    } catch (fault) {
+      Player.programTrouble = `The program can't run here: ${fault.message}. A log can be opened with its trace.`;
     }
-    const opened = Player.makeRun(texts.log, texts.trace);
-    const foreign = texts.trace ? Player.foreignTo(opened.records, opened.config) : "";
-    stop();
-    run = opened;
-    example = "";
-    verdict = null;
-    element("said").value = "";
-    opening = foreign ? [`This trace isn't this log's: ${foreign}. What is shown may be wrong; choose ` +
-      "the trace that the log was made from."] : [];
-    Player.clearViews();
-    element("stage").hidden = false;
-    element("drop").hidden = true;
-    element("length").textContent = `of ${run.length}`;
-    element("fault-process").replaceChildren(Player.make("option", "any"),
-      ...run.config.processes.map((spec, p) => Player.make("option", Player.letter(p))));
-    Player.prepareChart(run, element("chart"));
-    Player.drawReport(run);
-    show(0);
-    showTrouble([...notes, ...troubles()]);
-  }
-
-  // What is wrong with the run as a whole; it stays as long as the run does.
-  function troubles() {
-    const list = [...opening];
-    if (run.unknown.length) {
-      list.push(`${run.unknown.length} lines of the log aren't known to the player and are skipped:`);
-      run.unknown.slice(0, 5).forEach(({ line, text }) => list.push(`  line ${line}: ${text}`));
-    }
-    if (run.problems.length && !opening.length) {
-      list.push(`${run.problems.length} lines don't fit the state before them:`);
-      run.problems.slice(0, 5).forEach(({ line, text }) => list.push(`  line ${line}: ${text}`));
-      if (!run.config.known) {
-        list.push("  (The log was opened without its trace. Without it, pages of a section that " +
-          "lies in the page file can't be told from private ones.)");
-      }
-    }
-    if (run.differences && run.differences.length) {
-      list.push("The log's report differs from the player's own state; see the end of the page.");
-    }
-    return list;
-  }
-
-  // ---- standing at a line ----
-
-  function framesOf(record, state) {
-    if (record.frame !== undefined) {
-      return [record.frame];
-    }
-    if (!record.address || !Player.isEntry(record)) {
-      return [];
-    }
-    return [Player.frameAt(state, Player.processNumber(record.process || record.seat),
-      record.address)];
-  }
-
-  // The request that a process's line works for, where the trace is there.
-  function requestOf(state, record) {
-    const p = Player.isEntry(record) ? Player.processNumber(record.seat) : -1;
-    const process = record.seat && record.seat.length === 1 ? state.processes[p] : null;
-    const requests = process && run.config.requests[p];
-    return requests && process.answered < requests.length
-      ? ` It is done for ${record.seat}'s request ${process.answered + 1}: ` +
-        `${requests[process.answered]}.` : "";
-  }
-
-  // What `check` says, at the line of which it says it; at the last one, if that line is missing.
-  function showVerdict(line) {
-    const here = verdict && line === Math.min(verdict.line, run.length);
-    element("verdict").textContent = here ? `check says of line ${verdict.line}: ${verdict.text}` : "";
-  }
-
-  function showWords(line) {
-    showVerdict(line);
-    if (line === 0) {
-      element("text").textContent = "Before the first line";
-      element("what").textContent = "All processes are resident with empty working sets, and all " +
-        "frames that aren't bad are empty and free.";
-      ["why", "rule", "fit"].forEach((id) => { element(id).textContent = ""; });
-      return;
-    }
-    const record = run.records[line - 1];
-    const before = Player.standAt(run, line - 1);
-    const words = Player.explain(before, record);
-    element("text").textContent = record.text;
-    element("what").textContent = words.what;
-    element("why").textContent = words.why + requestOf(before, record);
-    element("rule").textContent = words.rule;
-    const problems = run.problems.filter((one) => one.line === line).map((one) => one.text);
-    element("fit").textContent = problems.length
-      ? `This line doesn't fit the state before it: ${problems.join("; ")}.` : "";
-  }
-
-  function showAround(line) {
-    const from = Math.max(1, Math.min(line - AROUND, run.length - 2 * AROUND));
-    const nodes = [];
-    for (let i = from; i <= Math.min(run.length, from + 2 * AROUND); i += 1) {
-      const node = Player.make("span", run.records[i - 1].text, i === line ? "here" : "");
-      node.dataset.line = i;
-      nodes.push(node);
-    }
-    element("around").replaceChildren(...nodes);
-  }
-
-  // Shows a line; a message of a search before it goes.
-  function show(line) {
-    const target = Math.max(0, Math.min(run.length, line));
-    showTrouble(troubles());
-    showWords(target);
-    const state = Player.standAt(run, target);
-    const here = target ? framesOf(run.records[target - 1], state) : [];
-    Player.drawState(state, here);
-    showAround(target);
-    Player.drawChart(run, element("chart"));
-    element("line").value = String(target);
-    noteLink();
-  }
-
-  // ---- buttons ----
-
-  function stop() {
-    clearInterval(timer);
-    timer = 0;
-    element("play-word").textContent = "Play";
-  }
-
-  function playOrStop() {
-    if (timer) {
-      stop();
-      return;
-    }
-    const perSecond = Number(element("speed").value);
-    const stride = Math.max(1, Math.round(perSecond / 20));
-    element("play-word").textContent = "Stop";
-    timer = setInterval(() => {
-      show(run.at + stride);
-      if (run.at >= run.length) {
-        stop();
-      }
-    }, (1000 * stride) / perSecond);
-  }
-
-  function goToLine() {
-    const word = element("line").value.trim();
-    if (!/^\d+$/.test(word) || Number(word) > run.length) {
-      showTrouble([`"${word}" is no line of this log. Its lines are 1 to ${run.length}.`]);
-      return;
-    }
-    show(Number(word));
-  }
-
-  function findLine(found, what) {
-    if (!found) {
-      showTrouble([`No later line is ${what}.`]);
-      return;
-    }
-    show(found);
-  }
-
-  function findFault() {
-    const word = element("fault-process").value;
-    const at = run.at;
-    const found = Player.nextFault(run, at, word === "any" ? "" : word);
-    Player.standAt(run, at);
-    findLine(found, word === "any" ? "a fault" : `a fault of process ${word}`);
-  }
-
-  function findAbout() {
-    const word = element("about").value.trim().toUpperCase();
-    const at = run.at;
-    if (!word) {
-      showTrouble(["Type what the line is to be about: a frame as F3, a page as A/00000200 or LIB/3, or " +
-        "a block as P:7."]);
-      return;
-    }
-    findLine(Player.nextAbout(run, at, word), `about "${word}"`);
-  }
-
-  function showSaid() {
-    const found = Player.readVerdict(element("said").value);
-    if (!found || found.line > run.length + 1) {
-      showTrouble([found ? `This log has no line ${found.line}. Its lines are 1 to ${run.length}.`
-        : "Paste what check writes to standard error: a line that begins with \"neqysbar: log line\"."]);
-      return;
-    }
-    verdict = found;
-    show(found.line);
-  }
-
-  const MOVES = { first: () => 0, back: () => run.at - 1, forward: () => run.at + 1,
-    last: () => run.length };
-  const KEYS = { ArrowLeft: "back", ArrowRight: "forward", Home: "first", End: "last" };
-
-  // Whether a key is meant for the field that has the focus: text and choices keep the keys that they
-  // need themselves. The field of the line gives up the arrows, since it is filled by each step.
-  function keptByField(event) {
-    const field = event.target;
-    if (event.ctrlKey || event.metaKey || event.altKey || field.tagName === "SELECT") {
-      return true;
-    }
-    if (field.tagName !== "INPUT" || ["file", "checkbox"].includes(field.type)) {
-      return event.key === " " && /^(INPUT|BUTTON|SUMMARY)$/.test(field.tagName);
-    }
-    return field.id === "line" ? event.key === " " : field.value !== "" || event.key === " ";
-  }
-
-  // Goes from the frame that has the focus to another one, with Alt and an arrow key.
-  function stepFrame(event) {
-    const cell = event.target.closest && event.target.closest("[data-frame]");
-    const step = { ArrowLeft: -1, ArrowRight: 1, ArrowUp: -rowOfFrames(), ArrowDown: rowOfFrames() }[event.key];
-    const next = cell && event.altKey && step
-      ? element("frames").children[Number(cell.dataset.frame) + step] : null;
-    if (next) {
-      next.focus();
-    }
-    return Boolean(cell && event.altKey && step);
-  }
-
-  function rowOfFrames() {
-    const cells = [...element("frames").children];
-    const top = cells.length ? cells[0].offsetTop : 0;
-    const row = cells.findIndex((cell) => cell.offsetTop !== top);
-    return row < 1 ? 1 : row;
-  }
-
-  function listenToKeys() {
-    document.addEventListener("keydown", (event) => {
-      if (!run) {
-        return;
-      }
-      if (stepFrame(event)) {
-        event.preventDefault();
-      } else if (keptByField(event)) {
-        return;
-      } else if (event.key === " ") {
-        event.preventDefault();
-        playOrStop();
-      } else if (KEYS[event.key]) {
-        event.preventDefault();
-        stop();
-        show(MOVES[KEYS[event.key]]());
-      } else if (event.key === "Enter" && event.target.dataset.frame) {
-        element("about").value = `F${event.target.dataset.frame}`;
-      }
-    });
-  }
-
-  // The name of the frame under the mouse, or of the one that has the focus.
-  function nameFrame(event) {
-    const cell = event.target.closest("[data-frame]");
-    element("frame-name").hidden = !element("frames").classList.contains("small");
-    if (cell) {
-      element("frame-name").textContent = cell.title;
+    Player.runAgain();
+    if (trouble) {
+      showTrouble([trouble]);
     }
   }
 
-  // The chart is drawn again where its width or the colours change.
-  function listenToWindow() {
-    ["mouseover", "focusin"].forEach((kind) => element("frames").addEventListener(kind, nameFrame));
-    element("print").addEventListener("click", () => window.print());
-    window.addEventListener("resize", () => {
-      if (run) {
-        Player.prepareChart(run, element("chart"));
-        Player.drawChart(run, element("chart"));
-      }
-    });
-    matchMedia("(prefers-color-scheme: dark)").addEventListener("change", () =>
-      window.dispatchEvent(new Event("resize")));
-  }
-
-  function listenToButtons() {
-    Object.keys(MOVES).forEach((id) => element(id).addEventListener("click", () => {
-      stop();
-      show(MOVES[id]());
-    }));
-    element("play").addEventListener("click", playOrStop);
-    [["line-form", goToLine], ["fault-form", findFault], ["about-form", findAbout],
-      ["said-form", showSaid]]
-      .forEach(([id, action]) => element(id).addEventListener("submit", (event) => {
-        event.preventDefault();
-        stop();
-        action();
-      }));
-    element("whole-lists").addEventListener("change", () => show(run.at));
-    element("chart").addEventListener("click", (event) => {
-      const box = element("chart").getBoundingClientRect();
-      show(Player.chartLine(run, (event.clientX - box.left) / box.width));
-    });
-    element("around").addEventListener("click", (event) => {
-      if (event.target.dataset.line) {
-        show(Number(event.target.dataset.line));
-      }
-    });
-    element("frames").addEventListener("click", (event) => {
-      const cell = event.target.closest("[data-frame]");
-      if (cell) {
-        element("about").value = `F${cell.dataset.frame}`;
-      }
-    });
-  }
-
-  function listenToFiles() {
-    ["log-file", "trace-file"].forEach((id) => element(id).addEventListener("change", (event) =>
-      takeFiles([...event.target.files], id.split("-")[0])));
-    document.addEventListener("dragover", (event) => {
-      event.preventDefault();
-      document.body.classList.add("dragging");
-    });
-    document.addEventListener("dragleave", () => document.body.classList.remove("dragging"));
-    document.addEventListener("drop", (event) => {
-      event.preventDefault();
-      document.body.classList.remove("dragging");
-      takeFiles([...event.dataTransfer.files]);
-    });
-  }
-
-  listenToFiles();
-  listenToButtons();
-  listenToWindow();
-  listenToKeys();
-  element("more").open = innerWidth > 700;
-  offerExamples();
-  Player.opened = () => run;
+  start();
 })(globalThis.Player = globalThis.Player || {});

@@ -12,7 +12,8 @@
 
   function emptyConfig() {
     return { version: 1, frames: 0, bad: [], pagefile: 0, parameters: { ...Player.DEFAULTS },
-      sections: new Map(), processes: [], maps: [], fails: [], requests: [], known: true };
+      sections: new Map(), processes: [], maps: [], fails: [], requests: [], requestLines: [],
+      known: true };
   }
 
   function number(word, what, most) {
@@ -46,6 +47,12 @@
       throw new Error(`"${name || ""}" is no section of this trace`);
     }
     return name;
+  }
+
+  function takeRequest(config, words, line) {
+    const process = processOf(config, words[0]);
+    (config.requests[process] = config.requests[process] || []).push(words.slice(1).join(" "));
+    (config.requestLines[process] = config.requestLines[process] || []).push(line);
   }
 
   const DECLARATIONS = {
@@ -88,7 +95,7 @@
         return;
       }
       try {
-        place = takeLine(config, words, place);
+        place = takeLine(config, words, place, i + 1);
       } catch (fault) {
         throw new Error(`Line ${i + 1} of the trace: ${fault.message}.`);
       }
@@ -97,7 +104,7 @@
     return config;
   };
 
-  function takeLine(config, words, place) {
+  function takeLine(config, words, place, line) {
     if (words[0] === "BODY" || words[0] === "END") {
       if ((words[0] === "BODY") !== (place === "head")) {
         throw new Error(`${words[0]} doesn't stand here`);
@@ -105,8 +112,7 @@
       return words[0] === "BODY" ? "body" : "end";
     }
     if (place === "body") {
-      const process = processOf(config, words[0]);
-      (config.requests[process] = config.requests[process] || []).push(words.slice(1).join(" "));
+      takeRequest(config, words, line);
     } else if (Object.hasOwn(DECLARATIONS, words[0])) {
       DECLARATIONS[words[0]](config, words);
     } else {
