@@ -4,8 +4,9 @@ const fs = require("fs");
 const path = require("path");
 const vm = require("vm");
 
-const FILES = ["log.js", "trace.js", "model.js", "changes.js", "report.js", "run.js", "explain.js",
-  "examples.js", "kinds.js"];
+const FILES = ["log.js", "trace.js", "model.js", "changes.js", "report.js", "run.js", "difference.js",
+  "reasons.js", "explain.js", "examples.js", "kinds.js",
+  "faults.js", "keep.js"];
 
 module.exports = function loadPlayer() {
   for (const file of FILES) {

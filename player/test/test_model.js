@@ -56,7 +56,7 @@ function testReports() {
 
 // Standing at a line gives the same state whichever way one comes there.
 function testStanding() {
-  const run = Player.makeRun(read("swap-out-and-back.log"), read("swap-out-and-back.trace"), 7);
+  const run = Player.makeRun(read("swap-out-and-back.log"), read("swap-out-and-back.trace"), { distance: 7 });
   same("snapshots", run.snapshots.length, Math.ceil(run.length / 7));
   const straight = [];
   for (let line = 0; line <= run.length; line += 1) {
@@ -67,6 +67,20 @@ function testStanding() {
     same(`line ${line}`, JSON.stringify(Player.reportOf(Player.standAt(run, line), line)),
       straight[line]);
   }
+}
+
+// A run that is made in pieces is the run that is made at once.
+function testPieces() {
+  const [log, text] = [read("swap-out-and-back.log"), read("swap-out-and-back.trace")];
+  const run = Player.beginRun(log, text);
+  same("not whole yet", run.advance(-1), false);
+  while (!run.advance(0)) {
+    // goes on
+  }
+  const whole = Player.makeRun(log, text);
+  same("series", run.series, whole.series);
+  same("requests", run.requests, whole.requests);
+  same("report", run.differences, []);
 }
 
 const MACHINE = ["VMTRACE 1", "FRAMES 8", "PAGEFILE 8"];
@@ -229,7 +243,9 @@ function testWords() {
 // The examples that are built in are those of the repository.
 function testExamples() {
   same("examples.js", read("..", "examples.js"), require("./make_examples.js")());
-  for (const { name, trace: text, log } of Player.EXAMPLES) {
+  const lessons = Player.EXAMPLES.map((one) => one.title[0]).filter((digit) => /\d/.test(digit));
+  same("all eight lessons", [...new Set(lessons)].join(""), "12345678");
+  for (const { name, trace: text, log } of Player.EXAMPLES.filter((one) => one.log)) {
     same(`${name}: report`, checkRun(name, log, text).differences, []);
   }
 }
@@ -266,18 +282,6 @@ function testKinds() {
     "the log has a frame 9, and the trace has 8 frames");
 }
 
-// Why a process leaves, and why pages are written, with the numbers of the line's state.
-function testReasons() {
-  const { trace: text, log } = Player.EXAMPLES.find((one) => one.name === "swapping");
-  const run = Player.makeRun(log, text);
-  const why = (line) => Player.explain(Player.standAt(run, line - 1), run.records[line - 1]).why;
-  same("C lacks a frame", why(17), "Process C lacks a frame: the free list has 0 frames, and the modified " +
-    "list 0. The resident process whose last answer is the longest ago has to leave.");
-  const out = Player.makeRun([...FIRST_LINES, "8 MPW OUT F0 P:0"].join("\n"), THREE_PAGES);
-  same("the writer", Player.explain(Player.standAt(out, 7), out.records[7]).why.endsWith("The writer begins " +
-    "when the list has more pages than HILIMIT, 128, and goes on until it has at most LOLIMIT, 32."), true);
-}
-
 // What `check` says of a line of the log.
 function testVerdicts() {
   const said = "81 A ZERO 00000400 F1: the frame doesn't head the free list; F0 does";
@@ -292,7 +296,7 @@ function testVerdicts() {
 
 testReports();
 testVerdicts();
-testReasons();
+testPieces();
 testExamples();
 testKinds();
 testStanding();
@@ -305,5 +309,7 @@ testHand();
 testDifferences();
 testBadInput();
 testWords();
-console.log(`player model: ${passed} passed, ${failed} failed`);
-process.exit(failed ? 1 : 0);
+require("./words.js")(same).then(() => {
+  console.log(`player model: ${passed} passed, ${failed} failed`);
+  process.exit(failed ? 1 : 0);
+});

@@ -1,8 +1,9 @@
 #!/usr/bin/env python3
-"""Tests the player's page in a real browser, through its file buttons and its controls.
+"""Tests the player's page in a real browser, through its controls.
 
-    python3 player/test/test_page.py [--pictures FOLDER]
+    python3 player/test/test_page.py [--timed]
 
+With --timed a long log has to stand and to step within bounds of time too; test/figures.py measures more.
 Status 0: all passed, or there is no browser, which it says. Status 1: something differs.
 """
 
@@ -15,17 +16,19 @@ import time
 sys.dont_write_bytecode = True
 
 from browser import Browser, Missing
+from edits import test_edits
 from long_log import long_log, long_trace
-from looks import show_example, test_looks
+from looks import test_looks
 
 HERE = pathlib.Path(__file__).resolve().parent
 PAGE = HERE.parent / "index.html"
-LOAD_SECONDS = 2.0
+LOAD_SECONDS = 4.0
 STEP_THOUSANDTHS = 100
 RIGHT_ARROW = "\ue014"
 STEP_BACK = """
 const begun = performance.now();
 document.getElementById("back").click();
+document.body.getBoundingClientRect();
 return performance.now() - begun;
 """
 
@@ -34,35 +37,48 @@ class Page:
     """The player's page, and how many comparisons passed and failed."""
 
     uri = PAGE.as_uri()
+    here = HERE
 
     def __init__(self, browser):
         self.browser = browser
         self.passed = 0
         self.failed = 0
 
-    def load(self, log, trace=None):
-        """Opens the page anew with these files; gives the seconds until the log stands there."""
+    def open(self, link="", keep=False):
+        """Opens the page anew, with nothing kept unless it is to be."""
+        if not keep and self.browser.run("return location.protocol") == "file:":
+            self.browser.run("localStorage.clear(); sessionStorage.clear(); Player.keepLine = () => {};"
+                             "Player.keepPage = Player.keepPacked = () => true")
         self.browser.open("about:blank")
-        self.browser.open(PAGE.as_uri())
-        if trace:
-            self.browser.type("#trace-file", str(trace))
+        self.browser.open(self.uri + link)
+        self.wait("return typeof Session !== 'undefined' && (Player.programIsHere() || Boolean(Player.programTrouble))",
+                  "the page has begun")
+
+    def load(self, *files):
+        """Opens the page anew with these files; gives the seconds until they stand."""
+        self.open()
+        self.wait("return Session.run", "the first example stands")
+        return self.add(*files)
+
+    def add(self, *files):
         begun = time.time()
-        self.browser.type("#log-file", str(log))
-        self.wait("return !document.getElementById('stage').hidden", "the log stands")
+        self.browser.run("window.before = Session.run")
+        self.browser.type("#files", "\n".join(str(one) for one in files))
+        self.wait("return Session.run && Session.run !== window.before", "the files stand")
         return time.time() - begun
 
-    def wait(self, script, what):
+    def wait(self, script, what, seconds=20):
         """Waits until a script answers true."""
         begun = time.time()
         while not self.browser.run(script):
-            if time.time() - begun > 20:
-                raise RuntimeError(f"not so after 20 seconds: {what}. The page says: "
-                                   + self.browser.text("#trouble"))
+            if time.time() - begun > seconds:
+                raise RuntimeError(f"not so after {seconds} seconds: {what}. The page says: "
+                                   + self.browser.text("#trouble") + self.browser.text("#ran"))
             time.sleep(0.02)
 
     def go(self, line):
-        self.browser.run("document.getElementById('line').value = arguments[0]", str(line))
-        self.browser.click("#line-form button")
+        self.browser.run("const field = document.getElementById('line'); field.value = ''; field.focus()")
+        self.browser.type("#line", f"{line}\ue007")
 
     def items(self, selector):
         return self.browser.run("return [...document.querySelectorAll(arguments[0])]"
@@ -75,21 +91,31 @@ class Page:
         self.failed += 1
         print(f"{name}: found {found!r}, expected {expected!r}")
 
+    def has(self, name, text, part):
+        """A part stands in a text."""
+        self.same(f"{name}: {part!r} in {text!r}", part in text, True)
+
     def frame(self, number):
         """The state and the page of a frame, as its cell's title begins."""
         title = self.browser.run("return document.querySelector(arguments[0]).title",
                                  f"[data-frame='{number}']")
-        return " ".join(title.split()[1:3])
+        return " ".join(title.replace(",", "").split()[1:3])
+
+
+def without_numbers(page):
+    if page.browser.run("return Session.numbers"):
+        page.browser.click("#numbers")
 
 
 def test_write_cluster(page):
     page.load(HERE / "write-cluster.log", HERE / "write-cluster.trace")
+    without_numbers(page)
     page.go(14)
     page.same("frame 0 is written", page.frame(0), "WRITING A/00000000")
     page.same("three transfers", len(page.items("#flights tr")), 4)
-    page.go(17)
+    page.go(18)
     page.same("free list after the cluster", page.items("#free li"),
-              ["F0 A/00000000", "F1 A/00000200", "F2 A/00000400"])
+              ["F0", "F1 A/00000200", "F2 A/00000400"])
     page.go(25)
     page.same("read back", page.frame(1), "ACTIVE A/00000000")
     page.same("page file", page.browser.text("#pagefile-counts"), "8 blocks, 5 charged, 3 assigned")
@@ -98,60 +124,84 @@ def test_write_cluster(page):
                "READING 0", "ACTIVE 2"])
     page.same("sentence", page.browser.text("#what"),
               "Process A reads the byte at 00000000 and gets 01.")
-    page.same("report", "agrees" in page.browser.text("#report"), True)
+    page.has("report", page.browser.text("#report"), "agrees")
 
 
 def test_shared_section(page):
-    page.load(HERE / "shared-section.log", HERE / "shared-section.trace")
+    page.load(HERE / "shared-section.trace", HERE / "shared-section.log")
     log = (HERE / "shared-section.log").read_text().splitlines()
+    page.go(0)
     for number, line in enumerate(log, 1):
         page.browser.click("#forward")
         page.same(f"line {number}", page.browser.text("#text"), line)
     page.same("status", page.browser.text("#what"),
               "The program ended with status 0: the run is whole.")
     page.go(5)
-    page.same("both share", "shares 2" in page.items("[data-frame='0']")[0], True)
+    page.has("both share", page.items("[data-frame='0']")[0], "shares 2")
+    page.has("the section", page.browser.text("#sections"), "S:LIB/0 F0")
     page.go(8)
     page.same("one is left", page.frame(0), "ACTIVE LIB/0")
-    page.same("hand of A", "hand at slot 0" in page.items(".ring h3")[0], True)
+    page.has("hand of A", page.browser.run("return document.querySelector('[data-place=\"slot:A:0\"]')"
+                                           ".getAttribute('aria-label')"), "the hand stands here")
     page.browser.click("#back")
     page.same("one step back", page.browser.text("#text"), "7 A DONE R1 00000200 00")
     page.browser.type("body", RIGHT_ARROW + RIGHT_ARROW)
     page.same("two keys forward", page.browser.text("#text"), "9 A ZERO 00000400 F2")
     page.load(HERE / "shared-section.log")
     page.go(5)
-    page.same("frame of the line without the trace", page.items(".frame.here .name"), ["F0 ACTIVE"])
+    page.same("frame of the line without the trace", page.items(".frame.here b"), ["F0"])
+    page.has("said", page.browser.text("#rings-note"), "Without the trace")
+    page.add(HERE / "shared-section.trace")
+    page.same("its trace, opened later", page.browser.run("return Session.run.config.known"), True)
 
 
 def test_swap(page):
     page.load(HERE / "swap-out-and-back.log", HERE / "swap-out-and-back.trace")
+    without_numbers(page)
     page.go(33)
-    page.same("A is gone", page.items(".ring h3")[0].startswith("A GONE: 0 in"), True)
+    page.same("A is gone", page.items(".ring h3 span")[:2], ["LEAVING GONE", "0 pages"])
     page.same("swap blocks", page.items("#swap li"),
               [f"X:A/{n} A/{n * 512:08X}" for n in range(5)])
-    page.go(56)
-    page.same("one is left to read", page.items("#swap li")[0], "X:A/0 A/00000000")
     page.go(57)
-    page.same("inswap read", page.items("#flights tr")[1], "57AINF5X:A/0A/00000000COME")
+    page.same("inswap read", page.items("#flights tr")[1], "57AreadF5X:A/0A/00000000COME")
     page.go(60)
-    page.same("A is back", page.items(".ring h3")[0].startswith("A RESIDENT: 5 in"), True)
+    page.same("A is back", page.items(".ring h3 span")[:2], ["RESIDENT", "5 pages"])
     page.go(34)
-    find(page, "#about", "F5", "#about-form button")
+    find(page, "#about-what", "F5", "#about-form button")
     page.same("next about F5", page.browser.text("#text"), "43 A OUT F5 X:B/0")
     page.browser.run("document.getElementById('speed').value = '200'")
     page.browser.click("#play")
-    page.wait("return Player.opened().at > 50", "it plays")
+    page.wait("return Session.line > 50", "it plays")
     page.browser.click("#first")
     page.same("stopped", page.browser.text("#play-word"), "Play")
     page.browser.run("document.getElementById('fault-process').value = 'B'")
     page.browser.click("#fault-form button")
     page.same("first fault of B", page.browser.text("#text"), "11 B ZERO 00000000 F5")
+    test_verdicts(page)
+
+
+def test_verdicts(page):
     said = "43 A OUT F5 X:B/0: the block has an open transfer"
-    find(page, "#said", f"neqysbar: log line 43: {said}", "#said-form button")
+    find(page, "#said-text", f"neqysbar: log line 43: {said}", "#said-form button")
     page.same("the line of which check speaks", page.browser.text("#text"), "43 A OUT F5 X:B/0")
     page.same("what check says", page.browser.text("#verdict"), f"check says of line 43: {said}")
     page.go(44)
     page.same("it says it of that line alone", page.browser.text("#verdict"), "")
+    page.browser.click("#judge-form button")
+    page.wait("return /^(Legal|Not legal)/.test(document.getElementById('judged').textContent)", "it is judged")
+    page.has("judged by the program", page.browser.text("#judged"), "Legal")
+
+
+def test_judge(page, folder):
+    """The program itself says in the page which line of a log isn't legal."""
+    log, trace = folder / "wrong.log", folder / "right.trace"
+    text = (HERE / "shared-section.log").read_text()
+    trace.write_text((HERE / "shared-section.trace").read_text())
+    log.write_text(text.replace("9 A ZERO 00000400 F2", "9 A ZERO 00000400 F3"))
+    page.load(trace, log)
+    page.browser.click("#judge-form button")
+    page.wait("return document.getElementById('judged').textContent.startsWith('Not legal')", "it is judged")
+    page.same("the line that isn't legal", page.browser.text("#text"), "9 A ZERO 00000400 F3")
 
 
 def find(page, field, word, button):
@@ -170,29 +220,30 @@ def test_drop(page):
     """One dropped text with the trace, a line LOG, and the log."""
     text = ((HERE / "shared-section.trace").read_text() + "LOG\n"
             + (HERE / "shared-section.log").read_text())
-    page.browser.open(PAGE.as_uri())
+    page.open()
+    page.wait("return Session.run", "the first example stands")
     page.browser.run(DROP, text)
-    page.wait("return !document.getElementById('stage').hidden", "the dropped log stands")
+    page.wait("return Session.run.config.sections.has('LIB')", "the dropped log stands")
     page.browser.click("#last")
     page.same("dropped", page.browser.text("#text"), "STATUS 0")
-    page.same("dropped with its trace", page.items("#rings-note"), [""])
+    page.same("dropped with its trace", page.browser.run("return Session.run.config.known"), True)
 
 
 def test_bad_input(page, folder):
     log = folder / "unknown.log"
     log.write_text("1 A ZERO 00000000 F0\n2 A WAITS 00000000\n3 A DONE R4 00000000 00000000\n")
     page.load(log)
-    page.same("unknown line", "line 2: 2 A WAITS 00000000" in page.browser.text("#trouble"), True)
+    page.has("unknown line", page.browser.text("#trouble"), "line 2: 2 A WAITS 00000000")
     wrong = folder / "wrong.txt"
     wrong.write_text("no log at all\n")
-    page.browser.open(PAGE.as_uri())
-    page.browser.type("#log-file", str(wrong))
-    page.wait("return !document.getElementById('trouble').hidden", "the fault is told")
-    page.same("neither", "neither a log nor a trace" in page.browser.text("#trouble"), True)
+    page.browser.type("#files", str(wrong))
+    page.wait("return document.getElementById('trouble').textContent.includes('neither a log nor a trace')",
+              "the fault is told")
+    page.same("what was there stays", page.browser.run("return Session.run.length"), 3)
     lines = (HERE / "shared-section.log").read_text().replace("SHARES 1", "SHARES 2", 1)
     log.write_text(lines)
     page.load(log, HERE / "shared-section.trace")
-    page.same("wrong report", "differs" in page.browser.text("#report"), True)
+    page.has("wrong report", page.browser.text("#report"), "differs")
 
 
 def test_long(page, folder, timed):
@@ -201,8 +252,8 @@ def test_long(page, folder, timed):
     middle = len(lines) // 2
     log.write_text(long_log())
     trace.write_text(long_trace())
-    seconds = min(page.load(log, trace) for _ in range(3))
-    print(f"{len(lines)} lines stand after {seconds:.2f} seconds, the best of three")
+    seconds = page.load(log, trace)
+    print(f"{len(lines)} lines stand after {seconds:.2f} seconds")
     page.same("loaded in time", not timed or seconds < LOAD_SECONDS, True)
     page.go(middle)
     step = page.browser.run(STEP_BACK)
@@ -213,46 +264,35 @@ def test_long(page, folder, timed):
     page.same("fits", page.browser.text("#fit"), "")
     page.same("no trouble", page.browser.run("return document.getElementById('trouble').hidden"),
               True)
-    page.browser.run("const chart = document.getElementById('chart');"
-                     "const box = chart.getBoundingClientRect();"
-                     "chart.dispatchEvent(new MouseEvent('click', {clientX: box.left + Player.opened().chartBox.left"
-                     " + (Player.opened().chartBox.right - Player.opened().chartBox.left) / 4}))")
-    length = page.browser.run("return Player.opened().length")
-    off = abs(page.browser.run("return Player.opened().at") - length / 4)
-    page.same("a click on the chart", off < length / 500, True)
+    page.browser.run("const line = document.getElementById('timeline'); const box = line.getBoundingClientRect();"
+                     "const clientX = box.left + Player.timelinePlace(Session.run.length / 4);"
+                     "const at = {clientX, buttons: 1, pointerId: 1};"
+                     "line.setPointerCapture = () => {}; line.dispatchEvent(new PointerEvent('pointerdown', at))")
+    length = page.browser.run("return Session.run.length")
+    off = abs(page.browser.run("return Session.line") - length / 4)
+    page.same("a press on the line of time", off < length / 500, True)
+    page.same("few rows are drawn", len(page.items("#lines-all > *")) < 100, True)
 
 
-def take_pictures(page, folder):
-    for name, example, line, width, height, dark in [
-            ("picture-swap", "swapping", 35, 1280, 900, False),
-            ("picture-write-cluster", "write-cluster", 14, 1280, 900, False),
-            ("picture-phone", "swapping", 35, 390, 844, False),
-            ("picture-dark", "belady", 12, 1280, 900, True)]:
-        page.browser.screen(width, height, dark)
-        show_example(page, page.uri, example, line)
-        page.browser.picture(folder / f"{name}.png")
-
-
-def run_all(browser, pictures, timed):
+def run_all(browser, timed):
     page = Page(browser)
     with tempfile.TemporaryDirectory() as name:
         folder = pathlib.Path(name)
         test_write_cluster(page)
         test_shared_section(page)
         test_swap(page)
+        test_judge(page, folder)
         test_drop(page)
         test_bad_input(page, folder)
+        test_edits(page, folder)
         test_looks(page, HERE, folder)
         test_long(page, folder, timed)
-    if pictures:
-        take_pictures(page, pathlib.Path(pictures))
     print(f"player page: {page.passed} passed, {page.failed} failed")
     return 1 if page.failed else 0
 
 
 def main():
-    words = argparse.ArgumentParser(description=__doc__)
-    words.add_argument("--pictures", metavar="FOLDER", help="keeps four pictures of the page there")
+    words = argparse.ArgumentParser(description=__doc__, formatter_class=argparse.RawDescriptionHelpFormatter)
     words.add_argument("--timed", action="store_true", help="asks for the bounds of time too")
     options = words.parse_args()
     try:
@@ -261,7 +301,7 @@ def main():
         print(f"player page: not tested, {fault}")
         return 0
     try:
-        return run_all(browser, options.pictures, options.timed)
+        return run_all(browser, options.timed)
     finally:
         browser.close()
 
