@@ -1,35 +1,22 @@
 #!/usr/bin/env python3
-"""Tests neqysbar.py: examples by the library, and entry lines as dictionaries."""
+"""Tests the calls of the library: examples, faulty words, threads, and that nothing is left."""
 
 import pathlib
 import resource
+import subprocess
 import sys
 import threading
 import unittest
 
-HERE = pathlib.Path(__file__).resolve().parent
-EXAMPLES = HERE.parent / "examples"
+from places import EXAMPLES, examples, environment, status_of
+import neqysbar
+
 STATM = pathlib.Path("/proc/self/statm")
-sys.path.insert(0, str(HERE))
-import neqysbar  # noqa: E402
-
-
-def examples():
-    """Words, input and output of each example."""
-    for output in sorted(EXAMPLES.glob("*.out")):
-        trace = output.with_suffix(".trace")
-        if trace.exists():
-            data = trace.read_bytes()
-            yield ["check" if b"\nLOG\n" in data else "serial"], data, output.read_bytes()
 
 
 def process_size():
     """The bytes of the process's address space, touched or not."""
     return int(STATM.read_text(encoding="ascii").split()[0]) * resource.getpagesize()
-
-
-def status_of(output):
-    return int(output.split()[-1])
 
 
 class Runs(unittest.TestCase):
@@ -48,6 +35,21 @@ class Runs(unittest.TestCase):
             self.assertEqual((told[0], status_of(told[1])), (status, status), words)
         with self.assertRaises(ValueError):
             neqysbar.run(["serial\0"], data)
+        for words, given in (("serial", data), (b"serial", data), (["serial"], data.decode())):
+            with self.assertRaises(TypeError):
+                neqysbar.run(words, given)
+
+    def test_no_library(self):
+        """What isn't there is named, whether the call or the environment asked for it."""
+        with self.assertRaisesRegex(OSError, "/no/such/library.so"):
+            neqysbar.run(["serial"], b"", path="/no/such/library.so")
+        told = subprocess.run(
+            [sys.executable, "-c", "import neqysbar\ntry:\n    neqysbar.run([])\nexcept OSError as fault:\n    print(fault)"],
+            env={**environment(), "NEQYSBAR_LIBRARY": "/no/such/library.so"}, stdout=subprocess.PIPE, text=True, check=True)
+        self.assertEqual(told.stdout, "there is no /no/such/library.so; NEQYSBAR_LIBRARY may name the library\n")
+
+    def test_version(self):
+        self.assertEqual(neqysbar.__version__, (EXAMPLES.parent / "VERSION").read_text().strip())
 
     def test_more_than_there_is_room_for(self):
         trace = b"VMTRACE 1\nFRAMES 16\nPAGEFILE 16\nPROCESS A 4 4 8 0\nMAPZERO A 00000000 8 UW\nBODY\n"
@@ -55,7 +57,7 @@ class Runs(unittest.TestCase):
         status, output = neqysbar.run(["serial"], trace)
         self.assertEqual(status, 0)
         self.assertGreater(len(output), 16 * len(trace) // 10)
-        self.assertEqual(sum(entry["kind"] == "DONE" for entry in neqysbar.read_log(output.decode())), 20000)
+        self.assertEqual(sum(entry.kind == "DONE" for entry in neqysbar.read_log(output.decode())), 20000)
 
     def test_threads(self):
         cases = list(examples())
@@ -86,20 +88,6 @@ class Runs(unittest.TestCase):
             for _ in range(1000):
                 neqysbar.run(words, data)
             self.assertLessEqual(process_size() - before, 2 ** 20, (words, name))
-
-
-class Logs(unittest.TestCase):
-    def test_entries(self):
-        text = "1 A ZERO 00000000 F0\n2 A DONE W4 00000000 0000002A\nPFN AT 2\nSTATUS 0\n"
-        self.assertEqual(neqysbar.read_log(text), [
-            {"number": 1, "seat": "A", "kind": "ZERO", "address": "00000000", "frame": "F0"},
-            {"number": 2, "seat": "A", "kind": "DONE", "op": "W4", "address": "00000000", "value": "0000002A"},
-        ])
-
-    def test_no_entry(self):
-        for line in ("1 A ZERO 00000000", "1 A", "1 A NONE 2", "1 A SERVED NONE 1"):
-            with self.assertRaises(neqysbar.NoEntry):
-                neqysbar.read_log(line + "\n")
 
 
 if __name__ == "__main__":
