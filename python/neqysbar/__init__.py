@@ -8,7 +8,7 @@
 `run` calls the shared library. The readers need none: `read_log` and `read_report` read the output of a
 run, `read_study` that of a study, `read_dump` the bytes of a dump. `set_lines` gives a trace other
 settings. `to_frame` makes a pandas table of records, if pandas is there. `python -m neqysbar.sweep` runs
-a trace with many settings. It needs Python 3.9 and no packages.
+a trace with many settings, `python -m neqysbar.plot` draws. It needs Python 3.9 and no packages.
 """
 
 from .calls import library, library_path, run
