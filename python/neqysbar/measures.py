@@ -15,6 +15,10 @@ COUNTED = ("references", "denied", "services", "hits", "faults", "reads", "write
 REQUESTS = frozenset(("DONE", "DENIED", "SERVED"))
 
 
+class NothingMeasured(Exception):
+    """The call is done, and there is nothing to measure in what it wrote."""
+
+
 class Counter:
     """Counts a run's entries. A fault is a ZERO, a BACK of a resident process, an IN for a fault, or a COLLIDE.
 
@@ -78,8 +82,13 @@ def counts_of_run(output: bytes) -> dict[str, int]:
 
 
 def counts_of_study(output: bytes) -> dict[str, int]:
-    """The faults that a study says of its frames: the ring's, those with LRU, and the least."""
+    """The faults that a study says of its frames: the ring's, those with LRU, and the least.
+
+    A study of no references is a NothingMeasured.
+    """
     study = read_study(output.decode("ascii"))
+    if not study.pages:
+        raise NothingMeasured("the trace has no references of this process")
     return {"pages": study.pages, "distinct": study.distinct, "ring": study.ring,
             "lru": study.lru[study.frames], "least": study.least}
 

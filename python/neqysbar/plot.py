@@ -14,10 +14,10 @@ from __future__ import annotations
 
 import argparse
 import os
-import pathlib
 import sys
 from typing import Any, Optional
 
+from .files import file_bytes
 from .plot_data import CURVES, KINDS, NotDrawn, fault_curves, faults_over_time, loads_of, reports_over_time
 from .sweep import at_least_one, number_list
 
@@ -45,7 +45,7 @@ def style(number: int) -> dict[str, Any]:
 
 def read_trace(path: str) -> bytes:
     try:
-        return pathlib.Path(path).read_bytes()
+        return file_bytes(path)
     except OSError as fault:
         raise NotDrawn(f"{path} can't be read: {fault.strerror}") from None
 

@@ -6,7 +6,7 @@ import dataclasses
 from typing import Iterable, Sequence
 
 from .calls import run
-from .measures import counts_of_run, counts_of_study
+from .measures import NothingMeasured, counts_of_run, counts_of_study
 from .points import FINISHED, fault_text
 from .reports import Report, read_report
 from .traces import words_of
@@ -32,9 +32,10 @@ def fault_curves(trace: bytes, name: str, process: str, frames: Iterable[int]) -
     """For each number of frames the faults of the ring, those with LRU, and the least ones."""
     rows = []
     for number in frames:
-        counts = counts_of_study(output_of(["study", "--process", process, "--frames", str(number)], trace, name))
-        if not counts["pages"]:
-            raise NotDrawn(f"{name} has no references of process {process}")
+        try:
+            counts = counts_of_study(output_of(["study", "--process", process, "--frames", str(number)], trace, name))
+        except NothingMeasured:
+            raise NotDrawn(f"{name} has no references of process {process}") from None
         rows.append((number, {curve: counts[curve] for curve in CURVES}))
     return rows
 

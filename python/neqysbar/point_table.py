@@ -6,8 +6,10 @@ import csv
 import io
 import os
 import pathlib
+import stat
 from typing import Any, Iterable
 
+from .files import file_bytes
 from .measures import COMMANDS
 
 try:
@@ -49,11 +51,15 @@ class Table:
             self.file = open(path, "a+b", buffering=0)
         except OSError as fault:
             raise NoTable(f"{path} can't be opened: {fault.strerror}") from None
+        if not stat.S_ISREG(os.fstat(self.file.fileno()).st_mode):
+            raise NoTable(f"{path} is no file")
         self.take_hold()
         self.file.seek(0)
         data = self.file.read()
         self.rows = rows_of(data, self.header, path)
         whole = data.rfind(b"\n") + 1
+        if not whole and not self.line(self.header).startswith(data):
+            raise NoTable(f"{path} is no table of a sweep; it is left as it is")
         if whole < len(data):
             self.file.truncate(whole)
         if not whole:
@@ -89,7 +95,7 @@ class Table:
     def take(self, path: str) -> None:
         """Puts the rows of another table of the same sweep into this one."""
         try:
-            data = pathlib.Path(path).read_bytes()
+            data = file_bytes(path)
         except OSError as fault:
             raise NoTable(f"{path} can't be read: {fault.strerror}") from None
         for key, words in rows_of(data, self.header, path).items():

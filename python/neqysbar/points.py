@@ -6,12 +6,12 @@ import dataclasses
 import functools
 import hashlib
 import itertools
-import pathlib
 import re
 from typing import Any, Iterator, Optional
 
 from .calls import run
-from .measures import COMMANDS
+from .files import file_bytes
+from .measures import COMMANDS, NothingMeasured
 from .traces import NotSet, set_lines
 from .versions import version
 
@@ -71,7 +71,7 @@ def digest(data: bytes) -> str:
 def trace_bytes(path: str, sha256: str) -> bytes:
     """The trace's bytes, kept from point to point."""
     try:
-        data = pathlib.Path(path).read_bytes()
+        data = file_bytes(path)
     except OSError as fault:
         raise NotRun(f"{path} can't be read: {fault.strerror}") from None
     if digest(data) != sha256:
@@ -82,7 +82,7 @@ def trace_bytes(path: str, sha256: str) -> bytes:
 def points_of(traces: list[str], command: str, process: Optional[str], settings: dict[str, list[int]]) -> Iterator[Point]:
     """The whole product of the settings, trace by trace. A trace that can't be read is an OSError."""
     for trace in traces:
-        sha256 = digest(pathlib.Path(trace).read_bytes())
+        sha256 = digest(file_bytes(trace))
         for values in itertools.product(*settings.values()):
             yield Point(trace, sha256, command, process, tuple(zip(settings, values)))
 
@@ -93,8 +93,8 @@ def fault_text(output: bytes, trace: bytes) -> str:
     found = re.match(r"TRACE (\d+) ", told)
     if not found:
         return told
-    line = trace.split(b"\n")[int(found[1]) - 1].decode("ascii", "replace").strip()
-    return f"{told}: {line[:80]}"
+    line = trace.split(b"\n")[int(found[1]) - 1].strip()[:80]
+    return f"{told}: {re.sub(rb'[^ -~]', b'?', line).decode('ascii')}"
 
 
 def result_of(point: Point) -> dict[str, Any]:
@@ -117,4 +117,7 @@ def result_of(point: Point) -> dict[str, Any]:
         raise NotRun("out of memory")
     if status not in FINISHED:
         return {**point.row(), "status": status, "failure": fault_text(output, trace)}
-    return {**point.row(), "status": status, "failure": "", **command.counts(output)}
+    try:
+        return {**point.row(), "status": status, "failure": "", **command.counts(output)}
+    except NothingMeasured as fault:
+        return {**point.row(), "status": status, "failure": str(fault)}

@@ -13,6 +13,7 @@ from __future__ import annotations
 import argparse
 import contextlib
 import importlib.util
+import os
 import re
 import signal
 import sys
@@ -56,11 +57,15 @@ class Progress:
             self.bar.update()
         elif 10 * self.done // self.total > self.told:
             self.told = 10 * self.done // self.total
-            print(f"sweep: {self.done} of {self.total} points", file=sys.stderr, flush=True)
+            print(f"sweep: {self.done} of {points_text(self.total)}", file=sys.stderr, flush=True)
 
     def close(self) -> None:
         if self.bar is not None:
             self.bar.close()
+
+
+def points_text(count: int) -> str:
+    return "1 point" if count == 1 else f"{count} points"
 
 
 def number_list(text: str) -> list[int]:
@@ -145,6 +150,8 @@ def needed(words: argparse.Namespace) -> None:
         raise Refused("--dask needs the package distributed, which isn't there")
     if words.parquet and not (there("pandas") and (there("pyarrow") or there("fastparquet"))):
         raise Refused("--parquet needs pandas and pyarrow, which aren't there")
+    if words.parquet and os.path.abspath(words.parquet) == os.path.abspath(words.output):
+        raise Refused("--parquet and --output are one file")
     if words.dask and words.jobs:
         raise Refused("--jobs is for this machine, --dask for a cluster: give one of them")
     if any(set(path) & set("\r\n") for path in words.traces):
@@ -197,7 +204,7 @@ def tell(points: list[Point], table: Table, left: list[str]) -> int:
         print(f"sweep: {text}", file=sys.stderr)
     if len(named) > MOST_NAMED:
         print(f"sweep: and {len(named) - MOST_NAMED} more; the table names them in its column failure", file=sys.stderr)
-    print(f"sweep: {len(points)} points in {table.path}, {len(named) - len(left)} failed, {len(left)} not run",
+    print(f"sweep: {points_text(len(points))} in {table.path}, {len(named) - len(left)} failed, {len(left)} not run",
           file=sys.stderr)
     return FAILED if named else DONE
 

@@ -12,7 +12,7 @@ import tempfile
 import time
 import unittest
 
-from places import EXAMPLES, RECORDED, environment
+from places import RECORDED, environment
 import neqysbar
 from neqysbar.points import values_of
 
@@ -86,6 +86,17 @@ class Sweep(unittest.TestCase):
             self.assertIn("2 failed, 0 not run", told)
         self.assertEqual([row["status"] for row in rows_of(self.table)], ["0", "0", "2", "2"])
 
+    def test_nothing_to_measure(self):
+        """A process that the trace doesn't declare has no references; a line that is no text is shown as far as it is."""
+        status, told = sweep(SORT, "--frames", "3", "--command", "study", "--process", "B", "--output", self.table)
+        self.assertEqual(status, 1)
+        self.assertIn(f"sweep: {SORT} study frames=3: the trace has no references of this process\nsweep: 1 point in", told)
+        bytes_alone = self.folder / "bytes, \u00fc.trace"
+        bytes_alone.write_bytes(b"\xff\x00\x1b[1mA\n")
+        status, told = sweep(str(bytes_alone), "--command", "serial", "--output", str(self.folder / "bytes.csv"))
+        self.assertIn(f"sweep: {bytes_alone} serial: TRACE 1 NOTASCII: ???[1mA\n", told)
+        self.assertEqual(rows_of(self.folder / "bytes.csv")[0]["trace"], str(bytes_alone))
+
     def test_going_on(self):
         """What is in the table isn't run again: a row that says something else stays; a broken line is run again."""
         words = (SORT, *LIMITS, "--command", "serial", "--output", self.table)
@@ -158,6 +169,8 @@ class Sweep(unittest.TestCase):
         """What can't begin says why, in a line, with status 2, and leaves a table as it is."""
         other = self.folder / "other.csv"
         other.write_text("a,b\n1,2\n")
+        text = self.folder / "text"
+        text.write_text("what isn't a table")
         serial, study = ("--command", "serial", "--output", self.table), ("--command", "study", "--output", self.table)
         rows = (
             (("no.trace", *serial), "no.trace can't be read: No such file or directory"),
@@ -173,6 +186,9 @@ class Sweep(unittest.TestCase):
             ((SORT, *serial, "--take", "no.csv"), "no.csv can't be read"),
             ((SORT, "--command", "serial", "--output", str(other)), "its columns are a, b, and would be version, trace"),
             ((SORT, "--command", "serial", "--output", str(self.folder / "no" / "t.csv")), "can't be opened"),
+            ((SORT, "--command", "serial", "--output", str(text)), "is no table of a sweep; it is left as it is"),
+            ((SORT, "--command", "serial", "--output", "/dev/zero"), "/dev/zero is no file"),
+            (("/dev/zero", *serial), "/dev/zero can't be read: it is no file"),
             ((SORT, "--command", "curve", "--output", self.table), "invalid choice: 'curve'"),
         )
         for words, wanted in rows:
@@ -180,7 +196,7 @@ class Sweep(unittest.TestCase):
             self.assertEqual(status, 2, (words, told))
             self.assertIn(wanted, told)
             self.assertNotIn("Traceback", told)
-        self.assertEqual(other.read_text(), "a,b\n1,2\n")
+        self.assertEqual((other.read_text(), text.read_text()), ("a,b\n1,2\n", "what isn't a table"))
 
     def test_no_library(self):
         env = {**environment(), "NEQYSBAR_LIBRARY": "/no/such/library.so"}
