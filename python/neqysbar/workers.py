@@ -76,8 +76,9 @@ def run_by_dask(points: list[Point], address: str) -> Iterator[tuple[Point, Resu
         futures = client.map(result_or_fault, points, pure=False, retries=RETRIES)
         point_of = dict(zip(futures, points))
         for future in as_completed(futures):
-            point, fault = point_of[future], future.exception()
-            yield point, future.result() if fault is None else NotRun(f"the cluster: {type(fault).__name__}: {fault}")
+            why = future.exception()
+            result = future.result() if why is None else NotRun(f"the cluster: {type(why).__name__}: {why}")
+            yield point_of[future], result
     finally:
         client.close()
 
