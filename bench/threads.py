@@ -1,19 +1,23 @@
 #!/usr/bin/env python3
 """Tries `neqysbar replay` on many traces, and measures it beside `serial`.
 
-    bench/threads.py races MAKER FORM..    runs of made traces, each of which `check` has to find legal
+    bench/threads.py races [FORM..]        runs of made traces, each of which `check` has to find legal
     bench/threads.py times                 time of `replay` and of `serial` on two large traces
 
-MAKER is a script that writes a trace to standard output: `MAKER FORM SEED` writes the same one for the
-same words. Of its traces those are run that have 2 to 16 processes, a form after the other, by rising
-seeds. A run goes well if it ends in time, with status 0, or 5 where shared pages were left dirty, and
-`check` answers `LOG OK` to the trace, a line LOG and the run's output. The status is 0 if all runs go
-well, else 1. The traces of those that don't are kept, and their outputs too, if a folder is named.
+The traces are those of race_traces.py, or with `--maker MAKER` those of another script: `MAKER FORM SEED`
+writes the same trace to standard output for the same words. Of its traces those are run that have 2 to 16
+processes. A round is a trace of each form by each way, with a seed of its own; race_ways.py has the ways in
+which the threads are got out of step. A run goes well if it ends in time, with status 0, or 5 where shared
+pages were left dirty, and `check` answers `LOG OK` to the trace, a line LOG and the run's output. The status
+is 0 if all runs go well, else 1. The traces of those that don't are kept, and their outputs too, if a folder
+is named.
 
-It needs Python 3.9 or later, no packages, and Linux for the processor time.
+It needs Python 3.9 or later, no packages, and Linux; a C compiler for the ways jitter and held.
 """
 
 import argparse
+import concurrent.futures
+import itertools
 import os
 import re
 import subprocess
@@ -21,10 +25,15 @@ import sys
 import tempfile
 import time
 
+import race_traces
+import race_ways
 from run import built_program
 
-# how many seeds in a row may give no trace with 2 processes or more
+# how many seeds of a form are looked at for a trace with 2 processes or more
 MOST_SKIPPED = 200
+
+# seeds of runs are so far from each other, so that none is looked at for two
+APART = 1000
 
 # processes, and references of all of them
 SIZES = ((4, 100_000), (16, 100_000))
@@ -36,63 +45,63 @@ PROCESS = re.compile(rb"^[ \t]*PROCESS[ \t]", re.MULTILINE)
 ENTRIES = re.compile(rb"LOG OK (\d+)\n")
 
 
-class Late(Exception):
-    """A program didn't end in time."""
-
-
-def run_on(words, source, limit):
-    """The status of a program and what it writes."""
+def judged(program, trace, output, limit):
+    """How many entries a log has. What is wrong, if `check` doesn't find it legal."""
+    log = trace + (b"" if trace.endswith(b"\n") else b"\n") + b"LOG\n" + output
     try:
-        done = subprocess.run(words, input=source, stdout=subprocess.PIPE, stderr=subprocess.DEVNULL, timeout=limit, check=False)
+        done = subprocess.run([program, "check"], input=log, stdout=subprocess.PIPE, stderr=subprocess.DEVNULL, timeout=limit, check=False)
     except subprocess.TimeoutExpired:
-        raise Late from None
-    return done.returncode, done.stdout
+        return 0, f"check had no end in {limit} seconds"
+    entries = ENTRIES.match(done.stdout)
+    if done.returncode != 0 or entries is None:
+        return 0, f"check: status {done.returncode}, {done.stdout[:60]!r}"
+    return int(entries.group(1)), None
 
 
-def as_log(trace, output):
-    """What `check` reads."""
-    end = b"" if trace.endswith(b"\n") else b"\n"
-    return trace + end + b"LOG\n" + output
+class Tally:
+    """What came of some runs."""
 
+    NAMES = ("runs", "bad", "dirty", "processes", "entries", "collided", "failed", "slowest s")
 
-class Form:
-    """What came of the runs of a form."""
-
-    def __init__(self, name):
-        self.name = name
-        self.runs = self.bad = self.dirty = self.most = self.entries = self.collided = self.failed = 0
+    def __init__(self, processes=0):
+        self.runs = self.bad = self.dirty = self.entries = self.collided = self.failed = 0
+        self.most = processes
         self.slowest = 0.0
 
-    def line(self):
+    def add(self, other):
+        for name in ("runs", "bad", "dirty", "entries", "collided", "failed"):
+            setattr(self, name, getattr(self, name) + getattr(other, name))
+        self.most, self.slowest = max(self.most, other.most), max(self.slowest, other.slowest)
+
+    def line(self, name):
         counts = (self.runs, self.bad, self.dirty, self.most, self.entries, self.collided, self.failed)
-        return f"{self.name:12}" + "".join(f"{n:>11,}" for n in counts) + f"{self.slowest:11.2f}"
+        return f"{name:12}" + "".join(f"{n:>11,}" for n in counts) + f"{self.slowest:11.2f}"
 
 
-HEAD = f"{'form':12}" + "".join(f"{word:>11}" for word in ("runs", "bad", "dirty", "processes", "entries", "collided", "failed", "slowest s"))
-
-
-def race(asked, program, form, trace):
-    """Runs a trace and judges its log. What is wrong, if something is; and the output."""
-    begin = time.perf_counter()
-    try:
-        status, output = run_on([program, asked.command], trace, asked.limit)
-    except Late:
-        return f"no end in {asked.limit} seconds", b""
-    form.slowest = max(form.slowest, time.perf_counter() - begin)
-    form.collided += output.count(b" COLLIDE ")
-    form.failed += output.count(b" INFAIL ") + output.count(b" OUTFAIL ")
-    if status not in (0, 5):
-        return f"status {status}", output
-    form.dirty += status == 5
-    try:
-        status, verdict = run_on([program, "check"], as_log(trace, output), asked.limit)
-    except Late:
-        return f"check had no end in {asked.limit} seconds", output
-    entries = ENTRIES.match(verdict)
-    if status != 0 or entries is None:
-        return f"check: status {status}, {verdict[:60]!r}", output
-    form.entries += int(entries.group(1))
-    return None, output
+def race(asked, program, trace, way, seed):
+    """Runs a trace and judges its log: a tally, what is wrong, if something is, and the output."""
+    tally = Tally(len(PROCESS.findall(trace)))
+    tally.runs = 1
+    with tempfile.TemporaryDirectory() as folder:
+        files = os.path.join(folder, "trace"), os.path.join(folder, "output")
+        with open(files[0], "wb") as sink:
+            sink.write(trace)
+        begin = time.perf_counter()
+        try:
+            status = race_ways.Way(way, asked.library, seed).run([program, asked.command], files, asked.limit)
+            wrong = None if status in (0, 5) else f"status {status}"
+        except race_ways.Late as late:
+            status, wrong = None, f"no end in {asked.limit} seconds; its threads: {late}"
+        tally.slowest = time.perf_counter() - begin
+        with open(files[1], "rb") as source:
+            output = source.read()
+    tally.dirty = int(status == 5)
+    tally.collided = output.count(b" COLLIDE ")
+    tally.failed = output.count(b" INFAIL ") + output.count(b" OUTFAIL ")
+    if wrong is None:
+        tally.entries, wrong = judged(program, trace, output, asked.limit)
+    tally.bad = int(wrong is not None)
+    return tally, wrong, output
 
 
 def keep(folder, name, trace, output):
@@ -103,47 +112,71 @@ def keep(folder, name, trace, output):
             sink.write(text)
 
 
-def made_traces(asked, form):
-    """Traces of a form with 2 to 16 processes, with their seeds and how many processes they have."""
-    skipped = 0
-    seed = asked.first
-    while skipped < MOST_SKIPPED:
-        made = subprocess.run([sys.executable, asked.maker, form, str(seed)], stdout=subprocess.PIPE, check=True)
-        processes = len(PROCESS.findall(made.stdout))
-        skipped = 0 if processes > 1 else skipped + 1
-        if processes > 1:
-            yield seed, processes, made.stdout
-        seed += 1
+def made_trace(asked, form, seed):
+    """A trace of a form with 2 to 16 processes, by that seed or the next ones."""
+    for later in range(seed, seed + MOST_SKIPPED):
+        if asked.maker is None:
+            return race_traces.trace(form, later)
+        made = subprocess.run([sys.executable, asked.maker, form, str(later)], stdout=subprocess.PIPE, check=True)
+        if len(PROCESS.findall(made.stdout)) > 1:
+            return made.stdout
+    sys.exit(f"bench: {asked.maker} writes no trace with 2 processes for {form} and seeds from {seed} on")
 
 
-def try_form(asked, program, name, runs):
-    """So many runs of a form."""
-    form = Form(name)
-    for seed, processes, trace in made_traces(asked, name):
-        if form.runs == runs:
-            break
-        form.runs += 1
-        form.most = max(form.most, processes)
-        wrong, output = race(asked, program, form, trace)
-        if wrong:
-            form.bad += 1
-            print(f"{name} {seed}: {wrong}", flush=True)
-            if asked.keep:
-                keep(asked.keep, f"{name}-{seed}", trace, output)
-    return form
+def try_one(asked, program, way, form, seed):
+    """One run, in a process of its own."""
+    trace = made_trace(asked, form, seed)
+    tally, wrong, output = race(asked, program, trace, way, seed)
+    if wrong:
+        print(f"{form} {seed}, {way}: {wrong}", flush=True)
+        if asked.keep:
+            keep(asked.keep, f"{form}-{seed}-{way}", trace, output)
+    return way, form, tally
+
+
+def ways_here(asked):
+    """The ways that can be gone here. Of the others it is said why not."""
+    for way in asked.ways.split(","):
+        reason = race_ways.Way(way, asked.library, 0).why_not()
+        if reason:
+            print(f"not tried: {way}: {reason}")
+        else:
+            yield way
 
 
 def races(asked, program):
-    """Runs of all forms, as many of each as can be."""
-    forms = []
-    print(HEAD)
-    for i, name in enumerate(asked.forms):
-        runs = asked.runs // len(asked.forms) + (i < asked.runs % len(asked.forms))
-        forms.append(try_form(asked, program, name, runs))
-        print(forms[-1].line(), flush=True)
-    tried, bad = sum(form.runs for form in forms), sum(form.bad for form in forms)
-    print(f"{tried:,} runs, {bad:,} of them bad")
-    return 0 if bad == 0 and tried > 0 else 1
+    """Runs of all forms by all ways, in turn. A table by ways, and one by forms."""
+    with tempfile.TemporaryDirectory() as folder:
+        asked.library = race_ways.library(folder)
+        ways = list(ways_here(asked))
+        cases = [(way, form) for form in asked.forms for way in ways]
+        if not cases:
+            sys.exit("bench: no way that is asked can be gone here")
+        drawn = itertools.islice(itertools.cycle(cases), asked.runs)
+        seeds = (asked.first + n * (1 if asked.maker is None else APART) for n in itertools.count())
+        tables = {"way": {way: Tally() for way in ways}, "form": {form: Tally() for form in asked.forms}}
+        with concurrent.futures.ProcessPoolExecutor(asked.jobs) as pool:
+            runs = [pool.submit(try_one, asked, program, way, form, seed) for (way, form), seed in zip(drawn, seeds)]
+            for n, run in enumerate(concurrent.futures.as_completed(runs), 1):
+                way, form, tally = run.result()
+                tables["way"][way].add(tally)
+                tables["form"][form].add(tally)
+                if asked.tell and n % asked.tell == 0:
+                    print(f"{n:,} runs, {sum(row.bad for row in tables['way'].values()):,} of them bad", flush=True)
+    return told(tables)
+
+
+def told(tables):
+    """Prints the tables. The status."""
+    for kind, rows in tables.items():
+        print(f"{kind:12}" + "".join(f"{word:>11}" for word in Tally.NAMES))
+        for name, tally in rows.items():
+            print(tally.line(name))
+    total = Tally()
+    for tally in tables["way"].values():
+        total.add(tally)
+    print(f"{total.runs:,} runs, {total.bad:,} of them bad")
+    return 0 if total.bad == 0 and total.runs > 0 else 1
 
 
 def timed(program, command, source, sink):
@@ -174,15 +207,35 @@ def times(asked, program):
     return 0
 
 
+def look_at(words, asked):
+    """Ends with a message if the words of `races` don't go together."""
+    wrong = [way for way in asked.ways.split(",") if not race_ways.is_way(way)]
+    if wrong:
+        words.error(f"no way is called {wrong[0]!r}; a way is plain, or some of {', '.join(race_ways.WORDS)} with + between them")
+    if asked.maker is None:
+        asked.forms = asked.forms or list(race_traces.FORMS)
+        unknown = [form for form in asked.forms if form not in race_traces.FORMS]
+        if unknown:
+            words.error(f"no form is called {unknown[0]!r}; the forms are {', '.join(race_traces.FORMS)}")
+    elif not asked.forms:
+        words.error("--maker needs the forms of its traces")
+    for name in ("runs", "jobs", "limit"):
+        if getattr(asked, name) <= 0:
+            words.error(f"--{name} is above 0")
+
+
 def main():
     words = argparse.ArgumentParser(description=__doc__, formatter_class=argparse.RawDescriptionHelpFormatter)
     parts = words.add_subparsers(dest="part", required=True)
     of_races = parts.add_parser("races")
-    of_races.add_argument("maker", help="the script that writes traces")
-    of_races.add_argument("forms", nargs="+", help="the forms of its traces")
-    of_races.add_argument("--runs", type=int, default=1000, help="runs of all forms together (default 1000)")
+    of_races.add_argument("forms", nargs="*", help="the forms of the traces (default: all)")
+    of_races.add_argument("--maker", help="the script that writes traces, in place of race_traces.py")
+    of_races.add_argument("--ways", default=",".join(race_ways.ALL), help="with commas (default %(default)s)")
+    of_races.add_argument("--runs", type=int, default=1000, help="runs of all forms and ways together (default 1000)")
+    of_races.add_argument("--jobs", type=int, default=1, help="runs at the same time (default 1)")
     of_races.add_argument("--first", type=int, default=1, help="the first seed (default 1)")
     of_races.add_argument("--limit", type=float, default=60, help="seconds that a run may take (default 60)")
+    of_races.add_argument("--tell", type=int, default=0, help="a line after each so many runs (default: none)")
     of_races.add_argument("--keep", help="a folder for the traces and outputs of runs that go wrong")
     of_times = parts.add_parser("times")
     of_times.add_argument("--runs", type=int, default=3, help="runs of each case (default 3)")
@@ -190,6 +243,8 @@ def main():
         part.add_argument("--program", help="this program in place of the repository's")
         part.add_argument("--command", default="replay", help="the command that runs a trace (default replay)")
     asked = words.parse_args()
+    if asked.part == "races":
+        look_at(words, asked)
     program = os.path.abspath(asked.program) if asked.program else built_program()
     return races(asked, program) if asked.part == "races" else times(asked, program)
 
