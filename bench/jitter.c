@@ -2,11 +2,18 @@
 
    With JITTER=n a thread waits at random before and after the calls of the system that a lock makes: to sleep on a
    word, to wake who sleeps there, to give the processor up. With HOLD=n a thread of this library interrupts the others
-   at random, wherever they are; who is interrupted waits for a while in the handler and goes on. n begins the draws. */
+   at random, wherever they are; who is interrupted waits for a while in the handler and goes on. n begins the draws.
+
+   With NAP=n each sleep on a word that has an end takes at least n milliseconds, so that no thread gets up by itself
+   and has the others go on whose wake was missed. A thread of this library then looks at the lock: if it is free, and
+   nobody moves it for half a second, and a thread sleeps beside it without an end all that time, a wake was missed, and
+   the program ends with the status MISSED. The lock is free if the word on which its threads sleep and the word before
+   it are the same: the ticket that is served, and the next one to be had. */
 #define _GNU_SOURCE
 #include <dirent.h>
 #include <dlfcn.h>
 #include <errno.h>
+#include <linux/futex.h>
 #include <pthread.h>
 #include <signal.h>
 #include <stdarg.h>
@@ -22,9 +29,18 @@
 #define LONGEST_PAUSE 600000   /* nanoseconds from one that is held to the next, so that a thread gets on between */
 #define INTERRUPT SIGUSR1      /* one that doesn't queue: a thread that is held isn't held again for it */
 
+#define LOOK 50000000          /* nanoseconds between two looks at the lock, with NAP */
+#define LOOKS 10               /* so many looks in a row at a lock that stays free */
+#define MISSED 99
+#define NO_END 1000000000      /* seconds: who is to sleep longer sleeps without an end */
+#define THREADS 64
+
 static atomic_uint draws;
 static unsigned salt;
 static int is_jittered;
+static long nap; /* milliseconds */
+static atomic_uint sleeps[THREADS]; /* how often each thread began or ended a sleep without an end: odd while it sleeps */
+static const _Atomic unsigned long *_Atomic served; /* the word on which they sleep */
 
 static unsigned draw(void) {
     unsigned k = atomic_fetch_add(&draws, 1) * 2246822519u ^ salt;
@@ -41,16 +57,48 @@ static void jitter(void) {
     if (is_jittered && draw() % ONE_IN == 0) wait_upto(LONGEST_WAIT);
 }
 
-long syscall(long number, ...) {
+static long pass_on(long number, const long *words) {
     static long (*_Atomic next)(long, ...);
     if (!next) next = (long (*)(long, ...))dlsym(RTLD_NEXT, "syscall");
+    return next(number, words[0], words[1], words[2], words[3], words[4], words[5]);
+}
+
+/* Sleeps with an end, but not for a shorter time than that of a nap. */
+static long sleep_longer(const long *given) {
+    const struct timespec *asked = (const struct timespec *)given[3];
+    struct timespec longer = {nap / 1000, nap % 1000 * 1000000};
+    long words[6] = {given[0], given[1], given[2], given[3], given[4], given[5]};
+    if (asked->tv_sec == 0 && asked->tv_nsec < nap * 1000000) words[3] = (long)&longer;
+    return pass_on(SYS_futex, words);
+}
+
+/* Sleeps without an end on the lock's word, where the thread that looks sees it. */
+static long sleep_seen(const long *words) {
+    static atomic_uint threads;
+    static _Thread_local unsigned own = THREADS;
+    if (own == THREADS) own = atomic_fetch_add(&threads, 1) % THREADS;
+    served = (const _Atomic unsigned long *)words[0];
+    sleeps[own]++;
+    long answer = pass_on(SYS_futex, words);
+    sleeps[own]++;
+    return answer;
+}
+
+static long call(long number, const long *words) {
+    int is_wait = number == SYS_futex && (words[1] & FUTEX_CMD_MASK) == FUTEX_WAIT;
+    if (nap == 0 || !is_wait) return pass_on(number, words);
+    const struct timespec *asked = (const struct timespec *)words[3];
+    return asked && asked->tv_sec < NO_END ? sleep_longer(words) : sleep_seen(words);
+}
+
+long syscall(long number, ...) {
     long words[6];
     va_list given;
     va_start(given, number);
     for (int i = 0; i < 6; i++) words[i] = va_arg(given, long);
     va_end(given);
     if (number == SYS_futex) jitter();
-    long answer = next(number, words[0], words[1], words[2], words[3], words[4], words[5]);
+    long answer = call(number, words);
     int error = errno;
     if (number == SYS_futex) jitter();
     errno = error;
@@ -93,17 +141,41 @@ static void *holder(void *given) {
     return given;
 }
 
+/* Looks at the lock, again and again. */
+static void *looker(void *given) {
+    unsigned long before = 0;
+    unsigned kept[THREADS] = {0};
+    for (int looks = 0;; looks++) {
+        nanosleep(&(struct timespec){0, LOOK}, NULL);
+        const _Atomic unsigned long *word = served;
+        if (!word) continue;
+        if (word[-1] != word[0] || word[0] != before) looks = 0;
+        before = word[0];
+        for (int i = 0; i < THREADS; i++) {
+            if (looks >= LOOKS && sleeps[i] % 2 && sleeps[i] == kept[i]) pass_on(SYS_exit_group, (const long[6]){MISSED});
+            if (looks == 0) kept[i] = sleeps[i];
+        }
+    }
+    return given;
+}
+
+/* Starts a thread of this library, which no signal interrupts. */
+static void start(void *(*run)(void *)) {
+    sigset_t all, before;
+    pthread_t thread;
+    sigfillset(&all);
+    pthread_sigmask(SIG_SETMASK, &all, &before);
+    if (pthread_create(&thread, NULL, run, NULL)) abort();
+    pthread_sigmask(SIG_SETMASK, &before, NULL);
+}
+
 __attribute__((constructor)) static void begin(void) {
-    const char *jittered = getenv("JITTER"), *hold = getenv("HOLD");
+    const char *jittered = getenv("JITTER"), *hold = getenv("HOLD"), *napping = getenv("NAP");
     salt = (unsigned)atoi(jittered ? jittered : hold ? hold : "0") * 2654435761u | 1;
     is_jittered = jittered != NULL;
-    if (!hold) return;
     struct sigaction act = {.sa_handler = held, .sa_flags = SA_RESTART};
-    pthread_t thread;
-    sigaction(INTERRUPT, &act, NULL);
-    sigset_t its, before;
-    sigfillset(&its);
-    pthread_sigmask(SIG_SETMASK, &its, &before);
-    if (pthread_create(&thread, NULL, holder, NULL)) abort();
-    pthread_sigmask(SIG_SETMASK, &before, NULL);
+    if (hold) sigaction(INTERRUPT, &act, NULL);
+    if (hold) start(holder);
+    nap = napping ? atol(napping) : 0;
+    if (nap) start(looker);
 }

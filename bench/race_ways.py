@@ -7,6 +7,9 @@ A way is `plain`, or some of these words with a `+` between them:
     stopped   the whole program is stopped and let go, by signals
     one       the program is bound to one processor
     robin     real-time round robin, bound to one processor
+    napping   no worker that has nothing to do looks up for a second and a half, and that library ends the program
+              with status 99 if a thread sleeps on beside a lock that is free: a wake was missed. Else the next turn
+              of a worker would make good for it. A run takes some seconds
 
 What can't be had, for want of a compiler or of the right to it, is said by `Way.why_not`.
 """
@@ -19,11 +22,13 @@ import subprocess
 import time
 
 PLAIN = "plain"
-WORDS = ("jitter", "held", "stopped", "one", "robin")
+WORDS = ("jitter", "held", "stopped", "one", "robin", "napping")
 ALL = (PLAIN, "jitter", "held", "jitter+held", "stopped", "one+jitter", "one+held", "robin+held")
 
 SOURCE = os.path.join(os.path.dirname(os.path.abspath(__file__)), "jitter.c")
 LONGEST_STOP = 0.005  # seconds
+NAP = 1500  # milliseconds
+PRELOADED = {"jitter": "JITTER", "held": "HOLD", "napping": "NAP"}
 
 
 class Late(Exception):
@@ -74,7 +79,7 @@ class Way:
 
     def why_not(self):
         """Why it can't be gone here, or None if it can."""
-        if self.made is None and {"jitter", "held"} & set(self.words):
+        if self.made is None and set(PRELOADED) & set(self.words):
             return "there is no C compiler cc"
         try:
             subprocess.run(["true"], preexec_fn=self.bind, check=True)
@@ -85,9 +90,9 @@ class Way:
     def surrounding(self):
         """The environment of a run."""
         kept = dict(os.environ)
-        for word, name in (("jitter", "JITTER"), ("held", "HOLD")):
+        for word, name in PRELOADED.items():
             if word in self.words:
-                kept[name] = str(self.seed)
+                kept[name] = str(NAP if word == "napping" else self.seed)
                 kept["LD_PRELOAD"] = self.made
         return kept
 

@@ -12,7 +12,7 @@ pages were left dirty, and `check` answers `LOG OK` to the trace, a line LOG and
 is 0 if all runs go well, else 1. The traces of those that don't are kept, and their outputs too, if a folder
 is named.
 
-It needs Python 3.9 or later, no packages, and Linux; a C compiler for the ways jitter and held.
+It needs Python 3.9 or later, no packages, and Linux; a C compiler for the ways jitter, held and napping.
 """
 
 import argparse
@@ -75,7 +75,7 @@ class Tally:
 
     def line(self, name):
         counts = (self.runs, self.bad, self.dirty, self.most, self.entries, self.collided, self.failed)
-        return f"{name:12}" + "".join(f"{n:>11,}" for n in counts) + f"{self.slowest:11.2f}"
+        return f"{name:16}" + "".join(f"{n:>11,}" for n in counts) + f"{self.slowest:11.2f}"
 
 
 def race(asked, program, trace, way, seed):
@@ -169,7 +169,7 @@ def races(asked, program):
 def told(tables):
     """Prints the tables. The status."""
     for kind, rows in tables.items():
-        print(f"{kind:12}" + "".join(f"{word:>11}" for word in Tally.NAMES))
+        print(f"{kind:16}" + "".join(f"{word:>11}" for word in Tally.NAMES))
         for name, tally in rows.items():
             print(tally.line(name))
     total = Tally()

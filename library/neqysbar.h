@@ -40,6 +40,8 @@ enum neqysbar_status {
  *
  * With status 7 and the number 0 memory ran out for the words or the output, and nothing is written.
  *
+ * The thread that calls needs 64 KiB of stack; a call takes at most half of it on the examples.
+ *
  * What the caller owes: no pointer is null, also where a length is 0; the parts of memory are as long as
  * is said, output and number overlap with nothing else, and nothing that is handed over is changed by
  * others while the call runs; the call isn't made in a signal handler.
