@@ -19,14 +19,15 @@
 #include <stdarg.h>
 #include <stdatomic.h>
 #include <stdlib.h>
+#include <sys/prctl.h>
 #include <sys/syscall.h>
 #include <time.h>
 #include <unistd.h>
 
 #define ONE_IN 4               /* so many calls, of which one is delayed */
 #define LONGEST_WAIT 60000     /* nanoseconds of a delayed call */
-#define LONGEST_HOLD 1000000   /* nanoseconds that a thread is held */
-#define LONGEST_PAUSE 600000   /* nanoseconds from one that is held to the next, so that a thread gets on between */
+#define LONGEST_HOLD 20        /* a thread is held for up to two to that power of nanoseconds, mostly much shorter */
+#define LONGEST_PAUSE 100000   /* nanoseconds from one that is held to the next, so that a thread gets on between */
 #define INTERRUPT SIGUSR1      /* one that doesn't queue: a thread that is held isn't held again for it */
 
 #define LOOK 50000000          /* nanoseconds between two looks at the lock, with NAP */
@@ -115,7 +116,7 @@ int sched_yield(void) {
 static void held(int signal) {
     int error = errno;
     (void)signal;
-    wait_upto(LONGEST_HOLD);
+    wait_upto(1L << draw() % (LONGEST_HOLD + 1));
     errno = error;
 }
 
@@ -134,6 +135,7 @@ static void hold_one(pid_t process, pid_t self) {
 
 static void *holder(void *given) {
     pid_t process = getpid(), self = (pid_t)syscall(SYS_gettid);
+    prctl(PR_SET_TIMERSLACK, 1L);
     for (;;) {
         hold_one(process, self);
         wait_upto(LONGEST_PAUSE);

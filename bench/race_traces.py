@@ -14,6 +14,7 @@ processes, private zero pages, a shared section and a copy on reference one; bes
     failing     blocks that fail at some calls, of sections, of the page file and of the swap file
     paged       version 2: a section in the page file
     pins        version 2: pages that are locked in memory, and what `paged` has
+    long        many requests, and memory for half of the pages or more, so that turns follow each other fast
 
 It needs Python 3.9 and no packages.
 """
@@ -22,7 +23,7 @@ import argparse
 import random
 import sys
 
-FORMS = ("shared", "clusters", "services", "swapping", "failing", "paged", "pins")
+FORMS = ("shared", "clusters", "services", "swapping", "failing", "paged", "pins", "long")
 
 PAGE = 512
 SLACK = 6  # the most frames beyond those that the trace must have
@@ -66,7 +67,7 @@ class Draw:
         """The lines of the processes, and the greatest extent."""
         lines, greatest = [], 0
         for name in self.names:
-            limit = self.locks + self.upto(2, 6)
+            limit = self.locks + (self.upto(6, 12) if self.form == "long" else self.upto(2, 6))
             quota = limit + self.upto(0, 3)
             extent = quota + self.upto(0, 3)
             greatest = max(greatest, extent)
@@ -77,7 +78,10 @@ class Draw:
         """How many frames there are, and which are bad. Where processes don't swap there is room for more."""
         locked = self.locks * len(self.names) if self.version == 2 else 0
         least = greatest + 2 + locked
-        room = 0 if self.form == "swapping" or self.is_drawn(0.5) else 4 * len(self.names)
+        if self.form == "long":
+            room = 10 * len(self.names)
+        else:
+            room = 0 if self.form == "swapping" or self.is_drawn(0.5) else 4 * len(self.names)
         bad = self.upto(0, 2)
         total = max(8, least + bad + room + self.upto(0, SLACK))
         return total, self.random.sample(range(total), bad)
@@ -149,6 +153,8 @@ class Draw:
 
     def body(self):
         requests = self.upto(1000, 2000) if self.is_drawn(0.05) else self.upto(20, 200)
+        if self.form == "long":
+            requests = self.upto(5000, 15000)
         served = {"services": 0.2, "pins": 0.2}.get(self.form, 0)
         for _ in range(requests):
             name = self.one_of(self.names)
