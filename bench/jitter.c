@@ -6,8 +6,8 @@
 
    With NAP=n each sleep on a word that has an end takes at least n milliseconds, so that no thread gets up by itself
    and has the others go on whose wake was missed. A thread of this library then looks at the lock: if it is free, and
-   nobody moves it for half a second, and a thread sleeps beside it without an end all that time, a wake was missed, and
-   the program ends with the status MISSED. The lock is free if the word on which its threads sleep and the word before
+   nobody moves it for half a second, and a thread sleeps beside it without an end, and all others sleep too all that
+   time, a wake was missed, and the program ends with the status MISSED. The lock is free if the word on which its threads sleep and the word before
    it are the same: the ticket that is served, and the next one to be had. */
 #define _GNU_SOURCE
 #include <dirent.h>
@@ -18,7 +18,9 @@
 #include <signal.h>
 #include <stdarg.h>
 #include <stdatomic.h>
+#include <stdio.h>
 #include <stdlib.h>
+#include <string.h>
 #include <sys/prctl.h>
 #include <sys/syscall.h>
 #include <time.h>
@@ -40,8 +42,13 @@ static atomic_uint draws;
 static unsigned salt;
 static int is_jittered;
 static long nap; /* milliseconds */
-static atomic_uint sleeps[THREADS]; /* how often each thread began or ended a sleep without an end: odd while it sleeps */
-static const _Atomic unsigned long *_Atomic served; /* the word on which they sleep */
+
+/* Of each thread how often it began or ended a sleep without an end, so that it is odd while it sleeps; on which word,
+   and which value that word had. */
+static struct {
+    atomic_uint times, value;
+    const _Atomic unsigned long *_Atomic word;
+} sleeps[THREADS];
 
 static unsigned draw(void) {
     unsigned k = atomic_fetch_add(&draws, 1) * 2246822519u ^ salt;
@@ -73,15 +80,16 @@ static long sleep_longer(const long *given) {
     return pass_on(SYS_futex, words);
 }
 
-/* Sleeps without an end on the lock's word, where the thread that looks sees it. */
+/* Sleeps without an end, where the thread that looks sees it. */
 static long sleep_seen(const long *words) {
     static atomic_uint threads;
     static _Thread_local unsigned own = THREADS;
     if (own == THREADS) own = atomic_fetch_add(&threads, 1) % THREADS;
-    served = (const _Atomic unsigned long *)words[0];
-    sleeps[own]++;
+    sleeps[own].word = (const _Atomic unsigned long *)words[0];
+    sleeps[own].value = (unsigned)words[2];
+    sleeps[own].times++;
     long answer = pass_on(SYS_futex, words);
-    sleeps[own]++;
+    sleeps[own].times++;
     return answer;
 }
 
@@ -143,19 +151,42 @@ static void *holder(void *given) {
     return given;
 }
 
-/* Looks at the lock, again and again. */
+/* Whether every other thread of this process sleeps. One that has been woken may wait long for a processor. */
+static int all_sleep(pid_t self) {
+    DIR *threads = opendir("/proc/self/task");
+    int sleep = threads != NULL;
+    for (struct dirent *entry; threads && (entry = readdir(threads));) {
+        char name[64], line[256];
+        pid_t thread = atoi(entry->d_name);
+        if (thread <= 0 || thread == self) continue;
+        snprintf(name, sizeof name, "/proc/self/task/%d/stat", thread);
+        FILE *file = fopen(name, "r");
+        const char *end = file && fgets(line, sizeof line, file) ? strrchr(line, ')') : NULL;
+        sleep = sleep && end && strlen(end) > 2 && end[2] == 'S';
+        if (file) fclose(file);
+    }
+    if (threads) closedir(threads);
+    return sleep;
+}
+
+/* Looks again and again for a thread that sleeps on while its lock is free and all others sleep too. The word has changed since it fell asleep,
+   or the lock wouldn't be free; so other words, on which a thread waits for the end of the rest, aren't taken for it. */
 static void *looker(void *given) {
-    unsigned long before = 0;
-    unsigned kept[THREADS] = {0};
-    for (int looks = 0;; looks++) {
+    struct { unsigned times, looks; unsigned long served; } seen[THREADS] = {0};
+    pid_t self = (pid_t)syscall(SYS_gettid);
+    for (;;) {
         nanosleep(&(struct timespec){0, LOOK}, NULL);
-        const _Atomic unsigned long *word = served;
-        if (!word) continue;
-        if (word[-1] != word[0] || word[0] != before) looks = 0;
-        before = word[0];
         for (int i = 0; i < THREADS; i++) {
-            if (looks >= LOOKS && sleeps[i] % 2 && sleeps[i] == kept[i]) pass_on(SYS_exit_group, (const long[6]){MISSED});
-            if (looks == 0) kept[i] = sleeps[i];
+            unsigned times = sleeps[i].times;
+            const _Atomic unsigned long *word = sleeps[i].word;
+            if (times % 2 == 0) continue;
+            unsigned long served = word[0];
+            int is_free = word[-1] == served && (unsigned)served != sleeps[i].value;
+            int is_same = seen[i].times == times && seen[i].served == served;
+            seen[i].looks = is_free && is_same && all_sleep(self) ? seen[i].looks + 1 : 0;
+            seen[i].times = times;
+            seen[i].served = served;
+            if (seen[i].looks == LOOKS) pass_on(SYS_exit_group, (const long[6]){MISSED});
         }
     }
     return given;
