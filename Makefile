@@ -41,7 +41,7 @@ install:
 	@release/is_of_sources || { echo "make: release/ isn't built from the sources that are here: release/make does it" >&2; exit 1; }
 	@case "$(PREFIX)" in /*) ;; *) echo "make: PREFIX has to begin with /" >&2; exit 1 ;; esac
 	umask 022 && install -d "$(home)/release" "$(home)/help" "$(binaries)" "$(headers)" "$(libraries)/pkgconfig" \
-	    "$(manual)" "$(bash)" "$(zsh)" "$(page)" "$(documents)/docs" "$(documents)/python"
+	    "$(manual)" "$(bash)" "$(zsh)" "$(page)" "$(documents)/docs" "$(documents)/python/neqysbar"
 	$(put_program) neqysbar "$(home)/"
 	$(put_program) release/neqysbar "$(home)/release/"
 	$(put) VERSION "$(home)/"
@@ -59,7 +59,7 @@ install:
 	$(put) $(wildcard player/*.html player/*.css player/*.js player/*.wasm) "$(page)/"
 	$(put) README.md CHANGELOG.md "$(documents)/"
 	$(put) $(wildcard docs/*.md) "$(documents)/docs/"
-	$(put) python/neqysbar.py "$(documents)/python/"
+	$(put) VERSION $(wildcard python/neqysbar/*.py) python/neqysbar/py.typed "$(documents)/python/neqysbar/"
 	umask 022 && find examples -type f ! -path '*/__pycache__/*' ! -name check ! -name test_scripts.py \
 	    -exec sh -c 'for file; do install -D -m "$$([ -x "$$file" ] && echo 755 || echo 644)" "$$file" "$$0/$$file"; done' \
 	    "$(documents)" {} +

@@ -26,7 +26,7 @@ hits by DONE lines. Rows are processes, then MPW and SWP if they did something, 
 | evicted, reused | EVICT of this process's pages; REUSE by this seat |
 | left, limits | TURN to LEAVING; LIMIT |
 
-It needs Python 3.9 and `python/neqysbar.py`, and no packages. What isn't the output of a run is refused, with status 2.
+It needs Python 3.9 and the package in `python/`, and no packages. What isn't the output of a run is refused, with status 2.
 """
 
 import csv
