@@ -12,7 +12,7 @@
        "The trace has seven requests. Which of them are page faults, and why are the others none?"
       ],
       "answer": [
-       "Four. Three are first touches, which are answered: lines 1, 3 and 7. The fourth is the read of line 9: its page is mapped and isn't valid, so it is a page fault too, but one that the pager refuses, for it can't make the page valid. The reads of lines 5 and 6 go to pages that are valid by then. That of line 10 goes to no page that is mapped, so there is nothing that could be made valid: it is refused, and is no page fault."
+       "Three are served, each a first touch: lines 1, 3 and 7. The reads of lines 5 and 6 go to pages that are valid by then. The read of line 9 is to a page that is mapped and isn't valid, so it is a page fault too, but one that the pager refuses, for it can't make the page valid; where faults are counted, those that are served count. That of line 10 goes to no page that is mapped, so there is nothing that could be made valid: it is refused, and is no page fault."
       ]
      },
      {

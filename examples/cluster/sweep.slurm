@@ -6,5 +6,6 @@
 # One part of a sweep for each task of a job array; run from the top of the repository. A task that is
 # started again goes on with what its table has.
 set -eu
-python3 -m neqysbar.sweep $(cat examples/cluster/settings) --jobs "${SLURM_CPUS_PER_TASK:-1}" \
+read -r -d '' -a settings <examples/cluster/settings || true
+python3 -m neqysbar.sweep "${settings[@]}" --jobs "${SLURM_CPUS_PER_TASK:-1}" \
     --part "$SLURM_ARRAY_TASK_ID/$SLURM_ARRAY_TASK_COUNT" --output "sort-part-$SLURM_ARRAY_TASK_ID.csv"

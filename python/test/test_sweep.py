@@ -34,6 +34,11 @@ def rows_of(path):
         return list(csv.DictReader(source))
 
 
+def heeds():
+    """In a child: SIGINT counts, though whoever started these tests in the background had it ignored."""
+    signal.signal(signal.SIGINT, signal.SIG_DFL)
+
+
 class Sweep(unittest.TestCase):
     def setUp(self):
         self.folder = pathlib.Path(tempfile.mkdtemp())
@@ -118,7 +123,7 @@ class Sweep(unittest.TestCase):
         """A sweep that a signal breaks off, with its status; some of its points are finished by then."""
         words = [SORT, "--limit", "4:9", "--param", "PFRATH=1:20", "--command", "serial", "--output", self.table]
         begun = subprocess.Popen([sys.executable, "-m", "neqysbar.sweep", *words], env=environment(),
-                                 stderr=subprocess.PIPE, text=True, start_new_session=True)
+                                 stderr=subprocess.PIPE, text=True, start_new_session=True, preexec_fn=heeds)
         until = time.monotonic() + SECONDS
         while not os.path.exists(self.table) or pathlib.Path(self.table).read_bytes().count(b"\n") < 20:
             self.assertLess(time.monotonic(), until)
