@@ -3,4 +3,3 @@ pub mod Forms
 pub mod Front
 pub mod LineWords
 pub mod OneToOne
-pub mod Printable

@@ -15,20 +15,6 @@ use vm_types::{BlockId, Config, FrameState, Page, Pfn, Proc, ProcStatus, page_pl
 impl LogPager {
     ghost use Rattle.log_pager.specs.Shown.{shown};
 
-    /// Whether there is a frame of this number.
-    pub fn has_frame(&self, f: Pfn) -> bool
-        ensures { IsTrue result ↔ (f.0 < (shown self.now).frames) }
-    {
-        (f.0 as usize) < self.states.len()
-    }
-
-    /// Whether there is a process of this number.
-    pub fn has_process(&self, p: Proc) -> bool
-        ensures { IsTrue result ↔ (p.0 < (shown self.now).processes) }
-    {
-        (p.0 as usize) < self.statuses.len()
-    }
-
     /// The state of a frame; one that isn't there is bad.
     pub fn state(&self, f: Pfn) -> FrameState
         ensures { result ≡ (shown self.now).pager.state f.0 }

@@ -1,7 +1,7 @@
 -- The flat machine: what memory answers where no frame, list, flight or disk is seen. This
 -- project's own; rights by the VAX Architecture Reference Manual.
 use Rattle.std.specs.Prelude.{ℕ, Bool, true, false, ◌+◌, ◌%◌, ◌^◌, ◌&&◌, List, [], ◌++◌, Option, Some, None, length, take, drop, nat_eq, not, if◌then◌else◌}
-use Rattle.std.specs.Int.{from_le_bytes, to_le_bytes, Width, w8, w16, w32}
+use Rattle.std.specs.Int.{from_le_bytes, to_le_bytes, w8, w16, w32}
 use Rattle.vm_types.specs.Access.{is_allowed}
 use Rattle.vm_types.specs.declared.names.Page.{Page}
 use Rattle.vm_types.specs.declared.names.Page.TheVariants.{Private, Shared}
@@ -39,11 +39,6 @@ is_untouched config flat page = is_paged config page && not (has_page flat.touch
 -- the bytes of a mapped page: those that its origin gives, until a paged page is touched
 abbrev pub page_bytes : Config → FlatState → Page → Origin → List ℕ
 page_bytes config flat page origin = if is_untouched config flat page then first_bytes config origin else flat.stored page
-
-abbrev pub number_width : RefWidth → Width
-number_width One = w8
-number_width Two = w16
-number_width Four = w32
 
 -- the number at an offset, least significant byte first
 abbrev pub number_at : RefWidth → List ℕ → ℕ → ℕ

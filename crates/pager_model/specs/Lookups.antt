@@ -129,10 +129,6 @@ abbrev pub is_leaving : ProcStatus → Bool
 is_leaving status.Leaving = true
 is_leaving other = false
 
-abbrev pub is_gone : ProcStatus → Bool
-is_gone status.Gone = true
-is_gone other = false
-
 -- whether there is one that passes
 abbrev pub passes : {X : Type 0} → (X → Bool) → Option X → Bool
 passes t None = false

@@ -31,7 +31,7 @@ pub use pages_shown::{
 pub use pending::pending_by;
 pub use ranges::{create_zeros, protect};
 pub use read_starts::{charge_fault, count_fault, read_page};
-pub use reading::{first_read, global_number, hold_page, is_paged, mapped_page, slot_of_block};
+pub use reading::{first_read, global_number, hold_page, is_paged, mapped_page};
 pub use resting::{rest, uncharge_unread};
 pub use ring_slots::{come_home, enter_ring, frame_slot, held_in, marked_back, turn_ring};
 pub use service_answers::{limit_answer, lock_answer, pin_service, some_entry};

@@ -2,7 +2,6 @@ ghost use Rattle.std.specs.Prelude.{◌≡◌, ℕ, ◌<◌, None, Some, length}
 ghost use Rattle.std.specs.Option.{option_map};
 ghost use Rattle.page_file.specs.Blocks.{Blocks};
 ghost use Rattle.page_tables.specs.PageTables.{pte_in};
-ghost use Rattle.pager_model.specs.Changes.{swap_slot};
 ghost use Rattle.pager_model.specs.Maps.{is_paged, page_behind};
 ghost use Rattle.section_table.specs.SectionTable.{behind_of};
 ghost use Rattle.pager_model.specs.InOk.{is_first_read};
@@ -123,15 +122,5 @@ pub fn first_read(page: Page, block: BlockId) -> bool
     match (page, block) {
         (Page::Private(..), BlockId::Section(..)) => true,
         _ => false,
-    }
-}
-
-/// The slot of a swap block; 0 of every other block.
-pub fn slot_of_block(block: BlockId) -> u32
-    ensures { result ≡ swap_slot block }
-{
-    match block {
-        BlockId::Swap(_, n) => n,
-        _ => 0,
     }
 }

@@ -165,14 +165,6 @@ pub fn read_frame(word: &[u8]) -> Option<Pfn>
     Some(Pfn(number))
 }
 
-/// The address of eight digits. Doesn't allocate.
-pub fn read_address(word: &[u8]) -> Option<Addr>
-    ensures { Reads (λ a. a.0 < 2 ^ 32) (λ a. address_text a.0) word.now result }
-{
-    let address = read_hex(word, 8)?;
-    Some(Addr(address))
-}
-
 /// The address of eight digits, the first of its page. Doesn't allocate.
 pub fn read_page_start(word: &[u8]) -> Option<Addr>
     ensures { Reads (λ a. IsPageStart a.0) (λ a. address_text a.0) word.now result }

@@ -1,11 +1,11 @@
-ghost use Rattle.std.specs.Prelude.{◌≡◌, ◌+◌, ◌^◌, ◌<◌, ◌≤◌, ◌++◌};
+ghost use Rattle.std.specs.Prelude.{◌≡◌, ◌+◌, ◌<◌, ◌≤◌, ◌++◌};
 ghost use Rattle.vm_types.specs.declared.reference.Mode.TheVariants.{U};
 ghost use Rattle.vm_types.specs.WellFormed.{op_bytes};
 ghost use Rattle.arrayvec.specs.ArrayVec.{array_vec_len};
 ghost use Rattle.vm_text.specs.Readings.{Reads};
 ghost use Rattle.vm_text.specs.References.{bare, mode_text, op_text, value_text, why_word};
 
-use crate::number::{push_hex, read_hex};
+use crate::number::push_hex;
 use crate::text::{after, push_word};
 use arrayvec::ArrayVec;
 use vm_types::{Mode, Op, Why, Width};
@@ -114,13 +114,6 @@ fn read_op_name(word: &[u8]) -> Option<Op>
         b"A4" => Some(Op::Add(0)),
         _ => None,
     }
-}
-
-/// The value of this word of two hexadecimal digits for each byte that the op takes. Doesn't allocate.
-pub fn read_value(word: &[u8], op: Op) -> Option<u32>
-    ensures { Reads (λ value. value < 256 ^ op_bytes op) (value_text op) word.now result }
-{
-    read_hex(word, 2 * u32::from(bytes_of(op)))
 }
 
 /// Why a reference is refused, by this word. Doesn't allocate.
