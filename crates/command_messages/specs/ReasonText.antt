@@ -107,7 +107,6 @@ process_words reason.PagesAreSwapped = codes "a page of the process still lies i
 process_words other = frame_words other
 
 abbrev pub seat_words : Reason → List ℕ
-seat_words reason.OutOfBounds = codes "a number of the line is out of its bounds"
 seat_words (reason.ReuseComesNext x0 x1) = codes "a read has failed, and next comes the reuse of its frame, %, by its seat"
 seat_words reason.SeatHasOpenTransfer = codes "the seat has an open transfer, and the entry is none that goes with one"
 seat_words (reason.CarrierHasLanded x0) = codes "transfers of the seat have landed, %, and the next one begins when all have"

@@ -12,7 +12,6 @@ pub(crate) fn seat_words(reason: Reason) -> &'static [u8]
     ensures { AreWords result.now (seat_words reason) 80 }
 {
     match reason {
-        Reason::OutOfBounds => b"a number of the line is out of its bounds",
         Reason::ReuseComesNext(_, _) =>
             b"a read has failed, and next comes the reuse of its frame, %, by its seat",
         Reason::SeatHasOpenTransfer =>

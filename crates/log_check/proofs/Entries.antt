@@ -17,4 +17,4 @@ module _ (config : Config) (past : List Entry) (a : Pager) (e : Entry) where
 
   pub entry_fails : (o : Option Reason) → IfSome o (WhatFails config past a (e.seat).0 e.what) → IfSome o (EntryFails config past a e)
   entry_fails None says = tt
-  entry_fails (Some reason) says = inr (inr says)
+  entry_fails (Some reason) says = inr says

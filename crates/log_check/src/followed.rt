@@ -1,5 +1,6 @@
 ghost use Rattle.std.specs.Prelude.{◌≡◌, ◌+◌, ◌<◌, ◌^◌, [], IfOk, IfSome, OnOk, is_none, length};
 ghost use Rattle.vm_types.specs.Configuration.{IsWellFormed};
+ghost use Rattle.vm_journal.specs.HasLine.{HasLine};
 ghost use Rattle.log_reasons.specs.LineReasons.{IsRefused};
 ghost use Rattle.log_pager.specs.Shown.{shown};
 ghost use Rattle.log_check.specs.Follows.{Follows};
@@ -54,13 +55,14 @@ impl<'a> Followed<'a> {
         Ok(())
     }
 
-    /// Goes on with an entry, if it is a legal next one, keeps the order of its process's requests and
+    /// Goes on with an entry that has a line, if it is a legal next one, keeps the order of its process's requests and
     /// shows the flat machine's reply if it is a DONE; else it says why it isn't, and this is not to be used
     /// again.
     ///
     /// # Errors
     /// `NoMemory` if out of memory; this is then not to be used again.
     pub(crate) fn enter(&mut self, e: Entry) -> Result<Option<LineReason>, NoMemory>
+        requires line { HasLine (length self.old.past.config.procs) self.old.past.config.sections e }
         requires followed { IsFollowed self.old }
         requires few { length self.old.past.past + 1 < 2 ^ 48 }
         ensures entered { IfOk result (λ o. IsEntered self.old e self.new (is_none o)) }

@@ -8,7 +8,6 @@ mod check_fault;
 mod entry_line;
 mod expected;
 mod followed;
-mod line;
 mod place;
 mod replies;
 mod step;

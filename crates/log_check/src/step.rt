@@ -1,6 +1,6 @@
 //! Why an entry isn't a legal next one.
 
-ghost use Rattle.std.specs.Prelude.{◌≡◌, ◌↔◌, ◌+◌, ◌<◌, ◌≤◌, IfSome, IsNone, IsTrue, length};
+ghost use Rattle.std.specs.Prelude.{◌≡◌, ◌↔◌, ◌+◌, ◌<◌, ◌≤◌, IfSome, IsNone, length};
 ghost use Rattle.vm_journal.specs.HasLine.{HasLine, WhatHasLine};
 ghost use Rattle.pager_model.specs.Order.{IsInOrder};
 ghost use Rattle.pager_model.specs.Step.{IsLegal, IsLegalWhat};
@@ -9,7 +9,6 @@ ghost use Rattle.log_pager.specs.Shown.{shown};
 ghost use Rattle.row_requests.specs.FollowsFlat.{FollowsFlat};
 ghost use Rattle.log_check.specs.Follows.{Follows};
 
-use crate::line::has_line;
 use log_history::LogHistory;
 use log_pager::LogPager;
 use log_reasons::Reason;
@@ -74,14 +73,6 @@ fn what_fails(past: &LogHistory<'_>, pager: &LogPager, seat: Seat, what: What) -
     }
 }
 
-/// Whether an entry has a line in a log of the configuration of those so far.
-fn has_line_after(past: &LogHistory<'_>, e: Entry) -> bool
-    requires { length past.now.config.procs ≤ 16 }
-    ensures { IsTrue result ↔ HasLine (length past.now.config.procs) past.now.config.sections e }
-{
-    has_line(past.config(), e)
-}
-
 /// The pager's state has the flat machine's maps and touched pages.
 pub(crate) fn flat_is_followed(past: &LogHistory<'_>, pager: &LogPager)
     requires { Follows past.now.config past.now.past (shown pager.now) }
@@ -91,16 +82,14 @@ pub(crate) fn flat_is_followed(past: &LogHistory<'_>, pager: &LogPager)
     runs_are_of_configuration();
 }
 
-/// Why an entry isn't a legal next one after those so far, which led to this state of the pager: one of
-/// the conditions of its kind that doesn't hold, if there is one. Doesn't allocate.
+/// Why an entry that has a line isn't a legal next one after those so far, which led to this state of the
+/// pager: one of the conditions of its kind that doesn't hold, if there is one. Doesn't allocate.
 pub(crate) fn fails(past: &LogHistory<'_>, pager: &LogPager, e: Entry) -> Option<Reason>
-    requires { Follows past.now.config past.now.past (shown pager.now) }
+    requires line { HasLine (length past.now.config.procs) past.now.config.sections e }
+    requires follows { Follows past.now.config past.now.past (shown pager.now) }
     ensures legal { IsNone result ↔ IsLegal past.now.config past.now.past (shown pager.now).pager e }
     ensures said { IfSome result (EntryFails past.now.config past.now.past (shown pager.now).pager e) }
 {
-    if !has_line_after(past, e) {
-        return Some(Reason::OutOfBounds);
-    }
     flat_machine_follows();
     runs_are_of_configuration();
     if let Some(reason) = in_turn_fails(past, e) {

@@ -1,4 +1,5 @@
 ghost use Rattle.std.specs.Prelude.{◌≡◌, ◌⊎◌, ◌+◌, ◌<◌, ◌^◌, ◌≢◌, All, IfErr, IfOk, length};
+ghost use Rattle.vm_journal.specs.HasLine.{HasLine};
 ghost use Rattle.log_reasons.specs.LineReasons.{IsRefused};
 ghost use Rattle.log_check.specs.declared.place.Place.TheVariants.{Entries, Rundown};
 ghost use Rattle.log_check.specs.Followed.{IsFollowed};
@@ -39,9 +40,11 @@ fn take_entry(
     }
 }
 
-/// Why an entry isn't a next one that is no step of the rundown: for its own sake, if it isn't legal.
+/// Why an entry that has a line isn't a next one that is no step of the rundown: for its own sake, if it isn't
+/// legal.
 fn unstepped(followed: &Followed<'_>, e: Entry) -> LineReason
-    requires { IsFollowed followed.now }
+    requires line { HasLine (length followed.now.past.config.procs) followed.now.past.config.sections e }
+    requires followed { IsFollowed followed.now }
     ensures { IsRefused followed.now.past.config followed.now.past.past e result ⊎ (result ≡ LineReason.NotOfRundown) }
 {
     match fails(&followed.past, &followed.pager, e) {
@@ -57,6 +60,7 @@ fn step_rundown(
     underway: Underway,
     e: Entry,
 ) -> Result<Result<Place, LineReason>, NoMemory>
+    requires line { HasLine (length followed.old.past.config.procs) followed.old.past.config.sections e }
     requires followed { IsFollowed followed.old }
     requires few { length followed.old.past.past + 1 < 2 ^ 32 }
     ensures leads { IfOk result (λ r. RundownLeads followed.old underway e followed.new (ok_of r)) }

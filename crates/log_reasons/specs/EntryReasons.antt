@@ -1,13 +1,11 @@
 -- What a condition of a legal next entry that doesn't hold states. This project's own.
-use Rattle.std.specs.Prelude.{◌⊎◌, ℕ, true, false, List, length}
+use Rattle.std.specs.Prelude.{◌⊎◌, ℕ, true, false, List}
 use Rattle.vm_types.specs.declared.config.Config.{Config}
-use Rattle.vm_journal.specs.HasLine.{HasLine}
 use Rattle.vm_journal.specs.declared.entry.Entry.{Entry}
 use Rattle.vm_journal.specs.declared.entry.What.{What}
 use Rattle.vm_journal.specs.declared.entry.What.TheVariants as what
 use Rattle.pager_model.specs.Pager.{Pager}
 use Rattle.log_reasons.specs.declared.reason.Reason.{Reason}
-use Rattle.log_reasons.specs.declared.reason.Reason.TheVariants as reason
 use Rattle.log_reasons.specs.DeniedReasons.{DeniedFails}
 use Rattle.log_reasons.specs.EvictReasons.{EvictFails}
 use Rattle.log_reasons.specs.LandingReasons.{BadLandingFails, LandingFails}
@@ -37,11 +35,6 @@ WhatFails config past a p (what.Evict q address f why to) x = EvictFails why con
 WhatFails config past a p (what.Limit n faults) x = AdjustedFails config a p n faults x
 WhatFails config past a p (what.Turn q s) x = TurnFails config past a q.0 s x
 
--- each number of its line is in its bounds
-abbrev pub BoundsFail : Config → Entry → Reason → Type 0
-BoundsFail config e reason.OutOfBounds = HasLine (length config.procs) config.sections e → ⊥
-BoundsFail config e other = ⊥
-
--- the entry has a line, is in turn by the rules of seats, and is legal by the row of its kind
+-- an entry that has a line is in turn by the rules of seats, and is legal by the row of its kind
 abbrev pub EntryFails : Config → List Entry → Pager → Entry → Reason → Type 0
-EntryFails config past a e r = BoundsFail config e r ⊎ (InTurnFails config past e r ⊎ WhatFails config past a (e.seat).0 e.what r)
+EntryFails config past a e r = InTurnFails config past e r ⊎ WhatFails config past a (e.seat).0 e.what r

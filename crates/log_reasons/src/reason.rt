@@ -5,8 +5,6 @@ use vm_types::{Addr, BlockId, FrameState, Page, Pfn, ProcStatus, Seat, Why};
 #[derive(Clone, Copy, Debug, PartialEq, Eq)]
 pub enum Reason {
     // The seat and its turn.
-    /// A number of the line is out of its bounds.
-    OutOfBounds,
     /// A read has failed, and next comes the reuse of this frame by this seat.
     ReuseComesNext(Seat, Pfn),
     /// The seat has an open transfer, and the entry is none that goes with one.

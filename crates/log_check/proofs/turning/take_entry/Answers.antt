@@ -14,6 +14,10 @@ use Rattle.log_check.proofs.Led.{its_here, none_here, not_entry_here, report_lea
 use Rattle.log_check.proofs.Refused.{entry_refused, unreported}
 use Rattle.log_check.proofs.turning.take_entry.Goals as goal
 
+pub enter-requires-clause-line : goal.enter-requires-clause-line
+enter-requires-clause-line c =
+    (its_here c.args.followed.now c.requires.followed c.args.line.now c.requires.line c.requires.few c.config.result.now c.count-number.result c.in-Ok.e c.config.ensures c.count-number.ensures c.in-Ok.ensures.entry).has
+
 pub returns-in-None-clause-leads : goal.returns-in-None-clause-leads
 returns-in-None-clause-leads c =
     let its = its_here c.args.followed.now c.requires.followed c.args.line.now c.requires.line c.requires.few c.config.result.now c.count-number.result c.in-Ok.e c.config.ensures c.count-number.ensures c.in-Ok.ensures.entry in

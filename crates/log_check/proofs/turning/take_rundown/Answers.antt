@@ -9,6 +9,10 @@ use Rattle.log_check.proofs.Led.{ending_leads, its_here, none_here, not_entry_he
 use Rattle.log_check.proofs.Refused.{unended, unstepped}
 use Rattle.log_check.proofs.turning.take_rundown.Goals as goal
 
+pub step_rundown-requires-clause-line : goal.step_rundown-requires-clause-line
+step_rundown-requires-clause-line c =
+    (its_here c.args.followed.now c.requires.followed c.args.line.now c.requires.line c.requires.few c.config.result.now c.count-number.result c.in-Ok.e c.config.ensures c.count-number.ensures c.in-Ok.ensures.entry).has
+
 pub returns-in-Ok-clause-leads : goal.returns-in-Ok-clause-leads
 returns-in-Ok-clause-leads c =
     let its = its_here c.args.followed.now c.requires.followed c.args.line.now c.requires.line c.requires.few c.config.result.now c.count-number.result c.in-Ok.e c.config.ensures c.count-number.ensures c.in-Ok.ensures.entry in
