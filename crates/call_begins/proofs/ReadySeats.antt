@@ -7,7 +7,7 @@ use Rattle.vm_types.specs.declared.names.ProcStatus.{ProcStatus}
 use Rattle.vm_types.specs.declared.names.ProcStatus.TheVariants as status
 use Rattle.vm_types.specs.declared.names.Seat.{Seat}
 use Rattle.pager_model.specs.Maps.{pfn}
-use Rattle.pager_model.specs.Lookups.{is_resident}
+use Rattle.vm_types.specs.Status.{is_resident}
 use Rattle.call_laws.specs.Ready.{IsReady}
 use Rattle.vm_state.specs.History.{History}
 use Rattle.call_begins.specs.ReadySeat.{IsReadySeat}

@@ -30,7 +30,8 @@ use Rattle.pager_model.specs.Forget.{holder}
 use Rattle.pager_policy.specs.Given.{Seen, by_seat, is_stopped, page_address, reads_made, reuse_first, seen_at, unsaid}
 use Rattle.pager_model.specs.Maps.{pfn, page_behind, page_number, proc}
 use Rattle.pager_model.specs.In.{IsFirstIn}
-use Rattle.pager_model.specs.Lookups.{count_page, entry_of, is_pending, is_resident, page_by}
+use Rattle.pager_model.specs.Lookups.{count_page, entry_of, is_pending, page_by}
+use Rattle.vm_types.specs.Status.{is_resident}
 use Rattle.pager_model.specs.OfConfig.{IsPageOf}
 use Rattle.pager_model.specs.Own.{IsEmptyHead}
 use Rattle.pager_model.specs.Pager.{Pager, Valid}

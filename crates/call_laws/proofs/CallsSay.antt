@@ -27,7 +27,8 @@ use Rattle.pager_model.specs.Flights.{Flight, open_flights}
 use Rattle.pager_model.specs.Forget.{holder}
 use Rattle.pager_policy.specs.Given.{unsaid, given, Seen, is_stopped, page_address, seen_at}
 use Rattle.pager_model.specs.Maps.{pfn, page_number}
-use Rattle.pager_model.specs.Lookups.{entry_of, is_pending, is_resident, page_by}
+use Rattle.pager_model.specs.Lookups.{entry_of, is_pending, page_by}
+use Rattle.vm_types.specs.Status.{is_resident}
 use Rattle.pager_model.specs.Pager.{Pager, Valid}
 use Rattle.pager_policy.specs.Serve.{GivenServe, ServeIs, serve_answered, serve_gives, service_gives, evict_given, delete_given, purge_given, lock_given, limits_given, is_range_in_flight, loose_in, valid_in}
 use Rattle.pager_model.specs.MappedRanges.{is_unmapped}

@@ -29,7 +29,8 @@ use Rattle.pager_model.specs.FlatService.{in_range}
 use Rattle.pager_model.specs.Flights.{open_flights}
 use Rattle.pager_model.specs.Forget.{own_pages, range_of}
 use Rattle.pager_policy.specs.Given.{eviction, goes_to, is_stopped}
-use Rattle.pager_model.specs.Lookups.{passes, count_page, entries_at, entry_of, has_vpn, is_resident, page_at, page_by, slot_of, slot_with}
+use Rattle.pager_model.specs.Lookups.{passes, count_page, entries_at, entry_of, has_vpn, page_at, page_by, slot_of, slot_with}
+use Rattle.vm_types.specs.Status.{is_resident}
 use Rattle.pager_model.specs.Maps.{Mapped, page_behind, proc}
 use Rattle.pager_model.specs.Pager.{Pager, Valid}
 use Rattle.pager_model.specs.Ring.{range_locked, range_pinned}

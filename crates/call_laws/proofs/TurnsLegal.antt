@@ -10,7 +10,7 @@ use Rattle.vm_journal.specs.declared.entry.Entry.{Entry}
 use Rattle.vm_journal.specs.declared.entry.What.TheVariants as what
 use Rattle.pager_model.specs.Flights.{is_busy, open_flights}
 use Rattle.pager_policy.specs.Given.{by_seat}
-use Rattle.pager_model.specs.Lookups.{is_coming, is_resident}
+use Rattle.vm_types.specs.Status.{is_coming, is_resident}
 use Rattle.pager_model.specs.Maps.{proc}
 use Rattle.pager_model.specs.Pager.{Pager}
 use Rattle.pager_policy.specs.Policy.{coming_process}

@@ -24,7 +24,8 @@ use Rattle.pager_model.specs.Flights.{Flight, open_flights}
 use Rattle.pager_model.specs.Forget.{holder}
 use Rattle.pager_policy.specs.Given.{Seen, Target, given, is_stopped, page_address, reads_made, reuse_first, seen_at, unsaid}
 use Rattle.pager_model.specs.Maps.{pfn, page_number}
-use Rattle.pager_model.specs.Lookups.{entry_of, is_pending, is_resident, page_by}
+use Rattle.pager_model.specs.Lookups.{entry_of, is_pending, page_by}
+use Rattle.vm_types.specs.Status.{is_resident}
 use Rattle.pager_model.specs.Pager.{Pager, Valid}
 use Rattle.pager_model.specs.Ring.{range_locked, range_pinned}
 use Rattle.pager_policy.specs.Serve.{GivenServe, ServeIs, delete_given, evict_given, is_range_in_flight, limits_given, lock_given, loose_in, purge_given, serve_again, serve_answered, serve_gives, serve_more, service_gives, valid_in}

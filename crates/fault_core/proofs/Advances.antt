@@ -4,7 +4,7 @@ use Rattle.vm_types.specs.WellFormed.{IsWellFormedReference}
 use Rattle.vm_types.specs.declared.names.Seat.{Seat}
 use Rattle.vm_types.specs.declared.reference.Ref.{Ref}
 use Rattle.pager_policy.specs.Advance.{again_not_resident, gives_again}
-use Rattle.pager_model.specs.Lookups.{is_resident}
+use Rattle.vm_types.specs.Status.{is_resident}
 use Rattle.call_laws.proofs.AdvanceLegal.{advance_legal}
 use Rattle.vm_state.specs.History.{History, owed, pager}
 use Rattle.fault_core.specs.Cases.{at_first}

@@ -17,7 +17,8 @@ use Rattle.pager_model.specs.Flat.{flat_refusal}
 use Rattle.pager_model.specs.Flights.{Flight}
 use Rattle.pager_policy.specs.Given.{given, page_address, unsaid}
 use Rattle.pager_model.specs.Maps.{pfn, Mapped, is_paged, page_number}
-use Rattle.pager_model.specs.Lookups.{count_page, is_pending, is_resident, page_at, section_at, section_of}
+use Rattle.pager_model.specs.Lookups.{count_page, is_pending, page_at, section_at, section_of}
+use Rattle.vm_types.specs.Status.{is_resident}
 use Rattle.pager_model.specs.Pager.{Pager, Valid}
 use Rattle.pager_model.specs.Spoken.{flat_after}
 use Rattle.vm_state.specs.FlightReadings.{read_by}

@@ -16,7 +16,8 @@ use Rattle.pager_model.specs.Flat.{flat_refusal}
 use Rattle.pager_model.specs.Flights.{Flight, open_flights}
 use Rattle.pager_model.specs.Forget.{holder}
 use Rattle.pager_policy.specs.Given.{given, page_address, unsaid}
-use Rattle.pager_model.specs.Lookups.{entry_of, is_resident, page_by, section_at, section_of}
+use Rattle.pager_model.specs.Lookups.{entry_of, page_by, section_at, section_of}
+use Rattle.vm_types.specs.Status.{is_resident}
 use Rattle.pager_model.specs.Spoken.{flat_after}
 use Rattle.pager_model.specs.Transfers.{is_read_on}
 use Rattle.vm_state.specs.FlightReadings.{read_by}

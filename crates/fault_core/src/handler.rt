@@ -3,7 +3,6 @@ ghost use Rattle.vm_types.specs.WellFormed.{IsWellFormedReference};
 ghost use Rattle.vm_types.specs.declared.reply.Why.{Why};
 ghost use Rattle.vm_journal.specs.declared.entry.What.{What};
 ghost use Rattle.pager_policy.specs.Advance.{advance_gives};
-ghost use Rattle.pager_model.specs.Lookups.{is_resident};
 ghost use Rattle.vm_state.specs.History.{MayAdd, added, entry_by, owed, pager};
 ghost use Rattle.call_begins.specs.MayBegin.{empty};
 ghost use Rattle.fault_core.specs.Cases.{at_first};
@@ -15,7 +14,7 @@ use crate::answers::answer;
 use crate::next::{AgainWhy, Next};
 use disk_trait::Block;
 use vm_state::{Carrier, State};
-use vm_types::{Proc, ProcStatus, Ref, Seat, Why};
+use vm_types::{Proc, Ref, Seat, Why};
 
 /// Makes the next entries for a reference of a process by its own seat: by the first case that applies.
 /// There may be room for too few entries; else a process that isn't resident waits, a pending
@@ -43,18 +42,11 @@ pub fn advance<B: Block>(
     if state.spare() - state.owed() < 64 {
         return Next::Room;
     }
-    if is_resident(state.status(p)) {
+    if state.status(p).is_resident() {
         resident(state, seat, r, carrier)
     } else {
         Next::Again(AgainWhy::NotResident)
     }
-}
-
-/// Whether a process with this status is in memory.
-fn is_resident(status: ProcStatus) -> bool
-    ensures { result ≡ is_resident status }
-{
-    matches!(status, ProcStatus::Resident)
 }
 
 /// The process is resident.

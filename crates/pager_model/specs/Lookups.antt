@@ -1,5 +1,5 @@
 -- What is read off the pager's state: entries, shares, charges, blocks and slots. This project's own.
-use Rattle.std.specs.Prelude.{◌≡◌, ℕ, Bool, true, false, ◌&&◌, List, ◌∷◌, Option, Some, None, map, find, count_by, nat_eq, nat_le, not}
+use Rattle.std.specs.Prelude.{◌≡◌, ℕ, Bool, false, ◌&&◌, List, ◌∷◌, Option, Some, None, map, find, count_by, nat_eq, nat_le, not}
 use Rattle.std.specs.Option.{option_map}
 use Rattle.std.specs.List.{position_or_len}
 use Rattle.vm_types.specs.Ring.{Ring, Held}
@@ -9,8 +9,6 @@ use Rattle.vm_types.specs.declared.names.Page.TheVariants.{Private, Shared}
 use Rattle.vm_types.specs.declared.names.FrameState.{FrameState}
 use Rattle.vm_types.specs.declared.names.BlockId.{BlockId}
 use Rattle.vm_types.specs.declared.names.BlockId.TheVariants as block
-use Rattle.vm_types.specs.declared.names.ProcStatus.{ProcStatus}
-use Rattle.vm_types.specs.declared.names.ProcStatus.TheVariants as status
 use Rattle.vm_types.specs.declared.config.Config.{Config}
 use Rattle.vm_types.specs.declared.config.Origin.{Origin}
 use Rattle.vm_types.specs.declared.config.Origin.TheVariants as origin
@@ -116,18 +114,6 @@ pub record IsHead (xs : List ℕ) (f : ℕ) : Type 0 where
 abbrev pub slot_of : Option (Option Held) → Option Held
 slot_of None = None
 slot_of (Some slot) = slot
-
-abbrev pub is_resident : ProcStatus → Bool
-is_resident status.Resident = true
-is_resident other = false
-
-abbrev pub is_coming : ProcStatus → Bool
-is_coming status.Coming = true
-is_coming other = false
-
-abbrev pub is_leaving : ProcStatus → Bool
-is_leaving status.Leaving = true
-is_leaving other = false
 
 -- whether there is one that passes
 abbrev pub passes : {X : Type 0} → (X → Bool) → Option X → Bool

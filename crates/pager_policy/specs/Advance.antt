@@ -29,7 +29,8 @@ use Rattle.pager_model.specs.Flights.{Flight, open_flights}
 use Rattle.pager_model.specs.Forget.{holder}
 use Rattle.pager_model.specs.Maps.{pfn, Mapped, page_number, proc}
 use Rattle.pager_model.specs.In.{is_kin}
-use Rattle.pager_model.specs.Lookups.{entry_of, is_owner, is_pending, is_resident, page_by}
+use Rattle.pager_model.specs.Lookups.{entry_of, is_owner, is_pending, page_by}
+use Rattle.vm_types.specs.Status.{is_resident}
 use Rattle.pager_model.specs.Pager.{Assigned, Pager, Valid}
 use Rattle.pager_model.specs.Spoken.{flat_after}
 use Rattle.pager_model.specs.Transfers.{is_on_block, is_read_on}

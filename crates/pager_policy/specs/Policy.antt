@@ -14,7 +14,7 @@ use Rattle.vm_journal.specs.declared.entry.Entry.{Entry}
 use Rattle.vm_journal.specs.declared.entry.What.{What}
 use Rattle.vm_journal.specs.declared.entry.What.TheVariants as what
 use Rattle.pager_policy.specs.Advance.{NextIs, advance_gives, again_modified_full, again_no_frame, next_again, next_answered, next_carry, next_more}
-use Rattle.pager_model.specs.Lookups.{is_coming, is_leaving}
+use Rattle.vm_types.specs.Status.{is_coming, is_leaving}
 use Rattle.pager_model.specs.Maps.{proc}
 use Rattle.pager_policy.specs.Moves.{After, Control, Doing, Move, asking, carries, cleaning, control, freeing, goes, makes, refuses, rests, saving, while_leaving}
 use Rattle.pager_model.specs.Pager.{Pager}

@@ -18,7 +18,8 @@ use Rattle.vm_journal.specs.declared.entry.What.TheVariants as what
 use Rattle.pager_model.specs.Flights.{open_flights}
 use Rattle.pager_model.specs.Forget.{holder, own_pages, range_of}
 use Rattle.pager_policy.specs.Given.{Given, eviction, given, is_stopped}
-use Rattle.pager_model.specs.Lookups.{passes, entries_at, entry_of, is_resident, slot_of, slot_with}
+use Rattle.pager_model.specs.Lookups.{passes, entries_at, entry_of, slot_of, slot_with}
+use Rattle.vm_types.specs.Status.{is_resident}
 use Rattle.pager_model.specs.Pager.{Pager, Valid}
 use Rattle.pager_model.specs.Ring.{range_locked, range_pinned}
 use Rattle.pager_model.specs.Served.{is_locked_in, is_pinned_in, is_slot_in}

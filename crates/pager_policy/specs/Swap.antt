@@ -20,7 +20,8 @@ use Rattle.pager_model.specs.Lying.{lies_in, lying_in}
 use Rattle.pager_model.specs.Flights.{is_busy, open_flights}
 use Rattle.pager_model.specs.Forget.{holder}
 use Rattle.pager_policy.specs.Given.{Given, Seen, Target, address_of, eviction, given, is_stopped, leading, reads_made, seen_at, slots_of}
-use Rattle.pager_model.specs.Lookups.{passes, is, is_coming, is_resident}
+use Rattle.pager_model.specs.Lookups.{passes, is}
+use Rattle.vm_types.specs.Status.{is_coming, is_resident}
 use Rattle.pager_model.specs.Maps.{pfn, is_private, proc}
 use Rattle.pager_model.specs.Pager.{Pager}
 use Rattle.pager_model.specs.Spoken.{request_of}

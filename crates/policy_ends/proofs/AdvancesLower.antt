@@ -31,7 +31,8 @@ use Rattle.pager_model.specs.Forget.{holder}
 use Rattle.pager_policy.specs.Given.{Seen, Target, by_seat, eviction, given, is_stopped, made_by, page_address, reads_made, reuse_first, seen_at, unsaid, with_reply}
 use Rattle.pager_model.specs.Maps.{pfn, page_number, proc}
 use Rattle.pager_policy.specs.Landings.{Outcome, first_bad}
-use Rattle.pager_model.specs.Lookups.{entry_of, is_coming, is_pending, is_resident, page_by}
+use Rattle.pager_model.specs.Lookups.{entry_of, is_pending, page_by}
+use Rattle.vm_types.specs.Status.{is_coming, is_resident}
 use Rattle.pager_policy.specs.Moves.{Control, asking, carries, control, goes, refuses, rests, saving}
 use Rattle.pager_model.specs.Pager.{Pager, Valid}
 use Rattle.pager_policy.specs.Policy.{advance_move_by, ends_request, next_task, unless_first_failed}

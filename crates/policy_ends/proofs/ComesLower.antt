@@ -20,7 +20,8 @@ use Rattle.pager_model.specs.Changes.{lies_nowhere}
 use Rattle.pager_model.specs.Flights.{open_flights, carrier_of}
 use Rattle.pager_model.specs.Forget.{holder}
 use Rattle.pager_policy.specs.Given.{Target, address_of, by_seat, given, made_by, reads_made, slots_of}
-use Rattle.pager_model.specs.Lookups.{passes, entry_of, is_coming, is_resident}
+use Rattle.pager_model.specs.Lookups.{passes, entry_of}
+use Rattle.vm_types.specs.Status.{is_coming, is_resident}
 use Rattle.pager_model.specs.Maps.{pfn, page_number, proc}
 use Rattle.pager_policy.specs.Landings.{Outcome}
 use Rattle.pager_policy.specs.Moves.{Control, asking, carries, control, makes, rests}

@@ -9,7 +9,7 @@ use Rattle.vm_types.specs.declared.config.Config.{Config}
 use Rattle.vm_journal.specs.declared.entry.Entry.{Entry}
 use Rattle.vm_journal.specs.declared.entry.What.TheVariants as what
 use Rattle.pager_policy.specs.Given.{by_seat}
-use Rattle.pager_model.specs.Lookups.{is_coming, is_leaving, is_resident}
+use Rattle.vm_types.specs.Status.{is_coming, is_leaving, is_resident}
 use Rattle.pager_model.specs.Maps.{proc}
 use Rattle.pager_policy.specs.Moves.{Control, Doing, Move, control, while_leaving}
 use Rattle.pager_model.specs.Pager.{Pager}

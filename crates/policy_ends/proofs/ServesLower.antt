@@ -15,7 +15,8 @@ use Rattle.vm_journal.specs.declared.entry.EvictWhy.{EvictWhy}
 use Rattle.vm_journal.specs.declared.entry.EvictWhy.TheVariants as evict
 use Rattle.vm_journal.specs.declared.entry.What.TheVariants as what
 use Rattle.pager_policy.specs.Given.{by_seat, eviction, given, is_stopped}
-use Rattle.pager_model.specs.Lookups.{entry_of, is_resident}
+use Rattle.pager_model.specs.Lookups.{entry_of}
+use Rattle.vm_types.specs.Status.{is_resident}
 use Rattle.pager_policy.specs.Moves.{Control, asking, control, saving}
 use Rattle.pager_model.specs.Pager.{Pager, Valid}
 use Rattle.pager_policy.specs.Policy.{ends_request, next_task, serve_move_by}

@@ -18,7 +18,8 @@ use Rattle.vm_types.specs.declared.config.Task.{Task}
 use Rattle.vm_journal.specs.declared.entry.Entry.{Entry}
 use Rattle.page_lists.proofs.Counts.{length-once}
 use Rattle.pager_model.specs.Around.{past_view}
-use Rattle.pager_model.specs.Lookups.{has_vpn, is, is_coming, is_entry, is_pending}
+use Rattle.pager_model.specs.Lookups.{has_vpn, is, is_entry, is_pending}
+use Rattle.vm_types.specs.Status.{is_coming}
 use Rattle.pager_policy.specs.Moves.{Control, Doing, asking, cleaning, freeing, saving}
 use Rattle.pager_model.specs.Pager.{Pager, Valid}
 use Rattle.pager_policy.specs.Policy.{next_task}

@@ -12,7 +12,8 @@ use Rattle.vm_types.specs.declared.service.Request.TheVariants as request
 use Rattle.vm_journal.specs.declared.entry.Entry.{Entry}
 use Rattle.vm_journal.specs.declared.entry.What.TheVariants as what
 use Rattle.pager_policy.specs.Given.{by_seat}
-use Rattle.pager_model.specs.Lookups.{entry_of, is_coming, is_entry, is_resident}
+use Rattle.pager_model.specs.Lookups.{entry_of, is_entry}
+use Rattle.vm_types.specs.Status.{is_coming, is_resident}
 use Rattle.pager_model.specs.Maps.{page_number, proc}
 use Rattle.pager_policy.specs.Moves.{Control, Doing, Move, asking, cleaning, control, freeing, saving, while_leaving}
 use Rattle.pager_model.specs.Pager.{Pager}

@@ -21,7 +21,8 @@ use Rattle.page_lists.specs.Lists.{count_of, without}
 use Rattle.pager_model.specs.Around.{frame_view, past_view, process_view, page_view, entry_view}
 use Rattle.pager_model.specs.Changes.{pushed_if}
 use Rattle.pager_model.specs.Flights.{Direction, Flight, is_reading, open_flights, without_flight, writing}
-use Rattle.pager_model.specs.Lookups.{has_vpn, is, is_coming, is_entry, is_leaving, own_page, page_by, shares, slot_with}
+use Rattle.pager_model.specs.Lookups.{has_vpn, is, is_entry, own_page, page_by, shares, slot_with}
+use Rattle.vm_types.specs.Status.{is_coming, is_leaving}
 use Rattle.pager_model.specs.Maps.{is_paged, is_private, proc}
 use Rattle.pager_model.specs.Out.{IsAnyOut, IsOut, IsOutBlock, IsOutSwap, after_any_out, after_out}
 use Rattle.pager_model.specs.OutLanding.{after_out_ok, lies_at, marked}

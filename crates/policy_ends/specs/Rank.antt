@@ -15,7 +15,8 @@ use Rattle.vm_types.specs.declared.service.Request.{Request}
 use Rattle.vm_types.specs.declared.service.Request.TheVariants as request
 use Rattle.vm_journal.specs.declared.entry.Entry.{Entry}
 use Rattle.pager_model.specs.Lying.{lies_in}
-use Rattle.pager_model.specs.Lookups.{entry_of, is_coming, is_leaving, is_pending, is_resident, slot_with}
+use Rattle.pager_model.specs.Lookups.{entry_of, is_pending, slot_with}
+use Rattle.vm_types.specs.Status.{is_coming, is_leaving, is_resident}
 use Rattle.pager_model.specs.Maps.{is_private, page_number, proc}
 use Rattle.pager_policy.specs.Moves.{Control, Doing, asking, freeing, saving}
 use Rattle.pager_model.specs.Pager.{Pager, Valid}

@@ -20,7 +20,8 @@ use Rattle.pager_model.specs.Flights.{Flight, open_flights}
 use Rattle.pager_model.specs.Forget.{holder}
 use Rattle.pager_policy.specs.Given.{Seen, Target, is_stopped, page_address, reads_made, reuse_first, seen_at}
 use Rattle.pager_model.specs.Maps.{pfn, page_number, proc}
-use Rattle.pager_model.specs.Lookups.{entry_of, is_pending, is_resident, page_by}
+use Rattle.pager_model.specs.Lookups.{entry_of, is_pending, page_by}
+use Rattle.vm_types.specs.Status.{is_resident}
 use Rattle.pager_model.specs.Pager.{Pager, Valid}
 use Rattle.pager_model.specs.Spoken.{flat_after}
 use Rattle.pager_model.specs.Transfers.{is_read_on}

@@ -10,4 +10,4 @@ pub use laws::{
     failed_reads_are_lost, free_may_begin, invalid_is_unmet, lost_is_refused, others_stay,
     reads_are_for,
 };
-pub use unmet::{is_resident, is_unmet};
+pub use unmet::is_unmet;

@@ -1,18 +1,10 @@
-ghost use Rattle.std.specs.Prelude.{◌≡◌, ◌<◌, IsTrue, length};
-ghost use Rattle.vm_types.specs.declared.names.ProcStatus.TheVariants as status;
+ghost use Rattle.std.specs.Prelude.{◌<◌, IsTrue, length};
 ghost use Rattle.vm_state.specs.History.{pager};
 ghost use Rattle.seat_laws.specs.Unmet.{IsUnmet};
 
 use disk_trait::Block;
 use vm_state::State;
-use vm_types::{Proc, ProcStatus, Ref};
-
-/// Whether a process with this status is in memory.
-pub fn is_resident(s: ProcStatus) -> bool
-    ensures { s ≡ status.Resident → IsTrue result }
-{
-    matches!(s, ProcStatus::Resident)
-}
+use vm_types::{Proc, Ref};
 
 /// Whether a reference of a process of the configuration is still to be met: its process isn't resident,
 /// or its page is mapped, and has no valid entry.
@@ -20,7 +12,7 @@ pub fn is_unmet<B: Block>(state: &State<B>, p: Proc, r: Ref) -> bool
     requires { p.0 < length state.now.config.procs }
     ensures { IsTrue result → IsUnmet state.now.config (pager state.now) p.0 r }
 {
-    if !is_resident(state.status(p)) {
+    if !state.status(p).is_resident() {
         return true;
     }
     match state.found(p, r.addr.0 / 512) {

@@ -4,7 +4,7 @@ use Rattle.std.specs.List.{range_with_len}
 use Rattle.std.proofs.lemmas.Bool.{and_parts, false≢true}
 use Rattle.vm_types.specs.declared.names.ProcStatus.{ProcStatus}
 use Rattle.vm_types.specs.declared.names.ProcStatus.TheVariants as status
-use Rattle.pager_model.specs.Lookups.{is_coming, is_leaving}
+use Rattle.vm_types.specs.Status.{is_coming, is_leaving}
 use Rattle.pager_model.specs.Pager.{Pager}
 use Rattle.pager_policy.specs.Swap.{is_but}
 use Rattle.pager_rules.proofs.Basics.{find_cons_yes}

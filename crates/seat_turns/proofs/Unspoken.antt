@@ -20,7 +20,8 @@ use Rattle.vm_journal.specs.declared.entry.EvictWhy.TheVariants as evict
 use Rattle.vm_journal.specs.declared.entry.What.{What}
 use Rattle.vm_journal.specs.declared.entry.What.TheVariants as what
 use Rattle.pager_policy.specs.Given.{is_stopped, with_reply}
-use Rattle.pager_model.specs.Lookups.{entry_of, is_resident}
+use Rattle.pager_model.specs.Lookups.{entry_of}
+use Rattle.vm_types.specs.Status.{is_resident}
 use Rattle.pager_model.specs.Pager.{Pager, Valid}
 use Rattle.pager_model.specs.Ring.{range_locked, range_pinned}
 use Rattle.pager_policy.specs.Serve.{GivenServe, ServeIs, delete_given, evict_given, is_range_in_flight, limits_given, lock_given, loose_in, purge_given, serve_again, serve_answered, serve_gives, serve_more, service_gives, valid_in}

@@ -4,7 +4,7 @@ use Rattle.std.specs.Prelude.{◌≡◌, ◌⊎◌, ℕ, Bool, ◌≤◌, ◌&&�
 use Rattle.std.specs.List.{range_with_len}
 use Rattle.vm_types.specs.declared.config.Config.{Config}
 use Rattle.vm_journal.specs.declared.entry.Entry.{Entry}
-use Rattle.pager_model.specs.Lookups.{is_leaving}
+use Rattle.vm_types.specs.Status.{is_leaving}
 use Rattle.pager_model.specs.Pager.{Pager}
 use Rattle.pager_policy.specs.Swap.{is_but, leave_gives, swap_again, swap_in_flight, victim_gives}
 

@@ -1,7 +1,6 @@
 ghost use Rattle.std.specs.Prelude.{◌≡◌, ◌<◌, ◌≤◌, IfSome, length};
 ghost use Rattle.std.specs.Option.{option_map};
 ghost use Rattle.vm_types.specs.declared.names.ProcStatus.TheVariants as status;
-ghost use Rattle.pager_model.specs.Lookups.{is_coming, is_leaving};
 ghost use Rattle.pager_policy.specs.Policy.{coming_process};
 ghost use Rattle.pager_policy.specs.Swap.{is_but};
 ghost use Rattle.vm_state.specs.History.{pager};
@@ -10,7 +9,7 @@ ghost use Rattle.seat_turns.specs.Rests.{is_other_leaving, lowest_leaving};
 
 use disk_trait::Block;
 use vm_state::State;
-use vm_types::{Proc, ProcStatus};
+use vm_types::Proc;
 
 /// How many processes there are: at most 16.
 pub(crate) fn processes<B: Block>(state: &State<B>) -> u32
@@ -19,20 +18,6 @@ pub(crate) fn processes<B: Block>(state: &State<B>) -> u32
 {
     state.run_law();
     state.config().procs.items().len() as u32
-}
-
-/// Whether a process with this status is leaving memory.
-fn is_leaving(s: ProcStatus) -> bool
-    ensures { result ≡ is_leaving s }
-{
-    matches!(s, ProcStatus::Leaving)
-}
-
-/// Whether a process with this status is coming back.
-fn is_coming(s: ProcStatus) -> bool
-    ensures { result ≡ is_coming s }
-{
-    matches!(s, ProcStatus::Coming)
 }
 
 /// Whether it is this process.
@@ -53,7 +38,7 @@ fn is_other_leaving<B: Block>(state: &State<B>, but: Option<Proc>, q: Proc) -> b
     if is_but(but, q) {
         false
     } else {
-        is_leaving(state.status(q))
+        state.status(q).is_leaving()
     }
 }
 
@@ -80,7 +65,7 @@ pub(crate) fn coming_process<B: Block>(state: &State<B>) -> Option<Proc>
 {
     for n in 0..processes(state) {
         let q = Proc(n);
-        if is_coming(state.status(q)) {
+        if state.status(q).is_coming() {
             return Some(q);
         }
     }

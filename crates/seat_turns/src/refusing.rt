@@ -5,7 +5,7 @@ ghost use Rattle.vm_state.specs.History.{pager};
 ghost use Rattle.seat_laws.specs.Unmet.{IsUnmet};
 
 use disk_trait::Block;
-use seat_laws::{is_resident, is_unmet};
+use seat_laws::is_unmet;
 use vm_state::State;
 use vm_types::{Proc, Ref, Service};
 
@@ -35,7 +35,7 @@ pub(crate) fn is_failed<B: Block>(state: &State<B>, p: Proc, s: Service, lost: b
     if !lost {
         return false;
     }
-    if !is_resident(state.status(p)) {
+    if !state.status(p).is_resident() {
         return true;
     }
     may_fail(s)

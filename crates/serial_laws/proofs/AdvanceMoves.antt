@@ -29,7 +29,8 @@ use Rattle.pager_model.specs.Flights.{Flight, open_flights}
 use Rattle.pager_model.specs.Forget.{holder}
 use Rattle.pager_policy.specs.Given.{Seen, by_seat, eviction, given, is_stopped, page_address, seen_at}
 use Rattle.pager_model.specs.Maps.{pfn, Map, Mapped, is_paged, page_behind, page_number, proc}
-use Rattle.pager_model.specs.Lookups.{count_page, entry_of, is_pending, is_resident, page_at, page_by}
+use Rattle.pager_model.specs.Lookups.{count_page, entry_of, is_pending, page_at, page_by}
+use Rattle.vm_types.specs.Status.{is_resident}
 use Rattle.pager_policy.specs.Moves.{asking, control, rests}
 use Rattle.pager_model.specs.Pager.{Pager, Valid}
 use Rattle.pager_policy.specs.Policy.{advance_move_by, ends_request, next_task}

@@ -11,7 +11,7 @@ use Rattle.vm_types.specs.declared.config.Config.{Config}
 use Rattle.vm_journal.specs.declared.entry.Entry.{Entry}
 use Rattle.page_lists.specs.Lists.{count_of}
 use Rattle.pager_model.specs.Flights.{is_busy}
-use Rattle.pager_model.specs.Lookups.{is_coming, is_leaving, is_resident}
+use Rattle.vm_types.specs.Status.{is_coming, is_leaving, is_resident}
 use Rattle.pager_model.specs.Maps.{proc}
 use Rattle.pager_policy.specs.Moves.{Doing, Move, control, while_leaving}
 use Rattle.pager_model.specs.Pager.{Pager}

@@ -24,7 +24,8 @@ use Rattle.pager_model.specs.Changes.{without_page}
 use Rattle.pager_model.specs.Flights.{open_flights}
 use Rattle.pager_model.specs.Forget.{forget_all, forgotten, holder, own_pages, range_of}
 use Rattle.pager_policy.specs.Given.{eviction, given, is_stopped}
-use Rattle.pager_model.specs.Lookups.{passes, count_page, entries_at, entry_of, is_entry, is_resident}
+use Rattle.pager_model.specs.Lookups.{passes, count_page, entries_at, entry_of, is_entry}
+use Rattle.vm_types.specs.Status.{is_resident}
 use Rattle.pager_policy.specs.Moves.{asking, control}
 use Rattle.pager_model.specs.Pager.{Pager, Valid}
 use Rattle.pager_policy.specs.Policy.{ends_request, next_task, serve_move_by}

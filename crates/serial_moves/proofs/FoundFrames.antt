@@ -10,7 +10,7 @@ use Rattle.vm_types.specs.declared.names.ProcStatus.TheVariants as status
 use Rattle.vm_types.specs.declared.names.Seat.{Seat}
 use Rattle.vm_journal.specs.declared.entry.Entry.{Entry}
 use Rattle.vm_journal.specs.declared.entry.What.TheVariants as what
-use Rattle.pager_model.specs.Lookups.{is_leaving}
+use Rattle.vm_types.specs.Status.{is_leaving}
 use Rattle.pager_policy.specs.Moves.{Control as ControlIs, Doing as DoingIs, Move, control, makes}
 use Rattle.pager_model.specs.Pager.{Pager}
 use Rattle.pager_policy.specs.Policy.{Ends as EndsIs, finding_move, leaving_other, other_move, victim_move, writing_move}

@@ -1,6 +1,5 @@
 ghost use Rattle.std.specs.Prelude.{◌≡◌, ◌<◌, ◌≤◌, ℕ, IfOk, OnErr, IfSome, length};
 ghost use Rattle.std.specs.Option.{option_map};
-ghost use Rattle.pager_model.specs.Lookups.{is_leaving};
 ghost use Rattle.pager_policy.specs.Moves.{Doing as DoingIs, Move};
 ghost use Rattle.pager_policy.specs.Policy.{Ends as EndsIs, finding_move, leaving_other};
 ghost use Rattle.vm_state.specs.History.{pager};
@@ -37,19 +36,12 @@ pub fn processes<B: Block>(state: &State<B>) -> u32
     state.config().procs.items().len() as u32
 }
 
-/// Whether a process with this status is leaving memory.
-fn is_leaving(status: ProcStatus) -> bool
-    ensures { result ≡ is_leaving status }
-{
-    matches!(status, ProcStatus::Leaving)
-}
-
 /// Whether a process of the configuration is leaving, and is another one than this.
 fn is_other_leaving<B: Block>(state: &State<B>, p: Proc, q: Proc) -> bool
     requires { q.0 < length state.now.config.procs }
     ensures { result ≡ is_other_leaving (pager state.now) p.0 q.0 }
 {
-    if is_leaving(state.status(q)) {
+    if state.status(q).is_leaving() {
         q.0 != p.0
     } else {
         false

@@ -4,7 +4,6 @@ ghost use Rattle.vm_types.specs.WellFormed.{IsServiceOf, IsWellFormedReference, 
 ghost use Rattle.vm_types.specs.declared.names.ProcStatus.TheVariants as status;
 ghost use Rattle.vm_types.specs.declared.reference.Ref.{Ref};
 ghost use Rattle.vm_types.specs.declared.service.Request.{Request};
-ghost use Rattle.pager_model.specs.Lookups.{is_coming, is_resident};
 ghost use Rattle.pager_policy.specs.Policy.{coming_process, gone_move};
 ghost use Rattle.vm_state.specs.History.{pager};
 ghost use Rattle.serial_moves.specs.Carriers.{MayMove};
@@ -23,19 +22,12 @@ use vm_state::{Carrier, State};
 use vm_swapper::{Swap, SwapWhy, come_some};
 use vm_types::{Proc, ProcStatus, Ref, Request, Seat, Service, Task};
 
-/// Whether a process with this status is coming back.
-fn is_coming(status: ProcStatus) -> bool
-    ensures { result ≡ is_coming status }
-{
-    matches!(status, ProcStatus::Coming)
-}
-
 /// The process that is coming; none if none is.
 fn coming_process<B: Block>(state: &State<B>) -> Option<Proc>
     ensures { option_map number_of result ≡ coming_process state.now.config (pager state.now) }
 {
     for q in 0..processes(state) {
-        if is_coming(state.status(Proc(q))) {
+        if state.status(Proc(q)).is_coming() {
             return Some(Proc(q));
         }
     }
@@ -188,13 +180,6 @@ fn by_status<B: Block>(state: &mut State<B>, task: Task, carrier: &mut Carrier<B
     }
 }
 
-/// Whether a process with this status is in memory.
-fn is_resident(status: ProcStatus) -> bool
-    ensures { result ≡ is_resident status }
-{
-    matches!(status, ProcStatus::Resident)
-}
-
 /// The reference that is asked for, if nothing is left and its process is resident, as mostly.
 #[inline(always)]
 fn resident_reference<B: Block>(state: &State<B>, leaving: Option<Proc>, task: Task) -> Option<Ref>
@@ -206,7 +191,7 @@ fn resident_reference<B: Block>(state: &State<B>, leaving: Option<Proc>, task: T
         Some(_) => None,
         None => match task.request {
             Request::Reference(r) => {
-                if is_resident(state.status(task.proc)) {
+                if state.status(task.proc).is_resident() {
                     Some(r)
                 } else {
                     None

@@ -7,7 +7,7 @@ use Rattle.vm_types.specs.declared.service.Service.{Service}
 use Rattle.vm_journal.specs.declared.entry.What.{What}
 use Rattle.vm_journal.specs.declared.entry.What.TheVariants as what
 use Rattle.pager_policy.specs.Given.{given}
-use Rattle.pager_model.specs.Lookups.{is_resident}
+use Rattle.vm_types.specs.Status.{is_resident}
 use Rattle.pager_policy.specs.Serve.{GivenServe, ServeWhy as Reason, serve_again, serve_more, served_with}
 use Rattle.call_laws.specs.AreLegal.{AreLegal}
 use Rattle.call_laws.proofs.ServeLegal.{serve_legal}

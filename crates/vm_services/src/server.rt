@@ -2,7 +2,6 @@ ghost use Rattle.std.specs.Prelude.{◌≡◌, ◌+◌, ◌<◌, ◌≤◌, ◌�
 ghost use Rattle.vm_types.specs.WellFormed.{IsServiceOf, IsWellFormedService};
 ghost use Rattle.vm_types.specs.declared.reply.Answer.{Answer};
 ghost use Rattle.vm_journal.specs.declared.entry.What.{What};
-ghost use Rattle.pager_model.specs.Lookups.{is_resident};
 ghost use Rattle.pager_policy.specs.Serve.{serve_gives};
 ghost use Rattle.vm_state.specs.History.{MayAdd, added, entry_by, owed, pager};
 ghost use Rattle.vm_services.specs.Cases.{at_service};
@@ -15,7 +14,7 @@ use crate::next::{ServeNext, ServeWhy};
 use crate::purges::purge;
 use disk_trait::Block;
 use vm_state::State;
-use vm_types::{Answer, Proc, ProcStatus, Seat, Service};
+use vm_types::{Answer, Proc, Seat, Service};
 
 /// Makes the next entries for a service of a process by its own seat: by the first case that applies.
 /// There may be room for too few entries; else a process that isn't resident waits, a service is
@@ -35,18 +34,11 @@ pub fn serve<B: Block>(state: &mut State<B>, seat: Seat, p: Proc, s: Service) ->
     if state.spare() - state.owed() < 64 {
         return ServeNext::Room;
     }
-    if is_resident(state.status(p)) {
+    if state.status(p).is_resident() {
         resident(state, seat, s)
     } else {
         ServeNext::Again(ServeWhy::NotResident)
     }
-}
-
-/// Whether a process with this status is in memory.
-fn is_resident(status: ProcStatus) -> bool
-    ensures { result ≡ is_resident status }
-{
-    matches!(status, ProcStatus::Resident)
 }
 
 /// The process is resident.

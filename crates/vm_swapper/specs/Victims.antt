@@ -3,7 +3,7 @@
 use Rattle.std.specs.Prelude.{ℕ, Bool, ◌&&◌, List, Option, not}
 use Rattle.vm_types.specs.declared.names.Proc.{Proc}
 use Rattle.vm_journal.specs.declared.entry.Entry.{Entry}
-use Rattle.pager_model.specs.Lookups.{is_coming, is_resident}
+use Rattle.vm_types.specs.Status.{is_coming, is_resident}
 use Rattle.pager_model.specs.Pager.{Pager}
 use Rattle.pager_policy.specs.Swap.{is_but, may_leave}
 

@@ -15,3 +15,4 @@ pub mod BlockView
 pub mod Moved
 pub mod Counts
 pub mod BlockOrder
+pub mod Status

@@ -73,3 +73,29 @@ pub enum ProcStatus {
     /// Its working set is being read back (inswap).
     Coming,
 }
+
+impl ProcStatus {
+    ghost use Rattle.std.specs.Prelude.{◌≡◌};
+    ghost use Rattle.vm_types.specs.Status.{is_coming, is_leaving, is_resident};
+
+    /// Whether its working set is in memory.
+    pub fn is_resident(self) -> bool
+        ensures { result ≡ is_resident self }
+    {
+        matches!(self, ProcStatus::Resident)
+    }
+
+    /// Whether its working set is being written to its swap blocks.
+    pub fn is_leaving(self) -> bool
+        ensures { result ≡ is_leaving self }
+    {
+        matches!(self, ProcStatus::Leaving)
+    }
+
+    /// Whether its working set is being read back.
+    pub fn is_coming(self) -> bool
+        ensures { result ≡ is_coming self }
+    {
+        matches!(self, ProcStatus::Coming)
+    }
+}

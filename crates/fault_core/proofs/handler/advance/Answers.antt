@@ -1,6 +1,6 @@
 use Rattle.std.proofs.Common.{◌≡◌, ℕ, sym, ap, subst, ◌∙◌, arith}
 use Rattle.vm_types.specs.declared.names.ProcStatus.TheVariants as status
-use Rattle.pager_model.specs.Lookups.{is_resident}
+use Rattle.vm_types.specs.Status.{is_resident}
 use Rattle.vm_state.specs.History.{pager}
 use Rattle.fault_core.proofs.Advances.{may_advance}
 use Rattle.call_begins.specs.ReadySeat.{IsReadySeat}

@@ -1,6 +1,6 @@
 use Rattle.std.proofs.Common.{◌≡◌, ℕ, ◌-◌, find, length}
 use Rattle.std.specs.List.{range_with_len}
-use Rattle.pager_model.specs.Lookups.{is_coming}
+use Rattle.vm_types.specs.Status.{is_coming}
 use Rattle.vm_state.specs.History.{pager}
 use Rattle.seat_turns.proofs.processes.coming_process.Given as goal
 

@@ -1,5 +1,5 @@
 use Rattle.std.proofs.Common.{ℕ, ◌∙◌, ap, arith, length, sym}
-use Rattle.pager_model.specs.Lookups.{is_coming}
+use Rattle.vm_types.specs.Status.{is_coming}
 use Rattle.vm_state.specs.History.{pager}
 use Rattle.vm_swapper.proofs.Ranges.{find_next}
 use Rattle.serial_moves.proofs.requests.coming_process.Goals as goal

@@ -1,7 +1,7 @@
 use Rattle.std.proofs.Common.{ap, sym, ◌∙◌}
 use Rattle.std.proofs.lemmas.Bool.{false≢true}
 use Rattle.std.proofs.lemmas.Option.{none-some}
-use Rattle.pager_model.specs.Lookups.{is_resident}
+use Rattle.vm_types.specs.Status.{is_resident}
 use Rattle.call_begins.proofs.ReadySeats.{is_in_memory}
 use Rattle.serial_moves.proofs.AskedMoves.{not_both}
 use Rattle.serial_moves.proofs.requests.resident_reference.Goals as goal
