@@ -35,6 +35,6 @@ module _ (config : Config) (formed : IsWellFormed config) where
   block_named (block.Swap p n) real =
       let within = slice_get_within config.procs p.0 real.0 real.1 in
       let process = subst (λ (x : ProcSpec). IsProcess config.frames (length config.bad + all_pins config) x) (get_or_from_slice_get config.procs p.0 real.0 real.0 real.1) (formed.procs p.0 real.0 within) in
-      let most = process.most in
+      let most = process.limited.most in
       let less = real.2 in
       (within, omega (arith, most, less))

@@ -153,8 +153,8 @@ module _ (config : Config) (past : List Entry) (p : ℕ) (ready : IsReady config
       small : adjust config.params spec (a.faults p) (a.limit p) (length a.free) < 2 ^ 32
       small =
           let old = (kept.processes p).bounds spec found in
-          let within = adjust_within config.params spec (a.faults p) (a.limit p) (length a.free) process.quota process.extent old.least old.most in
-          let most = process.most in
+          let within = adjust_within config.params spec (a.faults p) (a.limit p) (length a.free) process.limited.quota process.limited.extent old.least old.most in
+          let most = process.limited.most in
           omega (arith, within.1, most)
 
   -- ---- COLLIDE

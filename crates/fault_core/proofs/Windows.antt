@@ -54,7 +54,7 @@ block_small config (block.Section s i) formed exists = in_section config s.0 i f
 block_small config (block.PageFile n) formed exists = let few = formed.pagefile.1 in omega (arith, few, exists)
 block_small config (block.Swap p n) formed exists =
     let process = subst (IsProcess config.frames (length config.bad + all_pins config)) (get_or_from_slice_get config.procs p.0 exists.0 exists.0 exists.1) (formed.procs p.0 exists.0 (slice_get_within config.procs p.0 exists.0 exists.1)) in
-    let most = process.most in let less = exists.2 in omega (arith, most, less)
+    let most = process.limited.most in let less = exists.2 in omega (arith, most, less)
 
 pub length_as : (out out' : List Bool) (pfc pfc' free free' n : ℕ) → out' ≡ out → pfc' ≡ pfc → free' ≡ free → ClusterLength out' pfc' free' n → ClusterLength out pfc free n
 length_as out out' pfc pfc' free free' n same_out same_pfc same_free is =

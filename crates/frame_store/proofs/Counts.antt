@@ -39,7 +39,7 @@ few_pages config formed = let pages = formed.sections.pages in omega (arith, pag
 pub few_slots : (config : Config) → IsWellFormed config → sum (extents config.procs) ≤ length config.procs * 1024
 few_slots config formed =
     subst (λ n. n ≤ length config.procs * 1024) (sym (sum-map (λ (spec : ProcSpec). spec.extent) config.procs))
-    (sum_by-le (λ (spec : ProcSpec). spec.extent) 1024 config.procs (All-weaker (IsProcess config.frames (length config.bad + all_pins config)) (λ (spec : ProcSpec). spec.extent ≤ 1024) (λ (spec : ProcSpec) is. is.most) config.procs formed.procs))
+    (sum_by-le (λ (spec : ProcSpec). spec.extent) 1024 config.procs (All-weaker (IsProcess config.frames (length config.bad + all_pins config)) (λ (spec : ProcSpec). spec.extent ≤ 1024) (λ (spec : ProcSpec) is. is.limited.most) config.procs formed.procs))
 
 pub few_blocks : (config : Config) → IsWellFormed config → sum (block_counts config.sections) + config.pagefile + sum (extents config.procs) < 2 ^ 32
 few_blocks config formed = omega (arith, few_pages config formed, few_slots config formed, formed.some_process.1, formed.pagefile.1)

@@ -125,7 +125,7 @@ limit_kept config past a seat n faults formed before idle legal =
         let process : IsProcess config.frames (length config.bad + all_pins config) spec =
         subst (λ (x : ProcSpec). IsProcess config.frames (length config.bad + all_pins config) x) (get_or_from_slice_get config.procs seat.0 spec spec found) (formed.procs seat.0 spec (slice_get_within config.procs seat.0 spec found)) in
         subst (λ (m : ℕ). (spec.locks + 2 ≤ m) × (m ≤ spec.extent)) (sym (legal.adjusted spec found))
-        (adjust_within config.params spec (a.faults seat.0) (a.limit seat.0) (length a.free) process.quota process.extent old.least old.most)
+        (adjust_within config.params spec (a.faults seat.0) (a.limit seat.0) (length a.free) process.limited.quota process.limited.extent old.least old.most)
 
 pub collide_kept : (config : Config) (past : List Entry) (a : Pager) (seat : Seat) (address : Addr) (f : Pfn) (k : ℕ) → IsKept config (quiet (open_flights past)) a → IsCollide config past a seat.0 address.0 f.0 k
     → IsKept config (past_view (record { seat = seat; what = what.Collide address f k } ∷ past)) (after_collide a seat.0 k)

@@ -135,10 +135,10 @@ bounded : (v : Version) (frames kept : ℕ) (spec : ProcSpec) → IsProcess fram
 bounded v frames kept spec formed = record {
   locks = omega (arith, count_replicate is_fixed_slot spec.extent None refl);
   pins = omega (arith, count_replicate is_pinned_slot spec.extent None refl);
-  least = formed.locks;
-  most = omega (arith, formed.quota, formed.extent);
+  least = formed.limited.locks;
+  most = omega (arith, formed.limited.quota, formed.limited.extent);
   slots = length-replicate spec.extent None;
-  hand = omega (arith, formed.locks, formed.quota, formed.extent);
+  hand = omega (arith, formed.limited.locks, formed.limited.quota, formed.limited.extent);
 }
 
 pub opening_kept : (config : Config) → IsWellFormed config → IsKept config (past_view []) (opening config)

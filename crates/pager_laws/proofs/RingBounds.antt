@@ -26,7 +26,7 @@ module _ (config : Config) (o : PastView) (a : Pager) (formed : IsWellFormed con
   Found p = (spec : ProcSpec) × (p < length config.procs) × (slice_get config.procs p ≡ Some spec) × (slice_index_or config.procs p spec ≡ spec)
 
   at_spec : (p : ℕ) → Found p → (spec : ProcSpec) × IsBounded config.version spec (a.ring p) (a.limit p) × (spec.extent ≤ 1024)
-  at_spec p found = (found.0, (kept.processes p).bounds found.0 found.2, subst (λ (x : ProcSpec). x.extent ≤ 1024) found.3 (formed.procs p found.0 found.1).most)
+  at_spec p found = (found.0, (kept.processes p).bounds found.0 found.2, subst (λ (x : ProcSpec). x.extent ≤ 1024) found.3 (formed.procs p found.0 found.1).limited.most)
 
   pub bounded : (p : ℕ) → p < length config.procs → (spec : ProcSpec) × IsBounded config.version spec (a.ring p) (a.limit p) × (spec.extent ≤ 1024)
   bounded p less = go (slice_get_cases config.procs p).1

@@ -121,7 +121,7 @@ sections_formed =
     }
 
 process_formed : IsProcess 64 0 one_spec
-process_formed = record { locks = omega arith; quota = omega arith; extent = omega arith; most = omega arith; room = omega arith }
+process_formed = record { limited = record { locks = omega arith; quota = omega arith; extent = omega arith; most = omega arith }; room = omega arith }
 
 zero_formed : (p at prot : ℕ) → p ≤ 1 → at ≤ 4 → (2 ≤ prot) × (prot ≤ 4) → IsMapping 16 two_sections (one_page p (512 * at) origin.Zero prot)
 zero_formed p at prot few low code =

@@ -240,4 +240,4 @@ module _ (config : Config) (past : List Entry) (formed : IsWellFormed config) (r
     pub few_slots : p < length config.procs → length slots ≤ 1024
     few_slots there =
         let none : ProcSpec = record { limit = 0; quota = 0; extent = 0; locks = 0 } in
-        omega (arith, extent_is config.procs none refl there, (formed.procs p none there).most)
+        omega (arith, extent_is config.procs none refl there, (formed.procs p none there).limited.most)

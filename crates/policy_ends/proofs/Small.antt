@@ -90,7 +90,7 @@ module _ (config : Config) (past : List Entry) (formed : IsWellFormed config) (r
       by (Some spec) is =
           let known : IsProcess config.frames (length config.bad + all_pins config) spec = subst (λ (s : ProcSpec). IsProcess config.frames (length config.bad + all_pins config) s) (get_or_from_slice_get config.procs q spec spec is) (formed.procs q spec (slice_get_within config.procs q spec is)) in
           let slots = ((kept.processes q).bounds spec is).slots in
-          let most = known.most in
+          let most = known.limited.most in
           omega (arith, slots, most, count_most is_filled_slot (a.ring q).slots)
 
   processes_length : length (processes_of config) ≡ length config.procs

@@ -45,4 +45,4 @@ slot_there config o a swaps p n formed kept fit within = go (slice_get config.pr
         let there = slice_get_within config.procs p spec found in
         let bounded = (kept.processes p).bounds spec found in
         let process : IsProcess config.frames (length config.bad + all_pins config) spec = subst (IsProcess config.frames (length config.bad + all_pins config)) (get_or_from_slice_get config.procs p spec spec found) (formed.procs p spec there) in
-        record { proc = omega (arith, there, fit.procs); slot = omega (arith, within, bounded.slots, process.most) }
+        record { proc = omega (arith, there, fit.procs); slot = omega (arith, within, bounded.slots, process.limited.most) }

@@ -194,7 +194,7 @@ module _ (config : Config) (past : List Entry) (a : Pager) (seat : Seat) (f : Pf
             let bounded = (kept.processes q.0).bounds spec found in
             let process : IsProcess config.frames (length config.bad + all_pins config) spec
             = subst (IsProcess config.frames (length config.bad + all_pins config)) (get_or_from_slice_get config.procs q.0 spec spec found) (formed.procs q.0 spec (slice_get_within config.procs q.0 spec found)) in
-            omega (arith, within, bounded.slots, process.most)
+            omega (arith, within, bounded.slots, process.limited.most)
 
     -- what is kept of the page
     pub come_charged : IsSome (kept_at parts.pages (Private q (page_number address.0)))

@@ -88,7 +88,7 @@ sections_formed n many =
     }
 
 process_formed : IsProcess 4096 0 great_spec
-process_formed = record { locks = omega arith; quota = omega arith; extent = omega arith; most = omega arith; room = omega arith }
+process_formed = record { limited = record { locks = omega arith; quota = omega arith; extent = omega arith; most = omega arith }; room = omega arith }
 
 abbrev great : ℕ → Config
 great n = record { version = version.One; frames = 4096; bad = []; pagefile = 16384; params = least_params; sections = map great_section (range_with_len 0 n); procs = replicate 16 great_spec; maps = []; fails = []; body = [] }

@@ -96,7 +96,7 @@ sections_formed =
     }
 
 process_formed : IsProcess 8 0 one_spec
-process_formed = record { locks = omega arith; quota = omega arith; extent = omega arith; most = omega arith; room = omega arith }
+process_formed = record { limited = record { locks = omega arith; quota = omega arith; extent = omega arith; most = omega arith }; room = omega arith }
 
 mapping_formed : IsMapping 1 (shared_section ∷ []) one_mapping
 mapping_formed =

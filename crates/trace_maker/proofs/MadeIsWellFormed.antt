@@ -226,7 +226,7 @@ made_is_well_formed seed procs refs some few short =
       params = record { pfc = (lit≤ tt, lit≤ tt); hilimit = lit≤ tt; lolimit = lit≤ tt; waitlimit = (lit≤ tt, lit≤ tt); wait_above = lit≤ tt; wrtcluster = (lit≤ tt, lit≤ tt); freelim = lit≤ tt; freegoal = lit≤ tt; awstime = lit≤ tt; pfrath = lit≤ tt; pfratl = lit≤ tt; wsinc = lit≤ tt; wsdec = lit≤ tt; awsmin = (lit≤ tt, lit≤ tt); borrowlim = lit≤ tt };
       sections = sections_good;
       some_process = (omega (arith, count, some), omega (arith, count, few));
-      procs = subst (λ (n : ℕ). All (IsProcess (96 * procs + 32) n) (made_procs procs)) (sym kept) (all_procs (IsProcess (96 * procs + 32) 0) procs (record { locks = lit≤ tt; quota = lit≤ tt; extent = lit≤ tt; most = lit≤ tt; room = omega (arith, some) }));
+      procs = subst (λ (n : ℕ). All (IsProcess (96 * procs + 32) n) (made_procs procs)) (sym kept) (all_procs (IsProcess (96 * procs + 32) 0) procs (record { limited = record { locks = lit≤ tt; quota = lit≤ tt; extent = lit≤ tt; most = lit≤ tt }; room = omega (arith, some) }));
       maps = subst (λ (n : ℕ). All (IsMapping n made_sections) (made_maps procs)) (sym count) (maps_good procs);
       maps_apart = maps_apart procs;
       fails = All-nil (AreFails (made_config seed procs refs));

@@ -6,7 +6,7 @@ use Rattle.std.proofs.lemmas.Bool.{and_parts, leb-true}
 use Rattle.std.proofs.lemmas.List.Elements.{All-nil, All-weaker, All-from_recursion, recursion_from_All}
 use Rattle.std.proofs.lemmas.List.Sums.{sum_by-cons}
 use Rattle.std.proofs.lemmas.Option.{slice_get_within}
-use Rattle.vm_types.specs.Configuration.{AreParams, FitsVersion, IsProcess, IsSection, IsMapping, AreApart, IsBlock, AreFails, IsTask, IsWellFormed, all_pins, section_pages}
+use Rattle.vm_types.specs.Configuration.{AreParams, FitsVersion, IsProcess, IsSection, IsMapping, AreApart, IsBlock, AreFails, IsTask, IsWellFormed, all_pins, section_pages, IsLimited}
 use Rattle.vm_types.specs.declared.config.Config.{Config}
 use Rattle.vm_types.specs.declared.config.Fails.{Fails}
 use Rattle.vm_types.specs.declared.config.Params.{Params}
@@ -27,7 +27,7 @@ use Rattle.trace_lines.specs.Seen.{IsBounded, IsKeyed, IsPaged}
 use Rattle.trace_reader.specs.Changes.{start, changed}
 use Rattle.trace_reader.specs.Drafts.{AreInRange, AreSound, IsPlaced, IsDraft}
 use Rattle.trace_reader.specs.Meaning.{next_line}
-use Rattle.trace_reader.specs.Right.{IsRight, IsOrdered}
+use Rattle.trace_reader.specs.Right.{IsRight}
 use Rattle.trace_reader.proofs.Giving.{bind_gives}
 use Rattle.trace_reader.proofs.Judged.{IsJudged, judged_gives, at_ok}
 use Rattle.trace_reader.proofs.SoundNext.{sound_next}
@@ -48,7 +48,7 @@ start_sound = record {
   params = record { pfc = (lit≤ tt, lit≤ tt); hilimit = lit≤ tt; lolimit = lit≤ tt; waitlimit = (lit≤ tt, lit≤ tt); wrtcluster = (lit≤ tt, lit≤ tt); freelim = lit≤ tt; freegoal = lit≤ tt; awstime = lit≤ tt; pfrath = lit≤ tt; pfratl = lit≤ tt; wsinc = lit≤ tt; wsdec = lit≤ tt; awsmin = (lit≤ tt, lit≤ tt); borrowlim = lit≤ tt };
   sections = record { few = lit≤ tt; pages = lit≤ tt; each = All-nil (IsSection version.One); differ = no_pairs (λ (s : Held) (t : Held). s.name ≢ t.name) };
   few_procs = lit≤ tt;
-  procs = All-nil IsOrdered;
+  procs = All-nil IsLimited;
   maps = All-nil (IsMapping 0 []);
   maps_apart = no_pairs AreApart;
   fails = All-nil (AreFails start.config);
@@ -65,7 +65,7 @@ start_draft = record { sound = start_sound; placed = start_placed }
 
 -- the limits on which the keys rest
 
-extent_at : (procs : List ProcSpec) (k : ℕ) (x : ProcSpec) → AllByRecursion IsOrdered procs → slice_get procs k ≡ Some x → x.extent ≤ 1024
+extent_at : (procs : List ProcSpec) (k : ℕ) (x : ProcSpec) → AllByRecursion IsLimited procs → slice_get procs k ≡ Some x → x.extent ≤ 1024
 extent_at [] k x each e = absurd cc
 extent_at (y ∷ procs) zero x each e = let same : y ≡ x = cc in subst (λ (z : ProcSpec). z.extent ≤ 1024) same each.0.most
 extent_at (y ∷ procs) (suc k) x each e = extent_at procs k x each.1 e
@@ -80,9 +80,9 @@ keyed c s (block.Section k page) h =
 keyed c s (block.PageFile b) h = omega (arith, h, s.pagefile)
 keyed c s (block.Swap p n) h =
     let there = slice_get_within c.procs p.0 h.0 h.1 in
-    omega (arith, h.2, extent_at c.procs p.0 h.0 (recursion_from_All IsOrdered c.procs s.procs) h.1)
+    omega (arith, h.2, extent_at c.procs p.0 h.0 (recursion_from_All IsLimited c.procs s.procs) h.1)
 
-few_locks : (procs : List ProcSpec) → AllByRecursion IsOrdered procs → sum_by (λ (spec : ProcSpec). spec.locks) procs ≤ 1024 * length procs
+few_locks : (procs : List ProcSpec) → AllByRecursion IsLimited procs → sum_by (λ (spec : ProcSpec). spec.locks) procs ≤ 1024 * length procs
 few_locks [] each = omega arith
 few_locks (x ∷ procs) each =
     let is = each.0 in
@@ -101,8 +101,8 @@ bounded part d =
       pagefile = s.pagefile;
       sections = s.sections.few;
       pages = s.sections.pages;
-      locks = (let few = s.few_procs in let most = few_locks part.config.procs (recursion_from_All IsOrdered part.config.procs s.procs) in omega (arith, few, most));
-      slots = All-weaker IsOrdered (λ spec. spec.extent ≤ 1024) (λ spec h. h.most) part.config.procs s.procs;
+      locks = (let few = s.few_procs in let most = few_locks part.config.procs (recursion_from_All IsLimited part.config.procs s.procs) in omega (arith, few, most));
+      slots = All-weaker IsLimited (λ spec. spec.extent ≤ 1024) (λ spec h. h.most) part.config.procs s.procs;
       blocks = All-weaker (AreFails part.config) (λ f. IsKeyed f.block) (λ f h. keyed part.config s f.block h.block) part.config.fails s.fails;
       maps = All-weaker (IsMapping (length part.config.procs) part.config.sections) IsPaged (λ m h. (h.range.aligned, h.range.some)) part.config.maps s.maps;
     }
@@ -136,12 +136,12 @@ whole_params params s e =
     let a_b = and_parts a b ab.0 in
     record { pfc = s.pfc; hilimit = s.hilimit; lolimit = leb-true params.lolimit params.hilimit a_b.0; waitlimit = s.waitlimit; wait_above = leb-true params.hilimit params.waitlimit a_b.1; wrtcluster = s.wrtcluster; freelim = leb-true params.freelim params.freegoal ab.1; freegoal = s.freegoal; awstime = s.awstime; pfrath = s.pfrath; pfratl = s.pfratl; wsinc = s.wsinc; wsdec = s.wsdec; awsmin = s.awsmin; borrowlim = s.borrowlim }
 
-whole_procs : (frames kept : ℕ) (procs : List ProcSpec) → AllByRecursion IsOrdered procs → list_all (λ spec. leb (spec.extent + kept + 2) frames) procs ≡ true → AllByRecursion (IsProcess frames kept) procs
+whole_procs : (frames kept : ℕ) (procs : List ProcSpec) → AllByRecursion IsLimited procs → list_all (λ spec. leb (spec.extent + kept + 2) frames) procs ≡ true → AllByRecursion (IsProcess frames kept) procs
 whole_procs frames kept [] each e = tt
 whole_procs frames kept (spec ∷ procs) each e =
     let both = and_parts (leb (spec.extent + kept + 2) frames) (list_all (λ (x : ProcSpec). leb (x.extent + kept + 2) frames) procs) e in
     let s = each.0 in
-    (record { locks = s.locks; quota = s.quota; extent = s.extent; most = s.most; room = leb-true (spec.extent + kept + 2) frames both.0 }, whole_procs frames kept procs each.1 both.1)
+    (record { limited = s; room = leb-true (spec.extent + kept + 2) frames both.0 }, whole_procs frames kept procs each.1 both.1)
 
 pub whole : (c : Config) → AreSound c → IsPlaced 5 c → IsWellFormed c
 whole c s p = record {
@@ -153,7 +153,7 @@ whole c s p = record {
   params = whole_params c.params s.params (p.agree (lit≤ tt));
   sections = s.sections;
   some_process = (p.some_process (lit≤ tt), s.few_procs);
-  procs = All-from_recursion (IsProcess c.frames (length c.bad + all_pins c)) c.procs (whole_procs c.frames (length c.bad + all_pins c) c.procs (recursion_from_All IsOrdered c.procs s.procs) (p.room (lit≤ tt)));
+  procs = All-from_recursion (IsProcess c.frames (length c.bad + all_pins c)) c.procs (whole_procs c.frames (length c.bad + all_pins c) c.procs (recursion_from_All IsLimited c.procs s.procs) (p.room (lit≤ tt)));
   maps = s.maps;
   maps_apart = s.maps_apart;
   fails = s.fails;

@@ -5,7 +5,7 @@ use Rattle.std.specs.List.{list_any}
 use Rattle.std.specs.Option.{option_map_or}
 use Rattle.std.proofs.lemmas.Bool.{and_parts, leb-true, ltb-true, not-true, true≢false}
 use Rattle.std.proofs.lemmas.List.Elements.{All-nil, All-cons}
-use Rattle.vm_types.specs.Configuration.{FitsVersion, IsBlock, IsMapping}
+use Rattle.vm_types.specs.Configuration.{FitsVersion, IsBlock, IsMapping, IsLimited}
 use Rattle.vm_types.specs.Kinds.{is_paged_kind}
 use Rattle.vm_types.specs.WellFormed.{IsCode, IsRange, IsRequestOf, IsWellFormedRequest, width_bytes}
 use Rattle.vm_types.specs.declared.config.Config.{Config}
@@ -53,7 +53,7 @@ use Rattle.trace_lines.specs.Places.{rank}
 use Rattle.trace_lines.specs.Requests.{params_agree, has_frames, body_line, end_line, asked_by, read_line, write_of, reference_line, range_of, coded_range_of, adjust_line, service_line, has_pins, is_word_of, verb_in, by_verb, request_line}
 use Rattle.trace_lines.specs.Says as says
 use Rattle.trace_lines.specs.Says.{Says}
-use Rattle.trace_reader.specs.Right.{IsOrdered, Fits, place_for}
+use Rattle.trace_reader.specs.Right.{Fits, place_for}
 use Rattle.trace_reader.proofs.Giving.{owed_gives, bind_gives, if_gives, then_gives, step_gives, pass_gives, InRange, number_gives, IsWord, decimal_gives, aligned_gives, process_number, section_number, name_gives, protection_gives, inside_gives, blocks_give, origin_gives}
 
 -- the line says what fits, and stands there
@@ -137,7 +137,7 @@ data_gives part (name ∷ offset ∷ hex ∷ []) =
     ((there, leb-true (at + length bytes) (bytes_at part.config.sections s) inside, file), refl))))))
 data_gives part (a ∷ b ∷ c ∷ d ∷ more) = tt
 
-ordered_gives : (spec : ProcSpec) → spec.extent ≤ 1024 → are_ordered spec ≡ true → IsOrdered spec
+ordered_gives : (spec : ProcSpec) → spec.extent ≤ 1024 → are_ordered spec ≡ true → IsLimited spec
 ordered_gives spec few e =
     let a = leb (spec.locks + 2) spec.limit in
     let b = leb spec.limit spec.quota in

@@ -7,7 +7,7 @@ use Rattle.std.proofs.lemmas.List.{length-append}
 use Rattle.std.proofs.lemmas.List.Elements.{All-nil, All-push, All-weaker}
 use Rattle.std.proofs.lemmas.List.Quantifiers.{all_pairs_push}
 use Rattle.std.proofs.lemmas.List.Sums.{sum_by-append, sum_by-cons}
-use Rattle.vm_types.specs.Configuration.{FitsVersion, AreSections, IsName, IsSection, HasPages, IsMapping, AreApart, IsBlock, AreFails, IsTask, section_pages}
+use Rattle.vm_types.specs.Configuration.{FitsVersion, AreSections, IsName, IsSection, HasPages, IsMapping, AreApart, IsBlock, AreFails, IsTask, section_pages, IsLimited}
 use Rattle.vm_types.specs.Kinds.{is_paged_kind, paged_of}
 use Rattle.vm_types.specs.declared.config.Config.{Config}
 use Rattle.vm_types.specs.declared.config.Fails.{Fails}
@@ -26,7 +26,6 @@ use Rattle.trace_lines.specs.Fails.{is_same}
 use Rattle.trace_lines.specs.Headers.{is_listed}
 use Rattle.trace_lines.specs.Mappings.{overlaps}
 use Rattle.trace_reader.specs.Drafts.{AreInRange, AreSound}
-use Rattle.trace_reader.specs.Right.{IsOrdered}
 use Rattle.trace_reader.proofs.Listing.{get_append, none_passes, IsSame, AreSame, same_length, same_pages, same_sum, same_get, same_get_or}
 
 -- blocks and pages stay where they are
@@ -229,7 +228,7 @@ with_sections c ys s same =
       body = s.body;
     }
 
-pub with_process : (c : Config) (spec : ProcSpec) → AreSound c → IsOrdered spec → length c.procs < 16 → AreSound (record c { procs = c.procs ++ spec ∷ [] })
+pub with_process : (c : Config) (spec : ProcSpec) → AreSound c → IsLimited spec → length c.procs < 16 → AreSound (record c { procs = c.procs ++ spec ∷ [] })
 with_process c spec s good room =
     let longer : length (c.procs ++ spec ∷ []) ≡ length c.procs + 1 = length-append c.procs (spec ∷ []) in
     record {
@@ -240,7 +239,7 @@ with_process c spec s good room =
       params = s.params;
       sections = s.sections;
       few_procs = omega (arith, longer, room);
-      procs = All-push IsOrdered c.procs spec s.procs good;
+      procs = All-push IsLimited c.procs spec s.procs good;
       maps = maps_go c (record c { procs = c.procs ++ spec ∷ [] }) (stay c) (omega (arith, longer)) c.maps s.maps;
       maps_apart = s.maps_apart;
       fails = fails_go c (record c { procs = c.procs ++ spec ∷ [] }) (stay c) (λ p x e. get_append c.procs (spec ∷ []) p x e) refl c.fails s.fails;

@@ -1,6 +1,6 @@
 -- What the lines so far keep. Source: this project's own.
 use Rattle.std.specs.Prelude.{◌≡◌, ◌≢◌, ℕ, ◌<◌, ◌≤◌, true, [], length, All, AllPairs, Result, Err, IsOk}
-use Rattle.vm_types.specs.Configuration.{FitsVersion, AreSections, IsMapping, AreApart, AreFails, IsTask}
+use Rattle.vm_types.specs.Configuration.{FitsVersion, AreSections, IsMapping, AreApart, AreFails, IsTask, IsLimited}
 use Rattle.vm_types.specs.declared.config.Config.{Config}
 use Rattle.vm_types.specs.declared.config.Params.{Params}
 use Rattle.trace_lines.specs.declared.breach.Breach.{Breach}
@@ -9,7 +9,6 @@ use Rattle.trace_lines.specs.Places.{rank}
 use Rattle.trace_lines.specs.Requests.{params_agree, has_frames}
 use Rattle.trace_reader.specs.declared.draft.Refused.{Refused}
 use Rattle.trace_reader.specs.declared.draft.Refused.TheVariants.{Fault, NoMemory}
-use Rattle.trace_reader.specs.Right.{IsOrdered}
 
 -- the ranges of the parameters
 pub record AreInRange (params : Params) : Type 0 where
@@ -37,7 +36,7 @@ pub record AreSound (config : Config) : Type 0 where
   pub params : AreInRange config.params
   pub sections : AreSections config.version config.sections
   pub few_procs : length config.procs ≤ 16
-  pub procs : All IsOrdered config.procs
+  pub procs : All IsLimited config.procs
   pub maps : All (IsMapping (length config.procs) config.sections) config.maps
   pub maps_apart : AllPairs AreApart config.maps
   pub fails : All (AreFails config) config.fails

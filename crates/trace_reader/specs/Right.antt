@@ -1,7 +1,7 @@
 -- What holds of what a line says, if the line breaks no rule. Source: this project's own.
 use Rattle.std.specs.Prelude.{◌≡◌, ℕ, ◌+◌, ◌<◌, ◌≤◌, true, false, None, length, All}
 use Rattle.std.specs.List.{list_any}
-use Rattle.vm_types.specs.Configuration.{FitsVersion, IsName, IsMapping, IsBlock, IsTask}
+use Rattle.vm_types.specs.Configuration.{FitsVersion, IsLimited, IsName, IsMapping, IsBlock, IsTask}
 use Rattle.vm_types.specs.Kinds.{is_paged_kind}
 use Rattle.vm_types.specs.declared.config.ProcSpec.{ProcSpec}
 use Rattle.vm_types.specs.declared.config.Version.TheVariants as version
@@ -16,13 +16,6 @@ use Rattle.trace_lines.specs.Places.{rank}
 use Rattle.trace_lines.specs.Requests.{params_agree, has_frames}
 use Rattle.trace_lines.specs.Says.{Says, Nothing, Version, Frames, PageFile, Param, Bad, Section, Data, Process, Map, Fail, Body, Request, End}
 
--- the numbers of a process by themselves
-pub record IsOrdered (spec : ProcSpec) : Type 0 where
-  pub locks : spec.locks + 2 ≤ spec.limit
-  pub quota : spec.limit ≤ spec.quota
-  pub extent : spec.quota ≤ spec.extent
-  pub most : spec.extent ≤ 1024
-
 -- what the line says fits the declarations
 abbrev pub Fits : Part → Says → Type 0
 Fits part Nothing = Unit {0}
@@ -33,7 +26,7 @@ Fits part (Param param n) = (least param ≤ n) × (n ≤ most param)
 Fits part (Bad f) = (f < part.config.frames) × (is_listed part.config.bad f ≡ false)
 Fits part (Section name of_kind pages) = IsName name × (1 ≤ pages) × (number_named part.config.sections name ≡ None) × (has_room part.config.sections pages ≡ true) × (is_paged_kind of_kind ≡ true → part.config.version ≡ version.Two)
 Fits part (Data s at bytes) = (s < length part.config.sections) × (at + length bytes ≤ bytes_at part.config.sections s) × (has_file part.config.sections s ≡ true)
-Fits part (Process spec) = IsOrdered spec × (length part.config.procs < 16)
+Fits part (Process spec) = IsLimited spec × (length part.config.procs < 16)
 Fits part (Map m) = IsMapping (length part.config.procs) part.config.sections m × (is_inside (m.at).0 m.pages ≡ true) × (list_any (λ b. overlaps b m) part.config.maps ≡ false)
 Fits part (Fail id calls) = IsBlock part.config id × ((1 ≤ length calls) × (length calls ≤ 16)) × All (λ call. 1 ≤ call) calls × (list_any (λ f. is_same f.block id) part.config.fails ≡ false)
 Fits part Body = (1 ≤ length part.config.procs) × (params_agree part.config.params ≡ true) × (has_frames part.config ≡ true)

@@ -43,10 +43,10 @@ process_leads c w before x after e =
     let is : IsProcess c.frames (length c.bad + all_pins c) x = member (IsProcess c.frames (length c.bad + all_pins c)) before x after c.procs e w.procs in
     let count = count_before before x after c.procs e in
     let few : length c.procs ≤ 16 = w.some_process.1 in
-    let locks : x.locks + 2 ≤ x.limit = is.locks in
-    let quota : x.limit ≤ x.quota = is.quota in
-    let extent : x.quota ≤ x.extent = is.extent in
-    let most : x.extent ≤ 1024 = is.most in
+    let locks : x.locks + 2 ≤ x.limit = is.limited.locks in
+    let quota : x.limit ≤ x.quota = is.limited.quota in
+    let extent : x.quota ≤ x.extent = is.limited.extent in
+    let most : x.extent ≤ 1024 = is.limited.most in
     let here : length before < 16 = omega arith in
     let ordered : are_ordered x ≡ true =
     and_from (leb (x.locks + 2) x.limit && leb x.limit x.quota) (leb x.quota x.extent)

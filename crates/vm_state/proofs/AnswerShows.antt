@@ -62,7 +62,7 @@ module _ {B : Type 0} {seen : B → BlockView} {tells : Tells} {config : Config}
       pub few_slots : length (x.ring).slots ≤ 1024
       few_slots =
           let limits : IsProcess config.frames (length config.bad + all_pins config) (slice_index_or specs p d) = subst (λ (xs : List ProcSpec). IsProcess config.frames (length config.bad + all_pins config) (slice_index_or xs p d)) (sym are) (before.formed.procs p d there) in
-          let most = limits.most in
+          let most = limits.limited.most in
           let slots = (((kept before).processes p).bounds (slice_index_or specs p d) spec_is).slots in
           subst (λ (r : Ring). length r.slots ≤ 1024) (sym ring_is) (omega (arith, most, slots))
 

@@ -83,10 +83,7 @@ all_pins config = sum_by (pins_of config.version) config.procs
 -- a process alone in memory but for pinned pages always finds a free or a modified page, and a victim; as many
 -- frames are kept as are bad or may be pinned
 pub record IsProcess (frames kept : ℕ) (spec : ProcSpec) : Type 0 where
-  pub locks : spec.locks + 2 ≤ spec.limit
-  pub quota : spec.limit ≤ spec.quota
-  pub extent : spec.quota ≤ spec.extent
-  pub most : spec.extent ≤ 1024
+  pub limited : IsLimited spec
   pub room : spec.extent + kept + 2 ≤ frames
 
 -- the page is one of the section's
