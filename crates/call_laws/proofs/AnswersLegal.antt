@@ -9,7 +9,7 @@ use Rattle.vm_types.specs.declared.reply.Why.{Why}
 use Rattle.vm_types.specs.declared.reply.Why.TheVariants as why
 use Rattle.vm_journal.specs.declared.entry.Entry.{Entry}
 use Rattle.vm_journal.specs.declared.entry.What.TheVariants as what
-use Rattle.vm_text.specs.References.{Answers}
+use Rattle.vm_text.specs.References.{IsReplyTo}
 use Rattle.pager_model.specs.Denied.{IsFlatWhy}
 use Rattle.pager_model.specs.Done.{Allows}
 use Rattle.pager_model.specs.Flat.{FlatState, flat_refusal, is_change, is_page_file_full, refusal_at}
@@ -63,7 +63,7 @@ module _ (config : Config) (past : List Entry) (p : ℕ) (ready : IsReady config
   allowed : (r : Ref) → flat_refusal config (flat_after config past) p r ≡ None → Allows (a.map p (page_number (r.addr).0)) r
   allowed r none = subst (λ (o : Option Mapped). Allows o r) (sym (ap (λ map. map p (page_number (r.addr).0)) (follows config past ready.formed ready.run).map)) (unrefused config (flat_after config past) p r _ none)
 
-  pub done_legal : (r : Ref) (reply : Reply) (e : Valid) → IsWellFormedReference r → Answers r.op reply → is_pending config (a.references p) ≡ false → flat_refusal config (flat_after config past) p r ≡ None → entry_of a.valid p (page_number (r.addr).0) ≡ Some e
+  pub done_legal : (r : Ref) (reply : Reply) (e : Valid) → IsWellFormedReference r → IsReplyTo r.op reply → is_pending config (a.references p) ≡ false → flat_refusal config (flat_after config past) p r ≡ None → entry_of a.valid p (page_number (r.addr).0) ≡ Some e
       → IsLegal config past a (by_seat p (what.Done r reply))
   done_legal r reply e formed_r answers not_pending none valid = record {
     in_turn = free_turn config past p (what.Done r reply) ready.free;

@@ -2,7 +2,7 @@
 use Rattle.std.specs.Prelude.{ℕ, List, [], ◌∷◌}
 use Rattle.vm_types.specs.declared.config.Config.{Config}
 use Rattle.vm_types.specs.declared.reply.Reply.{Reply}
-use Rattle.vm_text.specs.References.{Answers}
+use Rattle.vm_text.specs.References.{IsReplyTo}
 use Rattle.vm_journal.specs.declared.entry.Entry.{Entry}
 use Rattle.vm_journal.specs.declared.entry.What.{What}
 use Rattle.vm_journal.specs.declared.entry.What.TheVariants as what
@@ -12,7 +12,7 @@ use Rattle.pager_model.specs.Step.{IsLegal}
 
 -- the next entry is legal; an answer is with each reply of its kind, which is left open
 abbrev pub IsLegalNext : Config → List Entry → ℕ → What → Type 0
-IsLegalNext config past seat (what.Done r left_open) = (reply : Reply) → Answers r.op reply → IsLegal config past (pager_after config past) (by_seat seat (what.Done r reply))
+IsLegalNext config past seat (what.Done r left_open) = (reply : Reply) → IsReplyTo r.op reply → IsLegal config past (pager_after config past) (by_seat seat (what.Done r reply))
 IsLegalNext config past seat w = IsLegal config past (pager_after config past) (by_seat seat w)
 
 -- each is legal after those before it

@@ -4,7 +4,7 @@ use Rattle.vm_types.specs.Configuration.{IsWellFormed}
 use Rattle.vm_types.specs.declared.config.Config.{Config}
 use Rattle.vm_journal.specs.declared.entry.Entry.{Entry}
 use Rattle.pager_model.specs.Flights.{awaits_reuse, is_busy, open_flights}
-use Rattle.pager_model.specs.Own.{IsOwn}
+use Rattle.pager_model.specs.Own.{IsResident}
 use Rattle.pager_model.specs.Run.{IsRun, pager_after}
 
 -- the seat has no open flight, and no reuse is due
@@ -18,7 +18,7 @@ pub record IsReady (config : Config) (past : List Entry) (p : ℕ) : Type 0 wher
   pub run : IsRun config past
   pub few : length past < 2 ^ 63
   pub free : IsFree past p
-  pub own : IsOwn config (pager_after config past) p
+  pub own : IsResident config (pager_after config past) p
 
 -- a seat of any kind: a process's, the writer's or the swapper's
 pub record MayWork (config : Config) (past : List Entry) (seat : ℕ) : Type 0 where

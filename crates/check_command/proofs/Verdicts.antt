@@ -10,7 +10,7 @@ use Rattle.trace_reader.specs.Head.{head_of}
 use Rattle.trace_reader.specs.HeadAnswer.{HeadAnswers}
 use Rattle.trace_reader.specs.declared.fault.TraceFault.{TraceFault}
 use Rattle.trace_reader.specs.declared.fault.TraceFault.TheVariants as fault
-use Rattle.log_check.specs.Judged.{CountsBy as CountsByVerdict, Judges}
+use Rattle.log_check.specs.Judged.{CountsByLog as CountsByVerdict, Judges}
 use Rattle.log_check.specs.declared.verdict.Verdict.{Verdict}
 use Rattle.log_check.specs.declared.verdict.Verdict.TheVariants.{Legal, Fault}
 use Rattle.log_check.specs.declared.check_fault.CheckFault.{CheckFault}
@@ -23,7 +23,7 @@ use Rattle.command_ends.specs.declared.wrong.Wrong.{Wrong}
 use Rattle.command_ends.proofs.Wronging.{fault_text_kept, fault_wrong, told_alone}
 use Rattle.outside_io.specs.LineText.{line_text}
 use Rattle.log_check.specs.Judged.{KeepsFault}
-use Rattle.check_command.specs.Answers.{Answer, CountsBy, IsRead, KeepsText, Says}
+use Rattle.check_command.specs.Answers.{Answer, CountsByCheck, IsRead, KeepsText, Says}
 use Rattle.check_command.specs.CheckText.{legal, at_fault, too_long}
 use Rattle.check_command.specs.CheckTells.{CheckTells, answered, faulty, unfinished, unread, no_memory}
 use Rattle.check_command.specs.Verdicts.{EndsJudged, verdict_status, verdict_text, wrong_in_log}
@@ -48,7 +48,7 @@ log_told config verdict None middle left h j = tt
 log_told config verdict (Some text) middle left h j =
     record { config = config; log = h.0; head = h.1; said = subst (λ (m : Option (List ℕ)). IfSome m (λ log. Judges config verdict log left)) h.2 j }
 
-pub log_counts : (verdict : Result Verdict CheckFault) (before middle now : ℕ) → middle ≡ before → CountsByVerdict verdict middle now → CountsBy (Ok verdict) before now
+pub log_counts : (verdict : Result Verdict CheckFault) (before middle now : ℕ) → middle ≡ before → CountsByVerdict verdict middle now → CountsByCheck (Ok verdict) before now
 log_counts verdict before middle now same counts = subst (λ (n : ℕ). CountsByVerdict verdict n now) same counts
 
 -- the source has given the bytes that its lines hold
@@ -99,7 +99,7 @@ verdict_text_kept : (verdict : Result Verdict CheckFault) (wrong : Option Wrong)
 verdict_text_kept verdict wrong input kept is keeps = subst (λ w. IsWrongText w input kept) (sym is) (own_text verdict input kept keeps)
 
 module _ {before after : SourceView} where
-  head_tells : (f : TraceFault) → IfSome before.left (λ text. IsRead (Says (Err f) text) after.left) → CountsBy (Err f) before.failures after.failures
+  head_tells : (f : TraceFault) → IfSome before.left (λ text. IsRead (Says (Err f) text) after.left) → CountsByCheck (Err f) before.failures after.failures
       → CheckTells before after (fault_status f) (fault_told f)
   head_tells (fault.Line n breach) means counts = faulty n breach counts (if_some _ _ before.left (λ text r. r.says) means)
   head_tells fault.Empty means counts = unfinished counts (if_some _ _ before.left (λ text r. (ap head_of r.says.0, at_end r.read after.left r.says.1)) means)
@@ -107,7 +107,7 @@ module _ {before after : SourceView} where
   head_tells fault.ReadFault means counts = unread counts (if_some _ _ before.left (λ text r. record { read = r.read; few = r.few; says = inl r.says }) means)
   head_tells fault.NoMemory means counts = no_memory counts
 
-  verdict_tells : (verdict : Result Verdict CheckFault) → IfSome before.left (λ text. IsRead (Says (Ok verdict) text) after.left) → CountsBy (Ok verdict) before.failures after.failures
+  verdict_tells : (verdict : Result Verdict CheckFault) → IfSome before.left (λ text. IsRead (Says (Ok verdict) text) after.left) → CountsByCheck (Ok verdict) before.failures after.failures
       → CheckTells before after (verdict_status verdict) (verdict_text verdict)
   verdict_tells (Ok (Legal n)) says counts =
       answered _ _ counts (legal n (if_some _ _ before.left (λ text r. (record { config = r.says.config; log = r.says.log; head = r.says.head; said = r.says.said.0 }, at_end r.read after.left r.says.said.1)) says))
@@ -119,22 +119,22 @@ module _ {before after : SourceView} where
 
   -- the outcome of a trace that gives no configuration, and that of a log
   concludes_fault : {sink sink' : SinkView} {result : ℕ} (f : TraceFault) (wrong : Option Wrong) → wrong ≡ wrong_of f → IfSome before.left (λ text. IsRead (Says (Err f) text) after.left)
-      → CountsBy (Err f) before.failures after.failures → Ends sink sink' (fault_status f) (fault_told f) result → Concludes (TellsWrong (CheckTells before after) wrong) sink sink' result
+      → CountsByCheck (Err f) before.failures after.failures → Ends sink sink' (fault_status f) (fault_told f) result → Concludes (TellsWrong (CheckTells before after) wrong) sink sink' result
   concludes_fault f wrong is means counts ends = record { status = fault_status f; text = fault_told f; tells_it = record { told = head_tells f means counts; says = fault_wrong f wrong is }; ends = ends }
 
   concludes_verdict : {sink sink' : SinkView} {result : ℕ} (verdict : Result Verdict CheckFault) (wrong : Option Wrong) → wrong ≡ wrong_in_log verdict → IfSome before.left (λ text. IsRead (Says (Ok verdict) text) after.left)
-      → CountsBy (Ok verdict) before.failures after.failures → Ends sink sink' (verdict_status verdict) (verdict_text verdict) result → Concludes (TellsWrong (CheckTells before after) wrong) sink sink' result
+      → CountsByCheck (Ok verdict) before.failures after.failures → Ends sink sink' (verdict_status verdict) (verdict_text verdict) result → Concludes (TellsWrong (CheckTells before after) wrong) sink sink' result
   concludes_verdict verdict wrong is says counts ends =
       record { status = verdict_status verdict; text = verdict_text verdict; tells_it = record { told = verdict_tells verdict says counts; says = subst (λ w. IsWrong w (verdict_status verdict) (verdict_text verdict)) (sym is) (verdict_wrong verdict) }; ends = ends }
 
   pub concludes_judged : {sink sink' : SinkView} {result : ℕ} (judged : Answer) (wrong : Option Wrong) → IfSome before.left (λ text. IsRead (Says judged text) after.left)
-      → CountsBy judged before.failures after.failures → EndsJudged judged sink sink' result wrong → Concludes (TellsWrong (CheckTells before after) wrong) sink sink' result
+      → CountsByCheck judged before.failures after.failures → EndsJudged judged sink sink' result wrong → Concludes (TellsWrong (CheckTells before after) wrong) sink sink' result
   concludes_judged (Ok verdict) wrong says counts ends = concludes_verdict verdict wrong ends.1 says counts ends.0
   concludes_judged (Err fault) wrong says counts ends = concludes_fault fault wrong ends.1 says counts ends.0
 
   -- what is told alone
   pub judged_alone : {sink sink' : SinkView} {result : ℕ} (judged : Answer) (wrong : Option Wrong) → IfSome before.left (λ text. IsRead (Says judged text) after.left)
-      → CountsBy judged before.failures after.failures → EndsJudged judged sink sink' result wrong → Concludes (CheckTells before after) sink sink' result
+      → CountsByCheck judged before.failures after.failures → EndsJudged judged sink sink' result wrong → Concludes (CheckTells before after) sink sink' result
   judged_alone judged wrong says counts ends = told_alone (concludes_judged judged wrong says counts ends)
 
 -- and the first bytes of its faulty line

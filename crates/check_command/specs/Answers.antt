@@ -1,10 +1,10 @@
 -- What is said of the text of a trace and a log, and of what is left of it. Source: this project's own.
 use Rattle.std.specs.Prelude.{ℕ, ◌≤◌, List, length, Option, IfSome, Result, Ok, Err}
 use Rattle.std.specs.Io.KnownBytes.{prepend_known}
-use Rattle.trace_reader.specs.Answer.{FaultsBy}
+use Rattle.trace_reader.specs.Answer.{FaultsByTrace}
 use Rattle.trace_reader.specs.HeadAnswer.{HeadAnswers}
 use Rattle.trace_reader.specs.declared.fault.TraceFault.{TraceFault}
-use Rattle.log_check.specs.Judged.{CountsBy as CountsByVerdict, Judges}
+use Rattle.log_check.specs.Judged.{CountsByLog as CountsByVerdict, Judges}
 use Rattle.log_check.specs.declared.check_fault.CheckFault.{CheckFault}
 use Rattle.log_check.specs.declared.verdict.Verdict.{Verdict}
 use Rattle.log_check.specs.declared.verdict.Verdict.TheVariants.{Fault, Legal}
@@ -28,9 +28,9 @@ KeepsText (Ok (Err fault)) input kept = Unit {0}
 KeepsText (Err fault) input kept = IsTextOf fault input kept
 
 -- the count of failures rose where a read failed, and is else unchanged
-abbrev pub CountsBy : Answer → ℕ → ℕ → Type 0
-CountsBy (Ok verdict) before now = CountsByVerdict verdict before now
-CountsBy (Err fault) before now = FaultsBy (Err fault) before now
+abbrev pub CountsByCheck : Answer → ℕ → ℕ → Type 0
+CountsByCheck (Ok verdict) before now = CountsByVerdict verdict before now
+CountsByCheck (Err fault) before now = FaultsByTrace (Err fault) before now
 
 -- at most 4096 bytes were read behind those of which it is said
 pub record IsRead (said : Option (List ℕ) → Type 0) (left : Option (List ℕ)) : Type 0 where

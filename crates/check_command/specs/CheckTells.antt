@@ -16,8 +16,8 @@ use Rattle.check_command.specs.CheckText.{HasLog, IsCheckAnswer}
 
 -- no line that was taken is at fault: of a trace, and then a part of a line was taken; or of a trace and of a log,
 -- and then a part of a line or a line; this is left
-abbrev pub IsFaultless : List ℕ → Option (List ℕ) → Type 0
-IsFaultless text left = IsHeadCut text left ⊎ HasLog (λ config log. IsLogCut config log left) text
+abbrev pub IsFaultlessCheck : List ℕ → Option (List ℕ) → Type 0
+IsFaultlessCheck text left = IsHeadCut text left ⊎ HasLog (λ config log. IsLogCut config log left) text
 
 -- the text that goes with a status, each with its cause; the source's count of failures rises with status 3 alone
 pub data CheckTells (before after : SourceView) : ℕ → List ℕ → Type 0 where
@@ -27,7 +27,7 @@ pub data CheckTells (before after : SourceView) : ℕ → List ℕ → Type 0 wh
       → CheckTells before after 2 (fault_text n breach.cause ++ status_line 2)
   unfinished : after.failures ≡ before.failures → IfSome before.left (λ text. (head_of text ≡ head.Unfinished) × (after.left ≡ Some []))
       → CheckTells before after 2 (unfinished_text ++ status_line 2)
-  unread : Rose before.failures after.failures → IfSome before.left (λ text. IsRead (IsFaultless text) after.left)
+  unread : Rose before.failures after.failures → IfSome before.left (λ text. IsRead (IsFaultlessCheck text) after.left)
       → CheckTells before after 3 (status_line 3)
   no_memory : after.failures ≡ before.failures → CheckTells before after 7 (status_line 7)
 

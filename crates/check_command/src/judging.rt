@@ -2,7 +2,7 @@
 
 ghost use Rattle.std.specs.Prelude.{◌≡◌, ◌≤◌, length, IfSome};
 ghost use Rattle.outside_io.specs.BytesLeft.{bytes_left, pending};
-ghost use Rattle.check_command.specs.Answers.{CountsBy, IsRead, KeepsText, Says};
+ghost use Rattle.check_command.specs.Answers.{CountsByCheck, IsRead, KeepsText, Says};
 
 use arrayvec::ArrayVec;
 use log_check::{CheckFault, Verdict, check_log};
@@ -18,7 +18,7 @@ fn judge_lines<S: Source>(
 ) -> Result<Result<Verdict, CheckFault>, TraceFault>
     ensures text { IfSome (bytes_left S.seen lines.old) (λ text. Says result text (bytes_left S.seen lines.new)) }
     ensures kept { KeepsText result (bytes_left S.seen lines.old) kept.new.items }
-    ensures faults { CountsBy result (S.seen lines.old.source.now).failures (S.seen lines.new.source.now).failures }
+    ensures faults { CountsByCheck result (S.seen lines.old.source.now).failures (S.seen lines.new.source.now).failures }
     ensures faults_later { (S.seen lines.old.source.now).failures ≤ (S.seen lines.new.source.now).failures }
     ensures same_reference { lines.new.source.ghost_name ≡ lines.old.source.ghost_name }
 {
@@ -43,7 +43,7 @@ pub(crate) fn judge_source<S: Source>(
 ) -> Result<Result<Verdict, CheckFault>, TraceFault>
     ensures text { IfSome (S.seen source.old).left (λ text. IsRead (Says result text) (S.seen source.new).left) }
     ensures kept { KeepsText result (S.seen source.old).left kept.new.items }
-    ensures faults { CountsBy result (S.seen source.old).failures (S.seen source.new).failures }
+    ensures faults { CountsByCheck result (S.seen source.old).failures (S.seen source.new).failures }
     ensures faults_later { (S.seen source.old).failures ≤ (S.seen source.new).failures }
 {
     let mut lines = Lines::new(source);

@@ -6,7 +6,7 @@ use Rattle.vm_types.specs.Counts.{Rose}
 use Rattle.vm_types.specs.declared.config.Config.{Config}
 use Rattle.outside_io.specs.Views.{SinkView, SourceView}
 use Rattle.trace_lines.specs.declared.breach.Breach.{Breach}
-use Rattle.trace_reader.specs.Answer.{Answers, FaultsBy, HasShown}
+use Rattle.trace_reader.specs.Answer.{AnswersTrace, FaultsByTrace, HasShown}
 use Rattle.trace_reader.specs.Meaning.{Configuration, Faulty, Trace, trace_of}
 use Rattle.trace_reader.specs.Meaning as meaning
 use Rattle.trace_reader.specs.declared.fault.TraceFault.{TraceFault}
@@ -95,15 +95,15 @@ module _ {answer : Config → ℕ → List ℕ → Type 0} {before after : Sourc
   complete_status = answered_status IsOutcome (λ config own told outcome right. outcome)
 
 -- an empty text is unfinished
-none_unfinished : (before after : SourceView) → IfSome before.left (λ text. Answers (Err fault.Empty) text after.left) → IfSome before.left (λ text. (trace_of text ≡ meaning.Unfinished) × (after.left ≡ Some []))
+none_unfinished : (before after : SourceView) → IfSome before.left (λ text. AnswersTrace (Err fault.Empty) text after.left) → IfSome before.left (λ text. (trace_of text ≡ meaning.Unfinished) × (after.left ≡ Some []))
 none_unfinished before after means = by_text before.left means where
-  by_text : (left : Option (List ℕ)) → IfSome left (λ text. Answers (Err fault.Empty) text after.left) → IfSome left (λ text. (trace_of text ≡ meaning.Unfinished) × (after.left ≡ Some []))
+  by_text : (left : Option (List ℕ)) → IfSome left (λ text. AnswersTrace (Err fault.Empty) text after.left) → IfSome left (λ text. (trace_of text ≡ meaning.Unfinished) × (after.left ≡ Some []))
   by_text None means = tt
   by_text (Some text) means = (ap trace_of means.0, means.1)
 
 -- what the answer of the reader tells
 pub fault_tells : (answer : Config → ℕ → List ℕ → Type 0) {before after : SourceView} (f : TraceFault)
-    → IfSome before.left (λ text. Answers (Err f) text after.left) → FaultsBy (Err f) before.failures after.failures → Tells answer before after (fault_status f) (fault_told f)
+    → IfSome before.left (λ text. AnswersTrace (Err f) text after.left) → FaultsByTrace (Err f) before.failures after.failures → Tells answer before after (fault_status f) (fault_told f)
 fault_tells answer (fault.Line n breach) means counts = faulty n breach counts means
 fault_tells answer {before = before} {after = after} fault.Empty means counts = unfinished counts (none_unfinished before after means)
 fault_tells answer fault.Unfinished means counts = unfinished counts means
@@ -113,18 +113,18 @@ fault_tells answer fault.NoMemory means counts = no_memory counts
 -- the outcome of a configuration that was read, and that of a trace that gives none, with what is wrong
 pub concludes_saying : {answer : Config → ℕ → List ℕ → Type 0} {before after : SourceView} {sink sink' : SinkView} {result : ℕ} (config : Config) (wrong : Option Wrong)
     → ((status : ℕ) (text : List ℕ) → IsWrong None status text → IsWrong wrong status text)
-    → IfSome before.left (λ text. Answers (Ok config) text after.left) → FaultsBy (Ok config) before.failures after.failures
+    → IfSome before.left (λ text. AnswersTrace (Ok config) text after.left) → FaultsByTrace (Ok config) before.failures after.failures
     → EndsAnswered (answer config) sink sink' result → Concludes (TellsWrong (Tells answer before after) wrong) sink sink' result
 concludes_saying config wrong same means counts (inl told) =
     record { status = told.status; text = told.text; tells_it = record { told = answered config told.status told.text told.outcome counts means told.answers; says = same told.status told.text (outcome_right told.status told.text told.outcome) }; ends = told.ends }
 concludes_saying config wrong same means counts (inr none) = record { status = 7; text = status_line 7; tells_it = record { told = no_memory counts; says = same 7 (status_line 7) (seven_right (status_line 7)) }; ends = none }
 
 pub concludes_answered : {answer : Config → ℕ → List ℕ → Type 0} {before after : SourceView} {sink sink' : SinkView} {result : ℕ} (config : Config)
-    → IfSome before.left (λ text. Answers (Ok config) text after.left) → FaultsBy (Ok config) before.failures after.failures
+    → IfSome before.left (λ text. AnswersTrace (Ok config) text after.left) → FaultsByTrace (Ok config) before.failures after.failures
     → EndsAnswered (answer config) sink sink' result → Concludes (TellsWrong (Tells answer before after) None) sink sink' result
 concludes_answered config means counts ends = concludes_saying config None (λ status text is. is) means counts ends
 
 pub concludes_fault : {answer : Config → ℕ → List ℕ → Type 0} {before after : SourceView} {sink sink' : SinkView} {result : ℕ} (f : TraceFault) (wrong : Option Wrong)
-    → wrong ≡ wrong_of f → IfSome before.left (λ text. Answers (Err f) text after.left) → FaultsBy (Err f) before.failures after.failures
+    → wrong ≡ wrong_of f → IfSome before.left (λ text. AnswersTrace (Err f) text after.left) → FaultsByTrace (Err f) before.failures after.failures
     → Ends sink sink' (fault_status f) (fault_told f) result → Concludes (TellsWrong (Tells answer before after) wrong) sink sink' result
 concludes_fault {answer = answer} f wrong is means counts ends = record { status = fault_status f; text = fault_told f; tells_it = record { told = fault_tells answer f means counts; says = fault_wrong f wrong is }; ends = ends }

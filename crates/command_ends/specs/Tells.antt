@@ -4,7 +4,7 @@ use Rattle.vm_types.specs.Counts.{Rose}
 use Rattle.vm_types.specs.declared.config.Config.{Config}
 use Rattle.outside_io.specs.Views.{SourceView}
 use Rattle.trace_lines.specs.declared.breach.Breach.{Breach}
-use Rattle.trace_reader.specs.Answer.{IsTaken, HasShown}
+use Rattle.trace_reader.specs.Answer.{IsTextTaken, HasShown}
 use Rattle.trace_reader.specs.Meaning.{Configuration, Faulty, trace_of, shows_no_fault}
 use Rattle.trace_reader.specs.Meaning as meaning
 use Rattle.run_words.specs.Text.{status_line}
@@ -25,7 +25,7 @@ IsUnfinished before after = IfSome before.left (λ text. (trace_of text ≡ mean
 
 -- no line of the bytes taken is at fault
 abbrev pub IsFaultless : SourceView → SourceView → Type 0
-IsFaultless before after = IfSome before.left (λ text. (taken : List ℕ) × IsTaken text taken after.left × (shows_no_fault taken ≡ true))
+IsFaultless before after = IfSome before.left (λ text. (taken : List ℕ) × IsTextTaken text taken after.left × (shows_no_fault taken ≡ true))
 
 -- the text that goes with a status, each with its cause. With a status of an outcome it is an answer
 -- to the configuration; the source's count of failures rises with status 3 alone

@@ -5,7 +5,7 @@ use Rattle.std.proofs.KnownBytes.{Appends-kept}
 use Rattle.std.proofs.lemmas.List.{take_all}
 use Rattle.std.specs.Io.KnownBytes.{Appends, Keeps}
 use Rattle.outside_io.specs.Views.{SinkView}
-use Rattle.outside_io.specs.WholeWrite.{TakesText, FaultsBy, stalls_by}
+use Rattle.outside_io.specs.WholeWrite.{TakesText, FaultsByWrite, stalls_by}
 use Rattle.outside_io.specs.declared.whole.WriteFault.{WriteFault}
 use Rattle.outside_io.specs.declared.whole.WriteFault.TheVariants.{Failed, NoneTaken}
 use Rattle.command_messages.specs.Messages.{IsSaid}
@@ -21,6 +21,6 @@ said_whole before middle after text took kept =
     (length text, whole.0, whole.1, inl refl)
 
 pub said_cut : (T : Type 0) (before after : SinkView) (fault : WriteFault) (text : List ℕ) → TakesText {T = T} before.taken after.taken (Err fault) text
-    → FaultsBy {T = T} before.failures after.failures (Err fault) → after.stalls ≡ stalls_by {T = T} before.stalls (Err fault) → IsSaid before after text
+    → FaultsByWrite {T = T} before.failures after.failures (Err fault) → after.stalls ≡ stalls_by {T = T} before.stalls (Err fault) → IsSaid before after text
 said_cut T before after Failed text took rose stalls = (took.0, omega (arith, took.1), took.2, inr (inl rose))
 said_cut T before after NoneTaken text took rose stalls = (took.0, omega (arith, took.1), took.2, inr (inr (omega (arith, stalls))))

@@ -70,13 +70,13 @@ abbrev pub Behind : CommandName → List (List ℕ) → (List (List ℕ) → Typ
 Behind command words holds = (rest : List (List ℕ)) × (words ≡ command_word command ∷ rest) × holds rest
 
 -- what is said holds of the words
-abbrev pub Holds : List (List ℕ) → LineFault → Type 0
-Holds words NotText = All IsUtf8 words → ⊥
-Holds words NoCommand = words ≡ []
-Holds words NoSuchCommand = (first : List ℕ) × ((rest : List (List ℕ)) × (words ≡ first ∷ rest) × ((command : CommandName) → first ≡ command_word command → ⊥))
-Holds words (Missing option) = Behind (command_with option) words (λ rest. IsMissing option rest)
-Holds words (BadValue option) = Behind (command_with option) words (λ rest. (place : ℕ) × (place < length rest) × IsBadAt option rest place)
-Holds words (Other command) = Behind command words (λ rest. Unit {0})
+abbrev pub HoldsOfWords : List (List ℕ) → LineFault → Type 0
+HoldsOfWords words NotText = All IsUtf8 words → ⊥
+HoldsOfWords words NoCommand = words ≡ []
+HoldsOfWords words NoSuchCommand = (first : List ℕ) × ((rest : List (List ℕ)) × (words ≡ first ∷ rest) × ((command : CommandName) → first ≡ command_word command → ⊥))
+HoldsOfWords words (Missing option) = Behind (command_with option) words (λ rest. IsMissing option rest)
+HoldsOfWords words (BadValue option) = Behind (command_with option) words (λ rest. (place : ℕ) × (place < length rest) × IsBadAt option rest place)
+HoldsOfWords words (Other command) = Behind command words (λ rest. Unit {0})
 
 -- which of the words the line quotes
 abbrev pub Quotes : List (List ℕ) → LineFault → List ℕ → Type 0

@@ -1,7 +1,7 @@
 //! Finds what is wrong with a command line.
 
 ghost use Rattle.std.specs.Prelude.{◌≡◌, ◌<◌, ◌∷◌, [], ℕ, List, IfSome, IfNone, MatchOption, false, get_or, is_some, length, map, true};
-ghost use Rattle.command_messages.specs.LineFaults.{HasInside, Holds, IsBadAt, IsMissing, IsOptionWord, Quotes, command_with, command_word, takes};
+ghost use Rattle.command_messages.specs.LineFaults.{HasInside, HoldsOfWords, IsBadAt, IsMissing, IsOptionWord, Quotes, command_with, command_word, takes};
 ghost use Rattle.command_messages.specs.declared.faults.CommandName.{CommandName};
 ghost use Rattle.study_command.specs.CommandLine.{if_right, process_named};
 ghost use Rattle.trace_words.specs.Number.{decimal_within};
@@ -109,7 +109,7 @@ fn is_bad_at(option: LineOption, words: &[&str], place: usize) -> bool
 
 // What is wrong with an option of the words behind its command.
 fn option_fault(option: LineOption, words: &[&str]) -> Option<LineFault>
-    ensures { IfSome result (Holds (command_word (command_with option) ∷ map (λ word. word.now) words.now)) }
+    ensures { IfSome result (HoldsOfWords (command_word (command_with option) ∷ map (λ word. word.now) words.now)) }
 {
     match place_of(option, words) {
         None => Some(LineFault::Missing(option)),
@@ -125,7 +125,7 @@ fn option_fault(option: LineOption, words: &[&str]) -> Option<LineFault>
 
 // What is wrong with the words behind `study`.
 fn study_fault(words: &[&str]) -> LineFault
-    ensures { Holds (command_word CommandName.Study ∷ map (λ word. word.now) words.now) result }
+    ensures { HoldsOfWords (command_word CommandName.Study ∷ map (λ word. word.now) words.now) result }
 {
     if let Some(fault) = option_fault(LineOption::Process, words) {
         return fault;
@@ -138,7 +138,7 @@ fn study_fault(words: &[&str]) -> LineFault
 
 // What is wrong with the words behind `make`.
 fn make_fault(words: &[&str]) -> LineFault
-    ensures { Holds (command_word CommandName.Make ∷ map (λ word. word.now) words.now) result }
+    ensures { HoldsOfWords (command_word CommandName.Make ∷ map (λ word. word.now) words.now) result }
 {
     if let Some(fault) = option_fault(LineOption::Seed, words) {
         return fault;
@@ -157,7 +157,7 @@ fn make_fault(words: &[&str]) -> LineFault
 /// isn't what the command takes. What is answered holds of the words; that the line is a faulty one, only the
 /// caller knows. Doesn't allocate.
 pub fn line_fault(words: &[&str]) -> LineFault
-    ensures { Holds (map (λ word. word.now) words.now) result }
+    ensures { HoldsOfWords (map (λ word. word.now) words.now) result }
 {
     let Some((first, rest)) = first_word(words) else {
         return LineFault::NoCommand;
@@ -184,7 +184,7 @@ pub fn line_fault(words: &[&str]) -> LineFault
 /// As `line_fault`, and keeps of the words what the message quotes: the first 80 bytes of the first word. Doesn't
 /// allocate.
 pub fn quoted_fault(words: &[&str], kept: &mut ArrayVec<u8, 80>) -> LineFault
-    ensures holds { Holds (map (λ word. word.now) words.now) result }
+    ensures holds { HoldsOfWords (map (λ word. word.now) words.now) result }
     ensures quotes { Quotes (map (λ word. word.now) words.now) result kept.new.items }
 {
     keep_front(kept, word_at(words, 0));

@@ -31,7 +31,7 @@ use Rattle.pager_model.specs.FlatService.{demand_zero, in_range, is_private_in, 
 use Rattle.pager_model.specs.Forget.{forget_all, own_pages, range_of}
 use Rattle.pager_model.specs.Lookups.{is, own_page, page_by}
 use Rattle.pager_model.specs.Maps.{Map, Mapped, is_private}
-use Rattle.pager_model.specs.Own.{IsOwn}
+use Rattle.pager_model.specs.Own.{IsResident}
 use Rattle.pager_model.specs.Pager.{Pager}
 use Rattle.pager_model.specs.Served.{IsDelete, IsServed, after_served}
 use Rattle.pager_model.specs.Sets.{has_page}
@@ -104,7 +104,7 @@ all_has P (h ∷ pages) g all has = go (same_page g h) refl has (all_has P pages
     go true same has rest = subst P (sym (pages_equal g h same)) all.0
     go false other has rest = rest has
 
-module _ (config : Config) (past : List Entry) (a : Pager) (p address pages : ℕ) (kept : IsKept config (quiet (open_flights past)) a) (own : IsOwn config a p) (idle : is_busy p (open_flights past) ≡ false) (legal : IsDelete config past a p address pages) where
+module _ (config : Config) (past : List Entry) (a : Pager) (p address pages : ℕ) (kept : IsKept config (quiet (open_flights past)) a) (own : IsResident config a p) (idle : is_busy p (open_flights past) ≡ false) (legal : IsDelete config past a p address pages) where
   abbrev gone : List Page
   gone = own_pages config a.map p (range_of address pages)
 

@@ -26,7 +26,7 @@ use Rattle.pager_model.specs.Opening.{opening}
 use Rattle.pager_model.specs.Run.{IsRun, pager_after}
 use Rattle.pager_model.specs.Spoken.{flat_after}
 use Rattle.pager_model.specs.CountedBlock.{IsCountedBlock}
-use Rattle.pager_model.specs.WrittenBack.{IsUnwritten, IsWrittenBack, NowhereMeansUncharged}
+use Rattle.pager_model.specs.WrittenBack.{HasFirstBytes, IsWrittenBack, NowhereMeansUncharged}
 
 -- content fits at the opening, whatever bytes the buffers and the blocks of the page file and of swapping have
 abbrev pub ContentOpens : Type 0
@@ -104,4 +104,4 @@ abbrev pub BlocksAreWrittenBack : Type 0
 BlocksAreWrittenBack =
     (tells tells_plan : Bool) (config : Config) (past : List Entry) (buffer : ℕ → Option (List ℕ)) (home : BlockId → Option BlockView) (b : BlockId) (seen : BlockView)
     → IsWellFormed config → IsRun config past → open_flights past ≡ [] → tells ≡ true → ContentFits tells tells_plan config past (pager_after config past) buffer home → home b ≡ Some seen
-    → IsWrittenBack config past (record { block = b; seen = seen }) × IsUnwritten config (record { block = b; seen = seen })
+    → IsWrittenBack config past (record { block = b; seen = seen }) × HasFirstBytes config (record { block = b; seen = seen })

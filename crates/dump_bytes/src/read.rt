@@ -1,7 +1,7 @@
 ghost use Rattle.std.specs.Prelude.{◌≡◌, ◌<◌, ◌≤◌, length, OnOk, IfOk, IfSome, IsSome};
 ghost use Rattle.dump_bytes.specs.Bounds.{IsDump};
 ghost use Rattle.dump_bytes.specs.Dumped.{dumped};
-ghost use Rattle.dump_bytes.specs.Outcome.{Answers, FaultsBy, answer_of};
+ghost use Rattle.dump_bytes.specs.Outcome.{AnswersDump, FaultsByDump, answer_of};
 ghost use Rattle.dump_bytes.specs.Room.{IsRoomy};
 
 use crate::dump::Dump;
@@ -25,9 +25,9 @@ const ROOM: usize = 786_793;
 /// `NoMemory` if memory ran out; nothing was read then.
 pub fn read_dump<S: Source>(alloc: Global, source: &mut S) -> Result<Dump, DumpFault>
     ensures bounds { IfOk result (λ dump. IsDump (dumped dump)) }
-    ensures text { IfSome (S.seen source.old).left (λ text. Answers result text (S.seen source.new).left) }
+    ensures text { IfSome (S.seen source.old).left (λ text. AnswersDump result text (S.seen source.new).left) }
     ensures known { IsSome (S.seen source.old).left → IsSome (S.seen source.new).left }
-    ensures faults { FaultsBy result (S.seen source.old).failures (S.seen source.new).failures }
+    ensures faults { FaultsByDump result (S.seen source.old).failures (S.seen source.new).failures }
     ensures faults_later { (S.seen source.old).failures ≤ (S.seen source.new).failures }
 {
     let mut dump = dump_with_room(alloc)?;
@@ -50,9 +50,9 @@ fn read_into<S: Source>(source: &mut S, buffer: &mut [u8], dump: &mut Dump) -> R
     requires room { IsRoomy dump.old }
     requires long { 786792 < length buffer.old }
     ensures bounds { OnOk result (IsDump (dumped dump.new)) }
-    ensures text { IfSome (S.seen source.old).left (λ text. Answers (answer_of dump.new result) text (S.seen source.new).left) }
+    ensures text { IfSome (S.seen source.old).left (λ text. AnswersDump (answer_of dump.new result) text (S.seen source.new).left) }
     ensures known { IsSome (S.seen source.old).left → IsSome (S.seen source.new).left }
-    ensures faults { FaultsBy (answer_of dump.new result) (S.seen source.old).failures (S.seen source.new).failures }
+    ensures faults { FaultsByDump (answer_of dump.new result) (S.seen source.old).failures (S.seen source.new).failures }
     ensures faults_later { (S.seen source.old).failures ≤ (S.seen source.new).failures }
 {
     let (held, ended) = fill(source, buffer);

@@ -7,8 +7,8 @@ use Rattle.dump_bytes.specs.declared.dump.ProcRec.{ProcRec}
 use Rattle.dump_bytes.specs.declared.dump.SlotRec.{SlotRec}
 use Rattle.dump_bytes.specs.Bounds.{IsDumpedPage}
 
-abbrev pub HasPage : Page → Type 0
-HasPage page = IsDumpedPage 16 (Some page)
+abbrev pub IsDumpPage : Page → Type 0
+IsDumpPage page = IsDumpedPage 16 (Some page)
 
 pub record IsPrintableFrame (row : FrameRec) : Type 0 where
   pub page : IsDumpedPage 16 row.page

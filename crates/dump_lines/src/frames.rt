@@ -6,7 +6,7 @@ ghost use Rattle.outside_io.specs.Writes.{Writes};
 ghost use Rattle.run_words.specs.Text.{ended};
 ghost use Rattle.dump_lines.specs.FrameLines.{bad_text, frame_line, frame_lines, held_line, held_text};
 ghost use Rattle.dump_lines.specs.PageText.{page_text};
-ghost use Rattle.dump_lines.specs.Printable.{HasPage, IsPrintableFrame};
+ghost use Rattle.dump_lines.specs.Printable.{IsDumpPage, IsPrintableFrame};
 
 use crate::codes::state_of_code;
 use arrayvec::ArrayVec;
@@ -18,7 +18,7 @@ use vm_types::{Addr, Page};
 
 /// Adds a page, which is of one of 16 processes, or of one of 64 sections.
 fn push_page(out: &mut ArrayVec<u8, 160>, page: Page)
-    requires named { HasPage page }
+    requires named { IsDumpPage page }
     requires room { array_vec_len out.old + 30 ≤ 150 }
     ensures items { out.new.items ≡ out.old.items ++ page_text page }
     ensures len { array_vec_len out.new ≤ array_vec_len out.old + 30 }
@@ -33,7 +33,7 @@ fn push_page(out: &mut ArrayVec<u8, 160>, page: Page)
 }
 
 fn push_held(out: &mut ArrayVec<u8, 160>, f: u32, row: FrameRec, page: Page)
-    requires named { HasPage page }
+    requires named { IsDumpPage page }
     requires empty { out.old.items ≡ [] }
     ensures items { out.new.items ≡ held_text f row page }
     ensures len { array_vec_len out.new ≤ 159 }

@@ -6,7 +6,7 @@ use Rattle.vm_types.specs.declared.reference.Ref.{Ref}
 use Rattle.vm_types.specs.declared.names.Seat.{Seat}
 use Rattle.vm_text.specs.Named.{AreNames}
 use Rattle.vm_text.specs.Names.{process_name, seat_name, address_text, frame_text, place_text, page_text, block_text}
-use Rattle.vm_text.specs.References.{Answers, reference_words, reply_words, why_word}
+use Rattle.vm_text.specs.References.{IsReplyTo, reference_words, reply_words, why_word}
 use Rattle.vm_text.specs.Services.{answer_words, service_words}
 use Rattle.vm_text.specs.Spaced.{words}
 use Rattle.vm_text.specs.States.{state_word, status_word}
@@ -55,7 +55,7 @@ what_same procs names (what.Done r x) (what.Done q y) are h h' e =
     let parts : reference_words r ++ reply_words r.op x ≡ reference_words q ++ reply_words q.op y = cc in
     let same = reference_same r q (reply_words r.op x) (reply_words q.op y) h.0 h'.0 parts in
     let back : reply_words r.op x ≡ reply_words r.op y = same.1 ∙ ap (λ (z : Ref). reply_words z.op y) (sym same.0) in
-    let reply = reply_same r.op x y h.1 (subst (λ (z : Ref). Answers z.op y) (sym same.0) h'.1) back in
+    let reply = reply_same r.op x y h.1 (subst (λ (z : Ref). IsReplyTo z.op y) (sym same.0) h'.1) back in
     let reference = same.0 in
     cc
 what_same procs names (what.Denied r x) (what.Denied q y) are h h' e =

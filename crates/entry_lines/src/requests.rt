@@ -2,7 +2,7 @@
 ghost use Rattle.std.specs.Prelude.{◌≡◌, ◌↔◌, ◌%◌, ◌+◌, ◌≤◌, IsTrue};
 ghost use Rattle.vm_types.specs.WellFormed.{FitsOp, IsRange, IsWellFormedReference, IsWellFormedService, op_bytes};
 ghost use Rattle.vm_text.specs.Readings.{Reads, Takes};
-ghost use Rattle.vm_text.specs.References.{Answers, bare, operand_words, reference_words, reply_words};
+ghost use Rattle.vm_text.specs.References.{IsReplyTo, bare, operand_words, reference_words, reply_words};
 ghost use Rattle.vm_text.specs.Services.{HasAnswerWords, answer_words, range_words, service_words};
 
 use crate::take::{
@@ -51,7 +51,7 @@ pub(crate) fn take_reference(words: &mut Words<'_>) -> Option<Ref>
 
 // The reply to a reference that was answered.
 pub(crate) fn take_reply(words: &mut Words<'_>, op: Op) -> Option<Reply>
-    ensures { Takes (Answers op) (reply_words op) words.old words.new result }
+    ensures { Takes (IsReplyTo op) (reply_words op) words.old words.new result }
 {
     match op {
         Op::Read(_) => {

@@ -14,7 +14,7 @@ use Rattle.frame_store.specs.Blocks.{page_counts}
 use Rattle.frame_store.specs.Numbers.{firsts}
 use Rattle.state_fits.specs.Entries.{section_page_number}
 use Rattle.state_fits.proofs.GoodEntries.{number_fits}
-use Rattle.first_parts.specs.Laying.{CanLay, HasFirsts}
+use Rattle.first_parts.specs.Laying.{CanLayMapping, HasFirsts}
 
 sum_mapped : {X : Type 0} (f : X → ℕ) (xs : List X) → sum (map f xs) ≡ sum_by f xs
 sum_mapped f [] = refl
@@ -36,9 +36,9 @@ has_firsts config numbers is s less =
     first_number : (config : Config) (s : ℕ) → 0 + sum (take s (page_counts config.sections)) ≡ section_page_number config s 0
     first_number config s = let is = summed config.sections s in omega (arith, is)
 
-can_lay : (config : Config) (numbers : List ℕ) (procs : ℕ) (m : Mapping) → IsWellFormed config → HasFirsts config numbers → procs ≡ length config.procs → IsMapping (length config.procs) config.sections m → CanLay config numbers procs m
+can_lay : (config : Config) (numbers : List ℕ) (procs : ℕ) (m : Mapping) → IsWellFormed config → HasFirsts config numbers → procs ≡ length config.procs → IsMapping (length config.procs) config.sections m → CanLayMapping config numbers procs m
 can_lay config numbers procs m formed have is mapping =
     record { proc = (let less = mapping.proc in omega (arith, less, is)); range = mapping.range; code = mapping.code; origin = mapping.origin; firsts_are = have; few = λ s i there. number_fits config formed s i there }
 
-pub can_lay_all : (config : Config) (numbers : List ℕ) (procs : ℕ) → IsWellFormed config → HasFirsts config numbers → procs ≡ length config.procs → All (CanLay config numbers procs) config.maps
+pub can_lay_all : (config : Config) (numbers : List ℕ) (procs : ℕ) → IsWellFormed config → HasFirsts config numbers → procs ≡ length config.procs → All (CanLayMapping config numbers procs) config.maps
 can_lay_all config numbers procs formed have is k d below = can_lay config numbers procs (slice_index_or config.maps k d) formed have is (formed.maps k d below)

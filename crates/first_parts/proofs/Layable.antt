@@ -12,7 +12,7 @@ use Rattle.pte_forms.specs.declared.pte.Place.{Place}
 use Rattle.pte_forms.specs.declared.pte.Place.TheVariants as place
 use Rattle.pager_model.specs.Maps.{shared_of}
 use Rattle.state_fits.specs.Entries.{section_page_number}
-use Rattle.first_parts.specs.Laying.{CanLay, CanPlace, HasFirsts, first_place}
+use Rattle.first_parts.specs.Laying.{CanLayMapping, CanPlace, HasFirsts, first_place}
 
 module _ (config : Config) (firsts : List ℕ) (have : HasFirsts config firsts) (few : (s i : ℕ) → IsSectionPage config.sections s i → section_page_number config s i < 2 ^ 21) (pages k : ℕ) (less : k < pages) where
   place_after : (o : Origin) → HasPages config.sections o pages → CanPlace config firsts (origin_after o k)
@@ -28,10 +28,10 @@ module _ (config : Config) (firsts : List ℕ) (have : HasFirsts config firsts) 
       let small = few s.0 (first + k) there in
       omega (arith, small)
 
-pub can_place : (config : Config) (firsts : List ℕ) (procs k : ℕ) (m : Mapping) → CanLay config firsts procs m → k < m.pages → CanPlace config firsts (origin_after m.from k)
+pub can_place : (config : Config) (firsts : List ℕ) (procs k : ℕ) (m : Mapping) → CanLayMapping config firsts procs m → k < m.pages → CanPlace config firsts (origin_after m.from k)
 can_place config firsts procs k m can less = place_after config firsts can.firsts_are can.few m.pages k less m.from can.origin
 
-pub can_say : (config : Config) (firsts : List ℕ) (procs k : ℕ) (m : Mapping) → CanLay config firsts procs m → k < m.pages → FitsPages m.from k
+pub can_say : (config : Config) (firsts : List ℕ) (procs k : ℕ) (m : Mapping) → CanLayMapping config firsts procs m → k < m.pages → FitsPages m.from k
 can_say config firsts procs k m can less = fits_after config firsts can.firsts_are can.few m.pages k less m.from can.origin
 
 pub good_first : (config : Config) (firsts : List ℕ) (prot : ℕ) (o : Origin) (shown : Place) → IsCode prot → CanPlace config firsts o → shown ≡ first_place config o → IsEntry (record { prot = prot; place = shown })

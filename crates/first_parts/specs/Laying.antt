@@ -28,7 +28,7 @@ CanPlace config firsts origin.Zero = Unit {0}
 CanPlace config firsts (origin.Section s i) = HasFirsts config firsts × IsSectionPage config.sections s.0 i × (section_page_number config s.0 i < 2 ^ 21)
 
 -- a mapping of one of so many processes, of pages that there are
-pub record CanLay (config : Config) (firsts : List ℕ) (procs : ℕ) (m : Mapping) : Type 0 where
+pub record CanLayMapping (config : Config) (firsts : List ℕ) (procs : ℕ) (m : Mapping) : Type 0 where
   pub proc : (m.proc).0 < procs
   pub range : IsRange (m.at).0 m.pages
   pub code : IsCode m.prot

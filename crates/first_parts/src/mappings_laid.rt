@@ -7,7 +7,7 @@ ghost use Rattle.page_tables.specs.PageTables.{HasPage, IsEntry, pte_in};
 ghost use Rattle.vm_types.specs.PagePlaces.{changed_at};
 ghost use Rattle.pager_model.specs.Maps.{mapped_by};
 ghost use Rattle.state_fits.specs.Opening.{first_pte};
-ghost use Rattle.first_parts.specs.Laying.{CanLay, CanPlace, first_place};
+ghost use Rattle.first_parts.specs.Laying.{CanLayMapping, CanPlace, first_place};
 
 use page_tables::{Look, Tables};
 use pte_forms::{Place, Pte};
@@ -45,7 +45,7 @@ fn put(tables: &mut Tables, p: Proc, vpn: u32, pte: Pte)
 
 /// Maps the pages of a mapping.
 fn lay(tables: &mut Tables, config: &Config, firsts: &[u32], mapping: &Mapping)
-    requires { CanLay config.now firsts.now tables.old.procs mapping.now }
+    requires { CanLayMapping config.now firsts.now tables.old.procs mapping.now }
     ensures laid { (p v : ℕ) → pte_in tables.new p v
         ≡ (if covers p v mapping.now then Some (first_pte config.now p v (mapped_by v mapping.now)) else pte_in tables.old p v) }
     ensures procs { tables.new.procs ≡ tables.old.procs }
@@ -61,7 +61,7 @@ fn lay(tables: &mut Tables, config: &Config, firsts: &[u32], mapping: &Mapping)
 /// Maps the pages of all mappings in tables that have nothing yet.
 pub(crate) fn lay_all(tables: &mut Tables, config: &Config, firsts: &[u32])
     requires empty { (p v : ℕ) → pte_in tables.old p v ≡ None }
-    requires can { All (CanLay config.now firsts.now tables.old.procs) config.now.maps }
+    requires can { All (CanLayMapping config.now firsts.now tables.old.procs) config.now.maps }
     ensures laid { (p v : ℕ) → pte_in tables.new p v
         ≡ option_map (λ m. first_pte config.now p v (mapped_by v m)) (find (covers p v) config.now.maps) }
     ensures procs { tables.new.procs ≡ tables.old.procs }

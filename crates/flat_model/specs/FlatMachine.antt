@@ -73,13 +73,13 @@ pub record IsFlat (config : Config) (state : FlatState) (flat : Flat) : Type 0 w
 
 -- the reply is the flat reply, and the machine stands for the next state; without memory it stands
 -- for the same state
-abbrev pub IsAnswer : Config → FlatState → Flat → ℕ → Ref → Result Reply NoMemory → Type 0
-IsAnswer config state new p r result =
+abbrev pub IsFlatAnswer : Config → FlatState → Flat → ℕ → Ref → Result Reply NoMemory → Type 0
+IsFlatAnswer config state new p r result =
     MatchResult result (λ reply. (reply ≡ flat_reply config state p r) × IsFlat config (flat_next config state p r) new) (λ _. IsFlat config state new)
 
 -- this holds of whichever configuration and state the machine stood for
 abbrev pub AnswersAsFlat : Flat → Flat → ℕ → Ref → Result Reply NoMemory → Type 0
-AnswersAsFlat old new p r result = (config : Config) (state : FlatState) → IsFlat config state old → IsAnswer config state new p r result
+AnswersAsFlat old new p r result = (config : Config) (state : FlatState) → IsFlat config state old → IsFlatAnswer config state new p r result
 
 -- the reference is to a mapped page and has the right to it
 pub record IsAllowedAt (config : Config) (state : FlatState) (p : ℕ) (r : Ref) (origin : Origin) (page : Page) : Type 0 where
@@ -92,12 +92,12 @@ pub record IsAllowedAt (config : Config) (state : FlatState) (p : ℕ) (r : Ref)
 abbrev pub AnswersNew : Flat → Flat → Page → Origin → Ref → Result Reply NoMemory → Type 0
 AnswersNew old new page origin r result =
     (config : Config) (state : FlatState) (p : ℕ) → IsFlat config state old → IsAllowedAt config state p r origin page
-    → stored_of old.stored.items page ≡ None → IsAnswer config state new p r result
+    → stored_of old.stored.items page ≡ None → IsFlatAnswer config state new p r result
 
 -- where the page's first entry is
-abbrev pub IsPlace : List Stored → Page → Option ℕ → Type 0
-IsPlace stored page None = stored_of stored page ≡ None
-IsPlace stored page (Some place) = (place < length stored) × (place ≡ position_or_len (is_of page) stored)
+abbrev pub IsStoredAt : List Stored → Page → Option ℕ → Type 0
+IsStoredAt stored page None = stored_of stored page ≡ None
+IsStoredAt stored page (Some place) = (place < length stored) × (place ≡ position_or_len (is_of page) stored)
 
 -- whichever configuration and state the machine stood for, it stands for that state changed by a service of
 -- one of the configuration's processes that answers Good

@@ -6,7 +6,7 @@ ghost use Rattle.vm_types.specs.Configuration.{IsWellFormed};
 ghost use Rattle.vm_types.specs.WellFormed.{IsWellFormedReference, IsWellFormedService};
 ghost use Rattle.pager_model.specs.Flat.{flat_start, is_change};
 ghost use Rattle.pager_model.specs.FlatService.{is_private_in};
-ghost use Rattle.flat_model.specs.FlatMachine.{IsFlat, AnswersAsFlat, AnswersNew, ChangesAsFlat, IsPlace, is_kept, is_paged_in, is_touch};
+ghost use Rattle.flat_model.specs.FlatMachine.{IsFlat, AnswersAsFlat, AnswersNew, ChangesAsFlat, IsStoredAt, is_kept, is_paged_in, is_touch};
 ghost use Rattle.flat_model.specs.Usable.{IsOrigin};
 
 use crate::behind::Behind;
@@ -55,7 +55,7 @@ fn is_charged(sections: &[Section], page: Page) -> bool
 
 /// Where a page is stored.
 fn place_of(stored: &[Stored], page: Page) -> Option<usize>
-    ensures { IsPlace stored.now page result }
+    ensures { IsStoredAt stored.now page result }
 {
     for (place, entry) in stored.iter().enumerate() {
         if is_same_page(entry.page, page) {

@@ -3,7 +3,7 @@
 ghost use Rattle.std.specs.Prelude.{◌≡◌, ℕ, ◌+◌, ◌<◌, ◌≤◌, ◌^◌, ◌++◌, length, take, drop};
 ghost use Rattle.vm_types.specs.declared.reference.Width.TheVariants.{One, Two, Four};
 ghost use Rattle.vm_types.specs.WellFormed.{IsWellFormedReference, width_bytes};
-ghost use Rattle.vm_text.specs.References.{Answers};
+ghost use Rattle.vm_text.specs.References.{IsReplyTo};
 ghost use Rattle.pager_model.specs.Flat.{number_at, with_number, reply_from, bytes_after, offset_in_page};
 
 use vm_types::{Op, Ref, Reply, Width};
@@ -101,7 +101,7 @@ pub fn apply(page: &mut [u8], r: Ref) -> Reply
     requires page { length page.old ≡ 512 }
     requires well_formed { IsWellFormedReference r }
     ensures reply { result ≡ reply_from r.op page.old (offset_in_page r) }
-    ensures fits { Answers r.op result }
+    ensures fits { IsReplyTo r.op result }
     ensures bytes { page.new ≡ bytes_after r.op page.old (offset_in_page r) }
 {
     let offset = (r.addr.0 % 512) as usize;

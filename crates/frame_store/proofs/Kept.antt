@@ -6,7 +6,7 @@ use Rattle.std.proofs.lemmas.Bool.{cases_eq, cases_lt}
 use Rattle.std.proofs.lemmas.List.{length-append, length-map}
 use Rattle.std.proofs.lemmas.Option.{none-some, same_Some, slice_get-map, slice_get_within}
 use Rattle.vm_types.specs.declared.names.BlockId.{BlockId}
-use Rattle.frame_store.specs.Home.{IsLaid, block_in, blocks_in}
+use Rattle.frame_store.specs.Home.{IsNoted, block_in, blocks_in}
 use Rattle.frame_store.proofs.Changed.{below_last, ext_get, get_pushed, got, noted_fewer, noted_more, noted_same, removed_gap, removed_long, removed_other, swapped_first, swapped_other, swapped_second}
 use Rattle.frame_store.proofs.Rows.{get_before, get_left}
 use Rattle.frame_store.proofs.StoreKept.{get_set_other, get_set_same}
@@ -34,7 +34,7 @@ module _ {B : Type 0} where
       go (None, at) = absurd (none-some x (same_Some None (Some x) (sym (get_in home places n None at) ∙ is)))
       go (Some k, at) = (k, at)
 
-module _ {B : Type 0} {ids : List BlockId} {number : BlockId → ℕ} {home : List (BlockId × B)} {places : List (Option ℕ)} (laid : IsLaid home places ids number) where
+module _ {B : Type 0} {ids : List BlockId} {number : BlockId → ℕ} {home : List (BlockId × B)} {places : List (Option ℕ)} (laid : IsNoted home places ids number) where
   -- no two numbers have one place
   pub only_number : (m n k : ℕ) → slice_get places m ≡ Some (Some k) → slice_get places n ≡ Some (Some k) → m ≡ n
   only_number m n k at_m at_n =
@@ -149,7 +149,7 @@ module _ {B : Type 0} {ids : List BlockId} {number : BlockId → ℕ} {home : Li
             inl (same, within, same_Some r q (sym is ∙ (ap (slice_get taken_home) same ∙ gap within)))
         go (inr differ) = inr (below, differ, sym (stays j below differ) ∙ is)
 
-    pub taken_laid : IsLaid taken_home taken_places ids number
+    pub taken_laid : IsNoted taken_home taken_places ids number
     taken_laid = record { noted = λ j r is. noted j r (lies j r is); listed = λ j r is. listed j r (lies j r is); there = λ m j is. there m j is (cases_eq m n) (cases_eq m (number q.0)) }
       where
         noted : (j : ℕ) (r : BlockId × B) → Lies j r → slice_get taken_places (number r.0) ≡ Some (Some j)
@@ -242,7 +242,7 @@ module _ {B : Type 0} {ids : List BlockId} {number : BlockId → ℕ} {home : Li
             let same : j ≡ length home = omega (arith, past, within, size) in
             inl (same, same_Some r (b, x) (sym is ∙ (ap (slice_get put_home) same ∙ last_put)))
 
-    pub put_laid : IsLaid put_home put_places ids number
+    pub put_laid : IsNoted put_home put_places ids number
     put_laid = record { noted = λ j r is. noted j r (stands j r is); listed = λ j r is. listed j r (stands j r is); there = λ m j is. there m j is (cases_eq m n) }
       where
         noted : (j : ℕ) (r : BlockId × B) → Stands j r → slice_get put_places (number r.0) ≡ Some (Some j)
@@ -342,7 +342,7 @@ module _ {B : Type 0} {ids : List BlockId} {number : BlockId → ℕ} {home : Li
         go (inr differ) (inl same) = inr (inl (same, same_Some r q (sym is ∙ (ap (slice_get moved_home) same ∙ home_k))))
         go (inr differ) (inr other) = inr (inr (differ, other, sym (home_other j differ other) ∙ is))
 
-    pub moved_laid : IsLaid moved_home moved_places ids number
+    pub moved_laid : IsNoted moved_home moved_places ids number
     moved_laid = record { noted = λ j r is. noted j r (sits j r is); listed = λ j r is. listed j r (sits j r is); there = λ m j is. there m j is (cases_eq m n) (cases_eq m (number q.0)) }
       where
         noted : (j : ℕ) (r : BlockId × B) → Sits j r → slice_get moved_places (number r.0) ≡ Some (Some j)

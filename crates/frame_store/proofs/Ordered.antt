@@ -9,7 +9,7 @@ use Rattle.std.proofs.lemmas.List.FromFn.{get_or-map-range_with_len, length-map-
 use Rattle.std.proofs.lemmas.Option.{same_Some, slice_get-map, slice_get_past, slice_get_read, slice_get_within, get_or_from_slice_get}
 use Rattle.vm_types.specs.declared.names.BlockId.{BlockId}
 use Rattle.frame_store.specs.Blocks.{held_at, number_in}
-use Rattle.frame_store.specs.Home.{IsLaid, block_in, blocks_in}
+use Rattle.frame_store.specs.Home.{IsNoted, block_in, blocks_in}
 use Rattle.frame_store.specs.Numbers.{AreNumbers}
 use Rattle.frame_store.proofs.Changed.{all_noted, ext_get, got}
 use Rattle.frame_store.proofs.Kept.{block_at_place, get_in, length_in, placed_at}
@@ -47,7 +47,7 @@ module _ {B : Type 0} (home : List (BlockId × B)) (places : List (Option ℕ)) 
   pub as_many : All IsSome (blocks_in home places) → length home ≡ count_by is_some places → length places ≡ length home
   as_many all count = sym (all_noted places (each_placed all)) ∙ sym count
 
-module _ {B : Type 0} {ids : List BlockId} {number : BlockId → ℕ} {home : List (BlockId × B)} {places : List (Option ℕ)} (laid : IsLaid home places ids number) where
+module _ {B : Type 0} {ids : List BlockId} {number : BlockId → ℕ} {home : List (BlockId × B)} {places : List (Option ℕ)} (laid : IsNoted home places ids number) where
   pub ids_in_order : length home ≡ length ids → InOrder home places → map (λ (p : BlockId × B). p.0) home ≡ ids
   ids_in_order long order = ext_get _ _ (λ m. slice_get-map (λ (p : BlockId × B). p.0) home m ∙ go m (cases_lt m (length home)))
     where
@@ -113,7 +113,7 @@ module _ {B : Type 0} (home : List (BlockId × B)) (ids : List BlockId) (number 
   number_at : (k : ℕ) (p : BlockId × B) → slice_get home k ≡ Some p → number p.0 ≡ k
   number_at k p is = numbered k p.0 (name_at k p is)
 
-  pub first_laid : IsLaid home first_places ids number
+  pub first_laid : IsNoted home first_places ids number
   first_laid = record {
     noted = λ k p is. ap (slice_get first_places) (number_at k p is) ∙ first_order k (slice_get_within home k p is);
     listed = λ k p is. ap (slice_get ids) (number_at k p is) ∙ name_at k p is;

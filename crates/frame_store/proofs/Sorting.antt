@@ -5,7 +5,7 @@ use Rattle.std.proofs.lemmas.Bool.{cases_eq, cases_lt}
 use Rattle.std.proofs.lemmas.List.Edits.{length-swap}
 use Rattle.std.proofs.lemmas.Option.{get_or_from_slice_get, same_Some, slice_get_read, slice_get_within}
 use Rattle.vm_types.specs.declared.names.BlockId.{BlockId}
-use Rattle.frame_store.specs.Home.{IsLaid, blocks_in}
+use Rattle.frame_store.specs.Home.{IsNoted, blocks_in}
 use Rattle.frame_store.proofs.Kept.{moved_blocks, moved_laid, place_n, places_other}
 use Rattle.frame_store.proofs.Ordered.{each_placed}
 
@@ -29,7 +29,7 @@ next_kept places n below o k read place own sorted i less = go (cases_eq i n)
         before (inl low) = low
         before (inr past) = absurd (differ (omega (arith, less, past)))
 
-module _ {B : Type 0} {ids : List BlockId} {number : BlockId → ℕ} {home : List (BlockId × B)} {places : List (Option ℕ)} (laid : IsLaid home places ids number) (n : ℕ) where
+module _ {B : Type 0} {ids : List BlockId} {number : BlockId → ℕ} {home : List (BlockId × B)} {places : List (Option ℕ)} (laid : IsNoted home places ids number) (n : ℕ) where
   pub next_some : All IsSome (blocks_in home places) → n < length places → (o : Option ℕ) → o ≡ slice_index_or places n o → IsSome o
   next_some all below o read =
       let placed = each_placed home places all n below in
@@ -56,10 +56,10 @@ module _ {B : Type 0} {ids : List BlockId} {number : BlockId → ℕ} {home : Li
         moved : new_places ≡ swap places n (number q.0)
         moved = places_are ∙ ap (swap places n) other
 
-        pub next_laid : IsLaid new new_places ids number
+        pub next_laid : IsNoted new new_places ids number
         next_laid =
-            subst (λ xs. IsLaid xs new_places ids number) (sym items)
-            (subst (λ ys. IsLaid (swap home n k) ys ids number) (sym moved) (moved_laid laid n k q at first))
+            subst (λ xs. IsNoted xs new_places ids number) (sym items)
+            (subst (λ ys. IsNoted (swap home n k) ys ids number) (sym moved) (moved_laid laid n k q at first))
 
         pub next_blocks : blocks_in new new_places ≡ blocks_in home places
         next_blocks = (λ i. blocks_in (items i) (moved i)) ∙ moved_blocks laid n k q at first

@@ -20,7 +20,7 @@ unfoldable pub blocks_in : {B : Type 0} → List (BlockId × B) → List (Option
 blocks_in home places = map (block_in home) places
 
 -- each block lies at the place that is noted for its number, and each place that is noted has the block of that number
-pub record IsLaid {B : Type 0} (home : List (BlockId × B)) (places : List (Option ℕ)) (ids : List BlockId) (number : BlockId → ℕ) : Type 0 where
+pub record IsNoted {B : Type 0} (home : List (BlockId × B)) (places : List (Option ℕ)) (ids : List BlockId) (number : BlockId → ℕ) : Type 0 where
   pub noted : (k : ℕ) (p : BlockId × B) → slice_get home k ≡ Some p → slice_get places (number p.0) ≡ Some (Some k)
   pub listed : (k : ℕ) (p : BlockId × B) → slice_get home k ≡ Some p → slice_get ids (number p.0) ≡ Some p.0
   pub there : (n k : ℕ) → slice_get places n ≡ Some (Some k) → (p : BlockId × B) × (slice_get home k ≡ Some p) × (number p.0 ≡ n)
@@ -28,7 +28,7 @@ pub record IsLaid {B : Type 0} (home : List (BlockId × B)) (places : List (Opti
 -- and each name has one place for its block, found by the name, as many blocks lie there as have a place, and
 -- there is room for all
 pub record IsHomeTable {B : Type 0} (home : List (BlockId × B)) (places : List (Option ℕ)) (ids : List BlockId) (number : BlockId → ℕ) (space : ℕ) : Type 0 where
-  pub laid : IsLaid home places ids number
+  pub laid : IsNoted home places ids number
   pub many : length places ≡ length ids
   pub count : length home ≡ count_by is_some places
   pub numbered : AreNumbers number ids

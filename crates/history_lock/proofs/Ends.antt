@@ -14,13 +14,13 @@ use Rattle.history_lock.specs.declared.view.View.{View}
 use Rattle.history_lock.specs.declared.stage.Stage.{Stage}
 use Rattle.history_lock.specs.declared.stage.Stage.TheVariants.{Idle, Sleeping, Joined, Waiting, Holding, Published, Spent}
 use Rattle.history_lock.specs.Known.{Known, OwnsAll}
-use Rattle.history_lock.specs.Views.{starting, IsIn, IsLive}
+use Rattle.history_lock.specs.Views.{starting, IsAway, IsLive}
 use Rattle.history_lock.specs.Rule.{HasSlot, Fits, Serves}
 use Rattle.history_lock.proofs.Own.{own_more}
 use Rattle.history_lock.proofs.Ranges.{in_range, range_has, some_number}
 use Rattle.history_lock.proofs.Facts.{Rule, not_inside}
 
-in_lives : (st : Stage) → IsIn st → IsLive st
+in_lives : (st : Stage) → IsAway st → IsLive st
 in_lives Idle i = absurd i
 in_lives Sleeping i = absurd i
 in_lives (Joined ys ks ms) i = absurd i
@@ -81,7 +81,7 @@ module _ {T B : Type 0} (journal : T → List Entry) (base : T → B) where
     nobody s r id v at idle all (Some i) e = let slot = subst (λ (o : Option ℕ). HasSlot journal base o b r.present s.homes s.views) e r.slot in
         let fits = r.each i slot.0 slot.1 in let has = some_number slot.0.numbers (fits.live (in_lives slot.0.stage slot.2)).1 in
         let theirs = fits.mine has.0 has.1 in let mine = (r.each id v at).mine has.0 (all has.0 theirs.1) in
-        absurd (not_inside journal base b seats s r id v at (λ z. subst IsIn idle z) i e (sym theirs.0 ∙ mine.0))
+        absurd (not_inside journal base b seats s r id v at (λ z. subst IsAway idle z) i e (sym theirs.0 ∙ mine.0))
 
     pub ends : (s : State (Option T) (View B)) (r : Rule journal base b seats s) (id : ℕ) (v : View B) → get_elem? s.views id ≡ some v → v.stage ≡ Idle → OwnsAll seats v.numbers
         → (value : T) × (s.homes ≡ some (Some value) ∷ []) × Known journal base value v × (journal value ≡ v.seen)

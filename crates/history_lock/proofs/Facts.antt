@@ -10,8 +10,8 @@ use Rattle.vm_journal.specs.declared.entry.Entry.{Entry}
 use Rattle.vm_journal.specs.Own.{own_entries}
 use Rattle.history_lock.specs.declared.view.View.{View}
 use Rattle.history_lock.specs.declared.stage.Stage.{Stage}
-use Rattle.history_lock.specs.declared.stage.Stage.TheVariants.{Idle, Sleeping, Joined, Waiting, Holding, Published, Spent}
-use Rattle.history_lock.specs.Views.{tickets, IsIn, IsLive}
+use Rattle.history_lock.specs.declared.stage.Stage.TheVariants.{Idle, Joined, Waiting, Holding, Published, Spent}
+use Rattle.history_lock.specs.Views.{tickets, IsAway, IsLive}
 use Rattle.history_lock.specs.Rule.{total, HasParts, HasTicket, HasSlot, Serves}
 use Rattle.history_lock.proofs.Sums.{total-le, at_below, at_one}
 
@@ -28,7 +28,7 @@ tickets_le (Published t) n h = omega (arith, h tt)
 tickets_le Spent n h = omega arith
 
 -- the view that is inside has the ticket that is served
-pub in_ticket : (holder : ℕ → ℕ) (inside : StdOption ℕ) (serving next j : ℕ) (st : Stage) → IsIn st → HasTicket holder inside serving next j st → (holder serving ≡ j) × (inside ≡ Some j)
+pub in_ticket : (holder : ℕ → ℕ) (inside : StdOption ℕ) (serving next j : ℕ) (st : Stage) → IsAway st → HasTicket holder inside serving next j st → (holder serving ≡ j) × (inside ≡ Some j)
 in_ticket holder inside serving next j Idle i h = absurd i
 in_ticket holder inside serving next j Sleeping i h = absurd i
 in_ticket holder inside serving next j (Joined ys ks ms) i h = absurd i
@@ -104,17 +104,17 @@ module _ {T B : Type 0} (journal : T → List Entry) (base : T → B) where
         let out : r.next ≡ r.serving + total f s.views = r.out in let many : total g s.views ≡ seats = r.many in omega arith
 
     -- the view that is inside is another than one that isn't
-    pub not_inside : (s : State (StdOption T) (View B)) (r : Rule s) (id : ℕ) (v : View B) → get_elem? s.views id ≡ some v → (IsIn v.stage → ⊥) → (i : ℕ) → r.inside ≡ Some i → i ≢ id
+    pub not_inside : (s : State (StdOption T) (View B)) (r : Rule s) (id : ℕ) (v : View B) → get_elem? s.views id ≡ some v → (IsAway v.stage → ⊥) → (i : ℕ) → r.inside ≡ Some i → i ≢ id
     not_inside s r id v at out i e same = let slot = subst (λ (o : StdOption ℕ). HasSlot journal base o b r.present s.homes s.views) e r.slot in
-        let one : slot.0 ≡ v = at_one s.views id slot.0 v (ap (λ (j : ℕ). get_elem? s.views j) (sym same) ∙ slot.1) at in out (subst (λ (x : View B). IsIn x.stage) one slot.2)
+        let one : slot.0 ≡ v = at_one s.views id slot.0 v (ap (λ (j : ℕ). get_elem? s.views j) (sym same) ∙ slot.1) at in out (subst (λ (x : View B). IsAway x.stage) one slot.2)
 
     -- nobody is inside while the ticket that is served waits
-    nobody : (s : State (StdOption T) (View B)) (r : Rule s) (id : ℕ) (v : View B) → get_elem? s.views id ≡ some v → (IsIn v.stage → ⊥) → r.holder r.serving ≡ id → (o : StdOption ℕ) → r.inside ≡ o → r.inside ≡ None
+    nobody : (s : State (StdOption T) (View B)) (r : Rule s) (id : ℕ) (v : View B) → get_elem? s.views id ≡ some v → (IsAway v.stage → ⊥) → r.holder r.serving ≡ id → (o : StdOption ℕ) → r.inside ≡ o → r.inside ≡ None
     nobody s r id v at out has None e = e
     nobody s r id v at out has (Some i) e = let slot = subst (λ (o : StdOption ℕ). HasSlot journal base o b r.present s.homes s.views) e r.slot in
         let t = in_ticket r.holder r.inside r.serving r.next i slot.0.stage slot.2 (r.each i slot.0 slot.1).ticket in absurd (not_inside s r id v at out i e (sym t.0 ∙ has))
 
-    pub nobody_inside : (s : State (StdOption T) (View B)) (r : Rule s) (id : ℕ) (v : View B) → get_elem? s.views id ≡ some v → (IsIn v.stage → ⊥) → r.holder r.serving ≡ id → r.inside ≡ None
+    pub nobody_inside : (s : State (StdOption T) (View B)) (r : Rule s) (id : ℕ) (v : View B) → get_elem? s.views id ≡ some v → (IsAway v.stage → ⊥) → r.holder r.serving ≡ id → r.inside ≡ None
     nobody_inside s r id v at out has = nobody s r id v at out has r.inside refl
 
 -- what the parts of a pass had seen still has all entries of their numbers

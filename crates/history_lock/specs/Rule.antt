@@ -8,8 +8,8 @@ use Rattle.vm_journal.specs.declared.entry.Entry.{Entry}
 use Rattle.vm_journal.specs.Own.{own_entries}
 use Rattle.history_lock.specs.declared.view.View.{View}
 use Rattle.history_lock.specs.declared.stage.Stage.{Stage}
-use Rattle.history_lock.specs.declared.stage.Stage.TheVariants.{Idle, Sleeping, Joined, Waiting, Holding, Published, Spent}
-use Rattle.history_lock.specs.Views.{tickets, sleeps, heard, told, IsIn, IsLive}
+use Rattle.history_lock.specs.declared.stage.Stage.TheVariants.{Idle, Joined, Waiting, Holding, Published, Spent}
+use Rattle.history_lock.specs.Views.{tickets, heard, told, IsAway, IsLive}
 
 abbrev pub total : {A : Type 0} → (A → ℕ) → List A → ℕ
 total f [] = 0
@@ -62,7 +62,7 @@ module _ {T B : Type 0} (journal : T → List Entry) (base : T → B) where
   -- The value is at home and has the present journal, or it is away with a view that knows this journal.
   abbrev pub HasSlot : StdOption ℕ → B → List Entry → List (Option (StdOption T)) → List (View B) → Type 0
   HasSlot None b present homes views = (value : T) × (homes ≡ some (Some value) ∷ []) × (base value ≡ b) × (journal value ≡ present)
-  HasSlot (Some i) b present homes views = (v : View B) × (get_elem? views i ≡ some v) × IsIn v.stage × (v.seen ≡ present) × (homes ≡ none ∷ [])
+  HasSlot (Some i) b present homes views = (v : View B) × (get_elem? views i ≡ some v) × IsAway v.stage × (v.seen ≡ present) × (homes ≡ none ∷ [])
 
   -- Word 0 is the next ticket, word 1 the ticket that is served, word 2 the length of the present journal, and word 3 the
   -- number of passes that are counted among those that sleep, each modulo 2^64.

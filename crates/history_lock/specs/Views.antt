@@ -60,14 +60,13 @@ told (Published t) xs = xs
 told Spent xs = xs
 
 -- the value is away with the pass
-abbrev pub IsIn : Stage → Type 0
-IsIn Idle = ⊥
-IsIn Sleeping = ⊥
-IsIn (Joined ys ks ms) = ⊥
-IsIn (Waiting t) = ⊥
-IsIn (Holding t) = Unit {0}
-IsIn (Published t) = Unit {0}
-IsIn Spent = ⊥
+abbrev pub IsAway : Stage → Type 0
+IsAway Idle = ⊥
+IsAway (Joined ys ks ms) = ⊥
+IsAway (Waiting t) = ⊥
+IsAway (Holding t) = Unit {0}
+IsAway (Published t) = Unit {0}
+IsAway Spent = ⊥
 
 abbrev pub IsLive : Stage → Type 0
 IsLive Idle = Unit {0}

@@ -42,7 +42,7 @@ use Rattle.state_fits.proofs.FlightsMoved.{flight_within}
 use Rattle.log_pager.specs.Roles.{IsOfProcess}
 use Rattle.log_pager.specs.Shown.{Shown}
 use Rattle.log_check.specs.Follows.{Follows}
-use Rattle.log_check.specs.Changing.{CanChange, CanLand, IsFor}
+use Rattle.log_check.specs.Changing.{AreNamedThere, CanLand, IsFor}
 
 -- a service's process is one of the configuration
 pub served_process : (config : Config) (past : List Entry) (a : Pager) (p : ℕ) (s : Service) (x : Answer) → IsServed config past a p s x → p < length config.procs
@@ -106,7 +106,7 @@ module _ (config : Config) (past : List Entry) (formed : IsWellFormed config) (r
   begun seat f b (role.Come q address) line row = (line.2.0, head f row.lying.frame.head)
 
   -- the frames and processes that a legal entry names are there
-  can : (p : ℕ) (w : What) → WhatHasLine (length config.procs) config.sections w → IsLegalWhat config past a p w → CanChange config s (open_flights past) p w
+  can : (p : ℕ) (w : What) → WhatHasLine (length config.procs) config.sections w → IsLegalWhat config past a p w → AreNamedThere config s (open_flights past) p w
   can p (what.Done r reply) line row = (row.own.process, λ e is. (valid_at_page config past a p (page_number (r.addr).0) e kept is).within)
   can p (what.Denied r reason) line row = denied_process config past a p r reason row
   can p (what.Served x reply) line row = (served_process config past a p x reply row, line.0, refl)
@@ -128,8 +128,8 @@ module _ (config : Config) (past : List Entry) (formed : IsWellFormed config) (r
   can p (what.Turn q status) line row = row.process
 
 pub can_change : (config : Config) (past : List Entry) (s : Shown) (p : ℕ) (w : What) → Follows config past s → WhatHasLine (length config.procs) config.sections w
-    → IsLegalWhat config past (pager_after config past) p w → CanChange config s (open_flights past) p w
+    → IsLegalWhat config past (pager_after config past) p w → AreNamedThere config s (open_flights past) p w
 can_change config past s p w follows line row =
     let same : record { frames = config.frames; processes = length config.procs; pager = pager_after config past } ≡ s =
     λ i. record { frames = sym follows.tables.frames i; processes = sym follows.tables.processes i; pager = sym follows.pager i } in
-    subst (λ (x : Shown). CanChange config x (open_flights past) p w) same (can config past follows.tables.formed follows.run p w line row)
+    subst (λ (x : Shown). AreNamedThere config x (open_flights past) p w) same (can config past follows.tables.formed follows.run p w line row)

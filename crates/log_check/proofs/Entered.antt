@@ -14,7 +14,7 @@ use Rattle.pager_model.specs.Flat.{flat_start}
 use Rattle.pager_model.specs.Run.{pager_after}
 use Rattle.pager_model.specs.Spoken.{flat_after, flat_entry}
 use Rattle.pager_model.specs.Step.{IsLegalWhat}
-use Rattle.log_flat.specs.Kept.{IsBeside, IsKept, kept}
+use Rattle.log_flat.specs.Kept.{IsBeside, KeepsFlat, kept}
 use Rattle.log_flat.specs.declared.page_bytes.PageBytes.{PageBytes}
 use Rattle.log_pager.specs.Shown.{Shown, shown}
 use Rattle.log_history.specs.Standing.{FailsOpen, Passed}
@@ -28,7 +28,7 @@ use Rattle.log_check.proofs.Changeable.{served_process}
 
 -- the beginning
 pub first_followed : (config : Config) (f : Followed) → IsWellFormed config → f.past ≡ record { config = config; past = [] }
-    → shown f.pager ≡ record { frames = config.frames; processes = length config.procs; pager = opening config } → IsKept config (flat_start config) (kept f.bytes) → IsFollowed f
+    → shown f.pager ≡ record { frames = config.frames; processes = length config.procs; pager = opening config } → KeepsFlat config (flat_start config) (kept f.bytes) → IsFollowed f
 first_followed config f formed past shows bytes = record {
   follows = subst (λ (s : Passed). Follows s.config s.past (shown f.pager)) (sym past) (subst (λ (x : Shown). Follows config [] x) (sym shows) (record {
     tables = record { formed = formed; frames = refl; processes = refl };
@@ -36,7 +36,7 @@ first_followed config f formed past shows bytes = record {
     in_order = λ p. (requests_of p config.body, refl);
     pager = refl;
   }));
-  bytes = subst (λ (s : Passed). IsKept s.config (flat_after s.config s.past) (kept f.bytes)) (sym past) bytes;
+  bytes = subst (λ (s : Passed). KeepsFlat s.config (flat_after s.config s.past) (kept f.bytes)) (sym past) bytes;
 }
 
 -- what a reply asks of an entry that has a line
@@ -56,7 +56,7 @@ fails_open config past p other row = tt
 
 -- one entry more
 pub entered : (old mid : Followed) (e : Entry) (new : Followed) → IsFollowed old → mid.past ≡ old.past → mid.pager ≡ old.pager → MayEnter old e
-    → IsKept old.past.config (flat_entry old.past.config (flat_after old.past.config old.past.past) (e.seat).0 e.what) (kept mid.bytes) → IsAdded mid e new → HasEntered old e new
+    → KeepsFlat old.past.config (flat_entry old.past.config (flat_after old.past.config old.past.past) (e.seat).0 e.what) (kept mid.bytes) → IsAdded mid e new → HasEntered old e new
 entered old mid e new followed same_past same_pager may bytes added =
     let past_is : new.past ≡ record { config = old.past.config; past = e ∷ old.past.past } = added.past ∙ ap (λ (s : Passed). record { config = s.config; past = e ∷ s.past }) same_past in
     record {
@@ -73,8 +73,8 @@ entered old mid e new followed same_past same_pager may bytes added =
           in_order = may.in_order;
           pager = added.pager ∙ ap (λ (s : Passed). pager_after s.config (e ∷ s.past)) same_past;
         });
-        bytes = subst (λ (s : Passed). IsKept s.config (flat_after s.config s.past) (kept new.bytes)) (sym past_is)
-            (subst (λ (x : PageBytes). IsKept old.past.config (flat_entry old.past.config (flat_after old.past.config old.past.past) (e.seat).0 e.what) (kept x)) (sym added.bytes) bytes);
+        bytes = subst (λ (s : Passed). KeepsFlat s.config (flat_after s.config s.past) (kept new.bytes)) (sym past_is)
+            (subst (λ (x : PageBytes). KeepsFlat old.past.config (flat_entry old.past.config (flat_after old.past.config old.past.past) (e.seat).0 e.what) (kept x)) (sym added.bytes) bytes);
       };
     }
 

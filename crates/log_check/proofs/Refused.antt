@@ -8,7 +8,7 @@ use Rattle.outside_io.specs.LineText.{line_text}
 use Rattle.pager_model.specs.Run.{IsRun}
 use Rattle.log_history.specs.Standing.{Passed}
 use Rattle.log_model.specs.Stand.{Stand, ending_after, in_rundown, report_after}
-use Rattle.log_reasons.specs.LineReasons.{IsItsLine, IsRefused, LineFails, entries_of, text_next}
+use Rattle.log_reasons.specs.LineReasons.{IsItsLine, IsEntryRefused, LineFails, entries_of, text_next}
 use Rattle.log_reasons.specs.declared.line_reason.LineReason.{LineReason}
 use Rattle.log_reasons.specs.declared.line_reason.LineReason.TheVariants as why
 use Rattle.log_laws.proofs.Stepwise.{next_step}
@@ -22,7 +22,7 @@ use Rattle.log_check.specs.Refusing.{FailsAt, IsNeither, IsNotIn, IsUnstepped}
 
 module _ (config : Config) (stand : Stand) (line : List ℕ) where
   -- the line is an entry's that isn't a next one
-  entry_here : (e : Entry) (w : LineReason) → IsItsLine config (length (entries_of stand) + 1) line e → IsRefused config (entries_of stand) e w → LineFails config stand line w
+  entry_here : (e : Entry) (w : LineReason) → IsItsLine config (length (entries_of stand) + 1) line e → IsEntryRefused config (entries_of stand) e w → LineFails config stand line w
   entry_here e (why.NotLegal reason) its is = (e, its, is)
   entry_here e why.OutOfOrder its is = (e, its, is)
   entry_here e (why.WrongReply right) its is = (e, its, is)
@@ -34,9 +34,9 @@ module _ (config : Config) (stand : Stand) (line : List ℕ) where
   entry_here e (why.NotInText right) its is = absurd is
   entry_here e why.NotOfRundown its is = absurd is
 
-  entry_fails : (past : List Entry) (e : Entry) (w : LineReason) → entries_of stand ≡ past → IsItsLine config (length past + 1) line e → IsRefused config past e w → LineFails config stand line w
+  entry_fails : (past : List Entry) (e : Entry) (w : LineReason) → entries_of stand ≡ past → IsItsLine config (length past + 1) line e → IsEntryRefused config past e w → LineFails config stand line w
   entry_fails past e w same its is =
-      entry_here e w (subst (λ (xs : List Entry). IsItsLine config (length xs + 1) line e) (sym same) its) (subst (λ (xs : List Entry). IsRefused config xs e w) (sym same) is)
+      entry_here e w (subst (λ (xs : List Entry). IsItsLine config (length xs + 1) line e) (sym same) its) (subst (λ (xs : List Entry). IsEntryRefused config xs e w) (sym same) is)
 
   -- it is no entry's of the next number
   none_fails : (number : ℕ) (w : LineReason) → number ≡ length (entries_of stand) + 1 → IsNoEntry config number line w → LineFails config stand line w
@@ -71,7 +71,7 @@ module _ (config : Config) (stand : Stand) (line : List ℕ) where
 
 module _ (s : Passed) (line : List ℕ) where
   -- ---- behind entries
-  pub entry_refused : (e : Entry) (w : LineReason) → IsItsLine s.config (length s.past + 1) line e → IsRefused s.config s.past e w → FailsAt s Entries line w
+  pub entry_refused : (e : Entry) (w : LineReason) → IsItsLine s.config (length s.past + 1) line e → IsEntryRefused s.config s.past e w → FailsAt s Entries line w
   entry_refused e w its is stand at = entry_fails s.config stand line s.past e w (ap entries_of at) its is
 
   pub unreported : (known w : LineReason) → IsNoEntry s.config (length s.past + 1) line known → IsNeither known (report_after s.config s.past) line w → FailsAt s Entries line w

@@ -28,23 +28,23 @@ abbrev pub HasFrame : Shown → ℕ → ℕ → Type 0
 HasFrame s p v = (e : Valid) → entry_of s.pager.valid p v ≡ Some e → e.frame < s.frames
 
 -- the frames and processes that the entry names, or speaks for, are there
-abbrev pub CanChange : Config → Shown → List Flight → ℕ → What → Type 0
-CanChange config s flights p (what.Done r reply) = (p < s.processes) × HasFrame s p (page_number (r.addr).0)
-CanChange config s flights p (what.Denied r reason) = p < s.processes
-CanChange config s flights p (what.Served x answer) = (p < s.processes) × IsWellFormedService x × (config.frames ≡ s.frames)
-CanChange config s flights p (what.Reuse f g) = f.0 < s.frames
-CanChange config s flights p (what.Zero a f) = (p < s.processes) × (f.0 < s.frames)
-CanChange config s flights p (what.Back q a f from) = (q.0 < s.processes) × (f.0 < s.frames)
-CanChange config s flights p (what.Collide a f k) = p < s.processes
-CanChange config s flights p (what.In f b r) = IsOfProcess s.processes r × (f.0 < s.frames)
-CanChange config s flights p (what.InOk f k) = CanLand s.processes flights k × (f.0 < s.frames)
-CanChange config s flights p (what.InFail f k c d) = f.0 < s.frames
-CanChange config s flights p (what.Out f b) = f.0 < s.frames
-CanChange config s flights p (what.OutOk f k) = CanLand s.processes flights k × (f.0 < s.frames)
-CanChange config s flights p (what.OutFail f k c d) = CanLand s.processes flights k × (f.0 < s.frames)
-CanChange config s flights p (what.Evict q a f why to) = (q.0 < s.processes) × (f.0 < s.frames)
-CanChange config s flights p (what.Limit n faults) = p < s.processes
-CanChange config s flights p (what.Turn q status) = q.0 < s.processes
+abbrev pub AreNamedThere : Config → Shown → List Flight → ℕ → What → Type 0
+AreNamedThere config s flights p (what.Done r reply) = (p < s.processes) × HasFrame s p (page_number (r.addr).0)
+AreNamedThere config s flights p (what.Denied r reason) = p < s.processes
+AreNamedThere config s flights p (what.Served x answer) = (p < s.processes) × IsWellFormedService x × (config.frames ≡ s.frames)
+AreNamedThere config s flights p (what.Reuse f g) = f.0 < s.frames
+AreNamedThere config s flights p (what.Zero a f) = (p < s.processes) × (f.0 < s.frames)
+AreNamedThere config s flights p (what.Back q a f from) = (q.0 < s.processes) × (f.0 < s.frames)
+AreNamedThere config s flights p (what.Collide a f k) = p < s.processes
+AreNamedThere config s flights p (what.In f b r) = IsOfProcess s.processes r × (f.0 < s.frames)
+AreNamedThere config s flights p (what.InOk f k) = CanLand s.processes flights k × (f.0 < s.frames)
+AreNamedThere config s flights p (what.InFail f k c d) = f.0 < s.frames
+AreNamedThere config s flights p (what.Out f b) = f.0 < s.frames
+AreNamedThere config s flights p (what.OutOk f k) = CanLand s.processes flights k × (f.0 < s.frames)
+AreNamedThere config s flights p (what.OutFail f k c d) = CanLand s.processes flights k × (f.0 < s.frames)
+AreNamedThere config s flights p (what.Evict q a f why to) = (q.0 < s.processes) × (f.0 < s.frames)
+AreNamedThere config s flights p (what.Limit n faults) = p < s.processes
+AreNamedThere config s flights p (what.Turn q status) = q.0 < s.processes
 
 -- what a process's own seat says of the process
 abbrev pub is_own : What → Bool

@@ -5,7 +5,7 @@ use Rattle.pager_model.specs.Order.{IsInOrder}
 use Rattle.pager_model.specs.Run.{pager_after}
 use Rattle.pager_model.specs.Spoken.{ShowsReply, flat_after}
 use Rattle.pager_model.specs.Step.{IsLegal}
-use Rattle.log_flat.specs.Kept.{IsKept, kept}
+use Rattle.log_flat.specs.Kept.{KeepsFlat, kept}
 use Rattle.log_pager.specs.Shown.{shown}
 use Rattle.log_check.specs.Follows.{Follows}
 use Rattle.log_check.specs.declared.followed.Followed.{Followed}
@@ -13,7 +13,7 @@ use Rattle.log_check.specs.declared.followed.Followed.{Followed}
 -- the pager's state and the bytes of pages are those after the entries, which are a run in order
 pub record IsFollowed (f : Followed) : Type 0 where
   pub follows : Follows f.past.config f.past.past (shown f.pager)
-  pub bytes : IsKept f.past.config (flat_after f.past.config f.past.past) (kept f.bytes)
+  pub bytes : KeepsFlat f.past.config (flat_after f.past.config f.past.past) (kept f.bytes)
 
 -- the entry is legal behind them
 abbrev pub MayStep : Followed → Entry → Type 0

@@ -47,8 +47,8 @@ KeepsFault (Err ReadFault) log kept = Unit {0}
 KeepsFault (Err NoMemory) log kept = Unit {0}
 
 -- the count of failures rose at `ReadFault`, and is else unchanged
-abbrev pub CountsBy : {T : Type 0} → Result T CheckFault → ℕ → ℕ → Type 0
-CountsBy (Err ReadFault) before now = Rose before now
-CountsBy (Err NoMemory) before now = now ≡ before
-CountsBy (Err TooMany) before now = now ≡ before
-CountsBy (Ok verdict) before now = now ≡ before
+abbrev pub CountsByLog : {T : Type 0} → Result T CheckFault → ℕ → ℕ → Type 0
+CountsByLog (Err ReadFault) before now = Rose before now
+CountsByLog (Err NoMemory) before now = now ≡ before
+CountsByLog (Err TooMany) before now = now ≡ before
+CountsByLog (Ok verdict) before now = now ≡ before

@@ -26,14 +26,14 @@ pub record HasRead (text : List ℕ) (s : Passed) (place : Place) (count : ℕ) 
   pub left_over : left ≡ Some rest
 
 -- the next line was read: it is legal, or the log is judged, or it can't be
-abbrev pub IsAnswer : List ℕ → Followed → Followed → ℕ → Option (List ℕ) → Result Step CheckFault → Type 0
-IsAnswer text old new count left (Ok (step.On next)) = HasRead text new.past next (count + 1) left
-IsAnswer text old new count left (Ok (step.Judged v)) = Judges old.past.config (Ok v) text left
-IsAnswer text old new count left (Err f) = Judges old.past.config (Err f) text left
+abbrev pub IsNextRead : List ℕ → Followed → Followed → ℕ → Option (List ℕ) → Result Step CheckFault → Type 0
+IsNextRead text old new count left (Ok (step.On next)) = HasRead text new.past next (count + 1) left
+IsNextRead text old new count left (Ok (step.Judged v)) = Judges old.past.config (Ok v) text left
+IsNextRead text old new count left (Err f) = Judges old.past.config (Err f) text left
 
 -- whichever text it was
 abbrev pub AnswersNext : Followed → Place → ℕ → Option (List ℕ) → Followed → Option (List ℕ) → Result Step CheckFault → Type 0
-AnswersNext old place count left new later answer = (text : List ℕ) → HasRead text old.past place count left → IsAnswer text old new count later answer
+AnswersNext old place count left new later answer = (text : List ℕ) → HasRead text old.past place count left → IsNextRead text old new count later answer
 
 -- behind as many lines as a log may have
 abbrev pub AnswersLast : Passed → Place → Option (List ℕ) → Option (List ℕ) → Result Verdict CheckFault → Type 0
@@ -65,9 +65,9 @@ pub record IsOn (old new : Followed) (count : ℕ) : Type 0 where
   pub config : new.past.config ≡ old.past.config
   pub fewer : length new.past.past ≤ count + 1
 
-abbrev pub GoesOn : Followed → Followed → ℕ → Step → Type 0
-GoesOn old new count (step.On next) = IsOn old new count
-GoesOn old new count (step.Judged v) = Unit {0}
+abbrev pub GoesOnReading : Followed → Followed → ℕ → Step → Type 0
+GoesOnReading old new count (step.On next) = IsOn old new count
+GoesOnReading old new count (step.Judged v) = Unit {0}
 
 -- what is said where the log ends at this place
 abbrev pub IsEndOf : Place → ℕ → Verdict → Type 0

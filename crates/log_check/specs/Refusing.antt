@@ -5,7 +5,7 @@ use Rattle.outside_io.specs.LineText.{line_text}
 use Rattle.log_history.specs.Standing.{Passed}
 use Rattle.log_model.specs.Stand.{Stand}
 use Rattle.log_laws.specs.Underway.{Underway, step}
-use Rattle.log_reasons.specs.LineReasons.{IsRefused, LineFails}
+use Rattle.log_reasons.specs.LineReasons.{IsEntryRefused, LineFails}
 use Rattle.log_reasons.specs.declared.line_reason.LineReason.{LineReason}
 use Rattle.log_reasons.specs.declared.line_reason.LineReason.TheVariants as why
 use Rattle.log_check.specs.declared.place.Place.{Place}
@@ -23,7 +23,7 @@ IsNeither known text line reason = (reason ≡ known) ⊎ IsNotIn text line reas
 
 -- the entry isn't a next one, or no step of the rundown
 abbrev pub IsUnstepped : Passed → Underway → Entry → LineReason → Type 0
-IsUnstepped s u e reason = IsRefused s.config s.past e reason ⊎ ((reason ≡ why.NotOfRundown) × (step s.config s.past u e ≡ None))
+IsUnstepped s u e reason = IsEntryRefused s.config s.past e reason ⊎ ((reason ≡ why.NotOfRundown) × (step s.config s.past u e ≡ None))
 
 -- of whatever lines so far say
 abbrev pub FailsAt : Passed → Place → List ℕ → LineReason → Type 0

@@ -9,7 +9,7 @@ use Rattle.vm_journal.specs.declared.entry.What.TheVariants as what
 use Rattle.pager_model.specs.Flat.{FlatState, flat_reply}
 use Rattle.pager_model.specs.Spoken.{ShowsReply, flat_entry}
 use Rattle.pager_model.specs.Pager.{Pager}
-use Rattle.log_flat.specs.Kept.{IsBeside, IsKept, kept}
+use Rattle.log_flat.specs.Kept.{IsBeside, KeepsFlat, kept}
 use Rattle.log_flat.specs.declared.page_bytes.PageBytes.{PageBytes}
 
 -- its reference or its service is well formed
@@ -27,10 +27,10 @@ IsOfProcess config p other = Unit {0}
 -- the bytes are those of the state after it; or it doesn't show that
 abbrev pub ShowsAsFlat : Config → Pager → PageBytes → PageBytes → ℕ → What → Bool → Type 0
 ShowsAsFlat config a old new p w true =
-    (state : FlatState) → IsKept config state (kept old) → IsBeside a state → IsOfProcess config p w → ShowsReply config state p w × IsKept config (flat_entry config state p w) (kept new)
-ShowsAsFlat config a old new p w false = (state : FlatState) → IsKept config state (kept old) → IsBeside a state → ShowsReply config state p w → ⊥
+    (state : FlatState) → KeepsFlat config state (kept old) → IsBeside a state → IsOfProcess config p w → ShowsReply config state p w × KeepsFlat config (flat_entry config state p w) (kept new)
+ShowsAsFlat config a old new p w false = (state : FlatState) → KeepsFlat config state (kept old) → IsBeside a state → ShowsReply config state p w → ⊥
 
 -- an answered reference shows another reply than this one, the flat machine's
 abbrev pub IsRightReply : Config → Pager → PageBytes → ℕ → What → Reply → Type 0
 IsRightReply config a old p w right =
-    (state : FlatState) → IsKept config state (kept old) → IsBeside a state → (r : Ref) × (shown : Reply) × (w ≡ what.Done r shown) × (right ≡ flat_reply config state p r) × (shown ≡ right → ⊥)
+    (state : FlatState) → KeepsFlat config state (kept old) → IsBeside a state → (r : Ref) × (shown : Reply) × (w ≡ what.Done r shown) × (right ≡ flat_reply config state p r) × (shown ≡ right → ⊥)

@@ -7,6 +7,6 @@ abbrev pub Begins : List ℕ → List ℕ → Type 0
 Begins text line = (left : List ℕ) × (text ≡ ended line ++ left)
 
 -- the line is taken, and what is left is left; or the text doesn't begin so, and all of it is left
-abbrev pub IsTaken : List ℕ → List ℕ → Bool → List ℕ → Type 0
-IsTaken old line true new = old ≡ ended line ++ new
-IsTaken old line false new = (Begins old line → ⊥) × (new ≡ old)
+abbrev pub IsLineTaken : List ℕ → List ℕ → Bool → List ℕ → Type 0
+IsLineTaken old line true new = old ≡ ended line ++ new
+IsLineTaken old line false new = (Begins old line → ⊥) × (new ≡ old)

@@ -5,7 +5,7 @@ ghost use Rattle.vm_journal.specs.declared.entry.What.TheVariants.{InOk, OutFail
 ghost use Rattle.pager_model.specs.Flights.{open_flights};
 ghost use Rattle.pager_model.specs.Step.{after_what};
 ghost use Rattle.log_pager.specs.Shown.{shown, with_pager};
-ghost use Rattle.log_check.specs.Changing.{CanChange, is_own};
+ghost use Rattle.log_check.specs.Changing.{AreNamedThere, is_own};
 
 use log_history::{Direction, LogHistory};
 use log_pager::LogPager;
@@ -14,7 +14,7 @@ use vm_types::{NoMemory, Page, Pfn, Proc, Seat};
 
 /// The read that began in the entry of this number lands well.
 fn read_lands(pager: &mut LogPager, past: &LogHistory<'_>, f: Pfn, k: u64) -> Result<(), NoMemory>
-    requires { CanChange past.now.config (shown pager.old) (open_flights past.now.past) 0 (InOk f k) }
+    requires { AreNamedThere past.now.config (shown pager.old) (open_flights past.now.past) 0 (InOk f k) }
     ensures { OnOk result (shown pager.new ≡ with_pager (shown pager.old)
         (after_what past.now.config past.now.past (shown pager.old).pager 0 (InOk f k))) }
 {
@@ -29,7 +29,7 @@ fn read_lands(pager: &mut LogPager, past: &LogHistory<'_>, f: Pfn, k: u64) -> Re
 
 /// The write that began in the entry of this number lands well.
 fn write_lands(pager: &mut LogPager, past: &LogHistory<'_>, f: Pfn, k: u64) -> Result<(), NoMemory>
-    requires { CanChange past.now.config (shown pager.old) (open_flights past.now.past) 0 (OutOk f k) }
+    requires { AreNamedThere past.now.config (shown pager.old) (open_flights past.now.past) 0 (OutOk f k) }
     ensures { OnOk result (shown pager.new ≡ with_pager (shown pager.old)
         (after_what past.now.config past.now.past (shown pager.old).pager 0 (OutOk f k))) }
 {
@@ -48,7 +48,7 @@ fn write_fails(
     c: u64,
     d: u64,
 ) -> Result<(), NoMemory>
-    requires { CanChange past.now.config (shown pager.old) (open_flights past.now.past) 0 (OutFail f k c d) }
+    requires { AreNamedThere past.now.config (shown pager.old) (open_flights past.now.past) 0 (OutFail f k c d) }
     ensures { OnOk result (shown pager.new ≡ with_pager (shown pager.old)
         (after_what past.now.config past.now.past (shown pager.old).pager 0 (OutFail f k c d))) }
 {
@@ -60,7 +60,7 @@ fn write_fails(
 
 /// A frame gives up a page.
 fn reuse(pager: &mut LogPager, past: &LogHistory<'_>, f: Pfn, page: Page) -> Result<(), NoMemory>
-    requires { CanChange past.now.config (shown pager.old) (open_flights past.now.past) 0 (Reuse f page) }
+    requires { AreNamedThere past.now.config (shown pager.old) (open_flights past.now.past) 0 (Reuse f page) }
     ensures { OnOk result (shown pager.new ≡ with_pager (shown pager.old)
         (after_what past.now.config past.now.past (shown pager.old).pager 0 (Reuse f page))) }
 {
@@ -77,7 +77,7 @@ fn change_own(
     own: Proc,
     what: What,
 ) -> Result<(), NoMemory>
-    requires can { CanChange past.now.config (shown pager.old) (open_flights past.now.past) own.0 what }
+    requires can { AreNamedThere past.now.config (shown pager.old) (open_flights past.now.past) own.0 what }
     ensures { OnOk result (is_own what ≡ true → shown pager.new ≡ with_pager (shown pager.old)
         (after_what past.now.config past.now.past (shown pager.old).pager own.0 what)) }
 {
@@ -108,7 +108,7 @@ pub(crate) fn change(
     seat: Seat,
     what: What,
 ) -> Result<(), NoMemory>
-    requires { CanChange past.now.config (shown pager.old) (open_flights past.now.past) seat.0 what }
+    requires { AreNamedThere past.now.config (shown pager.old) (open_flights past.now.past) seat.0 what }
     ensures { OnOk result (shown pager.new ≡ with_pager (shown pager.old)
         (after_what past.now.config past.now.past (shown pager.old).pager seat.0 what)) }
 {

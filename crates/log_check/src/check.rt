@@ -2,9 +2,9 @@ ghost use Rattle.std.specs.Prelude.{◌≡◌, ◌+◌, ◌≤◌, ◌<◌, List
 ghost use Rattle.vm_types.specs.Configuration.{IsWellFormed};
 ghost use Rattle.outside_io.specs.BytesLeft.{bytes_left};
 ghost use Rattle.log_check.specs.Followed.{IsFollowed};
-ghost use Rattle.log_check.specs.Judged.{CountsBy, Judges, KeepsFault};
+ghost use Rattle.log_check.specs.Judged.{CountsByLog, Judges, KeepsFault};
 ghost use Rattle.log_model.specs.Log.{most_lines};
-ghost use Rattle.log_check.specs.Reading.{AnswersLast, AnswersNext, GoesOn, IsBehind, IsEndOf, IsFrontLast, IsFrontNext};
+ghost use Rattle.log_check.specs.Reading.{AnswersLast, AnswersNext, GoesOnReading, IsBehind, IsEndOf, IsFrontLast, IsFrontNext};
 
 use crate::check_fault::CheckFault;
 use crate::followed::Followed;
@@ -63,9 +63,9 @@ fn take_next<S: Source>(
     requires fewer { length followed.old.past.past ≤ count }
     ensures text { AnswersNext followed.old place count (bytes_left S.seen lines.old) followed.new (bytes_left S.seen lines.new) result }
     ensures front { (text : List ℕ) → IsBehind text count (bytes_left S.seen lines.old) → IsFrontNext text count (bytes_left S.seen lines.new) out.new.items result }
-    ensures on { IfOk result (GoesOn followed.old followed.new count) }
+    ensures on { IfOk result (GoesOnReading followed.old followed.new count) }
     ensures known { IsSome (S.seen lines.old.source.now).left → IsSome (S.seen lines.new.source.now).left }
-    ensures faults { CountsBy result (S.seen lines.old.source.now).failures (S.seen lines.new.source.now).failures }
+    ensures faults { CountsByLog result (S.seen lines.old.source.now).failures (S.seen lines.new.source.now).failures }
     ensures faults_later { (S.seen lines.old.source.now).failures ≤ (S.seen lines.new.source.now).failures }
     ensures same_reference { lines.new.source.ghost_name ≡ lines.old.source.ghost_name }
 {
@@ -98,7 +98,7 @@ fn judge_last<S: Source>(
     ensures text { AnswersLast followed.now.past place.now (bytes_left S.seen lines.old) (bytes_left S.seen lines.new) result }
     ensures front { (text : List ℕ) → IsBehind text most_lines (bytes_left S.seen lines.old) → IsFrontLast text out.new.items result }
     ensures known { IsSome (S.seen lines.old.source.now).left → IsSome (S.seen lines.new.source.now).left }
-    ensures faults { CountsBy result (S.seen lines.old.source.now).failures (S.seen lines.new.source.now).failures }
+    ensures faults { CountsByLog result (S.seen lines.old.source.now).failures (S.seen lines.new.source.now).failures }
     ensures faults_later { (S.seen lines.old.source.now).failures ≤ (S.seen lines.new.source.now).failures }
     ensures same_reference { lines.new.source.ghost_name ≡ lines.old.source.ghost_name }
 {
@@ -123,7 +123,7 @@ fn judge<S: Source>(
     ensures text { IfSome (bytes_left S.seen lines.old) (λ text. Judges followed.old.past.config result text (bytes_left S.seen lines.new)) }
     ensures kept { KeepsFault result (bytes_left S.seen lines.old) kept.new.items }
     ensures known { IsSome (S.seen lines.old.source.now).left → IsSome (S.seen lines.new.source.now).left }
-    ensures faults { CountsBy result (S.seen lines.old.source.now).failures (S.seen lines.new.source.now).failures }
+    ensures faults { CountsByLog result (S.seen lines.old.source.now).failures (S.seen lines.new.source.now).failures }
     ensures faults_later { (S.seen lines.old.source.now).failures ≤ (S.seen lines.new.source.now).failures }
     ensures same_reference { lines.new.source.ghost_name ≡ lines.old.source.ghost_name }
 {
@@ -162,7 +162,7 @@ pub fn check_log<S: Source>(
     ensures text { IfSome (bytes_left S.seen lines.old) (λ text. Judges config.now result text (bytes_left S.seen lines.new)) }
     ensures kept { KeepsFault result (bytes_left S.seen lines.old) kept.new.items }
     ensures known { IsSome (S.seen lines.old.source.now).left → IsSome (S.seen lines.new.source.now).left }
-    ensures faults { CountsBy result (S.seen lines.old.source.now).failures (S.seen lines.new.source.now).failures }
+    ensures faults { CountsByLog result (S.seen lines.old.source.now).failures (S.seen lines.new.source.now).failures }
     ensures faults_later { (S.seen lines.old.source.now).failures ≤ (S.seen lines.new.source.now).failures }
     ensures same_reference { lines.new.source.ghost_name ≡ lines.old.source.ghost_name }
 {

@@ -1,6 +1,6 @@
 ghost use Rattle.std.specs.Prelude.{◌≡◌, ◌↔◌, [], IsTrue, slice_index_or};
 ghost use Rattle.outside_io.specs.LineText.{line_text, lines_of};
-ghost use Rattle.log_check.specs.Texts.{Begins, IsTaken};
+ghost use Rattle.log_check.specs.Texts.{Begins, IsLineTaken};
 
 use arrayvec::ArrayVec;
 use outside_io::keep_front;
@@ -64,7 +64,7 @@ impl Expected {
     /// Takes a line with the byte 10 behind it, if what is left begins so, and says whether it does;
     /// else nothing is changed.
     pub(crate) fn take(&mut self, line: &[u8]) -> bool
-        ensures { IsTaken self.old line.now result self.new }
+        ensures { IsLineTaken self.old line.now result self.new }
     {
         if begins(&self.text[self.next..], line) {
             self.next += line.len() + 1;

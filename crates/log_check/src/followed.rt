@@ -1,7 +1,7 @@
 ghost use Rattle.std.specs.Prelude.{◌≡◌, ◌+◌, ◌<◌, ◌^◌, [], IfOk, IfSome, OnOk, is_none, length};
 ghost use Rattle.vm_types.specs.Configuration.{IsWellFormed};
 ghost use Rattle.vm_journal.specs.HasLine.{HasLine};
-ghost use Rattle.log_reasons.specs.LineReasons.{IsRefused};
+ghost use Rattle.log_reasons.specs.LineReasons.{IsEntryRefused};
 ghost use Rattle.log_pager.specs.Shown.{shown};
 ghost use Rattle.log_check.specs.Follows.{Follows};
 
@@ -66,7 +66,7 @@ impl<'a> Followed<'a> {
         requires followed { IsFollowed self.old }
         requires few { length self.old.past.past + 1 < 2 ^ 48 }
         ensures entered { IfOk result (λ o. IsEntered self.old e self.new (is_none o)) }
-        ensures refused { IfOk result (λ o. IfSome o (IsRefused self.old.past.config self.old.past.past e)) }
+        ensures refused { IfOk result (λ o. IfSome o (IsEntryRefused self.old.past.config self.old.past.past e)) }
     {
         if let Some(reason) = fails(&self.past, &self.pager, e) {
             return Ok(Some(LineReason::NotLegal(reason)));

@@ -1,6 +1,6 @@
 ghost use Rattle.std.specs.Prelude.{◌≡◌, ◌⊎◌, ◌+◌, ◌<◌, ◌^◌, ◌≢◌, All, IfErr, IfOk, length};
 ghost use Rattle.vm_journal.specs.HasLine.{HasLine};
-ghost use Rattle.log_reasons.specs.LineReasons.{IsRefused};
+ghost use Rattle.log_reasons.specs.LineReasons.{IsEntryRefused};
 ghost use Rattle.log_check.specs.declared.place.Place.TheVariants.{Entries, Rundown};
 ghost use Rattle.log_check.specs.Followed.{IsFollowed};
 ghost use Rattle.log_check.specs.Leading.{Leads, RundownLeads};
@@ -45,7 +45,7 @@ fn take_entry(
 fn unstepped(followed: &Followed<'_>, e: Entry) -> LineReason
     requires line { HasLine (length followed.now.past.config.procs) followed.now.past.config.sections e }
     requires followed { IsFollowed followed.now }
-    ensures { IsRefused followed.now.past.config followed.now.past.past e result ⊎ (result ≡ LineReason.NotOfRundown) }
+    ensures { IsEntryRefused followed.now.past.config followed.now.past.past e result ⊎ (result ≡ LineReason.NotOfRundown) }
 {
     match fails(&followed.past, &followed.pager, e) {
         None => LineReason::NotOfRundown,

@@ -18,10 +18,10 @@ use Rattle.pager_model.specs.FlatService.{flat_service, is_private_in}
 use Rattle.pager_model.specs.Maps.{Map, is_paged, page_number}
 use Rattle.pager_model.specs.Sets.{at_page, has_page}
 use Rattle.pager_rules.proofs.Basics.{pages_equal}
-use Rattle.log_flat.specs.Kept.{IsKept}
+use Rattle.log_flat.specs.Kept.{KeepsFlat}
 use Rattle.log_flat.specs.Slots.{bytes_or}
 
-module _ (config : Config) (state : FlatState) (old new : Page → Option (List ℕ)) (p address pages : ℕ) (h : IsKept config state old)
+module _ (config : Config) (state : FlatState) (old new : Page → Option (List ℕ)) (p address pages : ℕ) (h : KeepsFlat config state old)
     (is : (page : Page) → new page ≡ cond (is_private_in p address pages page) None (old page)) where
   abbrev stays : Page → Bool
   stays page = not (is_private_in p address pages page)
@@ -57,16 +57,16 @@ module _ (config : Config) (state : FlatState) (old new : Page → Option (List 
       go true own = absurd (true≢false (sym (ap (λ (c : Bool). c && true) (own_page q own)) ∙ now true own))
       go false other = h.stored q (now false other) ∙ ap (bytes_or (shared_bytes config q)) (sym (is q ∙ ap (λ (b : Bool). cond b None (old q)) other))
 
-  pub kept_forgotten : (map : Map) → IsKept config (forgotten map) new
+  pub kept_forgotten : (map : Map) → KeepsFlat config (forgotten map) new
   kept_forgotten map = record { touched = touched_is; stored = stored_is map }
 
 -- only the maps have changed
-pub kept_remapped : (config : Config) (state : FlatState) (kept : Page → Option (List ℕ)) (map : Map) → IsKept config state kept → IsKept config (record { map = map; touched = state.touched; stored = state.stored }) kept
+pub kept_remapped : (config : Config) (state : FlatState) (kept : Page → Option (List ℕ)) (map : Map) → KeepsFlat config state kept → KeepsFlat config (record { map = map; touched = state.touched; stored = state.stored }) kept
 kept_remapped config state kept map h = record { touched = h.touched; stored = h.stored }
 
 -- a service that forgets no page
-pub kept_served : (config : Config) (state : FlatState) (kept : Page → Option (List ℕ)) (p : ℕ) (s : Service) → IsKept config state kept → ((at : Addr) (pages : ℕ) → s ≡ service.Delete at pages → ⊥)
-    → IsKept config (flat_service state p s Good) kept
+pub kept_served : (config : Config) (state : FlatState) (kept : Page → Option (List ℕ)) (p : ℕ) (s : Service) → KeepsFlat config state kept → ((at : Addr) (pages : ℕ) → s ≡ service.Delete at pages → ⊥)
+    → KeepsFlat config (flat_service state p s Good) kept
 kept_served config state kept p (service.Create at pages prot) h other = record { touched = h.touched; stored = h.stored }
 kept_served config state kept p (service.Delete at pages) h other = absurd (other at pages refl)
 kept_served config state kept p (service.Protect at pages prot) h other = record { touched = h.touched; stored = h.stored }

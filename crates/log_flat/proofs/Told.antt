@@ -18,7 +18,7 @@ use Rattle.pager_model.specs.Maps.{Mapped, first_bytes, is_paged, page_behind, p
 use Rattle.pager_model.specs.Pager.{Pager}
 use Rattle.pager_model.specs.Sets.{at_page, has_page, with_page}
 use Rattle.pager_rules.proofs.Basics.{has_page_first, pages_equal, same_from_equal}
-use Rattle.log_flat.specs.Kept.{IsBeside, IsKept, IsTold}
+use Rattle.log_flat.specs.Kept.{IsBeside, KeepsFlat, IsTold}
 use Rattle.log_flat.specs.Slots.{bytes_or, found_in}
 
 -- ---- the touched pages
@@ -58,7 +58,7 @@ behind_shared config p v (origin.Section s i) shared = go (shared_of (slice_get 
     go false e = absurd (true≢false e)
 
 -- ---- one page more
-module _ (config : Config) (state : FlatState) (kept : Page → Option (List ℕ)) (h : IsKept config state kept) (page : Page) where
+module _ (config : Config) (state : FlatState) (kept : Page → Option (List ℕ)) (h : KeepsFlat config state kept) (page : Page) where
   untouched_some : (bytes : List ℕ) → kept page ≡ Some bytes → is_untouched config state page ≡ false
   untouched_some bytes is = ap (λ (b : Bool). is_paged config page && not b) (h.touched page ∙ ap (λ (o : Option (List ℕ)). is_paged config page && is_some o) is) ∙ go (is_paged config page)
     where
@@ -90,7 +90,7 @@ module _ (config : Config) (state : FlatState) (kept : Page → Option (List ℕ
               h.stored page (ap (λ (b : Bool). b && not (has_page state.touched page)) shared) ∙ (ap (bytes_or (shared_bytes config page)) is
               ∙ subst (λ (x : Page). is_paged config x ≡ false → shared_bytes config x ≡ first_bytes config origin) behind (behind_shared config p v origin) shared)
 
-  pub kept_with : (bytes : List ℕ) → IsKept config (flat_with config state page bytes) (at_page kept page (Some bytes))
+  pub kept_with : (bytes : List ℕ) → KeepsFlat config (flat_with config state page bytes) (at_page kept page (Some bytes))
   kept_with bytes =
       record {
         touched = λ q. has q (same_page page q) refl;
@@ -112,15 +112,15 @@ module _ (config : Config) (state : FlatState) (kept : Page → Option (List ℕ
       at q false apart u = h.stored q (ap (λ (b : Bool). is_paged config q && not b) (sym (touched_other config state.touched page q apart)) ∙ u)
 
 -- ---- by the refusal
-pub told_refused : (config : Config) (state : FlatState) (kept : Page → Option (List ℕ)) (p : ℕ) (r : Ref) (reason : Why) → flat_refusal config state p r ≡ Some reason → IsKept config state kept
+pub told_refused : (config : Config) (state : FlatState) (kept : Page → Option (List ℕ)) (p : ℕ) (r : Ref) (reason : Why) → flat_refusal config state p r ≡ Some reason → KeepsFlat config state kept
     → IsTold config state kept p r (reply.Refused reason)
 told_refused config state kept p r reason refused h = (
   sym (ap (λ (o : Option Why). reply_unless o (reply_from r.op (found_at config state p r (mapping_of state p r)) (offset_in_page r))) refused),
-  subst (λ (s : FlatState). IsKept config s kept) (sym (ap (λ (o : Option Why). next_unless o state (answered_at config state p r (mapping_of state p r))) refused)) h,
+  subst (λ (s : FlatState). KeepsFlat config s kept) (sym (ap (λ (o : Option Why). next_unless o state (answered_at config state p r (mapping_of state p r))) refused)) h,
 )
 
 pub told_answered : (config : Config) (state : FlatState) (old new : Page → Option (List ℕ)) (p : ℕ) (r : Ref) (m : Mapped) (page : Page) (bytes : List ℕ) (answer : Reply)
-    → IsKept config state old → mapping_of state p r ≡ Some m → flat_refusal config state p r ≡ None
+    → KeepsFlat config state old → mapping_of state p r ≡ Some m → flat_refusal config state p r ≡ None
     → page ≡ page_behind config p (page_number (r.addr).0) m.origin → bytes ≡ found_in config m.origin (old page)
     → answer ≡ reply_from r.op bytes (offset_in_page r) → new ≡ at_page old page (Some (bytes_after r.op bytes (offset_in_page r)))
     → IsTold config state new p r answer
@@ -128,9 +128,9 @@ told_answered config state old new p r m page bytes answer h mapped unrefused be
   same ∙ (ap (λ (bs : List ℕ). reply_from r.op bs (offset_in_page r)) there
       ∙ sym (ap (λ (o : Option Why). reply_unless o (reply_from r.op (found_at config state p r (mapping_of state p r)) (offset_in_page r))) unrefused
       ∙ ap (λ (o : Option Mapped). reply_from r.op (found_at config state p r o) (offset_in_page r)) mapped)),
-  subst (λ (s : FlatState). IsKept config s new)
+  subst (λ (s : FlatState). KeepsFlat config s new)
       (sym (ap (λ (o : Option Why). next_unless o state (answered_at config state p r (mapping_of state p r))) unrefused ∙ (ap (answered_at config state p r) mapped ∙ next)))
-      (subst (IsKept config (flat_with config state page (bytes_after r.op bytes (offset_in_page r)))) (sym table) (kept_with config state old h page (bytes_after r.op bytes (offset_in_page r)))),
+      (subst (KeepsFlat config (flat_with config state page (bytes_after r.op bytes (offset_in_page r)))) (sym table) (kept_with config state old h page (bytes_after r.op bytes (offset_in_page r)))),
 )
   where
     there : bytes ≡ found_at config state p r (Some m)
@@ -143,7 +143,7 @@ told_answered config state old new p r m page bytes answer h mapped unrefused be
 
 -- by what the reference gave, if memory didn't run out
 pub told_result : (config : Config) (state : FlatState) (old new : Page → Option (List ℕ)) (p : ℕ) (r : Ref) (m : Mapped) (page : Page) (bytes : List ℕ) (result : Result Reply NoMemory)
-    → IsKept config state old → mapping_of state p r ≡ Some m → flat_refusal config state p r ≡ None
+    → KeepsFlat config state old → mapping_of state p r ≡ Some m → flat_refusal config state p r ≡ None
     → page ≡ page_behind config p (page_number (r.addr).0) m.origin → bytes ≡ found_in config m.origin (old page)
     → IfOk result (λ answer. answer ≡ reply_from r.op bytes (offset_in_page r)) → OnOk result (new ≡ at_page old page (Some (bytes_after r.op bytes (offset_in_page r))))
     → MatchResult result (λ answer. IsTold config state new p r answer) (λ none. Unit {0})
@@ -155,7 +155,7 @@ pub beside : (a : Pager) (state : FlatState) → IsBeside a state → record { m
 beside a state is = λ i. record { map = is.maps i; touched = is.touched i; stored = state.stored }
 
 -- before the first reference
-pub first_kept : (config : Config) (kept : Page → Option (List ℕ)) → ((q : Page) → kept q ≡ None) → IsKept config (flat_start config) kept
+pub first_kept : (config : Config) (kept : Page → Option (List ℕ)) → ((q : Page) → kept q ≡ None) → KeepsFlat config (flat_start config) kept
 first_kept config kept none =
     record {
       touched = λ q. sym (ap (λ (o : Option (List ℕ)). is_paged config q && is_some o) (none q) ∙ and_no (is_paged config q));

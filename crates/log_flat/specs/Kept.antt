@@ -21,7 +21,7 @@ kept b = bytes_kept b.pages
 
 -- of a state: the touched pages are the charged pages whose bytes are kept, and the bytes of an uncharged or
 -- touched page are those that are kept or, where none are, those that the configuration gives
-pub record IsKept (config : Config) (state : FlatState) (bytes : Page → Option (List ℕ)) : Type 0 where
+pub record KeepsFlat (config : Config) (state : FlatState) (bytes : Page → Option (List ℕ)) : Type 0 where
   pub touched : (page : Page) → has_page state.touched page ≡ (is_paged config page && is_some (bytes page))
   pub stored : (page : Page) → is_untouched config state page ≡ false → state.stored page ≡ bytes_or (shared_bytes config page) (bytes page)
 
@@ -32,18 +32,18 @@ pub record IsBeside (a : Pager) (state : FlatState) : Type 0 where
 
 -- the reply is the flat reply, and the bytes are those of the next state
 abbrev pub IsTold : Config → FlatState → (Page → Option (List ℕ)) → ℕ → Ref → Reply → Type 0
-IsTold config state bytes p r reply = (reply ≡ flat_reply config state p r) × IsKept config (flat_next config state p r) bytes
+IsTold config state bytes p r reply = (reply ≡ flat_reply config state p r) × KeepsFlat config (flat_next config state p r) bytes
 
-abbrev pub IsAnswer : Config → FlatState → PageBytes → ℕ → Ref → Result Reply NoMemory → Type 0
-IsAnswer config state new p r result = MatchResult result (λ reply. IsTold config state (kept new) p r reply) (λ none. Unit {0})
+abbrev pub IsKeptAnswer : Config → FlatState → PageBytes → ℕ → Ref → Result Reply NoMemory → Type 0
+IsKeptAnswer config state new p r result = MatchResult result (λ reply. IsTold config state (kept new) p r reply) (λ none. Unit {0})
 
 -- whichever state it was
 abbrev pub AnswersMapped : Config → PageBytes → PageBytes → ℕ → Ref → Mapped → Result Reply NoMemory → Type 0
 AnswersMapped config old new p r m result =
-    (state : FlatState) → IsKept config state (kept old) → mapping_of state p r ≡ Some m → flat_refusal config state p r ≡ None → IsAnswer config state new p r result
+    (state : FlatState) → KeepsFlat config state (kept old) → mapping_of state p r ≡ Some m → flat_refusal config state p r ≡ None → IsKeptAnswer config state new p r result
 
 abbrev pub AnswersAsFlat : Config → Pager → PageBytes → PageBytes → ℕ → Ref → Result Reply NoMemory → Type 0
-AnswersAsFlat config a old new p r result = (state : FlatState) → IsKept config state (kept old) → IsBeside a state → IsAnswer config state new p r result
+AnswersAsFlat config a old new p r result = (state : FlatState) → KeepsFlat config state (kept old) → IsBeside a state → IsKeptAnswer config state new p r result
 
 -- no bytes of a private page of the range are kept, and those of all others stay
 abbrev pub IsForgotten : ℕ → ℕ → ℕ → PageBytes → PageBytes → Type 0
@@ -51,4 +51,4 @@ IsForgotten p address pages old new = (page : Page) → kept new page ≡ (if is
 
 -- of whichever configuration and state they were, they are of that state changed by a service that answers Good
 abbrev pub ChangesAsFlat : PageBytes → PageBytes → ℕ → Service → Type 0
-ChangesAsFlat old new p s = (config : Config) (state : FlatState) → IsKept config state (kept old) → IsKept config (flat_service state p s Good) (kept new)
+ChangesAsFlat old new p s = (config : Config) (state : FlatState) → KeepsFlat config state (kept old) → KeepsFlat config (flat_service state p s Good) (kept new)

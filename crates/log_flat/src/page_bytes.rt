@@ -4,7 +4,7 @@ ghost use Rattle.vm_types.specs.WellFormed.{IsRange, IsWellFormedReference, IsWe
 ghost use Rattle.pager_model.specs.Flat.{flat_start};
 ghost use Rattle.pager_model.specs.OfConfig.{IsOrigin, MapsRight};
 ghost use Rattle.log_pager.specs.Shown.{shown};
-ghost use Rattle.log_flat.specs.Kept.{AnswersAsFlat, AnswersMapped, ChangesAsFlat, IsForgotten, IsKept, kept};
+ghost use Rattle.log_flat.specs.Kept.{AnswersAsFlat, AnswersMapped, ChangesAsFlat, IsForgotten, KeepsFlat, kept};
 
 use crate::kept_pages::KeptPages;
 use log_pager::LogPager;
@@ -26,7 +26,7 @@ impl PageBytes {
     /// `NoMemory` if out of memory.
     pub fn new(alloc: Global, config: &Config) -> Result<PageBytes, NoMemory>
         requires { IsWellFormed config.now }
-        ensures { IfOk result (λ b. IsKept config.now (flat_start config.now) (kept b)) }
+        ensures { IfOk result (λ b. KeepsFlat config.now (flat_start config.now) (kept b)) }
     {
         let procs = config.procs.items().len();
         Ok(PageBytes {

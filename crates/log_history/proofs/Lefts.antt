@@ -8,7 +8,7 @@ use Rattle.vm_types.specs.declared.config.Task.{Task}
 use Rattle.vm_types.specs.declared.service.Request.{Request}
 use Rattle.pager_model.specs.Order.{requests_of}
 use Rattle.pager_rules.proofs.Lists.{slot_unchanged}
-use Rattle.log_history.specs.Lefts.{AreAfter, AreLinked, AreNext, AreOf, ArePlaces, IsFirstFrom, IsPlace, IsTaken, Left, left_of, requests_from}
+use Rattle.log_history.specs.Lefts.{AreAfter, AreLinked, AreNext, AreOf, ArePlaces, IsFirstFrom, IsTaskPlace, IsRequestTaken, Left, left_of, requests_from}
 
 -- ---- lists
 pub same_Some : {X : Type 0} (x y : X) → Some x ≡ Some y → x ≡ y
@@ -150,7 +150,7 @@ pub left_here : (p i : ℕ) (body : List Task) (next after : List ℕ) (task : T
 left_here p i body next after task places is there = ap (requests_from p body) is ∙ requests_here p body i task there ((places.places p i is).own task there)
 
 -- none was left, so none is taken
-pub none_taken : (p : ℕ) (l : Left) → left_of l p ≡ [] → IsTaken p l l
+pub none_taken : (p : ℕ) (l : Left) → left_of l p ≡ [] → IsRequestTaken p l l
 none_taken p l none q = by (nat_eq p q) refl
   where
     by : (b : Bool) → nat_eq p q ≡ b → left_of l q ≡ cond b (drop 1 (left_of l q)) (left_of l q)
@@ -164,19 +164,19 @@ pub taken_places : (p i j : ℕ) (body : List Task) (next after : List ℕ) (tas
     → ArePlaces body (slice_set next p j) after
 taken_places p i j body next after task all is there leads = record { count = all.count; places = places; afters = all.afters }
   where
-    places : (q k : ℕ) → slice_get (slice_set next p j) q ≡ Some k → IsPlace body q k
+    places : (q k : ℕ) → slice_get (slice_set next p j) q ≡ Some k → IsTaskPlace body q k
     places q k at = by (nat_eq p q) refl
       where
-        by : (b : Bool) → nat_eq p q ≡ b → IsPlace body q k
+        by : (b : Bool) → nat_eq p q ≡ b → IsTaskPlace body q k
         by true same =
             let here : p ≡ q = eqb-true p q same in
             let now : j ≡ k = same_Some j k (sym (slot_set next p j (slice_get_within next p i is)) ∙ subst (λ (r : ℕ). slice_get (slice_set next p j) r ≡ Some k) (sym here) at) in
             let own : (task.proc).0 ≡ q = (all.places p i is).own task there ∙ here in
-            subst (λ (r : ℕ). IsPlace body r k) own (subst (λ (m : ℕ). IsPlace body (task.proc).0 m) now (all.afters i j task (omega arith) there leads).place)
+            subst (λ (r : ℕ). IsTaskPlace body r k) own (subst (λ (m : ℕ). IsTaskPlace body (task.proc).0 m) now (all.afters i j task (omega arith) there leads).place)
         by false apart = all.places q k (sym (slot_unchanged next p q j (eqb-false p q apart)) ∙ at)
 
 pub one_taken : (p i j : ℕ) (body : List Task) (next after : List ℕ) (task : Task) → ArePlaces body next after → slice_get next p ≡ Some i → slice_get body i ≡ Some task → slice_get after i ≡ Some j
-    → IsTaken p (record { body = body; next = next }) (record { body = body; next = slice_set next p j })
+    → IsRequestTaken p (record { body = body; next = next }) (record { body = body; next = slice_set next p j })
 one_taken p i j body next after task all is there leads q = by (nat_eq p q) refl
   where
     old : Left
@@ -222,7 +222,7 @@ places_after p i j body next after all is below leads =
     place_cases (ArePlaces body (slice_set next p j) after) body i (λ task there. taken_places p i j body next after task all is there leads) (λ past. absurd (omega (arith, below, past)))
 
 pub taken_after : (p i j : ℕ) (body : List Task) (next after : List ℕ) → ArePlaces body next after → slice_get next p ≡ Some i → i < length body → slice_get after i ≡ Some j
-    → IsTaken p (record { body = body; next = next }) (record { body = body; next = slice_set next p j })
+    → IsRequestTaken p (record { body = body; next = next }) (record { body = body; next = slice_set next p j })
 taken_after p i j body next after all is below leads =
-    place_cases (IsTaken p (record { body = body; next = next }) (record { body = body; next = slice_set next p j })) body i
+    place_cases (IsRequestTaken p (record { body = body; next = next }) (record { body = body; next = slice_set next p j })) body i
     (λ task there. one_taken p i j body next after task all is there leads) (λ past. absurd (omega (arith, below, past)))

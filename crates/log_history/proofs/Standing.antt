@@ -21,22 +21,22 @@ use Rattle.pager_model.specs.Transfers.{starts}
 use Rattle.pager_rules.proofs.Lists.{slot_unchanged}
 use Rattle.pager_laws.proofs.InFailKept.{begun_open}
 use Rattle.log_history.specs.declared.count.Count.{Count}
-use Rattle.log_history.specs.Carriers.{AreCarriers, IsSmall}
+use Rattle.log_history.specs.Carriers.{AreCarriers, HasSmallCounts}
 use Rattle.log_history.specs.Counting.{count_of}
 use Rattle.log_history.specs.Landed.{failed_read_in}
-use Rattle.log_history.specs.Lefts.{AreOf, IsTaken, Left, left_of}
+use Rattle.log_history.specs.Lefts.{AreOf, IsRequestTaken, Left, left_of}
 use Rattle.log_history.specs.Standing.{AreLeft, FailsOpen, StandsFor}
 use Rattle.log_history.proofs.Lefts.{same_Some, slot_set}
 
 -- ---- carriers
-few_carried : (n : ℕ) (busy : Bool) (c : Carrying) (x : Flight) → IsSmall n c → IsSmall (n + 1) (carried busy c (Some x))
+few_carried : (n : ℕ) (busy : Bool) (c : Carrying) (x : Flight) → HasSmallCounts n c → HasSmallCounts (n + 1) (carried busy c (Some x))
 few_carried n true c x few = record { begun = omega (arith, few.begun); landed = omega (arith, few.landed); failed = omega (arith, few.failed) }
 few_carried n false c x few = record { begun = omega (arith, few.begun); landed = omega (arith, few.begun); failed = omega (arith, few.begun) }
 
-few_same : (n : ℕ) (c : Carrying) → IsSmall n c → IsSmall (n + 1) c
+few_same : (n : ℕ) (c : Carrying) → HasSmallCounts n c → HasSmallCounts (n + 1) c
 few_same n c few = record { begun = omega (arith, few.begun); landed = omega (arith, few.landed); failed = omega (arith, few.failed) }
 
-few_with : (n number seat : ℕ) (busy : Bool) (w : What) (c : Carrying) → IsSmall n c → IsSmall (n + 1) (carrying_with number seat busy w c)
+few_with : (n number seat : ℕ) (busy : Bool) (w : What) (c : Carrying) → HasSmallCounts n c → HasSmallCounts (n + 1) (carrying_with number seat busy w c)
 few_with n number seat busy (what.In f b r) c few = few_carried n busy c _ few
 few_with n number seat busy (what.Out f b) c few = few_carried n busy c _ few
 few_with n number seat busy (what.InOk f k) c few = record { begun = omega (arith, few.begun); landed = omega (arith, few.landed); failed = omega (arith, few.failed) }
@@ -49,21 +49,21 @@ few_with n number seat busy (what.Served s reply) c few = record { begun = omega
 few_with n number seat busy other c few = few_same n c few
 
 -- a carrier has counted no further than the entries
-carrying_few : (seat : ℕ) (past : List Entry) → IsSmall (length past + 1) (carrying seat past)
+carrying_few : (seat : ℕ) (past : List Entry) → HasSmallCounts (length past + 1) (carrying seat past)
 carrying_few seat [] = record { begun = omega arith; landed = omega arith; failed = omega arith }
-carrying_few seat (e ∷ past) = subst (λ (n : ℕ). IsSmall n (carrying seat (e ∷ past))) (omega arith) (by (nat_eq (e.seat).0 seat) (carrying_few seat past))
+carrying_few seat (e ∷ past) = subst (λ (n : ℕ). HasSmallCounts n (carrying seat (e ∷ past))) (omega arith) (by (nat_eq (e.seat).0 seat) (carrying_few seat past))
   where
-    by : (b : Bool) → IsSmall (length past + 1) (carrying seat past)
-        → IsSmall (length past + 1 + 1) (cond b (carrying_with (length past + 1) seat (is_busy seat (open_flights past)) e.what (carrying seat past)) (carrying seat past))
+    by : (b : Bool) → HasSmallCounts (length past + 1) (carrying seat past)
+        → HasSmallCounts (length past + 1 + 1) (cond b (carrying_with (length past + 1) seat (is_busy seat (open_flights past)) e.what (carrying seat past)) (carrying seat past))
     by true few = few_with (length past + 1) (length past + 1) seat (is_busy seat (open_flights past)) e.what (carrying seat past) few
     by false few = few_same (length past + 1) (carrying seat past) few
 
 pub row_small : (past : List Entry) (n seat most : ℕ) (rows : List Carrying) (c : Carrying) → AreCarriers past n rows → seat < n → length past + 1 ≤ most
-    → slice_get rows seat ≡ Some c → IsSmall most c
+    → slice_get rows seat ≡ Some c → HasSmallCounts most c
 row_small past n seat most rows c are within above is =
     let few = carrying_few seat past in
     let same : carrying seat past ≡ c = cc (are.each seat within, is) in
-    subst (IsSmall most) same (record { begun = omega (arith, few.begun, above); landed = omega (arith, few.landed, above); failed = omega (arith, few.failed, above) })
+    subst (HasSmallCounts most) same (record { begun = omega (arith, few.begun, above); landed = omega (arith, few.landed, above); failed = omega (arith, few.failed, above) })
 
 pub carriers_more : (past : List Entry) (e : Entry) (n number : ℕ) (busy : Bool) (rows new : List Carrying) → AreCarriers past n rows → (e.seat).0 < n
     → number ≡ length past + 1 → busy ≡ is_busy (e.seat).0 (open_flights past)
@@ -127,7 +127,7 @@ pub asks_next : (past : List Entry) (p : ℕ) (r : Request) (left rest all : Lis
 asks_next past p r left rest all old new = cancel (answered p past) left (r ∷ rest) (old ∙ sym (sym (append_assoc (answered p past) (r ∷ []) rest) ∙ new))
 
 pub left_more : (config : Config) (past : List Entry) (e : Entry) (old new : Left) → AreLeft config past old
-    → (is_some (request_of e.what) ≡ true → IsTaken (e.seat).0 old new) → (is_some (request_of e.what) ≡ false → new ≡ old)
+    → (is_some (request_of e.what) ≡ true → IsRequestTaken (e.seat).0 old new) → (is_some (request_of e.what) ≡ false → new ≡ old)
     → AreLeft config (e ∷ past) new
 left_more config past e old new are spoken quiet order p = by (request_of e.what) refl
   where
@@ -234,7 +234,7 @@ pub stands_after : (config : Config) (past : List Entry) (e : Entry) (count : �
     → busy ≡ is_busy (e.seat).0 flights → failed_new ≡ failed_read_in e.what flights → flights_new ≡ flights_with (count + 1) (e.seat).0 e.what flights
     → ((c : Carrying) → slice_get carriers (e.seat).0 ≡ Some c → carriers_new ≡ slice_set carriers (e.seat).0 (carrying_with (count + 1) (e.seat).0 busy e.what c))
     → ((before : List Entry) → flights ≡ open_flights before → (b : BlockId) → count_of b counts_new ≡ with_count b before e.what (count_of b counts))
-    → (is_some (request_of e.what) ≡ true → IsTaken (e.seat).0 left left_new) → (is_some (request_of e.what) ≡ false → left_new ≡ left)
+    → (is_some (request_of e.what) ≡ true → IsRequestTaken (e.seat).0 left left_new) → (is_some (request_of e.what) ≡ false → left_new ≡ left)
     → StandsFor config (e ∷ past) (count + 1) flights_new failed_new carriers_new counts_new left_new
 stands_after config past e count busy flights flights_new failed failed_new carriers carriers_new counts counts_new left left_new
     old within fails busy_is failed_is flights_is carriers_are counts_are spoken quiet =

@@ -4,7 +4,7 @@ use Rattle.vm_journal.specs.declared.entry.Entry.{Entry}
 use Rattle.pager_model.specs.Carrier.{Carrying, carrying}
 
 -- it has counted no further than this
-pub record IsSmall (most : ℕ) (c : Carrying) : Type 0 where
+pub record HasSmallCounts (most : ℕ) (c : Carrying) : Type 0 where
   pub begun : c.begun < most
   pub landed : c.landed < most
   pub failed : c.failed < most

@@ -19,13 +19,13 @@ abbrev pub left_of : Left → ℕ → List Request
 left_of l p = requests_from p l.body (slice_get l.next p)
 
 -- the place is the body's end, or that of a task of the process
-pub record IsPlace (body : List Task) (p i : ℕ) : Type 0 where
+pub record IsTaskPlace (body : List Task) (p i : ℕ) : Type 0 where
   pub within : i ≤ length body
   pub own : (task : Task) → slice_get body i ≡ Some task → (task.proc).0 ≡ p
 
 -- it is the process's first place from t on
 pub record IsFirstFrom (body : List Task) (p t i : ℕ) : Type 0 where
-  pub place : IsPlace body p i
+  pub place : IsTaskPlace body p i
   pub first : requests_of p (drop i body) ≡ requests_of p (drop t body)
 
 -- for each task from t on, the place of the same process's next one
@@ -45,7 +45,7 @@ pub record AreLinked (body : List Task) (t : ℕ) (next after : List ℕ) : Type
 -- each place is one of its process, and each task leads to the same process's next one
 pub record ArePlaces (body : List Task) (next after : List ℕ) : Type 0 where
   pub count : length after ≡ length body
-  pub places : (p i : ℕ) → slice_get next p ≡ Some i → IsPlace body p i
+  pub places : (p i : ℕ) → slice_get next p ≡ Some i → IsTaskPlace body p i
   pub afters : AreAfter body 0 after
 
 -- each task is one of so many processes
@@ -53,5 +53,5 @@ abbrev pub AreOf : List Task → ℕ → Type 0
 AreOf body procs = (t : ℕ) (task : Task) → slice_get body t ≡ Some task → (task.proc).0 < procs
 
 -- one process has one request fewer left, if it has any
-abbrev pub IsTaken : ℕ → Left → Left → Type 0
-IsTaken p old new = (q : ℕ) → left_of new q ≡ (if nat_eq p q then drop 1 (left_of old q) else left_of old q)
+abbrev pub IsRequestTaken : ℕ → Left → Left → Type 0
+IsRequestTaken p old new = (q : ℕ) → left_of new q ≡ (if nat_eq p q then drop 1 (left_of old q) else left_of old q)

@@ -27,8 +27,8 @@ FailsOpen (what.InFail f k c d) flights = IsSome (find (starts k) flights)
 FailsOpen other flights = Unit {0}
 
 -- the counts are those of the failed blocks
-abbrev pub AreCounts : List Entry → List Count → Type 0
-AreCounts past counts = (b : BlockId) → count_of b counts ≡ last_count b past
+abbrev pub AreFailCounts : List Entry → List Count → Type 0
+AreFailCounts past counts = (b : BlockId) → count_of b counts ≡ last_count b past
 
 -- what is left is what wasn't answered, as long as all was answered in order
 abbrev pub AreLeft : Config → List Entry → Left → Type 0
@@ -42,5 +42,5 @@ pub record StandsFor (config : Config) (past : List Entry) (count : ℕ) (flight
   pub failure : failed ≡ failed_flight past
   pub waits : is_some failed ≡ awaits_reuse past
   pub rows : AreCarriers past (length config.procs + 2) carriers
-  pub faults : AreCounts past counts
+  pub faults : AreFailCounts past counts
   pub requests : AreLeft config past left

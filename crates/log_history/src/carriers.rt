@@ -2,7 +2,7 @@
 
 ghost use Rattle.std.specs.Prelude.{◌≡◌, ◌<◌, ◌^◌, ℕ, Some, length, replicate, slice_get, slice_set, IfOk};
 ghost use Rattle.pager_model.specs.Carrier.{Carrying, carrying_with, no_carrier};
-ghost use Rattle.log_history.specs.Carriers.{IsSmall};
+ghost use Rattle.log_history.specs.Carriers.{HasSmallCounts};
 
 use crate::carrying::Carrying;
 use std::alloc::Global;
@@ -30,7 +30,7 @@ pub(crate) fn carrier_at(rows: &[Carrying], seat: Seat) -> Carrying
 /// The carriers after an entry of this number, before which its seat was busy or not.
 pub(crate) fn carry(rows: &mut Vec<Carrying>, number: u64, seat: Seat, busy: bool, what: What)
     requires within { seat.0 < length rows.old.items }
-    requires small { (c : Carrying) → slice_get rows.old.items seat.0 ≡ Some c → IsSmall (2 ^ 48) c }
+    requires small { (c : Carrying) → slice_get rows.old.items seat.0 ≡ Some c → HasSmallCounts (2 ^ 48) c }
     ensures { (c : Carrying) → slice_get rows.old.items seat.0 ≡ Some c → rows.new.items ≡ slice_set rows.old.items seat.0 (carrying_with number seat.0 busy what c) }
 {
     rows[seat.0 as usize].add(number, seat, busy, what);

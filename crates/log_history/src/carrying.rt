@@ -30,7 +30,7 @@ impl Model for Carrying {
 }
 
 impl Carrying {
-    ghost use Rattle.log_history.specs.Carriers.{IsSmall};
+    ghost use Rattle.log_history.specs.Carriers.{HasSmallCounts};
 
     /// No carrier.
     pub(crate) fn none() -> Carrying
@@ -96,7 +96,7 @@ impl Carrying {
 
     /// Goes on with its seat's own entry of this number; the seat was busy before it or not.
     pub(crate) fn add(&mut self, number: u64, seat: Seat, busy: bool, what: What)
-        requires { IsSmall (2 ^ 48) self.old }
+        requires { HasSmallCounts (2 ^ 48) self.old }
         ensures { self.new ≡ carrying_with number seat.0 busy what self.old }
     {
         match what {
@@ -113,7 +113,7 @@ impl Carrying {
 
     /// One more flight of a busy seat, or the first of the next carrier; the same if none begins.
     fn carry(&mut self, busy: bool, begun: Option<Flight>)
-        requires { IsSmall (2 ^ 48) self.old }
+        requires { HasSmallCounts (2 ^ 48) self.old }
         ensures { self.new ≡ carried busy self.old begun }
     {
         let Some(x) = begun else {
@@ -129,7 +129,7 @@ impl Carrying {
 
     /// One flight more has landed.
     fn land_well(&mut self)
-        requires { IsSmall (2 ^ 48) self.old }
+        requires { HasSmallCounts (2 ^ 48) self.old }
         ensures { self.new ≡ landed_well self.old }
     {
         self.landed += 1;
@@ -137,7 +137,7 @@ impl Carrying {
 
     /// The flight that began in the entry of this number has landed and failed.
     fn land_badly(&mut self, k: u64)
-        requires { IsSmall (2 ^ 48) self.old }
+        requires { HasSmallCounts (2 ^ 48) self.old }
         ensures { self.new ≡ landed_badly self.old k }
     {
         let is_first = match self.first {

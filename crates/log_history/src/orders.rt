@@ -2,7 +2,7 @@ ghost use Rattle.std.specs.Prelude.{◌≡◌, ◌<◌, ◌≤◌, ◌↔◌, �
 ghost use Rattle.vm_types.specs.declared.config.Task.{Task};
 ghost use Rattle.pager_model.specs.Order.{requests_of};
 ghost use Rattle.pager_model.specs.Spoken.{request_of};
-ghost use Rattle.log_history.specs.Lefts.{AreLinked, AreOf, IsTaken, left_of};
+ghost use Rattle.log_history.specs.Lefts.{AreLinked, AreOf, IsRequestTaken, left_of};
 
 use crate::spoken::request_of;
 use std::alloc::Global;
@@ -61,7 +61,7 @@ impl<'a> Orders<'a> {
     /// After an entry of a seat (any number): a process that it answers has one request fewer left, if
     /// it has any.
     pub(crate) fn add(&mut self, p: Seat, what: What)
-        ensures spoken { is_some (request_of what) ≡ true → IsTaken p.0 self.old self.new }
+        ensures spoken { is_some (request_of what) ≡ true → IsRequestTaken p.0 self.old self.new }
         ensures quiet { is_some (request_of what) ≡ false → self.new ≡ self.old }
     {
         if request_of(what).is_some() {
@@ -71,7 +71,7 @@ impl<'a> Orders<'a> {
 
     /// A process (any number) has one request fewer left, if it has any.
     fn take(&mut self, p: Seat)
-        ensures { IsTaken p.0 self.old self.new }
+        ensures { IsRequestTaken p.0 self.old self.new }
     {
         let p = p.0 as usize;
         if p < self.next.len() {

@@ -25,11 +25,11 @@ ShowsOther config past e right =
     (r : Ref) × (shown : Reply) × (e.what ≡ what.Done r shown) × (right ≡ flat_reply config (flat_after config past) (e.seat).0 r) × (shown ≡ right → ⊥)
 
 -- an entry that has a line isn't a legal next one
-abbrev pub IsRefused : Config → List Entry → Entry → LineReason → Type 0
-IsRefused config past e (why.NotLegal reason) = EntryFails config past (pager_after config past) e reason
-IsRefused config past e why.OutOfOrder = IsInOrder config (e ∷ past) → ⊥
-IsRefused config past e (why.WrongReply right) = ShowsOther config past e right
-IsRefused config past e other = ⊥
+abbrev pub IsEntryRefused : Config → List Entry → Entry → LineReason → Type 0
+IsEntryRefused config past e (why.NotLegal reason) = EntryFails config past (pager_after config past) e reason
+IsEntryRefused config past e why.OutOfOrder = IsInOrder config (e ∷ past) → ⊥
+IsEntryRefused config past e (why.WrongReply right) = ShowsOther config past e right
+IsEntryRefused config past e other = ⊥
 
 -- the entries that the lines so far have
 abbrev pub entries_of : Stand → List Entry
@@ -57,7 +57,7 @@ LineFails config stand line (why.NotNextNumber n) = (number : ℕ) × (e : Entry
 LineFails config stand line (why.NotInText right) = ((left : List ℕ) → text_next config stand ≡ ended line ++ left → ⊥) × (right.items ≡ line_text 1 (text_next config stand))
 LineFails config stand line why.NotOfRundown =
     (past : List Entry) × (rest : List Entry) × (e : Entry) × (stand ≡ in_rundown past rest) × IsItsLine config (length (rest ++ past) + 1) line e × (AreRundownFirst config past (e ∷ rest) → ⊥)
-LineFails config stand line other = (e : Entry) × IsItsLine config (length (entries_of stand) + 1) line e × IsRefused config (entries_of stand) e other
+LineFails config stand line other = (e : Entry) × IsItsLine config (length (entries_of stand) + 1) line e × IsEntryRefused config (entries_of stand) e other
 
 -- behind legal lines this is left, and no legal next line is its first
 abbrev pub LeftFails : Config → Stand → List ℕ → LineReason → Type 0

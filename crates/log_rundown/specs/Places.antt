@@ -9,8 +9,8 @@ abbrev pub place_as : Place → PlaceIs
 place_as x = record { process = (x.process).0; slot = x.slot }
 
 -- a slot's number is small
-abbrev pub IsSmall : Place → Type 0
-IsSmall x = x.slot < 1024
+abbrev pub HasSmallSlot : Place → Type 0
+HasSmallSlot x = x.slot < 1024
 
 abbrev pub seen_as : Seen → SeenIs
 seen_as s = record { vpn = s.vpn; frame = (s.frame).0; page = s.page; pinned = s.pinned }

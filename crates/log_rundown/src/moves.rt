@@ -8,7 +8,7 @@ ghost use Rattle.pager_model.specs.Pager.{Pager};
 ghost use Rattle.pager_policy.specs.Rundown.{clean_move, cleaning_move, later_move, rounds_move};
 ghost use Rattle.log_pager.specs.Shown.{shown};
 ghost use Rattle.log_rundown.specs.Chosen.{move_as, move_or};
-ghost use Rattle.log_rundown.specs.Places.{IsSmall, place_as};
+ghost use Rattle.log_rundown.specs.Places.{HasSmallSlot, place_as};
 ghost use Rattle.log_rundown.specs.Standing.{cleaning_as};
 
 use crate::choice::Choice;
@@ -46,7 +46,7 @@ fn choose_round(pager: &LogPager, following: u32, left: usize) -> Choice
 /// The page at a place is evicted, unless that is stopped: then a cluster is written first. None if that
 /// has failed: then the next place is to be looked at.
 fn choose_at(past: &LogHistory<'_>, pager: &LogPager, at: Place, failed: bool) -> Option<Choice>
-    requires { IsSmall at }
+    requires { HasSmallSlot at }
     ensures { (later : Move) → move_or past.now.config (shown pager.now).pager later result
         ≡ clean_move past.now.config past.now.past (shown pager.now).pager (place_as at) failed later
         (seen_at (shown pager.now).pager (at.process).0 at.slot) }
@@ -85,7 +85,7 @@ fn or_rest(choice: Option<Choice>) -> Choice
 /// What is chosen at the next place after this one, where no cluster has failed yet.
 fn choose_later(past: &LogHistory<'_>, pager: &LogPager, at: Place) -> Choice
     requires formed { IsWellFormed past.now.config }
-    requires small { IsSmall at }
+    requires small { HasSmallSlot at }
     ensures { move_as past.now.config (shown pager.now).pager result
         ≡ later_move past.now.config past.now.past (shown pager.now).pager (place_as at) }
 {
@@ -102,7 +102,7 @@ fn choose_later(past: &LogHistory<'_>, pager: &LogPager, at: Place) -> Choice
 /// What is chosen at a place, or else at the next one.
 fn choose_on(past: &LogHistory<'_>, pager: &LogPager, at: Place, failed: bool) -> Choice
     requires formed { IsWellFormed past.now.config }
-    requires small { IsSmall at }
+    requires small { HasSmallSlot at }
     ensures { move_as past.now.config (shown pager.now).pager result
         ≡ clean_move past.now.config past.now.past (shown pager.now).pager (place_as at) failed
         (later_move past.now.config past.now.past (shown pager.now).pager (place_as at))

@@ -4,7 +4,7 @@ ghost use Rattle.std.specs.Option.{option_map};
 ghost use Rattle.vm_types.specs.Configuration.{IsWellFormed};
 ghost use Rattle.pager_policy.specs.Rundown.{is_shared_at, shared_from, shared_of_processes, shared_place};
 ghost use Rattle.log_pager.specs.Shown.{shown};
-ghost use Rattle.log_rundown.specs.Places.{IsSmall, place_as};
+ghost use Rattle.log_rundown.specs.Places.{HasSmallSlot, place_as};
 
 use crate::seen::has_shared;
 use log_pager::LogPager;
@@ -40,7 +40,7 @@ fn shared_from(pager: &LogPager, p: Proc, n: u32) -> Option<u32>
 /// The first slot that has a shared page, of the processes from this number to that of the last one.
 fn shared_of_processes(pager: &LogPager, first: u32, count: u32) -> Option<Place>
     ensures place { option_map place_as result ≡ shared_of_processes (shown pager.now).pager (range_with_len first (count - first)) }
-    ensures small { IfSome result IsSmall }
+    ensures small { IfSome result HasSmallSlot }
 {
     for q in first..count {
         if let Some(slot) = shared_from(pager, Proc(q), 0) {
@@ -66,7 +66,7 @@ fn processes(config: &Config) -> u32
 pub(crate) fn shared_place(config: &Config, pager: &LogPager, p: Proc, n: u32) -> Option<Place>
     requires { IsWellFormed config.now }
     ensures place { option_map place_as result ≡ shared_place config.now (shown pager.now).pager p.0 n }
-    ensures small { IfSome result IsSmall }
+    ensures small { IfSome result HasSmallSlot }
 {
     let count = processes(config);
     if let Some(slot) = shared_from(pager, p, n) {

@@ -12,14 +12,14 @@ use Rattle.pager_model.specs.Lookups.{count_page}
 use Rattle.pager_model.specs.Sets.{at_page}
 use Rattle.pager_rules.proofs.Basics.{count_cons_no, count_cons_yes, pages_equal, same_from_equal}
 use Rattle.pager_rules.proofs.Put.{page_apart}
-use Rattle.log_tables.specs.Listed.{AreCounts, AreHolders, held_by, or_none}
+use Rattle.log_tables.specs.Listed.{ArePageCounts, AreHolders, held_by, or_none}
 use Rattle.log_tables.proofs.Dropped.{dropped_other, dropped_own}
 
 pub apart : (g h : Page) → same_page g h ≡ false → same_page h g ≡ false
 apart g h other = page_apart h g (λ same. true≢false (sym (same_from_equal g h (sym same)) ∙ other))
 
 -- ---- a list of pages
-module _ (pages : List Page) (counts : Page → Option ℕ) (len : ℕ) (are : AreCounts pages counts len) (g : Page) where
+module _ (pages : List Page) (counts : Page → Option ℕ) (len : ℕ) (are : ArePageCounts pages counts len) (g : Page) where
   each_put : (n : ℕ) → n ≡ count_page pages g + 1 → (h : Page) → or_none (at_page counts g (Some n) h) ≡ count_page (g ∷ pages) h
   each_put n is h = go (same_page g h) refl
     where
@@ -31,7 +31,7 @@ module _ (pages : List Page) (counts : Page → Option ℕ) (len : ℕ) (are : A
           omega (arith, is, at, more)
       go false other = are.each h ∙ sym (count_cons_no (same_page h) g pages (apart g h other))
 
-  pub counts_put : (n : ℕ) → n ≡ count_page pages g + 1 → AreCounts (g ∷ pages) (at_page counts g (Some n)) (len + 1)
+  pub counts_put : (n : ℕ) → n ≡ count_page pages g + 1 → ArePageCounts (g ∷ pages) (at_page counts g (Some n)) (len + 1)
   counts_put n is = record { each = each_put n is; all = omega (arith, are.all) }
 
   each_removed : (h : Page) → or_none (at_page counts g None h) ≡ count_page (without_page pages g) h
@@ -43,7 +43,7 @@ module _ (pages : List Page) (counts : Page → Option ℕ) (len : ℕ) (are : A
           are.each h
           ∙ sym (dropped_other (same_page h) (same_page g) (λ x is. ap (same_page h) (sym (pages_equal g x is)) ∙ apart g h other) pages)
 
-  pub counts_removed : (n : ℕ) → n + count_page pages g ≡ len → AreCounts (without_page pages g) (at_page counts g None) n
+  pub counts_removed : (n : ℕ) → n + count_page pages g ≡ len → ArePageCounts (without_page pages g) (at_page counts g None) n
   counts_removed n is =
       let both = length-filter_both (same_page g) (λ (x : Page). not (same_page g x)) (λ x. refl) pages in
       let gone = length-filter (same_page g) pages in

@@ -12,18 +12,18 @@ use Rattle.vm_types.specs.declared.names.BlockId.TheVariants as block
 use Rattle.pager_model.specs.Maps.{proc}
 use Rattle.pager_model.specs.Sets.{at_page}
 use Rattle.pager_rules.proofs.Basics.{pages_equal, same_page_refl}
-use Rattle.log_tables.specs.Lying.{AreListed, AreSwapped, IsIn, Said, first_by, is_paged_one, is_swap, lies_by, said_or}
+use Rattle.log_tables.specs.Lying.{AreListed, AreSwapped, IsListedIn, Said, first_by, is_paged_one, is_swap, lies_by, said_or}
 use Rattle.log_tables.specs.PageTables.{IsTableSet, Items, item_of}
 
 -- ---- the list of those pages
-there_still : (g h : Page) (pages : List Page) → IsIn g pages → IsIn g (pages ++ h ∷ [])
+there_still : (g h : Page) (pages : List Page) → IsListedIn g pages → IsListedIn g (pages ++ h ∷ [])
 there_still g h [] (k, below, is) = absurd (none-some g is)
 there_still g h (y ∷ pages) (zero, below, is) = (0, omega (arith), is)
 there_still g h (y ∷ pages) (suc k, below, is) =
     let (j, under, at) = there_still g h pages (k, omega (arith, below), is) in
     (suc j, omega (arith, under), at)
 
-there_last : (h : Page) (pages : List Page) → IsIn h (pages ++ h ∷ [])
+there_last : (h : Page) (pages : List Page) → IsListedIn h (pages ++ h ∷ [])
 there_last h [] = (0, omega arith, refl)
 there_last h (y ∷ pages) = let (j, under, at) = there_last h pages in (suc j, omega (arith, under), at)
 
@@ -35,7 +35,7 @@ listed_more marks pages h all g is = there_still g h pages (all g is)
 pub listed_marked : (marks : Page → Option Bool) (pages : List Page) (h : Page) → AreListed marks pages → AreListed (at_page marks h (Some true)) (pages ++ h ∷ [])
 listed_marked marks pages h all g is = go (same_page h g) refl is
   where
-    go : (b : Bool) → same_page h g ≡ b → cond b (Some true) (marks g) ≡ Some true → IsIn g (pages ++ h ∷ [])
+    go : (b : Bool) → same_page h g ≡ b → cond b (Some true) (marks g) ≡ Some true → IsListedIn g (pages ++ h ∷ [])
     go true here marked =
         let (k, below, at) = there_last h pages in
         (k, below, at ∙ ap Some (pages_equal h g here))
@@ -86,10 +86,10 @@ first_unswapped kinds (Shared s i) p n is = go (is_paged_one (slice_get kinds s.
 
 -- a page that lies in a swap block is in the list
 pub swapped_listed : (said : Said) (marks : Page → Option Bool) (pages : List Page) (g : Page) (p n : ℕ) → AreSwapped (item_of said.1) marks pages
-    → lies_by said g ≡ Some (block.Swap (proc p) n) → IsIn g pages
+    → lies_by said g ≡ Some (block.Swap (proc p) n) → IsListedIn g pages
 swapped_listed said marks pages g p n are is = go (item_of said.1 g) refl is
   where
-    go : (o : Option (Option BlockId)) → item_of said.1 g ≡ o → said_or (first_by said.0 g) o ≡ Some (block.Swap (proc p) n) → IsIn g pages
+    go : (o : Option (Option BlockId)) → item_of said.1 g ≡ o → said_or (first_by said.0 g) o ≡ Some (block.Swap (proc p) n) → IsListedIn g pages
     go None found first = absurd (first_unswapped said.0 g p n first)
     go (Some b) found block_is = are.within g (are.marked g (proc p) n (found ∙ ap Some block_is))
 

@@ -37,7 +37,7 @@ or_none None = 0
 or_none (Some n) = n
 
 -- how often each page stands in a list, and how long it is
-pub record AreCounts (pages : List Page) (counts : Page → Option ℕ) (len : ℕ) : Type 0 where
+pub record ArePageCounts (pages : List Page) (counts : Page → Option ℕ) (len : ℕ) : Type 0 where
   pub each : (g : Page) → or_none (counts g) ≡ count_page pages g
   pub all : len ≡ length pages
 

@@ -35,12 +35,12 @@ abbrev pub is_swap : Option BlockId → Bool
 is_swap (Some (block.Swap p n)) = true
 is_swap other = false
 
-abbrev pub IsIn : Page → List Page → Type 0
-IsIn g pages = (k : ℕ) × (k < length pages) × (slice_get pages k ≡ Some g)
+abbrev pub IsListedIn : Page → List Page → Type 0
+IsListedIn g pages = (k : ℕ) × (k < length pages) × (slice_get pages k ≡ Some g)
 
 -- each page that is marked is in the list
 abbrev pub AreListed : (Page → Option Bool) → List Page → Type 0
-AreListed listed pages = (g : Page) → listed g ≡ Some true → IsIn g pages
+AreListed listed pages = (g : Page) → listed g ≡ Some true → IsListedIn g pages
 
 -- each page that was said to lie in a swap block is marked and in the list
 pub record AreSwapped (said : Page → Option (Option BlockId)) (listed : Page → Option Bool) (pages : List Page) : Type 0 where

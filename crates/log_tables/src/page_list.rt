@@ -22,14 +22,14 @@ pub struct PageList {
 impl Model for PageList {
     ghost use Rattle.std.specs.Prelude.{List};
     ghost use Rattle.vm_types.specs.declared.names.Page.{Page};
-    ghost use Rattle.log_tables.specs.Listed.{AreCounts, pages_after};
+    ghost use Rattle.log_tables.specs.Listed.{ArePageCounts, pages_after};
     ghost use Rattle.log_tables.specs.PageTables.{item_of};
 
     ghost Value = { List Page };
 
     ghost view = { λ l. pages_after l.changes.list };
 
-    ghost invariant = { λ l. AreCounts (pages_after l.changes.list) (item_of l.counts) l.len };
+    ghost invariant = { λ l. ArePageCounts (pages_after l.changes.list) (item_of l.counts) l.len };
 }
 
 impl PageList {

@@ -7,7 +7,7 @@ use Rattle.std.specs.declared.option.Option.{Option}
 use Rattle.outside_io.specs.declared.whole.WriteFault.{WriteFault}
 use Rattle.outside_io.specs.declared.whole.WriteFault.TheVariants.{Failed, NoneTaken}
 use Rattle.outside_io.specs.Views.{SinkView}
-use Rattle.outside_io.specs.WholeWrite.{TakesText, FaultsBy, stalls_by}
+use Rattle.outside_io.specs.WholeWrite.{TakesText, FaultsByWrite, stalls_by}
 use Rattle.outside_io.specs.Writes.{Writes}
 
 -- after the whole first text, what the second's answer says of it
@@ -31,10 +31,10 @@ taken_fault T U a b fault one two first =
     )
 
 pub faults_then : {T U : Type 0} (f g h : ℕ) (done : T) (result : Result U WriteFault)
-    → FaultsBy f g (Ok done) → FaultsBy g h result → FaultsBy f h result
-faults_then f g h done result first second = let P : ℕ → Type 0 = λ count. FaultsBy count h result in subst P first second
+    → FaultsByWrite f g (Ok done) → FaultsByWrite g h result → FaultsByWrite f h result
+faults_then f g h done result first second = let P : ℕ → Type 0 = λ count. FaultsByWrite count h result in subst P first second
 
-pub faults_fault : (T U : Type 0) (f g : ℕ) (fault : WriteFault) → FaultsBy {T = T} f g (Err fault) → FaultsBy {T = U} f g (Err fault)
+pub faults_fault : (T U : Type 0) (f g : ℕ) (fault : WriteFault) → FaultsByWrite {T = T} f g (Err fault) → FaultsByWrite {T = U} f g (Err fault)
 faults_fault T U f g Failed first = first
 faults_fault T U f g NoneTaken first = first
 

@@ -11,10 +11,10 @@ TakesText old new (Ok done) text = Appends old new text
 TakesText old new (Err fault) text = (n : ℕ) × (n < length text) × Appends old new (take n text)
 
 -- the count of faults rose at `Failed`, and is else unchanged
-abbrev pub FaultsBy : {T : Type 0} → ℕ → ℕ → Result T WriteFault → Type 0
-FaultsBy before now (Ok done) = now ≡ before
-FaultsBy before now (Err Failed) = Rose before now
-FaultsBy before now (Err NoneTaken) = now ≡ before
+abbrev pub FaultsByWrite : {T : Type 0} → ℕ → ℕ → Result T WriteFault → Type 0
+FaultsByWrite before now (Ok done) = now ≡ before
+FaultsByWrite before now (Err Failed) = Rose before now
+FaultsByWrite before now (Err NoneTaken) = now ≡ before
 
 -- the count of stalls rose by one at `NoneTaken`, and is else unchanged
 abbrev pub stalls_by : {T : Type 0} → ℕ → Result T WriteFault → ℕ

@@ -1,5 +1,5 @@
 ghost use Rattle.std.specs.Prelude.{◌≡◌, ◌≤◌, is_some};
-ghost use Rattle.outside_io.specs.WholeWrite.{TakesText, FaultsBy, stalls_by};
+ghost use Rattle.outside_io.specs.WholeWrite.{TakesText, FaultsByWrite, stalls_by};
 
 use crate::sink::Sink;
 
@@ -20,7 +20,7 @@ pub enum WriteFault {
 pub fn write_whole<K: Sink>(sink: &mut K, text: &[u8]) -> Result<(), WriteFault>
     ensures bytes { TakesText (K.seen sink.old).taken (K.seen sink.new).taken result text.now }
     ensures known { is_some (K.seen sink.new).taken ≡ is_some (K.seen sink.old).taken }
-    ensures faults { FaultsBy (K.seen sink.old).failures (K.seen sink.new).failures result }
+    ensures faults { FaultsByWrite (K.seen sink.old).failures (K.seen sink.new).failures result }
     ensures faults_later { (K.seen sink.old).failures ≤ (K.seen sink.new).failures }
     ensures stalls { (K.seen sink.new).stalls ≡ stalls_by (K.seen sink.old).stalls result }
     ensures stalls_later { (K.seen sink.old).stalls ≤ (K.seen sink.new).stalls }

@@ -8,7 +8,7 @@ pub record PoolState : Type 0 where
   pub left : ℕ
 
 -- the parts that are in are those whose numbers are on the stack, which has room for all
-pub record IsKept (numbers stack : List ℕ) (all capacity size : ℕ) : Type 0 where
+pub record IsStacked (numbers stack : List ℕ) (all capacity size : ℕ) : Type 0 where
   pub stacked : numbers ≡ stack
   pub within : length stack ≤ all
   pub room : all ≤ capacity

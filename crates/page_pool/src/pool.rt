@@ -18,7 +18,7 @@ pub struct Pool {
 
 impl Model for Pool {
     ghost use Rattle.std.specs.Prelude.{◌≡◌, length, vec_capacity};
-    ghost use Rattle.page_pool.specs.Pool.{PoolState, IsKept};
+    ghost use Rattle.page_pool.specs.Pool.{PoolState, IsStacked};
 
     ghost Value = { PoolState };
 
@@ -27,7 +27,7 @@ impl Model for Pool {
       left = length p.free.items;
     } };
 
-    ghost invariant = { λ p. IsKept p.region.numbers p.free.items p.region.size (vec_capacity p.free) p.size
+    ghost invariant = { λ p. IsStacked p.region.numbers p.free.items p.region.size (vec_capacity p.free) p.size
         × (p.deed.start ≡ p.region.start) × (p.deed.size ≡ p.region.size) × (p.deed.alloc ≡ p.alloc) };
 }
 

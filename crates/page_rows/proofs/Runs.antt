@@ -8,7 +8,7 @@ use Rattle.std.proofs.lemmas.List.{ext_get_or, get_or-set_same, get_or-set_other
 use Rattle.std.proofs.lemmas.List.FromFn.{get_or-map-range_with_len, length-map-range_with_len}
 use Rattle.std.proofs.lemmas.List.Sums.{count_by-le-length, sum_by-set}
 use Rattle.std.proofs.lemmas.Option.{same_Some}
-use Rattle.page_rows.specs.Rows.{AreApart, IsLaid, all_in, item_in}
+use Rattle.page_rows.specs.Rows.{AreApart, HasOpenRuns, all_in, item_in}
 
 abbrev one_if_some : Option ℕ → ℕ
 one_if_some o = if is_some o then 1 else 0
@@ -53,7 +53,7 @@ module _ {X : Type 0} where
       sym (ap (slice_set (all_in firsts items) place) (sym there) ∙ set-get_or (all_in firsts items) place None)
 
   -- an item of an open run is set
-  module _ (firsts : List (Option ℕ)) (items : List (Option X)) (space : ℕ) (laid : IsLaid firsts items space) (place first : ℕ) (open_at : get_or firsts (place / 64) None ≡ Some first) (item : Option X) where
+  module _ (firsts : List (Option ℕ)) (items : List (Option X)) (space : ℕ) (laid : HasOpenRuns firsts items space) (place first : ℕ) (open_at : get_or firsts (place / 64) None ≡ Some first) (item : Option X) where
     abbrev pub at : ℕ
     at = first + place % 64
 
@@ -93,7 +93,7 @@ module _ {X : Type 0} where
             ∙ sym (get_or-set_other (all_in firsts items) place i item None differ)))
 
   -- a run is opened
-  module _ (firsts : List (Option ℕ)) (items : List (Option X)) (space run : ℕ) (laid : IsLaid firsts items space) (below : run < length firsts) (shut : get_or firsts run None ≡ None) where
+  module _ (firsts : List (Option ℕ)) (items : List (Option X)) (space run : ℕ) (laid : HasOpenRuns firsts items space) (below : run < length firsts) (shut : get_or firsts run None ≡ None) where
     abbrev pub opened : List (Option ℕ)
     opened = slice_set firsts run (Some (length items))
 
@@ -159,7 +159,7 @@ module _ {X : Type 0} where
         go (inl new) = omega (arith, new.1, is_longer)
         go (inr old) = let within = laid.within r f old.1 in omega (arith, within, is_longer)
 
-    pub is_laid : IsLaid opened longer space
+    pub is_laid : HasOpenRuns opened longer space
     is_laid =
         record {
           many = omega (arith, is_longer, counted, laid.many);

@@ -20,7 +20,7 @@ abbrev pub AreApart : List (Option ℕ) → Type 0
 AreApart firsts = (r s f g : ℕ) → slice_index_or firsts r None ≡ Some f → slice_index_or firsts s None ≡ Some g → (r ≡ s) ⊎ ((f + 64 ≤ g) ⊎ (g + 64 ≤ f))
 
 -- the open runs lie in the list, which has room for all
-pub record IsLaid {X : Type 0} (firsts : List (Option ℕ)) (items : List (Option X)) (space : ℕ) : Type 0 where
+pub record HasOpenRuns {X : Type 0} (firsts : List (Option ℕ)) (items : List (Option X)) (space : ℕ) : Type 0 where
   pub many : length items ≡ count_by is_some firsts * 64
   pub room : length firsts * 64 ≤ space
   pub within : (r f : ℕ) → slice_index_or firsts r None ≡ Some f → f + 64 ≤ length items

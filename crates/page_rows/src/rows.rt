@@ -1,5 +1,5 @@
 ghost use Rattle.std.specs.Prelude.{◌≡◌, ◌*◌, ◌/◌, ◌%◌, ◌+◌, ◌<◌, ◌≤◌, ◌^◌, Some, None, IfOk, length, replicate, slice_index_or, slice_set, vec_capacity, vec_len};
-ghost use Rattle.page_rows.specs.Rows.{IsLaid, IsOpen, all_in, item_in};
+ghost use Rattle.page_rows.specs.Rows.{HasOpenRuns, IsOpen, all_in, item_in};
 
 use std::alloc::{AllocError, Global};
 use std::marker::Model;
@@ -18,13 +18,13 @@ pub struct PageRows<T> {
 
 impl<T> Model for PageRows<T> {
     ghost use Rattle.std.specs.Prelude.{List, Option, vec_capacity};
-    ghost use Rattle.page_rows.specs.Rows.{IsLaid, all_in};
+    ghost use Rattle.page_rows.specs.Rows.{HasOpenRuns, all_in};
 
     ghost Value = { List (Option T) };
 
     ghost view = { λ r. all_in r.firsts.items r.items.items };
 
-    ghost invariant = { λ r. IsLaid r.firsts.items r.items.items (vec_capacity r.items) };
+    ghost invariant = { λ r. HasOpenRuns r.firsts.items r.items.items (vec_capacity r.items) };
 }
 
 impl<T: Copy> PageRows<T> {
@@ -67,7 +67,7 @@ impl<T: Copy> PageRows<T> {
 
 /// The item of a place.
 fn item_in<T: Copy>(firsts: &[Option<usize>], items: &Vec<Option<T>>, place: usize) -> Option<T>
-    requires { IsLaid firsts.now items.now.items (vec_capacity items.now) }
+    requires { HasOpenRuns firsts.now items.now.items (vec_capacity items.now) }
     ensures { result ≡ item_in firsts.now items.now.items place }
 {
     match firsts.get(place / RUN) {
@@ -78,10 +78,10 @@ fn item_in<T: Copy>(firsts: &[Option<usize>], items: &Vec<Option<T>>, place: usi
 
 /// Lays 64 places out that no item was given to.
 fn open<T: Copy>(firsts: &mut Vec<Option<usize>>, items: &mut Vec<Option<T>>, run: usize)
-    requires laid { IsLaid firsts.old.items items.old.items (vec_capacity items.old) }
+    requires laid { HasOpenRuns firsts.old.items items.old.items (vec_capacity items.old) }
     requires within { run < length firsts.old.items }
     requires shut { slice_index_or firsts.old.items run None ≡ None }
-    ensures laid { IsLaid firsts.new.items items.new.items (vec_capacity items.new) }
+    ensures laid { HasOpenRuns firsts.new.items items.new.items (vec_capacity items.new) }
     ensures same { all_in firsts.new.items items.new.items ≡ all_in firsts.old.items items.old.items }
     ensures open { IsOpen firsts.new.items run }
 {
@@ -94,9 +94,9 @@ fn open<T: Copy>(firsts: &mut Vec<Option<usize>>, items: &mut Vec<Option<T>>, ru
 
 /// Gives a place an item, or none, whose 64 places are laid out.
 fn put<T: Copy>(firsts: &[Option<usize>], items: &mut Vec<Option<T>>, place: usize, item: Option<T>)
-    requires laid { IsLaid firsts.now items.old.items (vec_capacity items.old) }
+    requires laid { HasOpenRuns firsts.now items.old.items (vec_capacity items.old) }
     requires open { IsOpen firsts.now (place / 64) }
-    ensures laid { IsLaid firsts.now items.new.items (vec_capacity items.new) }
+    ensures laid { HasOpenRuns firsts.now items.new.items (vec_capacity items.new) }
     ensures set { all_in firsts.now items.new.items ≡ slice_set (all_in firsts.now items.old.items) place item }
 {
     if let Some(Some(first)) = firsts.get(place / RUN) {

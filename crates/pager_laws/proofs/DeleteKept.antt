@@ -19,7 +19,7 @@ use Rattle.pager_model.specs.Flights.{Flight, is_busy, open_flights}
 use Rattle.pager_model.specs.Forget.{after_delete, forget_all, forgotten, holder, own_pages, range_of, with_private}
 use Rattle.pager_model.specs.Lookups.{count_page, entries_at, is_entry, page_by, shares}
 use Rattle.pager_model.specs.Maps.{Map, Mapped, is_private, page_number, proc}
-use Rattle.pager_model.specs.Own.{IsOwn}
+use Rattle.pager_model.specs.Own.{IsResident}
 use Rattle.pager_model.specs.Pager.{Pager, Valid}
 use Rattle.pager_model.specs.Served.{IsDelete}
 use Rattle.pager_rules.proofs.Basics.{count_cons, count_cons_no, count_cons_yes, each_weaker, nat_eq_refl, pages_equal, same_page_refl}
@@ -129,7 +129,7 @@ unshared config a flights p v f kept none holds = go (shares a.valid f) refl
         let some = count_found (is_entry p v) (λ (y : Valid). nat_eq y.frame f) a.valid e found.1 (and_from _ _ (eq-eqb _ _ (ap (λ (z : Proc). z.0) proc_is)) (eq-eqb _ _ vpn_is)) in
         absurd (omega arith)
 
-pub deleted : (config : Config) (past : List Entry) (a : Pager) (p address pages : ℕ) → IsKept config (quiet (open_flights past)) a → IsOwn config a p → is_busy p (open_flights past) ≡ false → IsDelete config past a p address pages
+pub deleted : (config : Config) (past : List Entry) (a : Pager) (p address pages : ℕ) → IsKept config (quiet (open_flights past)) a → IsResident config a p → is_busy p (open_flights past) ≡ false → IsDelete config past a p address pages
     → IsKept config (quiet (open_flights past)) (after_delete config a p address pages)
 deleted config past a p address pages kept own still legal =
     map_changed config b (open_flights past) p (map_range (λ (old : Option Mapped). None) p address pages b.map) kept_b

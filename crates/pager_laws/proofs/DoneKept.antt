@@ -17,7 +17,7 @@ use Rattle.pager_model.specs.Flat.{is_change, touched_with}
 use Rattle.pager_model.specs.Flights.{Flight, is_busy, is_reading, open_flights}
 use Rattle.pager_model.specs.Lookups.{count_page, is_entry, page_by}
 use Rattle.pager_model.specs.Maps.{is_paged, page_number}
-use Rattle.pager_model.specs.Own.{IsOwn}
+use Rattle.pager_model.specs.Own.{IsResident}
 use Rattle.pager_model.specs.Pager.{Pager, Valid}
 use Rattle.pager_model.specs.Sets.{at_number, has_page}
 use Rattle.pager_model.specs.Transfers.{is_read_on, reads_on}
@@ -119,7 +119,7 @@ module _ (config : Config) (past : List Entry) (a : Pager) (p v : ℕ) (e : Vali
       let none : reads_on x.frame (open_flights past) ≡ 0 = subst (λ (h : ℕ). reads_on h (open_flights past) ≡ 0) (sym frame) row.reads in
       omega arith))
 
-  pub done : IsOwn config a p → is_busy p (open_flights past) ≡ false → IsKept config (quiet (open_flights past)) (b c)
+  pub done : IsResident config a p → is_busy p (open_flights past) ≡ false → IsKept config (quiet (open_flights past)) (b c)
   done own idle = record {
     frames = frames c;
     processes = kept.processes;

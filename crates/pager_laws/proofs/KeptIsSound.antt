@@ -25,7 +25,7 @@ use Rattle.pager_model.specs.Transfers.{is_on_block, is_read_on, is_write_on, re
 use Rattle.pager_rules.proofs.Basics.{count_cons, count_cons_no, count_cons_yes, count_none, each_weaker, find_none_from_count, nat_eq_refl, same_page_refl, states_equal}
 use Rattle.pager_rules.proofs.Frames.{at_state}
 use Rattle.pager_rules.proofs.Lists.{all_found, all_step, count_found, found_passes}
-use Rattle.pager_rules.specs.Kept.{FitsDirection, FitsFlight, FitsRead, HasMark, HasPage, HasShares, HasWrites, IsFirstRead, IsForItsPage, IsKept, one_if, views}
+use Rattle.pager_rules.specs.Kept.{FitsDirection, FitsFlight, FitsRead, HasMark, FitsState, HasShares, HasWrites, IsFirstRead, IsForItsPage, IsKept, one_if, views}
 
 -- ---- counts and tests
 any_counts : {X : Type 0} (t : X → Bool) (xs : List X) → list_any t xs ≡ nat_lt 0 (count_by t xs)
@@ -110,7 +110,7 @@ writing_is state.Writing n w none one = ap₂ (λ (k l : ℕ). nat_eq k 0 && nat
 writing_is state.ReleasePending n w none one = ap₂ (λ (k l : ℕ). nat_eq k 0 && nat_lt 0 l) (sym none) (sym one)
 writing_is other n w none also = ap₂ (λ (k l : ℕ). nat_eq k 0 && nat_lt 0 l) (sym none) (sym also)
 
-empty_is : (s : FrameState) (o : Option Page) → HasPage s o → o ≡ None → (same_state s state.Bad || same_state s state.Free) ≡ true
+empty_is : (s : FrameState) (o : Option Page) → FitsState s o → o ≡ None → (same_state s state.Bad || same_state s state.Free) ≡ true
 empty_is state.Free o has none = refl
 empty_is state.Bad o has none = refl
 empty_is other o has none = absurd (none-some has.0 (sym none ∙ has.1))

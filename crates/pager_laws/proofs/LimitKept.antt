@@ -17,7 +17,7 @@ use Rattle.pager_model.specs.Around.{past_view, process_view, quiet}
 use Rattle.pager_model.specs.Collide.{IsCollide, after_collide}
 use Rattle.pager_model.specs.Flights.{is_busy, open_flights}
 use Rattle.pager_model.specs.Limit.{IsLimit, after_limit}
-use Rattle.pager_model.specs.Own.{IsOwn}
+use Rattle.pager_model.specs.Own.{IsResident}
 use Rattle.pager_model.specs.Pager.{Pager}
 use Rattle.pager_model.specs.Served.{with_limit}
 use Rattle.pager_model.specs.Sets.{at_number}
@@ -78,7 +78,7 @@ adjust_within params spec faults limit free quota extent least most = go (nat_lt
     go false false = (least, most)
 
 -- the limit, and what soundness reads nothing of
-pub limit_set : (config : Config) (past : List Entry) (a : Pager) (p n : ℕ) → IsKept config (quiet (open_flights past)) a → IsOwn config a p → is_busy p (open_flights past) ≡ false
+pub limit_set : (config : Config) (past : List Entry) (a : Pager) (p n : ℕ) → IsKept config (quiet (open_flights past)) a → IsResident config a p → is_busy p (open_flights past) ≡ false
     → ((spec : ProcSpec) → slice_get config.procs p ≡ Some spec → (spec.locks + 2 ≤ n) × (n ≤ spec.extent)) → IsKept config (quiet (open_flights past)) (with_limit a p n)
 limit_set config past a p n kept own idle limits =
     record {

@@ -17,7 +17,7 @@ use Rattle.pager_model.specs.Around.{entry_view, process_view, quiet}
 use Rattle.pager_model.specs.FlatService.{in_range}
 use Rattle.pager_model.specs.Flights.{is_busy, open_flights}
 use Rattle.pager_model.specs.Lookups.{has_vpn, pins_with, slot_of, slots_with}
-use Rattle.pager_model.specs.Own.{IsOwn}
+use Rattle.pager_model.specs.Own.{IsResident}
 use Rattle.pager_model.specs.Pager.{Pager}
 use Rattle.pager_model.specs.Ring.{range_locked, range_pinned, relocked_slot, repinned_slot}
 use Rattle.pager_model.specs.Served.{with_ring}
@@ -109,7 +109,7 @@ pins_same lock address pages xs = count_map is_pinned_slot is_pinned_slot (reloc
     same None = refl
     same (Some held) = refl
 
-pub ring_relocked : (config : Config) (past : List Entry) (a : Pager) (p : ℕ) (new : Ring) → IsKept config (quiet (open_flights past)) a → IsOwn config a p → is_busy p (open_flights past) ≡ false → HasSameSlots (a.ring p) new
+pub ring_relocked : (config : Config) (past : List Entry) (a : Pager) (p : ℕ) (new : Ring) → IsKept config (quiet (open_flights past)) a → IsResident config a p → is_busy p (open_flights past) ≡ false → HasSameSlots (a.ring p) new
     → ((spec : ProcSpec) → slice_get config.procs p ≡ Some spec → fixed new.slots ≤ spec.locks)
     → ((spec : ProcSpec) → slice_get config.procs p ≡ Some spec → pinned new.slots ≤ pins_of config.version spec) → IsKept config (quiet (open_flights past)) (with_ring a p new)
 ring_relocked config past a p new kept own idle same locks pins =
@@ -162,27 +162,27 @@ ring_relocked config past a p new kept own idle same locks pins =
             let ring_is = at_number_other a.ring p new q apart in
             subst (λ (r : Ring). FitsEntry (record (entry_view config a q w) { slots = slots_with r w; pins = pins_with r w })) (sym ring_is) (kept.entries q w)
 
-pub locked_range : (config : Config) (past : List Entry) (a : Pager) (p address pages : ℕ) → IsKept config (quiet (open_flights past)) a → IsOwn config a p → is_busy p (open_flights past) ≡ false
+pub locked_range : (config : Config) (past : List Entry) (a : Pager) (p address pages : ℕ) → IsKept config (quiet (open_flights past)) a → IsResident config a p → is_busy p (open_flights past) ≡ false
     → ((spec : ProcSpec) → slice_get config.procs p ≡ Some spec → fixed (range_locked true address pages (a.ring p)).slots ≤ spec.locks)
     → IsKept config (quiet (open_flights past)) (with_ring a p (range_locked true address pages (a.ring p)))
 locked_range config past a p address pages kept own idle locks = ring_relocked config past a p (range_locked true address pages (a.ring p)) kept own idle (marked (relocked_slot true address pages) (locking true address pages) (a.ring p)) locks
     (λ spec found. subst (λ (n : ℕ). n ≤ pins_of config.version spec) (sym (pins_same true address pages (a.ring p).slots)) ((kept.processes p).bounds spec found).pins)
 
-pub unlocked_range : (config : Config) (past : List Entry) (a : Pager) (p address pages : ℕ) → IsKept config (quiet (open_flights past)) a → IsOwn config a p → is_busy p (open_flights past) ≡ false
+pub unlocked_range : (config : Config) (past : List Entry) (a : Pager) (p address pages : ℕ) → IsKept config (quiet (open_flights past)) a → IsResident config a p → is_busy p (open_flights past) ≡ false
     → IsKept config (quiet (open_flights past)) (with_ring a p (range_locked false address pages (a.ring p)))
 unlocked_range config past a p address pages kept own idle =
     ring_relocked config past a p (range_locked false address pages (a.ring p)) kept own idle (marked (relocked_slot false address pages) (locking false address pages) (a.ring p))
     (λ spec found. omega (arith, unlocked_less address pages (a.ring p).slots, ((kept.processes p).bounds spec found).locks))
     (λ spec found. subst (λ (n : ℕ). n ≤ pins_of config.version spec) (sym (pins_same false address pages (a.ring p).slots)) ((kept.processes p).bounds spec found).pins)
 
-pub pinned_range : (config : Config) (past : List Entry) (a : Pager) (p address pages : ℕ) → config.version ≡ version.Two → IsKept config (quiet (open_flights past)) a → IsOwn config a p → is_busy p (open_flights past) ≡ false
+pub pinned_range : (config : Config) (past : List Entry) (a : Pager) (p address pages : ℕ) → config.version ≡ version.Two → IsKept config (quiet (open_flights past)) a → IsResident config a p → is_busy p (open_flights past) ≡ false
     → ((spec : ProcSpec) → slice_get config.procs p ≡ Some spec → fixed (range_pinned true address pages (a.ring p)).slots ≤ spec.locks)
     → IsKept config (quiet (open_flights past)) (with_ring a p (range_pinned true address pages (a.ring p)))
 pinned_range config past a p address pages two kept own idle locks =
     ring_relocked config past a p (range_pinned true address pages (a.ring p)) kept own idle (marked (repinned_slot true address pages) (pinning true address pages) (a.ring p)) locks
     (λ spec found. subst (λ (v : Version). pinned (range_pinned true address pages (a.ring p)).slots ≤ pins_of v spec) (sym two) (omega (arith, pinned_few (range_pinned true address pages (a.ring p)).slots, locks spec found)))
 
-pub unpinned_range : (config : Config) (past : List Entry) (a : Pager) (p address pages : ℕ) → IsKept config (quiet (open_flights past)) a → IsOwn config a p → is_busy p (open_flights past) ≡ false
+pub unpinned_range : (config : Config) (past : List Entry) (a : Pager) (p address pages : ℕ) → IsKept config (quiet (open_flights past)) a → IsResident config a p → is_busy p (open_flights past) ≡ false
     → IsKept config (quiet (open_flights past)) (with_ring a p (range_pinned false address pages (a.ring p)))
 unpinned_range config past a p address pages kept own idle =
     ring_relocked config past a p (range_pinned false address pages (a.ring p)) kept own idle (marked (repinned_slot false address pages) (pinning false address pages) (a.ring p))

@@ -15,12 +15,12 @@ use Rattle.pager_laws.proofs.LocksKept.{locked_range, pinned_range, unlocked_ran
 use Rattle.pager_laws.proofs.MapChanged.{created, protected}
 use Rattle.pager_model.specs.Around.{past_view, quiet}
 use Rattle.pager_model.specs.Flights.{is_busy, open_flights}
-use Rattle.pager_model.specs.Own.{IsOwn}
+use Rattle.pager_model.specs.Own.{IsResident}
 use Rattle.pager_model.specs.Pager.{Pager}
 use Rattle.pager_model.specs.Served.{IsServed, IsService, after_served}
 use Rattle.pager_rules.specs.Kept.{IsKept}
 
-answered : (config : Config) (past : List Entry) (a : Pager) (p : ℕ) (s : Service) (w : Answer) → IsKept config (quiet (open_flights past)) a → IsOwn config a p → is_busy p (open_flights past) ≡ false → IsService config past a p s w → IsServiceOf config.version s
+answered : (config : Config) (past : List Entry) (a : Pager) (p : ℕ) (s : Service) (w : Answer) → IsKept config (quiet (open_flights past)) a → IsResident config a p → is_busy p (open_flights past) ≡ false → IsService config past a p s w → IsServiceOf config.version s
     → IsKept config (quiet (open_flights past)) (after_served config a p s w)
 answered config past a p (service.Create at pages prot) answer.Good kept own idle legal known = created config a (open_flights past) p at.0 pages prot kept own.resident idle legal
 answered config past a p (service.Delete at pages) answer.Good kept own idle legal known = deleted config past a p at.0 pages kept own idle legal

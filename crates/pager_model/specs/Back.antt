@@ -15,7 +15,7 @@ use Rattle.page_lists.specs.Lists.{without}
 use Rattle.pager_model.specs.Changes.{lies_nowhere, swap_slot, valid_at}
 use Rattle.pager_model.specs.Lookups.{entries_at, page_by}
 use Rattle.pager_model.specs.Maps.{page_number, proc}
-use Rattle.pager_model.specs.Own.{IsOwn}
+use Rattle.pager_model.specs.Own.{IsResident}
 use Rattle.pager_model.specs.Pager.{Pager}
 use Rattle.pager_model.specs.Ring.{placed, slotted}
 use Rattle.pager_model.specs.Sets.{at_number}
@@ -28,7 +28,7 @@ may_come_back other = true
 
 -- of a resident process, the seat's own, with room below its limit
 pub record IsBack (config : Config) (a : Pager) (p address f : ℕ) (from : FrameState) : Type 0 where
-  pub own : IsOwn config a p
+  pub own : IsResident config a p
   pub page : Page
   pub mapped : page_by config a.map p (page_number address) ≡ Some page
   pub holds : a.page f ≡ Some page

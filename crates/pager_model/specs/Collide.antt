@@ -7,13 +7,13 @@ use Rattle.vm_journal.specs.declared.entry.Entry.{Entry}
 use Rattle.pager_model.specs.Flights.{Flight, is_reading, open_flights}
 use Rattle.pager_model.specs.Lookups.{page_by}
 use Rattle.pager_model.specs.Maps.{page_number}
-use Rattle.pager_model.specs.Own.{IsOwn}
+use Rattle.pager_model.specs.Own.{IsResident}
 use Rattle.pager_model.specs.Pager.{Pager}
 use Rattle.pager_model.specs.Sets.{at_number}
 use Rattle.pager_model.specs.Transfers.{starts}
 
 pub record IsCollide (config : Config) (past : List Entry) (a : Pager) (p address f k : ℕ) : Type 0 where
-  pub own : IsOwn config a p
+  pub own : IsResident config a p
   pub flight : Flight
   pub open_k : find (starts k) (open_flights past) ≡ Some flight
   pub frame : flight.frame ≡ f

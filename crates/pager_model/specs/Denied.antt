@@ -16,7 +16,7 @@ use Rattle.pager_model.specs.Flat.{flat_refusal}
 use Rattle.pager_model.specs.Flights.{Flight, reading}
 use Rattle.pager_model.specs.Lookups.{entries_at, is_pending, page_by}
 use Rattle.pager_model.specs.Maps.{page_number}
-use Rattle.pager_model.specs.Own.{IsOwn}
+use Rattle.pager_model.specs.Own.{IsResident}
 use Rattle.pager_model.specs.Pager.{Pager}
 use Rattle.pager_model.specs.Sets.{at_number}
 use Rattle.pager_model.specs.Spoken.{flat_after}
@@ -27,7 +27,7 @@ IsFlatWhy other = Unit {0}
 
 -- it is the flat machine's refusal, and no adjustment is pending
 pub record IsDenied (config : Config) (past : List Entry) (a : Pager) (p : ℕ) (r : Ref) (reason : Why) : Type 0 where
-  pub own : IsOwn config a p
+  pub own : IsResident config a p
   pub flat_why : IsFlatWhy reason
   pub not_pending : is_pending config (a.references p) ≡ false
   pub refused : flat_refusal config (flat_after config past) p r ≡ Some reason

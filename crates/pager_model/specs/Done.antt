@@ -11,7 +11,7 @@ use Rattle.vm_types.specs.declared.reference.Ref.{Ref}
 use Rattle.pager_model.specs.Flat.{is_change, touched_with}
 use Rattle.pager_model.specs.Lookups.{entry_of, is_pending, page_by}
 use Rattle.pager_model.specs.Maps.{Mapped, page_number}
-use Rattle.pager_model.specs.Own.{IsOwn}
+use Rattle.pager_model.specs.Own.{IsResident}
 use Rattle.pager_model.specs.Pager.{Pager, Valid}
 use Rattle.pager_model.specs.Sets.{at_number}
 
@@ -21,7 +21,7 @@ Allows None r = ⊥
 Allows (Some m) r = is_allowed m.prot r.mode (is_change r.op) ≡ true
 
 pub record IsDone (config : Config) (a : Pager) (p : ℕ) (r : Ref) : Type 0 where
-  pub own : IsOwn config a p
+  pub own : IsResident config a p
   pub not_pending : is_pending config (a.references p) ≡ false
   pub allowed : Allows (a.map p (page_number (r.addr).0)) r
   pub valid : (e : Valid) × (entry_of a.valid p (page_number (r.addr).0) ≡ Some e)

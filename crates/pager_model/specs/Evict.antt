@@ -19,7 +19,7 @@ use Rattle.pager_model.specs.Flights.{open_flights}
 use Rattle.pager_model.specs.Lookups.{entry_of, is, shares, slot_with}
 use Rattle.pager_model.specs.Maps.{is_private, page_number, proc}
 use Rattle.pager_model.specs.Order.{IsAnswered}
-use Rattle.pager_model.specs.Own.{IsOwn}
+use Rattle.pager_model.specs.Own.{IsResident}
 use Rattle.pager_model.specs.Pager.{Pager, Valid}
 use Rattle.pager_model.specs.Ring.{cleared}
 use Rattle.pager_model.specs.Sets.{at_number}
@@ -46,24 +46,24 @@ pub record IsEvicted (past : List Entry) (a : Pager) (p v f slot : ℕ) (to : Fr
   pub same : held.vpn ≡ v
 
 -- no eviction adds to a modified list that is at the wait limit
-abbrev pub Waits : Config → Pager → FrameState → Type 0
-Waits config a to = to ≡ state.Modified → length a.modified < config.params.waitlimit
+abbrev pub HasRoomFor : Config → Pager → FrameState → Type 0
+HasRoomFor config a to = to ≡ state.Modified → length a.modified < config.params.waitlimit
 
 -- REPLACE: the count is at the limit or above, and the slot is the ring's victim
 pub record IsReplace (config : Config) (past : List Entry) (a : Pager) (p address f : ℕ) (to : FrameState) : Type 0 where
-  pub own : IsOwn config a p
+  pub own : IsResident config a p
   pub full : a.limit p ≤ filled (a.ring p).slots
   pub slot : ℕ
   pub chosen : choose (a.ring p) (a.limit p) ≡ Victim slot
   pub evicted : IsEvicted past a p (page_number address) f slot to
-  pub waits : Waits config a to
+  pub waits : HasRoomFor config a to
 
 -- PURGE and DELETE: a page of the process's own; one that is purged is neither locked nor pinned
 pub record IsDropped (config : Config) (past : List Entry) (a : Pager) (p address f : ℕ) (purged : Bool) (to : FrameState) : Type 0 where
-  pub own : IsOwn config a p
+  pub own : IsResident config a p
   pub taken : IsTaken past a p (page_number address) f to
   pub loose : (held : Held) → slice_get (a.ring p).slots (slot_with (a.ring p) (page_number address)) ≡ Some (Some held) → purged ≡ true → is_fixed held ≡ false
-  pub waits : Waits config a to
+  pub waits : HasRoomFor config a to
 
 -- LEAVE: of a leaving process, a page that isn't pinned; a private page lies in its slot's swap block,
 -- unmodified and without a flight
@@ -73,7 +73,7 @@ pub record IsLeavingEvict (config : Config) (past : List Entry) (a : Pager) (p a
   pub taken : IsTaken past a p (page_number address) f to
   pub private : (g : Page) → a.page f ≡ Some g → is_private g ≡ true
       → (a.lies g ≡ Some (block.Swap (proc p) (slot_with (a.ring p) (page_number address)))) × (a.modify f ≡ false) × (reads_on f (open_flights past) + writes_on f (open_flights past) ≡ 0)
-  pub waits : Waits config a to
+  pub waits : HasRoomFor config a to
 
 -- RUNDOWN: a shared page of any process, by the writer, once all requests are answered
 pub record IsRundownEvict (config : Config) (past : List Entry) (a : Pager) (seat p address f : ℕ) (to : FrameState) : Type 0 where
@@ -81,7 +81,7 @@ pub record IsRundownEvict (config : Config) (past : List Entry) (a : Pager) (sea
   pub answered : IsAnswered config past
   pub taken : IsTaken past a p (page_number address) f to
   pub shared : (g : Page) → a.page f ≡ Some g → is_private g ≡ false
-  pub waits : Waits config a to
+  pub waits : HasRoomFor config a to
 
 abbrev pub IsEvict : EvictWhy → Config → List Entry → Pager → ℕ → ℕ → ℕ → ℕ → FrameState → Type 0
 IsEvict evict.Replace config past a seat p address f to = (p ≡ seat) × IsReplace config past a p address f to

@@ -20,7 +20,7 @@ use Rattle.pager_model.specs.Carrier.{carrying}
 use Rattle.pager_model.specs.Flights.{Direction, Flight, is_busy, open_flights, reading}
 use Rattle.pager_model.specs.Lookups.{count_page, page_by, section_at}
 use Rattle.pager_model.specs.Maps.{is_private, page_number}
-use Rattle.pager_model.specs.Own.{IsEmptyHead, IsOwn}
+use Rattle.pager_model.specs.Own.{IsEmptyHead, IsResident}
 use Rattle.pager_model.specs.Pager.{Pager}
 use Rattle.pager_model.specs.Sets.{at_number}
 use Rattle.pager_model.specs.Transfers.{IsHome}
@@ -36,7 +36,7 @@ pub record IsFirstIn (config : Config) (a : Pager) (p v : ℕ) (b : BlockId) (g 
 -- FAULT: a page of the seat's own process, which has room below its limit; the page is out, and lies in
 -- the block or is read for the first time
 pub record IsInFault (config : Config) (past : List Entry) (a : Pager) (p f : ℕ) (b : BlockId) (q address : ℕ) : Type 0 where
-  pub own : IsOwn config a p
+  pub own : IsResident config a p
   pub self : q ≡ p
   pub home : IsHome config b (open_flights past)
   pub frame : IsEmptyHead a f

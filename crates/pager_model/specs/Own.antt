@@ -5,7 +5,7 @@ use Rattle.vm_types.specs.declared.config.Config.{Config}
 use Rattle.pager_model.specs.Lookups.{IsHead}
 use Rattle.pager_model.specs.Pager.{Pager}
 
-pub record IsOwn (config : Config) (a : Pager) (p : ℕ) : Type 0 where
+pub record IsResident (config : Config) (a : Pager) (p : ℕ) : Type 0 where
   pub process : p < length config.procs
   pub resident : a.status p ≡ status.Resident
 

@@ -21,7 +21,7 @@ use Rattle.pager_model.specs.Flights.{open_flights}
 use Rattle.pager_model.specs.Forget.{after_delete, remapped}
 use Rattle.pager_model.specs.Lookups.{entries_at, page_by}
 use Rattle.pager_model.specs.Maps.{Mapped, proc}
-use Rattle.pager_model.specs.Own.{IsOwn}
+use Rattle.pager_model.specs.Own.{IsResident}
 use Rattle.pager_model.specs.Pager.{Pager}
 use Rattle.pager_model.specs.Ring.{range_locked, range_pinned}
 use Rattle.pager_model.specs.Sets.{at_number}
@@ -116,7 +116,7 @@ pub record IsServedFault (config : Config) (past : List Entry) (a : Pager) (p : 
 -- pages are pinned in version 2 alone
 abbrev pub IsServed : Config → List Entry → Pager → ℕ → Service → Answer → Type 0
 IsServed config past a p s answer.DiskFault = IsServedFault config past a p s
-IsServed config past a p s other = IsOwn config a p × IsService config past a p s other × IsServiceOf config.version s
+IsServed config past a p s other = IsResident config a p × IsService config past a p s other × IsServiceOf config.version s
 
 abbrev pub with_ring : Pager → ℕ → Ring → Pager
 with_ring a p ring = record a { ring = at_number a.ring p ring }

@@ -28,13 +28,13 @@ NowhereMeansUncharged config a =
     → (a.lies (Shared s i) ≡ None) → (paged_of (slice_get config.sections s.0) ≡ true) × (count_page a.charged (Shared s i) ≡ 0)
 
 -- a block of a copy on reference section has its first bytes
-abbrev pub IsUnwritten : Config → Retired → Type 0
-IsUnwritten config x =
+abbrev pub HasFirstBytes : Config → Retired → Type 0
+HasFirstBytes config x =
     (s : SecId) (i : ℕ) → x.block ≡ block.Section s i → shared_of (slice_get config.sections s.0) ≡ false → (x.seen).content ≡ Some (section_bytes config s.0 i)
 
 -- where the bytes of blocks are known, the blocks that were retired have these bytes, and a page that lies in none
 -- of them has nothing to write; the past is that of the whole journal, with its rundown
 pub record AreWrittenBack (tells : Bool) (config : Config) (past : List Entry) (retired : List Retired) : Type 0 where
   pub shared : tells ≡ true → AllByRecursion (IsWrittenBack config past) retired
-  pub copied : tells ≡ true → AllByRecursion (IsUnwritten config) retired
+  pub copied : tells ≡ true → AllByRecursion (HasFirstBytes config) retired
   pub nowhere : NowhereMeansUncharged config (pager_after config past)

@@ -13,7 +13,7 @@ use Rattle.page_lists.specs.Lists.{without}
 use Rattle.pager_model.specs.Changes.{valid_at}
 use Rattle.pager_model.specs.Lookups.{count_page}
 use Rattle.pager_model.specs.Maps.{Mapped, page_behind, page_number, paged_of, proc}
-use Rattle.pager_model.specs.Own.{IsEmptyHead, IsOwn}
+use Rattle.pager_model.specs.Own.{IsEmptyHead, IsResident}
 use Rattle.pager_model.specs.Pager.{Pager}
 use Rattle.pager_model.specs.Ring.{placed}
 use Rattle.pager_model.specs.Sets.{at_number}
@@ -32,7 +32,7 @@ zeroed_page config p v None = Private (proc p) v
 zeroed_page config p v (Some m) = page_behind config p v m.origin
 
 pub record IsZero (config : Config) (a : Pager) (p address f : ℕ) : Type 0 where
-  pub own : IsOwn config a p
+  pub own : IsResident config a p
   pub demand_zero : IsDemandZero config (a.map p (page_number address))
   pub not_charged : count_page a.charged (zeroed_page config p (page_number address) (a.map p (page_number address))) ≡ 0
   pub room : length a.charged < config.pagefile

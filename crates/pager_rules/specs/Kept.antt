@@ -38,10 +38,10 @@ HasWrites state.Writing n = n ≡ 1
 HasWrites state.ReleasePending n = n ≡ 1
 HasWrites other n = n ≡ 0
 
-abbrev pub HasPage : FrameState → Option Page → Type 0
-HasPage state.Free page = Unit {0}
-HasPage state.Bad page = page ≡ None
-HasPage other page = (g : Page) × (page ≡ Some g)
+abbrev pub FitsState : FrameState → Option Page → Type 0
+FitsState state.Free page = Unit {0}
+FitsState state.Bad page = page ≡ None
+FitsState other page = (g : Page) × (page ≡ Some g)
 
 abbrev pub HasMark : FrameState → Bool → Type 0
 HasMark state.Modified m = m ≡ true
@@ -58,7 +58,7 @@ pub record FitsFrame (x : FrameView) : Type 0 where
   pub reads : x.reads ≡ one_if (is state.Reading x.state)
   pub writes : HasWrites x.state x.writes
   pub failed : x.failed ≡ is state.ReadError x.state
-  pub page : HasPage x.state x.page
+  pub page : FitsState x.state x.page
   pub mark : HasMark x.state x.modify
 
 -- a process; one that isn't there has no slots

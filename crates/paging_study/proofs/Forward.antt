@@ -6,8 +6,8 @@ use Rattle.std.proofs.lemmas.List.{get_or_append_left, get_or-append_right, get_
 use Rattle.paging_study.specs.Places.{one_if, page_at, count_places, any_place}
 use Rattle.paging_study.specs.Intervals.{begins, is_inside}
 use Rattle.paging_study.specs.Least.{is_dropped, is_open, IsDrop, AreEnds}
-use Rattle.paging_study.specs.Open.{Holds, LosesLast, is_pending}
-use Rattle.paging_study.proofs.Counts.{count_same}
+use Rattle.paging_study.specs.Open.{HoldsPlaces, LosesLast, is_pending}
+use Rattle.paging_study.proofs.Counts.{count_same, count_none}
 use Rattle.paging_study.proofs.Begins.{any_place-some, begins-lt, Inside, inside}
 use Rattle.paging_study.proofs.Holds.{holds_same}
 
@@ -66,7 +66,7 @@ module _ (page drop drop' : ℕ → ℕ) (n : ℕ) (agree : (i : ℕ) → i < n 
 -- the state of the pass after n places
 pub record Forward (page : ℕ → ℕ) (places room : ℕ) (open_ends : List Bool) (drops : List ℕ) (faults n : ℕ) : Type 0 where
   pub length_is : length drops ≡ n
-  pub holds : Holds open_ends (is_pending page (page_at drops) n) places
+  pub holds : HoldsPlaces open_ends (is_pending page (page_at drops) n) places
   pub rules : (t : ℕ) → t < n → IsDrop page (page_at drops) places room t
   pub counted : faults + count_places (λ end. leb 1 (begins page end) && not (is_dropped (page_at drops) n end)) n ≡ n
 
@@ -124,7 +124,7 @@ none_began b = elim (cases_lt b 1) [
 module _ (page ends : ℕ → ℕ) (places room n : ℕ) (below : n < places) (are : AreEnds page places ends) (open_ends closed dropped begun : List Bool) (drops : List ℕ) (faults d : ℕ)
     (state : Forward page places room open_ends drops faults n)
     (loses : LosesLast closed dropped room d (λ end. is_pending page (page_at drops) n end && not (eqb end (suc n))) places)
-    (joined : Holds begun (λ end. ((is_pending page (page_at drops) n end && not (eqb end (suc n))) && not (eqb end d)) || eqb end (ends (suc n))) places) where
+    (joined : HoldsPlaces begun (λ end. ((is_pending page (page_at drops) n end && not (eqb end (suc n))) && not (eqb end d)) || eqb end (ends (suc n))) places) where
   abbrev drop : ℕ → ℕ
   drop = page_at drops
 

@@ -4,8 +4,8 @@ use Rattle.std.proofs.lemmas.Bool.{cases_lt, cases_eq, lt-ltb}
 use Rattle.std.proofs.lemmas.List.{get_or-set_same, get_or-set_other}
 use Rattle.std.proofs.lemmas.Nat.{div-add-mod', mod_below, div_below}
 use Rattle.paging_study.specs.Places.{one_if, flag_at, count_places}
-use Rattle.paging_study.specs.Marks.{AreCounts}
-use Rattle.paging_study.proofs.Counts.{count_none, count_same, count_but_one, same_past}
+use Rattle.paging_study.specs.Marks.{AreGroupCounts}
+use Rattle.paging_study.proofs.Counts.{count_none, count_same, count_but_one}
 use Rattle.std.specs.List.{count_by}
 use Rattle.std.proofs.lemmas.List.Sums.{sum_by-cons}
 use Rattle.paging_study.proofs.Forward.{one_if-le}
@@ -63,7 +63,7 @@ module _ (flags : List Bool) (i : ℕ) (flag : Bool) where
       let change = count_but_one (flag_at (set flags i flag)) (flag_at flags) n i past (λ j j_below other. get_or-set_other flags i (suc j - 1) flag false (λ e. other (omega arith))) in
       omega (arith, was, is, change)
 
-module _ (size : ℕ) (flags : List Bool) (counts : List ℕ) (are : AreCounts size flags counts) where
+module _ (size : ℕ) (flags : List Bool) (counts : List ℕ) (are : AreGroupCounts size flags counts) where
   -- a count is at most the places of a group, and at least 1 where a place is marked
   pub count_few : (g : ℕ) → g < length counts → get_or counts g 0 ≤ size
   count_few g below = omega (arith, are g below, (count_more (flag_at flags) (g * size) (g * size + size) (omega arith)).1)
@@ -79,7 +79,7 @@ module _ (size : ℕ) (flags : List Bool) (counts : List ℕ) (are : AreCounts s
   count_has i some below = has_it (i / size) i below (group_low i size) (group_high i size some)
 
   set_in : (g i : ℕ) (flag : Bool) (count : ℕ) → g < length counts → g * size ≤ i → i < g * size + size → i < length flags
-      → count + one_if (get_or flags i false) ≡ get_or counts g 0 + one_if flag → AreCounts size (set flags i flag) (set counts g count)
+      → count + one_if (get_or flags i false) ≡ get_or counts g 0 + one_if flag → AreGroupCounts size (set flags i flag) (set counts g count)
   set_in g i flag count below low high i_below is h h_below = elim (cases_eq h g) [
     | inl at ↦ rw at (omega (arith, is, are g below, set_below flags i flag (g * size) low, set_above flags i flag (g * size + size) high i_below, get_or-set_same counts g count 0 below))
     | inr other ↦
@@ -97,7 +97,7 @@ module _ (size : ℕ) (flags : List Bool) (counts : List ℕ) (are : AreCounts s
   ]
 
   pub counts_set : (i : ℕ) (flag : Bool) (count : ℕ) → 0 < size → i / size < length counts → i < length flags
-      → count + one_if (get_or flags i false) ≡ get_or counts (i / size) 0 + one_if flag → AreCounts size (set flags i flag) (set counts (i / size) count)
+      → count + one_if (get_or flags i false) ≡ get_or counts (i / size) 0 + one_if flag → AreGroupCounts size (set flags i flag) (set counts (i / size) count)
   counts_set i flag count some below i_below is = set_in (i / size) i flag count below (group_low i size) (group_high i size some) i_below is
 
   -- groups side by side
@@ -139,14 +139,14 @@ same_there zero k x = refl
 same_there (suc m) zero x = refl
 same_there (suc m) (suc k) x = same_there m k x
 
-pub none_counted : (size n m : ℕ) (flags : List Bool) (counts : List ℕ) → flags ≡ replicate n false → counts ≡ replicate m 0 → AreCounts size flags counts
+pub none_counted : (size n m : ℕ) (flags : List Bool) (counts : List ℕ) → flags ≡ replicate n false → counts ≡ replicate m 0 → AreGroupCounts size flags counts
 none_counted size n m flags counts flags_are counts_are g below =
     let none : (k : ℕ) → count_places (flag_at flags) k ≡ 0 = λ k. count_none (flag_at flags) k (λ i i_below. ap (λ (xs : List Bool). get_or xs (suc i - 1) false) flags_are ∙ not_marked n (suc i - 1)) in
     let here : get_or counts g 0 ≡ 0 = ap (λ (xs : List ℕ). get_or xs g 0) counts_are ∙ same_there m g 0 in
     omega (arith, none (g * size), none (g * size + size), here)
 
 -- the places of a group up to the first whole eight, the eights up to the first whole block, and the blocks
-pub three_parts : (flags : List Bool) (eights blocks : List ℕ) (first end eight block past near more far : ℕ) → AreCounts 8 flags eights → AreCounts 128 flags blocks
+pub three_parts : (flags : List Bool) (eights blocks : List ℕ) (first end eight block past near more far : ℕ) → AreGroupCounts 8 flags eights → AreGroupCounts 128 flags blocks
     → first ≤ eight * 8 → eight ≤ block * 16 → block ≤ past → eight * 8 ≤ length flags → block * 16 ≤ length eights → past ≤ length blocks → first ≤ end → end ≤ past * 128
     → ((n : ℕ) → end ≤ n → flag_at flags (suc n) ≡ false)
     → near ≡ count_by (λ flag. flag) (take (eight * 8 - first) (drop first flags)) → more ≡ sum (take (block * 16 - eight) (drop eight eights)) → far ≡ sum (take (past - block) (drop block blocks))
@@ -190,7 +190,7 @@ edges first end n order within =
     }
 
 -- the counts between two groups, as the code reads them
-pub between_few : (size : ℕ) (flags : List Bool) (counts xs : List ℕ) (a b : ℕ) → AreCounts size flags counts → xs ≡ counts → a ≤ b → b ≤ length counts → length counts * size < 4294967296
+pub between_few : (size : ℕ) (flags : List Bool) (counts xs : List ℕ) (a b : ℕ) → AreGroupCounts size flags counts → xs ≡ counts → a ≤ b → b ≤ length counts → length counts * size < 4294967296
     → sum (take (b - a) (drop a xs)) < 4294967296
 between_few size flags counts xs a b are same le within few =
     let is : sum (take (b - a) (drop a xs)) ≡ sum (take (b - a) (drop a counts)) = ap (λ (ys : List ℕ). sum (take (b - a) (drop a ys))) same in

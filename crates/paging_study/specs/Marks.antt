@@ -3,5 +3,5 @@ use Rattle.std.specs.Prelude.{◌≡◌, ℕ, ◌+◌, ◌*◌, ◌<◌, Bool, L
 use Rattle.paging_study.specs.Places.{flag_at, count_places}
 
 -- each count is how many places of its group are marked, a group having so many places
-abbrev pub AreCounts : ℕ → List Bool → List ℕ → Type 0
-AreCounts size flags counts = (g : ℕ) → g < length counts → count_places (flag_at flags) (g * size) + slice_index counts g ≡ count_places (flag_at flags) (g * size + size)
+abbrev pub AreGroupCounts : ℕ → List Bool → List ℕ → Type 0
+AreGroupCounts size flags counts = (g : ℕ) → g < length counts → count_places (flag_at flags) (g * size) + slice_index counts g ≡ count_places (flag_at flags) (g * size + size)

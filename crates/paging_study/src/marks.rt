@@ -1,6 +1,6 @@
 ghost use Rattle.std.specs.Prelude.{◌≡◌, ℕ, suc, false, ◌+◌, ◌*◌, ◌/◌, ◌^◌, ◌<◌, ◌≤◌, ◌&&◌, nat_lt, length, replicate, slice_set, sum, count_by, IfOk};
 ghost use Rattle.paging_study.specs.Places.{one_if, flag_at, count_places};
-ghost use Rattle.paging_study.specs.Marks.{AreCounts};
+ghost use Rattle.paging_study.specs.Marks.{AreGroupCounts};
 
 use std::alloc::Global;
 use vm_types::NoMemory;
@@ -14,8 +14,8 @@ pub(crate) struct Marks {
     pub(crate) eights: Vec<u32>,
     /// The same for 128 places.
     pub(crate) blocks: Vec<u32>,
-    ghost by_eight: { AreCounts 8 flags.items eights.items },
-    ghost by_block: { AreCounts 128 flags.items blocks.items },
+    ghost by_eight: { AreGroupCounts 8 flags.items eights.items },
+    ghost by_block: { AreGroupCounts 128 flags.items blocks.items },
     ghost eights_len: { length flags.items ≡ length eights.items * 8 },
     ghost blocks_len: { length flags.items ≡ length blocks.items * 128 },
     ghost few: { length flags.items ≤ 2 ^ 20 },

@@ -25,7 +25,7 @@ use Rattle.pager_laws.proofs.ValidEntries.{valid_at_page}
 use Rattle.state_fits.proofs.FewShares.{few_shares}
 use Rattle.vm_state.specs.ProcessReadings.{slot_by, slot_in, slot_with}
 use Rattle.state_pages.specs.declared.found.Slot.{Slot}
-use Rattle.pfn_report.specs.Counts.{AreCounts, is_named, is_pinned_for, is_slot_for, passed, pins_below, pins_passed, shares_below}
+use Rattle.pfn_report.specs.Counts.{AreFrameCounts, is_named, is_pinned_for, is_slot_for, passed, pins_below, pins_passed, shares_below}
 use Rattle.pfn_report.proofs.SlotPins.{all_pinned, and_false, and_true, fewer_pinned, more_pinned, own_pins}
 use Rattle.pfn_report.proofs.SlotShares.{all_below, fewer_below, more_below, slots_share}
 
@@ -57,15 +57,15 @@ slot_missing valid p held is = by (entry_of valid p held.vpn) is
     by (Some e) is = absurd (none-some _ is)
 
 -- ---- counts
-pub counts_as : (n : ℕ) (before after : ℕ → ℕ) (counts : List ℕ) → AreCounts n before counts → ((k : ℕ) → after k ≡ before k) → AreCounts n after counts
+pub counts_as : (n : ℕ) (before after : ℕ → ℕ) (counts : List ℕ) → AreFrameCounts n before counts → ((k : ℕ) → after k ≡ before k) → AreFrameCounts n after counts
 counts_as n before after counts are same = record { size = are.size; each = λ k below. are.each k below ∙ sym (same k) }
 
 -- no count yet
-pub counts_none : (n : ℕ) → AreCounts n (λ f. 0) (replicate n 0)
+pub counts_none : (n : ℕ) → AreFrameCounts n (λ f. 0) (replicate n 0)
 counts_none n = record { size = length-replicate n 0; each = λ f below. get_or-replicate n f 0 0 below }
 
 -- one count more
-pub counts_more : (n f : ℕ) (before after : ℕ → ℕ) (counts : List ℕ) → AreCounts n before counts → f < n → ((k : ℕ) → after k ≡ before k + one (nat_eq f k)) → AreCounts n after (set counts f (get_or counts f 0 + 1))
+pub counts_more : (n f : ℕ) (before after : ℕ → ℕ) (counts : List ℕ) → AreFrameCounts n before counts → f < n → ((k : ℕ) → after k ≡ before k + one (nat_eq f k)) → AreFrameCounts n after (set counts f (get_or counts f 0 + 1))
 counts_more n f before after counts are within more =
     record { size = length-set counts f (get_or counts f 0 + 1) ∙ are.size; each = λ k below. go k below (nat_eq f k) refl }
   where
@@ -82,7 +82,7 @@ counts_more n f before after counts are within more =
         get_or-set_other counts f k (get_or counts f 0 + 1) 0 (λ same. eqb-false f k is (sym same)) ∙ omega (arith, are.each k below, step)
 
 -- one count more, or none
-pub counts_plus : (n f : ℕ) (more : Bool) (before after : ℕ → ℕ) (counts : List ℕ) → AreCounts n before counts → f < n → ((k : ℕ) → after k ≡ before k + one (nat_eq f k && more)) → AreCounts n after (set counts f (get_or counts f 0 + one more))
+pub counts_plus : (n f : ℕ) (more : Bool) (before after : ℕ → ℕ) (counts : List ℕ) → AreFrameCounts n before counts → f < n → ((k : ℕ) → after k ≡ before k + one (nat_eq f k && more)) → AreFrameCounts n after (set counts f (get_or counts f 0 + one more))
 counts_plus n f true before after counts are within step = counts_more n f before after counts are within (λ k. step k ∙ ap (λ (b : Bool). before k + one b) (and_true (nat_eq f k)))
 counts_plus n f false before after counts are within step =
     record {

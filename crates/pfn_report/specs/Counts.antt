@@ -7,7 +7,7 @@ use Rattle.pager_model.specs.Pager.{Pager, Valid}
 use Rattle.pager_model.specs.Report.{is_pin_on}
 
 -- one count for each of n frames
-pub record AreCounts (n : ℕ) (count : ℕ → ℕ) (counts : List ℕ) : Type 0 where
+pub record AreFrameCounts (n : ℕ) (count : ℕ → ℕ) (counts : List ℕ) : Type 0 where
   pub size : length counts ≡ n
   pub each : (f : ℕ) → f < n → slice_index counts f ≡ count f
 

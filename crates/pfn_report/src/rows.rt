@@ -5,7 +5,7 @@ ghost use Rattle.std.specs.List.{range_with_len};
 ghost use Rattle.pager_model.specs.Lookups.{shares};
 ghost use Rattle.pager_model.specs.Report.{frame_row, frame_rows, pins_on, process_row};
 ghost use Rattle.vm_state.specs.History.{pager};
-ghost use Rattle.pfn_report.specs.Counts.{AreCounts};
+ghost use Rattle.pfn_report.specs.Counts.{AreFrameCounts};
 ghost use Rattle.run_text.specs.Rows.{frame_view, process_view};
 
 use crate::slots::count_slots;
@@ -23,12 +23,12 @@ pub fn process_rows<B: Block>(
     counts: &mut [u32],
     pins: &mut [u32],
 ) -> Result<Listed<ProcessRow>, NoMemory>
-    requires no_shares { AreCounts state.now.config.frames (λ f. 0) counts.old }
-    requires no_pins { AreCounts state.now.config.frames (λ f. 0) pins.old }
+    requires no_shares { AreFrameCounts state.now.config.frames (λ f. 0) counts.old }
+    requires no_pins { AreFrameCounts state.now.config.frames (λ f. 0) pins.old }
     ensures rows { IfOk result (λ rows. map process_view rows
         ≡ map (process_row (pager state.now)) (range_with_len 0 (length state.now.config.procs))) }
-    ensures counts { OnOk result (AreCounts state.now.config.frames (shares (pager state.now).valid) counts.new) }
-    ensures pins { OnOk result (AreCounts state.now.config.frames (pins_on (pager state.now)) pins.new) }
+    ensures counts { OnOk result (AreFrameCounts state.now.config.frames (shares (pager state.now).valid) counts.new) }
+    ensures pins { OnOk result (AreFrameCounts state.now.config.frames (pins_on (pager state.now)) pins.new) }
 {
     state.run_law();
     let mut rows = Listed::new(alloc);
@@ -72,8 +72,8 @@ pub fn frame_rows<B: Block>(
     counts: &[u32],
     pins: &[u32],
 ) -> Result<Listed<FrameRow>, NoMemory>
-    requires shares { AreCounts state.now.config.frames (shares (pager state.now).valid) counts.now }
-    requires pins { AreCounts state.now.config.frames (pins_on (pager state.now)) pins.now }
+    requires shares { AreFrameCounts state.now.config.frames (shares (pager state.now).valid) counts.now }
+    requires pins { AreFrameCounts state.now.config.frames (pins_on (pager state.now)) pins.now }
     ensures { IfOk result (λ rows. map frame_view rows ≡ frame_rows state.now.config state.now.past (pager state.now)) }
 {
     let mut rows = Listed::new(alloc);

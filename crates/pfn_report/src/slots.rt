@@ -3,7 +3,7 @@
 ghost use Rattle.std.specs.Prelude.{◌≡◌, ◌+◌, ◌<◌, length, take};
 ghost use Rattle.vm_types.specs.Ring.{filled};
 ghost use Rattle.vm_state.specs.History.{pager};
-ghost use Rattle.pfn_report.specs.Counts.{AreCounts, passed, pins_below, pins_passed, shares_below};
+ghost use Rattle.pfn_report.specs.Counts.{AreFrameCounts, passed, pins_below, pins_passed, shares_below};
 
 use disk_trait::Block;
 use vm_state::State;
@@ -20,11 +20,11 @@ fn count_slot<B: Block>(
 ) -> u32
     requires process { p.0 < length state.now.config.procs }
     requires slot { n < length ((pager state.now).ring p.0).slots }
-    requires before { AreCounts state.now.config.frames (passed (pager state.now) p.0 n) shares.old }
-    requires pins_before { AreCounts state.now.config.frames (pins_passed (pager state.now) p.0 n) pins.old }
+    requires before { AreFrameCounts state.now.config.frames (passed (pager state.now) p.0 n) shares.old }
+    requires pins_before { AreFrameCounts state.now.config.frames (pins_passed (pager state.now) p.0 n) pins.old }
     ensures filled { filled (take n ((pager state.now).ring p.0).slots) + result ≡ filled (take (n + 1) ((pager state.now).ring p.0).slots) }
-    ensures after { AreCounts state.now.config.frames (passed (pager state.now) p.0 (n + 1)) shares.new }
-    ensures pins_after { AreCounts state.now.config.frames (pins_passed (pager state.now) p.0 (n + 1)) pins.new }
+    ensures after { AreFrameCounts state.now.config.frames (passed (pager state.now) p.0 (n + 1)) shares.new }
+    ensures pins_after { AreFrameCounts state.now.config.frames (pins_passed (pager state.now) p.0 (n + 1)) pins.new }
 {
     state.run_law();
     match state.slot(p, n) {
@@ -42,11 +42,11 @@ fn count_slot<B: Block>(
 /// counted.
 pub fn count_slots<B: Block>(state: &State<B>, p: Proc, shares: &mut [u32], pins: &mut [u32]) -> u32
     requires there { p.0 < length state.now.config.procs }
-    requires before { AreCounts state.now.config.frames (shares_below (pager state.now).valid p.0) shares.old }
-    requires pins_before { AreCounts state.now.config.frames (pins_below (pager state.now) p.0) pins.old }
+    requires before { AreFrameCounts state.now.config.frames (shares_below (pager state.now).valid p.0) shares.old }
+    requires pins_before { AreFrameCounts state.now.config.frames (pins_below (pager state.now) p.0) pins.old }
     ensures filled { result ≡ filled ((pager state.now).ring p.0).slots }
-    ensures after { AreCounts state.now.config.frames (shares_below (pager state.now).valid (p.0 + 1)) shares.new }
-    ensures pins_after { AreCounts state.now.config.frames (pins_below (pager state.now) (p.0 + 1)) pins.new }
+    ensures after { AreFrameCounts state.now.config.frames (shares_below (pager state.now).valid (p.0 + 1)) shares.new }
+    ensures pins_after { AreFrameCounts state.now.config.frames (pins_below (pager state.now) (p.0 + 1)) pins.new }
 {
     state.run_law();
     let mut count = 0;

@@ -28,7 +28,7 @@ use Rattle.serial_laws.proofs.Begins.{IsWriting, need_writing, stopped_some}
 use Rattle.serial_laws.proofs.Writes.{carrying_writes}
 use Rattle.policy_ends.proofs.WriteCarriers.{run_landed}
 use Rattle.policy_ends.proofs.WriteSteps.{IsClear}
-use Rattle.policy_ends.specs.Clean.{IsClean, IsCleanAt, IsOver, NoneBefore, NoneShared, failures}
+use Rattle.policy_ends.specs.Clean.{IsClean, IsCleanAt, NoneSharedLeft, NoneBefore, NoneShared, failures}
 use Rattle.policy_ends.proofs.Clusters.{AreListOuts, HasBegun, HasLandedWell, IsStill, landed_well, need_outs, shared_still, still_then, writes_begun}
 use Rattle.policy_ends.proofs.Evictions.{evicted_clean}
 use Rattle.policy_ends.proofs.Searches.{all_passed, beyond, next_place}
@@ -57,13 +57,13 @@ module _ (config : Config) (past : List Entry) (between : IsBetween config past)
   -- each way to make this move keeps what was cleaned; and where there is none, it is over
   pub record MoveCleans (m : Move) : Type 0 where
     pub keeps : (heard : Heard) (more : List Entry) (next : Control) → IsMade config past heard more next m → IsRun config more → failures more ≤ failures past → IsCleanAt (pager_after config more) next
-    pub over : m ≡ rests → IsOver a
+    pub over : m ≡ rests → NoneSharedLeft a
 
   either : (b : Bool) (x y : Move) → (b ≡ true → MoveCleans x) → (b ≡ false → MoveCleans y) → MoveCleans (cond b x y)
   either true x y first second = first refl
   either false x y first second = second refl
 
-  resting : IsOver a → MoveCleans rests
+  resting : NoneSharedLeft a → MoveCleans rests
   resting over = record { keeps = λ heard more next made run none. absurd made; over = λ is. over }
 
   -- ---- a cluster

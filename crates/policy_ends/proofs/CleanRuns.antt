@@ -16,7 +16,7 @@ use Rattle.serial_laws.specs.Between.{IsBetween}
 use Rattle.serial_laws.proofs.Kept.{moves_between}
 use Rattle.serial_laws.proofs.Rundowns.{cleaning_fits}
 use Rattle.policy_ends.proofs.WriteCarriers.{run_before, run_landed}
-use Rattle.policy_ends.specs.Clean.{IsCleanAt, IsEarlier, IsOver, failures}
+use Rattle.policy_ends.specs.Clean.{IsCleanAt, IsEarlier, NoneSharedLeft, failures}
 use Rattle.policy_ends.specs.RundownLaws.{NoFailureNoDirt}
 use Rattle.policy_ends.proofs.CleanMoves.{cleaning_cleans}
 use Rattle.policy_ends.proofs.Ended.{none_dirty}
@@ -111,7 +111,7 @@ no_failure_no_dirt config past rest formed run whole none = none_dirty config (r
         clean_run config past (record { formed = formed; run = run_past config rest past run; landed = whole.landed; reused = whole.reused }) whole.rundown.told (rest ++ past) whole.rundown.control whole.rundown.reached run
         (omega (arith, none, failures_both rest past))
 
-    over : IsOver (pager_after config (rest ++ past))
+    over : NoneSharedLeft (pager_after config (rest ++ past))
     over =
         (cleaning_cleans config (rest ++ past) over_run.between over_run.clean.at over_run.clean.clean).over
         (ap (move_of config (rest ++ past)) (sym over_run.clean.is) ∙ whole.rundown.rests)

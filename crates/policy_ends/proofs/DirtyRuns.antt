@@ -28,7 +28,7 @@ use Rattle.serial_laws.specs.Between.{IsBetween}
 use Rattle.serial_laws.proofs.Kept.{moves_between}
 use Rattle.serial_laws.proofs.Rundowns.{cleaning_fits}
 use Rattle.policy_ends.specs.Clean.{IsEarlier}
-use Rattle.policy_ends.specs.Dirty.{IsUnwritten, StaysInSlot}
+use Rattle.policy_ends.specs.Dirty.{HasFailedWrite, StaysInSlot}
 use Rattle.policy_ends.specs.RundownLaws.{DirtyBecause}
 use Rattle.policy_ends.proofs.Beyond.{each_counted}
 use Rattle.policy_ends.proofs.CleanRuns.{move_back, run_past}
@@ -112,7 +112,7 @@ module _ (config : Config) (past rest : List Entry) (between : IsBetween config 
       range_passes (λ (h : ℕ). holds_page g (a.page h) && a.modify h) 0 config.frames f (omega arith) (let less = holds_within config (past_view (rest ++ past)) a f g kept holds in omega (arith, less))
       (and_from _ _ (ap (holds_page g) holds ∙ same_page_refl g) mark)
 
-  unwritten_dirty : IsUnwritten rest a g → is_dirty config a g ≡ true
+  unwritten_dirty : HasFailedWrite rest a g → is_dirty config a g ≡ true
   unwritten_dirty u = by (over.marked u.frame (since_rest rest past u.frame ∙ u.failed))
     where
       by : IsMarkedOrOpen (rest ++ past) a u.frame → is_dirty config a g ≡ true
@@ -131,7 +131,7 @@ module _ (config : Config) (past rest : List Entry) (between : IsBetween config 
       by (inl none) = absurd (false≢true (sym none ∙ listed_passes (λ (h : ℕ). holds_shared (a.page h)) a.modified f listed (ap holds_shared holds ∙ ap not shared)))
       by (inr tried) = each_counted (λ (h : ℕ). failed_since (length past) (rest ++ past) h ≡ true) a.modified f tried listed
 
-  dirty_why : is_dirty config a g ≡ true → IsUnwritten rest a g ⊎ StaysInSlot a g
+  dirty_why : is_dirty config a g ≡ true → HasFailedWrite rest a g ⊎ StaysInSlot a g
   dirty_why is = by_frame found.0 (held_page g (a.page found.0) parts.0) parts.1
     where
       found : (f : ℕ) × ((holds_page g (a.page f) && a.modify f) ≡ true)
@@ -140,10 +140,10 @@ module _ (config : Config) (past rest : List Entry) (between : IsBetween config 
       parts : (holds_page g (a.page found.0) ≡ true) × (a.modify found.0 ≡ true)
       parts = and_parts (holds_page g (a.page found.0)) (a.modify found.0) found.1
 
-      by_frame : (f : ℕ) → a.page f ≡ Some g → a.modify f ≡ true → IsUnwritten rest a g ⊎ StaysInSlot a g
+      by_frame : (f : ℕ) → a.page f ≡ Some g → a.modify f ≡ true → HasFailedWrite rest a g ⊎ StaysInSlot a g
       by_frame f holds mark = by (dirty_where config (rest ++ past) between f g holds mark)
         where
-          by : StaysInSlot a g ⊎ (0 < count_of a.modified f) → IsUnwritten rest a g ⊎ StaysInSlot a g
+          by : StaysInSlot a g ⊎ (0 < count_of a.modified f) → HasFailedWrite rest a g ⊎ StaysInSlot a g
           by (inl stays) = inr stays
           by (inr listed) = inl (record { frame = f; holds = holds; failed = sym (since_rest rest past f) ∙ listed_failed f holds listed })
 

@@ -29,11 +29,11 @@ use Rattle.pager_model.specs.DirtyPages.{dirty_pages, is_dirty, pages_from}
 use Rattle.pager_model.specs.Transfers.{writes_on}
 use Rattle.pager_rules.proofs.Basics.{count_cons, nat_eq_refl, none_passes, pages_equal}
 use Rattle.pager_rules.proofs.Lists.{all_found, count_found, found_one, found_passes}
-use Rattle.pager_rules.specs.Kept.{HasMark, HasPage, HasShares, HasWrites, IsForItsPage, IsKept, one_if}
+use Rattle.pager_rules.specs.Kept.{HasMark, FitsState, HasShares, HasWrites, IsForItsPage, IsKept, one_if}
 use Rattle.pager_laws.proofs.RunsAreSound.{run_kept}
 use Rattle.pager_laws.proofs.ValidEntries.{IsValidAt, valid_at_page}
 use Rattle.serial_laws.specs.Between.{IsBetween}
-use Rattle.policy_ends.specs.Clean.{IsOver}
+use Rattle.policy_ends.specs.Clean.{NoneSharedLeft}
 use Rattle.policy_ends.specs.Dirty.{StaysInSlot}
 
 -- ---- lists
@@ -127,7 +127,7 @@ module _ (config : Config) (past : List Entry) (between : IsBetween config past)
     abbrev Somewhere : Type 0
     Somewhere = StaysInSlot a g ⊎ (0 < count_of a.modified f)
 
-    by_state : (s : FrameState) → HasShares s (shares a.valid f) → HasWrites s (writes_on f (open_flights past)) → HasPage s (a.page f) → HasMark s (a.modify f) → count_of a.modified f ≡ one_if (is state.Modified s) → Somewhere
+    by_state : (s : FrameState) → HasShares s (shares a.valid f) → HasWrites s (writes_on f (open_flights past)) → FitsState s (a.page f) → HasMark s (a.modify f) → count_of a.modified f ≡ one_if (is state.Modified s) → Somewhere
     by_state state.Active some writes page mark listed = inl (shown some)
     by_state state.Free some writes page mark listed = absurd (false≢true (sym mark ∙ dirty))
     by_state state.Modified some writes page mark listed = inr (omega (arith, listed))
@@ -142,7 +142,7 @@ module _ (config : Config) (past : List Entry) (between : IsBetween config past)
     dirty_where = let fits = kept.frames f in by_state (a.state f) fits.shares fits.writes fits.page fits.mark fits.on_modified
 
   -- ---- where no slot has a shared page, and the modified list has none, no page of a shared section is dirty
-  module _ (over : IsOver a) where
+  module _ (over : NoneSharedLeft a) where
     not_dirty : (f : ℕ) (g : Page) → a.page f ≡ Some g → is_private g ≡ false → a.modify f ≡ true → ⊥
     not_dirty f g holds shared dirty = by (dirty_where f g holds dirty)
       where

@@ -25,7 +25,7 @@ use Rattle.pager_policy.specs.WriteCluster.{BeginIs, begin_carry, begin_gives, b
 use Rattle.pager_rules.proofs.Basics.{find_none_from_count}
 use Rattle.pager_rules.proofs.Lists.{found_passes}
 use Rattle.serial_laws.specs.Between.{IsBetween}
-use Rattle.serial_laws.specs.Controlled.{IsControlled, IsInBody, IsLeft, IsUnmet, MayBeRefused, Waits}
+use Rattle.serial_laws.specs.Controlled.{IsControlled, IsInBody, IsLeft, IsUnmet, MayBeRefused, MayRefuseMeanwhile}
 use Rattle.serial_laws.proofs.Walks.{task_formed}
 use Rattle.policy_ends.specs.Rank.{IsLower, absence, is_met, phase, rank}
 use Rattle.policy_ends.proofs.AdvancesLower.{advance_lowers}
@@ -104,17 +104,17 @@ module _ (config : Config) (past : List Entry) (between : IsBetween config past)
     status_lowers status.Gone is = gone_lowers is (coming_process config a) refl
     status_lowers status.Coming is = come_lowers config past between c doing task process next is
 
-    asked_lowers : (o : Option ℕ) → ((q : ℕ) → o ≡ Some q → IsLeft config a q) → Waits config past asking o → MoveLowers config past c (asked_move config past a o p task.request)
+    asked_lowers : (o : Option ℕ) → ((q : ℕ) → o ≡ Some q → IsLeft config a q) → MayRefuseMeanwhile config past asking o → MoveLowers config past c (asked_move config past a o p task.request)
     asked_lowers None left waits = status_lowers (a.status p) refl
     asked_lowers (Some q) left waits =
         leave_lowers config past between c p p ends_request asking (request_lowers config past c task doing next (may_unmet config a task (waits task next))) q (left q refl)
 
-  task_lowers : (c : Control) → c.doing ≡ asking → (leaving : Option ℕ) → ((q : ℕ) → leaving ≡ Some q → IsLeft config a q) → Waits config past asking leaving → (o : Option Task)
+  task_lowers : (c : Control) → c.doing ≡ asking → (leaving : Option ℕ) → ((q : ℕ) → leaving ≡ Some q → IsLeft config a q) → MayRefuseMeanwhile config past asking leaving → (o : Option Task)
       → next_task config past ≡ o → MoveLowers config past c (task_move config past a leaving o)
   task_lowers c doing leaving left waits None next = rests_lower config past c
   task_lowers c doing leaving left waits (Some task) next = asked_lowers c doing task next leaving left waits
 
-  asking_lowers : (c : Control) → c.doing ≡ asking → (leaving : Option ℕ) → ((q : ℕ) → leaving ≡ Some q → IsLeft config a q) → Waits config past asking leaving
+  asking_lowers : (c : Control) → c.doing ≡ asking → (leaving : Option ℕ) → ((q : ℕ) → leaving ≡ Some q → IsLeft config a q) → MayRefuseMeanwhile config past asking leaving
       → MoveLowers config past c (asking_move config past a leaving)
   asking_lowers c doing leaving left waits = task_lowers c doing leaving left waits (next_task config past) refl
 
@@ -151,7 +151,7 @@ module _ (config : Config) (past : List Entry) (between : IsBetween config past)
             (control (saving true p)) refl (cluster_writes config a reason_high)
 
   -- ---- each place
-  place_lowers : (c : Control) (doing : Doing) → c.doing ≡ doing → ((q : ℕ) → c.leaving ≡ Some q → IsLeft config a q) → Waits config past doing c.leaving → IsInBody doing
+  place_lowers : (c : Control) (doing : Doing) → c.doing ≡ doing → ((q : ℕ) → c.leaving ≡ Some q → IsLeft config a q) → MayRefuseMeanwhile config past doing c.leaving → IsInBody doing
       → MoveLowers config past c (move_of config past (record c { doing = doing }))
   place_lowers c asking is left waits body = asking_lowers c is c.leaving left waits
   place_lowers c (saving true p) is left waits body =

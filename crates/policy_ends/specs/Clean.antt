@@ -39,5 +39,5 @@ pub record IsCleanAt (a : Pager) (c : Control) : Type 0 where
   pub clean : IsClean a at
 
 -- where it rests no slot has a shared page, and none is on the modified list
-abbrev pub IsOver : Pager → Type 0
-IsOver a = NoneShared a × (is_shared_listed a ≡ false)
+abbrev pub NoneSharedLeft : Pager → Type 0
+NoneSharedLeft a = NoneShared a × (is_shared_listed a ≡ false)

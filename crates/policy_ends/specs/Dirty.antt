@@ -25,7 +25,7 @@ abbrev pub LastWriteFailed : List Entry → ℕ → Type 0
 LastWriteFailed rest f = last_write_failed rest f ≡ true
 
 -- a frame holds the page, and its last write failed
-pub record IsUnwritten (rest : List Entry) (a : Pager) (g : Page) : Type 0 where
+pub record HasFailedWrite (rest : List Entry) (a : Pager) (g : Page) : Type 0 where
   pub frame : ℕ
   pub holds : a.page frame ≡ Some g
   pub failed : LastWriteFailed rest frame
@@ -40,6 +40,6 @@ pub record StaysInSlot (a : Pager) (g : Page) : Type 0 where
 
 -- a page is dirty for either reason, and for no other
 pub record IsDirtyBecause (config : Config) (rest : List Entry) (a : Pager) (g : Page) : Type 0 where
-  pub because : is_dirty config a g ≡ true → IsUnwritten rest a g ⊎ StaysInSlot a g
-  pub unwritten : IsUnwritten rest a g → is_dirty config a g ≡ true
+  pub because : is_dirty config a g ≡ true → HasFailedWrite rest a g ⊎ StaysInSlot a g
+  pub unwritten : HasFailedWrite rest a g → is_dirty config a g ≡ true
   pub stays : StaysInSlot a g → is_dirty config a g ≡ true

@@ -1,7 +1,7 @@
 ghost use Rattle.std.specs.Prelude.{◌≡◌, ◌≢◌, ◌⊎◌, [], List, ℕ, Some, IfOk, refl};
 ghost use Rattle.vm_types.specs.BlockView.{Retired};
 ghost use Rattle.vm_types.specs.Moved.{moved};
-ghost use Rattle.replay_cli.specs.Commands.{Asks, HasInput, IsDone, Told, texts};
+ghost use Rattle.replay_cli.specs.Commands.{Asks, HasInput, IsDoneStatus, Told, texts};
 ghost use Rattle.replay_cli.specs.declared.words.Command.{Command};
 ghost use Rattle.program_call.specs.ProgramTells.{bytes_view, memory_view};
 
@@ -67,7 +67,7 @@ pub fn run_bytes(alloc: Global, words: &[&str], input: &[u8]) -> Result<(Status,
     // If the words ask for a command and the bytes are what it reads, it did what was asked, with dirty
     // pages left or with none, or found a line of a log that isn't legal, or memory ran out.
     ensures complete { (command : Command) → Asks (texts words.now) command → HasInput command (bytes_view input.now)
-        → IfOk result (λ run. IsDone command run.0.0) }
+        → IfOk result (λ run. IsDoneStatus command run.0.0) }
     ensures no_failure { IfOk result (λ run. (run.0.0 ≢ 3) × (run.0.0 ≢ 4) × (run.0.0 ≢ 6)) }
 {
     let mut source = BytesSource::new(input);

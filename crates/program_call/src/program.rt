@@ -6,7 +6,7 @@ ghost use Rattle.command_ends.specs.Wrongs.{IsWrong, IsWrongText};
 ghost use Rattle.command_ends.specs.declared.wrong.Wrong.{Wrong};
 ghost use Rattle.std.specs.declared.option.Option.{Option};
 ghost use Rattle.vm_types.specs.Counts.{Rose};
-ghost use Rattle.command_messages.specs.LineFaults.{Holds, Quotes};
+ghost use Rattle.command_messages.specs.LineFaults.{HoldsOfWords, Quotes};
 ghost use Rattle.command_messages.specs.Messages.{IsSaid, message_of};
 ghost use Rattle.command_messages.specs.declared.faults.LineFault.{LineFault};
 ghost use Rattle.program_call.specs.LineTold.{IsLineTold};
@@ -75,7 +75,7 @@ fn run_texts<R: Threads + Wait + Sync, S: Source, K: Sink, D: Depot>(
     ensures wrong { result.0.0 ≢ 4 → HasTold (IsWrong result.1) (K.seen output.old) (K.seen output.new) result.0.0 }
     ensures kept { IsWrongText result.1 (S.seen source.old).left kept.new.items }
     ensures line { result.0.0 ≡ 1 → (fault : LineFault) × (result.2 ≡ Some fault)
-        × Holds (map (λ word. word.now) words.now) fault × Quotes (map (λ word. word.now) words.now) fault kept.new.items }
+        × HoldsOfWords (map (λ word. word.now) words.now) fault × Quotes (map (λ word. word.now) words.now) fault kept.new.items }
 {
     let told = run_on(rt, alloc, words, source, output, depot, kept);
     if told.0.0 == 1 {

@@ -9,7 +9,7 @@ use Rattle.vm_types.specs.Moved.{Moved, moved}
 use Rattle.vm_journal.specs.declared.entry.Entry.{Entry}
 use Rattle.disk_trait.specs.DepotView.{DepotView}
 use Rattle.outside_io.specs.Views.{SinkView, SourceView}
-use Rattle.trace_reader.specs.Answer.{Answers, FaultsBy}
+use Rattle.trace_reader.specs.Answer.{AnswersTrace, FaultsByTrace}
 use Rattle.trace_reader.specs.declared.fault.TraceFault.{TraceFault}
 use Rattle.pager_model.specs.Asked.{IsAsked}
 use Rattle.pager_policy.specs.Serial.{IsSerial}
@@ -56,7 +56,7 @@ dumped_run depot config d past formed run is sound = record { past = past; run =
 
 module _ {before after : SourceView} {depot depot' : DepotView} {sink sink' : SinkView} {result : ℕ} where
   -- the trace was read, and its configuration was answered
-  pub concludes_dumped : (config : Config) → IfSome before.left (λ text. Answers (Ok config) text after.left) → FaultsBy (Ok config) before.failures after.failures
+  pub concludes_dumped : (config : Config) → IfSome before.left (λ text. AnswersTrace (Ok config) text after.left) → FaultsByTrace (Ok config) before.failures after.failures
       → EndsAnswered (IsDumpAnswer (moved depot depot') config) sink sink' result → Concludes (TellsWrong (DumpTells (moved before after) (moved depot depot')) None) sink sink' result
   concludes_dumped config means counts (inl told) = record {
     status = told.status;
@@ -85,7 +85,7 @@ module _ {before after : SourceView} {depot depot' : DepotView} {sink sink' : Si
 
 -- there is no configuration, and no block was made
 pub concludes_undumped : {before after : SourceView} {depot : DepotView} {sink sink' : SinkView} {result : ℕ} (f : TraceFault) (wrong : Option Wrong)
-    → wrong ≡ wrong_of f → IfSome before.left (λ text. Answers (Err f) text after.left) → FaultsBy (Err f) before.failures after.failures
+    → wrong ≡ wrong_of f → IfSome before.left (λ text. AnswersTrace (Err f) text after.left) → FaultsByTrace (Err f) before.failures after.failures
     → Ends sink sink' (fault_status f) (fault_told f) result → Concludes (TellsWrong (DumpTells (moved before after) (moved depot depot)) wrong) sink sink' result
 concludes_undumped {depot = depot} f wrong is means counts ends = record {
   status = fault_status f;

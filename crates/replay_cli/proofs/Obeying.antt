@@ -17,7 +17,7 @@ use Rattle.command_ends.proofs.Telling as telling
 use Rattle.check_command.specs.CheckTells.{CheckTells, HasCheckInput}
 use Rattle.check_command.proofs.Telling as checking
 use Rattle.study_command.specs.StudyText.{IsStudyAnswer}
-use Rattle.replay_cli.specs.Commands.{Asks, HasInput, HasOptionWords, IsDone, Obeys, Told, usage, unread_options, obeyed}
+use Rattle.replay_cli.specs.Commands.{Asks, HasInput, HasOptionWords, IsDoneStatus, Obeys, Told, usage, unread_options, obeyed}
 use Rattle.replay_cli.specs.MakeAnswer.{IsMakeAnswer, MakeTells, made as counted, no_memory as memory_out}
 use Rattle.make_summary.specs.declared.make.Make.{Make}
 use Rattle.show_command.specs.ShowTells.{HasDump, ShowTells}
@@ -73,7 +73,7 @@ same_name words one two a b = first (sym (begins_with words one a).1 ∙ (begins
 -- second is done of the first
 record AreSame (before : SourceView) (one two : Command) : Type 0 where
   input : HasInput one before → HasInput two before
-  done : (status : ℕ) → IsDone two status → IsDone one status
+  done : (status : ℕ) → IsDoneStatus two status → IsDoneStatus one status
 
 same_by : (before : SourceView) (one two : Command) → name_of one ≡ name_of two → AreSame before one two
 same_by before Serial Serial e = record { input = λ i. i; done = λ status d. d }
@@ -135,7 +135,7 @@ module _ {before after : SourceView} {depot depot' : DepotView} where
     complete = λ none unfailed failed. inr (inr refl);
   }
 
-  told_by_check : (status : ℕ) (text : List ℕ) → CheckTells before after status text → Holds (HasCheckInput before) (IsDone Check) before after depot depot' status
+  told_by_check : (status : ℕ) (text : List ℕ) → CheckTells before after status text → Holds (HasCheckInput before) (IsDoneStatus Check) before after depot depot' status
   told_by_check status text told = record {
     not_four = checking.not_four status text told;
     not_one = checking.not_one status text told;
@@ -144,7 +144,7 @@ module _ {before after : SourceView} {depot depot' : DepotView} where
     complete = λ input unfailed failed. checking.told_complete status text told input unfailed;
   }
 
-  told_by_show : (status : ℕ) (text : List ℕ) → ShowTells before after status text → Holds (HasDump before) (IsDone Show) before after depot depot' status
+  told_by_show : (status : ℕ) (text : List ℕ) → ShowTells before after status text → Holds (HasDump before) (IsDoneStatus Show) before after depot depot' status
   told_by_show status text told = record {
     not_four = showing.not_four status text told;
     not_one = showing.not_one status text told;
@@ -153,7 +153,7 @@ module _ {before after : SourceView} {depot depot' : DepotView} where
     complete = λ input unfailed failed. showing.told_whole status text told input unfailed;
   }
 
-  told_by_dump : (status : ℕ) (text : List ℕ) → Tells (IsDumpAnswer (moved depot depot')) before after status text → Holds (IsTrace before) (IsDone Dump) before after depot depot' status
+  told_by_dump : (status : ℕ) (text : List ℕ) → Tells (IsDumpAnswer (moved depot depot')) before after status text → Holds (IsTrace before) (IsDoneStatus Dump) before after depot depot' status
   told_by_dump status text told = record {
     not_four = telling.not_four status text told;
     not_one = telling.not_one status text told;
@@ -163,7 +163,7 @@ module _ {before after : SourceView} {depot depot' : DepotView} where
   }
 
   obeys_holds : (command : Command) (status : ℕ) (text : List ℕ) → Obeys command (moved before after) (moved depot depot') status text
-      → Holds (HasInput command before) (IsDone command) before after depot depot' status
+      → Holds (HasInput command before) (IsDoneStatus command) before after depot depot' status
   obeys_holds Serial status text obeys = run_holds IsSerial status text obeys
   obeys_holds (Study study) status text obeys = tells_holds depot depot' (IsStudyAnswer study) (λ config n t answer. study_ending depot depot' n answer.0) status text obeys.0
   obeys_holds (MakeCommand make) status text obeys = told_by_make make status text obeys.0
@@ -172,7 +172,7 @@ module _ {before after : SourceView} {depot depot' : DepotView} where
   obeys_holds Show status text obeys = told_by_show status text obeys.0
 
 -- each command may end for want of memory
-memory_ends : (command : Command) → IsDone command 7
+memory_ends : (command : Command) → IsDoneStatus command 7
 memory_ends Serial = inr (inr refl)
 memory_ends (Study study) = inr (inr refl)
 memory_ends (MakeCommand make) = inr (inr refl)
@@ -210,7 +210,7 @@ module _ {words : List (List ℕ)} {before after : SourceView} {depot depot' : D
   told_depot status text (obeyed command n t asks obeys) e = (obeys_holds command n t obeys).made e
 
   told_complete : (status : ℕ) (text : List ℕ) → Told words (moved before after) (moved depot depot') status text → (command : Command) → Asks words command → HasInput command before
-      → (Rose before.failures after.failures → ⊥) → (Rose depot.failures depot'.failures → ⊥) → IsDone command status
+      → (Rose before.failures after.failures → ⊥) → (Rose depot.failures depot'.failures → ⊥) → IsDoneStatus command status
   told_complete status text (usage other same_source kept) command asks input unfailed made = absurd (other command asks)
   told_complete status text (unread_options begin same_source kept) command asks input unfailed made = memory_ends command
   told_complete status text (obeyed own n t own_asks obeys) command asks input unfailed made =
@@ -246,6 +246,6 @@ module _ {words : List (List ℕ)} {before after : SourceView} {depot depot' : D
     ]
 
     pub complete_status : (command : Command) → Asks words command → HasInput command before → (Rose before.failures after.failures → ⊥)
-        → (Rose sink.failures sink'.failures → ⊥) → (Rose sink.stalls sink'.stalls → ⊥) → (Rose depot.failures depot'.failures → ⊥) → IsDone command result
+        → (Rose sink.failures sink'.failures → ⊥) → (Rose sink.stalls sink'.stalls → ⊥) → (Rose depot.failures depot'.failures → ⊥) → IsDoneStatus command result
     complete_status command asks input unfailed written kept made =
-        subst (IsDone command) (sym (unfailed_status c written kept)) (told_complete c.status c.text c.tells_it command asks input unfailed made)
+        subst (IsDoneStatus command) (sym (unfailed_status c written kept)) (told_complete c.status c.text c.tells_it command asks input unfailed made)

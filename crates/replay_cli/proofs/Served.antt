@@ -6,7 +6,7 @@ use Rattle.pager_policy.specs.Serial.{IsSerial}
 use Rattle.command_ends.specs.Concludes.{HasTold}
 use Rattle.replay_cli.specs.Commands.{Asks, Obeys, Told, usage, unread_options, obeyed}
 use Rattle.disk_trait.specs.DepotView.{DepotView}
-use Rattle.replay_cli.specs.Headline.{IsServed}
+use Rattle.replay_cli.specs.Headline.{IsSerialServed}
 use Rattle.replay_cli.specs.declared.words.Command.{Command}
 use Rattle.replay_cli.specs.declared.words.Command.TheVariants.{Serial, Study, Make, Check, Dump, Show}
 use Rattle.replay_cli.proofs.Running.{HasRun, IsFinal, is_served, not_both, tells_run}
@@ -40,7 +40,7 @@ module _ {source : Moved SourceView} {depot : Moved DepotView} where
   told_run words status text is (obeyed command n t asks obeys) ends = obeys_run words command status text is asks obeys ends
 
   pub served : {words : List (List ℕ)} {sink : Moved SinkView} {status : ℕ} → (status ≢ 4 → HasTold (Told words source depot) sink.before sink.after status)
-      → words ≡ codes "serial" ∷ [] → IsFinal status → IsServed source depot sink status
+      → words ≡ codes "serial" ∷ [] → IsFinal status → IsSerialServed source depot sink status
   served {words} {sink} {status} told is ends =
       let whole = told (λ four. not_both status 4 ends four (λ e. omega (arith, e)) (λ e. omega (arith, e))) in
       is_served IsSerial status whole.0 (told_run words status whole.0 is whole.1 ends) whole.2

@@ -7,7 +7,7 @@ use Rattle.vm_types.specs.Moved.{moved}
 use Rattle.vm_journal.specs.declared.entry.Entry.{Entry}
 use Rattle.disk_trait.specs.DepotView.{DepotView}
 use Rattle.outside_io.specs.Views.{SinkView, SourceView}
-use Rattle.trace_reader.specs.Answer.{Answers, FaultsBy}
+use Rattle.trace_reader.specs.Answer.{AnswersTrace, FaultsByTrace}
 use Rattle.trace_reader.specs.declared.fault.TraceFault.{TraceFault}
 use Rattle.run_words.specs.Text.{status_line}
 use Rattle.command_ends.specs.Concludes.{Concludes, EndsAnswered, IsOutcome}
@@ -33,7 +33,7 @@ not_early status outcome early =
 
 module _ (Makes : Config → List Entry → Type 0) {before after : SourceView} {depot depot' : DepotView} {sink sink' : SinkView} {result : ℕ} where
   -- the trace was read, and its configuration was answered
-  pub concludes_run : (config : Config) → IfSome before.left (λ text. Answers (Ok config) text after.left) → FaultsBy (Ok config) before.failures after.failures
+  pub concludes_run : (config : Config) → IfSome before.left (λ text. AnswersTrace (Ok config) text after.left) → FaultsByTrace (Ok config) before.failures after.failures
       → EndsAnswered (IsRunAnswer (Makes config) (moved depot depot') config) sink sink' result → Concludes (TellsWrong (RunTells Makes (moved before after) (moved depot depot')) None) sink sink' result
   concludes_run config means counts (inl told) = record {
     status = told.status;
@@ -62,7 +62,7 @@ module _ (Makes : Config → List Entry → Type 0) {before after : SourceView} 
 
 -- there is no configuration, and no block was made
 pub concludes_unread : (Makes : Config → List Entry → Type 0) {before after : SourceView} {depot : DepotView} {sink sink' : SinkView} {result : ℕ} (f : TraceFault) (wrong : Option Wrong)
-    → wrong ≡ wrong_of f → IfSome before.left (λ text. Answers (Err f) text after.left) → FaultsBy (Err f) before.failures after.failures
+    → wrong ≡ wrong_of f → IfSome before.left (λ text. AnswersTrace (Err f) text after.left) → FaultsByTrace (Err f) before.failures after.failures
     → Ends sink sink' (fault_status f) (fault_told f) result → Concludes (TellsWrong (RunTells Makes (moved before after) (moved depot depot)) wrong) sink sink' result
 concludes_unread Makes {depot = depot} f wrong is means counts ends = record {
   status = fault_status f;

@@ -4,9 +4,9 @@ use Rattle.vm_types.specs.Moved.{Moved}
 use Rattle.vm_types.specs.Counts.{Rose}
 use Rattle.outside_io.specs.Views.{SinkView, SourceView}
 use Rattle.command_ends.specs.Concludes.{HasTold, WasCut}
-use Rattle.replay_cli.specs.Commands.{Asks, HasInput, HasOptionWords, IsDone, Told}
+use Rattle.replay_cli.specs.Commands.{Asks, HasInput, HasOptionWords, IsDoneStatus, Told}
 use Rattle.disk_trait.specs.DepotView.{DepotView}
-use Rattle.replay_cli.specs.Headline.{IsServed}
+use Rattle.replay_cli.specs.Headline.{IsSerialServed}
 use Rattle.replay_cli.specs.declared.words.Command.{Command}
 
 -- Words ask for a command, and the call ended with the status.
@@ -16,7 +16,7 @@ pub record IsCommandRun (words : List (List ℕ)) (source : Moved SourceView) (d
   -- With status 4 it is a proper prefix of the text that would have been written.
   pub cut : status ≡ 4 → WasCut (Told words source depot) sink.before sink.after
   -- The headline: with status 0 or 5 `serial` has served the trace.
-  pub served : words ≡ codes "serial" ∷ [] → (status ≡ 0) ⊎ (status ≡ 5) → IsServed source depot sink status
+  pub served : words ≡ codes "serial" ∷ [] → (status ≡ 0) ⊎ (status ≡ 5) → IsSerialServed source depot sink status
   -- Status 1 comes exactly if the words ask for no command, unless the write fails, or memory runs out while options are read.
   pub usage : ((command : Command) → Asks words command → ⊥) → (status ≡ 1) ⊎ ((status ≡ 4) ⊎ (HasOptionWords words × (status ≡ 7)))
   pub no_usage : status ≡ 1 → (command : Command) → Asks words command → ⊥
@@ -29,7 +29,7 @@ pub record IsCommandRun (words : List (List ℕ)) (source : Moved SourceView) (d
   -- found a line of a log that isn't legal, or memory ran out.
   pub complete : (command : Command) → Asks words command → HasInput command source.before → (Rose source.before.failures source.after.failures → ⊥)
       → (Rose sink.before.failures sink.after.failures → ⊥) → (Rose sink.before.stalls sink.after.stalls → ⊥)
-      → (Rose depot.before.failures depot.after.failures → ⊥) → IsDone command status
+      → (Rose depot.before.failures depot.after.failures → ⊥) → IsDoneStatus command status
   -- The bytes taken are known after the call exactly if they were before, and no count falls.
   pub known_later : is_some sink.after.taken ≡ is_some sink.before.taken
   pub read_later : source.before.failures ≤ source.after.failures

@@ -46,13 +46,13 @@ abbrev pub HasOptionWords : List (List ℕ) → Type 0
 HasOptionWords words = (options : List (List ℕ)) × ((words ≡ codes "study" ∷ options) ⊎ (words ≡ codes "make" ∷ options))
 
 -- its numbers are ones that it takes
-abbrev pub IsBounded : Command → Type 0
-IsBounded Serial = Unit {0}
-IsBounded (Study study) = (1 ≤ study.frames) × (study.frames ≤ 1024)
-IsBounded (Make make) = IsMakeable make
-IsBounded Check = Unit {0}
-IsBounded Dump = Unit {0}
-IsBounded Show = Unit {0}
+abbrev pub HasNumbersInRange : Command → Type 0
+HasNumbersInRange Serial = Unit {0}
+HasNumbersInRange (Study study) = (1 ≤ study.frames) × (study.frames ≤ 1024)
+HasNumbersInRange (Make make) = IsMakeable make
+HasNumbersInRange Check = Unit {0}
+HasNumbersInRange Dump = Unit {0}
+HasNumbersInRange Show = Unit {0}
 
 -- what the command reads is known: a trace, a trace and a log that isn't too long, a dump, or nothing
 abbrev pub HasInput : Command → SourceView → Type 0
@@ -65,13 +65,13 @@ HasInput Show before = HasDump before
 
 -- its status if it has its input and nothing fails: 0, or 5 with pages left dirty, or 8 with a line of the log that
 -- isn't legal; or 7
-abbrev pub IsDone : Command → ℕ → Type 0
-IsDone Serial status = (status ≡ 0) ⊎ ((status ≡ 5) ⊎ (status ≡ 7))
-IsDone (Study study) status = (status ≡ 0) ⊎ ((status ≡ 5) ⊎ (status ≡ 7))
-IsDone (Make make) status = (status ≡ 0) ⊎ ((status ≡ 5) ⊎ (status ≡ 7))
-IsDone Check status = (status ≡ 0) ⊎ ((status ≡ 8) ⊎ (status ≡ 7))
-IsDone Dump status = (status ≡ 0) ⊎ (status ≡ 7)
-IsDone Show status = (status ≡ 0) ⊎ (status ≡ 7)
+abbrev pub IsDoneStatus : Command → ℕ → Type 0
+IsDoneStatus Serial status = (status ≡ 0) ⊎ ((status ≡ 5) ⊎ (status ≡ 7))
+IsDoneStatus (Study study) status = (status ≡ 0) ⊎ ((status ≡ 5) ⊎ (status ≡ 7))
+IsDoneStatus (Make make) status = (status ≡ 0) ⊎ ((status ≡ 5) ⊎ (status ≡ 7))
+IsDoneStatus Check status = (status ≡ 0) ⊎ ((status ≡ 8) ⊎ (status ≡ 7))
+IsDoneStatus Dump status = (status ≡ 0) ⊎ (status ≡ 7)
+IsDoneStatus Show status = (status ≡ 0) ⊎ (status ≡ 7)
 
 -- what the command tells with a status, by what is seen of the source and of the depot before and after; a study,
 -- a check and a dump that is shown make no block, and `make` reads nothing

@@ -106,5 +106,5 @@ pub record IsServedBy (Makes : Config → List Entry → Type 0) (source : Moved
   pub taken : Appends sink.before.taken sink.after.taken text
 
 -- The headline of `serial`: the run is that of the serial policy.
-abbrev pub IsServed : Moved SourceView → Moved DepotView → Moved SinkView → ℕ → Type 0
-IsServed source depot sink status = IsServedBy IsSerial source depot sink status
+abbrev pub IsSerialServed : Moved SourceView → Moved DepotView → Moved SinkView → ℕ → Type 0
+IsSerialServed source depot sink status = IsServedBy IsSerial source depot sink status

@@ -1,5 +1,5 @@
 ghost use Rattle.std.specs.Prelude.{◌≡◌, IfOk, IfSome, IfNone, OnErr, Some, map};
-ghost use Rattle.replay_cli.specs.Commands.{Asks, HasOptionWords, IsBounded, plain_word};
+ghost use Rattle.replay_cli.specs.Commands.{Asks, HasOptionWords, HasNumbersInRange, plain_word};
 ghost use Rattle.replay_cli.specs.declared.words.Command.{Command};
 
 use crate::make_words::make_of;
@@ -30,7 +30,7 @@ pub enum Command {
 fn plain_command(name: &[u8]) -> Option<Command>
     ensures some { IfSome result (λ command. plain_word command ≡ Some name.now) }
     ensures none { IfNone result ((command : Command) → plain_word command ≡ Some name.now → ⊥) }
-    ensures bounded { IfSome result IsBounded }
+    ensures bounded { IfSome result HasNumbersInRange }
 {
     match name {
         b"serial" => Some(Command::Serial),
@@ -47,7 +47,7 @@ fn plain_command(name: &[u8]) -> Option<Command>
 pub fn command_of<'a>(alloc: Global, words: &'a [&'a str]) -> Result<Option<Command>, NoMemory>
     ensures some { IfOk result (λ found. IfSome found (Asks (map (λ word. word.now) words.now))) }
     ensures none { IfOk result (λ found. IfNone found ((command : Command) → Asks (map (λ word. word.now) words.now) command → ⊥)) }
-    ensures bounded { IfOk result (λ found. IfSome found IsBounded) }
+    ensures bounded { IfOk result (λ found. IfSome found HasNumbersInRange) }
     ensures memory { OnErr result (HasOptionWords (map (λ word. word.now) words.now)) }
 {
     let Some((first, rest)) = first_word(words) else {

@@ -12,7 +12,7 @@ use Rattle.pager_model.specs.Order.{IsAnswered}
 use Rattle.pager_model.specs.Run.{IsRun}
 use Rattle.pager_model.specs.Spoken.{IsRight}
 use Rattle.serial_laws.specs.Between.{IsBetween}
-use Rattle.seat_turns.specs.Rests.{IsSwapped, IsWritten}
+use Rattle.seat_turns.specs.Rests.{SwapperRests, WriterRests}
 use Rattle.vm_state.specs.Based.{base_of, kept_entries}
 use Rattle.vm_state.specs.History.{History}
 use Rattle.vm_state.specs.declared.base.StateBase.{StateBase}
@@ -48,11 +48,11 @@ module _ (b : StateBase) (playable : IsPlayable b) (s : History) (base : base_of
   played_answered : IsAnswered s.config s.past
   played_answered = there IsAnswered (all_answered b playable journal ran done)
 
-  played_writer : HasWorkedAt s.config s.past (length s.config.procs) (λ config older a. IsWritten config a)
-  played_writer = there (λ (c : Config) (past : List Entry). HasWorkedAt c past (length c.procs) (λ config older a. IsWritten config a)) (writer_worked b playable journal ran done)
+  played_writer : HasWorkedAt s.config s.past (length s.config.procs) (λ config older a. WriterRests config a)
+  played_writer = there (λ (c : Config) (past : List Entry). HasWorkedAt c past (length c.procs) (λ config older a. WriterRests config a)) (writer_worked b playable journal ran done)
 
-  played_swapper : HasWorkedAt s.config s.past (length s.config.procs + 1) IsSwapped
-  played_swapper = there (λ (c : Config) (past : List Entry). HasWorkedAt c past (length c.procs + 1) IsSwapped) (swapper_worked b playable journal ran done)
+  played_swapper : HasWorkedAt s.config s.past (length s.config.procs + 1) SwapperRests
+  played_swapper = there (λ (c : Config) (past : List Entry). HasWorkedAt c past (length c.procs + 1) SwapperRests) (swapper_worked b playable journal ran done)
 
   pub has_played : (tells : Bool) → (tells ≡ true → IsRight s.config s.past) → HasPlayed tells b s
   has_played tells right = record {

@@ -17,11 +17,11 @@ use Rattle.pager_model.specs.Order.{requests_of}
 use Rattle.vm_state.specs.declared.base.StateBase.{StateBase}
 use Rattle.vm_actors.specs.Between.{IsCalm, NoneOpen}
 use Rattle.vm_actors.specs.Doings.{Knows, MayAsk, MayDo, RestsAt, request_of}
-use Rattle.vm_actors.specs.OwnEntries.{GoesOn, MadeSome}
+use Rattle.vm_actors.specs.OwnEntries.{GoesOnSilently, MadeSome}
 use Rattle.vm_actors.specs.Requests.{AreAllAnswered, HasAnswered}
 use Rattle.vm_actors.specs.declared.doing.Doing.{Doing}
 use Rattle.vm_actors.specs.declared.doing.Doing.TheVariants.{Asking, Swapping, Writing}
-use Rattle.replay_run.specs.Jobs.{IsDone, IsDoneBy, IsIdleDone, IsPlayable}
+use Rattle.replay_run.specs.Jobs.{IsWorkDone, IsDoneBy, IsIdleDone, IsPlayable}
 
 module _ (b : StateBase) (k : ℕ) (v : View StateBase) (is : v ≡ unseen (k ∷ []) b) where
   -- ---- before: nothing is open
@@ -55,7 +55,7 @@ module _ (b : StateBase) (k : ℕ) (v : View StateBase) (is : v ≡ unseen (k �
       each (x ∷ xs) are = (knows_first (MayAsk p x) playable.keeps are.0, each xs are.1)
 
   -- ---- after
-  done_by : (place : List Entry) → IsDone b k place → IsDoneBy v.base v.numbers place
+  done_by : (place : List Entry) → IsWorkDone b k place → IsDoneBy v.base v.numbers place
   done_by place done = subst (λ (w : View StateBase). IsDoneBy w.base w.numbers place) (sym is) done
 
   pub process_done : (place : List Entry) (work : List Request) → k < length b.config.procs → work ≡ requests_of k b.config.body → HasAnswered v.numbers v.seen place work → IsDoneBy v.base v.numbers place
@@ -67,15 +67,15 @@ module _ (b : StateBase) (k : ℕ) (v : View StateBase) (is : v ≡ unseen (k �
       })
 
   -- the work for no request, of the seat that may do it
-  pub idle_done : (doing : Doing) → request_of doing ≡ None → (seat : Seat) → seat.0 ≡ k → MayDo seat doing b.config → (place : List Entry) → GoesOn v.numbers v.seen place → AreAllAnswered v.base place → MadeSome v.numbers v.seen place ⊎ RestsAt doing v.base (reverse place) → IsDoneBy v.base v.numbers place
+  pub idle_done : (doing : Doing) → request_of doing ≡ None → (seat : Seat) → seat.0 ≡ k → MayDo seat doing b.config → (place : List Entry) → GoesOnSilently v.numbers v.seen place → AreAllAnswered v.base place → MadeSome v.numbers v.seen place ⊎ RestsAt doing v.base (reverse place) → IsDoneBy v.base v.numbers place
   idle_done doing none seat same may place silent all worked =
       done_by place (by doing none may (record {
-        silent = subst (λ (w : View StateBase). GoesOn w.numbers w.seen place) is silent;
+        silent = subst (λ (w : View StateBase). GoesOnSilently w.numbers w.seen place) is silent;
         answered = subst (λ (w : View StateBase). AreAllAnswered w.base place) is all;
         worked = subst (λ (w : View StateBase). MadeSome w.numbers w.seen place ⊎ RestsAt doing w.base (reverse place)) is worked;
       }))
     where
-      by : (d : Doing) → request_of d ≡ None → MayDo seat d b.config → IsIdleDone b k d place → IsDone b k place
+      by : (d : Doing) → request_of d ≡ None → MayDo seat d b.config → IsIdleDone b k d place → IsWorkDone b k place
       by (Asking p x) none may idle = absurd (none-some x (sym none))
       by Writing none may idle =
           let here : k ≡ length b.config.procs = sym same ∙ ap (λ (z : Seat). z.0) may in

@@ -13,7 +13,7 @@ use Rattle.vm_state.specs.declared.base.StateBase.{StateBase}
 use Rattle.call_begins.specs.MayBegin.{empty}
 use Rattle.vm_actors.specs.Between.{IsCalm, NoneOpen}
 use Rattle.vm_actors.specs.Doings.{MayDo, RestsAt, request_of}
-use Rattle.vm_actors.specs.OwnEntries.{GoesOn, MadeSome}
+use Rattle.vm_actors.specs.OwnEntries.{GoesOnSilently, MadeSome}
 use Rattle.vm_actors.specs.Requests.{AreAllAnswered, HasAnswered}
 use Rattle.vm_actors.specs.declared.doing.Doing.{Doing}
 use Rattle.vm_actors.specs.declared.doing.Doing.TheVariants.{Swapping, Writing}
@@ -62,19 +62,19 @@ AreJobs {B} lock b n jobs = (i : ℕ) (job : Job B) → slice_get jobs i ≡ Som
 -- the modified page writer's or the swapper's work: it answers nothing; all requests are answered; and it has an entry,
 -- or there is nothing to do
 pub record IsIdleDone (b : StateBase) (k : ℕ) (doing : Doing) (place : List Entry) : Type 0 where
-  pub silent : GoesOn (k ∷ []) [] place
+  pub silent : GoesOnSilently (k ∷ []) [] place
   pub answered : AreAllAnswered (Some b) place
   pub worked : MadeSome (k ∷ []) [] place ⊎ RestsAt doing (Some b) (reverse place)
 
 -- the seat's work is done in the journal: a process's requests are answered, each once and in their order
-pub record IsDone (b : StateBase) (k : ℕ) (place : List Entry) : Type 0 where
+pub record IsWorkDone (b : StateBase) (k : ℕ) (place : List Entry) : Type 0 where
   pub process : k < length b.config.procs → HasAnswered (k ∷ []) [] place (requests_of k b.config.body)
   pub writer : k ≡ length b.config.procs → IsIdleDone b k Writing place
   pub swapper : k ≡ length b.config.procs + 1 → IsIdleDone b k Swapping place
 
 -- by what its pass knew at first
 abbrev pub IsDoneBy : Option StateBase → List ℕ → List Entry → Type 0
-IsDoneBy (Some b) (k ∷ []) place = IsDone b k place
+IsDoneBy (Some b) (k ∷ []) place = IsWorkDone b k place
 IsDoneBy base numbers place = ⊥
 
 -- the worker that was given this pass has ended: nothing is open of its numbers, no reuse is due, and where memory

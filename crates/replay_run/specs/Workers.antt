@@ -10,7 +10,7 @@ use Rattle.vm_state.specs.History.{History}
 use Rattle.vm_state.specs.declared.base.StateBase.{StateBase}
 use Rattle.vm_actors.specs.Between.{IsCalm, NoneOpen}
 use Rattle.vm_actors.specs.declared.ended.Ended.{Ended}
-use Rattle.replay_run.specs.Jobs.{AreJobs, IsDone, IsEndedOf, IsFresh, IsPlayable}
+use Rattle.replay_run.specs.Jobs.{AreJobs, IsWorkDone, IsEndedOf, IsFresh, IsPlayable}
 use Rattle.replay_run.specs.declared.jobs.Job.{Job}
 use Rattle.replay_run.specs.declared.starting.Started.{Started}
 use Rattle.replay_run.specs.declared.starting.Started.TheVariants.{Done, Running}
@@ -42,7 +42,7 @@ pub record WasDone (b : StateBase) (k : ℕ) (journal : List Entry) : Type 0 whe
   pub begins : IsPrefix place journal
   pub own : own_entries k journal ≡ own_entries k place
   pub landed : NoneOpen (k ∷ []) place
-  pub done : IsDone b k place
+  pub done : IsWorkDone b k place
 
 -- the workers of all numbers of the pass have ended, and where memory sufficed their work is done
 pub record AreEnded {B : Type 0} (lock : HistoryLock History StateBase) (b : StateBase) (ended : Ended B) : Type 0 where

@@ -10,13 +10,13 @@ use Rattle.pager_model.specs.Flights.{open_flights}
 use Rattle.pager_model.specs.In.{IsFirstIn, IsInFault}
 use Rattle.pager_model.specs.Lookups.{page_by}
 use Rattle.pager_model.specs.Maps.{page_number}
-use Rattle.pager_model.specs.Own.{IsEmptyHead, IsOwn}
+use Rattle.pager_model.specs.Own.{IsEmptyHead, IsResident}
 use Rattle.pager_model.specs.Pager.{Pager}
 use Rattle.pager_model.specs.Transfers.{IsHome}
 
 pub fault_read : (config : Config) (past : List Entry) (a : Pager) (p f : ℕ) (b : BlockId) (q address : ℕ) (page : Page) (T : Type 0)
     → page_by config a.map p (page_number address) ≡ Some page
-    → (T ↔ ((q ≡ p) × (IsOwn config a p × IsHome config b (open_flights past) × IsEmptyHead a f × (filled (a.ring p).slots < a.limit p)) × ((g : ℕ) → a.page g ≡ Some page → ⊥)
+    → (T ↔ ((q ≡ p) × (IsResident config a p × IsHome config b (open_flights past) × IsEmptyHead a f × (filled (a.ring p).slots < a.limit p)) × ((g : ℕ) → a.page g ≡ Some page → ⊥)
     × ((a.lies page ≡ Some b) ⊎ IsFirstIn config a p (page_number address) b page)))
     → (T ↔ IsInFault config past a p f b q address)
 fault_read config past a p f b q address page T mapped both = (to, from)

@@ -3,7 +3,7 @@
 ghost use Rattle.std.specs.Prelude.{◌≡◌, ◌↔◌, ◌⊎◌, ◌+◌, ◌<◌, ◌≤◌, ℕ, false, true, Some, IfSome, IsNone, IsTrue, length, slice_get};
 ghost use Rattle.vm_types.specs.Ring.{Held as HeldPage, choose, filled, is_fixed};
 ghost use Rattle.vm_types.specs.declared.names.Page.{Page as AnyPage};
-ghost use Rattle.pager_model.specs.Evict.{IsDropped, IsEvict, IsLeavingEvict, IsRundownEvict, IsTaken, Waits, evicted_to};
+ghost use Rattle.pager_model.specs.Evict.{IsDropped, IsEvict, IsLeavingEvict, IsRundownEvict, IsTaken, HasRoomFor, evicted_to};
 ghost use Rattle.pager_model.specs.Flights.{open_flights};
 ghost use Rattle.pager_model.specs.Lookups.{slot_with};
 ghost use Rattle.pager_model.specs.Maps.{is_private, page_number};
@@ -71,7 +71,7 @@ fn taken_fails(past: &LogHistory<'_>, pager: &LogPager, e: Eviction) -> Option<R
 
 /// Why the frame may not go onto the modified list, if it goes there.
 fn waits_fails(past: &LogHistory<'_>, pager: &LogPager, to: FrameState) -> Option<Reason>
-    ensures legal { IsNone result ↔ Waits past.now.config (shown pager.now).pager to }
+    ensures legal { IsNone result ↔ HasRoomFor past.now.config (shown pager.now).pager to }
     ensures said { IfSome result (WaitsFails past.now.config (shown pager.now).pager to) }
 {
     let most = past.config().params.waitlimit;

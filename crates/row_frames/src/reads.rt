@@ -8,7 +8,7 @@ ghost use Rattle.pager_model.specs.Flights.{Flight as OpenFlight, is_busy, open_
 ghost use Rattle.pager_model.specs.In.{IsFirstIn, IsIn, IsInCome, IsInFault, IsInLying, IsInNear, is_fault_or_near, is_kin};
 ghost use Rattle.pager_model.specs.Lookups.{page_by, section_at};
 ghost use Rattle.pager_model.specs.Maps.{page_number};
-ghost use Rattle.pager_model.specs.Own.{IsEmptyHead, IsOwn};
+ghost use Rattle.pager_model.specs.Own.{IsEmptyHead, IsResident};
 ghost use Rattle.pager_model.specs.Transfers.{IsHome};
 ghost use Rattle.log_history.specs.Directions.{direction_of};
 ghost use Rattle.log_reasons.specs.ReadReasons.{ComePageFails, FaultPageFails, FromFails, InComeFails, InFails, InFaultFails, InNearFails, LyingFails, LyingPageFails, MayReadFails, NearFails};
@@ -54,7 +54,7 @@ fn is_first(config: &Config, pager: &LogPager, p: Proc, v: u32, block: BlockId, 
 /// Why a resident process with room below its limit may not have the block read into the frame.
 fn may_read_fails(past: &LogHistory<'_>, pager: &LogPager, read: Read) -> Option<Reason>
     requires { (shown pager.now).processes ≡ length past.now.config.procs }
-    ensures legal { IsNone result ↔ (IsOwn past.now.config (shown pager.now).pager (read.seat).0 × IsHome past.now.config read.block (open_flights past.now.past)
+    ensures legal { IsNone result ↔ (IsResident past.now.config (shown pager.now).pager (read.seat).0 × IsHome past.now.config read.block (open_flights past.now.past)
         × IsEmptyHead (shown pager.now).pager (read.frame).0 × (filled ((shown pager.now).pager.ring (read.seat).0).slots < (shown pager.now).pager.limit (read.seat).0)) }
     ensures said { IfSome result (MayReadFails past.now.config past.now.past (shown pager.now).pager (read.seat).0 (read.frame).0 read.block) }
 {
@@ -104,7 +104,7 @@ fn fault_page_fails(
 ) -> Option<Reason>
     requires { (shown pager.now).processes ≡ length past.now.config.procs }
     ensures legal { IsNone result ↔ ((q.0 ≡ (read.seat).0)
-        × (IsOwn past.now.config (shown pager.now).pager (read.seat).0 × IsHome past.now.config read.block (open_flights past.now.past)
+        × (IsResident past.now.config (shown pager.now).pager (read.seat).0 × IsHome past.now.config read.block (open_flights past.now.past)
         × IsEmptyHead (shown pager.now).pager (read.frame).0 × (filled ((shown pager.now).pager.ring (read.seat).0).slots < (shown pager.now).pager.limit (read.seat).0))
         × ((g : ℕ) → (shown pager.now).pager.page g ≡ Some page → ⊥)
         × (((shown pager.now).pager.lies page ≡ Some read.block) ⊎ IsFirstIn past.now.config (shown pager.now).pager (read.seat).0 (page_number a.0) read.block page)) }

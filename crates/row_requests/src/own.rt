@@ -3,7 +3,7 @@
 ghost use Rattle.std.specs.Prelude.{◌≡◌, ◌↔◌, ◌<◌, IfSome, IsNone, length, slice_get};
 ghost use Rattle.vm_types.specs.Ring.{filled};
 ghost use Rattle.pager_model.specs.Maps.{is_private};
-ghost use Rattle.pager_model.specs.Own.{IsEmptyHead, IsOwn};
+ghost use Rattle.pager_model.specs.Own.{IsEmptyHead, IsResident};
 ghost use Rattle.log_reasons.specs.OwnReasons.{EmptyHeadFails, OwnFails, RoomFails};
 ghost use Rattle.log_pager.specs.Shown.{shown};
 
@@ -13,7 +13,7 @@ use vm_types::{Config, Page, Pfn, Proc, ProcSpec, ProcStatus};
 
 /// Why a process isn't there, or isn't resident.
 pub fn own_fails(config: &Config, pager: &LogPager, p: Proc) -> Option<Reason>
-    ensures legal { IsNone result ↔ IsOwn config.now (shown pager.now).pager p.0 }
+    ensures legal { IsNone result ↔ IsResident config.now (shown pager.now).pager p.0 }
     ensures said { IfSome result (OwnFails config.now (shown pager.now).pager p.0) }
 {
     let processes = config.procs.items().len();

@@ -6,7 +6,7 @@ use Rattle.std.proofs.lemmas.List.{map-append}
 use mir.Val.{bool_byte}
 use Rattle.vm_journal.specs.Journal.{answers_in, is_answer}
 use Rattle.vm_journal.specs.declared.entry.Entry.{Entry}
-use Rattle.run_record.specs.RunRecord.{IsKept, IsRecord, seat_bytes}
+use Rattle.run_record.specs.RunRecord.{IsRecorded, IsRecord, seat_bytes}
 use Rattle.run_record.specs.declared.run_record.Kept.{Kept}
 use Rattle.run_record.proofs.Tallies.{answers_more}
 
@@ -21,7 +21,7 @@ as_one true = refl
 as_one false = refl
 
 pub record_more : (es after : List Entry) (e : Entry) (len answers spare one : ℕ) (k k' : Kept) → after ≡ es ++ e ∷ [] → 0 < spare → one ≡ bool_byte (is_answer e.what)
-    → IsRecord es len answers spare k → IsKept after (spare - 1) k' → IsRecord after (len + 1) (answers + one) (spare - 1) k'
+    → IsRecord es len answers spare k → IsRecorded after (spare - 1) k' → IsRecord after (len + 1) (answers + one) (spare - 1) k'
 record_more es after e len answers spare one k k' more some is old keeping =
     let long = ap length more ∙ length-append es (e ∷ []) in
     record {

@@ -23,12 +23,12 @@ abbrev pub seat_bytes : List Entry → List ℕ
 seat_bytes entries = map (λ (e : Entry). min (e.seat).0 255) entries
 
 -- what is kept is that of these entries, with room for so many more
-abbrev pub IsKept : List Entry → ℕ → Kept → Type 0
-IsKept entries spare (kept.All items) = record {
+abbrev pub IsRecorded : List Entry → ℕ → Kept → Type 0
+IsRecorded entries spare (kept.All items) = record {
   all : items.items ≡ entries;
   room : vec_len items + spare ≤ vec_capacity items;
 }
-IsKept entries spare (kept.Counts counts) = record {
+IsRecorded entries spare (kept.Counts counts) = record {
   kinds : counts.kinds ≡ tallies_of entries;
   bytes : (counts.seats).items ≡ seat_bytes entries;
   room : vec_len counts.seats + spare ≤ vec_capacity counts.seats;
@@ -39,4 +39,4 @@ pub record IsRecord (entries : List Entry) (len answers spare : ℕ) (k : Kept) 
   pub count : len ≡ length entries
   pub most : length entries + spare ≤ 2 ^ 48
   pub answering : answers ≡ answers_in entries
-  pub keeping : IsKept entries spare k
+  pub keeping : IsRecorded entries spare k

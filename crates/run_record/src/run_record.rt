@@ -48,7 +48,7 @@ impl Model for RunRecord {
 }
 
 impl RunRecord {
-    ghost use Rattle.run_record.specs.RunRecord.{IsKept, keeps_all, seat_bytes};
+    ghost use Rattle.run_record.specs.RunRecord.{IsRecorded, keeps_all, seat_bytes};
 
     /// No entries, all of which are to be kept, and nothing spare. Doesn't allocate.
     pub fn new(alloc: Global) -> RunRecord
@@ -67,7 +67,7 @@ impl RunRecord {
 
     /// No entries, kept in this, and nothing spare. Doesn't allocate.
     fn empty(alloc: Global, kept: Kept) -> RunRecord
-        requires { IsKept [] 0 kept }
+        requires { IsRecorded [] 0 kept }
         ensures { result ≡ record { entries = []; spare = 0; keeps = keeps_all kept } }
     {
         RunRecord {

@@ -33,7 +33,7 @@ use Rattle.seat_laws.proofs.FreeSeats.{AreStill, ended_are_still, not_busy, past
 use Rattle.seat_laws.proofs.ReadsBegun.{reads_begun}
 use Rattle.seat_laws.proofs.ReadsFor.{advance_reads}
 use Rattle.seat_turns.specs.Begun.{IsBegunFor}
-use Rattle.seat_turns.specs.Steps.{Answers, AreUnspoken, HasTurned}
+use Rattle.seat_turns.specs.Steps.{AnswersRequest, AreUnspoken, HasTurned}
 use Rattle.seat_turns.specs.declared.turned.Spoken.{Spoken}
 use Rattle.seat_turns.specs.declared.turned.Spoken.TheVariants as spoken
 use Rattle.seat_turns.specs.declared.turned.Turned.TheVariants as turned
@@ -93,7 +93,7 @@ still_free s t seat same free = subst (λ (u : History). IsFreeSeat u seat) (sym
 
 -- ---- entries that begin and land nothing
 module _ {B : Type 0} {seen : B → BlockView} {tells : Tells} (s t : History) (seat : Seat) (free : IsFreeSeat s seat) (running : s.halted ≡ false) (ws : List What) (history : t ≡ added_each seat ws s) (still : AreStill ws) where
-  still_spoke : (x : Request) (shown : Spoken) → Answers x shown ws → (c : CarrierView B) → c ≡ empty seat → HasTurned seen tells s t seat (Some x) (turned.Spoke shown) c
+  still_spoke : (x : Request) (shown : Spoken) → AnswersRequest x shown ws → (c : CarrierView B) → c ≡ empty seat → HasTurned seen tells s t seat (Some x) (turned.Spoke shown) c
   still_spoke x shown answers c is = record {
     made = ws;
     past = past_is s seat t ws history;

@@ -24,21 +24,21 @@ use Rattle.vm_swapper.specs.declared.swap.Swap.TheVariants.{Again}
 use Rattle.vm_swapper.specs.declared.swap.SwapWhy.{SwapWhy}
 use Rattle.vm_swapper.specs.declared.swap.SwapWhy.TheVariants.{InFlight}
 use Rattle.seat_laws.proofs.FreeSeats.{free_by_lifts}
-use Rattle.seat_turns.specs.Rests.{IsSwapped, IsSwappedBy, IsWritten, lowest_leaving}
+use Rattle.seat_turns.specs.Rests.{SwapperRests, SwapperRestsBy, WriterRests, lowest_leaving}
 use Rattle.seat_turns.specs.Steps.{turned_by}
 use Rattle.seat_turns.specs.Worked.{HasLandedOut}
 use Rattle.seat_turns.specs.declared.turned.Turned.TheVariants.{Rests}
 
 -- ---- the writer
-pub enough_written : (config : Config) (a : Pager) → Nothing ≡ begin_of (begin_gives config a reason_high).answer → IsWritten config a
+pub enough_written : (config : Config) (a : Pager) → Nothing ≡ begin_of (begin_gives config a reason_high).answer → WriterRests config a
 enough_written config a is = by (is_enough config a reason_high || nat_eq (length a.modified) 0) refl is
   where
     by : (b : Bool) → (is_enough config a reason_high || nat_eq (length a.modified) 0) ≡ b
-        → Nothing ≡ begin_of (cond {A = Given BeginIs} b (given [] begin_nothing) (given (writes_from config a config.params.wrtcluster None a.modified) begin_carry)).answer → IsWritten config a
+        → Nothing ≡ begin_of (cond {A = Given BeginIs} b (given [] begin_nothing) (given (writes_from config a config.params.wrtcluster None a.modified) begin_carry)).answer → WriterRests config a
     by false found nothing = absurd (cc)
     by true found nothing = either (or_cases (is_enough config a reason_high) (nat_eq (length a.modified) 0) found)
       where
-        either : (is_enough config a reason_high ≡ true) ⊎ (nat_eq (length a.modified) 0 ≡ true) → IsWritten config a
+        either : (is_enough config a reason_high ≡ true) ⊎ (nat_eq (length a.modified) 0 ≡ true) → WriterRests config a
         either (inl enough) = leb-true (length a.modified) config.params.lolimit enough
         either (inr empty) = let none = eqb-true (length a.modified) 0 empty in omega (arith, none)
 
@@ -59,11 +59,11 @@ never_rests true is = cc
 never_rests false is = cc
 
 -- the lowest process that is leaving waits, or none is leaving
-pub swapped_lowest : (config : Config) (past : List Entry) (a : Pager) (q : Proc) → option_map process_number (Some q) ≡ lowest_leaving config a None → (leave_gives config past a q.0).answer ≡ swap_again swap_in_flight → IsSwapped config past a
-swapped_lowest config past a q lowest waits = subst (IsSwappedBy config past a) lowest waits
+pub swapped_lowest : (config : Config) (past : List Entry) (a : Pager) (q : Proc) → option_map process_number (Some q) ≡ lowest_leaving config a None → (leave_gives config past a q.0).answer ≡ swap_again swap_in_flight → SwapperRests config past a
+swapped_lowest config past a q lowest waits = subst (SwapperRestsBy config past a) lowest waits
 
-pub swapped_none : (config : Config) (past : List Entry) (a : Pager) → option_map process_number None ≡ lowest_leaving config a None → IsSwappedBy config past a None → IsSwapped config past a
-swapped_none config past a lowest enough = subst (IsSwappedBy config past a) lowest enough
+pub swapped_none : (config : Config) (past : List Entry) (a : Pager) → option_map process_number None ≡ lowest_leaving config a None → SwapperRestsBy config past a None → SwapperRests config past a
+swapped_none config past a lowest enough = subst (SwapperRestsBy config past a) lowest enough
 
 -- ---- a carrier without lifts: nothing lands
 pub nothing_landed : {B : Type 0} {seen : B → BlockView} {tells : Tells} (s u : History) (seat : Seat) (c : CarrierView B) → AreOut seen tells (base_of s) s.past seat c → c.lifts ≡ [] → HasLandedOut s u seat → u.past ≡ s.past

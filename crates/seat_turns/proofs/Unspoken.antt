@@ -29,7 +29,7 @@ use Rattle.pager_model.specs.MappedRanges.{is_unmapped}
 use Rattle.fault_core.specs.Gives.{last_reply}
 use Rattle.vm_services.specs.Serves.{last_answer}
 use Rattle.carried_landings.proofs.Shapes.{AreQuiet, AreStarts, EndsIn, IsQuiet, IsStart}
-use Rattle.seat_turns.specs.Steps.{Answers, AreUnspoken}
+use Rattle.seat_turns.specs.Steps.{AnswersRequest, AreUnspoken}
 use Rattle.seat_turns.specs.declared.turned.Spoken.TheVariants as spoken
 
 -- ---- entries that answer nothing
@@ -71,7 +71,7 @@ unspoken_then [] ys first second = second
 unspoken_then (x ∷ xs) ys first second = (first.0, unspoken_then xs ys first.1 second)
 
 -- ---- a reference's answer
-one_before : (r : Ref) (reply shown : Reply) (w : What) (ys : List What) → IsQuiet w → Answers (Reference r) (spoken.Reply reply) ys → Answers (Reference r) (spoken.Reply reply) (with_reply shown w ∷ ys)
+one_before : (r : Ref) (reply shown : Reply) (w : What) (ys : List What) → IsQuiet w → AnswersRequest (Reference r) (spoken.Reply reply) ys → AnswersRequest (Reference r) (spoken.Reply reply) (with_reply shown w ∷ ys)
 one_before r reply shown w ys quiet a = record {
   before = with_reply shown w ∷ a.before;
   last = a.last;
@@ -85,7 +85,7 @@ ends_more r (what.Done q x) v ws ends = ends
 ends_more r (what.Denied q why) v ws ends = ends
 ends_more r other v ws ends = ends
 
-pub reference_answers : (r : Ref) (reply shown : Reply) (ms : List What) → EndsIn r ms → last_reply (map (with_reply shown) ms) ≡ Some reply → Answers (Reference r) (spoken.Reply reply) (map (with_reply shown) ms)
+pub reference_answers : (r : Ref) (reply shown : Reply) (ms : List What) → EndsIn r ms → last_reply (map (with_reply shown) ms) ≡ Some reply → AnswersRequest (Reference r) (spoken.Reply reply) (map (with_reply shown) ms)
 reference_answers r reply shown [] ends is = absurd ends
 reference_answers r reply shown (what.Done q x ∷ []) ends is = record { before = []; last = what.Done q shown; made_is = refl; unspoken = tt; answer = (ends, same_Some shown reply is) }
 reference_answers r reply shown (what.Denied q why ∷ []) ends is = record { before = []; last = what.Denied q why; made_is = refl; unspoken = tt; answer = (ends, same_Some (replies.Refused why) reply is) }
@@ -142,8 +142,8 @@ module _ (config : Config) (past : List Entry) (a : Pager) (p : ℕ) where
   serve_own : (s : Service) → IsOwn s (serve_gives config past a p s)
   serve_own s = either s (is_resident (a.status p)) _ _ (service_own s) (record { own = tt })
 
-  pub service_answers : (s : Service) (given : Answer) → (serve_gives config past a p s).answer ≡ serve_answered → last_answer (serve_gives config past a p s).made ≡ Some given → Answers (Asked_service s) (spoken.Answer given) (serve_gives config past a p s).made
+  pub service_answers : (s : Service) (given : Answer) → (serve_gives config past a p s).answer ≡ serve_answered → last_answer (serve_gives config past a p s).made ≡ Some given → AnswersRequest (Asked_service s) (spoken.Answer given) (serve_gives config past a p s).made
   service_answers s given is shown = by (subst (λ (x : ServeIs). IsOwnAnswer s x (serve_gives config past a p s).made) is (serve_own s).own)
     where
-      by : (w : Answer) × ((serve_gives config past a p s).made ≡ what.Served s w ∷ []) → Answers (Asked_service s) (spoken.Answer given) (serve_gives config past a p s).made
+      by : (w : Answer) × ((serve_gives config past a p s).made ≡ what.Served s w ∷ []) → AnswersRequest (Asked_service s) (spoken.Answer given) (serve_gives config past a p s).made
       by (w, made) = record { before = []; last = what.Served s w; made_is = made; unspoken = tt; answer = (refl, same_Some w given (sym (ap last_answer made) ∙ shown)) }

@@ -46,7 +46,7 @@ AnswersAs (Service s) (Answer shown) (what.Served x given) = (x ≡ s) × (given
 AnswersAs x shown other = ⊥
 
 -- the last of these entries answers the request, and no other one answers anything
-pub record Answers (x : Request) (shown : Spoken) (made : List What) : Type 0 where
+pub record AnswersRequest (x : Request) (shown : Spoken) (made : List What) : Type 0 where
   pub before : List What
   pub last : What
   pub made_is : made ≡ before ++ last ∷ []
@@ -55,7 +55,7 @@ pub record Answers (x : Request) (shown : Spoken) (made : List What) : Type 0 wh
 
 -- what the entries of a turn answer; the writer and the swapper work for no request
 abbrev pub TurnTells : Turned → Option Request → List What → Type 0
-TurnTells (Spoke shown) (Some x) made = Answers x shown made
+TurnTells (Spoke shown) (Some x) made = AnswersRequest x shown made
 TurnTells (Spoke shown) None made = ⊥
 TurnTells other o made = AreUnspoken made
 

@@ -7,7 +7,7 @@ ghost use Rattle.vm_state.specs.History.{pager};
 ghost use Rattle.call_begins.specs.MayBegin.{empty};
 ghost use Rattle.carried_landings.specs.Outside.{AreOut, NoneWaits};
 ghost use Rattle.seat_laws.specs.FreeSeat.{IsFreeSeat};
-ghost use Rattle.seat_turns.specs.Rests.{IsSwapped, IsWritten};
+ghost use Rattle.seat_turns.specs.Rests.{SwapperRests, WriterRests};
 ghost use Rattle.seat_turns.specs.Steps.{HasTurned, swapper_seat, writer_seat};
 ghost use Rattle.seat_turns.specs.Worked.{MayStart};
 ghost use Rattle.seat_turns.specs.declared.turned.Turned.{Turned};
@@ -70,7 +70,7 @@ fn write_next<B: Block>(state: &mut State<B>, seat: Seat, carrier: &mut Carrier<
     requires running { state.old.halted ≡ false }
     requires carrier { carrier.old ≡ empty seat }
     ensures turned { HasTurned B.seen B.tells state.old state.new seat None result carrier.new }
-    ensures rests { result ≡ Turned.Rests → IsWritten state.old.config (pager state.old) }
+    ensures rests { result ≡ Turned.Rests → WriterRests state.old.config (pager state.old) }
 {
     match begin(state, seat, Reason::High, carrier) {
         Begin::Carry => Turned::Made,
@@ -89,7 +89,7 @@ pub fn write_in_turn<B: Block>(state: &mut State<B>, carrier: &mut Carrier<B>) -
     requires carried { NoneWaits carrier.old.lifts }
     ensures turned { HasTurned B.seen B.tells state.old state.new (writer_seat state.old.config) None result carrier.new }
     ensures halted { state.old.halted ≡ true → result ≡ Turned.Short }
-    ensures rests { result ≡ Turned.Rests → (state.new.past ≡ state.old.past) × IsWritten state.new.config (pager state.new) }
+    ensures rests { result ≡ Turned.Rests → (state.new.past ≡ state.old.past) × WriterRests state.new.config (pager state.new) }
 {
     let seat = writer(state);
     match land_idle(state, carrier, seat) {
@@ -125,7 +125,7 @@ fn swap_next<B: Block>(state: &mut State<B>, seat: Seat, carrier: &mut Carrier<B
     requires running { state.old.halted ≡ false }
     requires carrier { carrier.old ≡ empty seat }
     ensures turned { HasTurned B.seen B.tells state.old state.new seat None result carrier.new }
-    ensures rests { result ≡ Turned.Rests → IsSwapped state.old.config state.old.past (pager state.old) }
+    ensures rests { result ≡ Turned.Rests → SwapperRests state.old.config state.old.past (pager state.old) }
 {
     if let Some(q) = lowest_leaving(state, None) {
         return leave_lowest(state, q, carrier);
@@ -151,7 +151,7 @@ pub fn swap_in_turn<B: Block>(state: &mut State<B>, carrier: &mut Carrier<B>) ->
     requires carried { NoneWaits carrier.old.lifts }
     ensures turned { HasTurned B.seen B.tells state.old state.new (swapper_seat state.old.config) None result carrier.new }
     ensures halted { state.old.halted ≡ true → result ≡ Turned.Short }
-    ensures rests { result ≡ Turned.Rests → (state.new.past ≡ state.old.past) × IsSwapped state.new.config state.new.past (pager state.new) }
+    ensures rests { result ≡ Turned.Rests → (state.new.past ≡ state.old.past) × SwapperRests state.new.config state.new.past (pager state.new) }
 {
     let seat = swapper(state);
     match land_idle(state, carrier, seat) {

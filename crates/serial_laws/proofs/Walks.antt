@@ -24,7 +24,7 @@ use Rattle.pager_rules.proofs.Basics.{at_number_same}
 use Rattle.pager_laws.proofs.OfConfigKept.{run_right}
 use Rattle.call_laws.proofs.TurnsLegal.{comer_legal, coming_legal}
 use Rattle.serial_laws.specs.Between.{IsBetween}
-use Rattle.serial_laws.specs.Controlled.{AreTouched, HasTouched, IsAnsweredProcess, IsControlled, IsInBody, IsLeft, IsRead, Waits}
+use Rattle.serial_laws.specs.Controlled.{AreTouched, HasTouched, IsAnsweredProcess, IsControlled, IsInBody, IsLeft, IsRead, MayRefuseMeanwhile}
 use Rattle.serial_laws.proofs.AdvanceMoves.{advance_known}
 use Rattle.serial_laws.proofs.Begins.{IsWriting, begins_writing, cluster_known}
 use Rattle.serial_laws.proofs.Comes.{come_known}
@@ -89,15 +89,15 @@ module _ (config : Config) (past : List Entry) (between : IsBetween config past)
     status_known charges status.Gone is = gone_known (λ same. let both : status.Gone ≡ status.Resident = sym is ∙ same in cc) charges is (coming_process config a) refl
     status_known charges status.Coming is = come_known config past between Rest task process next is (not_resident config past task next (λ same. let both : status.Coming ≡ status.Resident = sym is ∙ same in cc) charges)
 
-    asked_known : (o : Option ℕ) → ((q : ℕ) → o ≡ Some q → IsLeft config a q) → Waits config past asking o → HasTouched config past asking o → MoveIsKnown config past Rest (asked_move config past a o p task.request)
+    asked_known : (o : Option ℕ) → ((q : ℕ) → o ≡ Some q → IsLeft config a q) → MayRefuseMeanwhile config past asking o → HasTouched config past asking o → MoveIsKnown config past Rest (asked_move config past a o p task.request)
     asked_known None left waits touched = status_known touched (a.status p) refl
     asked_known (Some q) left waits touched = leave_known config past between Rest p q ends_request asking (request_work config past task process next (waits task next) touched) (left q refl)
 
-  task_known : (leaving : Option ℕ) → ((q : ℕ) → leaving ≡ Some q → IsLeft config a q) → Waits config past asking leaving → HasTouched config past asking leaving → (o : Option Task) → next_task config past ≡ o → MoveIsKnown config past Rest (task_move config past a leaving o)
+  task_known : (leaving : Option ℕ) → ((q : ℕ) → leaving ≡ Some q → IsLeft config a q) → MayRefuseMeanwhile config past asking leaving → HasTouched config past asking leaving → (o : Option Task) → next_task config past ≡ o → MoveIsKnown config past Rest (task_move config past a leaving o)
   task_known leaving left waits touched None next = record { known = next }
   task_known leaving left waits touched (Some task) next = asked_known task next leaving left waits touched
 
-  asking_known : (leaving : Option ℕ) → ((q : ℕ) → leaving ≡ Some q → IsLeft config a q) → Waits config past asking leaving → HasTouched config past asking leaving → MoveIsKnown config past Rest (asking_move config past a leaving)
+  asking_known : (leaving : Option ℕ) → ((q : ℕ) → leaving ≡ Some q → IsLeft config a q) → MayRefuseMeanwhile config past asking leaving → HasTouched config past asking leaving → MoveIsKnown config past Rest (asking_move config past a leaving)
   asking_known leaving left waits touched = task_known leaving left waits touched (next_task config past) refl
 
   -- ---- the work after an answer
@@ -134,7 +134,7 @@ module _ (config : Config) (past : List Entry) (between : IsBetween config past)
 pub body_known : (config : Config) (past : List Entry) (c : Control) → IsBetween config past → IsControlled config past c → IsInBody c.doing → MoveIsKnown config past (next_task config past ≡ None) (move_of config past c)
 body_known config past c between controlled body = by c.doing controlled.answered_process controlled.waiting controlled.touched body
   where
-    by : (d : Doing) → IsAnsweredProcess config d → Waits config past d c.leaving → HasTouched config past d c.leaving → IsInBody d → MoveIsKnown config past (next_task config past ≡ None) (move_of config past (record c { doing = d }))
+    by : (d : Doing) → IsAnsweredProcess config d → MayRefuseMeanwhile config past d c.leaving → HasTouched config past d c.leaving → IsInBody d → MoveIsKnown config past (next_task config past ≡ None) (move_of config past (record c { doing = d }))
     by asking answered waits touched body = asking_known config past between c.leaving controlled.leaving waits touched
     by (saving begun p) answered waits touched body = saving_known config past between begun p answered touched
     by (freeing begun p) answered waits touched body = freeing_known config past between c.leaving begun p answered touched controlled.leaving

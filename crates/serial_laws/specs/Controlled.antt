@@ -45,9 +45,9 @@ abbrev pub MayBeRefused : Config → Pager → Task → Type 0
 MayBeRefused config a task = (a.status (task.proc).0 ≡ status.Resident → ⊥) ⊎ IsUnmet config a (task.proc).0 task.request
 
 -- while a process is left for a request, that request may be refused
-abbrev pub Waits : Config → List Entry → Doing → Option ℕ → Type 0
-Waits config past asking (Some q) = (task : Task) → next_task config past ≡ Some task → MayBeRefused config (pager_after config past) task
-Waits config past doing leaving = Unit {0}
+abbrev pub MayRefuseMeanwhile : Config → List Entry → Doing → Option ℕ → Type 0
+MayRefuseMeanwhile config past asking (Some q) = (task : Task) → next_task config past ≡ Some task → MayBeRefused config (pager_after config past) task
+MayRefuseMeanwhile config past doing leaving = Unit {0}
 
 -- each charged page is touched
 abbrev pub AreTouched : Pager → Type 0
@@ -79,5 +79,5 @@ HasTouched config past (cleaning at) leaving = Unit {0}
 pub record IsControlled (config : Config) (past : List Entry) (c : Control) : Type 0 where
   pub leaving : (q : ℕ) → c.leaving ≡ Some q → IsLeft config (pager_after config past) q
   pub answered_process : IsAnsweredProcess config c.doing
-  pub waiting : Waits config past c.doing c.leaving
+  pub waiting : MayRefuseMeanwhile config past c.doing c.leaving
   pub touched : HasTouched config past c.doing c.leaving

@@ -9,7 +9,7 @@ use Rattle.serial_laws.specs.Between.{IsBetween}
 use Rattle.serial_laws.specs.Controlled.{IsAnsweredProcess, IsControlled, IsInBody, IsLeft}
 use Rattle.vm_state.specs.History.{History, pager}
 use Rattle.carried_landings.specs.Moved.{IsMoveHere, IsSameBut, IsSteady, MovesTo}
-use Rattle.serial_moves.specs.Controls.{ComesTo, IsOver, Moves, control_in, doing_in, number_of}
+use Rattle.serial_moves.specs.Controls.{ComesTo, AsksNext, Moves, control_in, doing_in, number_of}
 use Rattle.serial_moves.specs.declared.control.AfterAnswer.{AfterAnswer}
 use Rattle.serial_moves.specs.declared.control.Control.{Control}
 use Rattle.serial_moves.specs.declared.control.Doing.{Doing}
@@ -53,7 +53,7 @@ module _ (s : History) (c : Control) (fits : IsControlled s.config s.past (contr
       → IfOk r (ComesTo tells s t (move_of s.config s.past (control_at c d))) → IfOk r (ComesTo tells s t (move_of s.config s.past (control_in c)))
   comes_at tells t r d is = subst (λ (x : Doing). IfOk r (ComesTo tells s t (move_of s.config s.past (control_at c x)))) (sym is)
 
-  pub over_asking : c.doing ≡ Asking → IsOver s s (move_of s.config s.past (control_in c)) c.leaving
+  pub over_asking : c.doing ≡ Asking → AsksNext s s (move_of s.config s.past (control_in c)) c.leaving
   over_asking is = record {
     same = refl;
     asks = ap (λ (x : Doing). move_of s.config s.past (control_at c x)) is;
@@ -81,7 +81,7 @@ module _ (s s1 : History) (c : Control) (between : IsBetween s.config s.past) (f
       (subst (λ (x : History). MovesTo tells x t (move_of x.config x.past (control_in c)) (option_map control_in o)) there moved)
 
   -- the work after an answer is over
-  module _ (s2 : History) (leaving : Option Proc) (over : IsOver s1 s2 (move_of s1.config s1.past (control_in c)) leaving) where
+  module _ (s2 : History) (leaving : Option Proc) (over : AsksNext s1 s2 (move_of s1.config s1.past (control_in c)) leaving) where
     abbrev asks_in : History → Move
     asks_in x = asking_move x.config x.past (pager x) (option_map number_of leaving)
 

@@ -35,7 +35,7 @@ abbrev pub Moves : Bool → History → History → Move → Option Control → 
 Moves tells before after m goes = MovesTo tells before after m (option_map control_in goes)
 
 -- nothing was made, and the policy's move is that of the next request, before which this process is left
-pub record IsOver (before after : History) (m : Move) (leaving : Option Proc) : Type 0 where
+pub record AsksNext (before after : History) (m : Move) (leaving : Option Proc) : Type 0 where
   pub same : after ≡ before
   pub asks : m ≡ asking_move before.config before.past (pager before) (option_map number_of leaving)
   pub left : IfSome leaving (λ q. IsLeft before.config (pager before) q.0)
@@ -43,4 +43,4 @@ pub record IsOver (before after : History) (m : Move) (leaving : Option Proc) : 
 -- what the work after an answer comes to: a move was made, or it is over
 abbrev pub ComesTo : Bool → History → History → Move → AfterAnswer → Type 0
 ComesTo tells before after m (Made goes) = Moves tells before after m goes
-ComesTo tells before after m (Over leaving) = IsOver before after m leaving
+ComesTo tells before after m (Over leaving) = AsksNext before after m leaving

@@ -44,7 +44,7 @@ IsRare s task = (pager s).status (task.proc).0 ≡ status.Resident → (r : Ref)
 
 -- what its process asks, after this one that is being left, can be what is next: there is room, the request is of the
 -- configuration, and the one that is left is leaving
-pub record MayAsk {B : Type 0} (s : History) (leaving : Option ℕ) (task : Task) (c : CarrierView B) : Type 0 where
+pub record MayAskTask {B : Type 0} (s : History) (leaving : Option ℕ) (task : Task) (c : CarrierView B) : Type 0 where
   pub may : MayMove s (record { 0 = (task.proc).0 }) c
   pub process : (task.proc).0 < length s.config.procs
   pub formed : IsWellFormedRequest task.request

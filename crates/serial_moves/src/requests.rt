@@ -9,7 +9,7 @@ ghost use Rattle.vm_state.specs.History.{pager};
 ghost use Rattle.serial_moves.specs.Carriers.{MayMove};
 ghost use Rattle.serial_moves.specs.Controls.{Moves, number_of};
 ghost use Rattle.carried_landings.specs.Moved.{IsMoveHere, IsSteady};
-ghost use Rattle.serial_moves.specs.Requests.{IsRare, IsResidentReference, MayAsk, asked_for, come_move, finding_for, resident_for};
+ghost use Rattle.serial_moves.specs.Requests.{IsRare, IsResidentReference, MayAskTask, asked_for, come_move, finding_for, resident_for};
 
 use crate::carrying::{ASKING, answered, carry_on, carry_reads, write_for_room};
 use crate::control::{Control, Doing, Step};
@@ -162,7 +162,7 @@ fn serve<B: Block>(state: &mut State<B>, seat: Seat, s: Service, carrier: &mut C
 /// `NoMemory` if out of memory: room for fewer than 64 entries is left then.
 #[inline(always)]
 fn by_status<B: Block>(state: &mut State<B>, task: Task, carrier: &mut Carrier<B>) -> Step
-    requires may { MayAsk state.old None task carrier.old }
+    requires may { MayAskTask state.old None task carrier.old }
     requires rare { IsRare state.old task }
     ensures carrier { carrier.new ≡ carrier.old }
     ensures moved { IfOk result (Moves B.tells.content state.old state.new (asked_for state.old None task)) }
@@ -213,7 +213,7 @@ fn ask_other<B: Block>(
     task: Task,
     carrier: &mut Carrier<B>,
 ) -> Step
-    requires may { MayAsk state.old (option_map number_of leaving) task carrier.old }
+    requires may { MayAskTask state.old (option_map number_of leaving) task carrier.old }
     requires rare { leaving ≡ None → IsRare state.old task }
     ensures carrier { carrier.new ≡ carrier.old }
     ensures moved { IfOk result (Moves B.tells.content state.old state.new (asked_for state.old (option_map number_of leaving) task)) }
@@ -236,7 +236,7 @@ pub fn ask<B: Block>(
     task: Task,
     carrier: &mut Carrier<B>,
 ) -> Step
-    requires may { MayAsk state.old (option_map number_of leaving) task carrier.old }
+    requires may { MayAskTask state.old (option_map number_of leaving) task carrier.old }
     ensures carrier { carrier.new ≡ carrier.old }
     ensures moved { IfOk result (Moves B.tells.content state.old state.new (asked_for state.old (option_map number_of leaving) task)) }
     ensures memory { OnErr result (state.new.spare < 64) }

@@ -10,7 +10,7 @@ use Rattle.vm_journal.specs.declared.entry.Entry.{Entry}
 use Rattle.pager_model.specs.Asked.{IsAsked, is_retired}
 use Rattle.pager_model.specs.CountedBlock.{IsCountedBlock}
 use Rattle.pager_model.specs.Run.{pager_after}
-use Rattle.pager_model.specs.WrittenBack.{AreWrittenBack, IsUnwritten, IsWrittenBack, NowhereMeansUncharged}
+use Rattle.pager_model.specs.WrittenBack.{AreWrittenBack, HasFirstBytes, IsWrittenBack, NowhereMeansUncharged}
 use Rattle.pager_rules.proofs.Basics.{count_cons_no, count_cons_yes}
 use Rattle.disk_trait.specs.DepotView.{given_back}
 use Rattle.frame_store.specs.Blocks.{blocks_of, number_of}
@@ -87,6 +87,6 @@ module _ {B : Type 0} (seen : B → BlockView) where
     pub written : NowhereMeansUncharged config (pager_after config past) → AreWrittenBack tells.content config past (map back taken)
     written nowhere = record {
       shared = λ told. each_back (IsWrittenBack config past) taken (λ k d less. ((given k d less).written told).0);
-      copied = λ told. each_back (IsUnwritten config) taken (λ k d less. ((given k d less).written told).1);
+      copied = λ told. each_back (HasFirstBytes config) taken (λ k d less. ((given k d less).written told).1);
       nowhere = nowhere;
     }

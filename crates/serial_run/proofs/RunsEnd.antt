@@ -17,7 +17,7 @@ use Rattle.policy_ends.proofs.DirtyRuns.{dirty_because}
 use Rattle.serial_laws.specs.Between.{IsBetween}
 use Rattle.carried_landings.specs.Moved.{IsSameBut}
 use Rattle.vm_state.specs.History.{History}
-use Rattle.serial_run.specs.AtReport.{IsAtReport, IsReached}
+use Rattle.serial_run.specs.AtReport.{IsAtReport, IsReportReached}
 use Rattle.serial_run.specs.Ended.{HasEnded}
 use Rattle.serial_run.specs.declared.run.Ending.{Ending}
 
@@ -46,7 +46,7 @@ pub is_there : (tells : Bool) (s : History) → IsBetween s.config s.past → Is
 is_there tells s between serial right = at_report tells s.config s.past between (answered_there s serial) right
 
 -- a state that was started with the configuration and has come there
-pub is_reached : (tells : Bool) (config : Config) (first s : History) → first.config ≡ config → first.keeps ≡ true → IsSameBut first s → IsAtReport tells s.config s.past → IsSerial s.config s.past → IsReached tells config s
+pub is_reached : (tells : Bool) (config : Config) (first s : History) → first.config ≡ config → first.keeps ≡ true → IsSameBut first s → IsAtReport tells s.config s.past → IsSerial s.config s.past → IsReportReached tells config s
 is_reached tells config first s own keeps same there serial =
     let config_is : s.config ≡ config = ap (λ (x : History). x.config) same ∙ own in
     record {
@@ -57,7 +57,7 @@ is_reached tells config first s own keeps same there serial =
     }
 
 -- and there by its own configuration
-pub reached_there : (tells : Bool) (config : Config) (s : History) → IsReached tells config s → IsAtReport tells s.config s.past
+pub reached_there : (tells : Bool) (config : Config) (s : History) → IsReportReached tells config s → IsAtReport tells s.config s.past
 reached_there tells config s reached = subst (λ (k : Config). IsAtReport tells k s.past) (sym reached.same) reached.there
 
 module _ (tells : Bool) (mid s : History) (ending : Ending) (same : IsSameBut mid s) where

@@ -23,7 +23,7 @@ pub record IsAtReport (tells : Bool) (config : Config) (past : List Entry) : Typ
   pub reused : awaits_reuse past ≡ false
 
 -- a state is there by the serial policy, it is of this configuration, and its entries are kept
-pub record IsReached (tells : Bool) (config : Config) (s : History) : Type 0 where
+pub record IsReportReached (tells : Bool) (config : Config) (s : History) : Type 0 where
   pub same : s.config ≡ config
   pub keeps : s.keeps ≡ true
   pub there : IsAtReport tells config s.past

@@ -5,7 +5,7 @@ ghost use Rattle.vm_types.specs.Configuration.{IsWellFormed};
 ghost use Rattle.vm_types.specs.Counts.{Rose};
 ghost use Rattle.pager_policy.specs.Serial.{IsSerial};
 ghost use Rattle.carried_landings.specs.Moved.{IsSameBut};
-ghost use Rattle.serial_run.specs.AtReport.{IsAtReport, IsReached};
+ghost use Rattle.serial_run.specs.AtReport.{IsAtReport, IsReportReached};
 ghost use Rattle.serial_run.specs.declared.finished.RunFault.{RunFault};
 
 use crate::body::run_body;
@@ -57,7 +57,7 @@ pub fn run_to_report<D: Depot>(
     depot: &mut D,
 ) -> Result<State<D::Block>, RunFault>
     requires formed { IsWellFormed config }
-    ensures reached { IfOk result (IsReached D.Block.tells.content config) }
+    ensures reached { IfOk result (IsReportReached D.Block.tells.content config) }
     ensures retired { (D.seen depot.new).retired ≡ (D.seen depot.old).retired }
     ensures failed { IsErrOf result RunFault.DepotFault → Rose (D.seen depot.old).failures (D.seen depot.new).failures }
     ensures later { (D.seen depot.old).failures ≤ (D.seen depot.new).failures }

@@ -14,7 +14,7 @@ use Rattle.command_ends.proofs.Wronging.{seven_right}
 use Rattle.dump_bytes.specs.Begins.{IsBadAfter}
 use Rattle.dump_bytes.specs.Bounds.{IsDump}
 use Rattle.dump_bytes.specs.Dumped.{dumped}
-use Rattle.dump_bytes.specs.Outcome.{Answers, FaultsBy}
+use Rattle.dump_bytes.specs.Outcome.{AnswersDump, FaultsByDump}
 use Rattle.dump_bytes.specs.declared.dump.Dump.{Dump}
 use Rattle.dump_bytes.specs.declared.fault.DumpFault.{DumpFault}
 use Rattle.dump_bytes.specs.declared.fault.DumpFault.TheVariants as fault
@@ -41,7 +41,7 @@ pub fault_text : (f : DumpFault) (wrong : Option Wrong) → wrong ≡ wrong_in_d
 fault_text f wrong is input kept = subst (λ w. IsWrongText w input kept) (sym is) (own_text f input kept)
 
 -- ---- a dump
-pub concludes_dump : {before after : SourceView} {sink sink' : SinkView} {result : ℕ} (d : Dump) → IsDump (dumped d) → IfSome before.left (λ text. Answers (Ok d) text after.left) → FaultsBy (Ok d) before.failures after.failures
+pub concludes_dump : {before after : SourceView} {sink sink' : SinkView} {result : ℕ} (d : Dump) → IsDump (dumped d) → IfSome before.left (λ text. AnswersDump (Ok d) text after.left) → FaultsByDump (Ok d) before.failures after.failures
     → EndsShown (dumped d) sink sink' result → Concludes (TellsWrong (ShowTells before after) None) sink sink' result
 concludes_dump d bounds means counts (inl whole) =
     record { status = 0; text = show_text (dumped d); tells_it = record { told = shown (dumped d) counts (record { bounds = bounds; text = means }); says = zero_right (show_text (dumped d)) }; ends = whole }
@@ -49,13 +49,13 @@ concludes_dump d bounds means counts (inr none) =
     record { status = 7; text = status_line 7; tells_it = record { told = no_memory counts; says = seven_right (status_line 7) }; ends = none }
 
 -- ---- no dump
-fault_tells : {before after : SourceView} (f : DumpFault) → IfSome before.left (λ text. Answers (Err f) text after.left) → FaultsBy (Err f) before.failures after.failures → ShowTells before after (fault_status f) (fault_told f)
+fault_tells : {before after : SourceView} (f : DumpFault) → IfSome before.left (λ text. AnswersDump (Err f) text after.left) → FaultsByDump (Err f) before.failures after.failures → ShowTells before after (fault_status f) (fault_told f)
 fault_tells (fault.Bad n) means counts = bad n counts means
 fault_tells fault.ReadFault means counts = unread counts means
 fault_tells fault.NoMemory means counts = no_memory counts
 
 pub concludes_fault : {before after : SourceView} {sink sink' : SinkView} {result : ℕ} (f : DumpFault) (wrong : Option Wrong) → wrong ≡ wrong_in_dump f
-    → IfSome before.left (λ text. Answers (Err f) text after.left) → FaultsBy (Err f) before.failures after.failures
+    → IfSome before.left (λ text. AnswersDump (Err f) text after.left) → FaultsByDump (Err f) before.failures after.failures
     → Ends sink sink' (fault_status f) (fault_told f) result → Concludes (TellsWrong (ShowTells before after) wrong) sink sink' result
 concludes_fault f wrong is means counts ends =
     record { status = fault_status f; text = fault_told f; tells_it = record { told = fault_tells f means counts; says = subst (λ w. IsWrong w (fault_status f) (fault_told f)) (sym is) (fault_wrong f) }; ends = ends }

@@ -23,7 +23,7 @@ use Rattle.pager_model.specs.Flights.{Flight, is_busy, open_flights}
 use Rattle.pager_model.specs.Forget.{after_delete, forgotten}
 use Rattle.pager_model.specs.Lookups.{block_of, page_at, page_by}
 use Rattle.pager_model.specs.Maps.{page_number, proc}
-use Rattle.pager_model.specs.Own.{IsOwn}
+use Rattle.pager_model.specs.Own.{IsResident}
 use Rattle.pager_model.specs.Pager.{Pager}
 use Rattle.pager_model.specs.Served.{IsDelete}
 use Rattle.pager_model.specs.Sets.{has_page}
@@ -61,7 +61,7 @@ resting x g fits holds unshared still = go x.state refl
     go state.ReleasePending is = let one = (at_state x state.ReleasePending is fits).writes in absurd (omega (arith, one, still))
     go state.Reading is = let one = (at_state x state.Reading is fits).reads in absurd (omega (arith, one, still))
 
-module _ (config : Config) (past : List Entry) (a : Pager) (p address pages : ℕ) (kept : IsKept config (quiet (open_flights past)) a) (own : IsOwn config a p)
+module _ (config : Config) (past : List Entry) (a : Pager) (p address pages : ℕ) (kept : IsKept config (quiet (open_flights past)) a) (own : IsResident config a p)
     (still : is_busy p (open_flights past) ≡ false) (legal : IsDelete config past a p address pages) (i v : ℕ) (below : i < pages) (is : page_number address + i ≡ v)
     (parts : Parts) (fit : PartsFit config past (after_delete config a p address i) parts) where
   abbrev flights : List Flight

@@ -29,7 +29,7 @@ use Rattle.pager_model.specs.Flights.{Flight, is_busy, open_flights}
 use Rattle.pager_model.specs.Forget.{after_delete, forget_all, forgotten, headed, holder, own_pages, put_at, range_of, unlisted, with_private}
 use Rattle.pager_model.specs.Lookups.{count_page, entries_at, entry_of, is_assigned_to, is_entry, page_at, page_by}
 use Rattle.pager_model.specs.Maps.{Map, Mapped, is_private, page_behind, page_number, proc}
-use Rattle.pager_model.specs.Own.{IsOwn}
+use Rattle.pager_model.specs.Own.{IsResident}
 use Rattle.pager_model.specs.Pager.{Pager, Valid}
 use Rattle.pager_model.specs.Served.{IsDelete}
 use Rattle.pager_model.specs.Sets.{at_page}
@@ -169,7 +169,7 @@ transition_is : (config : Config) (page : ℕ → Option Page) (g x : Page) (o :
 transition_is config page g (Private q w) o lies own other = transition_own config o (holder config page (Private q w)) lies ∙ ap (holder config page) (own refl)
 transition_is config page g (Shared s i) o lies own other = sym (other refl)
 
-module _ (config : Config) (past : List Entry) (a : Pager) (p address pages : ℕ) (kept : IsKept config (quiet (open_flights past)) a) (own : IsOwn config a p)
+module _ (config : Config) (past : List Entry) (a : Pager) (p address pages : ℕ) (kept : IsKept config (quiet (open_flights past)) a) (own : IsResident config a p)
     (still : is_busy p (open_flights past) ≡ false) (legal : IsDelete config past a p address pages) where
   abbrev flights : List Flight
   flights = open_flights past

@@ -5,7 +5,7 @@ use Rattle.std.specs.declared.option.Option.{Option}
 use Rattle.std.proofs.lemmas.Bool.{leb-true}
 use Rattle.vm_types.specs.declared.config.Config.{Config}
 use Rattle.vm_types.specs.declared.names.Proc.{Proc}
-use Rattle.trace_reader.specs.Answer.{Answers, FaultsBy}
+use Rattle.trace_reader.specs.Answer.{AnswersTrace, FaultsByTrace}
 use Rattle.trace_reader.specs.LineText.{IsTextOf}
 use Rattle.trace_reader.specs.declared.fault.TraceFault.{TraceFault}
 use Rattle.outside_io.specs.Views.{SinkView, SourceView}
@@ -29,31 +29,31 @@ undeclared_right : (config : Config) (process : Proc) (wrong : Option Wrong) →
 undeclared_right config process wrong is status text right =
     subst (λ w. IsWrong w status text) (sym is) (by_test_right process (leb (length config.procs) process.0) status text right)
 
-by_test_kept : (config : Config) (process : Proc) (input left : Option (List ℕ)) (kept : List ℕ) → IfSome input (λ text. Answers (Ok config) text left) → (test : Bool) → leb (length config.procs) process.0 ≡ test
+by_test_kept : (config : Config) (process : Proc) (input left : Option (List ℕ)) (kept : List ℕ) → IfSome input (λ text. AnswersTrace (Ok config) text left) → (test : Bool) → leb (length config.procs) process.0 ≡ test
     → IsWrongText (cond test (Some (Undeclared process)) None) input kept
 by_test_kept config process None left kept means true few = tt
 by_test_kept config process (Some text) left kept means true few = (config, means.0, leb-true (length config.procs) process.0 few)
 by_test_kept config process input left kept means false few = tt
 
 -- and with a trace that doesn't have it
-undeclared_kept : (config : Config) (process : Proc) (wrong : Option Wrong) (input left : Option (List ℕ)) (kept : List ℕ) → wrong ≡ undeclared config process → IfSome input (λ text. Answers (Ok config) text left) → IsWrongText wrong input kept
+undeclared_kept : (config : Config) (process : Proc) (wrong : Option Wrong) (input left : Option (List ℕ)) (kept : List ℕ) → wrong ≡ undeclared config process → IfSome input (λ text. AnswersTrace (Ok config) text left) → IsWrongText wrong input kept
 undeclared_kept config process wrong input left kept is means =
     subst (λ w. IsWrongText w input kept) (sym is) (by_test_kept config process input left kept means (leb (length config.procs) process.0) refl)
 
 module _ {before after : SourceView} {sink sink' : SinkView} {result : ℕ} where
   -- the outcome of the command, by what was read
-  pub concludes_studied : (study : Study) (read : Result Config TraceFault) (wrong : Option Wrong) → IfSome before.left (λ text. Answers read text after.left)
-      → FaultsBy read before.failures after.failures → EndsStudied study read sink sink' result wrong → Concludes (TellsWrong (Tells (IsStudyAnswer study) before after) wrong) sink sink' result
+  pub concludes_studied : (study : Study) (read : Result Config TraceFault) (wrong : Option Wrong) → IfSome before.left (λ text. AnswersTrace read text after.left)
+      → FaultsByTrace read before.failures after.failures → EndsStudied study read sink sink' result wrong → Concludes (TellsWrong (Tells (IsStudyAnswer study) before after) wrong) sink sink' result
   concludes_studied study (Ok config) wrong means counts ends = concludes_saying config wrong (undeclared_right config study.process wrong ends.1) means counts ends.0
   concludes_studied study (Err fault) wrong means counts ends = concludes_fault fault wrong ends.1 means counts ends.0
 
   -- what is told alone
-  pub studied_alone : (study : Study) (read : Result Config TraceFault) (wrong : Option Wrong) → IfSome before.left (λ text. Answers read text after.left)
-      → FaultsBy read before.failures after.failures → EndsStudied study read sink sink' result wrong → Concludes (Tells (IsStudyAnswer study) before after) sink sink' result
+  pub studied_alone : (study : Study) (read : Result Config TraceFault) (wrong : Option Wrong) → IfSome before.left (λ text. AnswersTrace read text after.left)
+      → FaultsByTrace read before.failures after.failures → EndsStudied study read sink sink' result wrong → Concludes (Tells (IsStudyAnswer study) before after) sink sink' result
   studied_alone study read wrong means counts ends = told_alone (concludes_studied study read wrong means counts ends)
 
 -- the first bytes of a faulty line were kept
-pub studied_text_kept : (sink sink' : SinkView) (result : ℕ) (study : Study) (read : Result Config TraceFault) (wrong : Option Wrong) (input left : Option (List ℕ)) (kept : List ℕ) → IfSome input (λ text. Answers read text left)
+pub studied_text_kept : (sink sink' : SinkView) (result : ℕ) (study : Study) (read : Result Config TraceFault) (wrong : Option Wrong) (input left : Option (List ℕ)) (kept : List ℕ) → IfSome input (λ text. AnswersTrace read text left)
     → IfErr read (λ fault. IsTextOf fault input kept) → EndsStudied study read sink sink' result wrong → IsWrongText wrong input kept
 studied_text_kept sink sink' result study (Ok config) wrong input left kept means text ends = undeclared_kept config study.process wrong input left kept ends.1 means
 studied_text_kept sink sink' result study (Err fault) wrong input left kept means text ends = fault_text_kept fault wrong input kept ends.1 text

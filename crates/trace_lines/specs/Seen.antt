@@ -37,7 +37,7 @@ abbrev pub IsPaged : Mapping → Type 0
 IsPaged m = ((m.at).0 % 512 ≡ 0) × (1 ≤ m.pages)
 
 -- the limits on which the keys rest
-pub record IsBounded (config : Config) : Type 0 where
+pub record HasKeyLimits (config : Config) : Type 0 where
   pub pagefile : config.pagefile ≤ 16384
   pub sections : length config.sections ≤ 64
   pub pages : sum_by section_pages config.sections ≤ 16384

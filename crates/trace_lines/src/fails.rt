@@ -5,7 +5,7 @@ ghost use Rattle.trace_words.specs.Words.{words};
 ghost use Rattle.trace_lines.specs.Breaches.{miscounted};
 ghost use Rattle.trace_lines.specs.Fails.{is_same, slots_at, block_named, block_of, call_numbers, kept, fail_line};
 ghost use Rattle.trace_lines.specs.Says.{said};
-ghost use Rattle.trace_lines.specs.Seen.{IsSeen, IsBounded, IsKeyed};
+ghost use Rattle.trace_lines.specs.Seen.{IsSeen, HasKeyLimits, IsKeyed};
 
 use crate::breach::{Bound, Breach, marked, ranged};
 use crate::line::Line;
@@ -27,7 +27,7 @@ fn slots_at(procs: &[ProcSpec], p: u32) -> u32
 
 // The block of this name, if it is there.
 fn block_named(config: &Config, name: &BlockName) -> Result<BlockId, Cause>
-    requires { IsBounded config.now }
+    requires { HasKeyLimits config.now }
     ensures value { result ≡ block_named config.now (name_of name.now) }
     ensures keyed { IfOk result IsKeyed }
 {
@@ -94,7 +94,7 @@ fn call_numbers(text: &[u8]) -> Result<ArrayVec<u32, 16>, Breach>
 // Whether the block was named before.
 fn is_repeated(config: &Config, seen: &Seen, id: BlockId) -> bool
     requires seen { IsSeen seen.now config.now }
-    requires bounded { IsBounded config.now }
+    requires bounded { HasKeyLimits config.now }
     requires keyed { IsKeyed id }
     ensures { result ≡ list_any (λ fails. is_same fails.block id) config.now.fails }
 {
@@ -103,7 +103,7 @@ fn is_repeated(config: &Config, seen: &Seen, id: BlockId) -> bool
 
 // The block that the word names, if it is there.
 fn block_of(config: &Config, word: &[u8]) -> Result<BlockId, Cause>
-    requires { IsBounded config.now }
+    requires { HasKeyLimits config.now }
     ensures value { result ≡ block_of config.now word.now }
     ensures keyed { IfOk result IsKeyed }
 {
@@ -124,7 +124,7 @@ fn misplaced(text: &[u8]) -> Breach
 
 pub(crate) fn fail<'a>(config: &Config, seen: &Seen, text: &[u8]) -> Result<Line<'a>, Breach>
     requires seen { IsSeen seen.now config.now }
-    requires bounded { IsBounded config.now }
+    requires bounded { HasKeyLimits config.now }
     ensures { said result ≡ fail_line config.now (words text.now) }
 {
     let Some((name, rest)) = next_word(text) else {

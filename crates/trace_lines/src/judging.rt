@@ -3,7 +3,7 @@ ghost use Rattle.std.specs.List.{list_all};
 ghost use Rattle.trace_words.specs.Words.{words};
 ghost use Rattle.trace_lines.specs.Grammar.{by_keyword, is_letter, is_comment, by_first, by_words, content, is_text, judged};
 ghost use Rattle.trace_lines.specs.Says.{said, meant};
-ghost use Rattle.trace_lines.specs.Seen.{IsSeen, IsBounded};
+ghost use Rattle.trace_lines.specs.Seen.{IsSeen, HasKeyLimits};
 
 use crate::breach::Breach;
 use crate::declarations::{data, process, section};
@@ -26,7 +26,7 @@ fn by_keyword<'a>(
     text: &'a [u8],
 ) -> Result<Line<'a>, Breach>
     requires seen { IsSeen seen.now part.now.config }
-    requires bounded { IsBounded part.now.config }
+    requires bounded { HasKeyLimits part.now.config }
     ensures { said result ≡ by_keyword part.now (words text.now) keyword }
 {
     let config = &part.config;
@@ -63,7 +63,7 @@ fn is_comment(word: &[u8]) -> bool
 // A line of this first word, by the text behind it.
 fn by_first<'a>(part: &Part, seen: &Seen, first: &[u8], text: &'a [u8]) -> Result<Line<'a>, Breach>
     requires seen { IsSeen seen.now part.now.config }
-    requires bounded { IsBounded part.now.config }
+    requires bounded { HasKeyLimits part.now.config }
     ensures { said result ≡ by_first part.now first.now (words text.now) }
 {
     if is_comment(first) {
@@ -114,7 +114,7 @@ fn are_text(line: &[u8]) -> bool
 /// The first rule that the line breaks, and the word that breaks it.
 pub fn judge<'a>(number: u32, part: &Part, seen: &Seen, line: &'a [u8]) -> Result<Line<'a>, Breach>
     requires seen { IsSeen seen.now part.now.config }
-    requires bounded { IsBounded part.now.config }
+    requires bounded { HasKeyLimits part.now.config }
     ensures { said result ≡ judged number part.now line.now }
 {
     if line.len() > 255 {

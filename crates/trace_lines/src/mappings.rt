@@ -7,7 +7,7 @@ ghost use Rattle.trace_lines.specs.Keys.{page_key};
 ghost use Rattle.trace_lines.specs.Lookups.{is_inside};
 ghost use Rattle.trace_lines.specs.Mappings.{overlaps, mapped, mapping, mapzero_line, mapsec_line};
 ghost use Rattle.trace_lines.specs.Says.{said};
-ghost use Rattle.trace_lines.specs.Seen.{IsSeen, IsBounded};
+ghost use Rattle.trace_lines.specs.Seen.{IsSeen, HasKeyLimits};
 
 use crate::breach::{Bound, Breach, marked, miscounted, ranged};
 use crate::line::Line;
@@ -34,7 +34,7 @@ fn has_page(seen: &Seen, proc: u32, first: u32, pages: u32) -> bool
 // Whether a page of the mapping is mapped already.
 fn is_repeated(config: &Config, seen: &Seen, m: &Mapping) -> bool
     requires seen { IsSeen seen.now config.now }
-    requires bounded { IsBounded config.now }
+    requires bounded { HasKeyLimits config.now }
     requires aligned { (m.now.at).0 % 512 ≡ 0 }
     requires some { 1 ≤ m.now.pages }
     requires inside { IsTrue (is_inside (m.now.at).0 m.now.pages) }
@@ -48,7 +48,7 @@ fn mapped<'a>(config: &Config, seen: &Seen, m: Mapping) -> Result<Line<'a>, Brea
     requires seen { IsSeen seen.now config.now }
     requires aligned { (m.at).0 % 512 ≡ 0 }
     requires some { 1 ≤ m.pages }
-    requires bounded { IsBounded config.now }
+    requires bounded { HasKeyLimits config.now }
     ensures { said result ≡ mapped config.now m }
 {
     if !is_inside(m.at.0, m.pages) {
@@ -79,7 +79,7 @@ pub(crate) fn mapzero<'a>(
     args: &Words<'a>,
 ) -> Result<Line<'a>, Breach>
     requires seen { IsSeen seen.now config.now }
-    requires bounded { IsBounded config.now }
+    requires bounded { HasKeyLimits config.now }
     ensures { said result ≡ mapzero_line config.now (listed args.now) }
 {
     let Words::Four(x, addr, n, prot) = args else {
@@ -94,7 +94,7 @@ pub(crate) fn mapzero<'a>(
 
 pub(crate) fn mapsec<'a>(config: &Config, seen: &Seen, args: &Words<'a>) -> Result<Line<'a>, Breach>
     requires seen { IsSeen seen.now config.now }
-    requires bounded { IsBounded config.now }
+    requires bounded { HasKeyLimits config.now }
     ensures { said result ≡ mapsec_line config.now (listed args.now) }
 {
     let Words::Six(x, addr, n, name, first, prot) = args else {

@@ -23,11 +23,11 @@ use Rattle.trace_lines.specs.Grammar.{judged}
 use Rattle.trace_lines.specs.Places.{rank}
 use Rattle.trace_lines.specs.Requests.{params_agree}
 use Rattle.trace_lines.specs.Says.{Says}
-use Rattle.trace_lines.specs.Seen.{IsBounded, IsKeyed, IsPaged}
+use Rattle.trace_lines.specs.Seen.{HasKeyLimits, IsKeyed, IsPaged}
 use Rattle.trace_reader.specs.Changes.{start, changed}
 use Rattle.trace_reader.specs.Drafts.{AreInRange, AreSound, IsPlaced, IsDraft}
 use Rattle.trace_reader.specs.Meaning.{next_line}
-use Rattle.trace_reader.specs.Right.{IsRight}
+use Rattle.trace_reader.specs.Right.{IsRightLine}
 use Rattle.trace_reader.proofs.Giving.{bind_gives}
 use Rattle.trace_reader.proofs.Judged.{IsJudged, judged_gives, at_ok}
 use Rattle.trace_reader.proofs.SoundNext.{sound_next}
@@ -94,7 +94,7 @@ few_locks (x ∷ procs) each =
     let rest = few_locks procs each.1 in
     omega (arith, locks, quota, extent, most, more, rest)
 
-pub bounded : (part : Part) → IsDraft part → IsBounded part.config
+pub bounded : (part : Part) → IsDraft part → HasKeyLimits part.config
 bounded part d =
     let s = d.sound in
     record {
@@ -109,7 +109,7 @@ bounded part d =
 
 -- the next line
 
-pub right_line : (number : ℕ) (part : Part) (line : List ℕ) (said : Says) → judged number part line ≡ Ok said → IsRight part said × (number ≤ 200000)
+pub right_line : (number : ℕ) (part : Part) (line : List ℕ) (said : Says) → judged number part line ≡ Ok said → IsRightLine part said × (number ≤ 200000)
 right_line number part line said e =
     let h = at_ok (judged number part line) said (IsJudged number part) (judged_gives number part line) e in
     (h.right, h.few)

@@ -15,7 +15,7 @@ use Rattle.trace_reader.specs.declared.fault.TraceFault.TheVariants as fault
 use Rattle.trace_reader.specs.Changes.{start}
 use Rattle.trace_reader.specs.Head.{begins_log, goes_on, is_faulty, head_line}
 use Rattle.trace_reader.specs.Head as head
-use Rattle.trace_reader.specs.HeadAnswer.{HasGone, HeadAnswers, IsHeadLineAtFault, IsTold, HasTakenHead, AnswersLine, CountsBy}
+use Rattle.trace_reader.specs.HeadAnswer.{HasGone, HeadAnswers, IsHeadLineAtFault, IsTold, HasTakenHead, AnswersLine, CountsByHead}
 use Rattle.trace_reader.specs.Drafts.{IsDraft}
 use Rattle.trace_reader.specs.declared.draft.Draft.{Draft}
 use Rattle.trace_reader.specs.Stream.{IsReading}
@@ -122,12 +122,12 @@ head_read before next number after line r h =
     (ap (λ (p : Part). p.place) h.1 ∙ log_at_end (next_line number before.part line) before.part.place (words (content line)) h.0)
 
 -- no read failed where a line is at fault
-pub no_read : (part : Part) (number : ℕ) (line : List ℕ) (why : TraceFault) → IsHeadLineAtFault part number line why → (count : ℕ) → CountsBy (Err why) count count
+pub no_read : (part : Part) (number : ℕ) (line : List ℕ) (why : TraceFault) → IsHeadLineAtFault part number line why → (count : ℕ) → CountsByHead (Err why) count count
 no_read part number line fault.NoMemory h count = refl
 no_read part number line fault.ReadFault h count = absurd h
 no_read part number line (fault.Line n breach) h count = refl
 no_read part number line fault.Empty h count = absurd h
 no_read part number line fault.Unfinished h count = absurd h
 
-pub quiet_counts : (answer : Result Bool TraceFault) (before now : ℕ) → now ≡ before → CountsBy answer before before → CountsBy answer before now
-quiet_counts answer before now e h = subst (λ (n : ℕ). CountsBy answer before n) (sym e) h
+pub quiet_counts : (answer : Result Bool TraceFault) (before now : ℕ) → now ≡ before → CountsByHead answer before before → CountsByHead answer before now
+quiet_counts answer before now e h = subst (λ (n : ℕ). CountsByHead answer before n) (sym e) h

@@ -17,7 +17,7 @@ use Rattle.trace_lines.specs.Keywords.{keyword_of, place_of}
 use Rattle.trace_lines.specs.Places.{rank}
 use Rattle.trace_lines.specs.Requests.{request_line}
 use Rattle.trace_lines.specs.Says.{Says, Nothing}
-use Rattle.trace_reader.specs.Right.{IsRight}
+use Rattle.trace_reader.specs.Right.{IsRightLine}
 use Rattle.trace_reader.proofs.Giving.{owed_gives, if_gives, weaker}
 use Rattle.trace_reader.proofs.LinesRight.{Gives, version_gives, frames_gives, pagefile_gives, param_gives, bad_gives, section_gives, data_gives, process_gives, mapzero_gives, mapsec_gives, fail_gives, body_gives, end_gives, request_gives}
 
@@ -36,39 +36,39 @@ keyword_gives part args Fail = fail_gives part args
 keyword_gives part args Body = body_gives part args
 keyword_gives part args End = end_gives part args
 
-stands : (part : Part) (place : ℕ) (said : Says) → rank part.place ≡ place → Gives part place said → IsRight part said
+stands : (part : Part) (place : ℕ) (said : Says) → rank part.place ≡ place → Gives part place said → IsRightLine part said
 stands part place said e g = record { here = e ∙ sym g.1; fits = g.0 }
 
-placed_gives : (part : Part) (args : List (List ℕ)) (keyword : Option Keyword) → IfOk (placed part args keyword) (IsRight part)
+placed_gives : (part : Part) (args : List (List ℕ)) (keyword : Option Keyword) → IfOk (placed part args keyword) (IsRightLine part)
 placed_gives part args None = tt
 placed_gives part args (Some keyword) =
-    owed_gives (eqb (rank part.place) (rank (place_of keyword))) _ (by_keyword part args keyword) (IsRight part) (λ e.
-    weaker (by_keyword part args keyword) (Gives part (rank (place_of keyword))) (IsRight part) (keyword_gives part args keyword) (λ said g. stands part (rank (place_of keyword)) said (eqb-true (rank part.place) (rank (place_of keyword)) e) g))
+    owed_gives (eqb (rank part.place) (rank (place_of keyword))) _ (by_keyword part args keyword) (IsRightLine part) (λ e.
+    weaker (by_keyword part args keyword) (Gives part (rank (place_of keyword))) (IsRightLine part) (keyword_gives part args keyword) (λ said g. stands part (rank (place_of keyword)) said (eqb-true (rank part.place) (rank (place_of keyword)) e) g))
 
-letter_gives : (part : Part) (first : List ℕ) (args : List (List ℕ)) → IfOk (owed (eqb (rank part.place) (rank Requests)) (at_word 1 Misplaced) (request_line part.config first args)) (IsRight part)
+letter_gives : (part : Part) (first : List ℕ) (args : List (List ℕ)) → IfOk (owed (eqb (rank part.place) (rank Requests)) (at_word 1 Misplaced) (request_line part.config first args)) (IsRightLine part)
 letter_gives part first args =
-    owed_gives (eqb (rank part.place) 4) _ (request_line part.config first args) (IsRight part) (λ e.
-    weaker (request_line part.config first args) (Gives part 4) (IsRight part) (request_gives part first args) (λ said g. stands part 4 said (eqb-true (rank part.place) 4 e) g))
+    owed_gives (eqb (rank part.place) 4) _ (request_line part.config first args) (IsRightLine part) (λ e.
+    weaker (request_line part.config first args) (Gives part 4) (IsRightLine part) (request_gives part first args) (λ said g. stands part 4 said (eqb-true (rank part.place) 4 e) g))
 
-first_gives : (part : Part) (first : List ℕ) (args : List (List ℕ)) → IfOk (by_first part first args) (IsRight part)
+first_gives : (part : Part) (first : List ℕ) (args : List (List ℕ)) → IfOk (by_first part first args) (IsRightLine part)
 first_gives part first args =
-    if_gives (is_comment first) (Ok Nothing) _ (IsRight part) (record { here = refl; fits = tt })
-    (if_gives (is_letter first) _ (placed part args (keyword_of first)) (IsRight part) (letter_gives part first args) (placed_gives part args (keyword_of first)))
+    if_gives (is_comment first) (Ok Nothing) _ (IsRightLine part) (record { here = refl; fits = tt })
+    (if_gives (is_letter first) _ (placed part args (keyword_of first)) (IsRightLine part) (letter_gives part first args) (placed_gives part args (keyword_of first)))
 
-words_give : (part : Part) (all : List (List ℕ)) → IfOk (by_words part all) (IsRight part)
+words_give : (part : Part) (all : List (List ℕ)) → IfOk (by_words part all) (IsRightLine part)
 words_give part [] = record { here = refl; fits = tt }
 words_give part (first ∷ args) = first_gives part first args
 
 -- what a judged line says
 pub record IsJudged (number : ℕ) (part : Part) (said : Says) : Type 0 where
-  pub right : IsRight part said
+  pub right : IsRightLine part said
   pub few : number ≤ 200000
 
 pub judged_gives : (number : ℕ) (part : Part) (line : List ℕ) → IfOk (judged number part line) (IsJudged number part)
 judged_gives number part line =
     owed_gives (leb (length line) 255) _ _ (IsJudged number part) (λ _. owed_gives (list_all is_text (content line)) _ _ (IsJudged number part) (λ _.
     owed_gives (leb number 200000) _ (by_words part (words (content line))) (IsJudged number part) (λ e.
-    weaker (by_words part (words (content line))) (IsRight part) (IsJudged number part) (words_give part (words (content line))) (λ said r. record { right = r; few = leb-true number 200000 e }))))
+    weaker (by_words part (words (content line))) (IsRightLine part) (IsJudged number part) (words_give part (words (content line))) (λ said r. record { right = r; few = leb-true number 200000 e }))))
 
 pub at_ok : {A : Type 0} (r : Result A Breach) (x : A) (P : A → Type 0) → IfOk r P → r ≡ Ok x → P x
 at_ok {A} r x P h e = subst (λ (s : Result A Breach). IfOk s P) e h

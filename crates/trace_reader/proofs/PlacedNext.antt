@@ -6,9 +6,9 @@ use Rattle.trace_lines.specs.Says as says
 use Rattle.trace_lines.specs.Says.{Says}
 use Rattle.trace_reader.specs.Changes.{changed}
 use Rattle.trace_reader.specs.Drafts.{IsPlaced}
-use Rattle.trace_reader.specs.Right.{IsRight}
+use Rattle.trace_reader.specs.Right.{IsRightLine}
 
-pub placed_next : (part : Part) (said : Says) → IsPlaced (rank part.place) part.config → IsRight part said → IsPlaced (rank (changed part said).place) (changed part said).config
+pub placed_next : (part : Part) (said : Says) → IsPlaced (rank part.place) part.config → IsRightLine part said → IsPlaced (rank (changed part said).place) (changed part said).config
 placed_next part says.Nothing p r = p
 placed_next part (says.Version v) p r =
     let here : rank part.place ≡ 0 = r.here in

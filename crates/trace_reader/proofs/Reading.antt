@@ -12,7 +12,7 @@ use Rattle.trace_lines.specs.Seen.{IsSeen}
 use Rattle.trace_reader.specs.declared.draft.Draft.{Draft}
 use Rattle.trace_reader.specs.declared.fault.TraceFault.{TraceFault}
 use Rattle.trace_reader.specs.declared.fault.TraceFault.TheVariants as fault
-use Rattle.trace_reader.specs.Answer.{Answers, IsTaken, HasShown, IsRightSoFar}
+use Rattle.trace_reader.specs.Answer.{AnswersTrace, IsTextTaken, HasShown, IsRightSoFar}
 use Rattle.trace_reader.specs.Changes.{start}
 use Rattle.trace_reader.specs.Drafts.{IsDraft}
 use Rattle.trace_reader.specs.Meaning.{at_end, judge, lines, trace_of, shows_no_fault}
@@ -54,7 +54,7 @@ no_fault done pending part number other few follows =
     follows.opened pending ∙ last_line part number pending other few
 
 open_answer : (told left new : Option (List ℕ)) (pending : List ℕ) (part : Part) (number : ℕ) → All (λ b. b ≢ 10) pending → length pending ≤ 255
-    → IfSome told (λ t. IsHeld t left part number pending) → Keeps left new → IfSome told (λ t. Answers (Err fault.ReadFault) t new)
+    → IfSome told (λ t. IsHeld t left part number pending) → Keeps left new → IfSome told (λ t. AnswersTrace (Err fault.ReadFault) t new)
 open_answer None left new pending part number other few h k = tt
 open_answer (Some text) left new pending part number other few h k =
     (h.done ++ pending, record { rest = h.split.rest; whole = h.split.whole; left_over = kept left new h.split.rest h.split.left_over k }, no_fault h.done pending part number other few h.follows)
@@ -63,7 +63,7 @@ length_held : (count : ℕ) (buffer : List ℕ) → count ≤ 255 → length buf
 length_held count buffer few room = length-take-le count buffer (omega arith)
 
 pub read_failed : (told left new : Option (List ℕ)) (buffer : List ℕ) (held : Draft) (number count : ℕ)
-    → IsBetween told left buffer held number count → Keeps left new → IfSome told (λ t. Answers (Err fault.ReadFault) t new)
+    → IsBetween told left buffer held number count → Keeps left new → IfSome told (λ t. AnswersTrace (Err fault.ReadFault) t new)
 read_failed told left new buffer held number count b k =
     let few : length (take count buffer) ≤ 255 = rw (length_held count buffer b.few b.room) b.few in
     open_answer told left new (take count buffer) held.part number b.one_line few b.told k
@@ -105,7 +105,7 @@ none_taken text done pending rest part number whole over follows nothing first =
     whole ∙ ap (λ (r : List ℕ). (done ++ pending) ++ r) over ∙ append-nil (done ++ pending) ∙ ap₂ (λ (p : List ℕ) (q : List ℕ). p ++ q) (no_lines done all) nothing
 
 answers_from : (result : Result Config TraceFault) (text done pending rest : List ℕ) (part : Part) (number : ℕ) (new : Option (List ℕ)) → trace_of text ≡ at_end number part pending → new ≡ Some []
-    → IsRightSoFar text new → (pending ≡ [] → number ≡ 1 → text ≡ []) → Means number part pending result (at_end number part pending) → Answers result text new
+    → IsRightSoFar text new → (pending ≡ [] → number ≡ 1 → text ≡ []) → Means number part pending result (at_end number part pending) → AnswersTrace result text new
 answers_from (Ok config) text done pending rest part number new e none right bare m = (e ∙ m, none)
 answers_from (Err fault.NoMemory) text done pending rest part number new e none right bare m = right
 answers_from (Err fault.ReadFault) text done pending rest part number new e none right bare m = absurd m
@@ -115,7 +115,7 @@ answers_from (Err fault.Unfinished) text done pending rest part number new e non
 
 end_answer : (result : Result Config TraceFault) (told left new : Option (List ℕ)) (pending bytes : List ℕ) (part : Part) (number : ℕ) → All (λ b. b ≢ 10) pending → length pending ≤ 255
     → IfSome told (λ t. IsHeld t left part number pending) → bytes ≡ [] → Consumes left new bytes → IsAtEnd new → Means number part pending result (at_end number part pending)
-    → IfSome told (λ t. Answers result t new)
+    → IfSome told (λ t. AnswersTrace result t new)
 end_answer result None left new pending bytes part number other few h none c at m = tt
 end_answer result (Some text) left new pending bytes part number other few h none c at m =
     let over = ended left new h.split.rest bytes h.split.left_over none c at in
@@ -129,7 +129,7 @@ take_none n xs e = ap (λ (k : ℕ). take k xs) e
 pub text_ended : (result : Result Config TraceFault) (told left new : Option (List ℕ)) (buffer filled : List ℕ) (held : Draft) (number count more : ℕ)
     → IsBetween told left buffer held number count → take count filled ≡ take count buffer → more ≡ 0
     → Consumes left new (take more (drop count filled)) → IsAtEnd new → Means number held.part (take count filled) result (at_end number held.part (take count filled))
-    → IfSome told (λ t. Answers result t new)
+    → IfSome told (λ t. AnswersTrace result t new)
 text_ended result told left new buffer filled held number count more b same none c at m =
     let few : length (take count buffer) ≤ 255 = rw (length_held count buffer b.few b.room) b.few in
     end_answer result told left new (take count buffer) (take more (drop count filled)) held.part number b.one_line few b.told (take_none more (drop count filled) none) c at
@@ -164,18 +164,18 @@ came told left new buffer filled held number count more b same c =
 
 -- a line of the piece is at fault
 
-right_so_far : (text done piece : List ℕ) (part : Part) (number : ℕ) (new : Option (List ℕ)) → IsTaken text (done ++ piece) new → length piece ≤ 8192 → Follows start 1 done part number []
+right_so_far : (text done piece : List ℕ) (part : Part) (number : ℕ) (new : Option (List ℕ)) → IsTextTaken text (done ++ piece) new → length piece ≤ 8192 → Follows start 1 done part number []
     → IsOpenFront part number piece → IsRightSoFar text new
 right_so_far text done piece part number new split few follows o = record {
   judged = done ++ o.front;
   piece = o.rest;
-  split = subst (λ (t : List ℕ). IsTaken text t new) (ap (λ (p : List ℕ). done ++ p) o.whole ∙ sym (append_assoc done o.front o.rest)) split;
+  split = subst (λ (t : List ℕ). IsTextTaken text t new) (ap (λ (p : List ℕ). done ++ p) o.whole ∙ sym (append_assoc done o.front o.rest)) split;
   few = omega (arith, length-append o.front o.rest, ap (length {A = ℕ}) o.whole);
   right = follows.opened o.front ∙ o.opened;
 }
 
 pub piece_fault : (told new : Option (List ℕ)) (piece : List ℕ) (part : Part) (number : ℕ) (f : TraceFault) → length piece ≤ 8192
-    → IfSome told (λ t. IsHeld t new part number piece) → IsAtFault part number piece f → IfSome told (λ t. Answers (Err f) t new)
+    → IfSome told (λ t. IsHeld t new part number piece) → IsAtFault part number piece f → IfSome told (λ t. AnswersTrace (Err f) t new)
 piece_fault None new piece part number f few h a = tt
 piece_fault (Some text) new piece part number fault.NoMemory few h a = right_so_far text h.done piece part number new h.split few h.follows a
 piece_fault (Some text) new piece part number fault.ReadFault few h a = absurd a
@@ -209,8 +209,8 @@ went_on told new piece buffer part next number after count h p room same = recor
 }
 
 -- an answer that another one is equal to
-pub answers_along : (told new : Option (List ℕ)) (r s : Result Config TraceFault) → r ≡ s → IfSome told (λ t. Answers s t new) → IfSome told (λ t. Answers r t new)
-answers_along told new r s e h = subst (λ (x : Result Config TraceFault). IfSome told (λ t. Answers x t new)) (sym e) h
+pub answers_along : (told new : Option (List ℕ)) (r s : Result Config TraceFault) → r ≡ s → IfSome told (λ t. AnswersTrace s t new) → IfSome told (λ t. AnswersTrace r t new)
+answers_along told new r s e h = subst (λ (x : Result Config TraceFault). IfSome told (λ t. AnswersTrace x t new)) (sym e) h
 
 -- the last bytes of the filled ones, moved to the front
 pub moved : (buffer : List ℕ) (filled held : ℕ) → filled ≤ length buffer → held ≤ filled → take held (copy_within buffer (filled - held) filled 0) ≡ drop (filled - held) (take filled buffer)

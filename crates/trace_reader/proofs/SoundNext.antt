@@ -24,7 +24,7 @@ use Rattle.trace_lines.specs.Says as says
 use Rattle.trace_lines.specs.Says.{Says}
 use Rattle.trace_reader.specs.Changes.{blank_section, with_bytes, changed}
 use Rattle.trace_reader.specs.Drafts.{AreInRange, AreSound, IsPlaced}
-use Rattle.trace_reader.specs.Right.{IsRight}
+use Rattle.trace_reader.specs.Right.{IsRightLine}
 use Rattle.trace_reader.proofs.Listing.{same_with_bytes}
 use Rattle.trace_reader.proofs.Sounding.{with_bad, with_frames, with_pagefile, with_params, with_section, with_sections, with_process, with_map, with_fail, with_task, with_version}
 
@@ -73,7 +73,7 @@ blank_good v name of_kind pages of_version good some =
     let count : length (replicate (512 * pages) 0) ≡ 512 * pages = length-replicate (512 * pages) 0 in
     record { name = good; whole = ap (λ (n : ℕ). n % 512) count ∙ omega arith; some = omega (arith, count, some); paged = λ paged. (of_version paged, ap (λ (n : ℕ). replicate n 0) (sym count)) }
 
-pub sound_next : (part : Part) (said : Says) → AreSound part.config → IsPlaced (rank part.place) part.config → IsRight part said → AreSound (changed part said).config
+pub sound_next : (part : Part) (said : Says) → AreSound part.config → IsPlaced (rank part.place) part.config → IsRightLine part said → AreSound (changed part said).config
 sound_next part says.Nothing s p r = s
 sound_next part (says.Version v) s p r = let here : rank part.place ≡ 0 = r.here in with_version part.config v s (p.no_frames (omega arith)) (p.no_sections (omega arith)) (p.no_tasks (omega arith))
 sound_next part (says.Frames n) s p r = let here : rank part.place ≡ 1 = r.here in with_frames part.config n s r.fits.1 (p.no_bad (omega arith))

@@ -63,6 +63,6 @@ pub record IsDraft (part : Part) : Type 0 where
   pub placed : IsPlaced (rank part.place) part.config
 
 -- why a line that gives this wasn't taken
-abbrev pub IsRefused : Result Part Breach → Refused → Type 0
-IsRefused next (Fault breach) = next ≡ Err breach
-IsRefused next NoMemory = IsOk next
+abbrev pub IsLineRefused : Result Part Breach → Refused → Type 0
+IsLineRefused next (Fault breach) = next ≡ Err breach
+IsLineRefused next NoMemory = IsOk next

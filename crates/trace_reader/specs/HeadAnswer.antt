@@ -97,10 +97,10 @@ AnswersLine part number ended line next after answer =
     (left later : Option (List ℕ)) → HandsOut (Text ended) line → IfSome left (λ text. Takes (Ok (Text ended)) text line later) → AnswersNext part number left next after later answer
 
 -- the count of failures rose at `ReadFault`, and is else unchanged
-abbrev pub CountsBy : Result Bool TraceFault → ℕ → ℕ → Type 0
-CountsBy (Err ReadFault) before now = Rose before now
-CountsBy (Err NoMemory) before now = now ≡ before
-CountsBy (Err (Line n breach)) before now = now ≡ before
-CountsBy (Err Empty) before now = now ≡ before
-CountsBy (Err Unfinished) before now = now ≡ before
-CountsBy (Ok begins) before now = now ≡ before
+abbrev pub CountsByHead : Result Bool TraceFault → ℕ → ℕ → Type 0
+CountsByHead (Err ReadFault) before now = Rose before now
+CountsByHead (Err NoMemory) before now = now ≡ before
+CountsByHead (Err (Line n breach)) before now = now ≡ before
+CountsByHead (Err Empty) before now = now ≡ before
+CountsByHead (Err Unfinished) before now = now ≡ before
+CountsByHead (Ok begins) before now = now ≡ before

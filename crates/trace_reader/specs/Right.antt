@@ -50,6 +50,6 @@ place_for Body now = 3
 place_for (Request task) now = 4
 place_for End now = 4
 
-pub record IsRight (part : Part) (says : Says) : Type 0 where
+pub record IsRightLine (part : Part) (says : Says) : Type 0 where
   pub here : rank part.place ≡ place_for says (rank part.place)
   pub fits : Fits part says

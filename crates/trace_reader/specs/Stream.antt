@@ -7,7 +7,7 @@ use Rattle.trace_lines.specs.Seen.{IsSeen}
 use Rattle.trace_reader.specs.declared.draft.Draft.{Draft}
 use Rattle.trace_reader.specs.declared.fault.TraceFault.{TraceFault}
 use Rattle.trace_reader.specs.declared.fault.TraceFault.TheVariants as fault
-use Rattle.trace_reader.specs.Answer.{IsTaken}
+use Rattle.trace_reader.specs.Answer.{IsTextTaken}
 use Rattle.trace_reader.specs.Changes.{start}
 use Rattle.trace_reader.specs.Drafts.{IsDraft}
 use Rattle.trace_reader.specs.Meaning.{Trace, Configuration, Faulty, next_line, judge, is_open, lines}
@@ -96,7 +96,7 @@ Means number part line (Err fault.Unfinished) trace = trace ≡ meaning.Unfinish
 -- of the text this much was taken: whole lines, and a part of the next one
 pub record IsHeld (text : List ℕ) (left : Option (List ℕ)) (part : Part) (number : ℕ) (pending : List ℕ) : Type 0 where
   pub done : List ℕ
-  pub split : IsTaken text (done ++ pending) left
+  pub split : IsTextTaken text (done ++ pending) left
   pub follows : Follows start 1 done part number []
 
 -- the lines at the text's front were taken, and the rest is left

@@ -2,9 +2,9 @@ ghost use Rattle.std.specs.Prelude.{◌≡◌, OnOk, MatchResult};
 ghost use Rattle.trace_lines.specs.Says.{meant, Bad, Map, Fail, Request};
 ghost use Rattle.trace_lines.specs.Seen.{IsSeen};
 ghost use Rattle.trace_reader.specs.Changes.{start, changed};
-ghost use Rattle.trace_reader.specs.Drafts.{IsDraft, IsRefused};
+ghost use Rattle.trace_reader.specs.Drafts.{IsDraft, IsLineRefused};
 ghost use Rattle.trace_reader.specs.Meaning.{next_line};
-ghost use Rattle.trace_reader.specs.Right.{IsRight};
+ghost use Rattle.trace_reader.specs.Right.{IsRightLine};
 
 use crate::store::{add, add_range, blank, fails_of, write_bytes};
 use std::alloc::Global;
@@ -81,7 +81,7 @@ impl Draft {
     // Takes a line that says this.
     fn store(&mut self, alloc: Global, line: &Line) -> Result<(), NoMemory>
         requires seen { IsSeen self.old.seen self.old.part.config }
-        requires right { IsRight self.old.part (meant line.now) }
+        requires right { IsRightLine self.old.part (meant line.now) }
         ensures part { OnOk result (self.new.part ≡ changed self.old.part (meant line.now)) }
         ensures seen { OnOk result (IsSeen self.new.seen self.new.part.config) }
     {
@@ -143,7 +143,7 @@ impl Draft {
 
     fn store_map(&mut self, m: Mapping) -> Result<(), NoMemory>
         requires seen { IsSeen self.old.seen self.old.part.config }
-        requires right { IsRight self.old.part (Map m) }
+        requires right { IsRightLine self.old.part (Map m) }
         ensures part { OnOk result (self.new.part ≡ changed self.old.part (Map m)) }
         ensures seen { OnOk result (IsSeen self.new.seen self.new.part.config) }
     {
@@ -177,7 +177,7 @@ impl Draft {
         requires draft { IsDraft self.old.part }
         ensures value { MatchResult result
             (λ _. next_line number self.old.part line.now ≡ Ok self.new.part)
-            (λ e. IsRefused (next_line number self.old.part line.now) e) }
+            (λ e. IsLineRefused (next_line number self.old.part line.now) e) }
         ensures seen { OnOk result (IsSeen self.new.seen self.new.part.config) }
     {
         if let Some(task) = plain_line(number, &self.part, line) {

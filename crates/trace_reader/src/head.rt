@@ -5,9 +5,9 @@ ghost use Rattle.vm_types.specs.Configuration.{IsWellFormed};
 ghost use Rattle.outside_io.specs.BytesLeft.{bytes_left};
 ghost use Rattle.trace_words.specs.Words.{words};
 ghost use Rattle.trace_lines.specs.Grammar.{content};
-ghost use Rattle.trace_reader.specs.Answer.{FaultsBy};
+ghost use Rattle.trace_reader.specs.Answer.{FaultsByTrace};
 ghost use Rattle.trace_reader.specs.Head.{by_log_word, head_line};
-ghost use Rattle.trace_reader.specs.HeadAnswer.{HeadAnswers, HasTakenHead, IsHeadLineAtFault, AnswersNext, AnswersLine, IsKeptNext, IsTold, CountsBy};
+ghost use Rattle.trace_reader.specs.HeadAnswer.{HeadAnswers, HasTakenHead, IsHeadLineAtFault, AnswersNext, AnswersLine, IsKeptNext, IsTold, CountsByHead};
 ghost use Rattle.trace_reader.specs.LineText.{IsTextOf};
 ghost use Rattle.trace_reader.specs.LogWord.{said_by_words, plain};
 ghost use Rattle.trace_reader.specs.Meaning.{next_line};
@@ -109,7 +109,7 @@ fn take_ended(
     ensures first_bytes { IfErr result (KeepsLine reader.old.number line.now kept.new.items) }
     ensures kept { IfOk result (IsKeptNext reader.new.draft reader.old.number reader.new.number) }
     ensures line { AnswersLine reader.old.draft.part reader.old.number ended line.now reader.new.draft.part reader.new.number result }
-    ensures no_read { (count : ℕ) → CountsBy result count count }
+    ensures no_read { (count : ℕ) → CountsByHead result count count }
 {
     match take_head_line(reader, line, kept) {
         Ok(true) => Ok(true),
@@ -137,7 +137,7 @@ fn next_front<S: Source>(
     ensures kept { IfOk result (IsKeptNext reader.new.draft reader.old.number reader.new.number) }
     ensures text { AnswersNext reader.old.draft.part reader.old.number (bytes_left S.seen lines.old) reader.new.draft.part reader.new.number (bytes_left S.seen lines.new) result }
     ensures known { IsSome (S.seen lines.old.source.now).left → IsSome (S.seen lines.new.source.now).left }
-    ensures faults { CountsBy result (S.seen lines.old.source.now).failures (S.seen lines.new.source.now).failures }
+    ensures faults { CountsByHead result (S.seen lines.old.source.now).failures (S.seen lines.new.source.now).failures }
     ensures faults_later { (S.seen lines.old.source.now).failures ≤ (S.seen lines.new.source.now).failures }
     ensures same_reference { lines.new.source.ghost_name ≡ lines.old.source.ghost_name }
 {
@@ -173,7 +173,7 @@ pub fn read_head<S: Source>(
     ensures text { IfSome (bytes_left S.seen lines.old) (λ text. HeadAnswers result text (bytes_left S.seen lines.new)) }
     ensures kept { IfErr result (λ fault. IsTextOf fault (bytes_left S.seen lines.old) kept.new.items) }
     ensures known { IsSome (S.seen lines.old.source.now).left → IsSome (S.seen lines.new.source.now).left }
-    ensures faults { FaultsBy result (S.seen lines.old.source.now).failures (S.seen lines.new.source.now).failures }
+    ensures faults { FaultsByTrace result (S.seen lines.old.source.now).failures (S.seen lines.new.source.now).failures }
     ensures faults_later { (S.seen lines.old.source.now).failures ≤ (S.seen lines.new.source.now).failures }
     ensures same_reference { lines.new.source.ghost_name ≡ lines.old.source.ghost_name }
 {

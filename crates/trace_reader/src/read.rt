@@ -3,7 +3,7 @@ ghost use Rattle.std.specs.Io.KnownBytes.{Keeps, Consumes, IsAtEnd};
 ghost use Rattle.vm_types.specs.Configuration.{IsWellFormed};
 ghost use Rattle.outside_io.specs.Causes.{HasCause};
 ghost use Rattle.trace_lines.specs.Seen.{IsSeen};
-ghost use Rattle.trace_reader.specs.Answer.{Answers, FaultsBy};
+ghost use Rattle.trace_reader.specs.Answer.{AnswersTrace, FaultsByTrace};
 ghost use Rattle.trace_reader.specs.Changes.{start};
 ghost use Rattle.trace_reader.specs.LineText.{IsTextOf};
 ghost use Rattle.trace_reader.specs.Meaning.{at_end};
@@ -36,10 +36,10 @@ pub fn read_trace<S: Source>(
     kept: &mut ArrayVec<u8, 80>,
 ) -> Result<Config, TraceFault>
     ensures well_formed { IfOk result IsWellFormed }
-    ensures text { IfSome (S.seen source.old).left (λ text. Answers result text (S.seen source.new).left) }
+    ensures text { IfSome (S.seen source.old).left (λ text. AnswersTrace result text (S.seen source.new).left) }
     ensures kept { IfErr result (λ fault. IsTextOf fault (S.seen source.old).left kept.new.items) }
     ensures known { IsSome (S.seen source.old).left → IsSome (S.seen source.new).left }
-    ensures faults { FaultsBy result (S.seen source.old).failures (S.seen source.new).failures }
+    ensures faults { FaultsByTrace result (S.seen source.old).failures (S.seen source.new).failures }
     ensures faults_later { (S.seen source.old).failures ≤ (S.seen source.new).failures }
 {
     let mut buffer = vec![in alloc; 0; ROOM]?;
@@ -63,10 +63,10 @@ fn read_pieces<S: Source>(
     requires seen { IsSeen reader.draft.seen reader.draft.part.config }
     requires room { length buffer.old ≡ 8192 }
     ensures well_formed { IfOk result IsWellFormed }
-    ensures text { IfSome (S.seen source.old).left (λ text. Answers result text (S.seen source.new).left) }
+    ensures text { IfSome (S.seen source.old).left (λ text. AnswersTrace result text (S.seen source.new).left) }
     ensures kept { IfErr result (λ fault. IsTextOf fault (S.seen source.old).left kept.new.items) }
     ensures known { IsSome (S.seen source.old).left → IsSome (S.seen source.new).left }
-    ensures faults { FaultsBy result (S.seen source.old).failures (S.seen source.new).failures }
+    ensures faults { FaultsByTrace result (S.seen source.old).failures (S.seen source.new).failures }
     ensures faults_later { (S.seen source.old).failures ≤ (S.seen source.new).failures }
 {
     let mut held = 0;

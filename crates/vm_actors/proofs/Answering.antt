@@ -17,7 +17,7 @@ use Rattle.seat_turns.specs.Steps.{AnswersAs}
 use Rattle.seat_turns.specs.declared.turned.Spoken.{Spoken}
 use Rattle.seat_turns.specs.declared.turned.Spoken.TheVariants.{Answer, Reply}
 use Rattle.vm_actors.specs.Between.{IsCalm}
-use Rattle.vm_actors.specs.OwnEntries.{AreSilent, EndsInAnswer, GoesOn, IsReplied, own_of}
+use Rattle.vm_actors.specs.OwnEntries.{AreSilent, EndsInAnswer, GoesOnSilently, IsReplied, own_of}
 use Rattle.vm_actors.specs.Requests.{AreAnswers, AreFirstAnswers, HasAnswered, HasAnsweredSome, requests_in, with_request}
 use Rattle.vm_actors.proofs.OwnTurns.{goes_both, goes_nowhere}
 
@@ -65,7 +65,7 @@ module _ (numbers : List ℕ) (a b c : List Entry) (work : List Request) (i : �
           ∙ (ap (λ (zs : List Request). zs ++ requests_in ys) first ∙ ap (λ (zs : List Request). take i work ++ zs) (ends_asks seat x shown ys ends))
 
   -- and no more than those
-  pub answered_some : GoesOn numbers b c → HasAnsweredSome numbers a c work
+  pub answered_some : GoesOnSilently numbers b c → HasAnsweredSome numbers a c work
   answered_some silent = goes_both numbers (AreAnswers (take i work)) AreSilent (AreFirstAnswers work) first a b c before silent
     where
       first : (xs ys : List Entry) → AreAnswers (take i work) xs → AreSilent ys → AreFirstAnswers work (xs ++ ys)

@@ -13,10 +13,10 @@ use Rattle.vm_state.specs.History.{History}
 use Rattle.vm_state.specs.declared.base.StateBase.{StateBase}
 use Rattle.carried_landings.specs.Outside.{AreOut}
 use Rattle.seat_turns.specs.Begun.{IsBegunFor}
-use Rattle.seat_turns.specs.Rests.{IsSwapped, IsWritten}
+use Rattle.seat_turns.specs.Rests.{SwapperRests, WriterRests}
 use Rattle.seat_turns.specs.Steps.{HasTurned, seat_of, swapper_seat, writer_seat}
 use Rattle.seat_turns.specs.declared.turned.Turned.{Turned}
-use Rattle.vm_actors.specs.Doings.{HasRested, IsBegun, Knows, MayAsk, MayDo, request_of}
+use Rattle.vm_actors.specs.Doings.{HasRested, AreBegunFor, Knows, MayAsk, MayDo, request_of}
 use Rattle.vm_actors.specs.declared.doing.Doing.{Doing}
 use Rattle.vm_actors.specs.declared.doing.Doing.TheVariants.{Asking, Swapping, Writing}
 
@@ -29,13 +29,13 @@ module _ (seat : Seat) (doing : Doing) where
     pub asking_may : (config : Config) → MayDo seat doing config → (seat ≡ seat_of p) × MayAsk p x config
     asking_may config may = subst (λ (d : Doing). MayDo seat d config) is may
 
-    pub asking_begun : (past : List Entry) (own : Bool) → seat ≡ seat_of p → IsBegun past seat doing own → IsBegunFor past p.0 x own
+    pub asking_begun : (past : List Entry) (own : Bool) → seat ≡ seat_of p → AreBegunFor past seat doing own → IsBegunFor past p.0 x own
     asking_begun past own same begun =
-        subst (λ (z : Seat). IsBegunFor past z.0 x own) same (subst (λ (d : Doing). IsBegun past seat d own) is begun)
+        subst (λ (z : Seat). IsBegunFor past z.0 x own) same (subst (λ (d : Doing). AreBegunFor past seat d own) is begun)
 
-    pub begun_asking : (past : List Entry) (own : Bool) → seat ≡ seat_of p → IsBegunFor past p.0 x own → IsBegun past seat doing own
+    pub begun_asking : (past : List Entry) (own : Bool) → seat ≡ seat_of p → IsBegunFor past p.0 x own → AreBegunFor past seat doing own
     begun_asking past own same begun =
-        subst (λ (d : Doing). IsBegun past seat d own) (sym is) (subst (λ (z : Seat). IsBegunFor past z.0 x own) (sym same) begun)
+        subst (λ (d : Doing). AreBegunFor past seat d own) (sym is) (subst (λ (z : Seat). IsBegunFor past z.0 x own) (sym same) begun)
 
     pub turned_asking : {B : Type 0} {seen : B → BlockView} {tells : Tells} (s t : History) (turned : Turned) (c : CarrierView B) → seat ≡ seat_of p → HasTurned seen tells s t (seat_of p) (Some x) turned c → HasTurned seen tells s t seat (request_of doing) turned c
     turned_asking {seen = seen} {tells = tells} s t turned c same has =
@@ -55,18 +55,18 @@ module _ (seat : Seat) (doing : Doing) where
   turned_idle {seen = seen} {tells = tells} s t z turned c none same has =
       subst (λ (o : Option Request). HasTurned seen tells s t seat o turned c) none (subst (λ (y : Seat). HasTurned seen tells s t y None turned c) (sym same) has)
 
-  pub begun_idle : (past : List Entry) (own : Bool) → request_of doing ≡ None → IsBegun past seat doing own
+  pub begun_idle : (past : List Entry) (own : Bool) → request_of doing ≡ None → AreBegunFor past seat doing own
   begun_idle past own none = by doing none
     where
-      by : (d : Doing) → request_of d ≡ None → IsBegun past seat d own
+      by : (d : Doing) → request_of d ≡ None → AreBegunFor past seat d own
       by (Asking p x) is = absurd (none-some x (sym is))
       by Writing is = tt
       by Swapping is = tt
 
-  pub rested_writing : (config : Config) (past : List Entry) (a : Pager) → doing ≡ Writing → IsWritten config a → HasRested doing config past a
+  pub rested_writing : (config : Config) (past : List Entry) (a : Pager) → doing ≡ Writing → WriterRests config a → HasRested doing config past a
   rested_writing config past a is rests = subst (λ (d : Doing). HasRested d config past a) (sym is) rests
 
-  pub rested_swapping : (config : Config) (past : List Entry) (a : Pager) → doing ≡ Swapping → IsSwapped config past a → HasRested doing config past a
+  pub rested_swapping : (config : Config) (past : List Entry) (a : Pager) → doing ≡ Swapping → SwapperRests config past a → HasRested doing config past a
   rested_swapping config past a is rests = subst (λ (d : Doing). HasRested d config past a) (sym is) rests
 
 -- a process that may ask has its own seat

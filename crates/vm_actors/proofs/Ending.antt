@@ -13,7 +13,7 @@ use Rattle.seat_turns.specs.declared.turned.Spoken.{Spoken}
 use Rattle.seat_turns.specs.declared.turned.Turned.{Turned}
 use Rattle.seat_turns.specs.declared.turned.Turned.TheVariants.{Made, Reads, Rests, Short, Spoke, Waits}
 use Rattle.vm_actors.specs.Ends.{IsEnd, IsIdleEnd, may_carry}
-use Rattle.vm_actors.specs.OwnEntries.{AreSilent, GoesOn, GoesOnWith, IsNone, IsReplied, MadeNone, MadeSome, TurnEntries}
+use Rattle.vm_actors.specs.OwnEntries.{AreSilent, GoesOnSilently, GoesOnWith, IsNone, IsReplied, MadeNone, MadeSome, TurnEntries}
 use Rattle.vm_actors.proofs.OwnTurns.{goes_then, none_then, replied_then, some_after, some_before}
 
 -- ---- what waits to be carried
@@ -77,11 +77,11 @@ idle_silent seat turned o is entries tells = by turned (subst (λ (x : Option Re
 weaker : (P Q : List Entry → Type 0) → ((entries : List Entry) → P entries → Q entries) → (numbers : List ℕ) (a b : List Entry) → GoesOnWith P numbers a b → GoesOnWith Q numbers a b
 weaker P Q less numbers a b more = record { later = more.later; whole = more.whole; own = less _ more.own }
 
-module _ (numbers : List ℕ) (seat : Seat) (turned : Turned) (a b c : List Entry) (before : GoesOn numbers a b) where
-  pub still_silent : (o : Option Request) → ((shown : Spoken) → turned ≡ Spoke shown → ⊥) → GoesOnWith (TurnEntries seat turned o) numbers b c → GoesOn numbers a c
+module _ (numbers : List ℕ) (seat : Seat) (turned : Turned) (a b c : List Entry) (before : GoesOnSilently numbers a b) where
+  pub still_silent : (o : Option Request) → ((shown : Spoken) → turned ≡ Spoke shown → ⊥) → GoesOnWith (TurnEntries seat turned o) numbers b c → GoesOnSilently numbers a c
   still_silent o never more = goes_then numbers a b c before (weaker (TurnEntries seat turned o) AreSilent (turn_silent seat turned o never) numbers b c more)
 
-  pub still_idle : (o : Option Request) → o ≡ None → GoesOnWith (TurnEntries seat turned o) numbers b c → GoesOn numbers a c
+  pub still_idle : (o : Option Request) → o ≡ None → GoesOnWith (TurnEntries seat turned o) numbers b c → GoesOnSilently numbers a c
   still_idle o is more = goes_then numbers a b c before (weaker (TurnEntries seat turned o) AreSilent (idle_silent seat turned o is) numbers b c more)
 
   pub end_replied : (x : Request) (end : Result Spoken NoMemory) → IsEnd turned end → GoesOnWith (TurnEntries seat turned (Some x)) numbers b c → IfOk end (IsReplied seat x numbers a c)
@@ -92,11 +92,11 @@ module _ (numbers : List ℕ) (seat : Seat) (turned : Turned) (a b c : List Entr
       by (Spoke shown) same tells = subst (IsReplied seat x numbers a c) (sym same) (replied_then numbers seat x shown a b c before tells)
       by other same tells = absurd same
 
-  pub end_silent : (x : Request) (end : Result Spoken NoMemory) → IsEnd turned end → GoesOnWith (TurnEntries seat turned (Some x)) numbers b c → OnErr end (GoesOn numbers a c)
+  pub end_silent : (x : Request) (end : Result Spoken NoMemory) → IsEnd turned end → GoesOnWith (TurnEntries seat turned (Some x)) numbers b c → OnErr end (GoesOnSilently numbers a c)
   end_silent x (Ok given) is more = tt
   end_silent x (Err e) is more = by turned is more
     where
-      by : (u : Turned) → IsEnd u (Err e) → GoesOnWith (TurnEntries seat u (Some x)) numbers b c → GoesOn numbers a c
+      by : (u : Turned) → IsEnd u (Err e) → GoesOnWith (TurnEntries seat u (Some x)) numbers b c → GoesOnSilently numbers a c
       by Short same tells = goes_then numbers a b c before tells
       by other same tells = absurd same
 
@@ -107,11 +107,11 @@ module _ (numbers : List ℕ) (seat : Seat) (turned : Turned) (o : Option Reques
   none_made true now first second is = absurd (false≢true (sym is))
   none_made false now first second is = none_then numbers a b c (first refl) (second is)
 
-  pub some_made : (before now : Bool) → (before ≡ true → MadeSome numbers a b) → GoesOn numbers a b → (now ≡ true → MadeSome numbers b c) → (before || now) ≡ true → MadeSome numbers a c
+  pub some_made : (before now : Bool) → (before ≡ true → MadeSome numbers a b) → GoesOnSilently numbers a b → (now ≡ true → MadeSome numbers b c) → (before || now) ≡ true → MadeSome numbers a c
   some_made true now first more second is = some_before numbers (TurnEntries seat turned o) a b c (first refl) tells
   some_made false now first more second is = some_after numbers AreSilent a b c more (second is)
 
-pub none_silent : (numbers : List ℕ) (a b : List Entry) → MadeNone numbers a b → GoesOn numbers a b
+pub none_silent : (numbers : List ℕ) (a b : List Entry) → MadeNone numbers a b → GoesOnSilently numbers a b
 none_silent numbers a b made = weaker IsNone AreSilent (λ entries none. subst AreSilent (sym none) tt) numbers a b made
 
 pub idle_end_is : (made given : Bool) (turned : Turned) → IsIdleEnd made turned (Ok given) → (turned ≡ Rests) × (given ≡ made)

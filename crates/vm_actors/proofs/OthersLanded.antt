@@ -22,7 +22,7 @@ use Rattle.call_begins.specs.Lifted.{place_of}
 use Rattle.call_begins.specs.MayBegin.{empty}
 use Rattle.carried_landings.specs.Outside.{AreOut, NoneWaits}
 use Rattle.carried_landings.specs.SeatFlights.{flight_place}
-use Rattle.vm_actors.specs.Between.{IsBetween, NoOtherOpen, NoneOpen}
+use Rattle.vm_actors.specs.Between.{IsBetweenTurns, NoOtherOpen, NoneOpen}
 use Rattle.vm_actors.proofs.Foreign.{IsForeign}
 use Rattle.vm_actors.proofs.Onto.{made_onto, onto}
 use Rattle.vm_actors.proofs.StillOut.{all_stay, found_foreign, found_past}
@@ -76,7 +76,7 @@ pub begin_others : (numbers : List ℕ) (p : ℕ) (journal : List Entry) → Non
 begin_others numbers p journal landed k has apart = landed k has
 
 module _ {B : Type 0} (seen : B → BlockView) (tells : Tells) (seat : Seat) (c : CarrierView B) where
-  pub begin_between : (Is : Option StateBase → Type 0) (base : Option StateBase) (journal : List Entry) (numbers : List ℕ) → (Is None → ⊥) → Is base → c ≡ empty seat → Contains numbers seat.0 → NoneOpen numbers journal → IsBetween seen tells base (reverse journal) seat c
+  pub begin_between : (Is : Option StateBase → Type 0) (base : Option StateBase) (journal : List Entry) (numbers : List ℕ) → (Is None → ⊥) → Is base → c ≡ empty seat → Contains numbers seat.0 → NoneOpen numbers journal → IsBetweenTurns seen tells base (reverse journal) seat c
   begin_between Is None journal numbers never is none has landed = absurd (never is)
   begin_between Is (Some b) journal numbers never is none has landed = record {
     out = none_out seen tells b (reverse journal) seat c none (landed seat.0 has);
@@ -84,7 +84,7 @@ module _ {B : Type 0} (seen : B → BlockView) (tells : Tells) (seat : Seat) (c 
   }
 
   -- nothing is in the carrier
-  pub end_landed : (base : Option StateBase) (journal : List Entry) (numbers : List ℕ) → IsBetween seen tells base (reverse journal) seat c → c.lifts ≡ [] → NoOtherOpen numbers seat.0 (reverse journal) → NoneOpen numbers journal
+  pub end_landed : (base : Option StateBase) (journal : List Entry) (numbers : List ℕ) → IsBetweenTurns seen tells base (reverse journal) seat c → c.lifts ≡ [] → NoOtherOpen numbers seat.0 (reverse journal) → NoneOpen numbers journal
   end_landed None journal numbers between none others k has = absurd between
   end_landed (Some b) journal numbers between none others k has = by (nat_eq seat.0 k) refl
     where
@@ -92,6 +92,6 @@ module _ {B : Type 0} (seen : B → BlockView) (tells : Tells) (seat : Seat) (c 
       by false is = others k has is
       by true is = subst (λ (n : ℕ). carrier_of n (reverse journal) ≡ []) (eqb-true seat.0 k is) (out_none b (reverse journal) seat c none between.out)
 
-  pub end_carrier : (base : Option StateBase) (past : List Entry) → IsBetween seen tells base past seat c → c.lifts ≡ [] → c ≡ empty seat
+  pub end_carrier : (base : Option StateBase) (past : List Entry) → IsBetweenTurns seen tells base past seat c → c.lifts ≡ [] → c ≡ empty seat
   end_carrier None past between none = absurd between
   end_carrier (Some b) past between none = λ i. record { seat = between.out.own i; lifts = none i }

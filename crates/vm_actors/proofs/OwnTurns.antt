@@ -13,7 +13,7 @@ use Rattle.seat_turns.specs.Steps.{AreUnspoken, TurnTells}
 use Rattle.seat_turns.specs.declared.turned.Spoken.{Spoken}
 use Rattle.seat_turns.specs.declared.turned.Turned.{Turned}
 use Rattle.seat_turns.specs.declared.turned.Turned.TheVariants.{Made, Reads, Rests, Short, Spoke, Waits}
-use Rattle.vm_actors.specs.OwnEntries.{AreSilent, EndsInAnswer, GoesOn, GoesOnWith, IsNone, IsSome, IsUnspoken, MadeNone, MadeSome, TurnEntries, is_of, own_of}
+use Rattle.vm_actors.specs.OwnEntries.{AreSilent, EndsInAnswer, GoesOnSilently, GoesOnWith, IsNone, IsSome, IsUnspoken, MadeNone, MadeSome, TurnEntries, is_of, own_of}
 use Rattle.vm_actors.proofs.Foreign.{IsForeign}
 
 -- ---- numbers
@@ -111,10 +111,10 @@ module _ (numbers : List ℕ) where
     own = subst R (sym (own_append numbers first.later second.later)) (both (own_of numbers first.later) (own_of numbers second.later) first.own second.own);
   }
 
-  pub goes_then : (a b c : List Entry) → GoesOn numbers a b → GoesOn numbers b c → GoesOn numbers a c
+  pub goes_then : (a b c : List Entry) → GoesOnSilently numbers a b → GoesOnSilently numbers b c → GoesOnSilently numbers a c
   goes_then a b c first second = goes_both AreSilent AreSilent AreSilent (all_then IsUnspoken) a b c first second
 
-  pub replied_then : (seat : Seat) (x : Request) (shown : Spoken) (a b c : List Entry) → GoesOn numbers a b → GoesOnWith (EndsInAnswer seat x shown) numbers b c → GoesOnWith (EndsInAnswer seat x shown) numbers a c
+  pub replied_then : (seat : Seat) (x : Request) (shown : Spoken) (a b c : List Entry) → GoesOnSilently numbers a b → GoesOnWith (EndsInAnswer seat x shown) numbers b c → GoesOnWith (EndsInAnswer seat x shown) numbers a c
   replied_then seat x shown a b c first second = goes_both AreSilent (EndsInAnswer seat x shown) (EndsInAnswer seat x shown) last_of a b c first second
     where
       last_of : (xs ys : List Entry) → AreSilent xs → EndsInAnswer seat x shown ys → EndsInAnswer seat x shown (xs ++ ys)

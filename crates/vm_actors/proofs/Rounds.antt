@@ -5,7 +5,7 @@ use Rattle.vm_journal.specs.declared.entry.Entry.{Entry}
 use Rattle.vm_state.specs.declared.base.StateBase.{StateBase}
 use Rattle.vm_actors.specs.Between.{NoneOpen}
 use Rattle.vm_actors.specs.Doings.{RestsAt}
-use Rattle.vm_actors.specs.OwnEntries.{AreSilent, GoesOn, MadeNone, MadeSome}
+use Rattle.vm_actors.specs.OwnEntries.{AreSilent, GoesOnSilently, MadeNone, MadeSome}
 use Rattle.vm_actors.specs.Requests.{AreAllAnswered}
 use Rattle.vm_actors.specs.declared.doing.Doing.{Doing}
 use Rattle.vm_actors.proofs.Ending.{none_silent}
@@ -15,12 +15,12 @@ use Rattle.vm_actors.proofs.SeenTurns.{still_answered}
 pub open_none : (ns ms : List ℕ) (journal : List Entry) → ns ≡ ms → NoneOpen ns journal → NoneOpen ms journal
 open_none ns ms journal same none = subst (λ (zs : List ℕ). NoneOpen zs journal) same none
 
-module _ (numbers ns ms : List ℕ) (owns : ns ≡ numbers) (still : ms ≡ ns) (a b c d : List Entry) (before : GoesOn numbers a b) (looked : MadeNone ns b c) (worked : GoesOn ms c d) where
-  looked_on : GoesOn numbers a c
+module _ (numbers ns ms : List ℕ) (owns : ns ≡ numbers) (still : ms ≡ ns) (a b c d : List Entry) (before : GoesOnSilently numbers a b) (looked : MadeNone ns b c) (worked : GoesOnSilently ms c d) where
+  looked_on : GoesOnSilently numbers a c
   looked_on = goes_then numbers a b c before (none_silent numbers b c (subst (λ (zs : List ℕ). MadeNone zs b c) owns looked))
 
-  pub round_silent : GoesOn numbers a d
-  round_silent = goes_then numbers a c d looked_on (subst (λ (zs : List ℕ). GoesOn zs c d) (still ∙ owns) worked)
+  pub round_silent : GoesOnSilently numbers a d
+  round_silent = goes_then numbers a c d looked_on (subst (λ (zs : List ℕ). GoesOnSilently zs c d) (still ∙ owns) worked)
 
   pub round_answered : (base old : Option StateBase) → base ≡ old → AreAllAnswered base c → AreAllAnswered old d
   round_answered base old is all = subst (λ (x : Option StateBase). AreAllAnswered x d) is (still_answered AreSilent ms c d base worked all)

@@ -17,7 +17,7 @@ use Rattle.vm_state.specs.History.{History}
 use Rattle.vm_state.specs.declared.base.StateBase.{StateBase}
 use Rattle.seat_laws.proofs.OtherSeats.{carrier_stays, carrying_stays}
 use Rattle.seat_turns.specs.Begun.{CarriesFor, IsBegunFor}
-use Rattle.vm_actors.specs.Doings.{IsBegun}
+use Rattle.vm_actors.specs.Doings.{AreBegunFor}
 use Rattle.vm_actors.specs.declared.doing.Doing.{Doing}
 use Rattle.vm_actors.specs.declared.doing.Doing.TheVariants.{Asking, Swapping, Writing}
 use Rattle.vm_actors.proofs.Foreign.{IsForeign}
@@ -53,7 +53,7 @@ found_begun s v seat Is run keeps known has old =
     (all_carry s.config seat Is known.begins.0 (reverse v.seen) (found_foreign s v seat known has) (subst (IsRun s.config) past_is run) old)
 
 -- what was begun in the journal that a pass has seen is begun in the state that its turn finds
-pub stays_begun : (s : History) (v : View StateBase) (seat : Seat) (doing : Doing) (own : Bool) → IsRun s.config s.past → s.keeps ≡ true → Known kept_entries base_of s v → Contains v.numbers seat.0 → IsBegun (reverse v.seen) seat doing own → IsBegun s.past seat doing own
+pub stays_begun : (s : History) (v : View StateBase) (seat : Seat) (doing : Doing) (own : Bool) → IsRun s.config s.past → s.keeps ≡ true → Known kept_entries base_of s v → Contains v.numbers seat.0 → AreBegunFor (reverse v.seen) seat doing own → AreBegunFor s.past seat doing own
 stays_begun s v seat (Asking p x) own run keeps known has old = found_begun s v seat.0 _ run keeps known has old
 stays_begun s v seat Writing own run keeps known has old = tt
 stays_begun s v seat Swapping own run keeps known has old = tt

@@ -24,8 +24,8 @@ use Rattle.vm_state.specs.declared.base.StateBase.{StateBase}
 use Rattle.carried_landings.specs.Outside.{AreOut, NoneWaits}
 use Rattle.seat_turns.specs.Steps.{HasTurned}
 use Rattle.seat_turns.specs.declared.turned.Turned.{Turned}
-use Rattle.vm_actors.specs.Between.{IsBetween, IsCalm, IsJournalOf, NoOtherOpen}
-use Rattle.vm_actors.specs.Doings.{HasRested, IsBegun, Knows, RestsAt}
+use Rattle.vm_actors.specs.Between.{IsBetweenTurns, IsCalm, IsJournalOf, NoOtherOpen}
+use Rattle.vm_actors.specs.Doings.{HasRested, AreBegunFor, Knows, RestsAt}
 use Rattle.vm_actors.specs.OwnEntries.{GoesOnWith, IsNone, IsSome, MadeNone, MadeSome, TurnEntries, own_of}
 use Rattle.vm_actors.specs.declared.doing.Doing.{Doing}
 use Rattle.vm_actors.proofs.Onto.{made_last}
@@ -63,15 +63,15 @@ module _ (s : History) (v : View StateBase) (known : Known kept_entries base_of 
   there = knows_here.1
 
   -- ---- what the turn finds
-  pub found_out : {B : Type 0} {seen : B → BlockView} {tells : Tells} (seat : Seat) (c : CarrierView B) → IsWellFormed s.config → IsRun s.config s.past → Contains v.numbers seat.0 → IsBetween seen tells v.base (reverse v.seen) seat c → AreOut seen tells (base_of s) s.past seat c
+  pub found_out : {B : Type 0} {seen : B → BlockView} {tells : Tells} (seat : Seat) (c : CarrierView B) → IsWellFormed s.config → IsRun s.config s.past → Contains v.numbers seat.0 → IsBetweenTurns seen tells v.base (reverse v.seen) seat c → AreOut seen tells (base_of s) s.past seat c
   found_out {seen = seen} {tells = tells} seat c formed run has between =
       stays_out seen tells s v seat c formed run keeps known has
-      (subst (λ (base : Option StateBase). IsBetween seen tells base (reverse v.seen) seat c) known.base_is between).out
+      (subst (λ (base : Option StateBase). IsBetweenTurns seen tells base (reverse v.seen) seat c) known.base_is between).out
 
-  pub found_begun : (seat : Seat) (doing : Doing) (own : Bool) → IsRun s.config s.past → Contains v.numbers seat.0 → IsBegun (reverse v.seen) seat doing own → IsBegun s.past seat doing own
+  pub found_begun : (seat : Seat) (doing : Doing) (own : Bool) → IsRun s.config s.past → Contains v.numbers seat.0 → AreBegunFor (reverse v.seen) seat doing own → AreBegunFor s.past seat doing own
   found_begun seat doing own run has begun = stays_begun s v seat doing own run keeps known has begun
 
-pub all_carried : {B : Type 0} (seen : B → BlockView) (tells : Tells) (base : Option StateBase) (past : List Entry) (seat : Seat) (c : CarrierView B) → IsBetween seen tells base past seat c → NoneWaits c.lifts
+pub all_carried : {B : Type 0} (seen : B → BlockView) (tells : Tells) (base : Option StateBase) (past : List Entry) (seat : Seat) (c : CarrierView B) → IsBetweenTurns seen tells base past seat c → NoneWaits c.lifts
 all_carried seen tells None past seat c between = absurd between
 all_carried seen tells (Some b) past seat c between = between.carried
 
@@ -129,14 +129,14 @@ module _ {B : Type 0} {seen : B → BlockView} {tells : Tells} (s : History) (v 
   past_left : (journal : List Entry) → journal ≡ kept_entries t → t.past ≡ reverse journal
   past_left journal is = past_of t keeps_still ∙ ap reverse (sym is)
 
-  pub between_left : (base : Option StateBase) → base ≡ v.base → (journal : List Entry) → journal ≡ kept_entries t → (d : CarrierView B) → NoneWaits d.lifts → ((b : StateBase) (past : List Entry) (z : Seat) → AreOut seen tells b past z c → AreOut seen tells b past z d) → IsBetween seen tells base (reverse journal) seat d
+  pub between_left : (base : Option StateBase) → base ≡ v.base → (journal : List Entry) → journal ≡ kept_entries t → (d : CarrierView B) → NoneWaits d.lifts → ((b : StateBase) (past : List Entry) (z : Seat) → AreOut seen tells b past z c → AreOut seen tells b past z d) → IsBetweenTurns seen tells base (reverse journal) seat d
   between_left base base_is journal is d carried out =
-      subst (λ (x : Option StateBase). IsBetween seen tells x (reverse journal) seat d) (sym (base_left base base_is))
+      subst (λ (x : Option StateBase). IsBetweenTurns seen tells x (reverse journal) seat d) (sym (base_left base base_is))
       (record { out = subst (λ (past : List Entry). AreOut seen tells (base_of t) past seat d) (past_left journal is) (out (base_of t) t.past seat has_turned.out); carried = carried })
 
-  pub begun_left : (journal : List Entry) → journal ≡ kept_entries t → (d : CarrierView B) → (c.lifts ≡ [] → d.lifts ≡ []) → (doing : Doing) (own : Bool) → ((c.lifts ≡ [] → ⊥) → IsBegun t.past seat doing own) → (d.lifts ≡ [] → ⊥) → IsBegun (reverse journal) seat doing own
+  pub begun_left : (journal : List Entry) → journal ≡ kept_entries t → (d : CarrierView B) → (c.lifts ≡ [] → d.lifts ≡ []) → (doing : Doing) (own : Bool) → ((c.lifts ≡ [] → ⊥) → AreBegunFor t.past seat doing own) → (d.lifts ≡ [] → ⊥) → AreBegunFor (reverse journal) seat doing own
   begun_left journal is d none doing own begun some =
-      subst (λ (past : List Entry). IsBegun past seat doing own) (past_left journal is) (begun (λ old. some (none old)))
+      subst (λ (past : List Entry). AreBegunFor past seat doing own) (past_left journal is) (begun (λ old. some (none old)))
 
   pub others_left_open : IsWellFormed s.config → IsRun s.config s.past → IsRun t.config t.past → NoOtherOpen v.numbers seat.0 (reverse v.seen) → (journal : List Entry) → journal ≡ kept_entries t → NoOtherOpen v.numbers seat.0 (reverse journal)
   others_left_open formed run run_then landed journal is =

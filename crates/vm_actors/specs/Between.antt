@@ -30,11 +30,11 @@ IsJournalOf tells (Some b) journal = IsRun b.config (reverse journal) × (tells 
 
 module _ {B : Type 0} (seen : B → BlockView) (tells : Tells) where
   -- the carrier has the lifts of all open transfers of the seat, which were carried
-  pub record HasCarried (b : StateBase) (past : List Entry) (seat : Seat) (c : CarrierView B) : Type 0 where
+  pub record HasCarriedAll (b : StateBase) (past : List Entry) (seat : Seat) (c : CarrierView B) : Type 0 where
     pub out : AreOut seen tells b past seat c
     pub carried : NoneWaits c.lifts
 
   -- a pass that knows no base stands nowhere
-  abbrev pub IsBetween : Option StateBase → List Entry → Seat → CarrierView B → Type 0
-  IsBetween None past seat c = ⊥
-  IsBetween (Some b) past seat c = HasCarried b past seat c
+  abbrev pub IsBetweenTurns : Option StateBase → List Entry → Seat → CarrierView B → Type 0
+  IsBetweenTurns None past seat c = ⊥
+  IsBetweenTurns (Some b) past seat c = HasCarriedAll b past seat c

@@ -10,7 +10,7 @@ use Rattle.pager_model.specs.Pager.{Pager}
 use Rattle.pager_model.specs.Run.{pager_after}
 use Rattle.vm_state.specs.declared.base.StateBase.{StateBase}
 use Rattle.seat_turns.specs.Begun.{IsBegunFor}
-use Rattle.seat_turns.specs.Rests.{IsSwapped, IsWritten}
+use Rattle.seat_turns.specs.Rests.{SwapperRests, WriterRests}
 use Rattle.seat_turns.specs.Steps.{seat_of, swapper_seat, writer_seat}
 use Rattle.vm_actors.specs.declared.doing.Doing.{Doing}
 use Rattle.vm_actors.specs.declared.doing.Doing.TheVariants.{Asking, Writing, Swapping}
@@ -38,15 +38,15 @@ request_of (Asking p x) = Some x
 request_of other = None
 
 -- the seat's open transfers were begun for it
-abbrev pub IsBegun : List Entry → Seat → Doing → Bool → Type 0
-IsBegun past seat (Asking p x) own = IsBegunFor past seat.0 x own
-IsBegun past seat other own = Unit {0}
+abbrev pub AreBegunFor : List Entry → Seat → Doing → Bool → Type 0
+AreBegunFor past seat (Asking p x) own = IsBegunFor past seat.0 x own
+AreBegunFor past seat other own = Unit {0}
 
 -- there is nothing to do, in the state that a journal leads to
 abbrev pub HasRested : Doing → Config → List Entry → Pager → Type 0
 HasRested (Asking p x) config past a = Unit {0}
-HasRested Writing config past a = IsWritten config a
-HasRested Swapping config past a = IsSwapped config past a
+HasRested Writing config past a = WriterRests config a
+HasRested Swapping config past a = SwapperRests config past a
 
 abbrev pub RestsAt : Doing → Option StateBase → List Entry → Type 0
 RestsAt doing None past = ⊥

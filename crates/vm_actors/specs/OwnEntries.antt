@@ -31,8 +31,8 @@ IsUnspoken e = is_answer e.what ≡ false
 abbrev pub AreSilent : List Entry → Type 0
 AreSilent entries = AllByRecursion IsUnspoken entries
 
-abbrev pub GoesOn : List ℕ → List Entry → List Entry → Type 0
-GoesOn numbers old new = GoesOnWith AreSilent numbers old new
+abbrev pub GoesOnSilently : List ℕ → List Entry → List Entry → Type 0
+GoesOnSilently numbers old new = GoesOnWith AreSilent numbers old new
 
 -- there are none, or some
 abbrev pub IsNone : List Entry → Type 0

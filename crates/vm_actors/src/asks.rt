@@ -4,7 +4,7 @@ ghost use Rattle.call_begins.specs.MayBegin.{empty};
 ghost use Rattle.seat_turns.specs.Steps.{seat_of};
 ghost use Rattle.vm_actors.specs.Between.{IsCalm, IsJournalOf, NoneOpen};
 ghost use Rattle.vm_actors.specs.Doings.{Knows, MayAsk};
-ghost use Rattle.vm_actors.specs.OwnEntries.{GoesOn, IsReplied};
+ghost use Rattle.vm_actors.specs.OwnEntries.{GoesOnSilently, IsReplied};
 
 use crate::doing::Doing;
 use crate::ends::{end_of, reads};
@@ -45,7 +45,7 @@ pub fn ask<W: Wait, B: Block, G: Gate>(
     ensures base { base_seen pass.new ≡ base_seen pass.old }
     ensures same { IsSameLock pass.old pass.new }
     ensures replied { IfOk result (IsReplied (seat_of p) x (numbers pass.old) (seen pass.old) (seen pass.new)) }
-    ensures silent { OnErr result (GoesOn (numbers pass.old) (seen pass.old) (seen pass.new)) }
+    ensures silent { OnErr result (GoesOnSilently (numbers pass.old) (seen pass.old) (seen pass.new)) }
     ensures landed { NoneOpen (numbers pass.old) (seen pass.new) }
     ensures calm { IsCalm (seen pass.new) }
     ensures legal { IsJournalOf B.tells.content (base_seen pass.new) (seen pass.new) }

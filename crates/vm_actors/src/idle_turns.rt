@@ -3,7 +3,7 @@ ghost use Rattle.history_lock.specs.Passes.{IsIdle, IsOf, IsSameLock, base_of as
 ghost use Rattle.call_begins.specs.MayBegin.{empty};
 ghost use Rattle.vm_actors.specs.Between.{IsCalm, IsJournalOf, NoneOpen};
 ghost use Rattle.vm_actors.specs.Doings.{Knows, MayDo, RestsAt, request_of};
-ghost use Rattle.vm_actors.specs.OwnEntries.{GoesOn, MadeNone, MadeSome};
+ghost use Rattle.vm_actors.specs.OwnEntries.{GoesOnSilently, MadeNone, MadeSome};
 
 use crate::doing::Doing;
 use crate::ends::{either, idle_end_of};
@@ -43,7 +43,7 @@ pub fn work_once<W: Wait, B: Block, G: Gate>(
     ensures numbers { numbers pass.new ≡ numbers pass.old }
     ensures base { base_seen pass.new ≡ base_seen pass.old }
     ensures same { IsSameLock pass.old pass.new }
-    ensures silent { GoesOn (numbers pass.old) (seen pass.old) (seen pass.new) }
+    ensures silent { GoesOnSilently (numbers pass.old) (seen pass.old) (seen pass.new) }
     ensures made { IfOk result (λ made. made ≡ true → MadeSome (numbers pass.old) (seen pass.old) (seen pass.new)) }
     ensures none { IfOk result (λ made. made ≡ false → MadeNone (numbers pass.old) (seen pass.old) (seen pass.new)) }
     ensures rests { IfOk result (λ made. made ≡ false → RestsAt doing (base_seen pass.old) (reverse (seen pass.new))) }

@@ -3,7 +3,7 @@ ghost use Rattle.history_lock.specs.Passes.{IsIdle, IsOf, IsSameLock, base_of as
 ghost use Rattle.call_begins.specs.MayBegin.{empty};
 ghost use Rattle.vm_actors.specs.Between.{IsCalm, NoneOpen};
 ghost use Rattle.vm_actors.specs.Doings.{Knows, MayDo, RestsAt, request_of};
-ghost use Rattle.vm_actors.specs.OwnEntries.{GoesOn, MadeSome};
+ghost use Rattle.vm_actors.specs.OwnEntries.{GoesOnSilently, MadeSome};
 ghost use Rattle.vm_actors.specs.Requests.{AreAllAnswered};
 
 use crate::doing::Doing;
@@ -40,7 +40,7 @@ pub fn idle_worker<W: Wait, B: Block, G: Gate>(
     ensures numbers { numbers result.pass ≡ numbers pass }
     ensures base { base_seen result.pass ≡ base_seen pass }
     ensures same { IsSameLock pass result.pass }
-    ensures silent { GoesOn (numbers pass) (seen pass) (seen result.pass) }
+    ensures silent { GoesOnSilently (numbers pass) (seen pass) (seen result.pass) }
     ensures answered { result.short ≡ false → AreAllAnswered (base_seen pass) (seen result.pass) }
     ensures done { result.short ≡ false → MadeSome (numbers pass) (seen pass) (seen result.pass) ⊎ RestsAt doing (base_seen pass) (reverse (seen result.pass)) }
     ensures landed { NoneOpen (numbers pass) (seen result.pass) }

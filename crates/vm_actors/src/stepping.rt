@@ -6,7 +6,7 @@ ghost use Rattle.vm_state.specs.History.{pager};
 ghost use Rattle.carried_landings.specs.Outside.{AreOut, NoneWaits};
 ghost use Rattle.seat_turns.specs.Steps.{HasTurned, is_reads};
 ghost use Rattle.seat_turns.specs.declared.turned.Turned.{Turned};
-ghost use Rattle.vm_actors.specs.Doings.{HasRested, IsBegun, MayDo, request_of};
+ghost use Rattle.vm_actors.specs.Doings.{HasRested, AreBegunFor, MayDo, request_of};
 
 use crate::doing::Doing;
 use crate::taken::Taken;
@@ -28,9 +28,9 @@ fn do_in_turn<B: Block>(
     requires calm { awaits_reuse state.old.past ≡ false }
     requires out { AreOut B.seen B.tells (base_of state.old) state.old.past _seat carrier.old }
     requires carried { NoneWaits carrier.old.lifts }
-    requires begun { (carrier.old.lifts ≡ [] → ⊥) → IsBegun state.old.past _seat doing reading }
+    requires begun { (carrier.old.lifts ≡ [] → ⊥) → AreBegunFor state.old.past _seat doing reading }
     ensures turned { HasTurned B.seen B.tells state.old state.new _seat (request_of doing) result carrier.new }
-    ensures begun { (carrier.new.lifts ≡ [] → ⊥) → IsBegun state.new.past _seat doing (is_reads result) }
+    ensures begun { (carrier.new.lifts ≡ [] → ⊥) → AreBegunFor state.new.past _seat doing (is_reads result) }
     ensures rests { result ≡ Turned.Rests → HasRested doing state.new.config state.new.past (pager state.new) }
 {
     match doing {
@@ -55,10 +55,10 @@ pub(crate) fn step<B: Block>(
     requires calm { awaits_reuse (value_of turn.old).past ≡ false }
     requires out { AreOut B.seen B.tells (base_of (value_of turn.old)) (value_of turn.old).past seat carrier.old }
     requires carried { NoneWaits carrier.old.lifts }
-    requires begun { (carrier.old.lifts ≡ [] → ⊥) → IsBegun (value_of turn.old).past seat doing reading }
+    requires begun { (carrier.old.lifts ≡ [] → ⊥) → AreBegunFor (value_of turn.old).past seat doing reading }
     ensures same { IsSameTurn turn.old turn.new }
     ensures turned { HasTurned B.seen B.tells (value_of turn.old) (value_of turn.new) seat (request_of doing) result.turned carrier.new }
-    ensures begun { (carrier.new.lifts ≡ [] → ⊥) → IsBegun (value_of turn.new).past seat doing (is_reads result.turned) }
+    ensures begun { (carrier.new.lifts ≡ [] → ⊥) → AreBegunFor (value_of turn.new).past seat doing (is_reads result.turned) }
     ensures rests { result.turned ≡ Turned.Rests → HasRested doing (value_of turn.new).config (value_of turn.new).past (pager (value_of turn.new)) }
     ensures none { result.made ≡ false → length (value_of turn.new).past ≡ length (value_of turn.old).past }
     ensures some { result.made ≡ true → length (value_of turn.new).past ≡ length (value_of turn.old).past → ⊥ }

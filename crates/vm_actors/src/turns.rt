@@ -6,8 +6,8 @@ ghost use Rattle.vm_state.specs.declared.base.StateBase.{StateBase};
 ghost use Rattle.carried_landings.specs.Outside.{AreOut, NoneWaits};
 ghost use Rattle.seat_turns.specs.Steps.{IsStaged, is_reads};
 ghost use Rattle.seat_turns.specs.declared.turned.Turned.{Turned};
-ghost use Rattle.vm_actors.specs.Between.{IsBetween, IsCalm, IsJournalOf, NoOtherOpen};
-ghost use Rattle.vm_actors.specs.Doings.{IsBegun, Knows, MayDo, RestsAt, request_of};
+ghost use Rattle.vm_actors.specs.Between.{IsBetweenTurns, IsCalm, IsJournalOf, NoOtherOpen};
+ghost use Rattle.vm_actors.specs.Doings.{AreBegunFor, Knows, MayDo, RestsAt, request_of};
 ghost use Rattle.vm_actors.specs.Ends.{may_carry};
 ghost use Rattle.vm_actors.specs.OwnEntries.{GoesOnWith, MadeNone, MadeSome, TurnEntries};
 
@@ -40,8 +40,8 @@ pub(crate) fn take_turn<W: Wait, B: Block, G: Gate>(
     requires idle { IsIdle pass.old }
     requires knows { Knows (MayDo seat doing) (base_seen pass.old) }
     requires number { Contains (numbers pass.old) seat.0 }
-    requires between { IsBetween B.seen B.tells (base_seen pass.old) (reverse (seen pass.old)) seat carrier.old }
-    requires begun { (carrier.old.lifts ≡ [] → ⊥) → IsBegun (reverse (seen pass.old)) seat doing reading }
+    requires between { IsBetweenTurns B.seen B.tells (base_seen pass.old) (reverse (seen pass.old)) seat carrier.old }
+    requires begun { (carrier.old.lifts ≡ [] → ⊥) → AreBegunFor (reverse (seen pass.old)) seat doing reading }
     requires others { NoOtherOpen (numbers pass.old) seat.0 (reverse (seen pass.old)) }
     ensures idle { IsIdle pass.new }
     ensures numbers { numbers pass.new ≡ numbers pass.old }
@@ -51,8 +51,8 @@ pub(crate) fn take_turn<W: Wait, B: Block, G: Gate>(
     ensures none { result.made ≡ false → MadeNone (numbers pass.old) (seen pass.old) (seen pass.new) }
     ensures some { result.made ≡ true → MadeSome (numbers pass.old) (seen pass.old) (seen pass.new) }
     ensures rests { result.turned ≡ Turned.Rests → RestsAt doing (base_seen pass.old) (reverse (seen pass.new)) }
-    ensures between { IsBetween B.seen B.tells (base_seen pass.new) (reverse (seen pass.new)) seat carrier.new }
-    ensures begun { (carrier.new.lifts ≡ [] → ⊥) → IsBegun (reverse (seen pass.new)) seat doing (is_reads result.turned) }
+    ensures between { IsBetweenTurns B.seen B.tells (base_seen pass.new) (reverse (seen pass.new)) seat carrier.new }
+    ensures begun { (carrier.new.lifts ≡ [] → ⊥) → AreBegunFor (reverse (seen pass.new)) seat doing (is_reads result.turned) }
     ensures others { NoOtherOpen (numbers pass.old) seat.0 (reverse (seen pass.new)) }
     ensures calm { IsCalm (seen pass.new) }
     ensures legal { IsJournalOf B.tells.content (base_seen pass.new) (seen pass.new) }

@@ -4,7 +4,7 @@ use Rattle.std.specs.Prelude.{ℕ, ◌+◌, ◌^◌, ◌<◌, ◌≤◌, List}
 use Rattle.vm_types.specs.WellFormed.{IsWellFormedReference, IsWellFormedService}
 use Rattle.vm_types.specs.declared.config.Section.{Section}
 use Rattle.vm_text.specs.Named.{IsPageStart, IsPlace, IsNamedPage, IsNamedBlock}
-use Rattle.vm_text.specs.References.{Answers}
+use Rattle.vm_text.specs.References.{IsReplyTo}
 use Rattle.vm_text.specs.Services.{HasAnswerWords}
 use Rattle.vm_journal.specs.declared.entry.Entry.{Entry}
 use Rattle.vm_journal.specs.declared.entry.Role.{Role}
@@ -27,7 +27,7 @@ RoleHasWords procs names (Come p a) = IsPlace procs p.0 a.0
 -- what each kind asks of its parts: a request is well formed and its reply fits it, an address outside
 -- a request is the first of its page, processes and sections are there
 abbrev pub WhatHasLine : ℕ → List Section → What → Type 0
-WhatHasLine procs names (what.Done r reply) = IsWellFormedReference r × Answers r.op reply
+WhatHasLine procs names (what.Done r reply) = IsWellFormedReference r × IsReplyTo r.op reply
 WhatHasLine procs names (what.Denied r why) = IsWellFormedReference r
 WhatHasLine procs names (what.Served s answer) = IsWellFormedService s × HasAnswerWords answer
 WhatHasLine procs names (what.Reuse f page) = IsFrameNumber f.0 × IsNamedPage procs names page

@@ -17,7 +17,7 @@ use Rattle.vm_types.specs.declared.reference.Width.{Width}
 use Rattle.vm_types.specs.declared.reference.Width.TheVariants as widths
 use Rattle.vm_types.specs.declared.reply.Reply.{Reply}
 use Rattle.vm_types.specs.declared.reply.Reply.TheVariants as reply
-use Rattle.vm_text.specs.References.{Answers}
+use Rattle.vm_text.specs.References.{IsReplyTo}
 use Rattle.vm_journal.specs.declared.entry.Entry.{Entry}
 use Rattle.vm_journal.specs.declared.entry.What.TheVariants as what
 use Rattle.page_tables.specs.PageTables.{look_of, pte_in}
@@ -61,7 +61,7 @@ pub right_before : {s t : History} (p : ℕ) (r : Ref) (answer : Reply) → s �
 right_before p r answer is right = subst (λ (x : History). answer ≡ flat_reply x.config (flat_after x.config x.past) p r) is right
 
 -- some reply answers each operation
-pub some_reply : (o : Op) → (answer : Reply) × Answers o answer
+pub some_reply : (o : Op) → (answer : Reply) × IsReplyTo o answer
 some_reply (op.Read width) = (reply.Value 0, go width)
   where
     go : (width : Width) → 0 < 256 ^ width_bytes width

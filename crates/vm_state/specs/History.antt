@@ -8,7 +8,7 @@ use Rattle.vm_types.specs.declared.reply.Reply.{Reply}
 use Rattle.vm_journal.specs.declared.entry.Entry.{Entry}
 use Rattle.vm_journal.specs.declared.entry.What.{What}
 use Rattle.vm_journal.specs.declared.entry.What.TheVariants as what
-use Rattle.vm_text.specs.References.{Answers}
+use Rattle.vm_text.specs.References.{IsReplyTo}
 use Rattle.pager_model.specs.Flights.{awaits_reuse, open_flights}
 use Rattle.pager_model.specs.Pager.{Pager}
 use Rattle.pager_model.specs.Run.{pager_after}
@@ -47,5 +47,5 @@ pub record MayAdd (s : History) (e : Entry) : Type 0 where
 
 -- a reference may be answered: it is legal with each reply of its kind
 pub record MayAnswer (s : History) (seat : Seat) (r : Ref) : Type 0 where
-  pub legal : (reply : Reply) → Answers r.op reply → IsLegal s.config s.past (pager s) (entry_by seat (what.Done r reply))
+  pub legal : (reply : Reply) → IsReplyTo r.op reply → IsLegal s.config s.past (pager s) (entry_by seat (what.Done r reply))
   pub paid : owed s.past + 1 ≤ s.spare

@@ -10,7 +10,7 @@ use vm_types::{Proc, Ref, Reply, Seat, Why};
 
 impl<B: Block> State<B> {
     ghost use Rattle.vm_journal.specs.declared.entry.What.{What};
-    ghost use Rattle.vm_text.specs.References.{Answers};
+    ghost use Rattle.vm_text.specs.References.{IsReplyTo};
     ghost use Rattle.pager_model.specs.Flat.{flat_reply};
     ghost use Rattle.pager_model.specs.Spoken.{flat_after};
     ghost use Rattle.vm_state.specs.History.{MayAdd, MayAnswer, added, entry_by};
@@ -21,7 +21,7 @@ impl<B: Block> State<B> {
     pub fn done(&mut self, seat: Seat, r: Ref) -> Reply
         requires { MayAnswer self.old seat r }
         ensures added { self.new ≡ added self.old (entry_by seat (What.Done r result)) }
-        ensures answers { Answers r.op result }
+        ensures answers { IsReplyTo r.op result }
         ensures right { B.tells.content ≡ true
             → result ≡ flat_reply self.old.config (flat_after self.old.config self.old.past) seat.0 r }
     {

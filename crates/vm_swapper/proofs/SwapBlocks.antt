@@ -21,7 +21,7 @@ use Rattle.pager_laws.proofs.RunsAreSound.{run_kept}
 use Rattle.pager_laws.proofs.Holders.{holder_holds, holds_within}
 use Rattle.call_laws.proofs.FollowingPages.{lies_there}
 use Rattle.vm_state.specs.PageReadings.{IsKnown}
-use Rattle.vm_swapper.specs.SeenSlots.{IsSmall}
+use Rattle.vm_swapper.specs.SeenSlots.{HasSmallNumber}
 use Rattle.vm_swapper.proofs.SlotsSeen.{page_small}
 
 module _ (config : Config) (past : List Entry) (formed : IsWellFormed config) (run : IsRun config past) where
@@ -43,10 +43,10 @@ module _ (config : Config) (past : List Entry) (formed : IsWellFormed config) (r
         by (Private q v) own = tt
         by (Shared s i) own = absurd (false≢true own)
 
-    pub lying_small : IsSmall g
+    pub lying_small : HasSmallNumber g
     lying_small = by g lies
       where
-        by : (h : Page) → a.lies h ≡ Some (block.Swap (proc p) n) → IsSmall h
+        by : (h : Page) → a.lies h ≡ Some (block.Swap (proc p) n) → HasSmallNumber h
         by (Shared s i) there = tt
         by (Private q v) there =
             let charged = (kept.pages (Private q v)).lying (block.Swap (proc p) n) refl there in

@@ -16,6 +16,6 @@ pub record IsPlaced (config : Config) (x : Seen) : Type 0 where
   pub small : x.vpn < 2 ^ 23
 
 -- the number of a private page is small
-abbrev pub IsSmall : Page → Type 0
-IsSmall (Private p v) = v < 2 ^ 23
-IsSmall (Shared s i) = Unit {0}
+abbrev pub HasSmallNumber : Page → Type 0
+HasSmallNumber (Private p v) = v < 2 ^ 23
+HasSmallNumber (Shared s i) = Unit {0}

@@ -9,7 +9,7 @@ ghost use Rattle.vm_types.specs.declared.names.FrameState.TheVariants as state;
 ghost use Rattle.vm_state.specs.History.{pager};
 ghost use Rattle.vm_state.specs.PageReadings.{IsKnown};
 ghost use Rattle.vm_swapper.specs.Runs.{address_at, frame_at};
-ghost use Rattle.vm_swapper.specs.SeenSlots.{IsPlaced, IsSmall, seen_as};
+ghost use Rattle.vm_swapper.specs.SeenSlots.{IsPlaced, HasSmallNumber, seen_as};
 
 use crate::seen::{Seen, is_private, is_still, see};
 use disk_trait::Block;
@@ -171,7 +171,7 @@ pub fn is_on_free_at<B: Block>(state: &State<B>, p: Proc, n: u32) -> bool
 
 /// The first address of a page.
 pub fn address_of(page: Page) -> Addr
-    requires { IsSmall page }
+    requires { HasSmallNumber page }
     ensures { result ≡ address_of page }
 {
     match page {

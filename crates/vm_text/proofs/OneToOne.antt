@@ -39,7 +39,7 @@ use Rattle.vm_text.specs.States.{state_word, status_word}
 use Rattle.vm_text.proofs.Ranges.{range_start}
 use Rattle.vm_text.specs.Named.{AreNames, IsNamedSection, IsNamedPage, IsNamedBlock}
 use Rattle.vm_text.specs.Names.{process_name, seat_name, address_text, frame_text, section_name, name_of, section_page_text, place_text, page_text, block_text}
-use Rattle.vm_text.specs.References.{Answers, bare, op_text, value_text, operand_words, reference_words, reply_words, why_word}
+use Rattle.vm_text.specs.References.{IsReplyTo, bare, op_text, value_text, operand_words, reference_words, reply_words, why_word}
 use Rattle.vm_text.proofs.Cutting.{cut_same, letter_other, section_other}
 use Rattle.vm_text.proofs.Digits.{hex_injective}
 use Rattle.vm_text.proofs.Ops.{mode_same, op_same}
@@ -253,25 +253,25 @@ why_same why.DiskFault why.DiskFault e = refl
 why_same v w e = absurd (omega (arith, ap mark_of e))
 
 -- a read's reply is a value, a write's is written, an add's the old longword
-read_reply : (w : Width) (r : Reply) → Answers (Read w) r → (v : ℕ) × (v < 256 ^ width_bytes w) × (r ≡ reply.Value v)
+read_reply : (w : Width) (r : Reply) → IsReplyTo (Read w) r → (v : ℕ) × (v < 256 ^ width_bytes w) × (r ≡ reply.Value v)
 read_reply w (reply.Value v) h = (v, h, refl)
 read_reply w reply.Written h = absurd h
 read_reply w (reply.Old v) h = absurd h
 read_reply w (reply.Refused y) h = absurd h
 
-write_reply : (w : Width) (x : ℕ) (r : Reply) → Answers (Write w x) r → r ≡ reply.Written
+write_reply : (w : Width) (x : ℕ) (r : Reply) → IsReplyTo (Write w x) r → r ≡ reply.Written
 write_reply w x (reply.Value v) h = absurd h
 write_reply w x reply.Written h = refl
 write_reply w x (reply.Old v) h = absurd h
 write_reply w x (reply.Refused y) h = absurd h
 
-add_reply : (x : ℕ) (r : Reply) → Answers (Add x) r → (v : ℕ) × (v < 256 ^ 4) × (r ≡ reply.Old v)
+add_reply : (x : ℕ) (r : Reply) → IsReplyTo (Add x) r → (v : ℕ) × (v < 256 ^ 4) × (r ≡ reply.Old v)
 add_reply x (reply.Value v) h = absurd h
 add_reply x reply.Written h = absurd h
 add_reply x (reply.Old v) h = (v, h, refl)
 add_reply x (reply.Refused y) h = absurd h
 
-pub reply_same : (op : Op) (r s : Reply) → Answers op r → Answers op s → reply_words op r ≡ reply_words op s → r ≡ s
+pub reply_same : (op : Op) (r s : Reply) → IsReplyTo op r → IsReplyTo op s → reply_words op r ≡ reply_words op s → r ≡ s
 reply_same (Read w) r s h h' e =
     let a = read_reply w r h in
     let b = read_reply w s h' in

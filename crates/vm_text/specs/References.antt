@@ -49,11 +49,11 @@ abbrev pub reference_words : Ref → List (List ℕ)
 reference_words r = op_text r.mode r.op ∷ address_text (r.addr).0 ∷ operand_words r.op
 
 -- a read is answered by a value that fits it, a write by written, an add by the old longword
-abbrev pub Answers : Op → Reply → Type 0
-Answers (Read width) (Value value) = value < 256 ^ width_bytes width
-Answers (Write width written) Written = Unit {0}
-Answers (Add added) (Old value) = value < 256 ^ 4
-Answers op other = ⊥
+abbrev pub IsReplyTo : Op → Reply → Type 0
+IsReplyTo (Read width) (Value value) = value < 256 ^ width_bytes width
+IsReplyTo (Write width written) Written = Unit {0}
+IsReplyTo (Add added) (Old value) = value < 256 ^ 4
+IsReplyTo op other = ⊥
 
 -- the value read or the old longword
 abbrev pub reply_words : Op → Reply → List (List ℕ)

@@ -1,6 +1,6 @@
 use Rattle.std.proofs.Common.{◌≡◌, [], ◌∙◌, ap, sym, subst, append-nil}
 use Rattle.vm_types.specs.declared.reference.Ref.{Ref}
-use Rattle.vm_text.specs.References.{Answers, reply_words}
+use Rattle.vm_text.specs.References.{IsReplyTo, reply_words}
 use Rattle.vm_text.proofs.OneToOne.{reference_same}
 use Rattle.vm_journal.specs.declared.entry.Kind.TheVariants as kind
 use Rattle.vm_journal.specs.HasLine.{WhatHasLine}
@@ -16,6 +16,6 @@ returns-in_err-reply c = rw c.from_residual-in_err-reply.ensures (record {
       (λ r reply has is.
       let same = reference_same r c.in_ok-r.r (reply_words r.op reply) c.take_reference.new.words has.0 c.in_ok-r.ensures.found.0 (is ∙ sym c.in_ok-r.ensures.found.1) in
       let behind : reply_words c.in_ok-r.r.op reply ≡ c.take_reference.new.words = ap (λ (x : Ref). reply_words x.op reply) (sym same.0) ∙ same.1 in
-      c.in_err-reply.ensures.none reply [] (subst (λ (x : Ref). Answers x.op reply) same.0 has.1) (append-nil (reply_words c.in_ok-r.r.op reply) ∙ behind))
+      c.in_err-reply.ensures.none reply [] (subst (λ (x : Ref). IsReplyTo x.op reply) same.0 has.1) (append-nil (reply_words c.in_ok-r.r.op reply) ∙ behind))
       w has.0 has.1 is;
 })

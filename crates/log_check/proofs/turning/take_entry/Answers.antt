@@ -4,7 +4,7 @@ use Rattle.std.specs.Prelude.{IfErr, IfSome}
 use Rattle.std.proofs.lemmas.Result.{IfErr-weaker, IfOk-weaker}
 use Rattle.log_model.specs.Stand.{report_after}
 use Rattle.log_check.specs.declared.place.Place.TheVariants.{Entries}
-use Rattle.log_reasons.specs.LineReasons.{IsRefused}
+use Rattle.log_reasons.specs.LineReasons.{IsEntryRefused}
 use Rattle.log_reasons.specs.declared.line_reason.LineReason.{LineReason}
 use Rattle.log_check.specs.Followed.{IsEntered}
 use Rattle.log_check.specs.Leading.{Leads, ReportLeads}
@@ -34,7 +34,7 @@ pub returns-in-Some-clause-refused : goal.returns-in-Some-clause-refused
 returns-in-Some-clause-refused c =
     let its = its_here c.args.followed.now c.requires.followed c.args.line.now c.requires.line c.requires.few c.config.result.now c.count-number.result c.in-Ok.e c.config.ensures c.count-number.ensures c.in-Ok.ensures.entry in
     entry_refused c.args.followed.now.past c.args.line.now c.in-Ok.e c.in-Some.why its
-    (subst (λ (o : Option LineReason). IfSome o (IsRefused c.args.followed.now.past.config c.args.followed.now.past.past c.in-Ok.e)) c.in-Some.is c.in_ok-enter-in-Ok.ensures.refused)
+    (subst (λ (o : Option LineReason). IfSome o (IsEntryRefused c.args.followed.now.past.config c.args.followed.now.past.past c.in-Ok.e)) c.in-Some.is c.in_ok-enter-in-Ok.ensures.refused)
 
 pub returns-in-Err-clause-leads : goal.returns-in-Err-clause-leads
 returns-in-Err-clause-leads c =

@@ -1,5 +1,7 @@
-use Rattle.std.proofs.Common.{◌≡◌, ◌-◌, ◌||◌, Bool, List, ℕ, suc, eqb, set, true, sym, subst, arith}
-use Rattle.paging_study.specs.Open.{Holds}
+use Rattle.std.proofs.Common.{◌≡◌, ◌+◌, ◌||◌, ℕ, Bool, eqb, arith, ap, sym, subst, ◌∙◌}
+use Rattle.std.specs.BTreeSet.{btree_set_len}
+use Rattle.paging_study.specs.Places.{one_if}
+use Rattle.paging_study.specs.Open.{HoldsPlaces}
 use Rattle.paging_study.proofs.Holds.{holds_with, holds_with_none}
 use Rattle.paging_study.proofs.drops.begin.Goals as goal
 
@@ -14,4 +16,4 @@ returns-then-end-gt0-clause-opened c = λ test places within h.
 pub returns-else-end-gt0-clause-opened : goal.returns-else-end-gt0-clause-opened
 returns-else-end-gt0-clause-opened c = λ test places within h.
     let none : c.args.end ≡ 0 = omega arith in
-    subst (λ (end : ℕ). Holds c.args.ends.now (λ e. test e || eqb e end) places) (sym none) (holds_with_none c.args.ends.now test places h)
+    subst (λ (end : ℕ). HoldsPlaces c.args.ends.now (λ e. test e || eqb e end) places) (sym none) (holds_with_none c.args.ends.now test places h)

@@ -5,7 +5,7 @@ use Rattle.std.proofs.lemmas.List.FromFn.{length-map-range_with_len}
 use Rattle.vm_types.specs.declared.config.Config.{Config}
 use Rattle.pager_model.specs.Report.{FrameRow, all_states, frame_row, in_state}
 use Rattle.vm_state.specs.History.{pager}
-use Rattle.pfn_report.specs.Counts.{AreCounts}
+use Rattle.pfn_report.specs.Counts.{AreFrameCounts}
 use Rattle.run_text.specs.Printable.{IsPrintable}
 use Rattle.run_text.specs.Rows.{frame_view}
 use Rattle.run_text.proofs.Prints.{report_printable}
@@ -15,14 +15,14 @@ use Rattle.pfn_report.proofs.recounting.recount.Goals as goal
 pub process_rows-requires-clause-no_shares : goal.process_rows-requires-clause-no_shares
 process_rows-requires-clause-no_shares g c κs within =
     let frames = c.args.state.now.config.frames in
-    subst (AreCounts frames (λ f. 0))
+    subst (AreFrameCounts frames (λ f. 0))
     (sym (c.deref_mut.ensures.value ∙ (c.in_ok-counts.ensures ∙ ap (λ (x : Config). replicate x.frames 0) c.config-config.ensures)))
     (counts_none frames)
 
 pub process_rows-requires-clause-no_pins : goal.process_rows-requires-clause-no_pins
 process_rows-requires-clause-no_pins g c κs within =
     let frames = c.args.state.now.config.frames in
-    subst (AreCounts frames (λ f. 0))
+    subst (AreFrameCounts frames (λ f. 0))
     (sym (c.deref_mut-2.ensures.value ∙ (c.in_ok-pins.ensures ∙ ap (λ (x : Config). replicate x.frames 0) c.config-config.ensures)))
     (counts_none frames)
 

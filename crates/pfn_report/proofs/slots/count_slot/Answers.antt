@@ -1,7 +1,7 @@
 use Rattle.std.proofs.Common.{◌≡◌, ℕ, ◌+◌, ◌∙◌, cond, get_or, set, subst, sym, arith}
 use Rattle.vm_state.specs.History.{pager}
 use Rattle.vm_state.proofs.Owed.{byte_is, byte_small}
-use Rattle.pfn_report.specs.Counts.{AreCounts, passed, pins_passed}
+use Rattle.pfn_report.specs.Counts.{AreFrameCounts, passed, pins_passed}
 use Rattle.pfn_report.proofs.SlotsPassed.{counts_as, counts_more, counts_plus, few_passed, few_pins_passed, few_slots, fills_none, fills_one, pins_none, pins_one, shares_none, shares_one, slot_within}
 use Rattle.pfn_report.proofs.slots.count_slot.Goals as goal
 
@@ -79,7 +79,7 @@ returns-in-Some-clause-pins_after g c =
     let a = pager c.args.state.now in
     let f : ℕ = ((c.in-Some.slot).frame).0 in
     let more : c.from.result ≡ cond (c.in-Some.slot).pinned 1 0 = c.from.ensures ∙ byte_is (c.in-Some.slot).pinned in
-    subst (λ (n : ℕ). AreCounts c.args.state.now.config.frames (pins_passed a (c.args.p).0 (c.args.n + 1)) (set c.args.pins.now f (get_or c.args.pins.now f 0 + n))) (sym more)
+    subst (λ (n : ℕ). AreFrameCounts c.args.state.now.config.frames (pins_passed a (c.args.p).0 (c.args.n + 1)) (set c.args.pins.now f (get_or c.args.pins.now f 0 + n))) (sym more)
     (counts_plus c.args.state.now.config.frames f (c.in-Some.slot).pinned (pins_passed a (c.args.p).0 c.args.n) _ c.args.pins.now c.requires.pins_before
     (slot_within c.args.state.now.config c.args.state.now.past law.formed law.run (c.args.p).0 c.args.n c.requires.slot c.in-Some.slot c.in-Some.ensures)
     (pins_one c.args.state.now.config c.args.state.now.past law.formed law.run (c.args.p).0 c.args.n c.requires.slot c.in-Some.slot c.in-Some.ensures))

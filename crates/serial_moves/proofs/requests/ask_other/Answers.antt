@@ -4,7 +4,7 @@ use Rattle.vm_types.specs.declared.names.Proc.{Proc}
 use Rattle.vm_state.specs.History.{pager}
 use Rattle.serial_laws.specs.Controlled.{IsLeft}
 use Rattle.serial_moves.specs.Controls.{number_of}
-use Rattle.serial_moves.specs.Requests.{MayAsk, asked_for}
+use Rattle.serial_moves.specs.Requests.{MayAskTask, asked_for}
 use Rattle.serial_moves.proofs.SteadySeats.{here_as, leads_as}
 use Rattle.serial_moves.proofs.requests.ask_other.Goals as goal
 
@@ -26,7 +26,7 @@ returns-in-Some-clause-moved g c = leads_as g.B.Block.tells.content c.args.state
 
 -- ---- none is
 pub by_status-requires-clause-may : goal.by_status-requires-clause-may
-by_status-requires-clause-may g c κs within = subst (λ (o : Option Proc). MayAsk c.args.state.now (option_map number_of o) c.args.task c.args.carrier.now) c.in-None.is c.requires.may
+by_status-requires-clause-may g c κs within = subst (λ (o : Option Proc). MayAskTask c.args.state.now (option_map number_of o) c.args.task c.args.carrier.now) c.in-None.is c.requires.may
 
 pub by_status-requires-clause-rare : goal.by_status-requires-clause-rare
 by_status-requires-clause-rare g c κs within = c.requires.rare c.in-None.is

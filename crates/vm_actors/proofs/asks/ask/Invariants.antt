@@ -3,8 +3,8 @@ use Rattle.std.proofs.Common.{◌≡◌, [], reverse}
 use Rattle.history_lock.specs.Passes.{IsIdle, IsSameLock, base_of as base_seen, numbers, seen}
 use Rattle.seat_turns.specs.Begun.{IsBegunFor}
 use Rattle.seat_turns.specs.Steps.{seat_of}
-use Rattle.vm_actors.specs.Between.{IsBetween, NoOtherOpen}
-use Rattle.vm_actors.specs.OwnEntries.{GoesOn}
+use Rattle.vm_actors.specs.Between.{IsBetweenTurns, NoOtherOpen}
+use Rattle.vm_actors.specs.OwnEntries.{GoesOnSilently}
 use Rattle.vm_actors.proofs.asks.ask.Given as goal
 
 abbrev pub invariant-loop : goal.invariant-loop
@@ -13,8 +13,8 @@ invariant-loop g l = record {
   idle : IsIdle l.pass;
   base : base_seen l.pass ≡ base_seen l.initial.pass;
   owns : numbers l.pass ≡ numbers l.initial.pass;
-  more : GoesOn (numbers l.initial.pass) (seen l.initial.pass) (seen l.pass);
+  more : GoesOnSilently (numbers l.initial.pass) (seen l.initial.pass) (seen l.pass);
   others : NoOtherOpen (numbers l.initial.pass) (l.fn.p).0 (reverse (seen l.pass));
-  between : IsBetween g.B.Block.seen g.B.Block.tells (base_seen l.pass) (reverse (seen l.pass)) (seat_of l.fn.p) l.carrier;
+  between : IsBetweenTurns g.B.Block.seen g.B.Block.tells (base_seen l.pass) (reverse (seen l.pass)) (seat_of l.fn.p) l.carrier;
   begun : (l.carrier.lifts ≡ [] → ⊥) → IsBegunFor (reverse (seen l.pass)) (l.fn.p).0 l.fn.x l.reading;
 }

@@ -7,7 +7,7 @@ use Rattle.vm_state.specs.declared.base.StateBase.{StateBase}
 use Rattle.seat_turns.specs.Steps.{seat_of}
 use Rattle.vm_actors.specs.Between.{NoneOpen}
 use Rattle.vm_actors.specs.Doings.{Knows, MayAsk}
-use Rattle.vm_actors.specs.OwnEntries.{GoesOn, IsReplied}
+use Rattle.vm_actors.specs.OwnEntries.{GoesOnSilently, IsReplied}
 use Rattle.vm_actors.proofs.Answering.{all_at, all_some, answered_all, answered_more, answered_none, answered_some, calm_after}
 use Rattle.vm_actors.proofs.Rounds.{open_none}
 use Rattle.vm_actors.proofs.process_work.process_worker.Goals as goal
@@ -59,7 +59,7 @@ returns-in-Err-clause-calm g c = λ none. c.ask.ensures.calm
 pub returns-in-Err-clause-some : goal.returns-in-Err-clause-some
 returns-in-Err-clause-some g c =
     answered_some (numbers c.args.pass) (seen c.args.pass) (seen c.loop-i.pass) (seen c.ask.new.pass) c.args.work.now c.loop-i.i c.loop-i.invariant.done
-    (subst (λ (ns : List ℕ). GoesOn ns (seen c.loop-i.pass) (seen c.ask.new.pass)) c.loop-i.invariant.owns (subst (λ r. OnErr r (GoesOn (numbers c.loop-i.pass) (seen c.loop-i.pass) (seen c.ask.new.pass))) c.in-Err.is c.ask.ensures.silent))
+    (subst (λ (ns : List ℕ). GoesOnSilently ns (seen c.loop-i.pass) (seen c.ask.new.pass)) c.loop-i.invariant.owns (subst (λ r. OnErr r (GoesOnSilently (numbers c.loop-i.pass) (seen c.loop-i.pass) (seen c.ask.new.pass))) c.in-Err.is c.ask.ensures.silent))
 
 pub loop-i-preserved : goal.loop-i-preserved
 loop-i-preserved g c = record {
