@@ -1,10 +1,8 @@
-ghost use Rattle.std.specs.Prelude.{◌≡◌, ◌≢◌, ◌<◌, ◌+◌, ◌-◌, ◌^◌, ◌==◌, if◌then◌else◌, true, length, IfSome, slice_set, Some};
+ghost use Rattle.std.specs.Prelude.{◌≡◌, ◌≢◌, ◌<◌, ◌+◌, ◌-◌, ◌^◌, if◌then◌else◌, true, length, IfSome, slice_set, Some};
 ghost use Rattle.page_lists.specs.Lists.{without};
 ghost use Rattle.pfn_database.specs.Rows.{FitsSlotIndex, counted_references, uncounted};
 ghost use Rattle.pfn_database.specs.Frames.{row_of, IsConsistent};
-ghost use Rattle.pager_model.specs.Changes.{pushed_if};
-ghost use Rattle.pager_model.specs.Evict.{evicted_to};
-ghost use Rattle.pager_model.specs.Lookups.{is};
+ghost use Rattle.frame_changes.specs.Leaving.{without_entry, free_after, modified_after};
 
 use pfn_database::{Pfns, Row};
 use vm_types::{FrameState, Page, Pfn};
@@ -52,18 +50,9 @@ pub fn leave(frames: &mut Pfns, f: Pfn, row: Row, pinned: bool)
     requires pins { pinned ≡ true → 0 < uncounted (row_of frames.old f.0) }
     ensures rows { let row = row_of frames.old f.0 in
         frames.new.rows ≡ slice_set frames.old.rows f.0
-        (record row {
-          state = evicted_to row.shares row.flights row.modify;
-          refs = counted_references (row.shares - 1) row.flights + (if pinned then uncounted row - 1 else uncounted row);
-          shares = row.shares - 1;
-          slot = if row.shares == 1 then 0 else row.slot;
-        }) }
-    ensures free { let row = row_of frames.old f.0 in
-        frames.new.free ≡ pushed_if
-        (is FrameState.Free (evicted_to row.shares row.flights row.modify)) frames.old.free f.0 }
-    ensures modified { let row = row_of frames.old f.0 in
-        frames.new.modified ≡ pushed_if
-        (is FrameState.Modified (evicted_to row.shares row.flights row.modify)) frames.old.modified f.0 }
+        (without_entry row (counted_references (row.shares - 1) row.flights + (if pinned then uncounted row - 1 else uncounted row))) }
+    ensures free { frames.new.free ≡ free_after frames.old f.0 }
+    ensures modified { frames.new.modified ≡ modified_after frames.old f.0 }
     ensures consistent { IsConsistent frames.new }
 {
     if pinned {
@@ -80,18 +69,9 @@ fn lose_pinned(frames: &mut Pfns, f: Pfn)
     requires pins { 0 < uncounted (row_of frames.old f.0) }
     ensures rows { let row = row_of frames.old f.0 in
         frames.new.rows ≡ slice_set frames.old.rows f.0
-        (record row {
-          state = evicted_to row.shares row.flights row.modify;
-          refs = counted_references (row.shares - 1) row.flights + (uncounted row - 1);
-          shares = row.shares - 1;
-          slot = if row.shares == 1 then 0 else row.slot;
-        }) }
-    ensures free { let row = row_of frames.old f.0 in
-        frames.new.free ≡ pushed_if
-        (is FrameState.Free (evicted_to row.shares row.flights row.modify)) frames.old.free f.0 }
-    ensures modified { let row = row_of frames.old f.0 in
-        frames.new.modified ≡ pushed_if
-        (is FrameState.Modified (evicted_to row.shares row.flights row.modify)) frames.old.modified f.0 }
+        (without_entry row (counted_references (row.shares - 1) row.flights + (uncounted row - 1))) }
+    ensures free { frames.new.free ≡ free_after frames.old f.0 }
+    ensures modified { frames.new.modified ≡ modified_after frames.old f.0 }
     ensures consistent { IsConsistent frames.new }
 {
     frames.unhold(f);
@@ -108,18 +88,9 @@ fn lose_entry(frames: &mut Pfns, f: Pfn, row: Row)
     requires shares { 0 < (row_of frames.old f.0).shares }
     ensures rows { let row = row_of frames.old f.0 in
         frames.new.rows ≡ slice_set frames.old.rows f.0
-        (record row {
-          state = evicted_to row.shares row.flights row.modify;
-          refs = counted_references (row.shares - 1) row.flights + uncounted row;
-          shares = row.shares - 1;
-          slot = if row.shares == 1 then 0 else row.slot;
-        }) }
-    ensures free { let row = row_of frames.old f.0 in
-        frames.new.free ≡ pushed_if
-        (is FrameState.Free (evicted_to row.shares row.flights row.modify)) frames.old.free f.0 }
-    ensures modified { let row = row_of frames.old f.0 in
-        frames.new.modified ≡ pushed_if
-        (is FrameState.Modified (evicted_to row.shares row.flights row.modify)) frames.old.modified f.0 }
+        (without_entry row (counted_references (row.shares - 1) row.flights + uncounted row)) }
+    ensures free { frames.new.free ≡ free_after frames.old f.0 }
+    ensures modified { frames.new.modified ≡ modified_after frames.old f.0 }
     ensures consistent { IsConsistent frames.new }
 {
     frames.unshare(f);

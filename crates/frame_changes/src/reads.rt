@@ -1,7 +1,7 @@
 ghost use Rattle.std.specs.Prelude.{◌≡◌, ◌<◌, ◌+◌, false, None, Some, [], ◌∷◌, ◌++◌, length, slice_get, slice_set};
 ghost use Rattle.page_lists.specs.Lists.{without};
 ghost use Rattle.pfn_database.specs.Rows.{FitsSlotIndex, counted_references, uncounted};
-ghost use Rattle.pfn_database.specs.Frames.{row_of, IsConsistent};
+ghost use Rattle.pfn_database.specs.Frames.{row_of, IsConsistent, HasRow};
 
 use crate::entries::enter;
 use pfn_database::Pfns;
@@ -85,16 +85,13 @@ pub fn fail_read(frames: &mut Pfns, f: Pfn)
     requires below { f.0 < length frames.old.rows }
     requires reading { (row_of frames.old f.0).state ≡ FrameState.Reading }
     requires flights { (row_of frames.old f.0).flights ≡ 1 }
-    ensures rows { let row = row_of frames.old f.0 in
-        frames.new.rows ≡ slice_set frames.old.rows f.0
+    ensures { let row = row_of frames.old f.0 in
+        HasRow frames.old frames.new f.0
         (record row {
           state = FrameState.ReadError;
           refs = counted_references row.shares 0 + uncounted row;
           flights = 0;
         }) }
-    ensures free { frames.new.free ≡ frames.old.free }
-    ensures modified { frames.new.modified ≡ frames.old.modified }
-    ensures consistent { IsConsistent frames.new }
 {
     frames.end_flight(f);
     frames.set_error(f);

@@ -1,5 +1,5 @@
 -- What following the links of a list gives, after each change of the links.
-use Rattle.std.proofs.Common.{◌≡◌, ◌≢◌, ℕ, ◌+◌, ◌-◌, ◌≤◌, ◌<◌, zero, suc, cond, eqb, List, [], ◌∷◌, ◌++◌, Some, length, set, get_or, refl, sym, ◌∙◌, ap, subst, ⊎_elim, arith, length-set, get_or-set_same, get_or-set_other, length-append}
+use Rattle.std.proofs.Common.{◌≡◌, ◌≢◌, ℕ, ◌+◌, ◌-◌, ◌≤◌, ◌<◌, zero, suc, Bool, true, false, cond, eqb, List, [], ◌∷◌, ◌++◌, Some, length, set, get_or, refl, sym, ◌∙◌, ap, subst, ⊎_elim, arith, length-set, get_or-set_same, get_or-set_other, length-append}
 use Rattle.std.proofs.lemmas.Bool.{cases_eq, cases_lt, eq-eqb, ne_eqb, eqb-true}
 use Rattle.std.proofs.lemmas.List.{get_or_append_left, get_or-append_right}
 use Rattle.std.proofs.lemmas.Option.{slice_get-get_or}
@@ -7,6 +7,11 @@ use Rattle.page_lists.specs.declared.ends.Ends.{Ends}
 use Rattle.page_lists.specs.Lists.{count_of}
 use Rattle.page_lists.specs.Links.{followed, items_of, IsLinked, KeepsOthers}
 use Rattle.page_lists.proofs.Counts.{count_of-cons, count_of-push, found, same_place, count_of-same}
+
+-- writing a link, or none, leaves as many cells
+pub length-linked : (b : Bool) (cells new : List ℕ) (place link : ℕ) → new ≡ cond b cells (set cells place link) → length new ≡ length cells
+length-linked true cells new place link is = ap length is
+length-linked false cells new place link is = ap length is ∙ length-set cells place link
 
 -- links that lead from each frame to the next are followed
 followed-is : (forward items : List ℕ) (head : ℕ) → ((place : ℕ) → place + 1 < length items → get_or forward (get_or items place 0) 0 ≡ get_or items (place + 1) 0) → (0 < length items → get_or items 0 0 ≡ head) → followed forward head (length items) ≡ items

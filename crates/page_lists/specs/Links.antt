@@ -32,6 +32,22 @@ pub record KeepsOthers (items forward_old backward_old forward_new backward_new 
   pub forward : (frame : ℕ) → count_of items frame ≡ 0 → slice_index forward_new frame ≡ slice_index forward_old frame
   pub backward : (frame : ℕ) → count_of items frame ≡ 0 → slice_index backward_new frame ≡ slice_index backward_old frame
 
+-- a frame that has cells isn't on the list with these ends, which has room for it
+pub record CanJoin (forward backward : List ℕ) (ends : Ends) (frame : ℕ) : Type 0 where
+  pub below : frame < length forward
+  pub cells : length backward ≡ length forward
+  pub linked : IsLinked forward backward (items_of forward ends) ends
+  pub absent : count_of (items_of forward ends) frame ≡ 0
+  pub room : ends.count + 1 < 2 ^ 32
+
+-- the list with these ends has these items once a frame has joined it
+pub record HasJoined (forward_old backward_old forward_new backward_new list : List ℕ) (ends : Ends) : Type 0 where
+  pub items : items_of forward_new ends ≡ list
+  pub linked : IsLinked forward_new backward_new (items_of forward_new ends) ends
+  pub others : KeepsOthers (items_of forward_new ends) forward_old backward_old forward_new backward_new
+  pub count : length forward_new ≡ length forward_old
+  pub same_count : length backward_new ≡ length backward_old
+
 -- the mark of a frame: the list that it is on
 abbrev pub mark_of : List (Option ListName) → ℕ → Option ListName
 mark_of marks frame = slice_index_or marks frame None

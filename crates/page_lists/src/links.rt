@@ -1,55 +1,53 @@
-ghost use Rattle.std.specs.Prelude.{◌≡◌, ◌<◌, ◌+◌, ◌^◌, ◌==◌, [], ◌∷◌, ◌++◌, length, false, None, Some, slice_index, slice_set, if◌then◌else◌};
+ghost use Rattle.std.specs.Prelude.{◌≡◌, ◌<◌, ◌==◌, [], ◌∷◌, ◌++◌, length, false, None, Some, slice_index, slice_set, if◌then◌else◌};
 ghost use Rattle.page_lists.specs.Lists.{count_of, without};
-ghost use Rattle.page_lists.specs.Links.{items_of, IsLinked, KeepsOthers};
+ghost use Rattle.page_lists.specs.Links.{items_of, IsLinked, KeepsOthers, CanJoin, HasJoined};
 
 use crate::ends::Ends;
 
 /// Links a frame that is on no list after the last one.
 pub(crate) fn append(forward: &mut Vec<u32>, backward: &mut Vec<u32>, ends: &mut Ends, f: u32)
-    requires below { f < length forward.old.items }
-    requires cells { length backward.old.items ≡ length forward.old.items }
-    requires linked { let items = items_of forward.old.items ends.old in
-        IsLinked forward.old.items backward.old.items items ends.old }
-    requires absent { count_of (items_of forward.old.items ends.old) f ≡ 0 }
-    requires room { ends.old.count + 1 < 2 ^ 32 }
-    ensures items { items_of forward.new.items ends.new
-        ≡ items_of forward.old.items ends.old ++ f ∷ [] }
-    ensures linked { let items = items_of forward.new.items ends.new in
-        IsLinked forward.new.items backward.new.items items ends.new }
-    ensures others { let items = items_of forward.new.items ends.new in
-        KeepsOthers items forward.old.items backward.old.items forward.new.items backward.new.items }
-    ensures count { length forward.new.items ≡ length forward.old.items }
-    ensures same_count { length backward.new.items ≡ length backward.old.items }
+    requires { CanJoin forward.old.items backward.old.items ends.old f }
+    ensures { HasJoined forward.old.items backward.old.items forward.new.items backward.new.items
+        (items_of forward.old.items ends.old ++ f ∷ []) ends.new }
 {
-    let last = ends.tail;
-    relink(forward, &mut ends.head, ends.count == 0, last, f);
-    put(backward, f, last);
-    ends.tail = f;
-    ends.count += 1;
+    let Ends { head, tail, count } = ends;
+    link_past(forward, backward, tail, head, *count == 0, f);
+    *count += 1;
 }
 
 /// Links a frame that is on no list before the first one.
 pub(crate) fn prepend(forward: &mut Vec<u32>, backward: &mut Vec<u32>, ends: &mut Ends, f: u32)
-    requires below { f < length forward.old.items }
-    requires cells { length backward.old.items ≡ length forward.old.items }
-    requires linked { let items = items_of forward.old.items ends.old in
-        IsLinked forward.old.items backward.old.items items ends.old }
-    requires absent { count_of (items_of forward.old.items ends.old) f ≡ 0 }
-    requires room { ends.old.count + 1 < 2 ^ 32 }
-    ensures items { items_of forward.new.items ends.new
-        ≡ f ∷ items_of forward.old.items ends.old }
-    ensures linked { let items = items_of forward.new.items ends.new in
-        IsLinked forward.new.items backward.new.items items ends.new }
-    ensures others { let items = items_of forward.new.items ends.new in
-        KeepsOthers items forward.old.items backward.old.items forward.new.items backward.new.items }
-    ensures count { length forward.new.items ≡ length forward.old.items }
-    ensures same_count { length backward.new.items ≡ length backward.old.items }
+    requires { CanJoin forward.old.items backward.old.items ends.old f }
+    ensures { HasJoined forward.old.items backward.old.items forward.new.items backward.new.items
+        (f ∷ items_of forward.old.items ends.old) ends.new }
 {
-    let first = ends.head;
-    relink(backward, &mut ends.tail, ends.count == 0, first, f);
-    put(forward, f, first);
-    ends.head = f;
-    ends.count += 1;
+    let Ends { head, tail, count } = ends;
+    link_past(backward, forward, head, tail, *count == 0, f);
+    *count += 1;
+}
+
+/// Links a frame past the frame at one end of a list, and makes it that end. In an empty list it is the
+/// other end too. The links lead to the frame, and the links back from it.
+fn link_past(
+    links: &mut Vec<u32>,
+    back: &mut Vec<u32>,
+    end: &mut u32,
+    other: &mut u32,
+    is_empty: bool,
+    f: u32,
+)
+    requires last { is_empty ≡ false → end.old < length links.old.items }
+    requires below { f < length back.old.items }
+    ensures links { links.new.items
+        ≡ (if is_empty then links.old.items else slice_set links.old.items end.old f) }
+    ensures back { back.new.items ≡ slice_set back.old.items f end.old }
+    ensures end { end.new ≡ f }
+    ensures other { other.new ≡ (if is_empty then f else other.old) }
+{
+    let last = *end;
+    relink(links, other, is_empty, last, f);
+    put(back, f, last);
+    *end = f;
 }
 
 /// Takes a frame out of its list, and clears its cells.

@@ -1,6 +1,6 @@
 -- The PFN database as a whole. Source: Kenah and Bate, "VAX/VMS Internals and Data Structures", the
 -- PFN database: the free and the modified page list.
-use Rattle.std.specs.Prelude.{◌≡◌, ℕ, ◌==◌, Bool, true, false, if◌then◌else◌, List, [], length, map, filter, not, All, slice_index_or}
+use Rattle.std.specs.Prelude.{◌≡◌, ℕ, ◌==◌, Bool, true, false, if◌then◌else◌, List, [], length, map, filter, not, All, slice_index_or, slice_set}
 use Rattle.std.specs.List.{list_any, range_with_len}
 use Rattle.vm_types.specs.declared.names.FrameState.{FrameState}
 use Rattle.vm_types.specs.declared.names.FrameState.TheVariants.{Free, Modified}
@@ -42,6 +42,13 @@ pub record IsConsistent (frames : Frames) : Type 0 where
   pub free : (frame : ℕ) → count_of frames.free frame ≡ (if is_free (row_of frames frame).state then 1 else 0)
   pub modified : (frame : ℕ) → count_of frames.modified frame ≡ (if is_modified (row_of frames frame).state then 1 else 0)
   pub rows : All IsRow frames.rows
+
+-- once one frame has this row, the other rows and the lists are as before
+pub record HasRow (old new : Frames) (frame : ℕ) (row : Row) : Type 0 where
+  pub rows : new.rows ≡ slice_set old.rows frame row
+  pub free : new.free ≡ old.free
+  pub modified : new.modified ≡ old.modified
+  pub consistent : IsConsistent new
 
 abbrev pub is_bad : List ℕ → ℕ → Bool
 is_bad bad frame = list_any (λ number. number == frame) bad

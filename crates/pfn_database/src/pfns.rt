@@ -2,7 +2,7 @@ ghost use Rattle.std.specs.Prelude.{◌≡◌, ◌≢◌, ◌<◌, ◌+◌, ◌-
 ghost use Rattle.page_lists.specs.Lists.{list_of, without, count_of, cells_of, IsOnNone, IsNext};
 ghost use Rattle.pfn_database.specs.Rows.{IsOneOf, states_in_use, FitsModify, FitsSlotIndex, bad_row, empty_row, counted_references, held, unheld, shared, unshared, state_in_transfer};
 ghost use Rattle.pfn_database.specs.Kept.{joined, kept_of};
-ghost use Rattle.pfn_database.specs.Frames.{row_of, lists_of, is_free, is_modified, opening, number, IsConsistent};
+ghost use Rattle.pfn_database.specs.Frames.{row_of, lists_of, is_free, is_modified, opening, number, IsConsistent, HasRow};
 
 use crate::kept::{Kept, joined, kept_of};
 use crate::opening::{EMPTY, kept_at, list_free, opening_frames};
@@ -162,11 +162,8 @@ impl Pfns {
     pub fn set_error(&mut self, f: Pfn)
         requires below { f.0 < length self.old.rows }
         requires reading { (row_of self.old f.0).state ≡ FrameState.Reading }
-        ensures rows { self.new.rows ≡ slice_set self.old.rows f.0
+        ensures { HasRow self.old self.new f.0
             (record (row_of self.old f.0) { state = FrameState.ReadError }) }
-        ensures free { self.new.free ≡ self.old.free }
-        ensures modified { self.new.modified ≡ self.old.modified }
-        ensures consistent { IsConsistent self.new }
     {
         let kept = kept_at(&self.kept, f);
         self.kept[f.0 as usize] = Kept {
@@ -224,11 +221,8 @@ impl Pfns {
     pub fn mark(&mut self, f: Pfn, modify: bool)
         requires below { f.0 < length self.old.rows }
         requires state { FitsModify (row_of self.old f.0).state modify }
-        ensures rows { self.new.rows ≡ slice_set self.old.rows f.0
+        ensures { HasRow self.old self.new f.0
             (record (row_of self.old f.0) { modify = modify }) }
-        ensures free { self.new.free ≡ self.old.free }
-        ensures modified { self.new.modified ≡ self.old.modified }
-        ensures consistent { IsConsistent self.new }
     {
         let kept = kept_at(&self.kept, f);
         self.kept[f.0 as usize] = Kept { modify, ..kept };
@@ -239,10 +233,7 @@ impl Pfns {
         requires below { f.0 < length self.old.rows }
         requires active { (row_of self.old f.0).state ≡ FrameState.Active }
         requires shares { (row_of self.old f.0).shares < 2 ^ 32 - 1 }
-        ensures rows { self.new.rows ≡ slice_set self.old.rows f.0 (shared (row_of self.old f.0)) }
-        ensures free { self.new.free ≡ self.old.free }
-        ensures modified { self.new.modified ≡ self.old.modified }
-        ensures consistent { IsConsistent self.new }
+        ensures { HasRow self.old self.new f.0 (shared (row_of self.old f.0)) }
     {
         let row = with_share(joined(kept_at(&self.kept, f), self.lists.cells(f.0)));
         self.lists.set_cells(f.0, (row.shares, row.slot));
@@ -255,10 +246,7 @@ impl Pfns {
         requires below { f.0 < length self.old.rows }
         requires active { (row_of self.old f.0).state ≡ FrameState.Active }
         requires shares { 0 < (row_of self.old f.0).shares }
-        ensures rows { self.new.rows ≡ slice_set self.old.rows f.0 (unshared (row_of self.old f.0)) }
-        ensures free { self.new.free ≡ self.old.free }
-        ensures modified { self.new.modified ≡ self.old.modified }
-        ensures consistent { IsConsistent self.new }
+        ensures { HasRow self.old self.new f.0 (unshared (row_of self.old f.0)) }
     {
         let row = without_share(joined(kept_at(&self.kept, f), self.lists.cells(f.0)));
         self.lists.set_cells(f.0, (row.shares, row.slot));
@@ -269,10 +257,7 @@ impl Pfns {
     pub fn hold(&mut self, f: Pfn)
         requires below { f.0 < length self.old.rows }
         requires room { (row_of self.old f.0).refs < 2 ^ 31 }
-        ensures rows { self.new.rows ≡ slice_set self.old.rows f.0 (held (row_of self.old f.0)) }
-        ensures free { self.new.free ≡ self.old.free }
-        ensures modified { self.new.modified ≡ self.old.modified }
-        ensures consistent { IsConsistent self.new }
+        ensures { HasRow self.old self.new f.0 (held (row_of self.old f.0)) }
     {
         let kept = kept_at(&self.kept, f);
         self.kept[f.0 as usize] = Kept {
@@ -287,10 +272,7 @@ impl Pfns {
         requires below { f.0 < length self.old.rows }
         requires some { let row = row_of self.old f.0 in
             counted_references row.shares row.flights < row.refs }
-        ensures rows { self.new.rows ≡ slice_set self.old.rows f.0 (unheld (row_of self.old f.0)) }
-        ensures free { self.new.free ≡ self.old.free }
-        ensures modified { self.new.modified ≡ self.old.modified }
-        ensures consistent { IsConsistent self.new }
+        ensures { HasRow self.old self.new f.0 (unheld (row_of self.old f.0)) }
     {
         let kept = kept_at(&self.kept, f);
         self.kept[f.0 as usize] = Kept {
@@ -334,12 +316,8 @@ impl Pfns {
     pub fn end_flight(&mut self, f: Pfn)
         requires below { f.0 < length self.old.rows }
         requires flights { (row_of self.old f.0).flights ≡ 1 }
-        ensures rows { let row = row_of self.old f.0 in
-            self.new.rows ≡ slice_set self.old.rows f.0
-            (record row { refs = row.refs - 1; flights = 0 }) }
-        ensures free { self.new.free ≡ self.old.free }
-        ensures modified { self.new.modified ≡ self.old.modified }
-        ensures consistent { IsConsistent self.new }
+        ensures { let row = row_of self.old f.0 in
+            HasRow self.old self.new f.0 (record row { refs = row.refs - 1; flights = 0 }) }
     {
         let kept = kept_at(&self.kept, f);
         self.kept[f.0 as usize] = Kept {

@@ -1,11 +1,14 @@
-use Rattle.page_lists.proofs.Following.{followed-linked, IsLinked-items, IsLinked-prepend, KeepsOthers-prepend}
+use Rattle.std.proofs.Common.{length, ◌∙◌, ap, length-set}
+use Rattle.page_lists.proofs.Following.{followed-linked, length-linked, IsLinked-items, IsLinked-prepend, KeepsOthers-prepend}
 use Rattle.page_lists.proofs.links.prepend.Goals as goal
 
-pub returns-clause-items : goal.returns-clause-items
-returns-clause-items c = rw c.put.ensures (followed-linked _ _ _ _ (IsLinked-prepend _ _ _ _ c.requires.linked c.args.f c.requires.below c.requires.cells c.requires.absent _ _ c.relink.ensures.cells c.relink.ensures.end))
-
-pub returns-clause-linked : goal.returns-clause-linked
-returns-clause-linked c = rw c.put.ensures (IsLinked-items _ _ _ _ (IsLinked-prepend _ _ _ _ c.requires.linked c.args.f c.requires.below c.requires.cells c.requires.absent _ _ c.relink.ensures.cells c.relink.ensures.end))
-
-pub returns-clause-others : goal.returns-clause-others
-returns-clause-others c = rw (returns-clause-items c, c.put.ensures) (KeepsOthers-prepend _ _ _ _ c.requires.linked c.args.f c.requires.below c.requires.cells c.requires.absent _ _ c.relink.ensures.cells c.relink.ensures.end)
+pub returns : goal.returns
+returns c =
+    let made = followed-linked _ _ _ _ (IsLinked-prepend _ _ _ _ c.requires.linked c.args.f c.requires.below c.requires.cells c.requires.absent _ _ c.link_past.ensures.links c.link_past.ensures.other) in
+    record {
+      items = rw (c.link_past.ensures.end, c.link_past.ensures.back) made;
+      linked = rw (c.link_past.ensures.end, c.link_past.ensures.back) (IsLinked-items _ _ _ _ (IsLinked-prepend _ _ _ _ c.requires.linked c.args.f c.requires.below c.requires.cells c.requires.absent _ _ c.link_past.ensures.links c.link_past.ensures.other));
+      others = rw (c.link_past.ensures.end, c.link_past.ensures.back, made) (KeepsOthers-prepend _ _ _ _ c.requires.linked c.args.f c.requires.below c.requires.cells c.requires.absent _ _ c.link_past.ensures.links c.link_past.ensures.other);
+      count = ap length c.link_past.ensures.back ∙ length-set _ _ _;
+      same_count = length-linked _ _ _ _ _ c.link_past.ensures.links;
+    }

@@ -9,13 +9,19 @@ use Rattle.page_lists.specs.declared.list_name.ListName.TheVariants.{Free, Modif
 use Rattle.page_lists.proofs.lists.Lists.push_head.Goals as goal
 
 -- a list that lacks a frame has room for it
-pub prepend-requires-clause-room : goal.prepend-requires-clause-room
-prepend-requires-clause-room c =
+pub prepend-requires : goal.prepend-requires
+prepend-requires c =
     let below = rw (← c.self.view_is) at c.requires.below in
     let none = rw (← c.self.view_is) at c.requires.on_none in
     let valid = AreTwoLists-linked _ _ _ _ _ c.self.invariant in
     let short = length-list_of-lt _ valid Free c.args.f below none in
-    omega (arith, short, c.self.invariant.free_list.linked.counted, c.self.invariant.short)
+    record {
+      below = below;
+      cells = c.self.invariant.cells_count;
+      linked = c.self.invariant.free_list.linked;
+      absent = none.0;
+      room = omega (arith, short, c.self.invariant.free_list.linked.counted, c.self.invariant.short);
+    }
 
 pub invariant_of-self : goal.invariant_of-self
 invariant_of-self c =
@@ -45,13 +51,19 @@ pub returns-in-Free-clause-valid : goal.returns-in-Free-clause-valid
 returns-in-Free-clause-valid c = AreTwoLists-linked _ _ _ _ _ (invariant_of-self c)
 
 -- a list that lacks a frame has room for it
-pub prepend-requires-in-Modified-clause-room : goal.prepend-requires-in-Modified-clause-room
-prepend-requires-in-Modified-clause-room c =
+pub prepend-requires-in-Modified : goal.prepend-requires-in-Modified
+prepend-requires-in-Modified c =
     let below = rw (← c.self.view_is) at c.requires.below in
     let none = rw (← c.self.view_is) at c.requires.on_none in
     let valid = AreTwoLists-linked _ _ _ _ _ c.self.invariant in
     let short = length-list_of-lt _ valid Modified c.args.f below none in
-    omega (arith, short, c.self.invariant.modified_list.linked.counted, c.self.invariant.short)
+    record {
+      below = below;
+      cells = c.self.invariant.cells_count;
+      linked = c.self.invariant.modified_list.linked;
+      absent = none.1;
+      room = omega (arith, short, c.self.invariant.modified_list.linked.counted, c.self.invariant.short);
+    }
 
 pub invariant_of-self-in-Modified : goal.invariant_of-self-in-Modified
 invariant_of-self-in-Modified c =

@@ -39,10 +39,10 @@ invariant_of-self c =
       short = rw length-set c.self.invariant.short;
     }
 
-pub returns-clause-rows : goal.returns-clause-rows
-returns-clause-rows c =
-    edited c.self.inside.kept.items c.self.inside.lists.cells c.self.invariant.cells c.args.f.0 c.kept_at-kept.result c.kept_at-kept.ensures (record { state = c.kept_at-kept.result.state; page = c.kept_at-kept.result.page; modify = c.kept_at-kept.result.modify; refs = c.kept_at-kept.result.refs - 1; flights = 0 }) (λ (r : Row). record r { refs = r.refs - 1; flights = 0 }) refl ∙ ap (λ (frames : Frames). set frames.rows c.args.f.0 ((λ (r : Row). record r { refs = r.refs - 1; flights = 0 }) (row_of frames c.args.f.0))) c.self.view_is
-
-pub returns-clause-consistent : goal.returns-clause-consistent
-returns-clause-consistent c =
-    (invariant_of-self c).consistent
+pub returns : goal.returns
+returns c = record {
+  rows = edited c.self.inside.kept.items c.self.inside.lists.cells c.self.invariant.cells c.args.f.0 c.kept_at-kept.result c.kept_at-kept.ensures (record { state = c.kept_at-kept.result.state; page = c.kept_at-kept.result.page; modify = c.kept_at-kept.result.modify; refs = c.kept_at-kept.result.refs - 1; flights = 0 }) (λ (r : Row). record r { refs = r.refs - 1; flights = 0 }) refl ∙ ap (λ (frames : Frames). set frames.rows c.args.f.0 ((λ (r : Row). record r { refs = r.refs - 1; flights = 0 }) (row_of frames c.args.f.0))) c.self.view_is;
+  free = ap (λ (frames : Frames). frames.free) c.self.view_is;
+  modified = ap (λ (frames : Frames). frames.modified) c.self.view_is;
+  consistent = (invariant_of-self c).consistent;
+}

@@ -31,10 +31,10 @@ invariant_of-self c =
       short = rw length-set c.self.invariant.short;
     }
 
-pub returns-clause-rows : goal.returns-clause-rows
-returns-clause-rows c =
-    edited c.self.inside.kept.items c.self.inside.lists.cells c.self.invariant.cells c.args.f.0 c.kept_at-kept.result c.kept_at-kept.ensures (record { state = ReadError; page = c.kept_at-kept.result.page; modify = c.kept_at-kept.result.modify; refs = c.kept_at-kept.result.refs; flights = c.kept_at-kept.result.flights }) (λ (r : Row). record r { state = ReadError }) refl ∙ ap (λ (frames : Frames). set frames.rows c.args.f.0 ((λ (r : Row). record r { state = ReadError }) (row_of frames c.args.f.0))) c.self.view_is
-
-pub returns-clause-consistent : goal.returns-clause-consistent
-returns-clause-consistent c =
-    (invariant_of-self c).consistent
+pub returns : goal.returns
+returns c = record {
+  rows = edited c.self.inside.kept.items c.self.inside.lists.cells c.self.invariant.cells c.args.f.0 c.kept_at-kept.result c.kept_at-kept.ensures (record { state = ReadError; page = c.kept_at-kept.result.page; modify = c.kept_at-kept.result.modify; refs = c.kept_at-kept.result.refs; flights = c.kept_at-kept.result.flights }) (λ (r : Row). record r { state = ReadError }) refl ∙ ap (λ (frames : Frames). set frames.rows c.args.f.0 ((λ (r : Row). record r { state = ReadError }) (row_of frames c.args.f.0))) c.self.view_is;
+  free = ap (λ (frames : Frames). frames.free) c.self.view_is;
+  modified = ap (λ (frames : Frames). frames.modified) c.self.view_is;
+  consistent = (invariant_of-self c).consistent;
+}

@@ -74,18 +74,10 @@ invariant_of-self c =
       short = rw length-set c.self.invariant.short;
     }
 
-pub returns-clause-rows : goal.returns-clause-rows
-returns-clause-rows c =
-    rw (c.set_cells.ensures.cells, c.kept_of.ensures) (rewritten c.self.inside.kept.items c.self.inside.lists.cells c.self.invariant.cells c.args.f.0 c.kept_at.result c.kept_at.ensures (kept_of c.without_share-row.result) (c.without_share-row.result.shares, c.without_share-row.result.slot) (λ (r : Row). unshared r) (c.without_share-row.ensures ∙ ap unshared (c.joined.ensures ∙ ap (λ (d : ℕ × ℕ). joined c.kept_at.result d) c.cells.ensures.cells)) ∙ ap (λ (frames : Frames). set frames.rows c.args.f.0 ((λ (r : Row). unshared r) (row_of frames c.args.f.0))) c.self.view_is)
-
-pub returns-clause-free : goal.returns-clause-free
-returns-clause-free c =
-    c.set_cells.ensures.free ∙ ap (λ (frames : Frames). frames.free) c.self.view_is
-
-pub returns-clause-modified : goal.returns-clause-modified
-returns-clause-modified c =
-    c.set_cells.ensures.modified ∙ ap (λ (frames : Frames). frames.modified) c.self.view_is
-
-pub returns-clause-consistent : goal.returns-clause-consistent
-returns-clause-consistent c =
-    (invariant_of-self c).consistent
+pub returns : goal.returns
+returns c = record {
+  rows = rw (c.set_cells.ensures.cells, c.kept_of.ensures) (rewritten c.self.inside.kept.items c.self.inside.lists.cells c.self.invariant.cells c.args.f.0 c.kept_at.result c.kept_at.ensures (kept_of c.without_share-row.result) (c.without_share-row.result.shares, c.without_share-row.result.slot) (λ (r : Row). unshared r) (c.without_share-row.ensures ∙ ap unshared (c.joined.ensures ∙ ap (λ (d : ℕ × ℕ). joined c.kept_at.result d) c.cells.ensures.cells)) ∙ ap (λ (frames : Frames). set frames.rows c.args.f.0 ((λ (r : Row). unshared r) (row_of frames c.args.f.0))) c.self.view_is);
+  free = c.set_cells.ensures.free ∙ ap (λ (frames : Frames). frames.free) c.self.view_is;
+  modified = c.set_cells.ensures.modified ∙ ap (λ (frames : Frames). frames.modified) c.self.view_is;
+  consistent = (invariant_of-self c).consistent;
+}
