@@ -16,3 +16,4 @@ pub use memory_block::MemoryBlock;
 pub use memory_depot::MemoryDepot;
 pub use never_fails::NeverFails;
 pub use plain_block::PlainBlock;
+pub use planned_buf::{is_due, write_half};

@@ -39,7 +39,7 @@ impl Model for MemoryDepot {
 }
 
 impl MemoryDepot {
-    ghost use Rattle.disk_trait.specs.MemoryDepot.{names_of};
+    ghost use Rattle.disk_trait.specs.MemoryDepot.{CountsCall, names_of};
 
     /// A depot whose calls of `make` with these numbers fail, counted from 1. Takes no memory.
     pub fn new(alloc: Global, fail_makes: Vec<u32>) -> MemoryDepot
@@ -60,14 +60,7 @@ impl MemoryDepot {
 
     /// Counts a call of `make`, and gives it a part for a buffer.
     fn next_spare(&mut self) -> Result<SpareBuf, MakeFault>
-        ensures fails { IsErrOf result MakeFault.Failed ↔ Contains self.old.fail_makes self.new.makes }
-        ensures retired { self.new.retired ≡ self.old.retired }
-        ensures fail_makes { self.new.fail_makes ≡ self.old.fail_makes }
-        ensures makes { self.new.makes ≡ min (self.old.makes + 1) (2 ^ 64 - 1) }
-        ensures later { self.old.faults ≤ self.new.faults }
-        ensures ok { OnOk result (self.new.faults ≡ self.old.faults) }
-        ensures no_memory { IsErrOf result MakeFault.NoMemory → self.new.faults ≡ self.old.faults }
-        ensures failed { IsErrOf result MakeFault.Failed → self.new.faults ≡ min (self.old.faults + 1) (2 ^ 64 - 1) }
+        ensures counts { CountsCall self.old self.new result }
     {
         self.makes = self.makes.saturating_add(1);
         if is_due(&self.fail_makes, self.makes) {
@@ -115,7 +108,7 @@ fn find_block(blocks: &[(BlockId, MemoryBlock)], id: BlockId) -> Option<&MemoryB
 impl Depot for MemoryDepot {
     ghost use Rattle.std.specs.Prelude.{refl};
     ghost use Rattle.disk_trait.specs.DepotView.{depot_view};
-    ghost use Rattle.disk_trait.specs.MemoryBlock.{bytes_of, plan_of, reads_of, writes_of, faults_of};
+    ghost use Rattle.disk_trait.specs.MemoryDepot.{CountsCall, IsNew};
 
     type Block = MemoryBlock;
 
@@ -125,19 +118,8 @@ impl Depot for MemoryDepot {
 
     fn make(&mut self, id: BlockId, bytes: &[u8], fails: &[u32]) -> Result<MemoryBlock, MakeFault>
         requires { length bytes.now ≡ 512 }
-        ensures fails { IsErrOf result MakeFault.Failed ↔ Contains self.old.fail_makes self.new.makes }
-        ensures content { IfOk result (λ b. bytes_of b ≡ bytes.now) }
-        ensures plan { IfOk result (λ b. plan_of b ≡ fails.now) }
-        ensures reads { IfOk result (λ b. reads_of b ≡ 0) }
-        ensures writes { IfOk result (λ b. writes_of b ≡ 0) }
-        ensures faults { IfOk result (λ b. faults_of b ≡ 0) }
-        ensures retired { self.new.retired ≡ self.old.retired }
-        ensures fail_makes { self.new.fail_makes ≡ self.old.fail_makes }
-        ensures makes { self.new.makes ≡ min (self.old.makes + 1) (2 ^ 64 - 1) }
-        ensures later { self.old.faults ≤ self.new.faults }
-        ensures ok { OnOk result (self.new.faults ≡ self.old.faults) }
-        ensures no_memory { IsErrOf result MakeFault.NoMemory → self.new.faults ≡ self.old.faults }
-        ensures failed { IsErrOf result MakeFault.Failed → self.new.faults ≡ min (self.old.faults + 1) (2 ^ 64 - 1) }
+        ensures block { IfOk result (IsNew bytes.now fails.now) }
+        ensures counts { CountsCall self.old self.new result }
     {
         let spare = self.next_spare()?;
         let body = Body::new(self.alloc, spare, bytes, fails)?;
@@ -146,19 +128,8 @@ impl Depot for MemoryDepot {
 
     /// A call of it counts as one of `make`.
     fn make_zeros(&mut self, _id: BlockId, fails: &[u32]) -> Result<MemoryBlock, MakeFault>
-        ensures fails { IsErrOf result MakeFault.Failed ↔ Contains self.old.fail_makes self.new.makes }
-        ensures content { IfOk result (λ b. bytes_of b ≡ replicate 512 0) }
-        ensures plan { IfOk result (λ b. plan_of b ≡ fails.now) }
-        ensures reads { IfOk result (λ b. reads_of b ≡ 0) }
-        ensures writes { IfOk result (λ b. writes_of b ≡ 0) }
-        ensures faults { IfOk result (λ b. faults_of b ≡ 0) }
-        ensures retired { self.new.retired ≡ self.old.retired }
-        ensures fail_makes { self.new.fail_makes ≡ self.old.fail_makes }
-        ensures makes { self.new.makes ≡ min (self.old.makes + 1) (2 ^ 64 - 1) }
-        ensures later { self.old.faults ≤ self.new.faults }
-        ensures ok { OnOk result (self.new.faults ≡ self.old.faults) }
-        ensures no_memory { IsErrOf result MakeFault.NoMemory → self.new.faults ≡ self.old.faults }
-        ensures failed { IsErrOf result MakeFault.Failed → self.new.faults ≡ min (self.old.faults + 1) (2 ^ 64 - 1) }
+        ensures block { IfOk result (IsNew (replicate 512 0) fails.now) }
+        ensures counts { CountsCall self.old self.new result }
     {
         let spare = self.next_spare()?;
         let body = Body::zeros(self.alloc, spare, fails)?;

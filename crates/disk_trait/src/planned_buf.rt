@@ -105,15 +105,19 @@ impl PlannedBuf {
     }
 }
 
-/// Whether a call with this number is to fail.
-pub(crate) fn is_due(fails: &[u32], call: u64) -> bool
+/// Whether the call with this number, of those that are counted from 1, is one of the calls that are to
+/// fail. Doesn't allocate.
+#[inline]
+pub fn is_due(fails: &[u32], call: u64) -> bool
     ensures { IsTrue result ↔ Contains fails.now call }
 {
     fails.iter().any(|number| u64::from(*number) == call)
 }
 
-/// Writes the first 256 of the bytes, and leaves the rest of the block.
-fn write_half(block: &mut [u8], bytes: &[u8])
+/// Writes the first 256 of the 512 bytes into the block, and leaves the rest of its 512 bytes as they are.
+/// Doesn't allocate.
+#[inline]
+pub fn write_half(block: &mut [u8], bytes: &[u8])
     requires block_size { length block.old ≡ 512 }
     requires size { length bytes.now ≡ 512 }
     ensures bytes { block.new ≡ take 256 bytes.now ++ drop 256 block.old }

@@ -1,6 +1,6 @@
 ghost use Rattle.std.specs.Prelude.{◌≡◌, ◌+◌, ◌^◌, ◌<◌, ◌≤◌, ◌++◌, ◌↔◌, length, take, drop, Some, true, refl, IfOk, OnOk, OnErr, IsErr, IsTrue, Contains, if◌then◌else◌};
 
-use disk_trait::Block;
+use disk_trait::{Block, is_due, write_half};
 use std::alloc::Global;
 use vm_types::{Failed, NoMemory};
 
@@ -49,23 +49,6 @@ impl SureBlock {
     {
         is_due(&self.calls, self.reads + self.writes + 1)
     }
-}
-
-/// Whether a call with this number is to fail.
-fn is_due(calls: &[u32], call: u64) -> bool
-    ensures { IsTrue result ↔ Contains calls.now call }
-{
-    calls.iter().any(|number| u64::from(*number) == call)
-}
-
-/// Writes the first 256 of the bytes, and leaves the rest of the block.
-fn write_half(block: &mut [u8], bytes: &[u8])
-    requires block_size { length block.old ≡ 512 }
-    requires size { length bytes.now ≡ 512 }
-    ensures bytes { block.new ≡ take 256 bytes.now ++ drop 256 block.old }
-    ensures size { length block.new ≡ 512 }
-{
-    block[..256].copy_from_slice(&bytes[..256]);
 }
 
 impl Block for SureBlock {
