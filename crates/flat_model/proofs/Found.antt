@@ -15,7 +15,8 @@ use Rattle.vm_types.specs.declared.config.Section.{Section}
 use Rattle.pager_model.specs.Maps.{covers, page_number}
 use Rattle.std.specs.Option.{option_map}
 use Rattle.vm_types.specs.Behind.{FitsPages, origin_after}
-use Rattle.flat_model.specs.Behind.{behind_by, CanLay}
+use Rattle.flat_model.specs.Behind.{behind_by}
+use Rattle.vm_types.specs.Laying.{CanLay}
 use Rattle.flat_model.specs.Usable.{IsUsable, IsOrigin, pages_of, end_of, limit_of}
 
 pub found_passes : {X : Type 0} (p : X → Bool) (xs : List X) (x : X) → find p xs ≡ Some x → p x ≡ true

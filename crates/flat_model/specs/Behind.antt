@@ -1,9 +1,8 @@
 -- What the flat machine keeps of a page's mapping, by the page's place. This project's own.
-use Rattle.std.specs.Prelude.{◌≡◌, ℕ, ◌+◌, ◌*◌, ◌&&◌, ◌≤◌, List, Option, Some, nat_eq, if◌then◌else◌}
+use Rattle.std.specs.Prelude.{◌≡◌, ℕ, ◌&&◌, List, Option, Some, nat_eq, if◌then◌else◌}
 use Rattle.std.specs.Option.{option_map}
-use Rattle.vm_types.specs.Behind.{FitsPages, covers, origin_by}
+use Rattle.vm_types.specs.Behind.{covers, origin_by}
 use Rattle.vm_types.specs.PagePlaces.{item_at}
-use Rattle.vm_types.specs.WellFormed.{IsRange}
 use Rattle.vm_types.specs.declared.config.Mapping.{Mapping}
 use Rattle.pager_model.specs.FlatService.{in_range}
 use Rattle.pager_model.specs.Maps.{Mapped}
@@ -20,12 +19,6 @@ behind_by v m = record { origin = origin_by v m; prot = m.prot }
 abbrev pub mapped_in : List (Option Behind) → ℕ → ℕ → Option Mapped
 mapped_in pages p v = option_map as_mapped (item_at pages p v)
 
--- a table of so many places has one for each page of the mapping
-pub record CanLay (places : ℕ) (m : Mapping) : Type 0 where
-  pub range : IsRange (m.at).0 m.pages
-  pub room : 5120 * (m.proc).0 + 5120 ≤ places
-  pub fits : FitsPages m.from m.pages
-
 -- the mapping's pages are mapped to what it says, and all others to what they were
 abbrev pub IsLaid : Mapping → (ℕ → ℕ → Option Behind) → (ℕ → ℕ → Option Behind) → Type 0
 IsLaid m old new = (p v : ℕ) → new p v ≡ (if covers p v m then Some (behind_by v m) else old p v)
@@ -34,11 +27,6 @@ IsLaid m old new = (p v : ℕ) → new p v ≡ (if covers p v m then Some (behin
 abbrev pub IsChangedIn : (Option Behind → Option Behind) → ℕ → ℕ → ℕ → (ℕ → ℕ → Option Behind) → (ℕ → ℕ → Option Behind) → Type 0
 IsChangedIn change p address pages old new =
     (q v : ℕ) → new q v ≡ (if nat_eq p q && in_range address pages v then change (old q v) else old q v)
-
--- a table of so many places has one for each page of a process's range
-pub record CanChange (places p address pages : ℕ) : Type 0 where
-  pub range : IsRange address pages
-  pub room : 5120 * p + 5120 ≤ places
 
 abbrev pub protected_by : ℕ → Behind → Behind
 protected_by prot b = record { origin = b.origin; prot = prot }

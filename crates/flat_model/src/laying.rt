@@ -4,7 +4,8 @@ ghost use Rattle.std.specs.Prelude.{◌≡◌, ℕ, ◌+◌, ◌*◌, ◌<◌, �
 ghost use Rattle.std.specs.Option.{option_map};
 ghost use Rattle.vm_types.specs.Behind.{covers};
 ghost use Rattle.vm_types.specs.PagePlaces.{item_at};
-ghost use Rattle.flat_model.specs.Behind.{CanLay, CanChange, IsLaid, IsChangedIn, behind_by, protected_by};
+ghost use Rattle.flat_model.specs.Behind.{IsLaid, IsChangedIn, behind_by, protected_by};
+ghost use Rattle.vm_types.specs.Laying.{CanLay, CanChange};
 
 use crate::behind::Behind;
 use vm_types::{Addr, Mapping, Proc, origin_after, page_place};

@@ -9,7 +9,7 @@ use Rattle.vm_types.specs.declared.config.Origin.{Origin}
 use Rattle.vm_types.specs.declared.config.Origin.TheVariants as origin
 use Rattle.vm_types.specs.declared.config.Section.{Section}
 use Rattle.vm_types.specs.Behind.{FitsPages}
-use Rattle.log_tables.specs.Laying.{CanLay}
+use Rattle.vm_types.specs.Laying.{CanLay}
 
 one_of_sum : {X : Type 0} (f : X → ℕ) (xs : List X) (k : ℕ) (x : X) → slice_get xs k ≡ Some x → f x ≤ sum_by f xs
 one_of_sum f xs k x e =

@@ -7,7 +7,8 @@ ghost use Rattle.vm_types.specs.Configuration.{IsWellFormed};
 ghost use Rattle.vm_types.specs.PagePlaces.{item_at};
 ghost use Rattle.pager_model.specs.FlatService.{demand_zero, map_range, with_prot};
 ghost use Rattle.pager_model.specs.Maps.{first_map, mapped_by};
-ghost use Rattle.log_tables.specs.Laying.{CanChange, CanLay, IsLaid};
+ghost use Rattle.log_tables.specs.Laying.{IsLaid};
+ghost use Rattle.vm_types.specs.Laying.{CanChange, CanLay};
 
 use crate::behind::Behind;
 use std::alloc::Global;

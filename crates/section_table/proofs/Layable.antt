@@ -10,7 +10,7 @@ use Rattle.vm_types.specs.declared.config.Mapping.{Mapping}
 use Rattle.vm_types.specs.declared.config.Origin.{Origin}
 use Rattle.vm_types.specs.declared.config.Origin.TheVariants as origin
 use Rattle.vm_types.specs.declared.config.Section.{Section}
-use Rattle.section_table.specs.Laying.{CanLay}
+use Rattle.vm_types.specs.Laying.{CanLay}
 
 fits_sections : (sections : List Section) (from : Origin) (pages : ℕ) → sum_by section_pages sections ≤ 16384 → HasPages sections from pages → FitsPages from pages
 fits_sections sections origin.Zero pages few has = tt

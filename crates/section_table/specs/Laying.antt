@@ -1,15 +1,8 @@
 -- How a mapping is laid into a table. No contract of a public call names these definitions.
-use Rattle.std.specs.Prelude.{◌≡◌, ℕ, ◌+◌, ◌*◌, ◌≤◌, Option, Some, if◌then◌else◌}
-use Rattle.vm_types.specs.Behind.{FitsPages, covers, origin_by}
-use Rattle.vm_types.specs.WellFormed.{IsRange}
+use Rattle.std.specs.Prelude.{◌≡◌, ℕ, Option, Some, if◌then◌else◌}
+use Rattle.vm_types.specs.Behind.{covers, origin_by}
 use Rattle.vm_types.specs.declared.config.Mapping.{Mapping}
 use Rattle.vm_types.specs.declared.config.Origin.{Origin}
-
--- a table of so many places has one for each page of the mapping
-pub record CanLay (places : ℕ) (m : Mapping) : Type 0 where
-  pub range : IsRange (m.at).0 m.pages
-  pub room : 5120 * (m.proc).0 + 5120 ≤ places
-  pub fits : FitsPages m.from m.pages
 
 -- behind the mapping's pages is what it says, and behind all others what was there
 abbrev pub IsLaid : Mapping → (ℕ → ℕ → Option Origin) → (ℕ → ℕ → Option Origin) → Type 0

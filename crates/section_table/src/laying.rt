@@ -4,7 +4,8 @@ ghost use Rattle.std.specs.Prelude.{◌≡◌, ℕ, ◌+◌, ◌*◌, ◌<◌, �
 ghost use Rattle.vm_types.specs.Behind.{covers, origin_by};
 ghost use Rattle.std.specs.Option.{option_map};
 ghost use Rattle.vm_types.specs.PagePlaces.{item_at};
-ghost use Rattle.section_table.specs.Laying.{CanLay, IsLaid};
+ghost use Rattle.section_table.specs.Laying.{IsLaid};
+ghost use Rattle.vm_types.specs.Laying.{CanLay};
 
 use page_rows::PageRows;
 use vm_types::{Mapping, Origin, origin_after, page_place};

@@ -16,3 +16,4 @@ pub mod Moved
 pub mod Counts
 pub mod BlockOrder
 pub mod Status
+pub mod Laying
