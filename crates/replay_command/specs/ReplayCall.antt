@@ -9,7 +9,7 @@ use Rattle.run_words.specs.Text.{status_line}
 use Rattle.command_ends.specs.Concludes.{HasTold, WasCut}
 use Rattle.command_ends.specs.Tells.{IsTrace}
 use Rattle.replay_cli.specs.Headline.{IsServedBy, RunTells}
-use Rattle.replay_run.specs.Replayed.{IsThreaded}
+use Rattle.replay_run.specs.Replayed.{HasWorkedAfterAnswers}
 
 -- the words are the one word `replay`
 abbrev pub IsReplay : List (List ℕ) → Type 0
@@ -25,7 +25,7 @@ pub data ReplayTold (words : List (List ℕ)) (source : Moved SourceView) (depot
   -- not the one word: nothing is read, and no block is made
   usage : (IsReplay words → ⊥) → source.after ≡ source.before → depot.after ≡ depot.before → ReplayTold words source depot 1 (status_line 1)
   -- what is told of the trace and of its run by threads
-  obeyed : (status : ℕ) (text : List ℕ) → IsReplay words → RunTells IsThreaded source depot status text → ReplayTold words source depot status text
+  obeyed : (status : ℕ) (text : List ℕ) → IsReplay words → RunTells HasWorkedAfterAnswers source depot status text → ReplayTold words source depot status text
 
 -- The call with these words has returned, and ended with the status.
 pub record IsReplayCall (words : List (List ℕ)) (source : Moved SourceView) (depot : Moved DepotView) (sink : Moved SinkView) (status : ℕ) : Type 0 where
@@ -34,7 +34,7 @@ pub record IsReplayCall (words : List (List ℕ)) (source : Moved SourceView) (d
   -- With status 4 it is a proper prefix of the text that would have been written.
   pub cut : status ≡ 4 → WasCut (ReplayTold words source depot) sink.before sink.after
   -- The headline: with status 0 or 5 `replay` has served the trace, by one finished run that threads made.
-  pub served : IsReplay words → (status ≡ 0) ⊎ (status ≡ 5) → IsServedBy IsThreaded source depot sink status
+  pub served : IsReplay words → (status ≡ 0) ⊎ (status ≡ 5) → IsServedBy HasWorkedAfterAnswers source depot sink status
   -- Status 1 comes exactly if the words are others, unless the write fails.
   pub usage : (IsReplay words → ⊥) → (status ≡ 1) ⊎ (status ≡ 4)
   pub no_usage : status ≡ 1 → IsReplay words → ⊥

@@ -6,7 +6,7 @@ ghost use Rattle.vm_types.specs.Configuration.{IsWellFormed};
 ghost use Rattle.command_ends.specs.Concludes.{Concludes, EndsAnswered, HasTold};
 ghost use Rattle.command_ends.specs.Wrongs.{IsWrong, IsWrongText, TellsWrong};
 ghost use Rattle.replay_cli.specs.Headline.{IsRunAnswer, RunTells};
-ghost use Rattle.replay_run.specs.Replayed.{IsThreaded};
+ghost use Rattle.replay_run.specs.Replayed.{HasWorkedAfterAnswers};
 ghost use Rattle.replay_cli.specs.Commands.{texts};
 ghost use Rattle.replay_command.specs.ReplayCall.{IsReplay, IsReplayCall, ReplayTold};
 
@@ -35,7 +35,7 @@ fn run_config<R: Threads + Wait + Sync, K: Sink, D: Depot>(
     depot: &mut D,
 ) -> Status
     requires formed { IsWellFormed config }
-    ensures outcome { EndsAnswered (IsRunAnswer (IsThreaded config) (moved (D.seen depot.old) (D.seen depot.new)) config)
+    ensures outcome { EndsAnswered (IsRunAnswer (HasWorkedAfterAnswers config) (moved (D.seen depot.old) (D.seen depot.new)) config)
         (K.seen sink.old) (K.seen sink.new) result.0 }
     ensures depot_later { (D.seen depot.old).failures ≤ (D.seen depot.new).failures }
 {
@@ -65,7 +65,7 @@ fn replay<R: Threads + Wait + Sync, S: Source, K: Sink, D: Depot>(
     depot: &mut D,
     kept: &mut ArrayVec<u8, 80>,
 ) -> (Status, Option<Wrong>)
-    ensures outcome { Concludes (TellsWrong (RunTells IsThreaded (moved (S.seen source.old) (S.seen source.new))
+    ensures outcome { Concludes (TellsWrong (RunTells HasWorkedAfterAnswers (moved (S.seen source.old) (S.seen source.new))
         (moved (D.seen depot.old) (D.seen depot.new))) result.1)
         (K.seen sink.old) (K.seen sink.new) result.0.0 }
     ensures kept { IsWrongText result.1 (S.seen source.old).left kept.new.items }

@@ -12,7 +12,7 @@ use Rattle.seat_turns.specs.Rests.{SwapperRests, WriterRests}
 use Rattle.replay_run.specs.Worked.{HasWorkedAt}
 
 -- from the last answer on the modified page writer and the swapper have worked, or had nothing to do
-pub record IsThreaded (config : Config) (past : List Entry) : Type 0 where
+pub record HasWorkedAfterAnswers (config : Config) (past : List Entry) : Type 0 where
   pub writer : HasWorkedAt config past (length config.procs) (λ k older a. WriterRests k a)
   pub swapper : HasWorkedAt config past (length config.procs + 1) SwapperRests
 
@@ -23,4 +23,4 @@ pub record HasPlayed (tells : Bool) (b : StateBase) (s : History) : Type 0 where
   pub between : IsBetween s.config s.past
   pub answered : IsAnswered s.config s.past
   pub right : tells ≡ true → IsRight s.config s.past
-  pub threaded : IsThreaded s.config s.past
+  pub threaded : HasWorkedAfterAnswers s.config s.past

@@ -4,7 +4,7 @@ ghost use Rattle.vm_types.specs.Configuration.{IsWellFormed};
 ghost use Rattle.vm_types.specs.Counts.{Rose};
 ghost use Rattle.serial_run.specs.Ended.{IsFinished};
 ghost use Rattle.serial_run.specs.declared.finished.RunFault.{RunFault};
-ghost use Rattle.replay_run.specs.Replayed.{IsThreaded};
+ghost use Rattle.replay_run.specs.Replayed.{HasWorkedAfterAnswers};
 
 use crate::playing::play;
 use disk_trait::Depot;
@@ -31,7 +31,7 @@ pub fn run_threads<R: Threads + Wait + Sync, D: Depot>(
 ) -> Result<Finished, RunFault>
     requires formed { IsWellFormed config }
     ensures finished { IfOk result (λ f. (taken : List Retired) × ((D.seen depot.new).retired ≡ (D.seen depot.old).retired ++ taken)
-        × IsFinished IsThreaded D.Block.tells config taken f) }
+        × IsFinished HasWorkedAfterAnswers D.Block.tells config taken f) }
     ensures failed { IsErrOf result RunFault.DepotFault → Rose (D.seen depot.old).failures (D.seen depot.new).failures }
     ensures later { (D.seen depot.old).failures ≤ (D.seen depot.new).failures }
 {

@@ -1,5 +1,5 @@
 use Rattle.std.proofs.Common.{Err, ap, inl, inr, refl}
-use Rattle.replay_run.specs.Replayed.{IsThreaded}
+use Rattle.replay_run.specs.Replayed.{HasWorkedAfterAnswers}
 use Rattle.run_words.specs.Text.{run_text, status_line}
 use Rattle.run_text.specs.Parts.{run_status}
 use Rattle.replay_cli.proofs.Finishing.{are_parts, finished_run, is_reported, run_outcome}
@@ -7,7 +7,7 @@ use Rattle.replay_command.proofs.many.run_config.Goals as goal
 
 pub print_run-requires : goal.print_run-requires
 print_run-requires g c =
-    is_reported IsThreaded g.D.Block.Block.tells
+    is_reported HasWorkedAfterAnswers g.D.Block.Block.tells
     c.args.config c.in-Ok.ensures.finished.0 c.in-Ok.finished c.deref.result.now c.deref-in-Ok.result.now c.requires.formed c.in-Ok.ensures.finished.2 c.deref.ensures.value c.deref-in-Ok.ensures.value
 
 pub returns-in-Ok-clause-outcome : goal.returns-in-Ok-clause-outcome
@@ -15,13 +15,13 @@ returns-in-Ok-clause-outcome g c =
     let ended = c.in-Ok.ensures.finished.2 in
     let status = run_status c.deref-in-Ok.result.now in
     let parts =
-    are_parts IsThreaded g.D.Block.Block.tells
+    are_parts HasWorkedAfterAnswers g.D.Block.Block.tells
     c.args.config c.in-Ok.ensures.finished.0 c.in-Ok.finished c.deref.result.now c.deref-in-Ok.result.now c.requires.formed c.in-Ok.ensures.finished.2 c.deref.ensures.value c.deref-in-Ok.ensures.value in
     inl (record {
       status = status;
       text = run_text c.in-Ok.finished.config ended.past ended.rest status;
       outcome = run_outcome c.deref-in-Ok.result.now;
-      answers = inl (finished_run IsThreaded g.D.Block.Block.tells
+      answers = inl (finished_run HasWorkedAfterAnswers g.D.Block.Block.tells
           c.args.config c.in-Ok.ensures.finished.0 c.in-Ok.finished c.deref.result.now c.deref-in-Ok.result.now c.requires.formed c.in-Ok.ensures.finished.2 c.deref.ensures.value c.deref-in-Ok.ensures.value
           (g.D.Depot.seen c.args.depot.now) (g.D.Depot.seen c.run_threads.new.depot) (g.met.D.Depot.known c.args.depot.now)
           c.in-Ok.ensures.finished.1 c.runs_are_sound.ensures);

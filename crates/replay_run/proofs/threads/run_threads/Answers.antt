@@ -6,7 +6,7 @@ use Rattle.vm_state.specs.History.{History}
 use Rattle.vm_state.specs.declared.base.StateBase.{StateBase}
 use Rattle.serial_run.proofs.RunsEnd.{at_report}
 use Rattle.serial_run.proofs.RunsFinish.{finished_by}
-use Rattle.replay_run.specs.Replayed.{IsThreaded}
+use Rattle.replay_run.specs.Replayed.{HasWorkedAfterAnswers}
 use Rattle.replay_run.proofs.threads.run_threads.Goals as goal
 
 pub play-requires-clause-playable : goal.play-requires-clause-playable
@@ -32,6 +32,6 @@ returns-clause-finished g c =
     let done = c.in_ok-finish_run.ensures.finished in (
       done.0,
       done.1 ∙ ap (λ (xs : List Retired). xs ++ done.0) c.make_blocks.ensures.retired,
-      finished_by g.D.Block.Block.tells IsThreaded c.args.config c.in_ok-state.state.config c.in_ok-state.state.past done.0 _ config_is
-          (subst (λ (k : Config). IsThreaded k c.in_ok-state.state.past) config_is c.in_ok-state.ensures.threaded) done.2,
+      finished_by g.D.Block.Block.tells HasWorkedAfterAnswers c.args.config c.in_ok-state.state.config c.in_ok-state.state.past done.0 _ config_is
+          (subst (λ (k : Config). HasWorkedAfterAnswers k c.in_ok-state.state.past) config_is c.in_ok-state.ensures.threaded) done.2,
     )
