@@ -39,8 +39,8 @@ use Rattle.pager_rules.specs.Kept.{FitsDirection, FitsFlight, IsKept, views}
 use Rattle.pager_laws.proofs.Holders.{free_is, holds_within}
 use Rattle.pager_laws.proofs.ValidEntries.{mapping_of, valid_at_page}
 use Rattle.state_fits.proofs.FlightsMoved.{flight_within}
-use Rattle.log_pager.specs.Roles.{IsOfProcess}
-use Rattle.log_pager.specs.Shown.{Shown}
+use Rattle.shadow_pager.specs.Roles.{IsOfProcess}
+use Rattle.shadow_pager.specs.Shown.{Shown}
 use Rattle.log_check.specs.Follows.{Follows}
 use Rattle.log_check.specs.Changing.{AreNamedThere, CanLand, IsFor}
 

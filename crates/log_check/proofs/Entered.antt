@@ -14,10 +14,10 @@ use Rattle.pager_model.specs.Flat.{flat_start}
 use Rattle.pager_model.specs.Run.{pager_after}
 use Rattle.pager_model.specs.Spoken.{flat_after, flat_entry}
 use Rattle.pager_model.specs.Step.{IsLegalWhat}
-use Rattle.log_flat.specs.Kept.{IsBeside, KeepsFlat, kept}
-use Rattle.log_flat.specs.declared.page_bytes.PageBytes.{PageBytes}
-use Rattle.log_pager.specs.Shown.{Shown, shown}
-use Rattle.log_history.specs.Standing.{FailsOpen, Passed}
+use Rattle.shadow_flat.specs.Kept.{IsBeside, KeepsFlat, kept}
+use Rattle.shadow_flat.specs.declared.page_bytes.PageBytes.{PageBytes}
+use Rattle.shadow_pager.specs.Shown.{Shown, shown}
+use Rattle.shadow_history.specs.Standing.{FailsOpen, Passed}
 use Rattle.pager_model.specs.Pager.{Pager}
 use Rattle.row_requests.specs.FollowsFlat.{FollowsFlat}
 use Rattle.log_check.specs.Follows.{Follows}

@@ -5,7 +5,7 @@ use Rattle.vm_journal.specs.declared.entry.Entry.{Entry}
 use Rattle.pager_model.specs.OfConfig.{MapsRight}
 use Rattle.pager_model.specs.Pager.{Pager}
 use Rattle.pager_laws.specs.Laws.{MapsFollow, RunsAreOfConfig, TouchedFollows}
-use Rattle.log_pager.specs.Shown.{Shown}
+use Rattle.shadow_pager.specs.Shown.{Shown}
 use Rattle.row_requests.specs.FollowsFlat.{FollowsFlat}
 use Rattle.log_check.specs.Follows.{Follows}
 

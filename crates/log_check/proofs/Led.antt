@@ -9,7 +9,7 @@ use Rattle.pager_model.specs.Run.{IsRun, pager_after}
 use Rattle.pager_policy.specs.Serial.{IsRundown}
 use Rattle.pager_model.specs.Spoken.{flat_after}
 use Rattle.pager_model.specs.Step.{IsLegal}
-use Rattle.log_history.specs.Standing.{Passed}
+use Rattle.shadow_history.specs.Standing.{Passed}
 use Rattle.log_model.specs.NextLine.{IsLineOf, IsNext, IsNextEntry, IsNextRundown}
 use Rattle.log_model.specs.Stand.{Stand, ending_after, in_ending, in_entries, in_report, in_rundown, reported}
 use Rattle.log_laws.proofs.Stepwise.{ending, next_step}

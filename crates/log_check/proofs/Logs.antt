@@ -3,7 +3,7 @@ use Rattle.std.proofs.Common.{◌≡◌, ◌≤◌, inl, ℕ, List, [], Option, 
 use Rattle.std.specs.Prelude.{IfSome}
 use Rattle.std.proofs.lemmas.List.Elements.{All-nil}
 use Rattle.vm_types.specs.declared.config.Config.{Config}
-use Rattle.log_history.specs.Standing.{Passed}
+use Rattle.shadow_history.specs.Standing.{Passed}
 use Rattle.log_model.specs.Log.{most_lines}
 use Rattle.log_model.specs.Stand.{in_entries}
 use Rattle.log_check.specs.declared.check.Step.{Step}

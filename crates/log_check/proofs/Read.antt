@@ -8,7 +8,7 @@ use Rattle.vm_types.specs.Configuration.{IsWellFormed}
 use Rattle.vm_types.specs.declared.config.Config.{Config}
 use Rattle.outside_io.specs.HandedOut.{IsInLine}
 use Rattle.run_words.specs.Text.{ended}
-use Rattle.log_history.specs.Standing.{Passed}
+use Rattle.shadow_history.specs.Standing.{Passed}
 use Rattle.log_model.specs.Log.{BeginsLegal, HasNoNext, IsAtFault, most_lines, text_of}
 use Rattle.log_model.specs.NextLine.{IsFirstLine, IsNext}
 use Rattle.log_model.specs.Stand.{Stand, in_ending, in_entries, in_report, in_rundown}

@@ -6,7 +6,7 @@ use Rattle.vm_types.specs.declared.config.Config.{Config}
 use Rattle.vm_journal.specs.declared.entry.Entry.{Entry}
 use Rattle.outside_io.specs.LineText.{line_text}
 use Rattle.pager_model.specs.Run.{IsRun}
-use Rattle.log_history.specs.Standing.{Passed}
+use Rattle.shadow_history.specs.Standing.{Passed}
 use Rattle.log_model.specs.Stand.{Stand, ending_after, in_rundown, report_after}
 use Rattle.log_reasons.specs.LineReasons.{IsItsLine, IsEntryRefused, LineFails, entries_of, text_next}
 use Rattle.log_reasons.specs.declared.line_reason.LineReason.{LineReason}

@@ -9,8 +9,8 @@ use Rattle.pager_model.specs.Lookups.{entry_of}
 use Rattle.pager_model.specs.Maps.{page_number}
 use Rattle.pager_model.specs.Pager.{Valid}
 use Rattle.pager_model.specs.Transfers.{starts}
-use Rattle.log_pager.specs.Roles.{IsOfProcess}
-use Rattle.log_pager.specs.Shown.{Shown}
+use Rattle.shadow_pager.specs.Roles.{IsOfProcess}
+use Rattle.shadow_pager.specs.Shown.{Shown}
 
 -- the process of a read's role is there
 abbrev pub IsFor : ℕ → Direction → Type 0

@@ -5,8 +5,8 @@ use Rattle.pager_model.specs.Order.{IsInOrder}
 use Rattle.pager_model.specs.Run.{pager_after}
 use Rattle.pager_model.specs.Spoken.{ShowsReply, flat_after}
 use Rattle.pager_model.specs.Step.{IsLegal}
-use Rattle.log_flat.specs.Kept.{KeepsFlat, kept}
-use Rattle.log_pager.specs.Shown.{shown}
+use Rattle.shadow_flat.specs.Kept.{KeepsFlat, kept}
+use Rattle.shadow_pager.specs.Shown.{shown}
 use Rattle.log_check.specs.Follows.{Follows}
 use Rattle.log_check.specs.declared.followed.Followed.{Followed}
 

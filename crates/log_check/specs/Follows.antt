@@ -5,7 +5,7 @@ use Rattle.vm_types.specs.declared.config.Config.{Config}
 use Rattle.vm_journal.specs.declared.entry.Entry.{Entry}
 use Rattle.pager_model.specs.Order.{IsInOrder}
 use Rattle.pager_model.specs.Run.{IsRun, pager_after}
-use Rattle.log_pager.specs.Shown.{Shown}
+use Rattle.shadow_pager.specs.Shown.{Shown}
 
 -- its tables have a place for each frame and each process of a well-formed configuration
 pub record IsTable (config : Config) (s : Shown) : Type 0 where

@@ -6,7 +6,7 @@ use Rattle.pager_policy.specs.Cleaning.{evicting}
 use Rattle.pager_model.specs.Flights.{awaits_reuse, open_flights}
 use Rattle.pager_model.specs.Order.{IsAnswered}
 use Rattle.run_words.specs.Text.{ended}
-use Rattle.log_history.specs.Standing.{Passed}
+use Rattle.shadow_history.specs.Standing.{Passed}
 use Rattle.log_model.specs.NextLine.{IsNext}
 use Rattle.log_model.specs.Stand.{Stand, ending_after, in_ending, in_entries, in_report, in_rundown, report_after}
 use Rattle.log_laws.specs.Underway.{IsAtRest, Underway, between_moves, step, underway_after}

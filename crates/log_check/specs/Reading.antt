@@ -1,7 +1,7 @@
 -- A log that is read line by line. This project's own.
 use Rattle.std.specs.Prelude.{◌≡◌, ℕ, ◌+◌, ◌≤◌, List, [], Option, Some, Result, Ok, Err, length, take, drop}
 use Rattle.outside_io.specs.LineText.{line_text, lines_of}
-use Rattle.log_history.specs.Standing.{Passed}
+use Rattle.shadow_history.specs.Standing.{Passed}
 use Rattle.log_model.specs.Log.{BeginsLegal, most_lines}
 use Rattle.log_model.specs.Stand.{Stand}
 use Rattle.log_reasons.specs.declared.line_reason.LineReason.TheVariants as why

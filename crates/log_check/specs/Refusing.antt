@@ -2,7 +2,7 @@
 use Rattle.std.specs.Prelude.{◌≡◌, ◌⊎◌, ℕ, List, None}
 use Rattle.vm_journal.specs.declared.entry.Entry.{Entry}
 use Rattle.outside_io.specs.LineText.{line_text}
-use Rattle.log_history.specs.Standing.{Passed}
+use Rattle.shadow_history.specs.Standing.{Passed}
 use Rattle.log_model.specs.Stand.{Stand}
 use Rattle.log_laws.specs.Underway.{Underway, step}
 use Rattle.log_reasons.specs.LineReasons.{IsEntryRefused, LineFails}

@@ -9,8 +9,8 @@ use Rattle.vm_journal.specs.declared.entry.What.TheVariants as what
 use Rattle.pager_model.specs.Flat.{FlatState, flat_reply}
 use Rattle.pager_model.specs.Spoken.{ShowsReply, flat_entry}
 use Rattle.pager_model.specs.Pager.{Pager}
-use Rattle.log_flat.specs.Kept.{IsBeside, KeepsFlat, kept}
-use Rattle.log_flat.specs.declared.page_bytes.PageBytes.{PageBytes}
+use Rattle.shadow_flat.specs.Kept.{IsBeside, KeepsFlat, kept}
+use Rattle.shadow_flat.specs.declared.page_bytes.PageBytes.{PageBytes}
 
 -- its reference or its service is well formed
 abbrev pub CanAnswer : What → Type 0

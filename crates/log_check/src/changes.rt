@@ -4,16 +4,21 @@ ghost use Rattle.std.specs.Prelude.{◌≡◌, true, OnOk};
 ghost use Rattle.vm_journal.specs.declared.entry.What.TheVariants.{InOk, OutFail, OutOk, Reuse};
 ghost use Rattle.pager_model.specs.Flights.{open_flights};
 ghost use Rattle.pager_model.specs.Step.{after_what};
-ghost use Rattle.log_pager.specs.Shown.{shown, with_pager};
+ghost use Rattle.shadow_pager.specs.Shown.{shown, with_pager};
 ghost use Rattle.log_check.specs.Changing.{AreNamedThere, is_own};
 
-use log_history::{Direction, LogHistory};
-use log_pager::LogPager;
+use shadow_history::{Direction, ShadowHistory};
+use shadow_pager::ShadowPager;
 use vm_journal::What;
 use vm_types::{NoMemory, Page, Pfn, Proc, Seat};
 
 /// The read that began in the entry of this number lands well.
-fn read_lands(pager: &mut LogPager, past: &LogHistory<'_>, f: Pfn, k: u64) -> Result<(), NoMemory>
+fn read_lands(
+    pager: &mut ShadowPager,
+    past: &ShadowHistory<'_>,
+    f: Pfn,
+    k: u64,
+) -> Result<(), NoMemory>
     requires { AreNamedThere past.now.config (shown pager.old) (open_flights past.now.past) 0 (InOk f k) }
     ensures { OnOk result (shown pager.new ≡ with_pager (shown pager.old)
         (after_what past.now.config past.now.past (shown pager.old).pager 0 (InOk f k))) }
@@ -28,7 +33,12 @@ fn read_lands(pager: &mut LogPager, past: &LogHistory<'_>, f: Pfn, k: u64) -> Re
 }
 
 /// The write that began in the entry of this number lands well.
-fn write_lands(pager: &mut LogPager, past: &LogHistory<'_>, f: Pfn, k: u64) -> Result<(), NoMemory>
+fn write_lands(
+    pager: &mut ShadowPager,
+    past: &ShadowHistory<'_>,
+    f: Pfn,
+    k: u64,
+) -> Result<(), NoMemory>
     requires { AreNamedThere past.now.config (shown pager.old) (open_flights past.now.past) 0 (OutOk f k) }
     ensures { OnOk result (shown pager.new ≡ with_pager (shown pager.old)
         (after_what past.now.config past.now.past (shown pager.old).pager 0 (OutOk f k))) }
@@ -41,8 +51,8 @@ fn write_lands(pager: &mut LogPager, past: &LogHistory<'_>, f: Pfn, k: u64) -> R
 
 /// The write that began in the entry of this number, which is open, lands badly.
 fn write_fails(
-    pager: &mut LogPager,
-    past: &LogHistory<'_>,
+    pager: &mut ShadowPager,
+    past: &ShadowHistory<'_>,
     f: Pfn,
     k: u64,
     c: u64,
@@ -59,7 +69,12 @@ fn write_fails(
 }
 
 /// A frame gives up a page.
-fn reuse(pager: &mut LogPager, past: &LogHistory<'_>, f: Pfn, page: Page) -> Result<(), NoMemory>
+fn reuse(
+    pager: &mut ShadowPager,
+    past: &ShadowHistory<'_>,
+    f: Pfn,
+    page: Page,
+) -> Result<(), NoMemory>
     requires { AreNamedThere past.now.config (shown pager.old) (open_flights past.now.past) 0 (Reuse f page) }
     ensures { OnOk result (shown pager.new ≡ with_pager (shown pager.old)
         (after_what past.now.config past.now.past (shown pager.old).pager 0 (Reuse f page))) }
@@ -72,8 +87,8 @@ fn reuse(pager: &mut LogPager, past: &LogHistory<'_>, f: Pfn, page: Page) -> Res
 
 /// An entry of a process's seat about the process itself.
 fn change_own(
-    pager: &mut LogPager,
-    past: &LogHistory<'_>,
+    pager: &mut ShadowPager,
+    past: &ShadowHistory<'_>,
     own: Proc,
     what: What,
 ) -> Result<(), NoMemory>
@@ -103,8 +118,8 @@ fn change_own(
 /// # Errors
 /// `NoMemory` if out of memory; the state is then not to be used again.
 pub(crate) fn change(
-    pager: &mut LogPager,
-    past: &LogHistory<'_>,
+    pager: &mut ShadowPager,
+    past: &ShadowHistory<'_>,
     seat: Seat,
     what: What,
 ) -> Result<(), NoMemory>

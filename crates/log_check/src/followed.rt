@@ -2,16 +2,16 @@ ghost use Rattle.std.specs.Prelude.{◌≡◌, ◌+◌, ◌<◌, ◌^◌, [], If
 ghost use Rattle.vm_types.specs.Configuration.{IsWellFormed};
 ghost use Rattle.vm_journal.specs.HasLine.{HasLine};
 ghost use Rattle.log_reasons.specs.LineReasons.{IsEntryRefused};
-ghost use Rattle.log_pager.specs.Shown.{shown};
+ghost use Rattle.shadow_pager.specs.Shown.{shown};
 ghost use Rattle.log_check.specs.Follows.{Follows};
 
 use crate::changes::change;
 use crate::replies::other_reply;
 use crate::step::{fails, flat_is_followed};
-use log_flat::PageBytes;
-use log_history::LogHistory;
-use log_pager::LogPager;
 use log_reasons::LineReason;
+use shadow_flat::PageBytes;
+use shadow_history::ShadowHistory;
+use shadow_pager::ShadowPager;
 use std::alloc::Global;
 use vm_journal::Entry;
 use vm_types::{Config, NoMemory};
@@ -20,8 +20,8 @@ use vm_types::{Config, NoMemory};
 /// them, and the bytes of pages in the flat machine after them.
 #[derive(Drop)]
 pub(crate) struct Followed<'a> {
-    pub(crate) past: LogHistory<'a>,
-    pub(crate) pager: LogPager,
+    pub(crate) past: ShadowHistory<'a>,
+    pub(crate) pager: ShadowPager,
     pub(crate) bytes: PageBytes,
 }
 
@@ -37,8 +37,8 @@ impl<'a> Followed<'a> {
         ensures followed { IfOk result IsFollowed }
         ensures past { IfOk result (λ f. f.past ≡ record { config = config.now; past = [] }) }
     {
-        let past = LogHistory::new(alloc, config)?;
-        let pager = LogPager::new(alloc, config)?;
+        let past = ShadowHistory::new(alloc, config)?;
+        let pager = ShadowPager::new(alloc, config)?;
         let bytes = PageBytes::new(alloc, config)?;
         Ok(Followed { past, pager, bytes })
     }

@@ -1,11 +1,11 @@
 ghost use Rattle.std.specs.Prelude.{◌≡◌, ◌↔◌, IfOk, IfSome, IsTrue, is_none, true};
 ghost use Rattle.vm_journal.specs.declared.entry.What.TheVariants.{Done, Served};
 ghost use Rattle.pager_model.specs.OfConfig.{MapsRight};
-ghost use Rattle.log_pager.specs.Shown.{shown};
+ghost use Rattle.shadow_pager.specs.Shown.{shown};
 ghost use Rattle.log_check.specs.Replies.{CanAnswer, IsRightReply, ShowsAsFlat};
 
-use log_flat::PageBytes;
-use log_pager::LogPager;
+use shadow_flat::PageBytes;
+use shadow_pager::ShadowPager;
 use vm_journal::{Entry, What};
 use vm_types::{Answer, Config, NoMemory, Proc, Ref, Reply, Service};
 
@@ -20,7 +20,7 @@ fn is_same(one: Reply, other: Reply) -> bool
 fn right_reply(
     bytes: &mut PageBytes,
     config: &Config,
-    pager: &LogPager,
+    pager: &ShadowPager,
     process: Proc,
     r: Ref,
     reply: Reply,
@@ -42,7 +42,7 @@ fn right_reply(
 fn serves(
     bytes: &mut PageBytes,
     config: &Config,
-    pager: &LogPager,
+    pager: &ShadowPager,
     process: Proc,
     s: Service,
     answer: Answer,
@@ -63,7 +63,7 @@ fn serves(
 pub(crate) fn other_reply(
     bytes: &mut PageBytes,
     config: &Config,
-    pager: &LogPager,
+    pager: &ShadowPager,
     e: Entry,
 ) -> Result<Option<Reply>, NoMemory>
     requires can { CanAnswer e.what }

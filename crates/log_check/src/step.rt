@@ -5,12 +5,10 @@ ghost use Rattle.vm_journal.specs.HasLine.{HasLine, WhatHasLine};
 ghost use Rattle.pager_model.specs.Order.{IsInOrder};
 ghost use Rattle.pager_model.specs.Step.{IsLegal, IsLegalWhat};
 ghost use Rattle.log_reasons.specs.EntryReasons.{EntryFails, WhatFails};
-ghost use Rattle.log_pager.specs.Shown.{shown};
+ghost use Rattle.shadow_pager.specs.Shown.{shown};
 ghost use Rattle.row_requests.specs.FollowsFlat.{FollowsFlat};
 ghost use Rattle.log_check.specs.Follows.{Follows};
 
-use log_history::LogHistory;
-use log_pager::LogPager;
 use log_reasons::Reason;
 use pager_laws::{flat_machine_follows, runs_are_of_configuration};
 use row_frames::{
@@ -20,11 +18,18 @@ use row_frames::{
 use row_requests::{
     denied_fails, done_fails, in_turn_fails, limit_fails, served_fails, turn_fails,
 };
+use shadow_history::ShadowHistory;
+use shadow_pager::ShadowPager;
 use vm_journal::{Entry, What};
 use vm_types::Seat;
 
 /// Why an entry of its kind that has a line isn't legal by its row.
-fn what_fails(past: &LogHistory<'_>, pager: &LogPager, seat: Seat, what: What) -> Option<Reason>
+fn what_fails(
+    past: &ShadowHistory<'_>,
+    pager: &ShadowPager,
+    seat: Seat,
+    what: What,
+) -> Option<Reason>
     requires line { WhatHasLine (length past.now.config.procs) past.now.config.sections what }
     requires seat { seat.0 < length past.now.config.procs + 2 }
     requires processes { (shown pager.now).processes ≡ length past.now.config.procs }
@@ -74,7 +79,7 @@ fn what_fails(past: &LogHistory<'_>, pager: &LogPager, seat: Seat, what: What) -
 }
 
 /// The pager's state has the flat machine's maps and touched pages.
-pub(crate) fn flat_is_followed(past: &LogHistory<'_>, pager: &LogPager)
+pub(crate) fn flat_is_followed(past: &ShadowHistory<'_>, pager: &ShadowPager)
     requires { Follows past.now.config past.now.past (shown pager.now) }
     ensures { FollowsFlat past.now.config past.now.past (shown pager.now).pager }
 {
@@ -84,7 +89,7 @@ pub(crate) fn flat_is_followed(past: &LogHistory<'_>, pager: &LogPager)
 
 /// Why an entry that has a line isn't a legal next one after those so far, which led to this state of the
 /// pager: one of the conditions of its kind that doesn't hold, if there is one. Doesn't allocate.
-pub(crate) fn fails(past: &LogHistory<'_>, pager: &LogPager, e: Entry) -> Option<Reason>
+pub(crate) fn fails(past: &ShadowHistory<'_>, pager: &ShadowPager, e: Entry) -> Option<Reason>
     requires line { HasLine (length past.now.config.procs) past.now.config.sections e }
     requires follows { Follows past.now.config past.now.past (shown pager.now) }
     ensures legal { IsNone result ↔ IsLegal past.now.config past.now.past (shown pager.now).pager e }

@@ -10,7 +10,7 @@ use Rattle.pager_model.specs.DirtyPages.{dirty_pages}
 use Rattle.run_text.specs.Printable.{IsPrintable}
 use Rattle.run_text.proofs.Prints.{report_printable}
 use Rattle.log_model.specs.Stand.{ending_after, report_after}
-use Rattle.log_pager.specs.Shown.{Shown}
+use Rattle.shadow_pager.specs.Shown.{Shown}
 use Rattle.log_report.specs.EndStatus.{end_status}
 use Rattle.log_report.specs.ShownRun.{ShowsRun}
 

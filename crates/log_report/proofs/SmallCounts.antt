@@ -16,7 +16,7 @@ use Rattle.pager_laws.proofs.Pins.{few_pins}
 use Rattle.state_fits.proofs.FewShares.{few_shares}
 use Rattle.state_fits.proofs.FlightsMoved.{on_frame_counts, one_on_frame}
 use Rattle.state_fits.proofs.UnchargedPage.{assigned_fit}
-use Rattle.log_pager.specs.Shown.{Shown}
+use Rattle.shadow_pager.specs.Shown.{Shown}
 use Rattle.log_report.specs.ShownRun.{ShowsRun}
 
 module _ (config : Config) (past : List Entry) (s : Shown) (shows : ShowsRun config past s) where

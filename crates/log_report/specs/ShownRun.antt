@@ -4,7 +4,7 @@ use Rattle.vm_types.specs.Configuration.{IsWellFormed}
 use Rattle.vm_types.specs.declared.config.Config.{Config}
 use Rattle.vm_journal.specs.declared.entry.Entry.{Entry}
 use Rattle.pager_model.specs.Run.{IsRun, pager_after}
-use Rattle.log_pager.specs.Shown.{Shown}
+use Rattle.shadow_pager.specs.Shown.{Shown}
 
 -- the entries are a legal run of a well-formed configuration, and the tables show each of its frames and
 -- processes, and the state after the run

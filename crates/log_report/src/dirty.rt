@@ -5,10 +5,10 @@ ghost use Rattle.vm_types.specs.Configuration.{IsWellFormed, section_pages};
 ghost use Rattle.vm_types.specs.declared.config.Section.{Section as SectionOf};
 ghost use Rattle.pager_model.specs.Forget.{holds_page};
 ghost use Rattle.pager_model.specs.DirtyPages.{dirty_pages, is_dirty, pages_from};
-ghost use Rattle.log_pager.specs.Shown.{shown};
+ghost use Rattle.shadow_pager.specs.Shown.{shown};
 ghost use Rattle.log_report.specs.SharedPages.{shared_pages_of};
 
-use log_pager::LogPager;
+use shadow_pager::ShadowPager;
 use std::alloc::Global;
 use vm_types::{Config, NoMemory, Page, Pfn, SecId, Section, is_same_page, is_shared_kind};
 
@@ -23,14 +23,14 @@ fn holds(page: Page, held: Option<Page>) -> bool
 }
 
 /// Whether a frame holds the page with modify set.
-fn is_dirty_in(pager: &LogPager, page: Page, f: Pfn) -> bool
+fn is_dirty_in(pager: &ShadowPager, page: Page, f: Pfn) -> bool
     ensures { result ≡ (holds_page page ((shown pager.now).pager.page f.0) && (shown pager.now).pager.modify f.0) }
 {
     holds(page, pager.page(f)) && pager.is_modified(f)
 }
 
 /// Whether some frame holds the page with modify set.
-fn is_dirty(config: &Config, pager: &LogPager, page: Page) -> bool
+fn is_dirty(config: &Config, pager: &ShadowPager, page: Page) -> bool
     ensures { result ≡ is_dirty config.now (shown pager.now).pager page }
 {
     for f in 0..config.frames {
@@ -70,7 +70,7 @@ fn shared_pages(alloc: Global, sections: &[Section]) -> Result<Vec<Page>, NoMemo
 }
 
 /// Takes the pages away that aren't held with modify set.
-fn keep_dirty(config: &Config, pager: &LogPager, pages: &mut Vec<Page>)
+fn keep_dirty(config: &Config, pager: &ShadowPager, pages: &mut Vec<Page>)
     ensures { pages.new.items ≡ filter (is_dirty config.now (shown pager.now).pager) pages.old.items }
 {
     pages.retain(|page| is_dirty(config, pager, *page));
@@ -84,7 +84,7 @@ fn keep_dirty(config: &Config, pager: &LogPager, pages: &mut Vec<Page>)
 pub(crate) fn dirty_pages(
     alloc: Global,
     config: &Config,
-    pager: &LogPager,
+    pager: &ShadowPager,
 ) -> Result<Vec<Page>, NoMemory>
     requires { IsWellFormed config.now }
     ensures { IfOk result (λ pages. pages.items ≡ dirty_pages config.now (shown pager.now).pager) }

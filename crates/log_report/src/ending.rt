@@ -3,16 +3,16 @@ ghost use Rattle.vm_text.specs.Named.{IsPrintablePage};
 ghost use Rattle.run_words.specs.Text.{dirty_lines, status_line};
 ghost use Rattle.command_ends.specs.Ends.{Ends};
 ghost use Rattle.log_model.specs.Stand.{ending_after};
-ghost use Rattle.log_pager.specs.Shown.{shown};
+ghost use Rattle.shadow_pager.specs.Shown.{shown};
 ghost use Rattle.log_report.specs.EndStatus.{end_status};
 ghost use Rattle.log_report.specs.ShownRun.{ShowsRun};
 
 use crate::dirty::dirty_pages;
 use command_ends::{Status, end_with};
-use log_history::LogHistory;
-use log_pager::LogPager;
 use outside_io::{Sink, VecSink};
 use run_text::print_dirty;
+use shadow_history::ShadowHistory;
+use shadow_pager::ShadowPager;
 use std::alloc::Global;
 use vm_types::{NoMemory, Page, Section};
 
@@ -49,8 +49,8 @@ fn is_cut(status: Status) -> bool
 /// `NoMemory` if out of memory.
 pub fn ending_text(
     alloc: Global,
-    past: &LogHistory<'_>,
-    pager: &LogPager,
+    past: &ShadowHistory<'_>,
+    pager: &ShadowPager,
 ) -> Result<Vec<u8>, NoMemory>
     requires { ShowsRun past.now.config past.now.past (shown pager.now) }
     ensures { IfOk result (λ text. text.items ≡ ending_after past.now.config past.now.past) }

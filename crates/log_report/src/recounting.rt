@@ -4,12 +4,12 @@ ghost use Rattle.std.specs.Prelude.{◌≡◌, ◌+◌, ◌<◌, ◌≤◌, ◌^
 ghost use Rattle.std.specs.List.{range_with_len};
 ghost use Rattle.pager_model.specs.Report.{frame_row, frame_rows, process_row, report_of};
 ghost use Rattle.run_text.specs.Rows.{frame_view, process_view};
-ghost use Rattle.log_pager.specs.Shown.{shown};
+ghost use Rattle.shadow_pager.specs.Shown.{shown};
 ghost use Rattle.log_report.specs.ShownRun.{ShowsRun};
 
-use log_history::LogHistory;
-use log_pager::LogPager;
 use run_text::{FrameRow, ProcessRow, Report, count_states};
+use shadow_history::ShadowHistory;
+use shadow_pager::ShadowPager;
 use std::alloc::Global;
 use vm_types::{Listed, NoMemory, Pfn, Proc};
 
@@ -36,7 +36,7 @@ fn refs(shares: u32, flights: u32, pins: u32) -> u32
 }
 
 /// A frame as the report has it.
-fn frame_row(past: &LogHistory<'_>, pager: &LogPager, f: Pfn) -> FrameRow
+fn frame_row(past: &ShadowHistory<'_>, pager: &ShadowPager, f: Pfn) -> FrameRow
     requires { ShowsRun past.now.config past.now.past (shown pager.now) }
     ensures { frame_view result ≡ frame_row past.now.past (shown pager.now).pager f.0 }
 {
@@ -55,8 +55,8 @@ fn frame_row(past: &LogHistory<'_>, pager: &LogPager, f: Pfn) -> FrameRow
 /// The frames by number.
 fn frame_rows(
     alloc: Global,
-    past: &LogHistory<'_>,
-    pager: &LogPager,
+    past: &ShadowHistory<'_>,
+    pager: &ShadowPager,
 ) -> Result<Listed<FrameRow>, NoMemory>
     requires { ShowsRun past.now.config past.now.past (shown pager.now) }
     ensures { IfOk result (λ rows. map frame_view rows ≡ frame_rows past.now.config past.now.past (shown pager.now).pager) }
@@ -69,7 +69,7 @@ fn frame_rows(
 }
 
 /// A process as the report has it.
-fn process_row(pager: &LogPager, p: Proc) -> ProcessRow
+fn process_row(pager: &ShadowPager, p: Proc) -> ProcessRow
     requires { p.0 < (shown pager.now).processes }
     ensures { process_view result ≡ process_row (shown pager.now).pager p.0 }
 {
@@ -81,7 +81,11 @@ fn process_row(pager: &LogPager, p: Proc) -> ProcessRow
 }
 
 /// The processes by number.
-fn process_rows(alloc: Global, pager: &LogPager, count: u32) -> Result<Listed<ProcessRow>, NoMemory>
+fn process_rows(
+    alloc: Global,
+    pager: &ShadowPager,
+    count: u32,
+) -> Result<Listed<ProcessRow>, NoMemory>
     requires { count ≤ (shown pager.now).processes }
     ensures { IfOk result (λ rows. map process_view rows ≡ map (process_row (shown pager.now).pager) (range_with_len 0 count)) }
 {
@@ -98,8 +102,8 @@ fn process_rows(alloc: Global, pager: &LogPager, count: u32) -> Result<Listed<Pr
 /// `NoMemory` if out of memory.
 pub(crate) fn recount(
     alloc: Global,
-    past: &LogHistory<'_>,
-    pager: &LogPager,
+    past: &ShadowHistory<'_>,
+    pager: &ShadowPager,
 ) -> Result<Report, NoMemory>
     requires { ShowsRun past.now.config past.now.past (shown pager.now) }
     ensures { IfOk result (λ report. report ≡ report_of past.now.config past.now.past (shown pager.now).pager) }

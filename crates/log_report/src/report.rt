@@ -1,13 +1,13 @@
 ghost use Rattle.std.specs.Prelude.{◌≡◌, IfOk};
 ghost use Rattle.log_model.specs.Stand.{report_after};
-ghost use Rattle.log_pager.specs.Shown.{shown};
+ghost use Rattle.shadow_pager.specs.Shown.{shown};
 ghost use Rattle.log_report.specs.ShownRun.{ShowsRun};
 
 use crate::recounting::recount;
-use log_history::LogHistory;
-use log_pager::LogPager;
 use outside_io::VecSink;
 use run_text::print;
+use shadow_history::ShadowHistory;
+use shadow_pager::ShadowPager;
 use std::alloc::Global;
 use vm_types::NoMemory;
 
@@ -17,8 +17,8 @@ use vm_types::NoMemory;
 /// `NoMemory` if out of memory.
 pub fn report_text(
     alloc: Global,
-    past: &LogHistory<'_>,
-    pager: &LogPager,
+    past: &ShadowHistory<'_>,
+    pager: &ShadowPager,
 ) -> Result<Vec<u8>, NoMemory>
     requires { ShowsRun past.now.config past.now.past (shown pager.now) }
     ensures { IfOk result (λ text. text.items ≡ report_after past.now.config past.now.past) }

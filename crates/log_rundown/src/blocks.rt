@@ -2,21 +2,21 @@ ghost use Rattle.std.specs.Prelude.{◌≡◌, Some};
 ghost use Rattle.vm_types.specs.declared.names.BlockId.TheVariants.{PageFile};
 ghost use Rattle.pager_model.specs.Lookups.{block_of};
 ghost use Rattle.pager_policy.specs.WriteCluster.{block_out, filed_block, is_free_block, lowest_free, new_block, paged_block};
-ghost use Rattle.log_pager.specs.Shown.{shown};
+ghost use Rattle.shadow_pager.specs.Shown.{shown};
 
-use log_pager::LogPager;
-use log_tables::is_paged;
+use shadow_pager::ShadowPager;
+use shadow_tables::is_paged;
 use vm_types::{BlockId, Config, Page, if_next};
 
 /// Whether a block of the page file exists and is free.
-fn is_free_block(config: &Config, pager: &LogPager, n: u32) -> bool
+fn is_free_block(config: &Config, pager: &ShadowPager, n: u32) -> bool
     ensures { result ≡ is_free_block config.now (shown pager.now).pager n }
 {
     n < config.pagefile && pager.owners(BlockId::PageFile(n)) == 0
 }
 
 /// The lowest block of the page file that is free.
-fn lowest_free(config: &Config, pager: &LogPager) -> Option<BlockId>
+fn lowest_free(config: &Config, pager: &ShadowPager) -> Option<BlockId>
     ensures { result ≡ lowest_free config.now (shown pager.now).pager }
 {
     for n in 0..config.pagefile {
@@ -28,7 +28,7 @@ fn lowest_free(config: &Config, pager: &LogPager) -> Option<BlockId>
 }
 
 /// The block of the page file after this one, if it exists and is free.
-fn free_after(config: &Config, pager: &LogPager, n: u32) -> Option<BlockId>
+fn free_after(config: &Config, pager: &ShadowPager, n: u32) -> Option<BlockId>
     ensures { result ≡ new_block config.now (shown pager.now).pager (Some (PageFile n)) }
 {
     if n >= config.pagefile {
@@ -44,7 +44,7 @@ fn free_after(config: &Config, pager: &LogPager, n: u32) -> Option<BlockId>
 
 /// The block that a page without one takes: the lowest free block if there is no last block, else the
 /// one after a last block of the page file, if it exists and is free.
-fn new_block(config: &Config, pager: &LogPager, last: Option<BlockId>) -> Option<BlockId>
+fn new_block(config: &Config, pager: &ShadowPager, last: Option<BlockId>) -> Option<BlockId>
     ensures { result ≡ new_block config.now (shown pager.now).pager last }
 {
     match last {
@@ -61,7 +61,7 @@ fn new_block(config: &Config, pager: &LogPager, last: Option<BlockId>) -> Option
 /// assigned to it, or a new one; none if it doesn't adjoin that one.
 fn paged_block(
     config: &Config,
-    pager: &LogPager,
+    pager: &ShadowPager,
     last: Option<BlockId>,
     page: Page,
 ) -> Option<BlockId>
@@ -75,7 +75,7 @@ fn paged_block(
 
 /// The block to which a page with a file is written behind the last block of a cluster: the one in which
 /// it lies; none if it doesn't adjoin that one.
-fn filed_block(pager: &LogPager, last: Option<BlockId>, page: Page) -> Option<BlockId>
+fn filed_block(pager: &ShadowPager, last: Option<BlockId>, page: Page) -> Option<BlockId>
     ensures { result ≡ filed_block last ((shown pager.now).pager.lies page) }
 {
     match pager.lies(page) {
@@ -88,7 +88,7 @@ fn filed_block(pager: &LogPager, last: Option<BlockId>, page: Page) -> Option<Bl
 /// it doesn't adjoin that one.
 fn page_block(
     config: &Config,
-    pager: &LogPager,
+    pager: &ShadowPager,
     last: Option<BlockId>,
     page: Page,
 ) -> Option<BlockId>
@@ -103,7 +103,7 @@ fn page_block(
 /// The same of a page that a frame may hold; none if it holds none.
 pub(crate) fn block_out(
     config: &Config,
-    pager: &LogPager,
+    pager: &ShadowPager,
     last: Option<BlockId>,
     page: Option<Page>,
 ) -> Option<BlockId>

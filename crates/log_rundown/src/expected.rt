@@ -6,7 +6,7 @@ ghost use Rattle.log_rundown.specs.Written.{write_as};
 
 use crate::eviction::Eviction;
 use crate::write::Write;
-use log_history::{Flight, LogHistory};
+use shadow_history::{Flight, ShadowHistory};
 use vm_journal::{Entry, EvictWhy, What};
 use vm_types::{Addr, Config, Pfn, Proc, Seat, is_same_block, is_same_state};
 
@@ -63,7 +63,7 @@ pub(crate) fn is_begun(config: &Config, w: Write, e: Entry) -> bool
 }
 
 /// Whether the flight's landing failed, as the entry shows it; none if this isn't its landing.
-fn shown_as(past: &LogHistory<'_>, x: Flight, what: What) -> Option<bool>
+fn shown_as(past: &ShadowHistory<'_>, x: Flight, what: What) -> Option<bool>
     ensures { result ≡ shown_as past.now.past x what }
 {
     match what {
@@ -87,7 +87,7 @@ fn shown_as(past: &LogHistory<'_>, x: Flight, what: What) -> Option<bool>
 
 /// Whether the flight's landing failed, as the entry of the modified page writer's seat shows it; none if
 /// this isn't its landing.
-pub(crate) fn landed_as(past: &LogHistory<'_>, x: Flight, e: Entry) -> Option<bool>
+pub(crate) fn landed_as(past: &ShadowHistory<'_>, x: Flight, e: Entry) -> Option<bool>
     ensures { result ≡ landed_as past.now.config past.now.past x e }
 {
     if is_writer(past.config(), e.seat) {

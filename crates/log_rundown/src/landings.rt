@@ -7,7 +7,7 @@ use crate::cleaning::Cleaning;
 use crate::expected::landed_as;
 use crate::onward::Onward;
 use crate::standing::Standing;
-use log_history::{Flight, LogHistory};
+use shadow_history::{Flight, ShadowHistory};
 use std::alloc::Global;
 use vm_journal::Entry;
 use vm_types::NoMemory;
@@ -51,7 +51,7 @@ fn both(one: bool, other: bool) -> bool
 /// `NoMemory` if out of memory.
 pub(crate) fn step_landings(
     alloc: Global,
-    past: &LogHistory<'_>,
+    past: &ShadowHistory<'_>,
     flights: &[Flight],
     all: bool,
     onward: Onward,

@@ -6,7 +6,7 @@ ghost use Rattle.pager_policy.specs.Given.{seen_at};
 ghost use Rattle.pager_policy.specs.Moves.{Move, rests};
 ghost use Rattle.pager_model.specs.Pager.{Pager};
 ghost use Rattle.pager_policy.specs.Rundown.{clean_move, cleaning_move, later_move, rounds_move};
-ghost use Rattle.log_pager.specs.Shown.{shown};
+ghost use Rattle.shadow_pager.specs.Shown.{shown};
 ghost use Rattle.log_rundown.specs.Chosen.{move_as, move_or};
 ghost use Rattle.log_rundown.specs.Places.{HasSmallSlot, place_as};
 ghost use Rattle.log_rundown.specs.Standing.{cleaning_as};
@@ -18,8 +18,8 @@ use crate::listed::is_shared_listed;
 use crate::places::{Place, shared_place};
 use crate::seen::see;
 use crate::stops::{goes_to, is_stopped};
-use log_history::LogHistory;
-use log_pager::LogPager;
+use shadow_history::ShadowHistory;
+use shadow_pager::ShadowPager;
 use vm_types::Proc;
 
 /// How many rounds of writing there are.
@@ -27,7 +27,7 @@ const ROUNDS: u32 = 2;
 
 /// A round goes on while it has writes left, and then the next one begins, with as many writes as pages
 /// are on the modified list. None once no shared page is on it, or no round follows.
-fn choose_round(pager: &LogPager, following: u32, left: usize) -> Choice
+fn choose_round(pager: &ShadowPager, following: u32, left: usize) -> Choice
     ensures { (config : Config) → move_as config (shown pager.now).pager result ≡ rounds_move config (shown pager.now).pager following left }
 {
     if !is_shared_listed(pager) {
@@ -45,7 +45,12 @@ fn choose_round(pager: &LogPager, following: u32, left: usize) -> Choice
 
 /// The page at a place is evicted, unless that is stopped: then a cluster is written first. None if that
 /// has failed: then the next place is to be looked at.
-fn choose_at(past: &LogHistory<'_>, pager: &LogPager, at: Place, failed: bool) -> Option<Choice>
+fn choose_at(
+    past: &ShadowHistory<'_>,
+    pager: &ShadowPager,
+    at: Place,
+    failed: bool,
+) -> Option<Choice>
     requires { HasSmallSlot at }
     ensures { (later : Move) → move_or past.now.config (shown pager.now).pager later result
         ≡ clean_move past.now.config past.now.past (shown pager.now).pager (place_as at) failed later
@@ -83,7 +88,7 @@ fn or_rest(choice: Option<Choice>) -> Choice
 }
 
 /// What is chosen at the next place after this one, where no cluster has failed yet.
-fn choose_later(past: &LogHistory<'_>, pager: &LogPager, at: Place) -> Choice
+fn choose_later(past: &ShadowHistory<'_>, pager: &ShadowPager, at: Place) -> Choice
     requires formed { IsWellFormed past.now.config }
     requires small { HasSmallSlot at }
     ensures { move_as past.now.config (shown pager.now).pager result
@@ -100,7 +105,7 @@ fn choose_later(past: &LogHistory<'_>, pager: &LogPager, at: Place) -> Choice
 }
 
 /// What is chosen at a place, or else at the next one.
-fn choose_on(past: &LogHistory<'_>, pager: &LogPager, at: Place, failed: bool) -> Choice
+fn choose_on(past: &ShadowHistory<'_>, pager: &ShadowPager, at: Place, failed: bool) -> Choice
     requires formed { IsWellFormed past.now.config }
     requires small { HasSmallSlot at }
     ensures { move_as past.now.config (shown pager.now).pager result
@@ -115,7 +120,13 @@ fn choose_on(past: &LogHistory<'_>, pager: &LogPager, at: Place, failed: bool) -
 }
 
 /// What is chosen from a slot of a process on, for which a cluster has failed or not.
-fn choose_from(past: &LogHistory<'_>, pager: &LogPager, p: Proc, n: u32, failed: bool) -> Choice
+fn choose_from(
+    past: &ShadowHistory<'_>,
+    pager: &ShadowPager,
+    p: Proc,
+    n: u32,
+    failed: bool,
+) -> Choice
     requires { IsWellFormed past.now.config }
     ensures { move_as past.now.config (shown pager.now).pager result
         ≡ cleaning_move past.now.config past.now.past (shown pager.now).pager (evicting p.0 n failed) }
@@ -128,7 +139,7 @@ fn choose_from(past: &LogHistory<'_>, pager: &LogPager, p: Proc, n: u32, failed:
 }
 
 /// The rundown's next move. Doesn't allocate.
-pub(crate) fn choose(past: &LogHistory<'_>, pager: &LogPager, at: Cleaning) -> Choice
+pub(crate) fn choose(past: &ShadowHistory<'_>, pager: &ShadowPager, at: Cleaning) -> Choice
     requires { IsWellFormed past.now.config }
     ensures { move_as past.now.config (shown pager.now).pager result
         ≡ cleaning_move past.now.config past.now.past (shown pager.now).pager (cleaning_as at) }

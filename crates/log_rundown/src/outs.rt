@@ -11,7 +11,7 @@ use crate::landings::after_landings;
 use crate::onward::Onward;
 use crate::standing::Standing;
 use crate::write::Write;
-use log_history::LogHistory;
+use shadow_history::ShadowHistory;
 use std::alloc::Global;
 use vm_journal::Entry;
 use vm_types::NoMemory;
@@ -28,7 +28,7 @@ fn copy_writes(alloc: Global, writes: &[Write]) -> Result<Vec<Write>, NoMemory>
 /// to begin one.
 fn first_landings(
     alloc: Global,
-    past: &LogHistory<'_>,
+    past: &ShadowHistory<'_>,
     onward: Onward,
     e: Entry,
 ) -> Result<Standing, NoMemory>
@@ -45,7 +45,7 @@ fn first_landings(
 /// flights of its seat land, in the order in which they were begun.
 fn after_outs(
     alloc: Global,
-    past: &LogHistory<'_>,
+    past: &ShadowHistory<'_>,
     writes: &[Write],
     onward: Onward,
     e: Entry,
@@ -68,7 +68,7 @@ fn after_outs(
 /// `NoMemory` if out of memory.
 pub(crate) fn step_outs(
     alloc: Global,
-    past: &LogHistory<'_>,
+    past: &ShadowHistory<'_>,
     writes: &[Write],
     onward: Onward,
     e: Entry,

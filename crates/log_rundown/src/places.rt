@@ -3,11 +3,11 @@ ghost use Rattle.std.specs.List.{range_with_len};
 ghost use Rattle.std.specs.Option.{option_map};
 ghost use Rattle.vm_types.specs.Configuration.{IsWellFormed};
 ghost use Rattle.pager_policy.specs.Rundown.{is_shared_at, shared_from, shared_of_processes, shared_place};
-ghost use Rattle.log_pager.specs.Shown.{shown};
+ghost use Rattle.shadow_pager.specs.Shown.{shown};
 ghost use Rattle.log_rundown.specs.Places.{HasSmallSlot, place_as};
 
 use crate::seen::has_shared;
-use log_pager::LogPager;
+use shadow_pager::ShadowPager;
 use vm_types::{Config, Proc};
 
 /// A slot of a process.
@@ -18,14 +18,14 @@ pub(crate) struct Place {
 }
 
 /// Whether slot m has a shared page, and isn't before slot n.
-fn is_shared_from(pager: &LogPager, p: Proc, n: u32, m: u32) -> bool
+fn is_shared_from(pager: &ShadowPager, p: Proc, n: u32, m: u32) -> bool
     ensures { result ≡ (nat_le n m && is_shared_at (shown pager.now).pager p.0 m) }
 {
     n <= m && has_shared(pager, p, m)
 }
 
 /// The first slot of a process, from this one on, that has a shared page.
-fn shared_from(pager: &LogPager, p: Proc, n: u32) -> Option<u32>
+fn shared_from(pager: &ShadowPager, p: Proc, n: u32) -> Option<u32>
     ensures first { result ≡ shared_from (shown pager.now).pager p.0 n }
     ensures few { IfSome result (λ m. m < 1024) }
 {
@@ -38,7 +38,7 @@ fn shared_from(pager: &LogPager, p: Proc, n: u32) -> Option<u32>
 }
 
 /// The first slot that has a shared page, of the processes from this number to that of the last one.
-fn shared_of_processes(pager: &LogPager, first: u32, count: u32) -> Option<Place>
+fn shared_of_processes(pager: &ShadowPager, first: u32, count: u32) -> Option<Place>
     ensures place { option_map place_as result ≡ shared_of_processes (shown pager.now).pager (range_with_len first (count - first)) }
     ensures small { IfSome result HasSmallSlot }
 {
@@ -63,7 +63,7 @@ fn processes(config: &Config) -> u32
 
 /// The first slot that has a shared page, from this slot of this process on, and then of the later
 /// processes.
-pub(crate) fn shared_place(config: &Config, pager: &LogPager, p: Proc, n: u32) -> Option<Place>
+pub(crate) fn shared_place(config: &Config, pager: &ShadowPager, p: Proc, n: u32) -> Option<Place>
     requires { IsWellFormed config.now }
     ensures place { option_map place_as result ≡ shared_place config.now (shown pager.now).pager p.0 n }
     ensures small { IfSome result HasSmallSlot }

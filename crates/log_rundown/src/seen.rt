@@ -3,10 +3,10 @@ ghost use Rattle.std.specs.Option.{option_map};
 ghost use Rattle.pager_policy.specs.Given.{seen_at};
 ghost use Rattle.pager_model.specs.Maps.{is_private};
 ghost use Rattle.pager_policy.specs.Rundown.{is_shared_at};
-ghost use Rattle.log_pager.specs.Shown.{shown};
+ghost use Rattle.shadow_pager.specs.Shown.{shown};
 ghost use Rattle.log_rundown.specs.Places.{seen_as};
 
-use log_pager::LogPager;
+use shadow_pager::ShadowPager;
 use vm_types::{Page, Pfn, Proc};
 
 /// What stands in a slot: the page number, by its valid entry the frame and the page, and whether that
@@ -20,7 +20,7 @@ pub(crate) struct Seen {
 }
 
 /// What stands in a slot of a process.
-pub(crate) fn see(pager: &LogPager, p: Proc, n: u32) -> Option<Seen>
+pub(crate) fn see(pager: &ShadowPager, p: Proc, n: u32) -> Option<Seen>
     ensures { option_map seen_as result ≡ seen_at (shown pager.now).pager p.0 n }
 {
     let held = pager.held_at(p, n)?;
@@ -43,7 +43,7 @@ pub(crate) fn is_shared(page: Page) -> bool
 }
 
 /// Whether a slot of a process has a shared page.
-pub(crate) fn has_shared(pager: &LogPager, p: Proc, n: u32) -> bool
+pub(crate) fn has_shared(pager: &ShadowPager, p: Proc, n: u32) -> bool
     ensures { result ≡ is_shared_at (shown pager.now).pager p.0 n }
 {
     match see(pager, p, n) {

@@ -1,7 +1,7 @@
 use crate::cleaning::Cleaning;
 use crate::onward::Onward;
 use crate::write::Write;
-use log_history::Flight;
+use shadow_history::Flight;
 
 /// Where a log stands in the rundown.
 #[derive(Debug, Drop)]

@@ -2,7 +2,7 @@ ghost use Rattle.std.specs.Prelude.{◌≡◌, ◌+◌, ◌<◌, ◌^◌, IfOk, 
 ghost use Rattle.std.specs.Option.{option_map};
 ghost use Rattle.pager_policy.specs.Cleaning.{evicting, rounds};
 ghost use Rattle.log_laws.specs.Underway.{between_moves, is_made, plan_of, step_plan};
-ghost use Rattle.log_pager.specs.Shown.{shown};
+ghost use Rattle.shadow_pager.specs.Shown.{shown};
 ghost use Rattle.log_rundown.specs.Chosen.{eviction_as, move_as};
 ghost use Rattle.log_rundown.specs.Standing.{onward_as, standing_as};
 
@@ -14,8 +14,8 @@ use crate::expected::is_evicted;
 use crate::onward::Onward;
 use crate::outs::step_outs;
 use crate::standing::Standing;
-use log_history::LogHistory;
-use log_pager::LogPager;
+use shadow_history::ShadowHistory;
+use shadow_pager::ShadowPager;
 use std::alloc::Global;
 use vm_journal::Entry;
 use vm_types::{Config, NoMemory, Proc};
@@ -72,8 +72,8 @@ fn step_eviction(config: &Config, x: Eviction, slot: u32, e: Entry) -> Option<St
 /// `NoMemory` if out of memory.
 pub(crate) fn step_choice(
     alloc: Global,
-    past: &LogHistory<'_>,
-    pager: &LogPager,
+    past: &ShadowHistory<'_>,
+    pager: &ShadowPager,
     choice: Choice,
     e: Entry,
 ) -> Result<Option<Standing>, NoMemory>

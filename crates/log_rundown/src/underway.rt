@@ -4,7 +4,7 @@ ghost use Rattle.vm_types.specs.Configuration.{IsWellFormed};
 ghost use Rattle.pager_policy.specs.Cleaning.{evicting};
 ghost use Rattle.pager_model.specs.Run.{pager_after};
 ghost use Rattle.log_laws.specs.Underway.{IsAtRest, between_moves, step};
-ghost use Rattle.log_pager.specs.Shown.{shown};
+ghost use Rattle.shadow_pager.specs.Shown.{shown};
 ghost use Rattle.log_rundown.specs.Chosen.{is_rest};
 ghost use Rattle.log_rundown.specs.Standing.{standing_as};
 ghost use Rattle.log_rundown.specs.Steps.{IsStep};
@@ -16,8 +16,8 @@ use crate::moves::choose;
 use crate::outs::step_outs;
 use crate::standing::Standing;
 use crate::steps::step_choice;
-use log_history::LogHistory;
-use log_pager::LogPager;
+use shadow_history::ShadowHistory;
+use shadow_pager::ShadowPager;
 use std::alloc::Global;
 use std::marker::Model;
 use vm_journal::Entry;
@@ -42,8 +42,8 @@ impl Model for Underway {
 /// Where an entry leads to from a place; none if it can't come next.
 fn next_standing(
     alloc: Global,
-    past: &LogHistory<'_>,
-    pager: &LogPager,
+    past: &ShadowHistory<'_>,
+    pager: &ShadowPager,
     at: &Standing,
     e: Entry,
 ) -> Result<Option<Standing>, NoMemory>
@@ -82,7 +82,7 @@ fn is_rest(choice: Choice) -> bool
 }
 
 /// Whether the rundown may end at a place.
-fn rests_at(past: &LogHistory<'_>, pager: &LogPager, at: &Standing) -> bool
+fn rests_at(past: &ShadowHistory<'_>, pager: &ShadowPager, at: &Standing) -> bool
     requires formed { IsWellFormed past.now.config }
     requires same { (shown pager.now).pager ≡ pager_after past.now.config past.now.past }
     ensures { IsTrue result ↔ IsAtRest past.now.config past.now.past (standing_as at.now) }
@@ -119,8 +119,8 @@ impl Underway {
     pub fn step(
         &mut self,
         alloc: Global,
-        past: &LogHistory<'_>,
-        pager: &LogPager,
+        past: &ShadowHistory<'_>,
+        pager: &ShadowPager,
         e: Entry,
     ) -> Result<bool, NoMemory>
         requires formed { IsWellFormed past.now.config }
@@ -141,7 +141,7 @@ impl Underway {
 
     /// Whether the rundown may end here: it is between two moves, and the policy has none. Doesn't
     /// allocate.
-    pub fn is_at_rest(&self, past: &LogHistory<'_>, pager: &LogPager) -> bool
+    pub fn is_at_rest(&self, past: &ShadowHistory<'_>, pager: &ShadowPager) -> bool
         requires formed { IsWellFormed past.now.config }
         requires same { (shown pager.now).pager ≡ pager_after past.now.config past.now.past }
         ensures { IsTrue result ↔ IsAtRest past.now.config past.now.past self.now }

@@ -12,8 +12,6 @@ mod of_frame_changes;
 #[cfg(test)]
 mod of_global_pages;
 #[cfg(test)]
-mod of_log_history;
-#[cfg(test)]
 mod of_page_file;
 #[cfg(test)]
 mod of_page_lists;
@@ -29,6 +27,8 @@ mod of_pte_forms;
 mod of_read_cluster;
 #[cfg(test)]
 mod of_section_table;
+#[cfg(test)]
+mod of_shadow_history;
 #[cfg(test)]
 mod of_state_parts;
 #[cfg(test)]

@@ -6,9 +6,9 @@ ghost use Rattle.pager_model.specs.Flights.{open_flights};
 ghost use Rattle.pager_model.specs.Transfers.{IsHome};
 ghost use Rattle.log_reasons.specs.ReadReasons.{HomeFails};
 
-use log_history::LogHistory;
 use log_reasons::Reason;
-use log_tables::is_paged;
+use shadow_history::ShadowHistory;
+use shadow_tables::is_paged;
 use vm_types::{BlockId, Config, Page, Proc, SecId, Section};
 
 /// Whether a section has a page of this number.
@@ -45,7 +45,7 @@ fn is_block(config: &Config, block: BlockId) -> bool
 }
 
 /// Why a block isn't one of the configuration, or is in flight.
-pub(crate) fn home_fails(past: &LogHistory<'_>, block: BlockId) -> Option<Reason>
+pub(crate) fn home_fails(past: &ShadowHistory<'_>, block: BlockId) -> Option<Reason>
     ensures legal { IsNone result ↔ IsHome past.now.config block (open_flights past.now.past) }
     ensures said { IfSome result (HomeFails past.now.config past.now.past block) }
 {

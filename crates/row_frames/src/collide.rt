@@ -7,13 +7,13 @@ ghost use Rattle.pager_model.specs.Flights.{Flight as OpenFlight, is_reading, op
 ghost use Rattle.pager_model.specs.Lookups.{page_by};
 ghost use Rattle.pager_model.specs.Transfers.{starts};
 ghost use Rattle.log_reasons.specs.RowReasons.{CollideFails, NamedFails, OtherReadFails};
-ghost use Rattle.log_pager.specs.Shown.{shown};
+ghost use Rattle.shadow_pager.specs.Shown.{shown};
 
 use crate::holding::held_fails;
-use log_history::LogHistory;
-use log_pager::LogPager;
 use log_reasons::Reason;
 use row_requests::own_fails;
+use shadow_history::ShadowHistory;
+use shadow_pager::ShadowPager;
 use vm_types::{Addr, Config, Pfn, Proc, Seat};
 
 /// A fault that meets a read: of which seat and at which address the fault is, into which frame the read
@@ -27,7 +27,7 @@ pub struct Collision {
 }
 
 /// Why the transfer that entry k began isn't another seat's open read into the frame.
-fn other_read_fails(past: &LogHistory<'_>, p: Proc, f: Pfn, k: u64) -> Option<Reason>
+fn other_read_fails(past: &ShadowHistory<'_>, p: Proc, f: Pfn, k: u64) -> Option<Reason>
     ensures legal { IsNone result ↔ ((x : OpenFlight) × (find (starts k) (open_flights past.now.past) ≡ Some x) × (x.frame ≡ f.0)
         × (is_reading x.direction ≡ true) × (x.seat ≡ p.0 → ⊥)) }
     ensures said { IfSome result (OtherReadFails past.now.past p.0 f.0 k) }
@@ -50,7 +50,14 @@ fn other_read_fails(past: &LogHistory<'_>, p: Proc, f: Pfn, k: u64) -> Option<Re
 }
 
 /// Why the frame doesn't hold the page, or the process named the read before.
-fn named_fails(config: &Config, pager: &LogPager, p: Proc, v: u32, f: Pfn, k: u64) -> Option<Reason>
+fn named_fails(
+    config: &Config,
+    pager: &ShadowPager,
+    p: Proc,
+    v: u32,
+    f: Pfn,
+    k: u64,
+) -> Option<Reason>
     ensures legal { IsNone result ↔ (((page : AnyPage) × (page_by config.now (shown pager.now).pager.map p.0 v ≡ Some page) × ((shown pager.now).pager.page f.0 ≡ Some page))
         × ((shown pager.now).pager.collided p.0 ≡ Some k → ⊥)) }
     ensures said { IfSome result (NamedFails config.now (shown pager.now).pager p.0 v f.0 k) }
@@ -65,7 +72,7 @@ fn named_fails(config: &Config, pager: &LogPager, p: Proc, v: u32, f: Pfn, k: u6
 }
 
 /// Why the collision of a seat's fault with a read isn't legal.
-pub fn collide_fails(past: &LogHistory<'_>, pager: &LogPager, c: Collision) -> Option<Reason>
+pub fn collide_fails(past: &ShadowHistory<'_>, pager: &ShadowPager, c: Collision) -> Option<Reason>
     ensures legal { IsNone result ↔ IsCollide past.now.config past.now.past (shown pager.now).pager (c.seat).0 (c.at).0 (c.frame).0 c.read }
     ensures said { IfSome result (CollideFails past.now.config past.now.past (shown pager.now).pager (c.seat).0 (c.at).0 (c.frame).0 c.read) }
 {

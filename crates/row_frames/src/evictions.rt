@@ -11,13 +11,13 @@ ghost use Rattle.pager_model.specs.Order.{IsAnswered, IsInOrder};
 ghost use Rattle.pager_model.specs.Transfers.{reads_on, writes_on};
 ghost use Rattle.log_reasons.specs.EvictReasons.{DroppedFails, EvictFails, FullFails, LeavingFails, LooseFails, RundownFails, TakenFails, UnpinnedFails, VictimFails, WaitsFails, WriterFails, victim_slot};
 ghost use Rattle.log_reasons.specs.RowReasons.{SeatFails, StatusFails};
-ghost use Rattle.log_pager.specs.Shown.{shown};
+ghost use Rattle.shadow_pager.specs.Shown.{shown};
 
-use log_history::LogHistory;
-use log_pager::LogPager;
 use log_reasons::Reason;
-use log_tables::Ring;
 use row_requests::{is_private, own_fails};
+use shadow_history::ShadowHistory;
+use shadow_pager::ShadowPager;
+use shadow_tables::Ring;
 use vm_journal::EvictWhy;
 use vm_types::{Addr, BlockId, Choice, FrameState, Page, Pfn, Proc, ProcStatus, Seat};
 
@@ -49,7 +49,7 @@ fn evicted_to(shares: usize, flights: usize, modified: bool) -> FrameState
 }
 
 /// Why a process's page isn't valid in the frame, or that doesn't go to this state.
-fn taken_fails(past: &LogHistory<'_>, pager: &LogPager, e: Eviction) -> Option<Reason>
+fn taken_fails(past: &ShadowHistory<'_>, pager: &ShadowPager, e: Eviction) -> Option<Reason>
     ensures legal { IsNone result ↔ IsTaken past.now.past (shown pager.now).pager (e.process).0 (page_number (e.at).0) (e.frame).0 e.to }
     ensures said { IfSome result (TakenFails past.now.past (shown pager.now).pager (e.process).0 (page_number (e.at).0) (e.frame).0 e.to) }
 {
@@ -70,7 +70,7 @@ fn taken_fails(past: &LogHistory<'_>, pager: &LogPager, e: Eviction) -> Option<R
 }
 
 /// Why the frame may not go onto the modified list, if it goes there.
-fn waits_fails(past: &LogHistory<'_>, pager: &LogPager, to: FrameState) -> Option<Reason>
+fn waits_fails(past: &ShadowHistory<'_>, pager: &ShadowPager, to: FrameState) -> Option<Reason>
     ensures legal { IsNone result ↔ HasRoomFor past.now.config (shown pager.now).pager to }
     ensures said { IfSome result (WaitsFails past.now.config (shown pager.now).pager to) }
 {
@@ -82,7 +82,7 @@ fn waits_fails(past: &LogHistory<'_>, pager: &LogPager, to: FrameState) -> Optio
 }
 
 /// Why a process's working set isn't at its limit or above.
-fn full_fails(pager: &LogPager, p: Proc) -> Option<Reason>
+fn full_fails(pager: &ShadowPager, p: Proc) -> Option<Reason>
     requires { p.0 < (shown pager.now).processes }
     ensures legal { IsNone result ↔ ((shown pager.now).pager.limit p.0 ≤ filled ((shown pager.now).pager.ring p.0).slots) }
     ensures said { IfSome result (FullFails (shown pager.now).pager p.0) }
@@ -133,7 +133,7 @@ fn victim_fails(ring: &Ring, limit: u32, v: u32) -> Option<Reason>
 }
 
 /// Why a page of the seat's own process may not be replaced.
-fn replace_fails(past: &LogHistory<'_>, pager: &LogPager, e: Eviction) -> Option<Reason>
+fn replace_fails(past: &ShadowHistory<'_>, pager: &ShadowPager, e: Eviction) -> Option<Reason>
     requires { (shown pager.now).processes ≡ length past.now.config.procs }
     ensures legal { IsNone result ↔ IsEvict EvictWhy.Replace past.now.config past.now.past (shown pager.now).pager (e.seat).0 (e.process).0 (e.at).0 (e.frame).0 e.to }
     ensures said { IfSome result (EvictFails EvictWhy.Replace past.now.config past.now.past (shown pager.now).pager (e.seat).0 (e.process).0 (e.at).0 (e.frame).0 e.to) }
@@ -175,7 +175,12 @@ fn loose_fails(ring: &Ring, v: u32, purged: bool) -> Option<Reason>
 }
 
 /// Why a page of the seat's own process may not be purged, or leave for its deletion.
-fn drop_fails(past: &LogHistory<'_>, pager: &LogPager, e: Eviction, purged: bool) -> Option<Reason>
+fn drop_fails(
+    past: &ShadowHistory<'_>,
+    pager: &ShadowPager,
+    e: Eviction,
+    purged: bool,
+) -> Option<Reason>
     requires { (shown pager.now).processes ≡ length past.now.config.procs }
     ensures legal { IsNone result ↔ (((e.process).0 ≡ (e.seat).0) × IsDropped past.now.config past.now.past (shown pager.now).pager (e.process).0 (e.at).0 (e.frame).0 purged e.to) }
     ensures said { IfSome result (λ r. SeatFails (e.seat).0 (e.process).0 r ⊎ DroppedFails past.now.config past.now.past (shown pager.now).pager (e.process).0 (e.at).0 (e.frame).0 purged e.to r) }
@@ -197,7 +202,7 @@ fn drop_fails(past: &LogHistory<'_>, pager: &LogPager, e: Eviction, purged: bool
 
 /// Whether the page in a frame, if it is private, lies in the block, unmodified and without a
 /// flight.
-fn is_written(past: &LogHistory<'_>, pager: &LogPager, f: Pfn, block: BlockId) -> bool
+fn is_written(past: &ShadowHistory<'_>, pager: &ShadowPager, f: Pfn, block: BlockId) -> bool
     ensures { IsTrue result ↔ ((g : AnyPage) → (shown pager.now).pager.page f.0 ≡ Some g → is_private g ≡ true
         → ((shown pager.now).pager.lies g ≡ Some block) × ((shown pager.now).pager.modify f.0 ≡ false)
         × (reads_on f.0 (open_flights past.now.past) + writes_on f.0 (open_flights past.now.past) ≡ 0)) }
@@ -231,7 +236,7 @@ fn unpinned_fails(ring: &Ring, v: u32) -> Option<Reason>
 }
 
 /// Why a process isn't leaving.
-fn leaves_fails(pager: &LogPager, p: Proc) -> Option<Reason>
+fn leaves_fails(pager: &ShadowPager, p: Proc) -> Option<Reason>
     ensures legal { IsNone result ↔ ((shown pager.now).pager.status p.0 ≡ ProcStatus.Leaving) }
     ensures said { IfSome result (StatusFails (shown pager.now).pager p.0 ProcStatus.Leaving) }
 {
@@ -243,7 +248,7 @@ fn leaves_fails(pager: &LogPager, p: Proc) -> Option<Reason>
 }
 
 /// Why a page of a leaving process may not leave.
-fn leaving_fails(past: &LogHistory<'_>, pager: &LogPager, e: Eviction) -> Option<Reason>
+fn leaving_fails(past: &ShadowHistory<'_>, pager: &ShadowPager, e: Eviction) -> Option<Reason>
     requires { (e.process).0 < (shown pager.now).processes }
     ensures legal { IsNone result ↔ IsLeavingEvict past.now.config past.now.past (shown pager.now).pager (e.process).0 (e.at).0 (e.frame).0 e.to }
     ensures said { IfSome result (LeavingFails past.now.config past.now.past (shown pager.now).pager (e.process).0 (e.at).0 (e.frame).0 e.to) }
@@ -267,7 +272,7 @@ fn leaving_fails(past: &LogHistory<'_>, pager: &LogPager, e: Eviction) -> Option
 }
 
 /// Why the seat isn't the writer's after the last answer, or the page is private.
-fn writer_fails(past: &LogHistory<'_>, pager: &LogPager, seat: Seat, f: Pfn) -> Option<Reason>
+fn writer_fails(past: &ShadowHistory<'_>, pager: &ShadowPager, seat: Seat, f: Pfn) -> Option<Reason>
     requires { IsInOrder past.now.config past.now.past }
     ensures legal { IsNone result ↔ ((seat.0 ≡ length past.now.config.procs) × IsAnswered past.now.config past.now.past
         × ((g : AnyPage) → (shown pager.now).pager.page f.0 ≡ Some g → is_private g ≡ false)) }
@@ -286,7 +291,7 @@ fn writer_fails(past: &LogHistory<'_>, pager: &LogPager, seat: Seat, f: Pfn) -> 
 }
 
 /// Why a shared page of a process may not leave in the rundown.
-fn rundown_fails(past: &LogHistory<'_>, pager: &LogPager, e: Eviction) -> Option<Reason>
+fn rundown_fails(past: &ShadowHistory<'_>, pager: &ShadowPager, e: Eviction) -> Option<Reason>
     requires { IsInOrder past.now.config past.now.past }
     ensures legal { IsNone result ↔ IsRundownEvict past.now.config past.now.past (shown pager.now).pager (e.seat).0 (e.process).0 (e.at).0 (e.frame).0 e.to }
     ensures said { IfSome result (RundownFails past.now.config past.now.past (shown pager.now).pager (e.seat).0 (e.process).0 (e.at).0 (e.frame).0 e.to) }
@@ -312,7 +317,7 @@ fn seat_fails(seat: Seat, p: Proc) -> Option<Reason>
 }
 
 /// Why a page may not leave a working set.
-pub fn evict_fails(past: &LogHistory<'_>, pager: &LogPager, e: Eviction) -> Option<Reason>
+pub fn evict_fails(past: &ShadowHistory<'_>, pager: &ShadowPager, e: Eviction) -> Option<Reason>
     requires processes { (shown pager.now).processes ≡ length past.now.config.procs }
     requires process { (e.process).0 < (shown pager.now).processes }
     requires order { IsInOrder past.now.config past.now.past }

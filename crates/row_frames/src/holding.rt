@@ -5,17 +5,17 @@ ghost use Rattle.vm_types.specs.declared.names.FrameState.{FrameState as AnyStat
 ghost use Rattle.vm_types.specs.declared.names.Page.{Page as AnyPage};
 ghost use Rattle.pager_model.specs.Lookups.{page_by};
 ghost use Rattle.log_reasons.specs.RowReasons.{NamedFails, StayFails};
-ghost use Rattle.log_pager.specs.Shown.{shown};
+ghost use Rattle.shadow_pager.specs.Shown.{shown};
 
-use log_pager::LogPager;
 use log_reasons::Reason;
+use shadow_pager::ShadowPager;
 use vm_types::{Config, Pfn, Proc};
 
 /// Why a page of a process isn't mapped, or isn't in the frame: a reason why it doesn't come back, and why
 /// no collision with its read is named.
 pub(crate) fn held_fails(
     config: &Config,
-    pager: &LogPager,
+    pager: &ShadowPager,
     p: Proc,
     v: u32,
     f: Pfn,

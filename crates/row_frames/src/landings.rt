@@ -8,12 +8,18 @@ ghost use Rattle.pager_model.specs.Transfers.{starts};
 ghost use Rattle.log_reasons.specs.LandingReasons.{BadLandingFails, CountedFails, LandingFails};
 ghost use Rattle.row_frames.specs.Landings.{IsBadLanding, IsGoodLanding};
 
-use log_history::LogHistory;
 use log_reasons::Reason;
+use shadow_history::ShadowHistory;
 use vm_types::{Pfn, Seat};
 
 /// Why a seat's transfer of a frame, begun in entry k, may not land: a read, or a write.
-fn landing_fails(past: &LogHistory<'_>, seat: Seat, f: Pfn, k: u64, reads: bool) -> Option<Reason>
+fn landing_fails(
+    past: &ShadowHistory<'_>,
+    seat: Seat,
+    f: Pfn,
+    k: u64,
+    reads: bool,
+) -> Option<Reason>
     ensures legal { IsNone result ↔ ((x : OpenFlight) × IsLanding past.now.past seat.0 f.0 k x × (is_reading x.direction ≡ reads)) }
     ensures said { IfSome result (LandingFails past.now.past seat.0 f.0 k reads) }
 {
@@ -36,7 +42,7 @@ fn landing_fails(past: &LogHistory<'_>, seat: Seat, f: Pfn, k: u64, reads: bool)
 
 /// Why these aren't the counts of a failure of the block of the transfer begun in entry k, before and
 /// after it.
-fn counted_fails(past: &LogHistory<'_>, k: u64, c: u64, d: u64) -> Option<Reason>
+fn counted_fails(past: &ShadowHistory<'_>, k: u64, c: u64, d: u64) -> Option<Reason>
     ensures legal { (x : OpenFlight) → find (starts k) (open_flights past.now.past) ≡ Some x → (IsNone result ↔ IsCounted past.now.past x.block c d) }
     ensures said { IfSome result (CountedFails past.now.past k c d) }
 {
@@ -53,7 +59,7 @@ fn counted_fails(past: &LogHistory<'_>, k: u64, c: u64, d: u64) -> Option<Reason
 
 /// Why a seat's transfer of a frame, begun in entry k, may not land well: a read, or a write.
 pub fn good_landing_fails(
-    past: &LogHistory<'_>,
+    past: &ShadowHistory<'_>,
     seat: Seat,
     f: Pfn,
     k: u64,
@@ -68,7 +74,7 @@ pub fn good_landing_fails(
 /// Why a seat's transfer of a frame, begun in entry k, may not land badly, with these counts of its block's
 /// failures before and after it: a read, or a write.
 pub fn bad_landing_fails(
-    past: &LogHistory<'_>,
+    past: &ShadowHistory<'_>,
     seat: Seat,
     f: Pfn,
     k: u64,

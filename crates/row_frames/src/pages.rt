@@ -11,14 +11,14 @@ ghost use Rattle.pager_model.specs.Zero.{IsDemandZero, IsZero, is_zero_origin, z
 ghost use Rattle.vm_types.specs.declared.names.BlockId.{BlockId as Block};
 ghost use Rattle.vm_types.specs.declared.names.Page.{Page as AnyPage};
 ghost use Rattle.log_reasons.specs.RowReasons.{BackFails, ComingBackFails, ResidentBackFails, ReuseFails, StayFails, SwappedFails, ZeroFails, ZerosFail};
-ghost use Rattle.log_pager.specs.Shown.{shown};
+ghost use Rattle.shadow_pager.specs.Shown.{shown};
 
 use crate::holding::held_fails;
-use log_history::LogHistory;
-use log_pager::LogPager;
 use log_reasons::Reason;
-use log_tables::{Behind, is_paged};
 use row_requests::{empty_head_fails, own_fails, room_fails};
+use shadow_history::ShadowHistory;
+use shadow_pager::ShadowPager;
+use shadow_tables::{Behind, is_paged};
 use vm_types::{Addr, BlockId, Config, FrameState, Origin, Page, Pfn, Proc, ProcStatus, Seat};
 
 /// A page that comes back: of which process and at which address it is, and its frame and that one's state.
@@ -31,7 +31,7 @@ struct Back {
 }
 
 /// Whether it is the frame of this seat's read, which has just failed.
-fn has_failed(past: &LogHistory<'_>, seat: Seat, f: Pfn) -> bool
+fn has_failed(past: &ShadowHistory<'_>, seat: Seat, f: Pfn) -> bool
     ensures { IsTrue result ↔ ((x : Flight) × (failed_flight past.now.past ≡ Some x) × (x.seat ≡ seat.0) × (x.frame ≡ f.0)) }
 {
     match past.failed() {
@@ -42,8 +42,8 @@ fn has_failed(past: &LogHistory<'_>, seat: Seat, f: Pfn) -> bool
 
 /// Why a frame may not give up the page.
 pub fn reuse_fails(
-    past: &LogHistory<'_>,
-    pager: &LogPager,
+    past: &ShadowHistory<'_>,
+    pager: &ShadowPager,
     seat: Seat,
     f: Pfn,
     page: Page,
@@ -83,14 +83,14 @@ fn is_demand_zero(config: &Config, behind: Option<Behind>) -> bool
 }
 
 /// Whether the page that is made of zeros there isn't charged.
-fn is_uncharged(config: &Config, pager: &LogPager, p: Proc, v: u32) -> bool
+fn is_uncharged(config: &Config, pager: &ShadowPager, p: Proc, v: u32) -> bool
     ensures { IsTrue result ↔ (count_page (shown pager.now).pager.charged (zeroed_page config.now p.0 v ((shown pager.now).pager.map p.0 v)) ≡ 0) }
 {
     pager.charges(pager.zeroed_page(config, p, v)) == 0
 }
 
 /// Why a page of zeros may not be made there.
-fn zeros_fail(config: &Config, pager: &LogPager, p: Proc, v: u32) -> Option<Reason>
+fn zeros_fail(config: &Config, pager: &ShadowPager, p: Proc, v: u32) -> Option<Reason>
     ensures legal { IsNone result ↔ (IsDemandZero config.now ((shown pager.now).pager.map p.0 v)
         × (count_page (shown pager.now).pager.charged (zeroed_page config.now p.0 v ((shown pager.now).pager.map p.0 v)) ≡ 0)
         × (length (shown pager.now).pager.charged < config.now.pagefile)) }
@@ -109,7 +109,13 @@ fn zeros_fail(config: &Config, pager: &LogPager, p: Proc, v: u32) -> Option<Reas
 }
 
 /// Why a page of zeros of a seat's process may not get the frame.
-pub fn zero_fails(config: &Config, pager: &LogPager, seat: Seat, a: Addr, f: Pfn) -> Option<Reason>
+pub fn zero_fails(
+    config: &Config,
+    pager: &ShadowPager,
+    seat: Seat,
+    a: Addr,
+    f: Pfn,
+) -> Option<Reason>
     requires { (shown pager.now).processes ≡ length config.now.procs }
     ensures legal { IsNone result ↔ IsZero config.now (shown pager.now).pager seat.0 a.0 f.0 }
     ensures said { IfSome result (ZeroFails config.now (shown pager.now).pager seat.0 a.0 f.0) }
@@ -142,7 +148,7 @@ fn may_come_back(from: FrameState) -> bool
 }
 
 /// Why a page isn't in a frame of this state, or is valid.
-fn stay_fails(config: &Config, pager: &LogPager, back: Back) -> Option<Reason>
+fn stay_fails(config: &Config, pager: &ShadowPager, back: Back) -> Option<Reason>
     ensures legal { IsNone result ↔ ((page : AnyPage) × (page_by config.now (shown pager.now).pager.map (back.process).0 (page_number (back.at).0) ≡ Some page) × ((shown pager.now).pager.page (back.frame).0 ≡ Some page)
         × (entries_at (shown pager.now).pager.valid (back.process).0 (page_number (back.at).0) ≡ 0) × ((shown pager.now).pager.state (back.frame).0 ≡ back.from)) }
     ensures said { IfSome result (StayFails config.now (shown pager.now).pager (back.process).0 (page_number (back.at).0) (back.frame).0 back.from) }
@@ -162,7 +168,7 @@ fn stay_fails(config: &Config, pager: &LogPager, back: Back) -> Option<Reason>
 }
 
 /// Why a page of a resident process may not come back.
-fn back_resident_fails(config: &Config, pager: &LogPager, back: Back) -> Option<Reason>
+fn back_resident_fails(config: &Config, pager: &ShadowPager, back: Back) -> Option<Reason>
     requires { (shown pager.now).processes ≡ length config.now.procs }
     ensures legal { IsNone result ↔ IsBack config.now (shown pager.now).pager (back.process).0 (back.at).0 (back.frame).0 back.from }
     ensures said { IfSome result (ResidentBackFails config.now (shown pager.now).pager (back.process).0 (back.at).0 (back.frame).0 back.from) }
@@ -190,7 +196,7 @@ fn is_swap_of(block: Option<BlockId>, p: Proc) -> bool
 }
 
 /// Why a page doesn't come from the free list, or doesn't lie in a swap block of the process.
-fn swapped_fails(config: &Config, pager: &LogPager, back: Back) -> Option<Reason>
+fn swapped_fails(config: &Config, pager: &ShadowPager, back: Back) -> Option<Reason>
     requires { (page : AnyPage) × (page_by config.now (shown pager.now).pager.map (back.process).0 (page_number (back.at).0) ≡ Some page) }
     ensures legal { IsNone result ↔ ((back.from ≡ FrameState.Free) × ((page : AnyPage) × (n : ℕ) × (page_by config.now (shown pager.now).pager.map (back.process).0 (page_number (back.at).0) ≡ Some page)
         × ((shown pager.now).pager.lies page ≡ Some (Block.Swap (proc (back.process).0) n)))) }
@@ -212,7 +218,7 @@ fn swapped_fails(config: &Config, pager: &LogPager, back: Back) -> Option<Reason
 }
 
 /// Why a page of a coming process may not come back.
-fn back_coming_fails(config: &Config, pager: &LogPager, back: Back) -> Option<Reason>
+fn back_coming_fails(config: &Config, pager: &ShadowPager, back: Back) -> Option<Reason>
     requires { (shown pager.now).pager.status (back.process).0 ≡ ProcStatus.Coming }
     ensures legal { IsNone result ↔ IsBackComing config.now (shown pager.now).pager (back.process).0 (back.at).0 (back.frame).0 back.from }
     ensures said { IfSome result (ComingBackFails config.now (shown pager.now).pager (back.process).0 (back.at).0 (back.frame).0 back.from) }
@@ -226,7 +232,7 @@ fn back_coming_fails(config: &Config, pager: &LogPager, back: Back) -> Option<Re
 /// Why a page that is still in a frame may not come back to a process.
 pub fn back_fails(
     config: &Config,
-    pager: &LogPager,
+    pager: &ShadowPager,
     seat: Seat,
     p: Proc,
     a: Addr,

@@ -10,16 +10,16 @@ ghost use Rattle.pager_model.specs.Lookups.{page_by, section_at};
 ghost use Rattle.pager_model.specs.Maps.{page_number};
 ghost use Rattle.pager_model.specs.Own.{IsEmptyHead, IsResident};
 ghost use Rattle.pager_model.specs.Transfers.{IsHome};
-ghost use Rattle.log_history.specs.Directions.{direction_of};
+ghost use Rattle.shadow_history.specs.Directions.{direction_of};
 ghost use Rattle.log_reasons.specs.ReadReasons.{ComePageFails, FaultPageFails, FromFails, InComeFails, InFails, InFaultFails, InNearFails, LyingFails, LyingPageFails, MayReadFails, NearFails};
-ghost use Rattle.log_pager.specs.Shown.{shown};
+ghost use Rattle.shadow_pager.specs.Shown.{shown};
 
 use crate::blocks::home_fails;
-use log_history::{Direction, LogHistory};
-use log_pager::LogPager;
 use log_reasons::Reason;
-use log_tables::Behind;
 use row_requests::{empty_head_fails, is_private, own_fails, room_fails};
+use shadow_history::{Direction, ShadowHistory};
+use shadow_pager::ShadowPager;
+use shadow_tables::Behind;
 use vm_journal::Role;
 use vm_types::{Addr, BlockId, Config, Origin, Page, Pfn, Proc, ProcStatus, Seat};
 
@@ -42,7 +42,14 @@ fn section_at(behind: Option<Behind>) -> Option<BlockId>
 }
 
 /// Whether it is the first read of a copy on reference page, which isn't charged yet.
-fn is_first(config: &Config, pager: &LogPager, p: Proc, v: u32, block: BlockId, page: Page) -> bool
+fn is_first(
+    config: &Config,
+    pager: &ShadowPager,
+    p: Proc,
+    v: u32,
+    block: BlockId,
+    page: Page,
+) -> bool
     ensures { IsTrue result ↔ IsFirstIn config.now (shown pager.now).pager p.0 v block page }
 {
     is_private(page)
@@ -52,7 +59,7 @@ fn is_first(config: &Config, pager: &LogPager, p: Proc, v: u32, block: BlockId, 
 }
 
 /// Why a resident process with room below its limit may not have the block read into the frame.
-fn may_read_fails(past: &LogHistory<'_>, pager: &LogPager, read: Read) -> Option<Reason>
+fn may_read_fails(past: &ShadowHistory<'_>, pager: &ShadowPager, read: Read) -> Option<Reason>
     requires { (shown pager.now).processes ≡ length past.now.config.procs }
     ensures legal { IsNone result ↔ (IsResident past.now.config (shown pager.now).pager (read.seat).0 × IsHome past.now.config read.block (open_flights past.now.past)
         × IsEmptyHead (shown pager.now).pager (read.frame).0 × (filled ((shown pager.now).pager.ring (read.seat).0).slots < (shown pager.now).pager.limit (read.seat).0)) }
@@ -73,8 +80,8 @@ fn may_read_fails(past: &LogHistory<'_>, pager: &LogPager, read: Read) -> Option
 
 /// Why a page isn't out, or is read neither from the block in which it lies nor for the first time.
 fn from_fails(
-    past: &LogHistory<'_>,
-    pager: &LogPager,
+    past: &ShadowHistory<'_>,
+    pager: &ShadowPager,
     p: Proc,
     v: u32,
     block: BlockId,
@@ -95,8 +102,8 @@ fn from_fails(
 
 /// Why a read of this page for a fault may not begin.
 fn fault_page_fails(
-    past: &LogHistory<'_>,
-    pager: &LogPager,
+    past: &ShadowHistory<'_>,
+    pager: &ShadowPager,
     read: Read,
     q: Proc,
     a: Addr,
@@ -120,7 +127,7 @@ fn fault_page_fails(
 }
 
 /// The page that a process has at a page number.
-fn page_of(past: &LogHistory<'_>, pager: &LogPager, p: Proc, v: u32) -> Option<Page>
+fn page_of(past: &ShadowHistory<'_>, pager: &ShadowPager, p: Proc, v: u32) -> Option<Page>
     ensures { result ≡ page_by past.now.config (shown pager.now).pager.map p.0 v }
 {
     pager.page_of(past.config(), p, v)
@@ -128,8 +135,8 @@ fn page_of(past: &LogHistory<'_>, pager: &LogPager, p: Proc, v: u32) -> Option<P
 
 /// Why a read for a fault may not begin.
 fn in_fault_fails(
-    past: &LogHistory<'_>,
-    pager: &LogPager,
+    past: &ShadowHistory<'_>,
+    pager: &ShadowPager,
     read: Read,
     q: Proc,
     a: Addr,
@@ -145,7 +152,7 @@ fn in_fault_fails(
 }
 
 /// Why a page isn't out, or doesn't lie in the block.
-fn lying_page_fails(pager: &LogPager, block: BlockId, page: Page) -> Option<Reason>
+fn lying_page_fails(pager: &ShadowPager, block: BlockId, page: Page) -> Option<Reason>
     ensures legal { IsNone result ↔ (((g : ℕ) → (shown pager.now).pager.page g ≡ Some page → ⊥) × ((shown pager.now).pager.lies page ≡ Some block)) }
     ensures said { IfSome result (LyingPageFails (shown pager.now).pager block page) }
 {
@@ -160,7 +167,12 @@ fn lying_page_fails(pager: &LogPager, block: BlockId, page: Page) -> Option<Reas
 }
 
 /// Why a read of a page from the block may not begin.
-fn lying_fails(past: &LogHistory<'_>, pager: &LogPager, read: Read, page: Page) -> Option<Reason>
+fn lying_fails(
+    past: &ShadowHistory<'_>,
+    pager: &ShadowPager,
+    read: Read,
+    page: Page,
+) -> Option<Reason>
     ensures legal { IsNone result ↔ IsInLying past.now.config past.now.past (shown pager.now).pager (read.frame).0 read.block page }
     ensures said { IfSome result (LyingFails past.now.config past.now.past (shown pager.now).pager (read.frame).0 read.block page) }
 {
@@ -196,7 +208,7 @@ fn is_kin(one: Page, other: Page) -> bool
 }
 
 /// Whether the frame holds a page of the same kin.
-fn holds_kin(pager: &LogPager, f: Pfn, page: Page) -> bool
+fn holds_kin(pager: &ShadowPager, f: Pfn, page: Page) -> bool
     ensures { IsTrue result ↔ ((before : AnyPage) × ((shown pager.now).pager.page f.0 ≡ Some before) × (is_kin before page ≡ true)) }
 {
     match pager.page(f) {
@@ -207,7 +219,12 @@ fn holds_kin(pager: &LogPager, f: Pfn, page: Page) -> bool
 
 /// Why a page isn't a neighbour of the seat's last flight: that is no open read for a fault or a
 /// neighbour, or of no page of its kin.
-fn near_fails(past: &LogHistory<'_>, pager: &LogPager, seat: Seat, page: Page) -> Option<Reason>
+fn near_fails(
+    past: &ShadowHistory<'_>,
+    pager: &ShadowPager,
+    seat: Seat,
+    page: Page,
+) -> Option<Reason>
     requires { seat.0 < length past.now.config.procs + 2 }
     ensures legal { IsNone result ↔ ((last : OpenFlight) × ((carrying seat.0 past.now.past).last ≡ Some last) × (is_busy seat.0 (open_flights past.now.past) ≡ true) × (is_fault_or_near last.direction ≡ true)
         × ((before : AnyPage) × ((shown pager.now).pager.page last.frame ≡ Some before) × (is_kin before page ≡ true))) }
@@ -228,7 +245,12 @@ fn near_fails(past: &LogHistory<'_>, pager: &LogPager, seat: Seat, page: Page) -
 }
 
 /// Why a read of a neighbour may not begin.
-fn in_near_fails(past: &LogHistory<'_>, pager: &LogPager, read: Read, page: Page) -> Option<Reason>
+fn in_near_fails(
+    past: &ShadowHistory<'_>,
+    pager: &ShadowPager,
+    read: Read,
+    page: Page,
+) -> Option<Reason>
     requires { (read.seat).0 < length past.now.config.procs + 2 }
     ensures legal { IsNone result ↔ IsInNear past.now.config past.now.past (shown pager.now).pager (read.seat).0 (read.frame).0 read.block page }
     ensures said { IfSome result (InNearFails past.now.config past.now.past (shown pager.now).pager (read.seat).0 (read.frame).0 read.block page) }
@@ -251,8 +273,8 @@ fn is_swap_block(block: BlockId, p: Proc) -> bool
 
 /// Why a read for this page of a coming process may not begin.
 fn come_page_fails(
-    past: &LogHistory<'_>,
-    pager: &LogPager,
+    past: &ShadowHistory<'_>,
+    pager: &ShadowPager,
     read: Read,
     q: Proc,
     page: Page,
@@ -273,8 +295,8 @@ fn come_page_fails(
 
 /// Why a read for a page of a coming process may not begin.
 fn in_come_fails(
-    past: &LogHistory<'_>,
-    pager: &LogPager,
+    past: &ShadowHistory<'_>,
+    pager: &ShadowPager,
     read: Read,
     q: Proc,
     a: Addr,
@@ -290,8 +312,8 @@ fn in_come_fails(
 
 /// Why a read may not begin.
 pub fn in_fails(
-    past: &LogHistory<'_>,
-    pager: &LogPager,
+    past: &ShadowHistory<'_>,
+    pager: &ShadowPager,
     seat: Seat,
     f: Pfn,
     block: BlockId,

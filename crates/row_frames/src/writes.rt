@@ -10,19 +10,19 @@ ghost use Rattle.pager_model.specs.Out.{IsAnyOut, IsOut, IsOutBlock, IsOutSwap};
 ghost use Rattle.pager_model.specs.Pager.{Valid};
 ghost use Rattle.pager_model.specs.Transfers.{reads_on, writes_on};
 ghost use Rattle.log_reasons.specs.WriteReasons.{ChangedFails, ListedFails, OutFails, OutListedFails, OutSwapFails, PrivateFails, SlotFails, out_block};
-ghost use Rattle.log_pager.specs.Shown.{shown};
+ghost use Rattle.shadow_pager.specs.Shown.{shown};
 
 use crate::blocks::home_fails;
-use log_history::LogHistory;
-use log_pager::LogPager;
 use log_reasons::Reason;
-use log_tables::is_paged;
 use row_requests::is_private;
+use shadow_history::ShadowHistory;
+use shadow_pager::ShadowPager;
+use shadow_tables::is_paged;
 use vm_types::{BlockId, Config, Page, Pfn, Proc, ProcStatus};
 
 /// Whether a listed paged page may be written to a page file block: the one that is assigned to it
 /// or, if none is, a free one.
-fn is_own_block(config: &Config, pager: &LogPager, n: u32, page: Page) -> bool
+fn is_own_block(config: &Config, pager: &ShadowPager, n: u32, page: Page) -> bool
     ensures { IsTrue result ↔ ((block_of (shown pager.now).pager.assigned page ≡ Some n)
         ⊎ ((block_of (shown pager.now).pager.assigned page ≡ None) × (n < config.now.pagefile) × (count_by (is_owner (BlockId.PageFile n)) (shown pager.now).pager.assigned ≡ 0))) }
 {
@@ -33,7 +33,7 @@ fn is_own_block(config: &Config, pager: &LogPager, n: u32, page: Page) -> bool
 }
 
 /// Whether a page file block is the one to which a listed paged page is to be written.
-fn is_paged_block(config: &Config, pager: &LogPager, n: u32, page: Page) -> bool
+fn is_paged_block(config: &Config, pager: &ShadowPager, n: u32, page: Page) -> bool
     requires { is_paged config.now page ≡ true }
     ensures { IsTrue result ↔ IsOutBlock config.now (shown pager.now).pager (BlockId.PageFile n) page }
 {
@@ -41,7 +41,7 @@ fn is_paged_block(config: &Config, pager: &LogPager, n: u32, page: Page) -> bool
 }
 
 /// Whether the block is the one to which a listed page is to be written.
-fn is_out_block(config: &Config, pager: &LogPager, block: BlockId, page: Page) -> bool
+fn is_out_block(config: &Config, pager: &ShadowPager, block: BlockId, page: Page) -> bool
     ensures { IsTrue result ↔ IsOutBlock config.now (shown pager.now).pager block page }
 {
     if !is_paged(config, page) {
@@ -54,7 +54,7 @@ fn is_out_block(config: &Config, pager: &LogPager, block: BlockId, page: Page) -
 }
 
 /// The block to which a listed page is written; none where that is any free one of the page file.
-fn out_block(config: &Config, pager: &LogPager, page: Page) -> Option<BlockId>
+fn out_block(config: &Config, pager: &ShadowPager, page: Page) -> Option<BlockId>
     ensures { result ≡ out_block config.now (shown pager.now).pager page }
 {
     if !is_paged(config, page) {
@@ -67,7 +67,12 @@ fn out_block(config: &Config, pager: &LogPager, page: Page) -> Option<BlockId>
 }
 
 /// Why a frame isn't the modified list's head, or its page isn't written to the block.
-fn listed_fails(past: &LogHistory<'_>, pager: &LogPager, f: Pfn, block: BlockId) -> Option<Reason>
+fn listed_fails(
+    past: &ShadowHistory<'_>,
+    pager: &ShadowPager,
+    f: Pfn,
+    block: BlockId,
+) -> Option<Reason>
     ensures legal { IsNone result ↔ (IsHead (shown pager.now).pager.modified f.0
         × ((page : AnyPage) × ((shown pager.now).pager.page f.0 ≡ Some page) × IsOutBlock past.now.config (shown pager.now).pager block page)) }
     ensures said { IfSome result (ListedFails past.now.config (shown pager.now).pager f.0 block) }
@@ -89,8 +94,8 @@ fn listed_fails(past: &LogHistory<'_>, pager: &LogPager, f: Pfn, block: BlockId)
 
 /// Why a write of the modified list's head may not begin.
 fn out_listed_fails(
-    past: &LogHistory<'_>,
-    pager: &LogPager,
+    past: &ShadowHistory<'_>,
+    pager: &ShadowPager,
     f: Pfn,
     block: BlockId,
 ) -> Option<Reason>
@@ -104,7 +109,7 @@ fn out_listed_fails(
 }
 
 /// Why a frame holds no private page.
-fn private_fails(pager: &LogPager, f: Pfn) -> Option<Reason>
+fn private_fails(pager: &ShadowPager, f: Pfn) -> Option<Reason>
     ensures legal { IsNone result ↔ ((page : AnyPage) × ((shown pager.now).pager.page f.0 ≡ Some page) × (is_private page ≡ true)) }
     ensures said { IfSome result (PrivateFails (shown pager.now).pager f.0) }
 {
@@ -121,7 +126,7 @@ fn private_fails(pager: &LogPager, f: Pfn) -> Option<Reason>
 
 /// Why the slot of a process has no page that is valid in the frame, or a pinned one.
 #[tactic(auto, using(row_requests::proofs::Slots::held_there, row_requests::proofs::Slots::none_there))]
-fn slot_fails(pager: &LogPager, p: Proc, slot: u32, f: Pfn) -> Option<Reason>
+fn slot_fails(pager: &ShadowPager, p: Proc, slot: u32, f: Pfn) -> Option<Reason>
     requires { p.0 < (shown pager.now).processes }
     ensures legal { IsNone result ↔ ((held : Held) × (entry : Valid) × (slice_get ((shown pager.now).pager.ring p.0).slots slot ≡ Some (Some held))
         × (entry_of (shown pager.now).pager.valid p.0 held.vpn ≡ Some entry) × (entry.frame ≡ f.0) × (held.pinned ≡ false)) }
@@ -145,7 +150,12 @@ fn slot_fails(pager: &LogPager, p: Proc, slot: u32, f: Pfn) -> Option<Reason>
 }
 
 /// Why a frame has a flight, or its page lies in the block unmodified.
-fn changed_fails(past: &LogHistory<'_>, pager: &LogPager, f: Pfn, block: BlockId) -> Option<Reason>
+fn changed_fails(
+    past: &ShadowHistory<'_>,
+    pager: &ShadowPager,
+    f: Pfn,
+    block: BlockId,
+) -> Option<Reason>
     ensures legal { IsNone result ↔ ((reads_on f.0 (open_flights past.now.past) + writes_on f.0 (open_flights past.now.past) ≡ 0)
         × ((page : AnyPage) → (shown pager.now).pager.page f.0 ≡ Some page → (shown pager.now).pager.lies page ≡ Some block → (shown pager.now).pager.modify f.0 ≡ false → ⊥)) }
     ensures said { IfSome result (ChangedFails past.now.past (shown pager.now).pager f.0 block) }
@@ -167,8 +177,8 @@ fn changed_fails(past: &LogHistory<'_>, pager: &LogPager, f: Pfn, block: BlockId
 /// Why a write of a leaving process's page to a swap block of it may not begin.
 #[tactic(auto, using(row_requests::proofs::Slots::swap_process))]
 fn out_swap_fails(
-    past: &LogHistory<'_>,
-    pager: &LogPager,
+    past: &ShadowHistory<'_>,
+    pager: &ShadowPager,
     f: Pfn,
     p: Proc,
     slot: u32,
@@ -194,7 +204,13 @@ fn out_swap_fails(
 }
 
 /// Why a write to a swap block may not begin.
-fn swap_fails(past: &LogHistory<'_>, pager: &LogPager, f: Pfn, p: Proc, slot: u32) -> Option<Reason>
+fn swap_fails(
+    past: &ShadowHistory<'_>,
+    pager: &ShadowPager,
+    f: Pfn,
+    p: Proc,
+    slot: u32,
+) -> Option<Reason>
     requires { (shown pager.now).processes ≡ length past.now.config.procs }
     ensures legal { IsNone result ↔ IsAnyOut past.now.config past.now.past (shown pager.now).pager f.0 (BlockId.Swap p slot) }
     ensures said { IfSome result (OutSwapFails past.now.config past.now.past (shown pager.now).pager f.0 p slot) }
@@ -207,7 +223,12 @@ fn swap_fails(past: &LogHistory<'_>, pager: &LogPager, f: Pfn, p: Proc, slot: u3
 }
 
 /// Why a write may not begin.
-pub fn out_fails(past: &LogHistory<'_>, pager: &LogPager, f: Pfn, block: BlockId) -> Option<Reason>
+pub fn out_fails(
+    past: &ShadowHistory<'_>,
+    pager: &ShadowPager,
+    f: Pfn,
+    block: BlockId,
+) -> Option<Reason>
     requires { (shown pager.now).processes ≡ length past.now.config.procs }
     ensures legal { IsNone result ↔ IsAnyOut past.now.config past.now.past (shown pager.now).pager f.0 block }
     ensures said { IfSome result (OutFails block past.now.config past.now.past (shown pager.now).pager f.0) }

@@ -7,15 +7,15 @@ ghost use Rattle.vm_types.specs.declared.config.ProcSpec.{ProcSpec as AnySpec};
 ghost use Rattle.vm_types.specs.declared.reply.Answer.{Answer};
 ghost use Rattle.pager_model.specs.Served.{AreMapped, IsLocking, IsOverLocking, IsService, is_fixed_in, is_slot_in};
 ghost use Rattle.log_reasons.specs.ServedReasons.{CountFails, LockingFails, LocksFail, MappedFails, OverFails, OverLockingFails, PurgeFails, ServiceFails};
-ghost use Rattle.log_pager.specs.Shown.{shown};
+ghost use Rattle.shadow_pager.specs.Shown.{shown};
 ghost use Rattle.row_requests.specs.Marks.{is_marked_in, range_marked};
 
 use crate::own::spec_of;
 use crate::ranges::{Range, mapped_fails};
-use log_history::LogHistory;
-use log_pager::LogPager;
 use log_reasons::Reason;
-use log_tables::Ring;
+use shadow_history::ShadowHistory;
+use shadow_pager::ShadowPager;
+use shadow_tables::Ring;
 use vm_types::{Config, Proc, Service};
 
 /// How a page is kept in a working set: locked there, or pinned in memory.
@@ -85,7 +85,13 @@ fn marked_within(ring: &Ring, mark: Mark, range: Range) -> u32
 }
 
 /// Why the valid pages of a range don't get the mark, or aren't so many.
-fn mark_fails(config: &Config, pager: &LogPager, mark: Mark, range: Range, n: u32) -> Option<Reason>
+fn mark_fails(
+    config: &Config,
+    pager: &ShadowPager,
+    mark: Mark,
+    range: Range,
+    n: u32,
+) -> Option<Reason>
     requires range { IsRange (range.at).0 range.pages }
     requires process { (range.process).0 < (shown pager.now).processes }
     ensures legal { IsNone result ↔ IsLocking config.now (shown pager.now).pager (range.process).0 (range.at).0 range.pages (range_marked mark (range.at).0 range.pages ((shown pager.now).pager.ring (range.process).0)) n }
@@ -102,7 +108,7 @@ fn mark_fails(config: &Config, pager: &LogPager, mark: Mark, range: Range, n: u3
 }
 
 /// Why not more pages would be locked or pinned than the process may lock.
-fn over_mark_fails(config: &Config, pager: &LogPager, mark: Mark, range: Range) -> Option<Reason>
+fn over_mark_fails(config: &Config, pager: &ShadowPager, mark: Mark, range: Range) -> Option<Reason>
     requires range { IsRange (range.at).0 range.pages }
     requires process { (range.process).0 < (shown pager.now).processes }
     ensures legal { IsNone result ↔ IsOverLocking config.now (shown pager.now).pager (range.process).0 (range.at).0 range.pages (range_marked mark (range.at).0 range.pages ((shown pager.now).pager.ring (range.process).0)) }
@@ -121,7 +127,7 @@ fn over_mark_fails(config: &Config, pager: &LogPager, mark: Mark, range: Range) 
 /// Why the pages of a range don't lose the mark, or aren't so many.
 fn unmark_fails(
     config: &Config,
-    pager: &LogPager,
+    pager: &ShadowPager,
     mark: Mark,
     range: Range,
     n: u32,
@@ -138,7 +144,7 @@ fn unmark_fails(
 }
 
 /// Why some valid page of a range is neither locked nor pinned.
-pub(crate) fn purge_fails(pager: &LogPager, range: Range) -> Option<Reason>
+pub(crate) fn purge_fails(pager: &ShadowPager, range: Range) -> Option<Reason>
     requires { (range.process).0 < (shown pager.now).processes }
     ensures legal { IsNone result ↔ (count_by (is_slot_in (range.at).0 range.pages) ((shown pager.now).pager.ring (range.process).0).slots ≡ count_by (is_fixed_in (range.at).0 range.pages) ((shown pager.now).pager.ring (range.process).0).slots) }
     ensures said { IfSome result (PurgeFails (shown pager.now).pager (range.process).0 (range.at).0 range.pages) }
@@ -155,8 +161,8 @@ pub(crate) fn purge_fails(pager: &LogPager, range: Range) -> Option<Reason>
 
 /// Why a service isn't answered with this count of pages.
 pub(crate) fn counted_fails(
-    past: &LogHistory<'_>,
-    pager: &LogPager,
+    past: &ShadowHistory<'_>,
+    pager: &ShadowPager,
     process: Proc,
     s: Service,
     n: u32,
@@ -186,8 +192,8 @@ pub(crate) fn counted_fails(
 
 /// Why a service isn't refused for the bound on pages that a process may lock.
 pub(crate) fn lock_limit_fails(
-    past: &LogHistory<'_>,
-    pager: &LogPager,
+    past: &ShadowHistory<'_>,
+    pager: &ShadowPager,
     process: Proc,
     s: Service,
 ) -> Option<Reason>

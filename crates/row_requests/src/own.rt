@@ -5,14 +5,14 @@ ghost use Rattle.vm_types.specs.Ring.{filled};
 ghost use Rattle.pager_model.specs.Maps.{is_private};
 ghost use Rattle.pager_model.specs.Own.{IsEmptyHead, IsResident};
 ghost use Rattle.log_reasons.specs.OwnReasons.{EmptyHeadFails, OwnFails, RoomFails};
-ghost use Rattle.log_pager.specs.Shown.{shown};
+ghost use Rattle.shadow_pager.specs.Shown.{shown};
 
-use log_pager::LogPager;
 use log_reasons::Reason;
+use shadow_pager::ShadowPager;
 use vm_types::{Config, Page, Pfn, Proc, ProcSpec, ProcStatus};
 
 /// Why a process isn't there, or isn't resident.
-pub fn own_fails(config: &Config, pager: &LogPager, p: Proc) -> Option<Reason>
+pub fn own_fails(config: &Config, pager: &ShadowPager, p: Proc) -> Option<Reason>
     ensures legal { IsNone result ↔ IsResident config.now (shown pager.now).pager p.0 }
     ensures said { IfSome result (OwnFails config.now (shown pager.now).pager p.0) }
 {
@@ -28,7 +28,7 @@ pub fn own_fails(config: &Config, pager: &LogPager, p: Proc) -> Option<Reason>
 }
 
 /// Why a frame doesn't head the free list, or isn't empty.
-pub fn empty_head_fails(pager: &LogPager, f: Pfn) -> Option<Reason>
+pub fn empty_head_fails(pager: &ShadowPager, f: Pfn) -> Option<Reason>
     ensures legal { IsNone result ↔ IsEmptyHead (shown pager.now).pager f.0 }
     ensures said { IfSome result (EmptyHeadFails (shown pager.now).pager f.0) }
 {
@@ -42,7 +42,7 @@ pub fn empty_head_fails(pager: &LogPager, f: Pfn) -> Option<Reason>
 }
 
 /// Why a process has no room below its limit.
-pub fn room_fails(pager: &LogPager, p: Proc) -> Option<Reason>
+pub fn room_fails(pager: &ShadowPager, p: Proc) -> Option<Reason>
     requires { p.0 < (shown pager.now).processes }
     ensures legal { IsNone result ↔ (filled ((shown pager.now).pager.ring p.0).slots < (shown pager.now).pager.limit p.0) }
     ensures said { IfSome result (RoomFails (shown pager.now).pager p.0) }

@@ -7,12 +7,12 @@ ghost use Rattle.pager_model.specs.Limit.{IsLimit};
 ghost use Rattle.pager_model.specs.Lookups.{is_pending};
 ghost use Rattle.pager_model.specs.Turn.{IsLeavingTurn, IsTurn, IsTurned};
 ghost use Rattle.log_reasons.specs.ProcessReasons.{AdjustFails, AdjustedFails, TurnFails, TurnedFails};
-ghost use Rattle.log_pager.specs.Shown.{shown};
+ghost use Rattle.shadow_pager.specs.Shown.{shown};
 
 use crate::own::{own_fails, spec_of};
-use log_history::LogHistory;
-use log_pager::LogPager;
 use log_reasons::Reason;
+use shadow_history::ShadowHistory;
+use shadow_pager::ShadowPager;
 use vm_types::{Config, Params, Proc, ProcSpec, ProcStatus, Seat};
 
 /// Whether an adjustment is pending after so many references.
@@ -44,7 +44,7 @@ fn adjusted(params: &Params, spec: &ProcSpec, faults: u64, limit: u32, free: usi
 }
 
 /// The limit that the rule gives a process with these limits.
-fn right_limit(config: &Config, pager: &LogPager, p: Proc, spec: ProcSpec) -> u64
+fn right_limit(config: &Config, pager: &ShadowPager, p: Proc, spec: ProcSpec) -> u64
     ensures { result ≡ adjust config.now.params spec ((shown pager.now).pager.faults p.0) ((shown pager.now).pager.limit p.0) (length (shown pager.now).pager.free) }
 {
     let free = pager.free_frames();
@@ -58,7 +58,13 @@ fn right_limit(config: &Config, pager: &LogPager, p: Proc, spec: ProcSpec) -> u6
 }
 
 /// Why the rule doesn't give a process, if it is there, a limit of so many pages after so many faults.
-fn adjust_fails(config: &Config, pager: &LogPager, p: Proc, n: u32, faults: u64) -> Option<Reason>
+fn adjust_fails(
+    config: &Config,
+    pager: &ShadowPager,
+    p: Proc,
+    n: u32,
+    faults: u64,
+) -> Option<Reason>
     ensures legal { IsNone result ↔ ((is_pending config.now ((shown pager.now).pager.references p.0) ≡ true) × (faults ≡ (shown pager.now).pager.faults p.0)
         × ((spec : AnySpec) → slice_get config.now.procs p.0 ≡ Some spec
         → n ≡ adjust config.now.params spec ((shown pager.now).pager.faults p.0) ((shown pager.now).pager.limit p.0) (length (shown pager.now).pager.free))) }
@@ -83,7 +89,7 @@ fn adjust_fails(config: &Config, pager: &LogPager, p: Proc, n: u32, faults: u64)
 /// Why a seat's process may not have its limit adjusted to so many pages after so many faults.
 pub fn limit_fails(
     config: &Config,
-    pager: &LogPager,
+    pager: &ShadowPager,
     seat: Seat,
     n: u32,
     faults: u64,
@@ -99,7 +105,7 @@ pub fn limit_fails(
 }
 
 /// Why a process may not begin to leave.
-fn leaving_fails(past: &LogHistory<'_>, pager: &LogPager, p: Proc) -> Option<Reason>
+fn leaving_fails(past: &ShadowHistory<'_>, pager: &ShadowPager, p: Proc) -> Option<Reason>
     ensures legal { IsNone result ↔ IsLeavingTurn past.now.past (shown pager.now).pager p.0 }
     ensures said { IfSome result (TurnedFails past.now.past (shown pager.now).pager p.0 ProcStatus.Leaving) }
 {
@@ -117,7 +123,7 @@ fn leaving_fails(past: &LogHistory<'_>, pager: &LogPager, p: Proc) -> Option<Rea
 }
 
 /// Why a leaving process isn't gone.
-fn gone_fails(past: &LogHistory<'_>, pager: &LogPager, p: Proc) -> Option<Reason>
+fn gone_fails(past: &ShadowHistory<'_>, pager: &ShadowPager, p: Proc) -> Option<Reason>
     requires { p.0 < (shown pager.now).processes }
     ensures legal { IsNone result ↔ IsTurned past.now.past (shown pager.now).pager p.0 ProcStatus.Gone }
     ensures said { IfSome result (TurnedFails past.now.past (shown pager.now).pager p.0 ProcStatus.Gone) }
@@ -134,7 +140,7 @@ fn gone_fails(past: &LogHistory<'_>, pager: &LogPager, p: Proc) -> Option<Reason
 }
 
 /// Why a process may not begin to come.
-fn coming_fails(_past: &LogHistory<'_>, pager: &LogPager, p: Proc) -> Option<Reason>
+fn coming_fails(_past: &ShadowHistory<'_>, pager: &ShadowPager, p: Proc) -> Option<Reason>
     ensures legal { IsNone result ↔ IsTurned _past.now.past (shown pager.now).pager p.0 ProcStatus.Coming }
     ensures said { IfSome result (TurnedFails _past.now.past (shown pager.now).pager p.0 ProcStatus.Coming) }
 {
@@ -149,7 +155,7 @@ fn coming_fails(_past: &LogHistory<'_>, pager: &LogPager, p: Proc) -> Option<Rea
 }
 
 /// Why a coming process isn't resident.
-fn resident_fails(_past: &LogHistory<'_>, pager: &LogPager, p: Proc) -> Option<Reason>
+fn resident_fails(_past: &ShadowHistory<'_>, pager: &ShadowPager, p: Proc) -> Option<Reason>
     ensures legal { IsNone result ↔ IsTurned _past.now.past (shown pager.now).pager p.0 ProcStatus.Resident }
     ensures said { IfSome result (TurnedFails _past.now.past (shown pager.now).pager p.0 ProcStatus.Resident) }
 {
@@ -165,8 +171,8 @@ fn resident_fails(_past: &LogHistory<'_>, pager: &LogPager, p: Proc) -> Option<R
 
 /// Why a process may not change to a status.
 pub fn turn_fails(
-    past: &LogHistory<'_>,
-    pager: &LogPager,
+    past: &ShadowHistory<'_>,
+    pager: &ShadowPager,
     p: Proc,
     status: ProcStatus,
 ) -> Option<Reason>

@@ -10,11 +10,11 @@ ghost use Rattle.pager_model.specs.Maps.{proc};
 ghost use Rattle.pager_model.specs.Served.{AreMapped, IsInUse, IsUnmapped};
 ghost use Rattle.pager_model.specs.Transfers.{reads_on, writes_on};
 ghost use Rattle.log_reasons.specs.ServedReasons.{InUseFails, MappedFails, SomeUnmappedFails, UnmappedFails};
-ghost use Rattle.log_pager.specs.Shown.{shown};
+ghost use Rattle.shadow_pager.specs.Shown.{shown};
 
-use log_history::LogHistory;
-use log_pager::LogPager;
 use log_reasons::Reason;
+use shadow_history::ShadowHistory;
+use shadow_pager::ShadowPager;
 use vm_types::{Addr, Config, Page, Pfn, Proc};
 
 /// Pages of a process, from an address on.
@@ -26,7 +26,7 @@ pub(crate) struct Range {
 }
 
 /// Whether a page of a process is mapped.
-fn is_mapped(config: &Config, pager: &LogPager, p: Proc, v: u32) -> bool
+fn is_mapped(config: &Config, pager: &ShadowPager, p: Proc, v: u32) -> bool
     ensures yes { result ≡ true → (g : AnyPage) × (page_by config.now (shown pager.now).pager.map p.0 v ≡ Some g) }
     ensures no { result ≡ false → page_by config.now (shown pager.now).pager.map p.0 v ≡ None }
 {
@@ -37,7 +37,7 @@ fn is_mapped(config: &Config, pager: &LogPager, p: Proc, v: u32) -> bool
 }
 
 /// Whether a page of a process isn't mapped.
-fn is_unmapped_at(config: &Config, pager: &LogPager, p: Proc, v: u32) -> bool
+fn is_unmapped_at(config: &Config, pager: &ShadowPager, p: Proc, v: u32) -> bool
     ensures yes { result ≡ true → page_by config.now (shown pager.now).pager.map p.0 v ≡ None }
     ensures no { result ≡ false → (g : AnyPage) × (page_by config.now (shown pager.now).pager.map p.0 v ≡ Some g) }
 {
@@ -48,7 +48,7 @@ fn is_unmapped_at(config: &Config, pager: &LogPager, p: Proc, v: u32) -> bool
 }
 
 /// The first page of a range that isn't mapped.
-fn first_unmapped(config: &Config, pager: &LogPager, range: Range) -> Option<u32>
+fn first_unmapped(config: &Config, pager: &ShadowPager, range: Range) -> Option<u32>
     requires { IsRange (range.at).0 range.pages }
     ensures found { IfSome result (λ v. (in_range (range.at).0 range.pages v ≡ true) × (page_by config.now (shown pager.now).pager.map (range.process).0 v ≡ None)) }
     ensures none { IsNone result → AreMapped config.now (shown pager.now).pager (range.process).0 (range.at).0 range.pages }
@@ -63,7 +63,7 @@ fn first_unmapped(config: &Config, pager: &LogPager, range: Range) -> Option<u32
 }
 
 /// The first page of a range that is mapped.
-fn first_mapped(config: &Config, pager: &LogPager, range: Range) -> Option<u32>
+fn first_mapped(config: &Config, pager: &ShadowPager, range: Range) -> Option<u32>
     requires { IsRange (range.at).0 range.pages }
     ensures found { IfSome result (λ v. (in_range (range.at).0 range.pages v ≡ true) × ((g : AnyPage) × (page_by config.now (shown pager.now).pager.map (range.process).0 v ≡ Some g))) }
     ensures none { IsNone result → IsInUse config.now (shown pager.now).pager (range.process).0 (range.at).0 range.pages → ⊥ }
@@ -78,7 +78,7 @@ fn first_mapped(config: &Config, pager: &LogPager, range: Range) -> Option<u32>
 }
 
 /// Why not each page of a range is mapped.
-pub(crate) fn mapped_fails(config: &Config, pager: &LogPager, range: Range) -> Option<Reason>
+pub(crate) fn mapped_fails(config: &Config, pager: &ShadowPager, range: Range) -> Option<Reason>
     requires { IsRange (range.at).0 range.pages }
     ensures legal { IsNone result ↔ AreMapped config.now (shown pager.now).pager (range.process).0 (range.at).0 range.pages }
     ensures said { IfSome result (MappedFails config.now (shown pager.now).pager (range.process).0 (range.at).0 range.pages) }
@@ -90,7 +90,11 @@ pub(crate) fn mapped_fails(config: &Config, pager: &LogPager, range: Range) -> O
 }
 
 /// Why no page of a range isn't mapped.
-pub(crate) fn some_unmapped_fails(config: &Config, pager: &LogPager, range: Range) -> Option<Reason>
+pub(crate) fn some_unmapped_fails(
+    config: &Config,
+    pager: &ShadowPager,
+    range: Range,
+) -> Option<Reason>
     requires { IsRange (range.at).0 range.pages }
     ensures legal { IsNone result ↔ IsUnmapped config.now (shown pager.now).pager (range.process).0 (range.at).0 range.pages }
     ensures said { IfSome result (SomeUnmappedFails config.now (shown pager.now).pager (range.process).0 (range.at).0 range.pages) }
@@ -102,7 +106,7 @@ pub(crate) fn some_unmapped_fails(config: &Config, pager: &LogPager, range: Rang
 }
 
 /// Why some page of a range is mapped.
-pub(crate) fn unmapped_fails(config: &Config, pager: &LogPager, range: Range) -> Option<Reason>
+pub(crate) fn unmapped_fails(config: &Config, pager: &ShadowPager, range: Range) -> Option<Reason>
     requires { IsRange (range.at).0 range.pages }
     ensures legal { IsNone result ↔ ((v : ℕ) → in_range (range.at).0 range.pages v ≡ true → (shown pager.now).pager.map (range.process).0 v ≡ None) }
     ensures said { IfSome result (UnmappedFails config.now (shown pager.now).pager (range.process).0 (range.at).0 range.pages) }
@@ -114,7 +118,7 @@ pub(crate) fn unmapped_fails(config: &Config, pager: &LogPager, range: Range) ->
 }
 
 /// Why no page of a range is mapped.
-pub(crate) fn in_use_fails(config: &Config, pager: &LogPager, range: Range) -> Option<Reason>
+pub(crate) fn in_use_fails(config: &Config, pager: &ShadowPager, range: Range) -> Option<Reason>
     requires { IsRange (range.at).0 range.pages }
     ensures legal { IsNone result ↔ IsInUse config.now (shown pager.now).pager (range.process).0 (range.at).0 range.pages }
     ensures said { IfSome result (InUseFails config.now (shown pager.now).pager (range.process).0 (range.at).0 range.pages) }
@@ -126,7 +130,7 @@ pub(crate) fn in_use_fails(config: &Config, pager: &LogPager, range: Range) -> O
 }
 
 /// Whether a process has a valid entry for a page.
-fn is_valid_at(pager: &LogPager, p: Proc, v: u32) -> bool
+fn is_valid_at(pager: &ShadowPager, p: Proc, v: u32) -> bool
     ensures yes { result ≡ true → entries_at (shown pager.now).pager.valid p.0 v ≡ 0 → ⊥ }
     ensures no { result ≡ false → entries_at (shown pager.now).pager.valid p.0 v ≡ 0 }
 {
@@ -134,7 +138,7 @@ fn is_valid_at(pager: &LogPager, p: Proc, v: u32) -> bool
 }
 
 /// Whether no page of a range is valid.
-pub(crate) fn none_is_valid(pager: &LogPager, range: Range) -> bool
+pub(crate) fn none_is_valid(pager: &ShadowPager, range: Range) -> bool
     requires { IsRange (range.at).0 range.pages }
     ensures { IsTrue result ↔ ((v : ℕ) → in_range (range.at).0 range.pages v ≡ true → entries_at (shown pager.now).pager.valid (range.process).0 v ≡ 0) }
 {
@@ -156,7 +160,7 @@ fn is_in_range(range: Range, v: u32) -> bool
 }
 
 /// Whether a frame holds a private page of a process's range, and has a flight.
-fn flies(past: &LogHistory<'_>, pager: &LogPager, range: Range, f: Pfn) -> bool
+fn flies(past: &ShadowHistory<'_>, pager: &ShadowPager, range: Range, f: Pfn) -> bool
     ensures { IsTrue result ↔ ((v : ℕ) × (in_range (range.at).0 range.pages v ≡ true) × ((shown pager.now).pager.page f.0 ≡ Some (AnyPage.Private (proc (range.process).0) v))
         × (reads_on f.0 (open_flights past.now.past) + writes_on f.0 (open_flights past.now.past) ≡ 0 → ⊥)) }
 {
@@ -169,7 +173,7 @@ fn flies(past: &LogHistory<'_>, pager: &LogPager, range: Range, f: Pfn) -> bool
 }
 
 /// Whether no frame with a private page of a process's range has a flight.
-pub(crate) fn none_flies(past: &LogHistory<'_>, pager: &LogPager, range: Range) -> bool
+pub(crate) fn none_flies(past: &ShadowHistory<'_>, pager: &ShadowPager, range: Range) -> bool
     requires { (shown pager.now).frames ≤ 16384 }
     ensures { IsTrue result ↔ ((v f : ℕ) → in_range (range.at).0 range.pages v ≡ true → (shown pager.now).pager.page f ≡ Some (AnyPage.Private (proc (range.process).0) v)
         → reads_on f (open_flights past.now.past) + writes_on f (open_flights past.now.past) ≡ 0) }

@@ -4,7 +4,7 @@ ghost use Rattle.std.specs.Prelude.{◌≡◌, ◌↔◌, ◌⊎◌, ◌+◌, �
 ghost use Rattle.vm_types.specs.declared.names.Page.{Page as AnyPage};
 ghost use Rattle.vm_types.specs.declared.names.Addr.{Addr as AnyAddress};
 ghost use Rattle.vm_types.specs.declared.names.Proc.{Proc as AnyProc};
-ghost use Rattle.log_history.specs.Directions.{direction_of};
+ghost use Rattle.shadow_history.specs.Directions.{direction_of};
 ghost use Rattle.pager_model.specs.Carrier.{HasLost, carrying};
 ghost use Rattle.pager_model.specs.Denied.{IsDenial, IsDenied, IsDeniedFault, IsFlatWhy};
 ghost use Rattle.pager_model.specs.Done.{Allows, IsDone};
@@ -17,16 +17,16 @@ ghost use Rattle.pager_model.specs.Pager.{Valid};
 ghost use Rattle.pager_model.specs.Spoken.{flat_after};
 ghost use Rattle.log_reasons.specs.DeniedReasons.{DeniedFails, DeniedFaultFails, FlatDeniedFails, LostFails, LostForFails, RoleForFails, WaitsForFails, WayForFails};
 ghost use Rattle.log_reasons.specs.ProcessReasons.{AnsweredFails, DoneFails};
-ghost use Rattle.log_pager.specs.Shown.{shown};
+ghost use Rattle.shadow_pager.specs.Shown.{shown};
 ghost use Rattle.row_requests.specs.FollowsFlat.{FollowsFlat};
 
 use crate::own::own_fails;
 use crate::processes::is_pending;
 use crate::refusals::{is_allowed, refusal};
-use log_history::{Direction, LogHistory};
-use log_pager::LogPager;
 use log_reasons::Reason;
-use log_tables::Behind;
+use shadow_history::{Direction, ShadowHistory};
+use shadow_pager::ShadowPager;
+use shadow_tables::Behind;
 use vm_journal::Role;
 use vm_types::{Addr, Config, Proc, ProcStatus, Ref, Seat, Why};
 
@@ -42,7 +42,7 @@ fn allows(behind: Option<Behind>, r: Ref) -> bool
 }
 
 /// Whether a process has a valid entry for a page.
-fn is_valid(pager: &LogPager, p: Proc, v: u32) -> bool
+fn is_valid(pager: &ShadowPager, p: Proc, v: u32) -> bool
     ensures { IsTrue result ↔ ((e : Valid) × (entry_of (shown pager.now).pager.valid p.0 v ≡ Some e)) }
 {
     match pager.entry(p, v) {
@@ -52,7 +52,7 @@ fn is_valid(pager: &LogPager, p: Proc, v: u32) -> bool
 }
 
 /// Why a reference of a resident process isn't answered.
-fn answered_fails(config: &Config, pager: &LogPager, p: Proc, r: Ref) -> Option<Reason>
+fn answered_fails(config: &Config, pager: &ShadowPager, p: Proc, r: Ref) -> Option<Reason>
     requires { MapsRight config.now (shown pager.now).pager.map }
     ensures legal { IsNone result ↔ ((is_pending config.now ((shown pager.now).pager.references p.0) ≡ false) × Allows ((shown pager.now).pager.map p.0 (page_number (r.addr).0)) r
         × ((e : Valid) × (entry_of (shown pager.now).pager.valid p.0 (page_number (r.addr).0) ≡ Some e))) }
@@ -77,7 +77,7 @@ fn answered_fails(config: &Config, pager: &LogPager, p: Proc, r: Ref) -> Option<
 }
 
 /// Why a reference is not answered.
-pub fn done_fails(config: &Config, pager: &LogPager, seat: Seat, r: Ref) -> Option<Reason>
+pub fn done_fails(config: &Config, pager: &ShadowPager, seat: Seat, r: Ref) -> Option<Reason>
     requires { MapsRight config.now (shown pager.now).pager.map }
     ensures legal { IsNone result ↔ IsDone config.now (shown pager.now).pager seat.0 r }
     ensures said { IfSome result (DoneFails config.now (shown pager.now).pager seat.0 r) }
@@ -90,7 +90,7 @@ pub fn done_fails(config: &Config, pager: &LogPager, seat: Seat, r: Ref) -> Opti
 }
 
 /// Why the flat machine after these entries refuses a reference, if it does.
-fn flat_refusal_of(past: &LogHistory<'_>, pager: &LogPager, p: Proc, r: Ref) -> Option<Why>
+fn flat_refusal_of(past: &ShadowHistory<'_>, pager: &ShadowPager, p: Proc, r: Ref) -> Option<Why>
     requires { FollowsFlat past.now.config past.now.past (shown pager.now).pager }
     ensures { result ≡ flat_refusal past.now.config (flat_after past.now.config past.now.past) p.0 r }
 {
@@ -99,8 +99,8 @@ fn flat_refusal_of(past: &LogHistory<'_>, pager: &LogPager, p: Proc, r: Ref) -> 
 
 /// Why a reference of a process isn't refused for the flat machine's reason.
 fn refused_fails(
-    past: &LogHistory<'_>,
-    pager: &LogPager,
+    past: &ShadowHistory<'_>,
+    pager: &ShadowPager,
     p: Proc,
     r: Ref,
     why: Why,
@@ -160,7 +160,7 @@ fn way_for_fails(direction: Direction, a: Addr) -> Option<Reason>
 }
 
 /// Why the first read of a seat's last carrier, which was for a fault, wasn't for the page of this address.
-fn lost_for_fails(past: &LogHistory<'_>, seat: Seat, a: Addr) -> Option<Reason>
+fn lost_for_fails(past: &ShadowHistory<'_>, seat: Seat, a: Addr) -> Option<Reason>
     requires { seat.0 < length past.now.config.procs + 2 }
     ensures legal { IsNone result ↔ ((x : OpenFlight) (q : AnyProc) (at : AnyAddress) → (carrying seat.0 past.now.past).first ≡ Some x
         → x.direction ≡ reading (Role.Fault q at) → at.0 ≡ page_number a.0 * 512) }
@@ -173,7 +173,7 @@ fn lost_for_fails(past: &LogHistory<'_>, seat: Seat, a: Addr) -> Option<Reason>
 }
 
 /// Why a process's last carrier isn't lost.
-fn lost_fails(past: &LogHistory<'_>, seat: Seat) -> Option<Reason>
+fn lost_fails(past: &ShadowHistory<'_>, seat: Seat) -> Option<Reason>
     ensures legal { IsNone result ↔ ((seat.0 < length past.now.config.procs) × HasLost past.now.past seat.0) }
     ensures said { IfSome result (LostFails past.now.config past.now.past seat.0) }
 {
@@ -188,7 +188,7 @@ fn lost_fails(past: &LogHistory<'_>, seat: Seat) -> Option<Reason>
 }
 
 /// Why a resident process doesn't wait for the page: it isn't mapped, or is valid.
-fn waits_for_fails(config: &Config, pager: &LogPager, p: Proc, v: u32) -> Option<Reason>
+fn waits_for_fails(config: &Config, pager: &ShadowPager, p: Proc, v: u32) -> Option<Reason>
     ensures legal { IsNone result ↔ (((shown pager.now).pager.status p.0 ≡ ProcStatus.Resident → ⊥)
         ⊎ ((g : AnyPage) × (page_by config.now (shown pager.now).pager.map p.0 v ≡ Some g) × (entries_at (shown pager.now).pager.valid p.0 v ≡ 0))) }
     ensures said { IfSome result (WaitsForFails config.now (shown pager.now).pager p.0 v) }
@@ -208,7 +208,12 @@ fn waits_for_fails(config: &Config, pager: &LogPager, p: Proc, v: u32) -> Option
 }
 
 /// Why a reference isn't refused for a lost carrier.
-fn denied_fault_fails(past: &LogHistory<'_>, pager: &LogPager, seat: Seat, r: Ref) -> Option<Reason>
+fn denied_fault_fails(
+    past: &ShadowHistory<'_>,
+    pager: &ShadowPager,
+    seat: Seat,
+    r: Ref,
+) -> Option<Reason>
     ensures legal { IsNone result ↔ IsDeniedFault past.now.config past.now.past (shown pager.now).pager seat.0 r Why.DiskFault }
     ensures said { IfSome result (DeniedFaultFails past.now.config past.now.past (shown pager.now).pager seat.0 r) }
 {
@@ -223,8 +228,8 @@ fn denied_fault_fails(past: &LogHistory<'_>, pager: &LogPager, seat: Seat, r: Re
 
 /// Why a reference isn't refused.
 pub fn denied_fails(
-    past: &LogHistory<'_>,
-    pager: &LogPager,
+    past: &ShadowHistory<'_>,
+    pager: &ShadowPager,
     seat: Seat,
     r: Ref,
     why: Why,

@@ -6,10 +6,10 @@ ghost use Rattle.vm_types.specs.declared.names.Page.{Page as AnyPage};
 ghost use Rattle.pager_model.specs.Flat.{flat_refusal, is_change, is_page_file_full, refusal_at};
 ghost use Rattle.pager_model.specs.Maps.{page_behind, page_number};
 ghost use Rattle.pager_model.specs.OfConfig.{MapsRight};
-ghost use Rattle.log_pager.specs.Shown.{shown};
+ghost use Rattle.shadow_pager.specs.Shown.{shown};
 
-use log_pager::LogPager;
-use log_tables::{Behind, is_paged};
+use shadow_pager::ShadowPager;
+use shadow_tables::{Behind, is_paged};
 use vm_types::{Config, Op, Page, Proc, Ref, Why, allowed};
 
 /// Whether an operation changes a page.
@@ -31,7 +31,7 @@ pub(crate) fn is_allowed(behind: Behind, r: Ref) -> bool
 }
 
 /// Whether the page file has no block for the page's first touch.
-fn is_page_file_full(config: &Config, pager: &LogPager, page: Page) -> bool
+fn is_page_file_full(config: &Config, pager: &ShadowPager, page: Page) -> bool
     ensures { (stored : AnyPage → List ℕ) → result ≡ is_page_file_full config.now (record { map = (shown pager.now).pager.map; touched = (shown pager.now).pager.touched; stored = stored }) page }
 {
     is_paged(config, page)
@@ -40,7 +40,7 @@ fn is_page_file_full(config: &Config, pager: &LogPager, page: Page) -> bool
 }
 
 /// Whether the page file has no block for the first touch of a mapped page.
-fn is_full_at(config: &Config, pager: &LogPager, p: Proc, v: u32, behind: Behind) -> bool
+fn is_full_at(config: &Config, pager: &ShadowPager, p: Proc, v: u32, behind: Behind) -> bool
     requires { (shown pager.now).pager.map p.0 v ≡ Some behind }
     ensures { (stored : AnyPage → List ℕ) → result ≡ is_page_file_full config.now (record { map = (shown pager.now).pager.map; touched = (shown pager.now).pager.touched; stored = stored }) (page_behind config.now p.0 v behind.origin) }
 {
@@ -65,7 +65,7 @@ fn refusal_by(is_allowed: bool, is_full: bool) -> Option<Why>
 }
 
 /// Why a reference to a page that is mapped to this is refused, if it is.
-fn refusal_at(config: &Config, pager: &LogPager, p: Proc, r: Ref, behind: Behind) -> Option<Why>
+fn refusal_at(config: &Config, pager: &ShadowPager, p: Proc, r: Ref, behind: Behind) -> Option<Why>
     requires code { behind.prot < 16 }
     requires mapped { (shown pager.now).pager.map p.0 (page_number (r.addr).0) ≡ Some behind }
     ensures { (stored : AnyPage → List ℕ) → result ≡ refusal_at config.now (record { map = (shown pager.now).pager.map; touched = (shown pager.now).pager.touched; stored = stored }) p.0 r (Some behind) }
@@ -77,7 +77,7 @@ fn refusal_at(config: &Config, pager: &LogPager, p: Proc, r: Ref, behind: Behind
 }
 
 /// Why a reference of a process (any number) is refused, if it is.
-pub fn refusal(config: &Config, pager: &LogPager, p: Proc, r: Ref) -> Option<Why>
+pub fn refusal(config: &Config, pager: &ShadowPager, p: Proc, r: Ref) -> Option<Why>
     requires { MapsRight config.now (shown pager.now).pager.map }
     ensures { (stored : AnyPage → List ℕ) → result ≡ flat_refusal config.now (record { map = (shown pager.now).pager.map; touched = (shown pager.now).pager.touched; stored = stored }) p.0 r }
 {

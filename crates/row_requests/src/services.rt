@@ -4,7 +4,7 @@ ghost use Rattle.std.specs.Prelude.{◌≡◌, ◌↔◌, ◌⊎◌, ◌<◌, �
 ghost use Rattle.vm_types.specs.WellFormed.{IsRange, IsServiceOf, IsWellFormedService};
 ghost use Rattle.pager_model.specs.Served.{IsDelete, IsServed, IsServedFault, IsService, may_fail};
 ghost use Rattle.log_reasons.specs.ServedReasons.{DeleteFails, ServedFails, ServedFaultFails, ServiceFails};
-ghost use Rattle.log_pager.specs.Shown.{shown};
+ghost use Rattle.shadow_pager.specs.Shown.{shown};
 
 use crate::limits::{bad_limit_fails, limit_fails};
 use crate::locking::{counted_fails, lock_limit_fails, purge_fails};
@@ -13,13 +13,13 @@ use crate::ranges::{
     Range, in_use_fails, mapped_fails, none_flies, none_is_valid, some_unmapped_fails,
     unmapped_fails,
 };
-use log_history::LogHistory;
-use log_pager::LogPager;
 use log_reasons::Reason;
+use shadow_history::ShadowHistory;
+use shadow_pager::ShadowPager;
 use vm_types::{Answer, Proc, ProcStatus, Seat, Service, Version};
 
 /// Why a range may not be deleted.
-fn delete_fails(past: &LogHistory<'_>, pager: &LogPager, range: Range) -> Option<Reason>
+fn delete_fails(past: &ShadowHistory<'_>, pager: &ShadowPager, range: Range) -> Option<Reason>
     requires range { IsRange (range.at).0 range.pages }
     requires frames { (shown pager.now).frames ≤ 16384 }
     ensures legal { IsNone result ↔ IsDelete past.now.config past.now.past (shown pager.now).pager (range.process).0 (range.at).0 range.pages }
@@ -38,7 +38,12 @@ fn delete_fails(past: &LogHistory<'_>, pager: &LogPager, range: Range) -> Option
 }
 
 /// Why a service isn't answered by that it was done, without a count.
-fn good_fails(past: &LogHistory<'_>, pager: &LogPager, process: Proc, s: Service) -> Option<Reason>
+fn good_fails(
+    past: &ShadowHistory<'_>,
+    pager: &ShadowPager,
+    process: Proc,
+    s: Service,
+) -> Option<Reason>
     requires formed { IsWellFormedService s }
     requires process { process.0 < (shown pager.now).processes }
     requires frames { (shown pager.now).frames ≤ 16384 }
@@ -62,8 +67,8 @@ fn good_fails(past: &LogHistory<'_>, pager: &LogPager, process: Proc, s: Service
 
 /// Why a service isn't refused for a page of its range that isn't mapped.
 fn refused_fails(
-    past: &LogHistory<'_>,
-    pager: &LogPager,
+    past: &ShadowHistory<'_>,
+    pager: &ShadowPager,
     process: Proc,
     s: Service,
 ) -> Option<Reason>
@@ -88,8 +93,8 @@ fn refused_fails(
 
 /// Why a process's service isn't answered so, if not by a failure.
 fn service_fails(
-    past: &LogHistory<'_>,
-    pager: &LogPager,
+    past: &ShadowHistory<'_>,
+    pager: &ShadowPager,
     process: Proc,
     s: Service,
     answer: Answer,
@@ -143,7 +148,12 @@ fn may_fail(s: Service) -> bool
 }
 
 /// Why a service isn't refused for a lost carrier.
-fn fault_fails(past: &LogHistory<'_>, pager: &LogPager, seat: Seat, s: Service) -> Option<Reason>
+fn fault_fails(
+    past: &ShadowHistory<'_>,
+    pager: &ShadowPager,
+    seat: Seat,
+    s: Service,
+) -> Option<Reason>
     ensures legal { IsNone result ↔ IsServedFault past.now.config past.now.past (shown pager.now).pager seat.0 s }
     ensures said { IfSome result (ServedFaultFails past.now.config past.now.past (shown pager.now).pager seat.0 s) }
 {
@@ -165,8 +175,8 @@ fn fault_fails(past: &LogHistory<'_>, pager: &LogPager, seat: Seat, s: Service) 
 
 /// Why a service isn't answered so, if it isn't. Doesn't allocate.
 pub fn served_fails(
-    past: &LogHistory<'_>,
-    pager: &LogPager,
+    past: &ShadowHistory<'_>,
+    pager: &ShadowPager,
     seat: Seat,
     s: Service,
     answer: Answer,

@@ -6,8 +6,8 @@ ghost use Rattle.pager_model.specs.Flights.{Flight as OpenFlight, awaits_reuse, 
 ghost use Rattle.pager_model.specs.InTurn.{InTurn, MayJoin, is_flight_work, is_reuse_of};
 ghost use Rattle.log_reasons.specs.SeatReasons.{FlightWorkFails, InTurnFails, JoinsFail, MayJoinFails, ReuseNextFails};
 
-use log_history::{Carrying, Flight, LogHistory};
 use log_reasons::Reason;
+use shadow_history::{Carrying, Flight, ShadowHistory};
 use vm_journal::{Entry, Role, What};
 use vm_types::{BlockId, Config, Seat, is_next_block};
 
@@ -101,7 +101,7 @@ fn write_joins_fail(config: &Config, c: Carrying, block: BlockId) -> Option<Reas
 }
 
 /// Why the flight that the entry begins, if it begins one, may not join its seat's carrier.
-fn joins_fail(past: &LogHistory<'_>, e: Entry) -> Option<Reason>
+fn joins_fail(past: &ShadowHistory<'_>, e: Entry) -> Option<Reason>
     requires seat { (e.seat).0 < length past.now.config.procs + 2 }
     requires busy { is_busy (e.seat).0 (open_flights past.now.past) ≡ true }
     ensures legal { IsNone result ↔ ((x : OpenFlight) → begun_by (length past.now.past + 1) (e.seat).0 e.what ≡ Some x → MayJoin past.now.config (carrying (e.seat).0 past.now.past) x) }
@@ -117,7 +117,7 @@ fn joins_fail(past: &LogHistory<'_>, e: Entry) -> Option<Reason>
 }
 
 /// Why the entry isn't the reuse that a failed read asks for, if the newest entry is one.
-fn reuse_next_fails(past: &LogHistory<'_>, e: Entry) -> Option<Reason>
+fn reuse_next_fails(past: &ShadowHistory<'_>, e: Entry) -> Option<Reason>
     ensures legal { IsNone result ↔ (awaits_reuse past.now.past ≡ true → is_reuse_of e.what (e.seat).0 (failed_flight past.now.past) ≡ true) }
     ensures said { IfSome result (ReuseNextFails past.now.past e) }
 {
@@ -134,7 +134,7 @@ fn reuse_next_fails(past: &LogHistory<'_>, e: Entry) -> Option<Reason>
 }
 
 /// Why a seat with an open flight may not make the entry.
-fn busy_fails(past: &LogHistory<'_>, e: Entry) -> Option<Reason>
+fn busy_fails(past: &ShadowHistory<'_>, e: Entry) -> Option<Reason>
     requires { (e.seat).0 < length past.now.config.procs + 2 }
     ensures legal { IsNone result ↔ ((is_busy (e.seat).0 (open_flights past.now.past) ≡ true → is_flight_work e.what ≡ true)
         × ((x : OpenFlight) → begun_by (length past.now.past + 1) (e.seat).0 e.what ≡ Some x → is_busy (e.seat).0 (open_flights past.now.past) ≡ true → MayJoin past.now.config (carrying (e.seat).0 past.now.past) x)) }
@@ -150,7 +150,7 @@ fn busy_fails(past: &LogHistory<'_>, e: Entry) -> Option<Reason>
 }
 
 /// Why the entry isn't in turn by the rules of seats.
-pub fn in_turn_fails(past: &LogHistory<'_>, e: Entry) -> Option<Reason>
+pub fn in_turn_fails(past: &ShadowHistory<'_>, e: Entry) -> Option<Reason>
     requires { (e.seat).0 < length past.now.config.procs + 2 }
     ensures legal { IsNone result ↔ InTurn past.now.config past.now.past e }
     ensures said { IfSome result (InTurnFails past.now.config past.now.past e) }

@@ -2,7 +2,7 @@ use Rattle.std.proofs.Common.{subst}
 use Rattle.std.specs.Prelude.{IfSome}
 use Rattle.std.proofs.lemmas.Result.{err_from_is_err_and}
 use Rattle.outside_io.specs.BytesLeft.{bytes_left}
-use Rattle.log_history.specs.Standing.{Passed}
+use Rattle.shadow_history.specs.Standing.{Passed}
 use Rattle.log_check.specs.Judged.{Judges}
 use Rattle.log_check.proofs.Logs.{log_unbegun}
 use Rattle.log_check.proofs.check.check_log.Goals as goal

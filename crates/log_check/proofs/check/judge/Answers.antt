@@ -1,7 +1,7 @@
 use Rattle.std.proofs.Common.{◌∙◌, List, ℕ, ap, refl, take, arith, lit≤}
 use Rattle.std.proofs.lemmas.Result.{err_from_is_err_and}
 use Rattle.outside_io.specs.BytesLeft.{bytes_left}
-use Rattle.log_history.specs.Standing.{Passed}
+use Rattle.shadow_history.specs.Standing.{Passed}
 use Rattle.log_check.proofs.Fronts.{last_kept, next_kept}
 use Rattle.log_check.proofs.Logs.{begun_behind, begun_few, begun_read, log_ended, log_failed, log_judged, log_unbegun}
 use Rattle.log_check.proofs.check.judge.Goals as goal

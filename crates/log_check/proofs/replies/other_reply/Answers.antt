@@ -1,6 +1,6 @@
 use Rattle.std.proofs.Common.{true, sym, subst}
 use Rattle.vm_journal.specs.declared.entry.What.{What}
-use Rattle.log_pager.specs.Shown.{shown}
+use Rattle.shadow_pager.specs.Shown.{shown}
 use Rattle.log_check.specs.Replies.{ShowsAsFlat}
 use Rattle.log_check.proofs.replies.other_reply.Goals as goal
 

@@ -1,5 +1,5 @@
 use Rattle.std.proofs.Common.{IsNone, arith, inl, refl}
-use Rattle.log_pager.specs.Shown.{shown}
+use Rattle.shadow_pager.specs.Shown.{shown}
 use Rattle.log_check.proofs.Entries.{entry_fails, entry_legal}
 use Rattle.log_check.proofs.Follows.{follows_flat}
 use Rattle.log_check.proofs.step.fails.Goals as goal

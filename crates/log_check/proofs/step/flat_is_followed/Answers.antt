@@ -1,4 +1,4 @@
-use Rattle.log_pager.specs.Shown.{shown}
+use Rattle.shadow_pager.specs.Shown.{shown}
 use Rattle.log_check.proofs.Follows.{follows_flat}
 use Rattle.log_check.proofs.step.flat_is_followed.Goals as goal
 

@@ -3,7 +3,7 @@ use Rattle.vm_types.specs.declared.config.Config.{Config}
 use Rattle.vm_journal.specs.declared.entry.What.{What}
 use Rattle.pager_model.specs.Step.{IsLegalWhat}
 use Rattle.pager_model.specs.Zero.{IsZero}
-use Rattle.log_pager.specs.Shown.{shown}
+use Rattle.shadow_pager.specs.Shown.{shown}
 use Rattle.log_check.proofs.step.what_fails.Goals as goal
 
 pub returns-in-Zero-clause-legal : goal.returns-in-Zero-clause-legal

@@ -3,7 +3,7 @@ use Rattle.std.specs.Prelude.{All}
 use Rattle.vm_types.specs.Configuration.{section_pages}
 use Rattle.vm_types.specs.declared.config.Section.{Section}
 use Rattle.pager_model.specs.DirtyPages.{is_dirty, pages_from}
-use Rattle.log_pager.specs.Shown.{shown}
+use Rattle.shadow_pager.specs.Shown.{shown}
 use Rattle.log_report.proofs.PagesAdded.{few_pages}
 use Rattle.log_report.proofs.dirty.dirty_pages.Goals as goal
 

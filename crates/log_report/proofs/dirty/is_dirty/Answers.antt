@@ -2,7 +2,7 @@ use Rattle.std.proofs.Common.{ℕ, Bool, ◌&&◌, ◌∙◌, sym, arith}
 use Rattle.vm_types.specs.declared.names.Page.{Page}
 use Rattle.pager_model.specs.Forget.{holds_page}
 use Rattle.pager_model.specs.Pager.{Pager}
-use Rattle.log_pager.specs.Shown.{shown}
+use Rattle.shadow_pager.specs.Shown.{shown}
 use Rattle.log_report.proofs.DirtyFound.{none_found, none_more, one_found}
 use Rattle.log_report.proofs.dirty.is_dirty.Goals as goal
 

@@ -4,7 +4,7 @@ use Rattle.vm_types.specs.Configuration.{IsWellFormed}
 use Rattle.vm_types.specs.declared.config.Config.{Config}
 use Rattle.pager_model.specs.DirtyPages.{dirty_pages}
 use Rattle.run_text.proofs.DirtyPages.{told_printable}
-use Rattle.log_pager.specs.Shown.{shown}
+use Rattle.shadow_pager.specs.Shown.{shown}
 use Rattle.log_report.proofs.ShownReport.{shown_ending}
 use Rattle.log_report.proofs.WholeText.{whole_ended, whole_taken}
 use Rattle.log_report.proofs.ending.ending_text.Goals as goal

@@ -3,7 +3,7 @@ use Rattle.pager_model.specs.Flights.{open_flights}
 use Rattle.pager_model.specs.Lookups.{shares}
 use Rattle.pager_model.specs.Report.{pins_on}
 use Rattle.pager_model.specs.Transfers.{reads_on, writes_on}
-use Rattle.log_pager.specs.Shown.{shown}
+use Rattle.shadow_pager.specs.Shown.{shown}
 use Rattle.log_report.proofs.SmallCounts.{one_flight, small_pins, small_shares}
 use Rattle.log_report.proofs.recounting.frame_row.Goals as goal
 

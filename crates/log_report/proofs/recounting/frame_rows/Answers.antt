@@ -1,7 +1,7 @@
 use Rattle.pager_model.specs.Report.{frame_row}
 use Rattle.run_text.specs.Rows.{frame_view}
 use Rattle.run_text.proofs.RowsPushed.{row_pushed}
-use Rattle.log_pager.specs.Shown.{shown}
+use Rattle.shadow_pager.specs.Shown.{shown}
 use Rattle.log_report.proofs.recounting.frame_rows.Goals as goal
 
 pub loop-f-preserved : goal.loop-f-preserved

@@ -2,7 +2,7 @@ use Rattle.std.proofs.Common.{◌≡◌, map}
 use Rattle.std.specs.List.{range_with_len}
 use Rattle.pager_model.specs.Report.{frame_row}
 use Rattle.run_text.specs.Rows.{frame_view}
-use Rattle.log_pager.specs.Shown.{shown}
+use Rattle.shadow_pager.specs.Shown.{shown}
 use Rattle.log_report.proofs.recounting.frame_rows.Given as goal
 
 abbrev pub invariant-loop-f : goal.invariant-loop-f

@@ -1,7 +1,7 @@
 use Rattle.pager_model.specs.Report.{process_row}
 use Rattle.run_text.specs.Rows.{process_view}
 use Rattle.run_text.proofs.RowsPushed.{row_pushed}
-use Rattle.log_pager.specs.Shown.{shown}
+use Rattle.shadow_pager.specs.Shown.{shown}
 use Rattle.log_report.proofs.recounting.process_rows.Goals as goal
 
 pub loop-p-preserved : goal.loop-p-preserved

@@ -5,7 +5,7 @@ use Rattle.std.proofs.lemmas.List.FromFn.{length-map-range_with_len}
 use Rattle.vm_types.specs.declared.config.Config.{Config}
 use Rattle.pager_model.specs.Report.{FrameRow, all_states, frame_row, in_state, process_row}
 use Rattle.run_text.specs.Rows.{frame_view}
-use Rattle.log_pager.specs.Shown.{shown}
+use Rattle.shadow_pager.specs.Shown.{shown}
 use Rattle.log_report.proofs.SmallCounts.{small_assigned, small_charged}
 use Rattle.log_report.proofs.recounting.recount.Goals as goal
 

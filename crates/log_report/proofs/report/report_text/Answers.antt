@@ -1,6 +1,6 @@
 use Rattle.std.proofs.Common.{◌∙◌, ap}
 use Rattle.vm_types.specs.declared.config.Config.{Config}
-use Rattle.log_pager.specs.Shown.{shown}
+use Rattle.shadow_pager.specs.Shown.{shown}
 use Rattle.log_report.proofs.ShownReport.{shown_printable, shown_text}
 use Rattle.log_report.proofs.WholeText.{whole_taken}
 use Rattle.log_report.proofs.report.report_text.Goals as goal

@@ -1,4 +1,4 @@
-use Rattle.log_pager.specs.Shown.{shown}
+use Rattle.shadow_pager.specs.Shown.{shown}
 use Rattle.log_rundown.proofs.FreeBlocks.{none_after}
 use Rattle.log_rundown.proofs.blocks.free_after.Goals as goal
 

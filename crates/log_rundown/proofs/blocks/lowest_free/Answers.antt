@@ -2,7 +2,7 @@ use Rattle.std.proofs.Common.{◌∙◌, ap, sym}
 use Rattle.std.specs.Option.{option_map}
 use Rattle.vm_types.specs.declared.names.BlockId.TheVariants.{PageFile}
 use Rattle.pager_policy.specs.WriteCluster.{is_free_block}
-use Rattle.log_pager.specs.Shown.{shown}
+use Rattle.shadow_pager.specs.Shown.{shown}
 use Rattle.log_rundown.proofs.Ranges.{find_here, find_next, find_none}
 use Rattle.log_rundown.proofs.blocks.lowest_free.Goals as goal
 

@@ -2,7 +2,7 @@ use Rattle.std.proofs.Common.{Bool, cond, sym, ap, ◌∙◌}
 use Rattle.pager_model.specs.Lookups.{block_of}
 use Rattle.pager_model.specs.Pager.{Pager}
 use Rattle.pager_policy.specs.WriteCluster.{filed_block, paged_block}
-use Rattle.log_pager.specs.Shown.{shown}
+use Rattle.shadow_pager.specs.Shown.{shown}
 use Rattle.log_rundown.proofs.blocks.page_block.Goals as goal
 
 pub returns-then-is_paged : goal.returns-then-is_paged

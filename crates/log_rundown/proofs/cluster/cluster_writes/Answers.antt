@@ -1,4 +1,4 @@
-use Rattle.log_pager.specs.Shown.{shown}
+use Rattle.shadow_pager.specs.Shown.{shown}
 use Rattle.log_rundown.proofs.Clusters.{at_first, full, one_more, stopped}
 use Rattle.log_rundown.proofs.cluster.cluster_writes.Goals as goal
 

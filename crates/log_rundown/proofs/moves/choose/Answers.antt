@@ -1,6 +1,6 @@
 use Rattle.std.proofs.Common.{◌∙◌, ap, sym}
 use Rattle.pager_policy.specs.Rundown.{cleaning_move}
-use Rattle.log_pager.specs.Shown.{shown}
+use Rattle.shadow_pager.specs.Shown.{shown}
 use Rattle.log_rundown.specs.Standing.{cleaning_as}
 use Rattle.log_rundown.specs.declared.cleaning.Cleaning.{Cleaning}
 use Rattle.log_rundown.proofs.moves.choose.Goals as goal

@@ -1,5 +1,5 @@
 use Rattle.std.proofs.Common.{◌∙◌, sym}
-use Rattle.log_pager.specs.Shown.{shown}
+use Rattle.shadow_pager.specs.Shown.{shown}
 use Rattle.log_rundown.specs.Places.{seen_as}
 use Rattle.log_rundown.proofs.Choices.{evicts, goes_later, none_seen, writes_first}
 use Rattle.log_rundown.proofs.moves.choose_at.Goals as goal

@@ -1,7 +1,7 @@
 use Rattle.std.proofs.Common.{◌∙◌, ap}
 use Rattle.vm_types.specs.declared.config.Config.{Config}
 use Rattle.pager_policy.specs.Rundown.{later_move, place_move, shared_place}
-use Rattle.log_pager.specs.Shown.{shown}
+use Rattle.shadow_pager.specs.Shown.{shown}
 use Rattle.log_rundown.proofs.moves.choose_from.Goals as goal
 
 pub returns-in-Some : goal.returns-in-Some

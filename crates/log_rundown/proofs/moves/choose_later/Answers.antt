@@ -2,7 +2,7 @@ use Rattle.std.proofs.Common.{◌+◌, ◌∙◌, ap, false}
 use Rattle.vm_types.specs.declared.config.Config.{Config}
 use Rattle.pager_policy.specs.Moves.{rests}
 use Rattle.pager_policy.specs.Rundown.{Place as PlaceIs, place_move, shared_place}
-use Rattle.log_pager.specs.Shown.{shown}
+use Rattle.shadow_pager.specs.Shown.{shown}
 use Rattle.log_rundown.proofs.moves.choose_later.Goals as goal
 
 pub returns-in-Some : goal.returns-in-Some

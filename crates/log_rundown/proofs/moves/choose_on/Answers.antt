@@ -1,6 +1,6 @@
 use Rattle.std.proofs.Common.{◌∙◌}
 use Rattle.pager_policy.specs.Rundown.{later_move}
-use Rattle.log_pager.specs.Shown.{shown}
+use Rattle.shadow_pager.specs.Shown.{shown}
 use Rattle.log_rundown.specs.Places.{place_as}
 use Rattle.log_rundown.proofs.moves.choose_on.Goals as goal
 

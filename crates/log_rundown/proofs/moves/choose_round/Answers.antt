@@ -1,5 +1,5 @@
 use Rattle.std.proofs.Common.{◌∙◌, arith, sym}
-use Rattle.log_pager.specs.Shown.{shown}
+use Rattle.shadow_pager.specs.Shown.{shown}
 use Rattle.log_rundown.proofs.Choices.{goes_on, last_over, next_begins, none_listed}
 use Rattle.log_rundown.proofs.moves.choose_round.Goals as goal
 

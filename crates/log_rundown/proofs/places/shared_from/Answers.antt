@@ -1,5 +1,5 @@
 use Rattle.std.proofs.Common.{◌∙◌, arith, length, sym}
-use Rattle.log_pager.specs.Shown.{shown}
+use Rattle.shadow_pager.specs.Shown.{shown}
 use Rattle.log_rundown.proofs.Ranges.{find_next}
 use Rattle.log_rundown.proofs.SharedPlaces.{is_in_question}
 use Rattle.log_rundown.proofs.places.shared_from.Goals as goal

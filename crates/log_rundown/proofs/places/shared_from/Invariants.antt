@@ -1,7 +1,7 @@
 use Rattle.std.proofs.Common.{◌≡◌, ◌-◌, find, length}
 use Rattle.std.specs.List.{range_with_len}
 use Rattle.pager_policy.specs.Given.{slots_of}
-use Rattle.log_pager.specs.Shown.{shown}
+use Rattle.shadow_pager.specs.Shown.{shown}
 use Rattle.log_rundown.proofs.SharedPlaces.{is_in_question}
 use Rattle.log_rundown.proofs.places.shared_from.Given as goal
 

@@ -1,5 +1,5 @@
 use Rattle.std.proofs.Common.{◌∙◌, arith, sym}
-use Rattle.log_pager.specs.Shown.{shown}
+use Rattle.shadow_pager.specs.Shown.{shown}
 use Rattle.log_rundown.proofs.SharedPlaces.{found_of, none_behind, none_of}
 use Rattle.log_rundown.proofs.places.shared_of_processes.Goals as goal
 

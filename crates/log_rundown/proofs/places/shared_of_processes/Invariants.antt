@@ -1,5 +1,5 @@
 use Rattle.std.proofs.Common.{◌≡◌}
-use Rattle.log_pager.specs.Shown.{shown}
+use Rattle.shadow_pager.specs.Shown.{shown}
 use Rattle.log_rundown.proofs.SharedPlaces.{of_those_from}
 use Rattle.log_rundown.proofs.places.shared_of_processes.Given as goal
 

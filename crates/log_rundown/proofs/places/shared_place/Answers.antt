@@ -1,5 +1,5 @@
 use Rattle.std.proofs.Common.{arith}
-use Rattle.log_pager.specs.Shown.{shown}
+use Rattle.shadow_pager.specs.Shown.{shown}
 use Rattle.log_rundown.proofs.SharedPlaces.{later_found, none_absent, place_found}
 use Rattle.log_rundown.proofs.places.shared_place.Goals as goal
 

@@ -5,7 +5,7 @@ use Rattle.vm_journal.specs.declared.entry.What.{What}
 use Rattle.pager_policy.specs.Cleaning.{evicting}
 use Rattle.pager_policy.specs.Rundown.{written_for_need}
 use Rattle.log_laws.specs.Underway.{Onward as OnwardIs, between_moves, is_made, plan_of, step_outs, step_plan}
-use Rattle.log_pager.specs.Shown.{shown}
+use Rattle.shadow_pager.specs.Shown.{shown}
 use Rattle.log_rundown.specs.Chosen.{eviction_as, move_as}
 use Rattle.log_rundown.specs.Standing.{onward_as}
 use Rattle.log_rundown.specs.Written.{write_as, writes_as}

@@ -4,7 +4,7 @@ use Rattle.pager_policy.specs.Moves.{Move, rests}
 use Rattle.pager_model.specs.Pager.{Pager}
 use Rattle.pager_policy.specs.Rundown.{cleaning_move}
 use Rattle.log_laws.specs.Underway.{IsAtRest}
-use Rattle.log_pager.specs.Shown.{shown}
+use Rattle.shadow_pager.specs.Shown.{shown}
 use Rattle.log_rundown.specs.Chosen.{move_as}
 use Rattle.log_rundown.specs.Standing.{cleaning_as, standing_as}
 use Rattle.log_rundown.specs.declared.standing.Standing.{Standing}

@@ -1,5 +1,5 @@
 use Rattle.std.proofs.Common.{IsNone, refl}
-use Rattle.log_pager.specs.Shown.{shown}
+use Rattle.shadow_pager.specs.Shown.{shown}
 use Rattle.row_frames.proofs.ComingBack.{coming_back}
 use Rattle.row_frames.proofs.pages.back_coming_fails.Goals as goal
 

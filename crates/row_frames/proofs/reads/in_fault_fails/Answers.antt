@@ -1,5 +1,5 @@
 use Rattle.std.proofs.Common.{IsNone, sym, ◌∙◌}
-use Rattle.log_pager.specs.Shown.{shown}
+use Rattle.shadow_pager.specs.Shown.{shown}
 use Rattle.row_frames.proofs.FaultReads.{fault_read}
 use Rattle.row_frames.proofs.reads.in_fault_fails.Goals as goal
 

@@ -1,5 +1,5 @@
 use Rattle.std.proofs.Common.{IsTrue}
-use Rattle.log_pager.specs.Shown.{shown}
+use Rattle.shadow_pager.specs.Shown.{shown}
 use Rattle.row_frames.proofs.OutBlocks.{own_blocks}
 use Rattle.row_frames.proofs.writes.is_paged_block.Goals as goal
 

@@ -4,7 +4,7 @@ use Rattle.pager_model.specs.FlatService.{in_range}
 use Rattle.pager_model.specs.Flights.{open_flights}
 use Rattle.pager_model.specs.Maps.{proc}
 use Rattle.pager_model.specs.Transfers.{reads_on, writes_on}
-use Rattle.log_pager.specs.Shown.{shown}
+use Rattle.shadow_pager.specs.Shown.{shown}
 use Rattle.row_requests.proofs.ranges.none_flies.Given as goal
 
 -- none of the frames so far with a page of the range has a flight

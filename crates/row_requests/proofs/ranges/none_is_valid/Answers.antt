@@ -1,7 +1,7 @@
 use Rattle.std.proofs.Common.{◌≡◌, ℕ, ◌+◌, ◌/◌, arith}
 use Rattle.std.proofs.lemmas.Bool.{false≢true}
 use Rattle.pager_model.specs.Lookups.{entries_at}
-use Rattle.log_pager.specs.Shown.{shown}
+use Rattle.shadow_pager.specs.Shown.{shown}
 use Rattle.row_requests.proofs.Places.{inside_parts, one_more, place_inside}
 use Rattle.row_requests.proofs.ranges.none_is_valid.Goals as goal
 

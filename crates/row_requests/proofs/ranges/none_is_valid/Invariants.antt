@@ -1,6 +1,6 @@
 use Rattle.std.proofs.Common.{◌≡◌, ◌+◌, ◌/◌, ◌<◌, ◌≤◌, ℕ}
 use Rattle.pager_model.specs.Lookups.{entries_at}
-use Rattle.log_pager.specs.Shown.{shown}
+use Rattle.shadow_pager.specs.Shown.{shown}
 use Rattle.row_requests.proofs.ranges.none_is_valid.Given as goal
 
 -- none of those so far is valid

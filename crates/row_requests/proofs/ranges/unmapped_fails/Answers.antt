@@ -1,5 +1,5 @@
 use Rattle.std.proofs.Common.{refl}
-use Rattle.log_pager.specs.Shown.{shown}
+use Rattle.shadow_pager.specs.Shown.{shown}
 use Rattle.row_requests.proofs.MappedRanges.{none_in_use}
 use Rattle.row_requests.proofs.ranges.unmapped_fails.Goals as goal
 

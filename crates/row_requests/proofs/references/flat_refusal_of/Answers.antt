@@ -2,7 +2,7 @@ use Rattle.std.proofs.Common.{ap, ◌∙◌}
 use Rattle.vm_types.specs.declared.config.Config.{Config}
 use Rattle.pager_model.specs.Flat.{FlatState, flat_refusal}
 use Rattle.pager_model.specs.Spoken.{flat_after}
-use Rattle.log_pager.specs.Shown.{shown}
+use Rattle.shadow_pager.specs.Shown.{shown}
 use Rattle.row_requests.proofs.Flat.{same_flat}
 use Rattle.row_requests.proofs.references.flat_refusal_of.Goals as goal
 

@@ -1,5 +1,5 @@
 use Rattle.std.proofs.Common.{◌*◌, IsNone, ap}
-use Rattle.log_history.specs.Directions.{direction_of}
+use Rattle.shadow_history.specs.Directions.{direction_of}
 use Rattle.pager_model.specs.Maps.{page_number}
 use Rattle.row_requests.proofs.Roles.{for_role}
 use Rattle.row_requests.proofs.references.way_for_fails.Goals as goal

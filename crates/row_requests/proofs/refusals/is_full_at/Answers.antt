@@ -4,7 +4,7 @@ use Rattle.vm_types.specs.declared.names.Page.{Page}
 use Rattle.pager_model.specs.Flat.{FlatState, is_page_file_full}
 use Rattle.pager_model.specs.Lookups.{page_at}
 use Rattle.pager_model.specs.Maps.{page_behind}
-use Rattle.log_pager.specs.Shown.{shown}
+use Rattle.shadow_pager.specs.Shown.{shown}
 use Rattle.row_requests.proofs.refusals.is_full_at.Goals as goal
 
 pub returns-in-Some : goal.returns-in-Some

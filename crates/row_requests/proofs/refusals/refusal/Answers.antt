@@ -1,6 +1,6 @@
 use Rattle.std.proofs.Common.{◌/◌, sym, ap, ◌∙◌}
 use Rattle.pager_model.specs.Flat.{FlatState, refusal_at}
-use Rattle.log_pager.specs.Shown.{shown}
+use Rattle.shadow_pager.specs.Shown.{shown}
 use Rattle.row_requests.proofs.refusals.refusal.Goals as goal
 
 pub refusal_at-requires-clause-code : goal.refusal_at-requires-clause-code

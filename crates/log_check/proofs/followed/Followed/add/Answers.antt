@@ -1,4 +1,4 @@
-use Rattle.log_pager.specs.Shown.{shown}
+use Rattle.shadow_pager.specs.Shown.{shown}
 use Rattle.log_check.proofs.Changeable.{can_change}
 use Rattle.log_check.proofs.followed.Followed.add.Goals as goal
 

@@ -8,7 +8,7 @@ use Rattle.pager_model.specs.Pager.{Pager}
 use Rattle.pager_model.specs.Spoken.{flat_after}
 use Rattle.pager_model.specs.Step.{IsLegal}
 use Rattle.log_reasons.specs.EntryReasons.{EntryFails}
-use Rattle.log_pager.specs.Shown.{shown}
+use Rattle.shadow_pager.specs.Shown.{shown}
 use Rattle.log_check.specs.Followed.{MayEnter, MayStep}
 use Rattle.log_check.specs.Replies.{IsRightReply, ShowsAsFlat}
 use Rattle.log_check.proofs.Entered.{entered, followed_beside, of_process}

@@ -1,6 +1,0 @@
-use Rattle.std.proofs.Common.{sym, ◌∙◌}
-use Rattle.log_pager.proofs.Whole.{head_is, is_head}
-use Rattle.log_pager.proofs.log_pager.LogPager.heads_free.Goals as goal
-
-pub returns : goal.returns
-returns c = (λ yes. head_is _ _ (sym c.free_head.ensures ∙ c.heads.ensures.0 yes), λ is. c.heads.ensures.1 (c.free_head.ensures ∙ is_head _ _ is))
