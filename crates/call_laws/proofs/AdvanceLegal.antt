@@ -102,13 +102,6 @@ lesser_second m n = go (nat_le m n) refl
     go true is = leb-true m n is
     go false is = omega arith
 
-greater_one : (n : ℕ) → greater 1 n ≤ n + 1
-greater_one n = go (nat_le 1 n)
-  where
-    go : (b : Bool) → cond b n 1 ≤ n + 1
-    go true = omega arith
-    go false = omega arith
-
 one_if_few : (n : ℕ) → greater 1 n ≤ 1 ⊎ (greater 1 n ≤ n)
 one_if_few n = go (nat_le 1 n)
   where

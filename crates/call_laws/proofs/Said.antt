@@ -32,9 +32,6 @@ said_by p seat (request ∷ rest) = spoken_by p seat (Some request) ++ said_by p
 abbrev pub Silent : List What → Type 0
 Silent ws = said ws ≡ []
 
-pub silent_more : (w : What) (ws : List What) → request_of w ≡ None → Silent ws → Silent (w ∷ ws)
-silent_more w ws none rest = ap₂ (λ (o : Option Request) (xs : List Request). with_request o xs) none rest
-
 pub silent_join : (xs ys : List What) → Silent xs → Silent ys → Silent (xs ++ ys)
 silent_join [] ys first rest = rest
 silent_join (w ∷ xs) ys first rest = go (request_of w) refl first (silent_join xs ys)

@@ -68,10 +68,6 @@ append_assoc : {X : Type 0} (xs ys zs : List X) → (xs ++ ys) ++ zs ≡ xs ++ (
 append_assoc [] ys zs = refl
 append_assoc {X} (x ∷ xs) ys zs = ap (λ (rest : List X). x ∷ rest) (append_assoc xs ys zs)
 
-tail_of : {X : Type 0} → List X → List X
-tail_of [] = []
-tail_of (x ∷ xs) = xs
-
 same_rest : {X : Type 0} (xs ys zs : List X) → xs ++ ys ≡ xs ++ zs → ys ≡ zs
 same_rest [] ys zs e = e
 same_rest {X} (x ∷ xs) ys zs e = let rest : xs ++ ys ≡ xs ++ zs = cc in same_rest xs ys zs rest

@@ -45,8 +45,3 @@ module _ {tells : ℕ → List ℕ → Type 0} {before after : SinkView} {result
         | inl whole ↦ whole.0
         | inr cut ↦ absurd (elim cut.2 [ inl failed ↦ written failed | inr stalled ↦ kept stalled ])
       ]
-
--- what is told may be told in other words
-pub concludes_as : {tells others : ℕ → List ℕ → Type 0} {before after : SinkView} {result : ℕ}
-    → ((status : ℕ) (text : List ℕ) → tells status text → others status text) → Concludes tells before after result → Concludes others before after result
-concludes_as same c = record { status = c.status; text = c.text; tells_it = same c.status c.text c.tells_it; ends = c.ends }

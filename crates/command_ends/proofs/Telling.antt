@@ -119,11 +119,6 @@ concludes_saying config wrong same means counts (inl told) =
     record { status = told.status; text = told.text; tells_it = record { told = answered config told.status told.text told.outcome counts means told.answers; says = same told.status told.text (outcome_right told.status told.text told.outcome) }; ends = told.ends }
 concludes_saying config wrong same means counts (inr none) = record { status = 7; text = status_line 7; tells_it = record { told = no_memory counts; says = same 7 (status_line 7) (seven_right (status_line 7)) }; ends = none }
 
-pub concludes_answered : {answer : Config → ℕ → List ℕ → Type 0} {before after : SourceView} {sink sink' : SinkView} {result : ℕ} (config : Config)
-    → IfSome before.left (λ text. AnswersTrace (Ok config) text after.left) → FaultsByTrace (Ok config) before.failures after.failures
-    → EndsAnswered (answer config) sink sink' result → Concludes (TellsWrong (Tells answer before after) None) sink sink' result
-concludes_answered config means counts ends = concludes_saying config None (λ status text is. is) means counts ends
-
 pub concludes_fault : {answer : Config → ℕ → List ℕ → Type 0} {before after : SourceView} {sink sink' : SinkView} {result : ℕ} (f : TraceFault) (wrong : Option Wrong)
     → wrong ≡ wrong_of f → IfSome before.left (λ text. AnswersTrace (Err f) text after.left) → FaultsByTrace (Err f) before.failures after.failures
     → Ends sink sink' (fault_status f) (fault_told f) result → Concludes (TellsWrong (Tells answer before after) wrong) sink sink' result

@@ -13,7 +13,7 @@ use Rattle.pager_laws.proofs.KeptIsSound.{same_block_refl}
 use Rattle.pager_model.specs.Around.{PastView, frame_view}
 use Rattle.pager_model.specs.Content.{HasBuffers, HasHomes}
 use Rattle.pager_model.specs.Flights.{Flight}
-use Rattle.pager_model.specs.Lookups.{IsHead, is}
+use Rattle.pager_model.specs.Lookups.{is}
 use Rattle.pager_model.specs.Opening.{is_bad}
 use Rattle.pager_model.specs.Pager.{Pager}
 use Rattle.pager_model.specs.Sets.{has}
@@ -21,7 +21,6 @@ use Rattle.pager_model.specs.Transfers.{IsHome, is_on_block, starts}
 use Rattle.pager_rules.proofs.Basics.{states_equal}
 use Rattle.pager_rules.proofs.Frames.{at_state}
 use Rattle.pager_rules.proofs.Lists.{count_found}
-use Rattle.pager_rules.proofs.Put.{free_row, head_counts}
 use Rattle.pager_rules.specs.Kept.{IsKept}
 
 -- ---- frames of the configuration
@@ -39,10 +38,6 @@ holder_inside config o a f g kept holds = not_bad_inside config f (go (is state.
     go : (b : Bool) → is state.Bad (a.state f) ≡ b → is_bad config f ≡ false
     go false state_is = (kept.frames f).bad ∙ state_is
     go true state_is = absurd (none-some g (sym (at_state (frame_view config o a f) state.Bad (states_equal (a.state f) state.Bad state_is) (kept.frames f)).page ∙ holds))
-
--- and so is the free list's head
-pub head_inside : (config : Config) (o : PastView) (a : Pager) (f : ℕ) → IsKept config o a → IsHead a.free f → f < config.frames
-head_inside config o a f kept head = not_bad_inside config f ((free_row (frame_view config o a f) (kept.frames f) (head_counts a.free f head)).bad)
 
 -- ---- buffers
 -- the buffer of a frame that isn't read is home, with a page's length

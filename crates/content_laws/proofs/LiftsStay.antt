@@ -1,6 +1,5 @@
 -- A lift that fits a run still fits it after any legal step that doesn't land its flight.
 use Rattle.std.proofs.Common.{◌≡◌, ℕ, Bool, false, List, ◌∷◌, sym, subst}
-use Rattle.std.specs.List.{AllByRecursion}
 use Rattle.vm_types.specs.Configuration.{IsWellFormed}
 use Rattle.vm_types.specs.declared.config.Config.{Config}
 use Rattle.vm_journal.specs.declared.entry.Entry.{Entry}
@@ -8,7 +7,6 @@ use Rattle.pager_model.specs.Fits.{FitsLift, Lift, lands}
 use Rattle.pager_model.specs.Run.{pager_after, IsRun}
 use Rattle.pager_laws.proofs.FlatFollows.{follows}
 use Rattle.pager_laws.proofs.RunsAreSound.{run_kept}
-use Rattle.pager_rules.proofs.Basics.{each_of_two}
 use Rattle.content_laws.proofs.FlightLeft.{fits_left}
 use Rattle.content_laws.proofs.StepLeaves.{step_leaves}
 
@@ -20,10 +18,3 @@ lifts_stay tells tells_plan config past e lift formed run other fits =
     fits_left tells tells_plan config past (pager_after config past) e lift fits
     (step_leaves config past (pager_after config past) x (fits.1).found_x e (run_kept config past formed run.0) (follows config past formed run.0).map run.1
     (subst (λ (k : ℕ). lands k e.what ≡ false) (sym start) other))
-
--- so do all lifts of a list, as those of a carrier of which another one lands
-pub all_lifts_stay : (tells tells_plan : Bool) (config : Config) (past : List Entry) (e : Entry) (lifts : List Lift) → IsWellFormed config → IsRun config (e ∷ past) → AllByRecursion (λ (lift : Lift). lands lift.start e.what ≡ false) lifts
-    → AllByRecursion (FitsLift tells tells_plan config past (pager_after config past)) lifts → AllByRecursion (FitsLift tells tells_plan config (e ∷ past) (pager_after config (e ∷ past))) lifts
-all_lifts_stay tells tells_plan config past e lifts formed run others fit =
-    each_of_two (λ (lift : Lift). lands lift.start e.what ≡ false) (FitsLift tells tells_plan config past (pager_after config past)) (FitsLift tells tells_plan config (e ∷ past) (pager_after config (e ∷ past)))
-    (λ lift other fits. lifts_stay tells tells_plan config past e lift formed run other fits) lifts others fit

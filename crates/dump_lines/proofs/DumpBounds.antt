@@ -5,12 +5,11 @@ use Rattle.std.specs.List.{AllByRecursion}
 use Rattle.vm_types.specs.declared.names.Page.{Page}
 use Rattle.vm_types.specs.declared.names.Page.TheVariants.{Private, Shared}
 use Rattle.pte_forms.specs.Word.{number_bits}
-use Rattle.dump_bytes.specs.declared.dump.FrameRec.{FrameRec}
 use Rattle.dump_bytes.specs.declared.dump.ProcRec.{ProcRec}
 use Rattle.dump_bytes.specs.declared.dump.SlotRec.{SlotRec}
-use Rattle.dump_bytes.specs.Bounds.{IsDumpedPage, IsFrame, IsProcess, IsSlot, IsValidEntry, IsValidWord}
+use Rattle.dump_bytes.specs.Bounds.{IsDumpedPage, IsProcess, IsSlot, IsValidEntry, IsValidWord}
 use Rattle.dump_bytes.specs.Dumped.{process_of}
-use Rattle.dump_lines.specs.Printable.{IsPrintableFrame, IsPrintableProcess, IsPrintableSlot}
+use Rattle.dump_lines.specs.Printable.{IsPrintableProcess, IsPrintableSlot}
 use Rattle.dump_lines.specs.WordFrame.{frame_of}
 
 pub all_at : {X : Type 0} (P Q : X → Type 0) (xs : List X) → ((x : X) → P x → Q x) → AllByRecursion P xs → All Q xs
@@ -35,9 +34,6 @@ page_of_16 : (procs : ℕ) (page : Option Page) → procs ≤ 16 → IsDumpedPag
 page_of_16 procs None few is = tt
 page_of_16 procs (Some (Private owner vpn)) few is = let a = is.0 in (omega arith, is.1)
 page_of_16 procs (Some (Shared section page)) few is = is
-
-pub frames_printable : (procs : ℕ) (rows : List FrameRec) → procs ≤ 16 → AllByRecursion (IsFrame procs) rows → All IsPrintableFrame rows
-frames_printable procs rows few all = all_at (IsFrame procs) IsPrintableFrame rows (λ row is. record { page = page_of_16 procs row.page few is.page }) all
 
 slots_printable : (slots : List SlotRec) → AllByRecursion IsSlot slots → All IsPrintableSlot slots
 slots_printable slots all = all_at IsSlot IsPrintableSlot slots (λ s is. is.vpn) all

@@ -1,5 +1,5 @@
 -- The first of the lines that are left, and those behind it; the last write of a text.
-use Rattle.std.proofs.Common.{◌≡◌, ℕ, ◌+◌, ◌<◌, List, [], ◌∷◌, ◌++◌, count_by, length, get_or, drop, map, sym, ap, subst, ◌∙◌, add-one, append-nil, drop-cons, Result}
+use Rattle.std.proofs.Common.{◌≡◌, ℕ, ◌+◌, ◌<◌, List, [], ◌∷◌, ◌++◌, count_by, length, get_or, drop, map, sym, ap, subst, ◌∙◌, add-one, drop-cons, Result}
 use Rattle.std.specs.List.{flat_map}
 use Rattle.std.proofs.lemmas.List.{drop_more, append_assoc}
 use Rattle.std.proofs.lemmas.List.Sums.{sum_by-append}
@@ -64,7 +64,3 @@ module _ (rows : List FrameRec) (counts : List Counts) (i : ℕ) (e : FrameRec) 
 -- the write of the last part of a text
 pub progress_last : {a b c : SinkView} {result : Result (Unit {0}) WriteFault} {whole last : List ℕ} → Progress a b whole last → Writes b c result last → Writes a c result whole
 progress_last {a} {b} {c} {result} before more = subst (λ (text : List ℕ). Writes a c result text) (sym before.parts) (writes_then before.so_far more)
-
--- the same if nothing follows
-pub progress_last_of : {a b c : SinkView} {result : Result (Unit {0}) WriteFault} {whole last : List ℕ} → Progress a b whole (last ++ []) → Writes b c result last → Writes a c result whole
-progress_last_of {b} {c} {result} {last = last} before more = progress_last before (subst (λ (text : List ℕ). Writes b c result text) (sym (append-nil last)) more)

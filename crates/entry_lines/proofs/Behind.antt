@@ -8,11 +8,6 @@ behind e f = let same = e ∙ sym f in cc
 pub first : {x y : List ℕ} {xs ys before : List (List ℕ)} → x ∷ xs ≡ before → y ∷ ys ≡ before → x ≡ y
 first e f = let same = e ∙ sym f in cc
 
--- no word is left
-pub takes_none : {X : Type 0} (Has : X → Type 0) (text_of : X → List ℕ) (before after : List (List ℕ)) → before ≡ []
-    → Takes Has (λ x. text_of x ∷ []) before after None
-takes_none Has text_of before after none = record { found = tt; none = λ x rest has e. let no : (text_of x ∷ rest) ≡ [] = e ∙ none in cc }
-
 -- the next word is read
 pub takes_word : {X : Type 0} (Has : X → Type 0) (text_of : X → List ℕ) (before after : List (List ℕ)) (word : List ℕ) (r : Option X)
     → before ≡ word ∷ after → Reads Has text_of word r → Takes Has (λ x. text_of x ∷ []) before after r

@@ -10,11 +10,11 @@ use Rattle.vm_types.specs.declared.names.Page.{Page}
 use Rattle.vm_types.specs.declared.names.Page.TheVariants.{Private, Shared}
 use Rattle.vm_types.specs.declared.config.Config.{Config}
 use Rattle.pager_model.specs.Flat.{FlatState, is_untouched, shared_bytes}
-use Rattle.pager_model.specs.FlatService.{in_range, is_private_in, map_range, with_prot}
+use Rattle.pager_model.specs.FlatService.{in_range, is_private_in, map_range}
 use Rattle.pager_model.specs.Maps.{Map, Mapped, is_paged}
 use Rattle.pager_model.specs.Sets.{has_page}
 use Rattle.pager_rules.proofs.Basics.{pages_equal, count_cons}
-use Rattle.flat_model.specs.Behind.{IsChangedIn, as_mapped, mapped_in, protected_by}
+use Rattle.flat_model.specs.Behind.{IsChangedIn, as_mapped, mapped_in}
 use Rattle.flat_model.specs.FlatMachine.{AreTablesOf, IsFlat, bytes_or, is_kept, is_of, is_touch_of, stored_of}
 use Rattle.flat_model.specs.declared.behind.Behind.{Behind}
 use Rattle.flat_model.specs.declared.flat.Flat.{Flat}
@@ -32,25 +32,9 @@ maps_changed change code along p address pages map old new same changed q v =
     go true = ap change (same q v) ∙ sym (along (item_at old q v))
     go false = same q v
 
-pub protects_along : (prot : ℕ) (o : Option Behind) → option_map as_mapped (option_map (protected_by prot) o) ≡ option_map (with_prot prot) (option_map as_mapped o)
-protects_along prot None = refl
-protects_along prot (Some b) = refl
-
 pub tables_kept : (config : Config) (old new : Tables) → AreTablesOf config old → new.pagefile ≡ old.pagefile → new.sections ≡ old.sections → vec_len new.pages ≡ vec_len old.pages → AreTablesOf config new
 tables_kept config old new h size sections places =
     record { well_formed = h.well_formed; pagefile = size ∙ h.pagefile; sections = sections ∙ h.sections; places = places ∙ h.places }
-
--- only the maps have changed
-pub flat_remapped : (config : Config) (state : FlatState) (old new : Flat) (map : Map) → IsFlat config state old → AreTablesOf config new.tables → ((q v : ℕ) → map q v ≡ mapped_in new.tables.pages.items q v) → new.stored.items ≡ old.stored.items
-    → IsFlat config (record { map = map; touched = state.touched; stored = state.stored }) new
-flat_remapped config state old new map h tables same items =
-    record {
-      tables = tables;
-      map = same;
-      touched = λ page. h.touched page ∙ ap (λ (es : List Stored). is_paged config page && is_some (stored_of es page)) (sym items);
-      counts = λ test. h.counts test ∙ ap (λ (es : List Stored). count_by (is_touch_of config test) es) (sym items);
-      stored = λ page u. h.stored page u ∙ ap (λ (es : List Stored). bytes_or (shared_bytes config page) (stored_of es page)) (sym items);
-    }
 
 -- ---- entries that are taken away
 find_kept : {X : Type 0} (test keep : X → Bool) → ((x : X) → test x ≡ true → keep x ≡ true) → (xs : List X) → find test (filter keep xs) ≡ find test xs

@@ -17,7 +17,7 @@ use Rattle.vm_types.specs.declared.reply.Why.{Why}
 use Rattle.vm_types.specs.declared.reply.Why.TheVariants as why
 use Rattle.pager_model.specs.Flat.{FlatState, flat_with, flat_reply, flat_next, flat_refusal, refusal_at, found_at, answered_at, next_unless, reply_unless, reply_from, bytes_after, offset_in_page, page_bytes, is_untouched, is_page_file_full, is_change, mapping_of, shared_bytes}
 use Rattle.flat_model.specs.FlatMachine.{IsFlat, IsAllowedAt, stored_of, is_of, is_touch, bytes_or, is_paged_in}
-use Rattle.pager_model.specs.Maps.{Mapped, page_behind, page_number, shared_of, first_bytes, is_paged, paged_of}
+use Rattle.pager_model.specs.Maps.{Mapped, page_behind, page_number, shared_of, first_bytes, is_paged}
 use Rattle.flat_model.specs.declared.flat.Flat.{Flat}
 use Rattle.flat_model.specs.declared.flat.Stored.{Stored}
 use Rattle.flat_model.proofs.Entries.{flat_pushed, flat_written, entry_at, paged_same, untouched_some, untouched_none, touched_count}
@@ -50,14 +50,6 @@ told_answered config state new p r m answer mapped unrefused same h = (
     none = ap (refusal_at config state p r) mapped ∙ unrefused
 
 -- ---- without the right
-pub told_unmapped : (config : Config) (state : FlatState) (new : Flat) (p : ℕ) (r : Ref) → mapping_of state p r ≡ None → IsFlat config state new → IsTold config state new p r (reply.Refused why.Unmapped)
-told_unmapped config state new p r unmapped h = told_refused config state new p r why.Unmapped (ap (refusal_at config state p r) unmapped) h
-
-pub told_protected : (config : Config) (state : FlatState) (new : Flat) (p : ℕ) (r : Ref) (m : Mapped) → mapping_of state p r ≡ Some m → is_allowed m.prot r.mode (is_change r.op) ≡ false → IsFlat config state new → IsTold config state new p r (reply.Refused why.Protected)
-told_protected config state new p r m mapped denied h =
-    told_refused config state new p r why.Protected
-    (ap (refusal_at config state p r) mapped ∙ ap (λ (b : Bool). cond (not b) (Some why.Protected) (cond (is_page_file_full config state (page_behind config p (page_number (r.addr).0) m.origin)) (Some why.PageFileFull) None)) denied) h
-
 -- the mapping of a page is that of the tables
 pub mapping_from : (config : Config) (state : FlatState) (flat : Flat) (p : ℕ) (r : Ref) (o : Option Behind) → IsFlat config state flat → o ≡ item_at flat.tables.pages.items p (page_number (r.addr).0) → mapping_of state p r ≡ option_map as_mapped o
 mapping_from config state flat p r o h found = h.map p (page_number (r.addr).0) ∙ ap (option_map as_mapped) (sym found)

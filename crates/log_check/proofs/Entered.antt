@@ -3,7 +3,6 @@ use Rattle.std.proofs.Common.{◌≡◌, ℕ, List, [], ◌∷◌, length, refl,
 use Rattle.std.specs.Option.{IsSome}
 use Rattle.vm_types.specs.Configuration.{IsWellFormed}
 use Rattle.vm_types.specs.declared.config.Config.{Config}
-use Rattle.vm_journal.specs.HasLine.{WhatHasLine}
 use Rattle.vm_journal.specs.declared.entry.Entry.{Entry}
 use Rattle.vm_journal.specs.declared.entry.What.{What}
 use Rattle.vm_journal.specs.declared.entry.What.TheVariants as what
@@ -23,7 +22,7 @@ use Rattle.row_requests.specs.FollowsFlat.{FollowsFlat}
 use Rattle.log_check.specs.Follows.{Follows}
 use Rattle.log_check.specs.declared.followed.Followed.{Followed}
 use Rattle.log_check.specs.Followed.{HasEntered, IsAdded, IsFollowed, MayEnter}
-use Rattle.log_check.specs.Replies.{CanAnswer, IsOfProcess}
+use Rattle.log_check.specs.Replies.{IsOfProcess}
 use Rattle.log_check.proofs.Changeable.{served_process}
 
 -- the beginning
@@ -38,12 +37,6 @@ first_followed config f formed past shows bytes = record {
   }));
   bytes = subst (λ (s : Passed). KeepsFlat s.config (flat_after s.config s.past) (kept f.bytes)) (sym past) bytes;
 }
-
--- what a reply asks of an entry that has a line
-pub can_answer : (config : Config) (w : What) → WhatHasLine (length config.procs) config.sections w → CanAnswer w
-can_answer config (what.Done r reply) line = line.0
-can_answer config (what.Served s answer) line = line.0
-can_answer config other line = tt
 
 pub of_process : (config : Config) (past : List Entry) (p : ℕ) (w : What) → IsLegalWhat config past (pager_after config past) p w → IsOfProcess config p w
 of_process config past p (what.Served s answer) row = served_process config past (pager_after config past) p s answer row

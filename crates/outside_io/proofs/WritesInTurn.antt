@@ -5,7 +5,6 @@ use Rattle.std.proofs.Math.Seq.{take-append-add}
 use Rattle.std.proofs.KnownBytes.{Appends-nil, Appends-trans}
 use Rattle.std.specs.declared.option.Option.{Option}
 use Rattle.outside_io.specs.declared.whole.WriteFault.{WriteFault}
-use Rattle.outside_io.specs.declared.whole.WriteFault.TheVariants.{Failed, NoneTaken}
 use Rattle.outside_io.specs.Views.{SinkView}
 use Rattle.outside_io.specs.WholeWrite.{TakesText, FaultsByWrite, stalls_by}
 use Rattle.outside_io.specs.Writes.{Writes}
@@ -34,17 +33,9 @@ pub faults_then : {T U : Type 0} (f g h : ℕ) (done : T) (result : Result U Wri
     → FaultsByWrite f g (Ok done) → FaultsByWrite g h result → FaultsByWrite f h result
 faults_then f g h done result first second = let P : ℕ → Type 0 = λ count. FaultsByWrite count h result in subst P first second
 
-pub faults_fault : (T U : Type 0) (f g : ℕ) (fault : WriteFault) → FaultsByWrite {T = T} f g (Err fault) → FaultsByWrite {T = U} f g (Err fault)
-faults_fault T U f g Failed first = first
-faults_fault T U f g NoneTaken first = first
-
 pub stalls_then : {T U : Type 0} (s t u : ℕ) (done : T) (result : Result U WriteFault)
     → t ≡ stalls_by s (Ok done) → u ≡ stalls_by t result → u ≡ stalls_by s result
 stalls_then s t u done result first second = second ∙ ap (λ count. stalls_by count result) first
-
-pub stalls_fault : (T U : Type 0) (s t : ℕ) (fault : WriteFault) → t ≡ stalls_by {T = T} s (Err fault) → t ≡ stalls_by {T = U} s (Err fault)
-stalls_fault T U s t Failed first = first
-stalls_fault T U s t NoneTaken first = first
 
 -- the same of all that a write does to a sink
 pub writes_then : {a b c : SinkView} {result : Result (Unit {0}) WriteFault} {one two : List ℕ}

@@ -66,17 +66,9 @@ region_told p n vs s = (s.1.0 ∙ (λ i. vstruct (of_list (s.1.1.0 i ++ (s.1.1.1
 pub region_made : {M : Type 1} {𝓤 : Ura M} (𝓛 : Logic 𝓤) (p : Ptr) (n : ℕ) → n < 2 ^ 64 → ent 𝓤 (emp 𝓤) (sem 𝓛 (Region.own_val (p, (n, tt)) (region_val p n ∷ [])))
 region_made 𝓛 p n f = makes_shadow 𝓛 (Region.own_val (p, (n, tt)) (region_val p n ∷ [])) (λ _. (tt, (tt, ((tt, tt), tt)))) ((ptr_val p ∷ [], (vint w64 n ∷ [], tt)), (refl, (refl, ((refl, f), tt))))
 
-ptr_typed : (p : Ptr) → Good ty_ptr (ptr_val p)
-ptr_typed (block_ptr b o) = (tt, tt)
-ptr_typed null_ptr = (tt, record { fits = lit< tt })
-
 pub part_typed : (p : Ptr) (n : ℕ) → n < 2 ^ 32 → Good (ty_struct [] (tcons ty_ptr (tcons (ty_int w32) tnil))) (part_val p n)
 part_typed (block_ptr b o) n f = (tt, (tt, (record { fits = f }, tt)))
 part_typed null_ptr n f = (tt, (record { fits = lit< tt }, (record { fits = f }, tt)))
-
-pub region_typed : (p : Ptr) (n : ℕ) → n < 2 ^ 64 → Good (ty_struct [] (tcons ty_ptr (tcons (ty_int w64) tnil))) (region_val p n)
-region_typed (block_ptr b o) n f = (tt, (tt, (record { fits = f }, tt)))
-region_typed null_ptr n f = (tt, (record { fits = lit< tt }, (record { fits = f }, tt)))
 
 -- the value of 512 bytes
 abbrev pub page_vals : List ℕ → List Val

@@ -1,7 +1,7 @@
 -- Small facts on tests, changed functions, sets as lists, counts and first elements.
 use Rattle.std.proofs.Common.{◌≡◌, ℕ, ◌+◌, ◌*◌, Bool, true, false, cond, not, ◌&&◌, ◌||◌, List, [], ◌∷◌, Some, None, replicate, nat_eq, count_by, find, slice_get, slice_set, slice_index_or, refl, sym, ap, ◌∙◌, subst, arith}
 use Rattle.std.specs.List.{list_any, AllByRecursion}
-use Rattle.std.proofs.lemmas.Bool.{eqb-true, eqb-false, eq-eqb, ne_eqb, false≢true, true≢false, and_parts, and_from, or_parts, or_from, or_left, or_right}
+use Rattle.std.proofs.lemmas.Bool.{eqb-true, eqb-false, eq-eqb, ne_eqb, false≢true, true≢false, and_parts, and_from, or_parts, or_from, or_left}
 use Rattle.std.proofs.lemmas.List.Sums.{sum_by-cons, sum_by-set}
 use Rattle.std.proofs.lemmas.List.Folds.{sum_by-replicate}
 use Rattle.std.proofs.lemmas.Option.{get_or_from_slice_get, slice_get_within}
@@ -94,10 +94,6 @@ each_weaker P Q step (x ∷ xs) h = (step x h.0, each_weaker P Q step xs h.1)
 pub each_of_two : {X : Type 0} (P Q R : X → Type 0) → ((x : X) → P x → Q x → R x) → (xs : List X) → AllByRecursion P xs → AllByRecursion Q xs → AllByRecursion R xs
 each_of_two P Q R step [] h k = tt
 each_of_two P Q R step (x ∷ xs) h k = (step x h.0 k.0, each_of_two P Q R step xs h.1 k.1)
-
--- the page is in the list with one more before it
-pub has_page_more : (first : Page) (pages : List Page) (page : Page) → has_page pages page ≡ true → has_page (first ∷ pages) page ≡ true
-has_page_more first pages page e = or_right (same_page page first) (has_page pages page) e
 
 pub has_page_first : (pages : List Page) (page : Page) → has_page (page ∷ pages) page ≡ true
 has_page_first pages page = or_left (same_page page page) (has_page pages page) (same_page_refl page)

@@ -1,5 +1,5 @@
 -- Pages: behind an entry, in a swap block, and in a frame.
-use Rattle.std.proofs.Common.{◌&&◌, ◌≡◌, ◌⊎◌, ℕ, ◌<◌, length, Bool, true, false, cond, Option, Some, None, slice_get, refl, sym, ap, ◌∙◌, subst, inl, inr, nat_eq, true≢false}
+use Rattle.std.proofs.Common.{◌&&◌, ◌≡◌, ◌⊎◌, ℕ, ◌<◌, length, Bool, true, false, cond, Option, Some, None, slice_get, refl, sym, ap, ◌∙◌, subst, inl, inr, nat_eq}
 use Rattle.std.proofs.lemmas.Bool.{cases_eq, eqb-true, false≢true}
 use Rattle.vm_types.specs.Kinds.{is_paged_kind, is_shared_kind}
 use Rattle.vm_types.specs.Ring.{Ring}
@@ -74,10 +74,6 @@ paged_is_shared (Some section) paged = by section.kind paged
 pub private_is_paged : (config : Config) (g : Page) → is_private g ≡ true → is_paged config g ≡ true
 private_is_paged config (Private p v) private = refl
 private_is_paged config (Shared s i) private = absurd (false≢true private)
-
-pub unpaged_is_shared : (config : Config) (g : Page) → is_paged config g ≡ false → is_private g ≡ false
-unpaged_is_shared config (Private p v) unpaged = absurd (true≢false unpaged)
-unpaged_is_shared config (Shared s i) unpaged = refl
 
 -- what is behind a shared page
 pub origin_behind : (config : Config) (p v : ℕ) (o : Origin) (s : SecId) (i : ℕ) → page_behind config p v o ≡ Shared s i → o ≡ origin.Section s i

@@ -1,5 +1,5 @@
 -- Small lemmas about functions changed at one place, what a search finds, and touched pages.
-use Rattle.std.proofs.Common.{◌≡◌, ℕ, ◌<◌, ◌⊎◌, Bool, true, false, cond, List, [], ◌∷◌, Some, length, find, count_by, nat_eq, refl, sym, ap, ◌∙◌, subst, inl, inr, ⊎_elim, arith}
+use Rattle.std.proofs.Common.{◌≡◌, ℕ, ◌<◌, ◌⊎◌, Bool, true, false, cond, List, [], ◌∷◌, Some, length, find, count_by, nat_eq, refl, sym, ap, ◌∙◌, subst, ⊎_elim, arith}
 use Rattle.std.specs.List.{IsDistinct}
 use Rattle.std.specs.Cmp.{IsEquivalence}
 use Rattle.std.proofs.lemmas.Bool.{eqb-true, or_cases}
@@ -61,18 +61,6 @@ shorter_list xs ys page once within out here =
     (within x)
     (or_cases (same_page x page) (has_page xs x) e)) in
     omega arith
-
--- a page that is touched where one more was touched: it was before, or is that one, a paged page
-pub touched_cases : (config : Config) (touched : List Page) (page other : Page) → has_page (touched_with config touched page) other ≡ true → (has_page touched other ≡ true) ⊎ ((is_paged config page ≡ true) × (other ≡ page))
-touched_cases config touched page other = by (is_paged config page) (has_page touched page) refl
-  where
-    by : (b c : Bool) → is_paged config page ≡ b → has_page (cond b (cond c touched (page ∷ touched)) touched) other ≡ true → (has_page touched other ≡ true) ⊎ ((is_paged config page ≡ true) × (other ≡ page))
-    by false c private e = inl e
-    by true true private e = inl e
-    by true false private e = ⊎_elim
-        (λ same. inr (private, pages_equal other page same))
-        (λ before. inl before)
-        (or_cases (same_page other page) (has_page touched other) e)
 
 pub touched_once : (config : Config) (touched : List Page) (page : Page) → IsDistinct same_page touched → IsDistinct same_page (touched_with config touched page)
 touched_once config touched page once = by (is_paged config page) (has_page touched page) refl

@@ -36,7 +36,7 @@ use Rattle.pager_rules.specs.Kept.{FitsDirection, FitsFlight, FitsRead, IsKept, 
 use Rattle.pager_laws.proofs.RunsAreSound.{run_kept}
 use Rattle.serial_laws.proofs.Counting.{each_is}
 use Rattle.policy_ends.specs.Rank.{lies_in_swap, swapped_out}
-use Rattle.policy_ends.proofs.Order.{fewer_pass, less_pass}
+use Rattle.policy_ends.proofs.Order.{less_pass}
 use Rattle.policy_ends.proofs.WriteCarriers.{run_landed}
 
 -- ---- no transfer changes a status or counts a reference
@@ -127,11 +127,6 @@ nowhere_each p lies g h = by (same_page g h)
     by : (c : Bool) → lies_in_swap p (cond c None (lies h)) ≡ true → lies_in_swap p (lies h) ≡ true
     by true is = absurd (false≢true is)
     by false is = is
-
-pub nowhere_fewer : (p : ℕ) (lies : Page → Option BlockId) (o : Option Page) (charged : List Page)
-    → count_by (λ (h : Page). lies_in_swap p (lies_nowhere lies o h)) charged ≤ count_by (λ (h : Page). lies_in_swap p (lies h)) charged
-nowhere_fewer p lies None charged = omega arith
-nowhere_fewer p lies (Some g) charged = fewer_pass (λ (h : Page). lies_in_swap p (at_page lies g None h)) (λ (h : Page). lies_in_swap p (lies h)) charged (each_is _ (nowhere_each p lies g) charged)
 
 pub nowhere_less : (config : Config) (past : List Entry) (a : Pager) (p n : ℕ) (g : Page) → IsKept config (past_view past) a → a.lies g ≡ Some (block.Swap (proc p) n)
     → count_by (λ (h : Page). lies_in_swap p (at_page a.lies g None h)) a.charged < swapped_out a p

@@ -1,5 +1,5 @@
 -- Words are copied one after another, and are then texts.
-use Rattle.std.proofs.Common.{◌≡◌, ℕ, List, [], ◌∷◌, ◌++◌, drop, refl, sym, ◌∙◌, ap, subst, append-nil, append_assoc}
+use Rattle.std.proofs.Common.{◌≡◌, ℕ, List, [], ◌∷◌, ◌++◌, drop, sym, ◌∙◌, ap, subst, append_assoc}
 use Rattle.std.specs.Prelude.{None, Some, IfSome}
 use Rattle.std.specs.declared.option.Option.{Option}
 use Rattle.program_call.specs.Words.{TakesWord}
@@ -8,20 +8,9 @@ use Rattle.program_call.specs.Words.{TakesWord}
 abbrev pub Copied : Option (List (List ℕ)) → Option (List (List ℕ)) → List (List ℕ) → Type 0
 Copied before now words = IfSome before (λ all. (rest : List (List ℕ)) × (drop 1 all ≡ words ++ rest) × (now ≡ Some rest))
 
-pub copied_none : (before now : Option (List (List ℕ))) → IfSome before (λ all. now ≡ Some (drop 1 all)) → Copied before now []
-copied_none None now skipped = tt
-copied_none (Some all) now skipped = (drop 1 all, refl, skipped)
-
 pub copied_more : (before now next : Option (List (List ℕ))) (words : List (List ℕ)) (word : List ℕ)
     → Copied before now words → TakesWord now next (Some word) → Copied before next (words ++ word ∷ [])
 copied_more None now next words word copied takes = tt
 copied_more (Some all) now next words word copied takes =
     let taken : TakesWord (Some copied.0) next (Some word) = subst (λ left. TakesWord left next (Some word)) copied.2 takes in
     (taken.0, copied.1 ∙ ap (λ rest. words ++ rest) taken.1 ∙ sym (append_assoc words (word ∷ []) taken.0), taken.2)
-
-pub copied_all : (before now next : Option (List (List ℕ))) (words : List (List ℕ))
-    → Copied before now words → TakesWord now next None → IfSome before (λ all. words ≡ drop 1 all)
-copied_all None now next words copied takes = tt
-copied_all (Some all) now next words copied takes =
-    let none : TakesWord (Some copied.0) next None = subst (λ left. TakesWord left next None) copied.2 takes in
-    sym (copied.1 ∙ ap (λ rest. words ++ rest) none ∙ append-nil words)

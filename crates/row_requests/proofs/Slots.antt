@@ -12,9 +12,6 @@ pub held_there : (o : Option (Option Held)) (held : Held) → slot_of o ≡ Some
 held_there None held is = absurd (none-some held is)
 held_there (Some slot) held is = ap Some is
 
-pub there_held : (o : Option (Option Held)) (held : Held) → o ≡ Some (Some held) → slot_of o ≡ Some held
-there_held o held is = ap slot_of is
-
 pub none_there : (o : Option (Option Held)) (held : Held) → slot_of o ≡ None → o ≡ Some (Some held) → ⊥
 none_there o held none is = none-some held (sym none ∙ ap slot_of is)
 

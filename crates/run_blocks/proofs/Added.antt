@@ -1,21 +1,16 @@
 -- What one block more, and some blocks more, make of those that were made.
-use Rattle.std.proofs.Common.{◌≡◌, ℕ, ◌+◌, ◌≤◌, Bool, true, false, List, [], ◌∷◌, ◌++◌, Some, map, refl, sym, ap, ◌∙◌, subst, append_assoc, append-nil, arith}
+use Rattle.std.proofs.Common.{◌≡◌, ℕ, ◌+◌, Bool, true, false, List, [], ◌∷◌, ◌++◌, Some, map, refl, sym, ap, ◌∙◌, subst, append_assoc, append-nil, arith}
 use Rattle.std.specs.List.{range_with_len}
 use Rattle.std.proofs.lemmas.List.FromFn.{map-range_with_len_more}
 use Rattle.std.proofs.lemmas.List.{map-append}
 use Rattle.std.proofs.lemmas.List.Elements.{All-push}
 use Rattle.vm_types.specs.BlockView.{BlockView, Tells}
-use Rattle.vm_types.specs.Counts.{Rose}
 use Rattle.vm_types.specs.declared.config.Config.{Config}
 use Rattle.vm_types.specs.declared.names.BlockId.{BlockId}
 use Rattle.disk_trait.specs.Told.{told}
 use Rattle.pager_model.specs.CountedBlock.{plan_of, told_plan}
 use Rattle.run_blocks.specs.Adds.{Adds, AreFirst, AreMade, names_of}
 use Rattle.vm_state.specs.Made.{IsMade}
-
--- since an earlier count
-pub rose_since : (before between after : ℕ) → before ≤ between → Rose between after → Rose before after
-rose_since before between after later rose = omega (arith, later, rose)
 
 module _ {B : Type 0} (seen : B → BlockView) (tells : Tells) (config : Config) where
   pub record IsNew (x : B) (bytes calls : List ℕ) : Type 0 where

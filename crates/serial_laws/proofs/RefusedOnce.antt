@@ -41,10 +41,6 @@ has_failure c first lost = by (begins_with_fault c.first && c.first_failed) refl
     by true is parts = first ((and_parts (begins_with_fault c.first) c.first_failed is).1)
     by false is parts = let some = ltb-true 0 c.begun parts.0 in let all = eqb-true c.failed c.begun parts.1 in omega (arith, some, all)
 
-owed_within : (spoken : Bool) (failed : ℕ) → cond spoken 0 failed ≤ failed
-owed_within true failed = omega arith
-owed_within false failed = omega arith
-
 module _ (c : Carrying) (refusals failures : ℕ) (h : Holds c refusals failures) where
   -- one that is no refusal and no failure, and leaves the carrier or begins the next
   kept : Holds c (one_if false + refusals) (one_if false + failures)

@@ -5,16 +5,12 @@ use Rattle.std.proofs.lemmas.Bool.{true≢false}
 use Rattle.std.proofs.lemmas.Bool.Decides.{eqb_tells, nat_tests}
 use Rattle.std.proofs.lemmas.Map.Views.{any-filter_same}
 use Rattle.vm_types.specs.Same.{same_page}
-use Rattle.vm_types.specs.declared.names.Addr.{Addr}
 use Rattle.vm_types.specs.declared.names.Page.{Page}
 use Rattle.vm_types.specs.declared.names.Proc.{Proc}
-use Rattle.vm_types.specs.declared.reply.Answer.TheVariants.{Good}
-use Rattle.vm_types.specs.declared.service.Service.{Service}
-use Rattle.vm_types.specs.declared.service.Service.TheVariants as service
 use Rattle.vm_types.specs.declared.names.Page.TheVariants.{Private, Shared}
 use Rattle.vm_types.specs.declared.config.Config.{Config}
 use Rattle.pager_model.specs.Flat.{FlatState, is_untouched, shared_bytes}
-use Rattle.pager_model.specs.FlatService.{flat_service, is_private_in}
+use Rattle.pager_model.specs.FlatService.{is_private_in}
 use Rattle.pager_model.specs.Maps.{Map, is_paged, page_number}
 use Rattle.pager_model.specs.Sets.{at_page, has_page}
 use Rattle.pager_rules.proofs.Basics.{pages_equal}
@@ -59,23 +55,6 @@ module _ (config : Config) (state : FlatState) (old new : Page → Option (List 
 
   pub kept_forgotten : (map : Map) → KeepsFlat config (forgotten map) new
   kept_forgotten map = record { touched = touched_is; stored = stored_is map }
-
--- only the maps have changed
-pub kept_remapped : (config : Config) (state : FlatState) (kept : Page → Option (List ℕ)) (map : Map) → KeepsFlat config state kept → KeepsFlat config (record { map = map; touched = state.touched; stored = state.stored }) kept
-kept_remapped config state kept map h = record { touched = h.touched; stored = h.stored }
-
--- a service that forgets no page
-pub kept_served : (config : Config) (state : FlatState) (kept : Page → Option (List ℕ)) (p : ℕ) (s : Service) → KeepsFlat config state kept → ((at : Addr) (pages : ℕ) → s ≡ service.Delete at pages → ⊥)
-    → KeepsFlat config (flat_service state p s Good) kept
-kept_served config state kept p (service.Create at pages prot) h other = record { touched = h.touched; stored = h.stored }
-kept_served config state kept p (service.Delete at pages) h other = absurd (other at pages refl)
-kept_served config state kept p (service.Protect at pages prot) h other = record { touched = h.touched; stored = h.stored }
-kept_served config state kept p (service.Lock at pages) h other = h
-kept_served config state kept p (service.Unlock at pages) h other = h
-kept_served config state kept p (service.Purge at pages) h other = h
-kept_served config state kept p (service.Pin at pages) h other = h
-kept_served config state kept p (service.Unpin at pages) h other = h
-kept_served config state kept p (service.Adjust limit) h other = h
 
 -- ---- one page after another
 -- none before the first

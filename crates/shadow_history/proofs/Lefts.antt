@@ -58,18 +58,6 @@ requests_none p procs (task ∷ tasks) few above =
     requests_other p task tasks (λ own. omega (arith, own, below, above)) ∙ requests_none p procs tasks (λ t x is. few (suc t) x is) above
 
 -- ---- the links
-pub linked_end : (body : List Task) (procs : ℕ) → AreLinked body (length body) (replicate procs (length body)) (replicate (length body) (length body))
-linked_end body procs = record {
-  count = length-replicate (length body) (length body);
-  nexts = λ p i is.
-      let end : length body ≡ i = replicated procs (length body) i p is in
-      record {
-        place = record { within = omega (arith, end); own = λ task there. absurd (omega (arith, end, slice_get_within body i task there)) };
-        first = ap (λ (k : ℕ). requests_of p (drop k body)) (sym end);
-      };
-  afters = λ u j task from there is. absurd (omega (arith, from, slice_get_within body u task there));
-}
-
 pub linked_more : (body : List Task) (t : ℕ) (next after : List ℕ) (task : Task) (i : ℕ) → AreLinked body (suc t) next after → slice_get body t ≡ Some task → slice_get next (task.proc).0 ≡ Some i
     → AreLinked body t (slice_set next (task.proc).0 t) (slice_set after t i)
 linked_more body t next after task i linked here old = record { count = length-set after t i ∙ linked.count; nexts = nexts; afters = afters }

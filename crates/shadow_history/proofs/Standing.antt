@@ -3,9 +3,7 @@ use Rattle.std.proofs.Common.{◌≡◌, ℕ, ◌+◌, ◌↔◌, ◌<◌, ◌�
 use Rattle.std.proofs.Common.{IsTrue, is_some, length, find, drop, replicate, slice_get, slice_set, nat_eq, refl, sym, ap, ◌∙◌, subst, arith, length-set, append_assoc, append-nil}
 use Rattle.std.proofs.lemmas.Bool.{eq-eqb, eqb-true, eqb-false, false≢true}
 use Rattle.std.proofs.lemmas.List.{get_or-replicate, length-replicate}
-use Rattle.std.proofs.lemmas.List.Elements.{All-get_or}
-use Rattle.std.proofs.lemmas.Option.{get_or_from_slice_get, slice_get-get_or, slice_get_within}
-use Rattle.vm_types.specs.Configuration.{IsTask, IsWellFormed}
+use Rattle.std.proofs.lemmas.Option.{slice_get-get_or}
 use Rattle.vm_types.specs.declared.names.BlockId.{BlockId}
 use Rattle.vm_types.specs.declared.config.Config.{Config}
 use Rattle.vm_types.specs.declared.service.Request.{Request}
@@ -24,7 +22,7 @@ use Rattle.shadow_history.specs.declared.count.Count.{Count}
 use Rattle.shadow_history.specs.Carriers.{AreCarriers, HasSmallCounts}
 use Rattle.shadow_history.specs.Counting.{count_of}
 use Rattle.shadow_history.specs.Landed.{failed_read_in}
-use Rattle.shadow_history.specs.Lefts.{AreOf, IsRequestTaken, Left, left_of}
+use Rattle.shadow_history.specs.Lefts.{IsRequestTaken, Left, left_of}
 use Rattle.shadow_history.specs.Standing.{AreLeft, FailsOpen, StandsFor}
 use Rattle.shadow_history.proofs.Lefts.{same_Some, slot_set}
 
@@ -210,24 +208,6 @@ answered_if_none config past left kept are says order = (
 )
 
 -- ---- all together
-pub tasks_below : (config : Config) → IsWellFormed config → AreOf config.body (length config.procs)
-tasks_below config formed t task is =
-    let within = slice_get_within config.body t task is in
-    let each = All-get_or (IsTask config.version (length config.procs)) config.body t task within formed.body in
-    (subst (IsTask config.version (length config.procs)) (get_or_from_slice_get config.body t task task is) each).proc
-
-pub stands_at_first : (config : Config) (carriers : List Carrying) (left : Left) → carriers ≡ replicate (length config.procs + 2) no_carrier → ((p : ℕ) → left_of left p ≡ requests_of p config.body)
-    → StandsFor config [] 0 [] None carriers [] left
-stands_at_first config carriers left none all = record {
-  counted = refl;
-  open_now = refl;
-  failure = refl;
-  waits = refl;
-  rows = subst (AreCarriers [] (length config.procs + 2)) (sym none) (no_carriers (length config.procs + 2));
-  faults = λ b. refl;
-  requests = λ order p. all p;
-}
-
 pub stands_after : (config : Config) (past : List Entry) (e : Entry) (count : ℕ) (busy : Bool) (flights flights_new : List Flight) (failed failed_new : Option Flight)
     (carriers carriers_new : List Carrying) (counts counts_new : List Count) (left left_new : Left)
     → StandsFor config past count flights failed carriers counts left → (e.seat).0 < length config.procs + 2 → FailsOpen e.what (open_flights past)

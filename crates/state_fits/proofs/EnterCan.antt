@@ -9,7 +9,6 @@ use Rattle.vm_journal.specs.declared.entry.Entry.{Entry}
 use Rattle.global_pages.specs.GlobalPages.{GlobalPages, IsGlobalPage, count_of}
 use Rattle.page_tables.specs.PageTables.{IsEntry, IsMapped, pte_in}
 use Rattle.pfn_database.specs.Frames.{row_of}
-use Rattle.pfn_database.specs.Rows.{FitsSlotIndex}
 use Rattle.pfn_database.specs.declared.row.Row.{Row}
 use Rattle.pte_forms.specs.declared.pte.Place.TheVariants as place
 use Rattle.pte_forms.specs.declared.pte.Pte.{Pte}
@@ -22,7 +21,6 @@ use Rattle.pager_rules.specs.Kept.{IsKept}
 use Rattle.pager_laws.proofs.Holders.{holder_there, holds_within}
 use Rattle.pager_laws.proofs.SectionNumbers.{number_within}
 use Rattle.pager_laws.proofs.EntryPages.{mapped_right}
-use Rattle.state_fits.specs.Changes.{page_slot}
 use Rattle.state_fits.specs.Entries.{section_page_number}
 use Rattle.state_fits.specs.Globals.{shares_held}
 use Rattle.state_fits.specs.Parts.{Parts}
@@ -46,10 +44,6 @@ pub record CanEnter (config : Config) (p v f : ℕ) (parts : Parts) : Type 0 whe
   pub global : (g : Page) → (row_of parts.frames f).page ≡ Some g → CanShare config parts.globals g
   pub mapped : IsMapped parts.tables p v
   pub entry : (pte : Pte) → pte_in parts.tables p v ≡ Some pte → IsEntry (record pte { place = place.Valid false (record { 0 = f }) })
-
-pub fits_page_slot : (g : Page) (slot : ℕ) → FitsSlotIndex (Some g) (page_slot g slot)
-fits_page_slot (Private p v) slot = tt
-fits_page_slot (Shared s i) slot = refl
 
 module _ (config : Config) (past : List Entry) (a : Pager) (p v f : ℕ) (g : Page) (parts : Parts) (formed : IsWellFormed config) (kept : IsKept config (past_view past) a) (right : IsOfConfig config a) (fit : PartsFit config past a parts)
     (own : page_by config a.map p v ≡ Some g) (holds : a.page f ≡ Some g) where

@@ -1,43 +1,25 @@
 -- What the calls of SERVED's changes require of the parts.
-use Rattle.std.proofs.Common.{◌≡◌, ℕ, ◌<◌, true, List, Option, Some, None, length, is_some, sym, ap, ◌∙◌, subst, arith}
+use Rattle.std.proofs.Common.{◌≡◌, ℕ, ◌<◌, List, Option, Some, None, length, is_some, sym, ap, ◌∙◌, subst}
 use Rattle.std.specs.Prelude.{IsSome}
 use Rattle.std.specs.Option.{option_map}
 use Rattle.vm_types.specs.PagePlaces.{region_place}
-use Rattle.vm_types.specs.WellFormed.{IsCode, IsRange}
 use Rattle.vm_types.specs.declared.config.Config.{Config}
 use Rattle.vm_types.specs.declared.names.Page.{Page}
 use Rattle.vm_journal.specs.declared.entry.Entry.{Entry}
-use Rattle.page_tables.specs.PageTables.{IsEntry, IsMapped, pte_in, HasPage as HasEntryPage}
-use Rattle.pte_forms.specs.declared.pte.Place.TheVariants as place
-use Rattle.pte_forms.specs.declared.pte.Pte.{Pte}
+use Rattle.page_tables.specs.PageTables.{IsMapped, pte_in, HasPage as HasEntryPage}
 use Rattle.section_table.specs.SectionTable.{behind_of, HasPage as HasSectionPage}
-use Rattle.pager_laws.proofs.OfConfigKept.{in_service}
-use Rattle.pager_model.specs.FlatService.{in_range}
 use Rattle.pager_model.specs.Forget.{holder}
 use Rattle.pager_model.specs.Lookups.{entry_of, page_by}
 use Rattle.pager_model.specs.Maps.{Mapped}
 use Rattle.pager_model.specs.Pager.{Pager}
 use Rattle.state_parts.specs.ChargedTable.{HasPage as HasChargedPage}
-use Rattle.pager_laws.proofs.RingBounds.{placed}
 use Rattle.pager_laws.proofs.ValidEntries.{mapping_of}
 use Rattle.state_fits.specs.Entries.{pte_at, pte_of}
 use Rattle.state_fits.specs.Parts.{Parts}
 use Rattle.state_fits.specs.PartsFit.{PartsFit}
-use Rattle.state_fits.specs.Serving.{with_code}
 use Rattle.state_fits.proofs.ShownEntries.{shown}
 
 -- ---- entries
--- with another code, and of zeros
-pub coded_entry : (pte : Pte) (prot : ℕ) → IsEntry pte → IsCode prot → IsEntry (with_code prot pte)
-coded_entry pte prot good code = record { fits = record { code = code; number = (good.fits).number }; unmarked = good.unmarked }
-
-pub zero_entry : (prot : ℕ) → IsCode prot → IsEntry (record { prot = prot; place = place.DemandZero })
-zero_entry prot code = record { fits = record { code = code; number = omega arith }; unmarked = tt }
-
--- a page of the range of a service has a place
-pub range_placed : (address pages v : ℕ) → IsRange address pages → in_range address pages v ≡ true → IsSome (region_place v)
-range_placed address pages v range inside = placed v (in_service address pages v range inside)
-
 -- ---- a page that is mapped, or isn't, as the parts show it
 module _ (config : Config) (past : List Entry) (a : Pager) (parts : Parts) (fit : PartsFit config past a parts) (p v : ℕ) where
   pub mapped_entry : (g : Page) → page_by config a.map p v ≡ Some g → IsMapped parts.tables p v

@@ -1,5 +1,5 @@
 -- The numbers of calls, one after another.
-use Rattle.std.proofs.Common.{◌≡◌, ℕ, ◌+◌, ◌≤◌, List, [], ◌∷◌, ◌++◌, length, Result, Ok, Err, refl, sym, ap, ◌∙◌, append_assoc, arith, append-nil}
+use Rattle.std.proofs.Common.{◌≡◌, ℕ, ◌+◌, ◌≤◌, List, [], ◌∷◌, ◌++◌, length, Result, Ok, Err, refl, sym, ap, ◌∙◌, append_assoc, arith}
 use Rattle.std.proofs.lemmas.List.{length-append}
 use Rattle.trace_words.specs.Judged.{◌>>=◌}
 use Rattle.trace_lines.specs.declared.breach.Breach.{Breach}
@@ -31,7 +31,3 @@ one_call words rest more calls word n so_far e spelled = record {
 
 pub no_number : (words rest more : List (List ℕ)) (calls word : List ℕ) (breach : Breach) → AreReadSoFar words calls rest → rest ≡ word ∷ more → Err breach ≡ ranged (3 + length calls) 1 4294967295 word → Err breach ≡ call_numbers 3 words
 no_number words rest more calls word breach so_far e spelled = (rw (e, ← spelled) refl) ∙ so_far.same
-
-pub all_calls : (words rest : List (List ℕ)) (calls : List ℕ) → AreReadSoFar words calls rest → rest ≡ [] → Ok calls ≡ call_numbers 3 words
-all_calls words rest calls so_far e =
-    sym (ap (λ (ws : List (List ℕ)). call_numbers (3 + length calls) ws >>= λ (ns : List ℕ). Ok (calls ++ ns)) e ∙ rw append-nil refl) ∙ so_far.same

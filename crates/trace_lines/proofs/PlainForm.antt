@@ -45,9 +45,6 @@ digit_byte b d e = record { solid = grind arith; text = grind arith }
 
 -- the two bytes of an operation's name
 
-is_name_of : (a b x y : ℕ) → is (a ∷ b ∷ []) (x ∷ y ∷ []) ≡ true → (a ≡ x) × (b ≡ y)
-is_name_of a b x y e = grind arith
-
 one_byte : (b : ℕ) → access_of (b ∷ []) ≡ None
 one_byte b = grind arith
 

@@ -9,20 +9,20 @@ use Rattle.trace_lines.specs.declared.part.Part.{Part}
 use Rattle.trace_lines.specs.Breaches.{at_word}
 use Rattle.outside_io.specs.declared.lines.Line.{Line}
 use Rattle.outside_io.specs.declared.lines.Line.TheVariants.{Text, Long, End}
-use Rattle.outside_io.specs.HandedOut.{HandsOut, Gives, Takes}
+use Rattle.outside_io.specs.HandedOut.{HandsOut, Takes}
 use Rattle.trace_reader.specs.declared.fault.TraceFault.{TraceFault}
 use Rattle.trace_reader.specs.declared.fault.TraceFault.TheVariants as fault
 use Rattle.trace_reader.specs.Changes.{start}
 use Rattle.trace_reader.specs.Head.{begins_log, goes_on, is_faulty, head_line}
 use Rattle.trace_reader.specs.Head as head
-use Rattle.trace_reader.specs.HeadAnswer.{HasGone, HeadAnswers, IsHeadLineAtFault, IsTold, HasTakenHead, AnswersLine, CountsByHead}
+use Rattle.trace_reader.specs.HeadAnswer.{HeadAnswers, IsHeadLineAtFault, IsTold, HasTakenHead, AnswersLine, CountsByHead}
 use Rattle.trace_reader.specs.Drafts.{IsDraft}
 use Rattle.trace_reader.specs.declared.draft.Draft.{Draft}
 use Rattle.trace_reader.specs.Stream.{IsReading}
 use Rattle.trace_words.specs.Words.{words}
 use Rattle.trace_lines.specs.Grammar.{content}
 use Rattle.trace_reader.specs.Meaning.{next_line}
-use Rattle.trace_reader.proofs.HeadLines.{empty_text, gone_first, line_goes, line_answers, last_goes, none_left, long_line, first_of, log_at_end}
+use Rattle.trace_reader.proofs.HeadLines.{empty_text, gone_first, line_goes, line_answers, last_goes, long_line, first_of, log_at_end}
 use Rattle.trace_reader.proofs.Drafting.{read_whole}
 
 pub told_first : (told : Option (List ℕ)) (part : Part) (number : ℕ) → part ≡ start → number ≡ 1 → IsTold told part number told
@@ -79,24 +79,11 @@ told_long (Some text) left new part number out h gives t =
     let line = took left new (Ok Long) h.rest out h.left_over t in
     long_line text part number h.rest out line.rest h.gone line.parts gives.0 gives.1
 
-pub told_none : (told left new : Option (List ℕ)) (part : Part) (number : ℕ) (out : List ℕ) → IsTold told part number left → TookOf left (Ok End) out new → IfSome told (λ text. HeadAnswers (Err fault.Unfinished) text new)
-told_none None left new part number out h t = tt
-told_none (Some text) left new part number out h t =
-    let line = took left new (Ok End) h.rest out h.left_over t in
-    (none_left text part number h.rest h.gone line.parts.0, line.left_over ∙ ap (λ (r : List ℕ). Some r) line.parts.1)
-
 pub told_empty : (told left new : Option (List ℕ)) (part : Part) (number : ℕ) (out : List ℕ) → IsTold told part number left → TookOf left (Ok End) out new → number ≡ 1 → IfSome told (λ text. HeadAnswers (Err fault.Empty) text new)
 told_empty None left new part number out h t first = tt
 told_empty (Some text) left new part number out h t first =
     let line = took left new (Ok End) h.rest out h.left_over t in
     (empty_text text part number h.rest h.gone line.parts.0 first, line.left_over ∙ ap (λ (r : List ℕ). Some r) line.parts.1)
-
-pub told_failed : (told left new : Option (List ℕ)) (part : Part) (number : ℕ) (out : List ℕ) (failed : Failed) → IsTold told part number left → Gives (Err failed) out → TookOf left (Err failed) out new
-    → IfSome told (λ text. HeadAnswers (Err fault.ReadFault) text new)
-told_failed None left new part number out failed h gives t = tt
-told_failed (Some text) left new part number out failed h gives t =
-    let line = took left new (Err failed) h.rest out h.left_over t in
-    record { part = part; number = number; line = out; rest = line.rest; gone = subst (HasGone text part number) line.parts h.gone; few = gives.1; left_over = line.left_over }
 
 -- a line was taken, or is at fault
 pub line_told : (before next : Draft) (number after : ℕ) (ended : Bool) (out : List ℕ) → HasTakenHead before number out next after true → AnswersLine before.part number ended out next.part after (Ok true)

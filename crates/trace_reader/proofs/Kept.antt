@@ -119,14 +119,6 @@ end_kept (Err fault.Empty) (Some text) new pending kept part number h at other k
     none_taken text h.done pending h.split.rest part number h.split.whole (none_left new h.split.rest h.split.left_over at) h.follows k.0 k.1
 end_kept (Err fault.Unfinished) told new pending kept part number h at other k = tt
 
--- a line that was taken at the end is the last one
-pub last_line_kept : (number : ℕ) (line kept : List ℕ) (f : TraceFault) → KeepsLine number line kept f → KeepsLast number line kept f
-last_line_kept number line kept fault.NoMemory k = k
-last_line_kept number line kept fault.ReadFault k = k
-last_line_kept number line kept (fault.Line n breach) k = k
-last_line_kept number line kept fault.Empty k = absurd k
-last_line_kept number line kept fault.Unfinished k = k
-
 -- nothing stands in front of a log
 pub head_empty : (told left new : Option (List ℕ)) (part : Part) (number : ℕ) (out kept : List ℕ) → IsTold told part number left → TookOf left (Ok End) out new → number ≡ 1 → IsTextOf fault.Empty told kept
 head_empty None left new part number out kept h t first = tt

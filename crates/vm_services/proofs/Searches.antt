@@ -65,9 +65,6 @@ pub record IsLeastOf (f : ℕ → Option ℕ) (n : ℕ) (o : Option ℕ) : Type 
   pub least : (k v : ℕ) → k < n → f k ≡ Some v → (w : ℕ) × (o ≡ Some w) × (w ≤ v)
   pub one : (w : ℕ) → o ≡ Some w → (k : ℕ) × (k < n) × (f k ≡ Some w)
 
-pub least_none : (f : ℕ → Option ℕ) → IsLeastOf f 0 None
-least_none f = record { least = λ k v less is. absurd (omega (arith, less)); one = λ w is. absurd (none-some w is) }
-
 module _ (f : ℕ → Option ℕ) (n : ℕ) where
   below : (k : ℕ) → k < n + 1 → (n ≡ k) ⊎ (k < n)
   below k less = by (cases_eq n k)

@@ -5,11 +5,7 @@ use Rattle.std.proofs.lemmas.Option.{slice_get_cases}
 use Rattle.vm_types.specs.Configuration.{IsName, IsWellFormed}
 use Rattle.vm_types.specs.declared.config.Config.{Config}
 use Rattle.vm_types.specs.declared.config.Section.{Section}
-use Rattle.vm_types.specs.declared.names.Page.{Page}
-use Rattle.vm_types.specs.declared.names.Page.TheVariants.{Private, Shared}
-use Rattle.vm_types.specs.declared.names.BlockId.{BlockId}
-use Rattle.vm_types.specs.declared.names.BlockId.TheVariants as block
-use Rattle.vm_text.specs.Named.{AreNames, IsNamedPage, IsNamedBlock, IsPrintablePage, IsPrintableBlock, IsShortSection}
+use Rattle.vm_text.specs.Named.{AreNames, IsShortSection}
 
 -- a section that is there has a name by the rule
 pub section_named : (procs : ℕ) (names : List Section) (s : ℕ) → AreNames procs names → s < length names
@@ -24,15 +20,6 @@ short_section : (procs : ℕ) (names : List Section) (s : ℕ) → AreNames proc
 short_section procs names s are within =
     let found = section_named procs names s are within in
     subst (λ o. IsSomeAnd o (λ (section : Section). length section.name ≤ 15)) (sym found.1) found.2.length.1
-
-pub printable_page : (procs : ℕ) (names : List Section) (page : Page) → AreNames procs names → IsNamedPage procs names page → IsPrintablePage names page
-printable_page procs names (Private p v) are named = let few = are.few in (omega arith, named.1)
-printable_page procs names (Shared s i) are named = short_section procs names s.0 are named.0.there
-
-pub printable_block : (procs : ℕ) (names : List Section) (b : BlockId) → AreNames procs names → IsNamedBlock procs names b → IsPrintableBlock names b
-printable_block procs names (block.Section s i) are named = short_section procs names s.0 are named.0.there
-printable_block procs names (block.PageFile b) are named = tt
-printable_block procs names (block.Swap p n) are named = let few = are.few in omega arith
 
 -- a well-formed configuration's processes and sections have names
 pub config_names : (config : Config) → IsWellFormed config → AreNames (length config.procs) config.sections
