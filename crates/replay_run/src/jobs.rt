@@ -14,7 +14,7 @@ use vm_types::{NoMemory, Request, Seat};
 /// What a worker is given: its pass, which owns one number, its carrier, which is empty and of the seat
 /// of that number, and the requests that it asks for.
 #[derive(Drop)]
-pub(crate) struct Job<B: Block> {
+pub struct Job<B: Block> {
     pub pass: Pass<State<B>>,
     pub carrier: Carrier<B>,
     pub work: Vec<Request>,

@@ -15,6 +15,7 @@ mod threads;
 mod working;
 mod works;
 
+pub use jobs::Job;
 pub use last::take_last;
 pub use playing::play;
 pub use threads::run_threads;
