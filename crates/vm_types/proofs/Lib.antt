@@ -1,3 +1,4 @@
 pub mod Places
 pub mod VersionOne
+pub mod Versions
 pub mod SectionBlocks

@@ -2,6 +2,7 @@
 -- backs one section.
 use Rattle.std.specs.Prelude.{ℕ, Bool, ◌+◌, ◌-◌, ◌/◌, ◌^◌, ◌<◌, ◌&&◌, Option, find, nat_eq, nat_le, nat_lt}
 use Rattle.std.specs.Option.{option_map}
+use Rattle.vm_types.specs.declared.limits.TheConstants.{PAGE_BYTES}
 use Rattle.vm_types.specs.declared.config.Config.{Config}
 use Rattle.vm_types.specs.declared.config.Mapping.{Mapping}
 use Rattle.vm_types.specs.declared.config.Origin.{Origin}
@@ -9,7 +10,7 @@ use Rattle.vm_types.specs.declared.config.Origin.TheVariants as origin
 
 -- the page that an address lies in
 abbrev pub page_number : ℕ → ℕ
-page_number address = address / 512
+page_number address = address / PAGE_BYTES
 
 -- whether the mapping has the page
 abbrev pub covers : ℕ → ℕ → Mapping → Bool

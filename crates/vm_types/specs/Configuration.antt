@@ -1,7 +1,8 @@
 -- What makes a configuration well formed. This project's own: the limits of the machine, and that
 -- each thing is named once.
-use Rattle.std.specs.Prelude.{◌≡◌, ◌≢◌, ◌⊎◌, ℕ, false, true, ◌+◌, ◌*◌, ◌/◌, ◌%◌, ◌<◌, ◌≤◌, List, Some, length, sum_by, slice_get, All, AllPairs, IfSome, replicate}
+use Rattle.std.specs.Prelude.{◌≡◌, ◌≢◌, ◌⊎◌, ℕ, false, true, ◌+◌, ◌*◌, ◌/◌, ◌%◌, ◌<◌, ◌≤◌, List, Some, length, sum_by, slice_get, All, AllPairs, IfSome, replicate, if◌then◌else◌}
 use Rattle.vm_types.specs.Kinds.{is_paged_kind, paged_of}
+use Rattle.vm_types.specs.Versions.{is_first, most_frames, most_requests}
 use Rattle.vm_types.specs.WellFormed.{IsRange, IsCode, IsRequestOf, IsWellFormedRequest}
 use Rattle.vm_types.specs.declared.names.BlockId.{BlockId}
 use Rattle.vm_types.specs.declared.names.BlockId.TheVariants as block
@@ -15,29 +16,29 @@ use Rattle.vm_types.specs.declared.config.ProcSpec.{ProcSpec}
 use Rattle.vm_types.specs.declared.config.Section.{Section}
 use Rattle.vm_types.specs.declared.config.Task.{Task}
 use Rattle.vm_types.specs.declared.config.Version.{Version}
-use Rattle.vm_types.specs.declared.config.Version.TheVariants as version
+use Rattle.vm_types.specs.declared.limits.TheConstants.{MOST_BLOCKS, MOST_COUNTED, MOST_EXTENT, MOST_FAILS, MOST_FRAMES, MOST_FREE, MOST_LIFTS, MOST_PROCESSES, MOST_READ_CLUSTER, MOST_SECTIONS, MOST_SECTION_PAGES, PAGE_BYTES}
 
 -- the pages of a section
 abbrev pub section_pages : Section → ℕ
-section_pages section = length section.bytes / 512
+section_pages section = length section.bytes / PAGE_BYTES
 
 -- the ranges of the parameters, and their order
 pub record AreParams (params : Params) : Type 0 where
-  pub pfc : (1 ≤ params.pfc) × (params.pfc ≤ 8)
-  pub hilimit : params.hilimit ≤ 16384
+  pub pfc : (1 ≤ params.pfc) × (params.pfc ≤ MOST_READ_CLUSTER)
+  pub hilimit : params.hilimit ≤ MOST_FRAMES
   pub lolimit : params.lolimit ≤ params.hilimit
-  pub waitlimit : (1 ≤ params.waitlimit) × (params.waitlimit ≤ 16384)
+  pub waitlimit : (1 ≤ params.waitlimit) × (params.waitlimit ≤ MOST_FRAMES)
   pub wait_above : params.hilimit ≤ params.waitlimit
-  pub wrtcluster : (1 ≤ params.wrtcluster) × (params.wrtcluster ≤ 16)
+  pub wrtcluster : (1 ≤ params.wrtcluster) × (params.wrtcluster ≤ MOST_LIFTS)
   pub freelim : params.freelim ≤ params.freegoal
-  pub freegoal : params.freegoal ≤ 4096
-  pub awstime : params.awstime ≤ 100000
-  pub pfrath : params.pfrath ≤ 100000
-  pub pfratl : params.pfratl ≤ 100000
-  pub wsinc : params.wsinc ≤ 1024
-  pub wsdec : params.wsdec ≤ 1024
-  pub awsmin : (2 ≤ params.awsmin) × (params.awsmin ≤ 1024)
-  pub borrowlim : params.borrowlim ≤ 4096
+  pub freegoal : params.freegoal ≤ MOST_FREE
+  pub awstime : params.awstime ≤ MOST_COUNTED
+  pub pfrath : params.pfrath ≤ MOST_COUNTED
+  pub pfratl : params.pfratl ≤ MOST_COUNTED
+  pub wsinc : params.wsinc ≤ MOST_EXTENT
+  pub wsdec : params.wsdec ≤ MOST_EXTENT
+  pub awsmin : (2 ≤ params.awsmin) × (params.awsmin ≤ MOST_EXTENT)
+  pub borrowlim : params.borrowlim ≤ MOST_FREE
 
 -- a byte of a section's name: A to Z, or, not in the first place, 0 to 9 and _
 abbrev pub IsLetter : ℕ → Type 0
@@ -51,16 +52,16 @@ pub record IsName (name : List ℕ) : Type 0 where
   pub letter : IfSome (slice_get name 0) IsLetter
   pub bytes : All IsNameByte name
 
--- sections in the page file are of version 2, and their bytes are zeros
+-- version 1 has no sections in the page file; their bytes are zeros
 pub record IsSection (v : Version) (section : Section) : Type 0 where
   pub name : IsName section.name
-  pub whole : length section.bytes % 512 ≡ 0
-  pub some : 512 ≤ length section.bytes
-  pub paged : is_paged_kind section.kind ≡ true → (v ≡ version.Two) × (section.bytes ≡ replicate (length section.bytes) 0)
+  pub whole : length section.bytes % PAGE_BYTES ≡ 0
+  pub some : PAGE_BYTES ≤ length section.bytes
+  pub paged : is_paged_kind section.kind ≡ true → (is_first v ≡ false) × (section.bytes ≡ replicate (length section.bytes) 0)
 
 pub record AreSections (v : Version) (sections : List Section) : Type 0 where
-  pub few : length sections ≤ 64
-  pub pages : sum_by section_pages sections ≤ 16384
+  pub few : length sections ≤ MOST_SECTIONS
+  pub pages : sum_by section_pages sections ≤ MOST_SECTION_PAGES
   pub each : All (IsSection v) sections
   pub differ : AllPairs (λ s t. s.name ≢ t.name) sections
 
@@ -69,12 +70,11 @@ pub record IsLimited (spec : ProcSpec) : Type 0 where
   pub locks : spec.locks + 2 ≤ spec.limit
   pub quota : spec.limit ≤ spec.quota
   pub extent : spec.quota ≤ spec.extent
-  pub most : spec.extent ≤ 1024
+  pub most : spec.extent ≤ MOST_EXTENT
 
 -- the pages that a process may pin
 abbrev pub pins_of : Version → ProcSpec → ℕ
-pins_of version.One spec = 0
-pins_of version.Two spec = spec.locks
+pins_of v spec = if is_first v then 0 else spec.locks
 
 -- and all processes together
 abbrev pub all_pins : Config → ℕ
@@ -104,7 +104,7 @@ pub record IsMapping (procs : ℕ) (sections : List Section) (m : Mapping) : Typ
 
 -- no page is mapped by both
 abbrev pub AreApart : Mapping → Mapping → Type 0
-AreApart m n = ((m.proc).0 ≢ (n.proc).0) ⊎ (((m.at).0 + 512 * m.pages ≤ (n.at).0) ⊎ ((n.at).0 + 512 * n.pages ≤ (m.at).0))
+AreApart m n = ((m.proc).0 ≢ (n.proc).0) ⊎ (((m.at).0 + PAGE_BYTES * m.pages ≤ (n.at).0) ⊎ ((n.at).0 + PAGE_BYTES * n.pages ≤ (m.at).0))
 
 -- section blocks by section and page, but none of a section in the page file, the page file's blocks, and as many
 -- swap blocks of a process as its extent
@@ -115,7 +115,7 @@ IsBlock config (block.Swap p n) = (spec : ProcSpec) × (slice_get config.procs p
 
 pub record AreFails (config : Config) (fails : Fails) : Type 0 where
   pub block : IsBlock config fails.block
-  pub some : (1 ≤ length fails.calls) × (length fails.calls ≤ 16)
+  pub some : (1 ≤ length fails.calls) × (length fails.calls ≤ MOST_FAILS)
   pub calls : All (λ call. 1 ≤ call) fails.calls
 
 pub record IsTask (v : Version) (procs : ℕ) (task : Task) : Type 0 where
@@ -123,25 +123,24 @@ pub record IsTask (v : Version) (procs : ℕ) (task : Task) : Type 0 where
   pub request : IsWellFormedRequest task.request
   pub of_version : IsRequestOf v task.request
 
--- version 1 has fewer frames
+-- the version has so many frames
 abbrev pub FitsVersion : Version → ℕ → Type 0
-FitsVersion version.One frames = frames ≤ 4096
-FitsVersion version.Two frames = frames ≤ 16384
+FitsVersion v frames = frames ≤ most_frames v
 
 -- all that a trace's configuration keeps
 pub record IsWellFormed (config : Config) : Type 0 where
-  pub frames : (8 ≤ config.frames) × (config.frames ≤ 16384)
+  pub frames : (8 ≤ config.frames) × (config.frames ≤ MOST_FRAMES)
   pub of_version : FitsVersion config.version config.frames
   pub bad : All (λ f. f < config.frames) config.bad
   pub bad_differ : AllPairs (λ f g. f ≢ g) config.bad
-  pub pagefile : (1 ≤ config.pagefile) × (config.pagefile ≤ 16384)
+  pub pagefile : (1 ≤ config.pagefile) × (config.pagefile ≤ MOST_BLOCKS)
   pub params : AreParams config.params
   pub sections : AreSections config.version config.sections
-  pub some_process : (1 ≤ length config.procs) × (length config.procs ≤ 16)
+  pub some_process : (1 ≤ length config.procs) × (length config.procs ≤ MOST_PROCESSES)
   pub procs : All (IsProcess config.frames (length config.bad + all_pins config)) config.procs
   pub maps : All (IsMapping (length config.procs) config.sections) config.maps
   pub maps_apart : AllPairs AreApart config.maps
   pub fails : All (AreFails config) config.fails
   pub fails_differ : AllPairs (λ a b. a.block ≢ b.block) config.fails
-  pub few_tasks : length config.body ≤ 100000
+  pub few_tasks : length config.body ≤ most_requests config.version
   pub body : All (IsTask config.version (length config.procs)) config.body

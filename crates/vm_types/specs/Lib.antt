@@ -4,6 +4,7 @@ pub mod Ring
 pub mod Adjust
 pub mod Same
 pub mod Kinds
+pub mod Versions
 pub mod WellFormed
 pub mod Configuration
 pub mod SectionBlocks

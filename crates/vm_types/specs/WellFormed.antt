@@ -1,8 +1,8 @@
 -- What makes a reference and a service well formed. Source: references and addresses by the VAX
 -- Architecture Reference Manual, narrowed to aligned references; ranges are this project's own.
-use Rattle.std.specs.Prelude.{◌≡◌, ◌≢◌, ◌⊎◌, ℕ, ◌+◌, ◌-◌, ◌*◌, ◌%◌, ◌^◌, ◌<◌, ◌≤◌}
+use Rattle.std.specs.Prelude.{◌≡◌, ◌≢◌, ◌⊎◌, ℕ, false, ◌+◌, ◌-◌, ◌*◌, ◌%◌, ◌^◌, ◌<◌, ◌≤◌}
 use Rattle.vm_types.specs.declared.config.Version.{Version}
-use Rattle.vm_types.specs.declared.config.Version.TheVariants as version
+use Rattle.vm_types.specs.declared.limits.TheConstants.{P0_PAGES, P1_PAGES, PAGE_BYTES}
 use Rattle.vm_types.specs.declared.reference.Width.{Width}
 use Rattle.vm_types.specs.declared.reference.Width.TheVariants.{One, Two, Four}
 use Rattle.vm_types.specs.declared.reference.Op.{Op}
@@ -12,6 +12,7 @@ use Rattle.vm_types.specs.declared.service.Service.{Service}
 use Rattle.vm_types.specs.declared.service.Service.TheVariants as service
 use Rattle.vm_types.specs.declared.service.Request.{Request}
 use Rattle.vm_types.specs.declared.service.Request.TheVariants as request
+use Rattle.vm_types.specs.Versions.{is_first}
 
 -- the bytes that a reference takes
 abbrev pub width_bytes : Width → ℕ
@@ -36,12 +37,12 @@ pub record IsWellFormedReference (r : Ref) : Type 0 where
   pub aligned : (r.addr).0 % op_bytes r.op ≡ 0
   pub fits : FitsOp r.op
 
--- pages from an address on lie in P0 pages 0 to 4095, or in the last 1024 pages of P1
+-- pages from an address on lie in the pages of P0 or in those of P1 that may be mapped
 pub record IsRange (address pages : ℕ) : Type 0 where
-  pub aligned : address % 512 ≡ 0
+  pub aligned : address % PAGE_BYTES ≡ 0
   pub some : 1 ≤ pages
-  pub few : pages ≤ 4096
-  pub inside : (address + 512 * pages ≤ 512 * 4096) ⊎ ((2 ^ 31 - 512 * 1024 ≤ address) × (address + 512 * pages ≤ 2 ^ 31))
+  pub few : pages ≤ P0_PAGES
+  pub inside : (address + PAGE_BYTES * pages ≤ PAGE_BYTES * P0_PAGES) ⊎ ((2 ^ 31 - PAGE_BYTES * P1_PAGES ≤ address) × (address + PAGE_BYTES * pages ≤ 2 ^ 31))
 
 -- one of the sixteen protection codes but the reserved one
 pub record IsCode (code : ℕ) : Type 0 where
@@ -59,10 +60,10 @@ IsWellFormedService (service.Pin at pages) = IsRange at.0 pages
 IsWellFormedService (service.Unpin at pages) = IsRange at.0 pages
 IsWellFormedService (service.Adjust limit) = limit < 2 ^ 32
 
--- pages are pinned and unpinned in version 2 alone
+-- no page is pinned or unpinned in version 1
 abbrev pub IsServiceOf : Version → Service → Type 0
-IsServiceOf v (service.Pin at pages) = v ≡ version.Two
-IsServiceOf v (service.Unpin at pages) = v ≡ version.Two
+IsServiceOf v (service.Pin at pages) = is_first v ≡ false
+IsServiceOf v (service.Unpin at pages) = is_first v ≡ false
 IsServiceOf v other = Unit {0}
 
 abbrev pub IsRequestOf : Version → Request → Type 0

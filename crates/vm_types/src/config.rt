@@ -1,3 +1,9 @@
+ghost use Rattle.std.specs.Prelude.{◌≡◌};
+ghost use Rattle.vm_types.specs.Versions.{is_first, is_long, most_frames, most_lines, most_requests};
+
+use crate::limits::{
+    MOST_FRAMES, MOST_FRAMES_OF_ONE, MOST_LINES, MOST_LONG_LINES, MOST_LONG_REQUESTS, MOST_REQUESTS,
+};
 use crate::listed::Listed;
 use crate::names::{Addr, BlockId, Proc, SecId};
 use crate::service::Request;
@@ -5,33 +11,33 @@ use crate::service::Request;
 /// The parameters of the pager, each named as in the trace.
 #[derive(Clone, Copy, Debug, PartialEq, Eq)]
 pub struct Params {
-    /// Pages of a read cluster, 1 to 8.
+    /// Pages of a read cluster, 1 to `MOST_READ_CLUSTER`.
     pub pfc: u32,
-    /// Modified pages above which the writer works, 0 to 16,384.
+    /// Modified pages above which the writer works, 0 to `MOST_FRAMES`.
     pub hilimit: u32,
-    /// Modified pages at which the writer stops, 0 to 16,384.
+    /// Modified pages at which the writer stops, 0 to `MOST_FRAMES`.
     pub lolimit: u32,
-    /// Modified pages at which an eviction onto their list waits, 1 to 16,384.
+    /// Modified pages at which an eviction onto their list waits, 1 to `MOST_FRAMES`.
     pub waitlimit: u32,
-    /// Pages of a write cluster, 1 to 16.
+    /// Pages of a write cluster, 1 to `MOST_LIFTS`.
     pub wrtcluster: u32,
-    /// Free frames below which the swapper works, 0 to 4096.
+    /// Free frames below which the swapper works, 0 to `MOST_FREE`.
     pub freelim: u32,
-    /// Free frames at which the swapper stops, 0 to 4096.
+    /// Free frames at which the swapper stops, 0 to `MOST_FREE`.
     pub freegoal: u32,
-    /// References between two adjustments of a limit, 0 to 100,000; 0 for none.
+    /// References between two adjustments of a limit, 0 to `MOST_COUNTED`; 0 for none.
     pub awstime: u32,
-    /// Faults above which a limit rises, 0 to 100,000.
+    /// Faults above which a limit rises, 0 to `MOST_COUNTED`.
     pub pfrath: u32,
-    /// Faults below which a limit falls, 0 to 100,000.
+    /// Faults below which a limit falls, 0 to `MOST_COUNTED`.
     pub pfratl: u32,
-    /// Pages by which a limit rises, 0 to 1024.
+    /// Pages by which a limit rises, 0 to `MOST_EXTENT`.
     pub wsinc: u32,
-    /// Pages by which a limit falls, 0 to 1024.
+    /// Pages by which a limit falls, 0 to `MOST_EXTENT`.
     pub wsdec: u32,
-    /// The least limit that an adjustment gives, 2 to 1024.
+    /// The least limit that an adjustment gives, 2 to `MOST_EXTENT`.
     pub awsmin: u32,
-    /// Free frames above which a limit may pass the quota, 0 to 4096.
+    /// Free frames above which a limit may pass the quota, 0 to `MOST_FREE`.
     pub borrowlim: u32,
 }
 
@@ -46,8 +52,8 @@ pub enum SectionKind {
     Paged,
 }
 
-/// A section: its name of 2 to 15 bytes, its kind, and the bytes of its pages, 512 for each; those
-/// of one in the page file are zeros.
+/// A section: its name of 2 to 15 bytes, its kind, and the bytes of its pages, `PAGE_BYTES` for each;
+/// those of one in the page file are zeros.
 #[derive(Debug, Drop)]
 pub struct Section {
     pub name: Listed<u8>,
@@ -96,32 +102,89 @@ pub struct Task {
     pub request: Request,
 }
 
-/// The version of a trace's format, 1 or 2.
+/// The version of a trace's format: 1, 2, or the long form of 2.
 #[derive(Clone, Copy, Debug, PartialEq, Eq)]
 pub enum Version {
-    /// At most 4096 frames; sections have files, and nothing is pinned.
+    /// At most `MOST_FRAMES_OF_ONE` frames; sections have files, and nothing is pinned.
     One,
-    /// At most 16,384 frames; sections may be in the page file, and pages may be pinned.
+    /// At most `MOST_FRAMES` frames; sections may be in the page file, and pages may be pinned.
     Two,
+    /// As version 2, with more requests and lines.
+    Long,
+}
+
+impl Version {
+    /// Whether it is version 1, which has fewer frames, no sections in the page file, and no pinned pages.
+    pub fn is_first(self) -> bool
+        ensures { result ≡ is_first self }
+    {
+        match self {
+            Version::One => true,
+            Version::Two | Version::Long => false,
+        }
+    }
+
+    /// Whether it is the long form.
+    pub fn is_long(self) -> bool
+        ensures { result ≡ is_long self }
+    {
+        match self {
+            Version::One | Version::Two => false,
+            Version::Long => true,
+        }
+    }
+
+    /// The most page frames that a trace of it has.
+    pub fn most_frames(self) -> u32
+        ensures { result ≡ most_frames self }
+    {
+        if self.is_first() {
+            MOST_FRAMES_OF_ONE
+        } else {
+            MOST_FRAMES
+        }
+    }
+
+    /// The most requests that a trace of it has.
+    pub fn most_requests(self) -> u32
+        ensures { result ≡ most_requests self }
+    {
+        if self.is_long() {
+            MOST_LONG_REQUESTS
+        } else {
+            MOST_REQUESTS
+        }
+    }
+
+    /// The most lines that a trace of it has.
+    pub fn most_lines(self) -> u32
+        ensures { result ≡ most_lines self }
+    {
+        if self.is_long() {
+            MOST_LONG_LINES
+        } else {
+            MOST_LINES
+        }
+    }
 }
 
 /// What a trace says: the machine, its sections, processes and mappings, and the requests in order.
 #[derive(Debug, Drop)]
 pub struct Config {
     pub version: Version,
-    /// Page frames, 8 to 4096, in version 2 to 16,384.
+    /// Page frames, 8 to as many as the version has.
     pub frames: u32,
     /// The bad ones, each once.
     pub bad: Listed<u32>,
-    /// Blocks of the page file, 1 to 16,384.
+    /// Blocks of the page file, 1 to `MOST_BLOCKS`.
     pub pagefile: u32,
     pub params: Params,
-    /// At most 64, with at most 16,384 pages together.
+    /// At most `MOST_SECTIONS`, with at most `MOST_SECTION_PAGES` pages together.
     pub sections: Listed<Section>,
-    /// 1 to 16.
+    /// 1 to `MOST_PROCESSES`.
     pub procs: Listed<ProcSpec>,
     pub maps: Listed<Mapping>,
     pub fails: Listed<Fails>,
-    /// At most 100,000.
+    /// At most as many as the version has.
     pub body: Listed<Task>,
 }

@@ -9,6 +9,7 @@ mod config;
 mod faults;
 mod in_tables;
 mod kinds;
+pub mod limits;
 mod listed;
 mod names;
 mod pool_name;
@@ -28,6 +29,12 @@ pub use config::{
 pub use faults::{Failed, NoMemory};
 pub use in_tables::page_place;
 pub use kinds::is_shared_kind;
+pub use limits::{
+    MOST_BLOCKS, MOST_COUNTED, MOST_EXTENT, MOST_FAILS, MOST_FRAMES, MOST_FRAMES_OF_ONE, MOST_FREE,
+    MOST_LIFTS, MOST_LINES, MOST_LOG_LINES, MOST_LONG_LINES, MOST_LONG_REQUESTS, MOST_PROCESSES,
+    MOST_READ_CLUSTER, MOST_REQUESTS, MOST_SECTION_PAGES, MOST_SECTIONS, P0_PAGES, P1_PAGES,
+    PAGE_BYTES, PRIVATE_PAGES,
+};
 pub use listed::Listed;
 pub use names::{Addr, BlockId, FrameState, Page, Pfn, Proc, ProcStatus, Seat, SecId};
 pub use pool_name::PoolName;
