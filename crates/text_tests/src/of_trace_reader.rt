@@ -64,7 +64,14 @@ fn joined(alloc: Global, head: &[u8], tail: &[u8]) -> Result<Vec<u8>, AllocError
 const HEADERS: &[u8] = b"\
 R VMTRACE 0\n\
 R VMTRACE 3\n\
+R LONGTRACE 1\n\
+R LONGTRACE 3\n\
+P LONGTRACE\n\
 P FRAMES 8\n\
+P VMTRACE 2;LONGTRACE 2\n\
+P LONGTRACE 2;LONGTRACE 2\n\
+R LONGTRACE 2;FRAMES 16385\n\
+. LONGTRACE 2;FRAMES 16384\n\
 R VMTRACE 1;FRAMES 7\n\
 R VMTRACE 1;FRAMES 4097\n\
 R VMTRACE 1;FRAMES 4096;PAGEFILE 0\n\
@@ -101,6 +108,9 @@ R SECTION AB CRF 1;PROCESS A 2 2 6 0;MAPSEC A 0 2 AB 0 UW\n\
 
 // Three lines that give a machine of version 2.
 const SECOND_MACHINE: &[u8] = b"VMTRACE 2\nFRAMES 8\nPAGEFILE 4\n";
+
+// The same in the long form.
+const LONG_MACHINE: &[u8] = b"LONGTRACE 2\nFRAMES 8\nPAGEFILE 4\n";
 
 // Behind them.
 const OF_VERSION_TWO: &[u8] = b"\
@@ -371,6 +381,7 @@ fn judges_each_kind_of_line(rt: HostRuntime) -> Result<(), Fail> {
     judges(&rt, alloc, b"", 1, HEADERS)?;
     judges(&rt, alloc, MACHINE, 4, LISTS)?;
     judges(&rt, alloc, SECOND_MACHINE, 4, OF_VERSION_TWO)?;
+    judges(&rt, alloc, LONG_MACHINE, 4, OF_VERSION_TWO)?;
     judges(&rt, alloc, HEAD, 5, PARAMETERS)?;
     judges(&rt, alloc, HEAD, 5, DECLARATIONS)?;
     let head = joined(alloc, HEAD, b"BODY\n")?;
@@ -558,6 +569,24 @@ fn counts_lines_and_requests(rt: HostRuntime) -> Result<(), Fail> {
     let mut source = MemorySource::new(text, Vec::new(alloc));
     let answer = read_trace(alloc, &mut source, &mut kept).err();
     assert_eq!(rt; kept.as_slice(), b"!".as_slice());
-    assert_eq!(rt; answer, line(200_001, Cause::TooMany));
+    assert_eq!(rt; rule(answer), line(200_001, Cause::TooMany));
+    Ok(())
+}
+
+// A long trace may have more of both.
+#[test]
+fn reads_a_long_trace(rt: HostRuntime) -> Result<(), Fail> {
+    let alloc = rt.alloc();
+    let mut text = joined(alloc, LONG_MACHINE, b"PROCESS A 4 4 4 0\nBODY\n")?;
+    for _ in 0..100_001 {
+        text.extend_from_slice(b"A R1 0\n!\n")?;
+    }
+    text.extend_from_slice(b"END\n")?;
+    let mut source = MemorySource::new(text, Vec::new(alloc));
+    let config = read_trace(alloc, &mut source, &mut ArrayVec::new())
+        .ok()
+        .ok_or("a trace")?;
+    assert_eq!(rt; config.body.items().len(), 100_001);
+    assert!(rt; config.version.is_long() && !config.version.is_first());
     Ok(())
 }

@@ -1,9 +1,10 @@
 -- A first line in the plain form asks for the reference that its words name.
-use Rattle.std.proofs.Common.{◌≡◌, ◌≢◌, ℕ, ◌+◌, ◌-◌, ◌*◌, ◌%◌, ◌^◌, ◌==◌, nat_lt, ◌<◌, ◌≤◌, Bool, true, false, eqb, ltb, List, [], ◌∷◌, ◌++◌, length, All, Option, Some, None, option_map, cond, Result, Ok, Err, refl, sym, ap, subst, ◌∙◌, arith, append-nil, append_assoc, length-append, get_or}
+use Rattle.std.proofs.Common.{◌≡◌, ◌≢◌, ℕ, ◌+◌, ◌-◌, ◌*◌, ◌%◌, ◌^◌, ◌==◌, nat_lt, ◌<◌, ◌≤◌, Bool, true, false, eqb, leb, ltb, ◌&&◌, List, [], ◌∷◌, ◌++◌, length, All, Option, Some, None, option_map, cond, Result, Ok, Err, refl, sym, ap, subst, ◌∙◌, arith, append-nil, append_assoc, length-append, get_or}
 use Rattle.std.specs.List.{list_all, AllByRecursion}
-use Rattle.std.proofs.lemmas.Bool.{and_parts, eqb-true, le-leb, lt-ltb, ltb-true}
+use Rattle.std.proofs.lemmas.Bool.{and_parts, eqb-true, le-leb, leb-true, lt-ltb, ltb-true}
 use Rattle.std.proofs.lemmas.List.Elements.{All-from_recursion}
 use Rattle.std.proofs.lemmas.List.Folds.{list_all-append, list_all_at}
+use Rattle.vm_types.specs.Versions.{most_lines, most_requests}
 use Rattle.vm_types.specs.WellFormed.{width_bytes}
 use Rattle.vm_types.specs.declared.config.Config.{Config}
 use Rattle.vm_types.specs.declared.reference.Mode.{Mode}
@@ -27,7 +28,7 @@ use Rattle.trace_lines.specs.declared.part.Part.{Part}
 use Rattle.trace_lines.specs.Grammar.{by_first, is_text, content, ends_with_return, judged}
 use Rattle.trace_lines.specs.Lookups.{process, aligned}
 use Rattle.trace_lines.specs.Places.{rank}
-use Rattle.trace_lines.specs.Plain.{IsPlainFront, IsPlainOp, IsPlainValue, IsValued, IsEndedNumber, IsEndedValue, IsEndedOp, IsFirstRequest, asked, width_of}
+use Rattle.trace_lines.specs.Plain.{IsPlainFront, IsPlainOp, IsPlainValue, IsValued, IsEndedNumber, IsEndedValue, IsEndedOp, IsFirstRequest, asked, takes_request, width_of}
 use Rattle.trace_lines.specs.Requests.{reference_line, write_of}
 use Rattle.trace_lines.specs.Says.{Says, Request}
 
@@ -166,7 +167,7 @@ value_said : (config : Config) (x : ℕ) (width : Width) (address word : List �
 value_said config x width address word p at n proc place spelled fits = rw (proc, place, spelled, fits) refl
 
 reference_said : (config : Config) (x : ℕ) (mode : Mode) (access : Access) (address behind : List ℕ) (what : What) (p at : ℕ)
-    → IsPlainOp access behind what → process config.procs (x ∷ []) ≡ Ok p → aligned (width_bytes (width_of access)) address ≡ Ok at → nat_lt (length config.body) 100000 ≡ true
+    → IsPlainOp access behind what → process config.procs (x ∷ []) ≡ Ok p → aligned (width_bytes (width_of access)) address ≡ Ok at → nat_lt (length config.body) (most_requests config.version) ≡ true
     → reference_line config (x ∷ []) mode access (address ∷ words behind) ≡ Ok (Request (asked p mode at what))
 reference_said config x mode (Read width) address behind what p at h proc place few = rw (h.0, h.1, proc, place, few) refl
 reference_said config x mode (Write width) address behind what p at h proc place few =
@@ -213,16 +214,28 @@ content_same line text = by_end (ends_with_return line) refl where
       absurd cc
   by_end false e = rw e refl
 
-judged_by : (number : ℕ) (part : Part) (line first : List ℕ) (args : List (List ℕ)) (said : Says) → length line ≤ 255 → number ≤ 200000
+-- what is known where a line may be a request
+request_parts : (number : ℕ) (part : Part) → takes_request number part ≡ true
+    → (number ≤ most_lines part.config.version) × (rank part.place ≡ 4) × (length part.config.body < most_requests part.config.version)
+request_parts number part taken =
+    let lines = leb number (most_lines part.config.version) in
+    let place = eqb (rank part.place) 4 in
+    let room = ltb (length part.config.body) (most_requests part.config.version) in
+    let both = and_parts (lines && place) room taken in
+    let front = and_parts lines place both.0 in
+    (leb-true number (most_lines part.config.version) front.0, eqb-true (rank part.place) 4 front.1, ltb-true (length part.config.body) (most_requests part.config.version) both.1)
+
+judged_by : (number : ℕ) (part : Part) (line first : List ℕ) (args : List (List ℕ)) (said : Says) → length line ≤ 255 → number ≤ most_lines part.config.version
     → list_all is_text (content line) ≡ true → words (content line) ≡ first ∷ args → by_first part first args ≡ Ok said → judged number part line ≡ Ok said
-judged_by number part line first args said short few text all says = rw (le-leb (length line) 255 short, text, le-leb number 200000 few, all) says
+judged_by number part line first args said short few text all says = rw (le-leb (length line) 255 short, text, le-leb number (most_lines part.config.version) few, all) says
 
 pub plain_judged : (number : ℕ) (part : Part) (line : List ℕ) (x : ℕ) (name : OpName) (address behind : List ℕ) (what : What) (p at : ℕ)
-    → length line ≤ 255 → number ≤ 200000 → rank part.place ≡ 4 → length part.config.body < 100000
+    → length line ≤ 255 → takes_request number part ≡ true
     → IsPlainFront (content line) x name address behind → process part.config.procs (x ∷ []) ≡ Ok p → aligned (width_bytes (width_of name.access)) address ≡ Ok at
     → IsPlainOp name.access behind what
     → judged number part line ≡ Ok (Request (asked p name.mode at what))
-plain_judged number part line x name address behind what p at short few here room front proc place does =
+plain_judged number part line x name address behind what p at short taken front proc place does =
+    let (few, here, room) = request_parts number part taken in
     let capital = letter_byte part.config x p proc in
     let letters = capital_byte x capital in
     let ops = op_bytes front.first front.second name front.named in
@@ -232,14 +245,14 @@ plain_judged number part line x name address behind what p at short few here roo
     (ap (list_all is_text) front.whole ∙ plain_text x front.first front.second address behind letters ops.0 ops.1 word rest)
     (ap words front.whole ∙ plain_words x front.first front.second address behind letters ops.0 ops.1 word rest)
     (first_said part x front.first front.second name (address ∷ words behind) (Request (asked p name.mode at what)) capital here front.named
-    (reference_said part.config x name.mode name.access address behind what p at does proc place (lt-ltb (length part.config.body) 100000 room)))
+    (reference_said part.config x name.mode name.access address behind what p at does proc place (lt-ltb (length part.config.body) (most_requests part.config.version) room)))
 
 pub plain_first : (number : ℕ) (part : Part) (text : List ℕ) (x : ℕ) (name : OpName) (address behind : List ℕ) (what : What) (rest : List ℕ) (p at : ℕ)
-    → number ≤ 200000 → rank part.place ≡ 4 → length part.config.body < 100000
+    → takes_request number part ≡ true
     → IsPlainFront text x name address behind → process part.config.procs (x ∷ []) ≡ Ok p → aligned (width_bytes (width_of name.access)) address ≡ Ok at
     → IsEndedOp name.access behind what rest
     → IsFirstRequest number part text (asked p name.mode at what) rest
-plain_first number part text x name address behind what rest p at few here room front proc place ended =
+plain_first number part text x name address behind what rest p at taken front proc place ended =
     let capital = letter_byte part.config x p proc in
     let letters = capital_byte x capital in
     let ops = op_bytes front.first front.second name front.named in
@@ -252,7 +265,7 @@ plain_first number part text x name address behind what rest p at few here room 
       split = front.whole ∙ ap (λ (b : List ℕ). x ∷ 32 ∷ front.first ∷ front.second ∷ 32 ∷ (address ++ b)) ended.split
           ∙ ap (λ (b : List ℕ). x ∷ 32 ∷ front.first ∷ front.second ∷ 32 ∷ b) (sym (append_assoc address ended.behind (10 ∷ rest)));
       one_line = All-from_recursion (λ b. b ≢ 10) line (no_ends line printed);
-      asks = plain_judged number part line x name address ended.behind what p at (omega (arith, last_length address ended.behind word said)) few here room
+      asks = plain_judged number part line x name address ended.behind what p at (omega (arith, last_length address ended.behind word said)) taken
           (subst (λ (t : List ℕ). IsPlainFront t x name address ended.behind) (sym (content_same line printed)) (record { first = front.first; second = front.second; whole = refl; named = front.named }))
           proc place ended.does;
     }

@@ -2,6 +2,7 @@
 use Rattle.std.specs.Prelude.{ℕ, ◌+◌, ◌==◌, Bool, false, ◌&&◌, nat_le, nat_lt, not, slice_get, length, List, [], ◌∷◌, Result, Ok, Err}
 use Rattle.std.specs.Option.{option_map_or}
 use Rattle.std.specs.List.{list_any}
+use Rattle.vm_types.specs.declared.limits.TheConstants.{MOST_FAILS}
 use Rattle.arrayvec.specs.ArrayVec.{ArrayVec}
 use Rattle.vm_types.specs.declared.names.BlockId.{BlockId}
 use Rattle.vm_types.specs.declared.names.BlockId.TheVariants as block
@@ -63,4 +64,4 @@ kept (Err breach) = Err breach
 -- FAIL block, followed by 1 to 16 numbers; each block once
 abbrev pub fail_line : Config → List (List ℕ) → Result Says Breach
 fail_line config [] = Err (at_word 2 Misplaced)
-fail_line config (name ∷ words) = owed (nat_le 1 (length words) && nat_le (length words) 16) (miscounted 3 16 words) (fail_of config name words)
+fail_line config (name ∷ words) = owed (nat_le 1 (length words) && nat_le (length words) MOST_FAILS) (miscounted 3 MOST_FAILS words) (fail_of config name words)

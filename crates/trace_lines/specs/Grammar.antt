@@ -1,19 +1,22 @@
 -- What a line says, or the first rule that it breaks. Source: this project's own.
 use Rattle.std.specs.Prelude.{ℕ, ◌-◌, ◌==◌, Bool, ◌&&◌, ◌||◌, nat_le, nat_lt, slice_index, length, take, List, [], ◌∷◌, Option, Some, None, Result, Ok, Err, if◌then◌else◌}
 use Rattle.std.specs.List.{list_all}
+use Rattle.vm_types.specs.Versions.{most_lines}
 use Rattle.trace_words.specs.declared.cause.Cause.TheVariants.{LineTooLong, NotAscii, TooMany, UnknownWord, Misplaced}
 use Rattle.trace_words.specs.Judged.{owed}
 use Rattle.trace_words.specs.Name.{is_capital}
 use Rattle.trace_words.specs.Words.{words}
+use Rattle.trace_lines.specs.declared.breach.Bound.TheVariants.{Most}
 use Rattle.trace_lines.specs.declared.breach.Breach.{Breach}
+use Rattle.trace_lines.specs.declared.breach.Limited.TheVariants as limited
 use Rattle.trace_lines.specs.declared.keywords.Keyword.{Keyword}
-use Rattle.trace_lines.specs.declared.keywords.Keyword.TheVariants.{Version, Frames, PageFile, Param, Bad, Section, Data, Process, MapZero, MapSection, Fail, Body, End}
+use Rattle.trace_lines.specs.declared.keywords.Keyword.TheVariants.{Version, Long, Frames, PageFile, Param, Bad, Section, Data, Process, MapZero, MapSection, Fail, Body, End}
 use Rattle.trace_lines.specs.declared.part.Part.{Part}
 use Rattle.trace_lines.specs.declared.places.Place.TheVariants.{Requests}
-use Rattle.trace_lines.specs.Breaches.{at_word}
+use Rattle.trace_lines.specs.Breaches.{at_word, bounded}
 use Rattle.trace_lines.specs.Declarations.{section_line, data_line, process_line}
 use Rattle.trace_lines.specs.Fails.{fail_line}
-use Rattle.trace_lines.specs.Headers.{version_line, frames_line, pagefile_line, param_line, bad_line}
+use Rattle.trace_lines.specs.Headers.{version_line, long_line, frames_line, pagefile_line, param_line, bad_line}
 use Rattle.trace_lines.specs.Keywords.{keyword_of, place_of}
 use Rattle.trace_lines.specs.Mappings.{mapzero_line, mapsec_line}
 use Rattle.trace_lines.specs.Places.{rank}
@@ -23,6 +26,7 @@ use Rattle.trace_lines.specs.Says.{Says, Nothing}
 -- a line of this keyword, by its other words
 abbrev pub by_keyword : Part → List (List ℕ) → Keyword → Result Says Breach
 by_keyword part args Version = version_line args
+by_keyword part args Long = long_line args
 by_keyword part args Frames = frames_line part.config args
 by_keyword part args PageFile = pagefile_line args
 by_keyword part args Param = param_line part.given args
@@ -78,4 +82,5 @@ abbrev pub judged : ℕ → Part → List ℕ → Result Says Breach
 judged number part line =
     owed (nat_le (length line) 255) (at_word 0 LineTooLong)
     (owed (list_all is_text (content line)) (at_word 0 NotAscii)
-    (owed (nat_le number 200000) (at_word 0 TooMany) (by_words part (words (content line)))))
+    (owed (nat_le number (most_lines part.config.version)) (bounded 0 TooMany (Most limited.Lines (most_lines part.config.version)))
+    (by_words part (words (content line)))))

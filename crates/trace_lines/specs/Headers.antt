@@ -1,10 +1,12 @@
--- The lines that hold numbers of the machine: VMTRACE n, FRAMES n, PAGEFILE n, PARAM name n, BAD f.
+-- The lines that hold numbers of the machine: VMTRACE n, LONGTRACE n, FRAMES n, PAGEFILE n, PARAM name n, BAD f.
 -- Source: this project's own.
 use Rattle.std.specs.Prelude.{ℕ, Bool, not, ◌==◌, nat_lt, List, [], ◌∷◌, Result, Ok, Err, slice_index_or, false, if◌then◌else◌}
 use Rattle.std.specs.List.{list_any}
+use Rattle.vm_types.specs.declared.limits.TheConstants.{MOST_BLOCKS}
 use Rattle.vm_types.specs.declared.config.Config.{Config}
 use Rattle.vm_types.specs.declared.config.Version.{Version as Format}
 use Rattle.vm_types.specs.declared.config.Version.TheVariants as version
+use Rattle.vm_types.specs.Versions.{most_frames}
 use Rattle.trace_words.specs.declared.cause.Cause.TheVariants.{OutOfRange, Repeated as AlreadyGiven}
 use Rattle.trace_words.specs.Judged.{◌>>=◌, owed}
 use Rattle.trace_words.specs.Number.{decimal}
@@ -23,10 +25,10 @@ abbrev pub version_line : List (List ℕ) → Result Says Breach
 version_line (n ∷ []) = ranged 2 1 2 n >>= λ number. Ok (Version (version_of number))
 version_line other = Err (miscounted 2 1 other)
 
--- the most frames that the version has
-abbrev pub most_frames : Format → ℕ
-most_frames version.One = 4096
-most_frames version.Two = 16384
+-- LONGTRACE 2
+abbrev pub long_line : List (List ℕ) → Result Says Breach
+long_line (n ∷ []) = ranged 2 2 2 n >>= λ number. Ok (Version version.Long)
+long_line other = Err (miscounted 2 1 other)
 
 -- FRAMES n, by the version
 abbrev pub frames_line : Config → List (List ℕ) → Result Says Breach
@@ -35,7 +37,7 @@ frames_line config other = Err (miscounted 2 1 other)
 
 -- PAGEFILE n
 abbrev pub pagefile_line : List (List ℕ) → Result Says Breach
-pagefile_line (n ∷ []) = ranged 2 1 16384 n >>= λ blocks. Ok (PageFile blocks)
+pagefile_line (n ∷ []) = ranged 2 1 MOST_BLOCKS n >>= λ blocks. Ok (PageFile blocks)
 pagefile_line other = Err (miscounted 2 1 other)
 
 -- PARAM name n, each once

@@ -2,13 +2,14 @@
 use Rattle.std.specs.Prelude.{ℕ, List, Option, Some, None, codes, if◌then◌else◌}
 use Rattle.trace_words.specs.Words.{is}
 use Rattle.trace_lines.specs.declared.keywords.Keyword.{Keyword}
-use Rattle.trace_lines.specs.declared.keywords.Keyword.TheVariants.{Version, Frames, PageFile, Param, Bad, Section, Data, Process, MapZero, MapSection, Fail, Body, End}
+use Rattle.trace_lines.specs.declared.keywords.Keyword.TheVariants.{Version, Long, Frames, PageFile, Param, Bad, Section, Data, Process, MapZero, MapSection, Fail, Body, End}
 use Rattle.trace_lines.specs.declared.places.Place.{Place}
 use Rattle.trace_lines.specs.declared.places.Place.TheVariants as place
 
 abbrev pub keyword_of : List ℕ → Option Keyword
 keyword_of word =
     if is word (codes "VMTRACE") then Some Version
+    else if is word (codes "LONGTRACE") then Some Long
     else if is word (codes "FRAMES") then Some Frames
     else if is word (codes "PAGEFILE") then Some PageFile
     else if is word (codes "PARAM") then Some Param
@@ -26,6 +27,7 @@ keyword_of word =
 -- where such a line stands
 abbrev pub place_of : Keyword → Place
 place_of Version = place.Version
+place_of Long = place.Version
 place_of Frames = place.Frames
 place_of PageFile = place.PageFile
 place_of Param = place.Declarations

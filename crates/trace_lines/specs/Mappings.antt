@@ -1,6 +1,7 @@
 -- The lines that map pages. Source: this project's own.
 use Rattle.std.specs.Prelude.{ℕ, ◌+◌, ◌*◌, ◌==◌, Bool, ◌&&◌, nat_le, nat_lt, not, List, [], ◌∷◌, Result, Ok, Err}
 use Rattle.std.specs.List.{list_any}
+use Rattle.vm_types.specs.declared.limits.TheConstants.{P0_PAGES, PAGE_BYTES}
 use Rattle.vm_types.specs.declared.config.Config.{Config}
 use Rattle.vm_types.specs.declared.config.Mapping.{Mapping}
 use Rattle.vm_types.specs.declared.config.Origin.{Origin}
@@ -18,7 +19,7 @@ use Rattle.trace_lines.specs.Says.{Says, Map}
 -- whether a page is mapped by both
 abbrev pub overlaps : Mapping → Mapping → Bool
 overlaps m n =
-    ((m.proc).0 == (n.proc).0) && nat_lt (m.at).0 ((n.at).0 + 512 * n.pages) && nat_lt (n.at).0 ((m.at).0 + 512 * m.pages)
+    ((m.proc).0 == (n.proc).0) && nat_lt (m.at).0 ((n.at).0 + PAGE_BYTES * n.pages) && nat_lt (n.at).0 ((m.at).0 + PAGE_BYTES * m.pages)
 
 -- a mapping inside the regions, of pages that aren't mapped yet
 abbrev pub mapped : Config → Mapping → Result Says Breach
@@ -32,16 +33,16 @@ mapping p at pages from prot = record { proc = record { 0 = p }; at = record { 0
 -- MAPZERO x addr n prot
 abbrev pub mapzero_line : Config → List (List ℕ) → Result Says Breach
 mapzero_line config (x ∷ addr ∷ n ∷ prot ∷ []) =
-    marked 2 Free (process config.procs x) >>= λ p. marked 3 (Multiple 512) (aligned 512 addr) >>= λ at.
-    ranged 4 1 4096 n >>= λ pages. marked 5 Free (protection prot) >>= λ code.
+    marked 2 Free (process config.procs x) >>= λ p. marked 3 (Multiple PAGE_BYTES) (aligned PAGE_BYTES addr) >>= λ at.
+    ranged 4 1 P0_PAGES n >>= λ pages. marked 5 Free (protection prot) >>= λ code.
     mapped config (mapping p at pages origin.Zero code)
 mapzero_line config other = Err (miscounted 2 4 other)
 
 -- MAPSEC x addr n name first prot
 abbrev pub mapsec_line : Config → List (List ℕ) → Result Says Breach
 mapsec_line config (x ∷ addr ∷ n ∷ name ∷ first ∷ prot ∷ []) =
-    marked 2 Free (process config.procs x) >>= λ p. marked 3 (Multiple 512) (aligned 512 addr) >>= λ at.
-    ranged 4 1 4096 n >>= λ pages. marked 5 Free (section config.sections name) >>= λ s.
+    marked 2 Free (process config.procs x) >>= λ p. marked 3 (Multiple PAGE_BYTES) (aligned PAGE_BYTES addr) >>= λ at.
+    ranged 4 1 P0_PAGES n >>= λ pages. marked 5 Free (section config.sections name) >>= λ s.
     marked 6 (Pages (pages_at config.sections s)) (decimal first) >>= λ page. marked 7 Free (protection prot) >>= λ code.
     owed (nat_le (page + pages) (pages_at config.sections s)) (bounded 6 OutOfRange (Pages (pages_at config.sections s)))
     (mapped config (mapping p at pages (origin.Section (record { 0 = s }) page) code))

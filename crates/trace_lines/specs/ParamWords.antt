@@ -2,6 +2,7 @@
 -- and Bate, "VAX/VMS Internals and Data Structures"; ranges and defaults are this project's own.
 use Rattle.std.specs.Prelude.{ℕ, List, Option, Some, None, Result, Ok, Err, codes, if◌then◌else◌}
 use Rattle.std.specs.Option.{option_map_or}
+use Rattle.vm_types.specs.declared.limits.TheConstants.{MOST_COUNTED, MOST_EXTENT, MOST_FRAMES, MOST_FREE, MOST_LIFTS, MOST_READ_CLUSTER}
 use Rattle.vm_types.specs.declared.config.Params.{Params}
 use Rattle.trace_words.specs.declared.cause.Cause.{Cause}
 use Rattle.trace_words.specs.declared.cause.Cause.TheVariants.{UnknownWord}
@@ -55,20 +56,20 @@ least AwsMin = 2
 least BorrowLim = 0
 
 abbrev pub most : Param → ℕ
-most Pfc = 8
-most HiLimit = 16384
-most LoLimit = 16384
-most WaitLimit = 16384
-most WrtCluster = 16
-most FreeLim = 4096
-most FreeGoal = 4096
-most AwsTime = 100000
-most PfrAtH = 100000
-most PfrAtL = 100000
-most WsInc = 1024
-most WsDec = 1024
-most AwsMin = 1024
-most BorrowLim = 4096
+most Pfc = MOST_READ_CLUSTER
+most HiLimit = MOST_FRAMES
+most LoLimit = MOST_FRAMES
+most WaitLimit = MOST_FRAMES
+most WrtCluster = MOST_LIFTS
+most FreeLim = MOST_FREE
+most FreeGoal = MOST_FREE
+most AwsTime = MOST_COUNTED
+most PfrAtH = MOST_COUNTED
+most PfrAtL = MOST_COUNTED
+most WsInc = MOST_EXTENT
+most WsDec = MOST_EXTENT
+most AwsMin = MOST_EXTENT
+most BorrowLim = MOST_FREE
 
 -- its number
 abbrev pub number_of : Param → ℕ

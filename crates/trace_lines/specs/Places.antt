@@ -3,7 +3,7 @@ use Rattle.std.specs.Prelude.{ℕ}
 use Rattle.trace_lines.specs.declared.places.Place.{Place}
 use Rattle.trace_lines.specs.declared.places.Place.TheVariants.{Version, Frames, PageFile, Declarations, Requests, Ended}
 
--- how many of the lines VMTRACE, FRAMES, PAGEFILE, BODY and END come before
+-- how many of the lines VMTRACE or LONGTRACE, FRAMES, PAGEFILE, BODY and END come before
 abbrev pub rank : Place → ℕ
 rank Version = 0
 rank Frames = 1

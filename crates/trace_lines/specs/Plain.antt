@@ -1,6 +1,7 @@
 -- The plain form of a reference's line: a reference in user mode with one blank between two words, the
 -- operation's name of two bytes and the address of eight. Source: this project's own.
-use Rattle.std.specs.Prelude.{◌≡◌, ◌≢◌, ℕ, ◌^◌, true, nat_lt, List, [], ◌∷◌, ◌++◌, All, Some, Ok}
+use Rattle.std.specs.Prelude.{◌≡◌, ◌≢◌, ℕ, ◌^◌, ◌==◌, Bool, ◌&&◌, true, length, nat_le, nat_lt, List, [], ◌∷◌, ◌++◌, All, Some, Ok}
+use Rattle.vm_types.specs.Versions.{most_lines, most_requests}
 use Rattle.vm_types.specs.WellFormed.{width_bytes}
 use Rattle.vm_types.specs.declared.config.Task.{Task}
 use Rattle.vm_types.specs.declared.reference.Mode.{Mode}
@@ -15,8 +16,15 @@ use Rattle.trace_words.specs.declared.ops.OpName.{OpName}
 use Rattle.trace_words.specs.Number.{hexadecimal}
 use Rattle.trace_words.specs.OpWords.{op_name}
 use Rattle.trace_lines.specs.declared.part.Part.{Part}
+use Rattle.trace_lines.specs.declared.places.Place.TheVariants.{Requests}
 use Rattle.trace_lines.specs.Grammar.{judged}
+use Rattle.trace_lines.specs.Places.{rank}
 use Rattle.trace_lines.specs.Says.{Request}
+
+-- a line of this number may be a request: it stands among them, and the lines and requests don't get too many
+abbrev pub takes_request : ℕ → Part → Bool
+takes_request number part =
+    nat_le number (most_lines part.config.version) && (rank part.place == rank Requests) && nat_lt (length part.config.body) (most_requests part.config.version)
 
 -- the process's byte, the operation, the address's word, and what stands behind it
 pub record IsPlainFront (text : List ℕ) (x : ℕ) (name : OpName) (address behind : List ℕ) : Type 0 where

@@ -1,12 +1,13 @@
 -- BODY, END, and the requests between them. Source: this project's own.
-use Rattle.std.specs.Prelude.{ℕ, ◌+◌, ◌-◌, ◌^◌, Bool, ◌&&◌, nat_le, nat_lt, true, false, length, List, [], ◌∷◌, Option, Some, None, Result, Ok, Err, if◌then◌else◌}
+use Rattle.std.specs.Prelude.{ℕ, ◌+◌, ◌-◌, ◌^◌, Bool, ◌&&◌, nat_le, nat_lt, not, true, length, List, [], ◌∷◌, Option, Some, None, Result, Ok, Err, if◌then◌else◌}
 use Rattle.std.specs.List.{list_all}
+use Rattle.vm_types.specs.declared.limits.TheConstants.{P0_PAGES, PAGE_BYTES}
 use Rattle.vm_types.specs.Configuration.{all_pins}
 use Rattle.vm_types.specs.WellFormed.{width_bytes}
 use Rattle.vm_types.specs.declared.config.Config.{Config}
 use Rattle.vm_types.specs.declared.config.Params.{Params}
 use Rattle.vm_types.specs.declared.config.Version.{Version}
-use Rattle.vm_types.specs.declared.config.Version.TheVariants as version
+use Rattle.vm_types.specs.Versions.{is_first, most_requests}
 use Rattle.vm_types.specs.declared.reference.Mode.{Mode}
 use Rattle.vm_types.specs.declared.reference.Width.{Width}
 use Rattle.vm_types.specs.declared.reference.Width.TheVariants.{Four}
@@ -28,8 +29,9 @@ use Rattle.trace_words.specs.Number.{hexadecimal}
 use Rattle.trace_words.specs.Protection.{protection}
 use Rattle.trace_words.specs.VerbWords.{verb_of}
 use Rattle.trace_lines.specs.declared.breach.Bound.{Bound}
-use Rattle.trace_lines.specs.declared.breach.Bound.TheVariants.{Free, Within, Multiple, Regions, LoLimit, HiLimit, FreeLim, Frames, FramesAndLocks}
+use Rattle.trace_lines.specs.declared.breach.Bound.TheVariants.{Free, Within, Multiple, Regions, LoLimit, HiLimit, FreeLim, Frames, FramesAndLocks, Most}
 use Rattle.trace_lines.specs.declared.breach.Breach.{Breach}
+use Rattle.trace_lines.specs.declared.breach.Limited.TheVariants as limited
 use Rattle.trace_lines.specs.declared.ranges.Written.{Written}
 use Rattle.trace_lines.specs.declared.ranges.Range.{Range}
 use Rattle.trace_lines.specs.declared.ranges.CodedRange.{CodedRange}
@@ -45,10 +47,9 @@ params_agree params = nat_le params.lolimit params.hilimit && nat_le params.hili
 abbrev pub has_frames : Config → Bool
 has_frames config = list_all (λ spec. nat_le (spec.extent + (length config.bad + all_pins config) + 2) config.frames) config.procs
 
--- the bound of the frames, which in version 2 the locks are among
+-- the bound of the frames, which but in version 1 the locks are among
 abbrev pub frames_by : Version → ℕ → Bound
-frames_by version.One n = Frames n
-frames_by version.Two n = FramesAndLocks n
+frames_by v n = if is_first v then Frames n else FramesAndLocks n
 
 abbrev pub frames_bound : Config → Bound
 frames_bound config = frames_by config.version config.frames
@@ -73,9 +74,11 @@ abbrev pub end_line : List (List ℕ) → Result Says Breach
 end_line [] = Ok End
 end_line other = Err (miscounted 2 0 other)
 
--- one of at most 100,000 requests
+-- one of at most as many requests as the version has
 abbrev pub asked_by : Config → ℕ → Wanted → Result Says Breach
-asked_by config p request = owed (nat_lt (length config.body) 100000) (at_word 1 TooMany) (Ok (Request (record { proc = record { 0 = p }; request = request })))
+asked_by config p request =
+    owed (nat_lt (length config.body) (most_requests config.version)) (bounded 1 TooMany (Most limited.Requests (most_requests config.version)))
+    (Ok (Request (record { proc = record { 0 = p }; request = request })))
 
 abbrev pub referred : Config → ℕ → Mode → ℕ → What → Result Says Breach
 referred config p mode at op = asked_by config p (wanted.Reference (record { mode = mode; addr = record { 0 = at }; op = op }))
@@ -107,14 +110,14 @@ reference_line config x mode Add args = write_of config x Four args >>= λ w. re
 -- x SERVICE addr n
 abbrev pub range_of : Config → List ℕ → List (List ℕ) → Result Range Breach
 range_of config x (addr ∷ n ∷ []) =
-    marked 1 Free (process config.procs x) >>= λ p. marked 3 (Multiple 512) (aligned 512 addr) >>= λ at. ranged 4 1 4096 n >>= λ pages.
+    marked 1 Free (process config.procs x) >>= λ p. marked 3 (Multiple PAGE_BYTES) (aligned PAGE_BYTES addr) >>= λ at. ranged 4 1 P0_PAGES n >>= λ pages.
     owed (is_inside at pages) (bounded 3 OutOfRange Regions) (Ok (record { proc = p; at = at; pages = pages }))
 range_of config x other = Err (miscounted 3 2 other)
 
 -- x SERVICE addr n prot
 abbrev pub coded_range_of : Config → List ℕ → List (List ℕ) → Result CodedRange Breach
 coded_range_of config x (addr ∷ n ∷ prot ∷ []) =
-    marked 1 Free (process config.procs x) >>= λ p. marked 3 (Multiple 512) (aligned 512 addr) >>= λ at. ranged 4 1 4096 n >>= λ pages.
+    marked 1 Free (process config.procs x) >>= λ p. marked 3 (Multiple PAGE_BYTES) (aligned PAGE_BYTES addr) >>= λ at. ranged 4 1 P0_PAGES n >>= λ pages.
     marked 5 Free (protection prot) >>= λ code.
     owed (is_inside at pages) (bounded 3 OutOfRange Regions) (Ok (record { proc = p; at = at; pages = pages; prot = code }))
 coded_range_of config x other = Err (miscounted 3 3 other)
@@ -157,10 +160,9 @@ service_line config x Pin args = ranged_line config x Pin args
 service_line config x Unpin args = ranged_line config x Unpin args
 service_line config x Adjust args = adjust_line config x args
 
--- the services that pin and unpin pages are of version 2
+-- but version 1 has the services that pin and unpin pages
 abbrev pub has_pins : Version → Bool
-has_pins version.One = false
-has_pins version.Two = true
+has_pins v = not (is_first v)
 
 abbrev pub is_word_of : Version → ServiceName → Bool
 is_word_of v Create = true

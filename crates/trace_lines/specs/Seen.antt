@@ -5,6 +5,7 @@ use Rattle.vm_types.specs.Configuration.{section_pages}
 use Rattle.std.specs.List.{list_any}
 use Rattle.std.specs.Ordering.{nat_cmp}
 use Rattle.std.specs.BTreeSet.{contains}
+use Rattle.vm_types.specs.declared.limits.TheConstants.{MOST_BLOCKS, MOST_EXTENT, MOST_PROCESSES, MOST_SECTIONS, MOST_SECTION_PAGES, PAGE_BYTES}
 use Rattle.vm_types.specs.declared.names.BlockId.{BlockId}
 use Rattle.vm_types.specs.declared.names.BlockId.TheVariants.{Section, PageFile, Swap}
 use Rattle.vm_types.specs.declared.config.Config.{Config}
@@ -15,7 +16,7 @@ use Rattle.trace_lines.specs.Headers.{is_listed}
 
 -- whether the page is one of the mapping's
 abbrev pub covers : Mapping → ℕ → ℕ → Bool
-covers m p page = ((m.proc).0 == p) && nat_le (m.at).0 (512 * page) && nat_lt (512 * page) ((m.at).0 + 512 * m.pages)
+covers m p page = ((m.proc).0 == p) && nat_le (m.at).0 (PAGE_BYTES * page) && nat_lt (PAGE_BYTES * page) ((m.at).0 + PAGE_BYTES * m.pages)
 
 abbrev pub is_mapped : List Mapping → ℕ → ℕ → Bool
 is_mapped maps p page = list_any (λ m. covers m p page) maps
@@ -28,20 +29,20 @@ pub record IsSeen (seen : Seen) (config : Config) : Type 0 where
 
 -- the block has a key of its own
 abbrev pub IsKeyed : BlockId → Type 0
-IsKeyed (Section s page) = (s.0 < 64) × (page < 16384)
+IsKeyed (Section s page) = (s.0 < MOST_SECTIONS) × (page < MOST_SECTION_PAGES)
 IsKeyed (PageFile b) = b < 1048576
-IsKeyed (Swap p slot) = slot < 1024
+IsKeyed (Swap p slot) = slot < MOST_EXTENT
 
 -- a mapping of whole pages
 abbrev pub IsPaged : Mapping → Type 0
-IsPaged m = ((m.at).0 % 512 ≡ 0) × (1 ≤ m.pages)
+IsPaged m = ((m.at).0 % PAGE_BYTES ≡ 0) × (1 ≤ m.pages)
 
 -- the limits on which the keys rest
 pub record HasKeyLimits (config : Config) : Type 0 where
-  pub pagefile : config.pagefile ≤ 16384
-  pub sections : length config.sections ≤ 64
-  pub pages : sum_by section_pages config.sections ≤ 16384
-  pub locks : sum_by (λ spec. spec.locks) config.procs ≤ 16384
-  pub slots : All (λ spec. spec.extent ≤ 1024) config.procs
+  pub pagefile : config.pagefile ≤ MOST_BLOCKS
+  pub sections : length config.sections ≤ MOST_SECTIONS
+  pub pages : sum_by section_pages config.sections ≤ MOST_SECTION_PAGES
+  pub locks : sum_by (λ spec. spec.locks) config.procs ≤ MOST_PROCESSES * MOST_EXTENT
+  pub slots : All (λ spec. spec.extent ≤ MOST_EXTENT) config.procs
   pub blocks : All (λ fails. IsKeyed fails.block) config.fails
   pub maps : All IsPaged config.maps

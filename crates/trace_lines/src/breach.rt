@@ -4,6 +4,21 @@ ghost use Rattle.trace_lines.specs.Breaches.{at_word, bounded, counted, marked, 
 
 use trace_words::{Cause, Words, decimal, decimal_within};
 
+/// What a trace has at most so many of.
+#[derive(Clone, Copy, Debug, PartialEq, Eq)]
+pub enum Limited {
+    /// Lines, by the version.
+    Lines,
+    /// Requests, by the version.
+    Requests,
+    /// Sections.
+    Sections,
+    /// Pages of all sections.
+    SectionPages,
+    /// Processes.
+    Processes,
+}
+
 /// What may stand in the place of a word that breaks a rule.
 #[derive(Clone, Copy, Debug, PartialEq, Eq)]
 pub enum Bound {
@@ -21,7 +36,7 @@ pub enum Bound {
     Bytes(usize),
     /// A page in a section of so many pages, which the line's pages fit behind.
     Pages(usize),
-    /// An address from which the pages lie in P0 pages 0 to 4095, or in the last 1024 pages of P1.
+    /// An address from which the pages lie in those of P0, or in those of P1, that may be mapped.
     Regions,
     /// A number of locks at most this limit, less 2.
     Locks(u32),
@@ -38,9 +53,11 @@ pub enum Bound {
     /// BODY, once the extent of each process, the bad frames and 2 are at most this, which is the number of
     /// frames.
     Frames(u32),
-    /// BODY of version 2, once the extent of each process, the bad frames, the locks of all processes and 2
+    /// BODY but in version 1, once the extent of each process, the bad frames, the locks of all processes and 2
     /// are at most this, which is the number of frames.
     FramesAndLocks(u32),
+    /// At most so many of these.
+    Most(Limited, u32),
 }
 
 /// The first rule that a line breaks, and where.

@@ -1,23 +1,24 @@
 ghost use Rattle.std.specs.Prelude.{◌≡◌, ◌≤◌, sum_by};
+ghost use Rattle.vm_types.specs.declared.limits.TheConstants.{MOST_SECTION_PAGES};
 ghost use Rattle.vm_types.specs.Configuration.{section_pages};
 ghost use Rattle.trace_words.specs.Split.{listed};
-ghost use Rattle.trace_lines.specs.Declarations.{paged_kind, section_kind, has_room, section_line, data_line, are_ordered, disordered, process_line};
+ghost use Rattle.trace_lines.specs.Declarations.{paged_kind, section_kind, has_room, crowded, section_line, data_line, are_ordered, disordered, process_line};
 ghost use Rattle.trace_lines.specs.Says.{said};
 
-use crate::breach::{Bound, Breach, counted, marked, miscounted, ranged};
+use crate::breach::{Bound, Breach, Limited, counted, marked, miscounted, ranged};
 use crate::line::Line;
 use crate::lookups::{bytes_at, has_file, number_named, section as section_of, total_pages};
 use trace_words::{Cause, Words, decimal, is, is_name, letter, pairs};
-use vm_types::{Config, ProcSpec, Section, SectionKind, Version};
+use vm_types::{
+    Config, MOST_EXTENT, MOST_PROCESSES, MOST_SECTION_PAGES, MOST_SECTIONS, ProcSpec, Section, SectionKind,
+    Version,
+};
 
-// The kind of a section in the page file, which version 2 alone has.
+// The kind of a section in the page file, which version 1 doesn't have.
 fn paged_kind(version: Version) -> Result<SectionKind, Cause>
     ensures { result ≡ paged_kind version }
 {
-    match version {
-        Version::One => Err(Cause::UnknownWord),
-        Version::Two => Ok(SectionKind::Paged),
-    }
+    if version.is_first() { Err(Cause::UnknownWord) } else { Ok(SectionKind::Paged) }
 }
 
 fn section_kind(version: Version, word: &[u8]) -> Result<SectionKind, Cause>
@@ -35,14 +36,26 @@ fn section_kind(version: Version, word: &[u8]) -> Result<SectionKind, Cause>
 }
 
 fn has_room(sections: &[Section], pages: u32) -> bool
-    requires { sum_by section_pages sections.now ≤ 16384 }
+    requires { sum_by section_pages sections.now ≤ MOST_SECTION_PAGES }
     ensures { result ≡ has_room sections.now pages }
 {
-    sections.len() < 64 && total_pages(sections) + pages as usize <= 16_384
+    sections.len() < MOST_SECTIONS as usize
+        && total_pages(sections) + pages as usize <= MOST_SECTION_PAGES as usize
+}
+
+// Which gets too many, the sections or their pages, where one of them does.
+fn crowded(sections: &[Section]) -> Bound
+    ensures { result ≡ crowded sections.now }
+{
+    if sections.len() < MOST_SECTIONS as usize {
+        Bound::Most(Limited::SectionPages, MOST_SECTION_PAGES)
+    } else {
+        Bound::Most(Limited::Sections, MOST_SECTIONS)
+    }
 }
 
 pub(crate) fn section<'a>(config: &Config, args: &Words<'a>) -> Result<Line<'a>, Breach>
-    requires { sum_by section_pages config.now.sections ≤ 16384 }
+    requires { sum_by section_pages config.now.sections ≤ MOST_SECTION_PAGES }
     ensures { said result ≡ section_line config.now (listed args.now) }
 {
     let Words::Three(name, kind, n) = *args else {
@@ -58,7 +71,7 @@ pub(crate) fn section<'a>(config: &Config, args: &Words<'a>) -> Result<Line<'a>,
         return Err(Breach::at_word(2, Cause::Repeated));
     }
     if !has_room(sections, pages) {
-        return Err(Breach::at_word(4, Cause::TooMany));
+        return Err(Breach::bounded(4, Cause::TooMany, crowded(sections)));
     }
     Ok(Line::Section(name, kind, pages))
 }
@@ -118,7 +131,7 @@ pub(crate) fn process<'a>(config: &Config, args: &Words<'a>) -> Result<Line<'a>,
     }
     let limit = counted(3, limit)?;
     let quota = counted(4, quota)?;
-    let extent = ranged(5, 0, 1024, extent)?;
+    let extent = ranged(5, 0, MOST_EXTENT, extent)?;
     let locks = counted(6, locks)?;
     let spec = ProcSpec {
         limit,
@@ -129,8 +142,9 @@ pub(crate) fn process<'a>(config: &Config, args: &Words<'a>) -> Result<Line<'a>,
     if !are_ordered(&spec) {
         return Err(disordered(&spec));
     }
-    if procs.len() >= 16 {
-        return Err(Breach::at_word(2, Cause::TooMany));
+    if procs.len() >= MOST_PROCESSES as usize {
+        let most = Bound::Most(Limited::Processes, MOST_PROCESSES);
+        return Err(Breach::bounded(2, Cause::TooMany, most));
     }
     Ok(Line::Process(spec))
 }

@@ -1,5 +1,6 @@
 ghost use Rattle.std.specs.Prelude.{◌≡◌, ◌≤◌, ◌&&◌, nat_le, length, false, IfOk};
 ghost use Rattle.std.specs.List.{list_any};
+ghost use Rattle.vm_types.specs.declared.limits.TheConstants.{MOST_FAILS};
 ghost use Rattle.trace_words.specs.BlockWords.{name_of};
 ghost use Rattle.trace_words.specs.Words.{words};
 ghost use Rattle.trace_lines.specs.Breaches.{miscounted};
@@ -60,9 +61,9 @@ fn block_named(config: &Config, name: &BlockName) -> Result<BlockId, Cause>
     }
 }
 
-// Whether the text has 1 to 16 words.
+// Whether the text has a word, and no more than calls may fail.
 fn has_calls(text: &[u8]) -> bool
-    ensures { result ≡ (nat_le 1 (length (words text.now)) && nat_le (length (words text.now)) 16) }
+    ensures { result ≡ (nat_le 1 (length (words text.now)) && nat_le (length (words text.now)) MOST_FAILS) }
 {
     let mut count = 0u8;
     let mut rest = text;
@@ -113,8 +114,8 @@ fn block_of(config: &Config, word: &[u8]) -> Result<BlockId, Cause>
 
 // Other than 1 to 16 words stand from the third place on.
 fn misplaced(text: &[u8]) -> Breach
-    requires { (nat_le 1 (length (words text.now)) && nat_le (length (words text.now)) 16) ≡ false }
-    ensures { result ≡ miscounted 3 16 (words text.now) }
+    requires { (nat_le 1 (length (words text.now)) && nat_le (length (words text.now)) MOST_FAILS) ≡ false }
+    ensures { result ≡ miscounted 3 MOST_FAILS (words text.now) }
 {
     match next_word(text) {
         None => Breach::at_word(3, Cause::Misplaced),

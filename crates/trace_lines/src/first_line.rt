@@ -4,8 +4,7 @@ ghost use Rattle.trace_lines.specs.Plain.{IsEndedNumber, IsEndedOp, IsEndedValue
 
 use crate::lookups::{aligned, process};
 use crate::part::Part;
-use crate::places::Place;
-use crate::plain::{plain_front, width_of};
+use crate::plain::{plain_front, takes_request, width_of};
 use crate::ranges::{bytes_of, fits};
 use trace_words::{Access, hexadecimal, parted};
 use vm_types::{Addr, Mode, Op, Proc, Ref, Request, Task, Width};
@@ -105,10 +104,10 @@ fn asked(p: u32, mode: Mode, at: u32, op: Op) -> Task
 pub fn plain_request<'a>(number: u32, part: &Part, text: &'a [u8]) -> Option<(Task, &'a [u8])>
     ensures { IfSome result (λ r. IsFirstRequest number part.now text.now r.0 r.1.now) }
 {
-    if text.len() < 14 || number > 200_000 || part.place.rank() != Place::Requests.rank() {
+    if text.len() < 14 {
         return None;
     }
-    if part.config.body.items().len() >= 100_000 {
+    if !takes_request(number, part) {
         return None;
     }
     let (x, op, word, behind) = plain_front(text)?;

@@ -1,6 +1,6 @@
 ghost use Rattle.std.specs.Prelude.{◌≡◌};
 ghost use Rattle.trace_words.specs.Split.{listed};
-ghost use Rattle.trace_lines.specs.Headers.{version_of, version_line, most_frames, frames_line, pagefile_line, param_line, bad_line};
+ghost use Rattle.trace_lines.specs.Headers.{version_of, version_line, long_line, frames_line, pagefile_line, param_line, bad_line};
 ghost use Rattle.trace_lines.specs.Says.{said};
 ghost use Rattle.trace_lines.specs.Seen.{IsSeen};
 
@@ -9,7 +9,7 @@ use crate::line::Line;
 use crate::params::param_of;
 use crate::seen::Seen;
 use trace_words::{Cause, Words, decimal};
-use vm_types::{Config, Version};
+use vm_types::{Config, MOST_BLOCKS, Version};
 
 // The version of this number, 1 or 2.
 fn version_of(n: u32) -> Version
@@ -28,14 +28,14 @@ pub(crate) fn version<'a>(args: &Words<'a>) -> Result<Line<'a>, Breach>
     Ok(Line::Version(version_of(n)))
 }
 
-// The most frames that the version has.
-fn most_frames(version: Version) -> u32
-    ensures { result ≡ most_frames version }
+pub(crate) fn long<'a>(args: &Words<'a>) -> Result<Line<'a>, Breach>
+    ensures { said result ≡ long_line (listed args.now) }
 {
-    match version {
-        Version::One => 4096,
-        Version::Two => 16_384,
-    }
+    let Words::One(n) = args else {
+        return Err(miscounted(2, 1, args));
+    };
+    ranged(2, 2, 2, n)?;
+    Ok(Line::Version(Version::Long))
 }
 
 pub(crate) fn frames<'a>(config: &Config, args: &Words<'a>) -> Result<Line<'a>, Breach>
@@ -44,7 +44,7 @@ pub(crate) fn frames<'a>(config: &Config, args: &Words<'a>) -> Result<Line<'a>, 
     let Words::One(n) = args else {
         return Err(miscounted(2, 1, args));
     };
-    let n = ranged(2, 8, most_frames(config.version), n)?;
+    let n = ranged(2, 8, config.version.most_frames(), n)?;
     Ok(Line::Frames(n))
 }
 
@@ -54,7 +54,7 @@ pub(crate) fn pagefile<'a>(args: &Words<'a>) -> Result<Line<'a>, Breach>
     let Words::One(n) = args else {
         return Err(miscounted(2, 1, args));
     };
-    let n = ranged(2, 1, 16_384, n)?;
+    let n = ranged(2, 1, MOST_BLOCKS, n)?;
     Ok(Line::PageFile(n))
 }
 

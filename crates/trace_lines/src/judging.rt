@@ -5,10 +5,10 @@ ghost use Rattle.trace_lines.specs.Grammar.{by_keyword, is_letter, is_comment, b
 ghost use Rattle.trace_lines.specs.Says.{said, meant};
 ghost use Rattle.trace_lines.specs.Seen.{IsSeen, HasKeyLimits};
 
-use crate::breach::Breach;
+use crate::breach::{Bound, Breach, Limited};
 use crate::declarations::{data, process, section};
 use crate::fails::fail;
-use crate::headers::{bad, frames, pagefile, param, version};
+use crate::headers::{bad, frames, long, pagefile, param, version};
 use crate::keywords::{Keyword, keyword_of};
 use crate::line::Line;
 use crate::mappings::{mapsec, mapzero};
@@ -33,6 +33,7 @@ fn by_keyword<'a>(
     let args = words_of(text);
     match keyword {
         Keyword::Version => version(&args),
+        Keyword::Long => long(&args),
         Keyword::Frames => frames(config, &args),
         Keyword::PageFile => pagefile(&args),
         Keyword::Param => param(&part.given, &args),
@@ -124,8 +125,10 @@ pub fn judge<'a>(number: u32, part: &Part, seen: &Seen, line: &'a [u8]) -> Resul
     if !are_text(line) {
         return Err(Breach::at_word(0, Cause::NotAscii));
     }
-    if number > 200_000 {
-        return Err(Breach::at_word(0, Cause::TooMany));
+    let most = part.config.version.most_lines();
+    if number > most {
+        let bound = Bound::Most(Limited::Lines, most);
+        return Err(Breach::bounded(0, Cause::TooMany, bound));
     }
     match next_word(line) {
         None => Ok(Line::Nothing),

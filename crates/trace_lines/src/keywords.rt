@@ -9,6 +9,8 @@ use trace_words::is;
 pub enum Keyword {
     /// VMTRACE.
     Version,
+    /// LONGTRACE.
+    Long,
     /// FRAMES.
     Frames,
     /// PAGEFILE.
@@ -41,6 +43,8 @@ pub(crate) fn keyword_of(word: &[u8]) -> Option<Keyword>
 {
     if is(word, b"VMTRACE") {
         Some(Keyword::Version)
+    } else if is(word, b"LONGTRACE") {
+        Some(Keyword::Long)
     } else if is(word, b"FRAMES") {
         Some(Keyword::Frames)
     } else if is(word, b"PAGEFILE") {
@@ -76,7 +80,7 @@ impl Keyword {
         ensures { result ≡ place_of self }
     {
         match self {
-            Keyword::Version => Place::Version,
+            Keyword::Version | Keyword::Long => Place::Version,
             Keyword::Frames => Place::Frames,
             Keyword::PageFile => Place::PageFile,
             Keyword::End => Place::Requests,

@@ -20,7 +20,7 @@ mod ranges;
 mod requests;
 mod seen;
 
-pub use breach::{Bound, Breach};
+pub use breach::{Bound, Breach, Limited};
 pub use first_line::plain_request;
 pub use judging::{content, judge};
 pub use keywords::Keyword;

@@ -7,7 +7,7 @@ use vm_types::{BlockId, Mapping, ProcSpec, SectionKind, Task, Version};
 pub enum Line<'a> {
     /// Nothing: it is skipped.
     Nothing,
-    /// VMTRACE, and the version.
+    /// VMTRACE or LONGTRACE, and the version.
     Version(Version),
     /// So many frames.
     Frames(u32),

@@ -1,9 +1,10 @@
 ghost use Rattle.std.specs.Prelude.{◌≡◌, ◌<◌, ◌≤◌, IfOk, IfSome, length, sum_by};
+ghost use Rattle.vm_types.specs.declared.limits.TheConstants.{MOST_SECTION_PAGES};
 ghost use Rattle.vm_types.specs.Configuration.{section_pages};
 ghost use Rattle.trace_lines.specs.Lookups.{process, number_named, section, pages_at, bytes_at, blocks_at, has_file, aligned, is_inside};
 
 use trace_words::{Cause, hexadecimal, is_name, letter};
-use vm_types::{ProcSpec, Section, SectionKind};
+use vm_types::{PAGE_BYTES, ProcSpec, Section, SectionKind};
 
 /// The process of this letter.
 pub(crate) fn process(procs: &[ProcSpec], word: &[u8]) -> Result<u32, Cause>
@@ -45,7 +46,7 @@ pub(crate) fn pages_at(sections: &[Section], s: usize) -> usize
     requires { s < length sections.now }
     ensures { result ≡ pages_at sections.now s }
 {
-    sections[s].bytes.items().len() / 512
+    sections[s].bytes.items().len() / PAGE_BYTES as usize
 }
 
 /// The bytes of the section of this number.
@@ -81,12 +82,12 @@ pub(crate) fn has_file(sections: &[Section], s: usize) -> bool
 
 /// The pages of all sections.
 pub(crate) fn total_pages(sections: &[Section]) -> usize
-    requires { sum_by section_pages sections.now ≤ 16384 }
+    requires { sum_by section_pages sections.now ≤ MOST_SECTION_PAGES }
     ensures { result ≡ sum_by section_pages sections.now }
 {
     sections
         .iter()
-        .map(|section| section.bytes.items().len() / 512)
+        .map(|section| section.bytes.items().len() / PAGE_BYTES as usize)
         .sum()
 }
 
@@ -107,6 +108,6 @@ pub(crate) fn aligned(bytes: u32, word: &[u8]) -> Result<u32, Cause>
 pub(crate) fn is_inside(at: u32, pages: u32) -> bool
     ensures { result ≡ is_inside at pages }
 {
-    let end = u64::from(at) + 512 * u64::from(pages);
+    let end = u64::from(at) + u64::from(PAGE_BYTES) * u64::from(pages);
     end <= 2_097_152 || (at >= 2_146_959_360 && end <= 2_147_483_648)
 }

@@ -2,6 +2,7 @@ ghost use Rattle.std.specs.Prelude.{◌≡◌, ◌+◌, ◌^◌, ◌%◌, ◌≤
 ghost use Rattle.std.specs.Ordering.{nat_cmp};
 ghost use Rattle.std.specs.BTreeSet.{contains};
 ghost use Rattle.std.specs.List.{list_any};
+ghost use Rattle.vm_types.specs.declared.limits.TheConstants.{PAGE_BYTES};
 ghost use Rattle.trace_words.specs.Split.{listed};
 ghost use Rattle.trace_lines.specs.Keys.{page_key};
 ghost use Rattle.trace_lines.specs.Lookups.{is_inside};
@@ -14,7 +15,7 @@ use crate::line::Line;
 use crate::lookups::{aligned, is_inside, pages_at, process, section};
 use crate::seen::{Seen, page_key};
 use trace_words::{Cause, Words, decimal, protection};
-use vm_types::{Addr, Config, Mapping, Origin, Proc, SecId};
+use vm_types::{Addr, Config, Mapping, Origin, P0_PAGES, PAGE_BYTES, Proc, SecId};
 
 // Whether one of the pages is mapped already.
 fn has_page(seen: &Seen, proc: u32, first: u32, pages: u32) -> bool
@@ -35,18 +36,18 @@ fn has_page(seen: &Seen, proc: u32, first: u32, pages: u32) -> bool
 fn is_repeated(config: &Config, seen: &Seen, m: &Mapping) -> bool
     requires seen { IsSeen seen.now config.now }
     requires bounded { HasKeyLimits config.now }
-    requires aligned { (m.now.at).0 % 512 ≡ 0 }
+    requires aligned { (m.now.at).0 % PAGE_BYTES ≡ 0 }
     requires some { 1 ≤ m.now.pages }
     requires inside { IsTrue (is_inside (m.now.at).0 m.now.pages) }
     ensures { result ≡ list_any (λ before. overlaps before m.now) config.now.maps }
 {
-    has_page(seen, m.proc.0, m.at.0 / 512, m.pages)
+    has_page(seen, m.proc.0, m.at.0 / PAGE_BYTES, m.pages)
 }
 
 // A mapping inside the regions, of pages that aren't mapped yet.
 fn mapped<'a>(config: &Config, seen: &Seen, m: Mapping) -> Result<Line<'a>, Breach>
     requires seen { IsSeen seen.now config.now }
-    requires aligned { (m.at).0 % 512 ≡ 0 }
+    requires aligned { (m.at).0 % PAGE_BYTES ≡ 0 }
     requires some { 1 ≤ m.pages }
     requires bounded { HasKeyLimits config.now }
     ensures { said result ≡ mapped config.now m }
@@ -86,8 +87,8 @@ pub(crate) fn mapzero<'a>(
         return Err(miscounted(2, 4, args));
     };
     let p = marked(2, Bound::Free, process(config.procs.items(), x))?;
-    let at = marked(3, Bound::Multiple(512), aligned(512, addr))?;
-    let pages = ranged(4, 1, 4096, n)?;
+    let at = marked(3, Bound::Multiple(PAGE_BYTES), aligned(PAGE_BYTES, addr))?;
+    let pages = ranged(4, 1, P0_PAGES, n)?;
     let prot = marked(5, Bound::Free, protection(prot))?;
     mapped(config, seen, mapping(p, at, pages, Origin::Zero, prot))
 }
@@ -102,8 +103,8 @@ pub(crate) fn mapsec<'a>(config: &Config, seen: &Seen, args: &Words<'a>) -> Resu
     };
     let sections = config.sections.items();
     let p = marked(2, Bound::Free, process(config.procs.items(), x))?;
-    let at = marked(3, Bound::Multiple(512), aligned(512, addr))?;
-    let pages = ranged(4, 1, 4096, n)?;
+    let at = marked(3, Bound::Multiple(PAGE_BYTES), aligned(PAGE_BYTES, addr))?;
+    let pages = ranged(4, 1, P0_PAGES, n)?;
     let s = marked(5, Bound::Free, section(sections, name))?;
     let room = pages_at(sections, s);
     let first = marked(6, Bound::Pages(room), decimal(first))?;

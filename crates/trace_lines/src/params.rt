@@ -2,38 +2,40 @@ ghost use Rattle.std.specs.Prelude.{◌≡◌, ◌<◌};
 ghost use Rattle.trace_lines.specs.ParamWords.{writer_param, other_param, param_of, least, most, number_of, with_param};
 
 use trace_words::{Cause, is};
-use vm_types::Params;
+use vm_types::{
+    MOST_COUNTED, MOST_EXTENT, MOST_FRAMES, MOST_FREE, MOST_LIFTS, MOST_READ_CLUSTER, Params,
+};
 
 /// A parameter of the pager.
 #[derive(Clone, Copy, Debug, PartialEq, Eq)]
 pub enum Param {
-    /// PFC, 1 to 8.
+    /// PFC, 1 to `MOST_READ_CLUSTER`.
     Pfc,
-    /// HILIMIT, 0 to 16_384.
+    /// HILIMIT, 0 to `MOST_FRAMES`.
     HiLimit,
-    /// LOLIMIT, 0 to 16_384.
+    /// LOLIMIT, 0 to `MOST_FRAMES`.
     LoLimit,
-    /// WAITLIMIT, 1 to 16_384.
+    /// WAITLIMIT, 1 to `MOST_FRAMES`.
     WaitLimit,
-    /// WRTCLUSTER, 1 to 16.
+    /// WRTCLUSTER, 1 to `MOST_LIFTS`.
     WrtCluster,
-    /// FREELIM, 0 to 4096.
+    /// FREELIM, 0 to `MOST_FREE`.
     FreeLim,
-    /// FREEGOAL, 0 to 4096.
+    /// FREEGOAL, 0 to `MOST_FREE`.
     FreeGoal,
-    /// AWSTIME, 0 to 100_000.
+    /// AWSTIME, 0 to `MOST_COUNTED`.
     AwsTime,
-    /// PFRATH, 0 to 100_000.
+    /// PFRATH, 0 to `MOST_COUNTED`.
     PfrAtH,
-    /// PFRATL, 0 to 100_000.
+    /// PFRATL, 0 to `MOST_COUNTED`.
     PfrAtL,
-    /// WSINC, 0 to 1024.
+    /// WSINC, 0 to `MOST_EXTENT`.
     WsInc,
-    /// WSDEC, 0 to 1024.
+    /// WSDEC, 0 to `MOST_EXTENT`.
     WsDec,
-    /// AWSMIN, 2 to 1024.
+    /// AWSMIN, 2 to `MOST_EXTENT`.
     AwsMin,
-    /// BORROWLIM, 0 to 4096.
+    /// BORROWLIM, 0 to `MOST_FREE`.
     BorrowLim,
 }
 
@@ -116,20 +118,20 @@ impl Param {
         ensures { result ≡ most self }
     {
         match self {
-            Param::Pfc => 8,
-            Param::HiLimit => 16_384,
-            Param::LoLimit => 16_384,
-            Param::WaitLimit => 16_384,
-            Param::WrtCluster => 16,
-            Param::FreeLim => 4096,
-            Param::FreeGoal => 4096,
-            Param::AwsTime => 100_000,
-            Param::PfrAtH => 100_000,
-            Param::PfrAtL => 100_000,
-            Param::WsInc => 1024,
-            Param::WsDec => 1024,
-            Param::AwsMin => 1024,
-            Param::BorrowLim => 4096,
+            Param::Pfc => MOST_READ_CLUSTER,
+            Param::HiLimit => MOST_FRAMES,
+            Param::LoLimit => MOST_FRAMES,
+            Param::WaitLimit => MOST_FRAMES,
+            Param::WrtCluster => MOST_LIFTS,
+            Param::FreeLim => MOST_FREE,
+            Param::FreeGoal => MOST_FREE,
+            Param::AwsTime => MOST_COUNTED,
+            Param::PfrAtH => MOST_COUNTED,
+            Param::PfrAtL => MOST_COUNTED,
+            Param::WsInc => MOST_EXTENT,
+            Param::WsDec => MOST_EXTENT,
+            Param::AwsMin => MOST_EXTENT,
+            Param::BorrowLim => MOST_FREE,
         }
     }
 

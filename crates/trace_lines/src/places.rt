@@ -4,7 +4,7 @@ ghost use Rattle.trace_lines.specs.Places.{rank};
 /// Where in a trace the next line stands.
 #[derive(Clone, Copy, Debug, PartialEq, Eq)]
 pub enum Place {
-    /// Before VMTRACE.
+    /// Before VMTRACE or LONGTRACE.
     Version,
     /// Before FRAMES.
     Frames,
@@ -19,7 +19,7 @@ pub enum Place {
 }
 
 impl Place {
-    /// How many of the lines VMTRACE, FRAMES, PAGEFILE, BODY and END come before: 0 to 5.
+    /// How many of the lines VMTRACE or LONGTRACE, FRAMES, PAGEFILE, BODY and END come before: 0 to 5.
     pub fn rank(self) -> u8
         ensures { result ≡ rank self }
     {

@@ -1,6 +1,6 @@
 ghost use Rattle.std.specs.Prelude.{◌≡◌, IfSome, Ok};
 ghost use Rattle.trace_lines.specs.Grammar.{judged};
-ghost use Rattle.trace_lines.specs.Plain.{IsPlainFront, IsPlainOp, IsPlainValue, width_of};
+ghost use Rattle.trace_lines.specs.Plain.{IsPlainFront, IsPlainOp, IsPlainValue, takes_request, width_of};
 ghost use Rattle.trace_lines.specs.Says.{Request as asks};
 
 use crate::judging::content;
@@ -75,16 +75,27 @@ pub(crate) fn width_of(access: Access) -> Width
     }
 }
 
+/// Whether a line of this number may be a request: it stands among them, and the lines and requests don't
+/// get too many.
+pub(crate) fn takes_request(number: u32, part: &Part) -> bool
+    ensures { result ≡ takes_request number part.now }
+{
+    let version = part.config.version;
+    number <= version.most_lines()
+        && part.place.rank() == Place::Requests.rank()
+        && part.config.body.items().len() < version.most_requests() as usize
+}
+
 /// The request of a line that is written in the plain form, as `A W4 00000200 0000002A`: a reference
 /// in user mode with one blank between two words and eight digits of the address. `None` says nothing:
 /// the line may be faulty or not, and [`judge`](crate::judge) says what it is. Doesn't allocate.
 pub fn plain_line(number: u32, part: &Part, line: &[u8]) -> Option<Task>
     ensures { IfSome result (λ task. judged number part.now line.now ≡ Ok (asks task)) }
 {
-    if line.len() > 255 || number > 200_000 || part.place.rank() != Place::Requests.rank() {
+    if line.len() > 255 {
         return None;
     }
-    if part.config.body.items().len() >= 100_000 {
+    if !takes_request(number, part) {
         return None;
     }
     let (x, op, word, behind) = plain_front(content(line))?;

@@ -6,7 +6,7 @@ ghost use Rattle.trace_lines.specs.Requests.{values, write_of, range_of, coded_r
 use crate::breach::{Bound, Breach, marked, miscounted, ranged};
 use crate::lookups::{aligned, is_inside, process};
 use trace_words::{Cause, Words, hexadecimal, protection};
-use vm_types::{Config, Width};
+use vm_types::{Config, P0_PAGES, PAGE_BYTES, Width};
 
 /// A process, an address and a value.
 #[derive(Clone, Copy, Debug)]
@@ -99,8 +99,8 @@ pub(crate) fn range_of(config: &Config, x: &[u8], args: &Words) -> Result<Range,
         return Err(miscounted(3, 2, args));
     };
     let proc = marked(1, Bound::Free, process(config.procs.items(), x))?;
-    let at = marked(3, Bound::Multiple(512), aligned(512, addr))?;
-    let pages = ranged(4, 1, 4096, n)?;
+    let at = marked(3, Bound::Multiple(PAGE_BYTES), aligned(PAGE_BYTES, addr))?;
+    let pages = ranged(4, 1, P0_PAGES, n)?;
     if is_inside(at, pages) {
         Ok(Range { proc, at, pages })
     } else {
@@ -116,8 +116,8 @@ pub(crate) fn coded_range_of(config: &Config, x: &[u8], args: &Words) -> Result<
         return Err(miscounted(3, 3, args));
     };
     let proc = marked(1, Bound::Free, process(config.procs.items(), x))?;
-    let at = marked(3, Bound::Multiple(512), aligned(512, addr))?;
-    let pages = ranged(4, 1, 4096, n)?;
+    let at = marked(3, Bound::Multiple(PAGE_BYTES), aligned(PAGE_BYTES, addr))?;
+    let pages = ranged(4, 1, P0_PAGES, n)?;
     let prot = marked(5, Bound::Free, protection(prot))?;
     if is_inside(at, pages) {
         Ok(CodedRange {

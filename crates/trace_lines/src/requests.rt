@@ -1,4 +1,5 @@
-ghost use Rattle.std.specs.Prelude.{◌≡◌, ◌≤◌, sum_by};
+ghost use Rattle.std.specs.Prelude.{◌≡◌, ◌*◌, ◌≤◌, sum_by};
+ghost use Rattle.vm_types.specs.declared.limits.TheConstants.{MOST_EXTENT, MOST_PROCESSES};
 ghost use Rattle.vm_types.specs.Configuration.{all_pins};
 ghost use Rattle.trace_words.specs.Split.{listed};
 ghost use Rattle.trace_words.specs.VerbWords.{verb_of};
@@ -6,7 +7,7 @@ ghost use Rattle.trace_words.specs.Words.{words};
 ghost use Rattle.trace_lines.specs.Requests.{params_agree, has_frames, frames_bound, unmet, body_line, end_line, asked_by, referred, read_line, reference_line, adjust_line, service_line, made, served, is_word_of, verb_in, by_verb, request_line};
 ghost use Rattle.trace_lines.specs.Says.{said};
 
-use crate::breach::{Bound, Breach, counted, marked, miscounted};
+use crate::breach::{Bound, Breach, Limited, counted, marked, miscounted};
 use crate::line::Line;
 use crate::lookups::{aligned, process};
 use crate::ranges::{bytes_of, coded_range_of, range_of, write_of};
@@ -25,7 +26,7 @@ fn params_agree(params: &Params) -> bool
 
 // The pages that these processes may lock together.
 fn all_locks(procs: &[ProcSpec]) -> u64
-    requires { sum_by (λ spec. spec.locks) procs.now ≤ 16384 }
+    requires { sum_by (λ spec. spec.locks) procs.now ≤ MOST_PROCESSES * MOST_EXTENT }
     ensures { result ≡ sum_by (λ spec. spec.locks) procs.now }
 {
     procs.iter().map(|spec| u64::from(spec.locks)).sum()
@@ -33,20 +34,17 @@ fn all_locks(procs: &[ProcSpec]) -> u64
 
 // The pages that all processes together may pin: in version 1 none.
 fn all_pins(config: &Config) -> u64
-    requires { sum_by (λ spec. spec.locks) config.now.procs ≤ 16384 }
+    requires { sum_by (λ spec. spec.locks) config.now.procs ≤ MOST_PROCESSES * MOST_EXTENT }
     ensures value { result ≡ all_pins config.now }
-    ensures few { result ≤ 16384 }
+    ensures few { result ≤ MOST_PROCESSES * MOST_EXTENT }
 {
-    match config.version {
-        Version::One => 0,
-        Version::Two => all_locks(config.procs.items()),
-    }
+    if config.version.is_first() { 0 } else { all_locks(config.procs.items()) }
 }
 
 // Whether each process alone has a frame to spare beside the page at hand and the pages that all of them
 // may pin.
 fn has_frames(config: &Config) -> bool
-    requires { sum_by (λ spec. spec.locks) config.now.procs ≤ 16384 }
+    requires { sum_by (λ spec. spec.locks) config.now.procs ≤ MOST_PROCESSES * MOST_EXTENT }
     ensures { result ≡ has_frames config.now }
 {
     let kept = config.bad.items().len() as u64 + all_pins(config);
@@ -58,13 +56,14 @@ fn has_frames(config: &Config) -> bool
         .all(|spec| u64::from(spec.extent) + kept + 2 <= frames)
 }
 
-// The bound of the frames, which in version 2 the locks are among.
+// The bound of the frames, which but in version 1 the locks are among.
 fn frames_bound(config: &Config) -> Bound
     ensures { result ≡ frames_bound config.now }
 {
-    match config.version {
-        Version::One => Bound::Frames(config.frames),
-        Version::Two => Bound::FramesAndLocks(config.frames),
+    if config.version.is_first() {
+        Bound::Frames(config.frames)
+    } else {
+        Bound::FramesAndLocks(config.frames)
     }
 }
 
@@ -85,7 +84,7 @@ fn unmet(config: &Config) -> Bound
 }
 
 pub(crate) fn body<'a>(config: &Config, args: &Words<'a>) -> Result<Line<'a>, Breach>
-    requires { sum_by (λ spec. spec.locks) config.now.procs ≤ 16384 }
+    requires { sum_by (λ spec. spec.locks) config.now.procs ≤ MOST_PROCESSES * MOST_EXTENT }
     ensures { said result ≡ body_line config.now (listed args.now) }
 {
     let Words::Zero = args else {
@@ -112,8 +111,10 @@ pub(crate) fn end<'a>(args: &Words<'a>) -> Result<Line<'a>, Breach>
 fn asked_by<'a>(config: &Config, p: u32, request: Request) -> Result<Line<'a>, Breach>
     ensures { said result ≡ asked_by config.now p request }
 {
-    if config.body.items().len() >= 100_000 {
-        return Err(Breach::at_word(1, Cause::TooMany));
+    let most = config.version.most_requests();
+    if config.body.items().len() >= most as usize {
+        let bound = Bound::Most(Limited::Requests, most);
+        return Err(Breach::bounded(1, Cause::TooMany, bound));
     }
     Ok(Line::Request(Task {
         proc: Proc(p),
@@ -229,10 +230,7 @@ fn is_word_of(version: Version, name: ServiceName) -> bool
     ensures { result ≡ is_word_of version name }
 {
     match name {
-        ServiceName::Pin | ServiceName::Unpin => match version {
-            Version::One => false,
-            Version::Two => true,
-        },
+        ServiceName::Pin | ServiceName::Unpin => !version.is_first(),
         ServiceName::Create
         | ServiceName::Delete
         | ServiceName::Protect

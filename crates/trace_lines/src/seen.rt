@@ -5,7 +5,7 @@ ghost use Rattle.trace_lines.specs.Keys.{page_key, block_key};
 
 use std::alloc::Global;
 use std::collections::BTreeSet;
-use vm_types::BlockId;
+use vm_types::{BlockId, MOST_EXTENT, MOST_SECTION_PAGES};
 
 /// What the lines so far name, kept so that a line costs no more as the trace grows: the bad frames,
 /// the mapped pages by [`page_key`], and the blocks with failing calls by [`block_key`].
@@ -28,9 +28,13 @@ pub fn block_key(block: BlockId) -> u64
     ensures { result ≡ block_key block }
 {
     match block {
-        BlockId::Section(section, page) => 16_384 * u64::from(section.0) + u64::from(page),
+        BlockId::Section(section, page) => {
+            u64::from(MOST_SECTION_PAGES) * u64::from(section.0) + u64::from(page)
+        }
         BlockId::PageFile(block) => 1_048_576 + u64::from(block),
-        BlockId::Swap(proc, slot) => 2_097_152 + 1024 * u64::from(proc.0) + u64::from(slot),
+        BlockId::Swap(proc, slot) => {
+            2_097_152 + u64::from(MOST_EXTENT) * u64::from(proc.0) + u64::from(slot)
+        }
     }
 }
 

@@ -3,19 +3,21 @@ use Rattle.std.proofs.Common.{◌≡◌, ◌≢◌, ℕ, zero, suc, ◌+◌, ◌
 use Rattle.std.specs.Prelude.{IfOk, AllPairs, sum_by, slice_get}
 use Rattle.std.specs.List.{list_all, AllByRecursion}
 use Rattle.std.proofs.lemmas.Bool.{and_parts, leb-true}
+use Rattle.std.proofs.Math.Nat.{le_trans}
 use Rattle.std.proofs.lemmas.List.Elements.{All-nil, All-weaker, All-from_recursion, recursion_from_All}
 use Rattle.std.proofs.lemmas.List.Sums.{sum_by-cons}
 use Rattle.std.proofs.lemmas.Option.{slice_get_within}
-use Rattle.vm_types.specs.Configuration.{AreParams, FitsVersion, IsProcess, IsSection, IsMapping, AreApart, IsBlock, AreFails, IsTask, IsWellFormed, all_pins, section_pages, IsLimited}
+use Rattle.vm_types.specs.Configuration.{AreParams, IsProcess, IsSection, IsMapping, AreApart, IsBlock, AreFails, IsTask, IsWellFormed, all_pins, section_pages, IsLimited}
 use Rattle.vm_types.specs.declared.config.Config.{Config}
 use Rattle.vm_types.specs.declared.config.Fails.{Fails}
 use Rattle.vm_types.specs.declared.config.Params.{Params}
 use Rattle.vm_types.specs.declared.config.ProcSpec.{ProcSpec}
 use Rattle.vm_types.specs.declared.config.Section.{Section as Held}
-use Rattle.vm_types.specs.declared.config.Version.{Version}
 use Rattle.vm_types.specs.declared.config.Version.TheVariants as version
+use Rattle.vm_types.specs.declared.limits.TheConstants.{MOST_EXTENT, MOST_FRAMES, MOST_LONG_LINES, MOST_SECTION_PAGES}
 use Rattle.vm_types.specs.declared.names.BlockId.{BlockId}
 use Rattle.vm_types.specs.declared.names.BlockId.TheVariants as block
+use Rattle.vm_types.proofs.Versions.{frames_at_most}
 use Rattle.trace_lines.specs.declared.part.Part.{Part}
 use Rattle.trace_lines.specs.declared.places.Place.{Place}
 use Rattle.trace_lines.specs.declared.places.Place.TheVariants.{Ended}
@@ -65,15 +67,15 @@ start_draft = record { sound = start_sound; placed = start_placed }
 
 -- the limits on which the keys rest
 
-extent_at : (procs : List ProcSpec) (k : ℕ) (x : ProcSpec) → AllByRecursion IsLimited procs → slice_get procs k ≡ Some x → x.extent ≤ 1024
+extent_at : (procs : List ProcSpec) (k : ℕ) (x : ProcSpec) → AllByRecursion IsLimited procs → slice_get procs k ≡ Some x → x.extent ≤ MOST_EXTENT
 extent_at [] k x each e = absurd cc
-extent_at (y ∷ procs) zero x each e = let same : y ≡ x = cc in subst (λ (z : ProcSpec). z.extent ≤ 1024) same each.0.most
+extent_at (y ∷ procs) zero x each e = let same : y ≡ x = cc in subst (λ (z : ProcSpec). z.extent ≤ MOST_EXTENT) same each.0.most
 extent_at (y ∷ procs) (suc k) x each e = extent_at procs k x each.1 e
 
 keyed : (c : Config) → AreSound c → (id : BlockId) → IsBlock c id → IsKeyed id
 keyed c s (block.Section k page) h =
     let few : length c.sections ≤ 64 = s.sections.few in
-    let pages : sum_by section_pages c.sections ≤ 16384 = s.sections.pages in
+    let pages : sum_by section_pages c.sections ≤ MOST_SECTION_PAGES = s.sections.pages in
     let there = slice_get_within c.sections k.0 h.0.0 h.0.1 in
     let most = page_of_all c.sections k.0 h.0.0 h.0.1 in
     (omega (arith, there, few), omega (arith, h.0.2, most, pages))
@@ -82,14 +84,14 @@ keyed c s (block.Swap p n) h =
     let there = slice_get_within c.procs p.0 h.0 h.1 in
     omega (arith, h.2, extent_at c.procs p.0 h.0 (recursion_from_All IsLimited c.procs s.procs) h.1)
 
-few_locks : (procs : List ProcSpec) → AllByRecursion IsLimited procs → sum_by (λ (spec : ProcSpec). spec.locks) procs ≤ 1024 * length procs
+few_locks : (procs : List ProcSpec) → AllByRecursion IsLimited procs → sum_by (λ (spec : ProcSpec). spec.locks) procs ≤ MOST_EXTENT * length procs
 few_locks [] each = omega arith
 few_locks (x ∷ procs) each =
     let is = each.0 in
     let locks : x.locks + 2 ≤ x.limit = is.locks in
     let quota : x.limit ≤ x.quota = is.quota in
     let extent : x.quota ≤ x.extent = is.extent in
-    let most : x.extent ≤ 1024 = is.most in
+    let most : x.extent ≤ MOST_EXTENT = is.most in
     let more = sum_by-cons (λ (spec : ProcSpec). spec.locks) x procs in
     let rest = few_locks procs each.1 in
     omega (arith, locks, quota, extent, most, more, rest)
@@ -102,28 +104,28 @@ bounded part d =
       sections = s.sections.few;
       pages = s.sections.pages;
       locks = (let few = s.few_procs in let most = few_locks part.config.procs (recursion_from_All IsLimited part.config.procs s.procs) in omega (arith, few, most));
-      slots = All-weaker IsLimited (λ spec. spec.extent ≤ 1024) (λ spec h. h.most) part.config.procs s.procs;
+      slots = All-weaker IsLimited (λ spec. spec.extent ≤ MOST_EXTENT) (λ spec h. h.most) part.config.procs s.procs;
       blocks = All-weaker (AreFails part.config) (λ f. IsKeyed f.block) (λ f h. keyed part.config s f.block h.block) part.config.fails s.fails;
       maps = All-weaker (IsMapping (length part.config.procs) part.config.sections) IsPaged (λ m h. (h.range.aligned, h.range.some)) part.config.maps s.maps;
     }
 
 -- the next line
 
-pub right_line : (number : ℕ) (part : Part) (line : List ℕ) (said : Says) → judged number part line ≡ Ok said → IsRightLine part said × (number ≤ 200000)
+pub right_line : (number : ℕ) (part : Part) (line : List ℕ) (said : Says) → judged number part line ≡ Ok said → IsRightLine part said × (number ≤ MOST_LONG_LINES)
 right_line number part line said e =
     let h = at_ok (judged number part line) said (IsJudged number part) (judged_gives number part line) e in
     (h.right, h.few)
 
-next_keeps : (number : ℕ) (part : Part) (line : List ℕ) → IsDraft part → IfOk (next_line number part line) (λ next. IsDraft next × (number ≤ 200000))
+next_keeps : (number : ℕ) (part : Part) (line : List ℕ) → IsDraft part → IfOk (next_line number part line) (λ next. IsDraft next × (number ≤ MOST_LONG_LINES))
 next_keeps number part line d =
-    bind_gives (judged number part line) (λ said. Ok (changed part said)) (IsJudged number part) (λ next. IsDraft next × (number ≤ 200000)) (judged_gives number part line) (λ said h.
+    bind_gives (judged number part line) (λ said. Ok (changed part said)) (IsJudged number part) (λ next. IsDraft next × (number ≤ MOST_LONG_LINES)) (judged_gives number part line) (λ said h.
     (record { sound = sound_next part said d.sound d.placed h.right; placed = placed_next part said d.placed h.right }, h.few))
 
 pub next_draft : (number : ℕ) (part next : Part) (line : List ℕ) → IsDraft part → next_line number part line ≡ Ok next → IsDraft next
-next_draft number part next line d e = (at_ok (next_line number part line) next (λ next. IsDraft next × (number ≤ 200000)) (next_keeps number part line d) e).0
+next_draft number part next line d e = (at_ok (next_line number part line) next (λ next. IsDraft next × (number ≤ MOST_LONG_LINES)) (next_keeps number part line d) e).0
 
-pub next_number : (number : ℕ) (part next : Part) (line : List ℕ) → IsDraft part → next_line number part line ≡ Ok next → number ≤ 200000
-next_number number part next line d e = (at_ok (next_line number part line) next (λ next. IsDraft next × (number ≤ 200000)) (next_keeps number part line d) e).1
+pub next_number : (number : ℕ) (part next : Part) (line : List ℕ) → IsDraft part → next_line number part line ≡ Ok next → number ≤ MOST_LONG_LINES
+next_number number part next line d e = (at_ok (next_line number part line) next (λ next. IsDraft next × (number ≤ MOST_LONG_LINES)) (next_keeps number part line d) e).1
 
 -- after END
 
@@ -145,7 +147,7 @@ whole_procs frames kept (spec ∷ procs) each e =
 
 pub whole : (c : Config) → AreSound c → IsPlaced 5 c → IsWellFormed c
 whole c s p = record {
-  frames = (p.frames (lit≤ tt), few_frames c.version s.frames);
+  frames = (p.frames (lit≤ tt), few_frames);
   of_version = s.frames;
   bad = s.bad;
   bad_differ = s.bad_differ;
@@ -161,9 +163,8 @@ whole c s p = record {
   few_tasks = s.few_tasks;
   body = s.body;
 } where
-  few_frames : (v : Version) → FitsVersion v c.frames → c.frames ≤ 16384
-  few_frames version.One few = omega (arith, few)
-  few_frames version.Two few = few
+  few_frames : c.frames ≤ MOST_FRAMES
+  few_frames = le_trans s.frames (frames_at_most c.version)
 
 pub read_whole : (part : Part) → IsDraft part → part.place ≡ Ended → IsWellFormed part.config
 read_whole part d e = whole part.config d.sound (subst (λ (p : Place). IsPlaced (rank p) part.config) e d.placed)

@@ -7,6 +7,7 @@ use Rattle.std.specs.Option.{option_map_or}
 use Rattle.std.proofs.Math.Nat.{mul-le-mul_right, pow-le-pow_right}
 use Rattle.std.proofs.lemmas.Bool.{and_parts, leb-true, ltb-true, eqb-true}
 use Rattle.std.proofs.lemmas.List.Elements.{All-nil, All-cons}
+use Rattle.vm_types.specs.declared.limits.TheConstants.{P0_PAGES, P1_PAGES, PAGE_BYTES}
 use Rattle.vm_types.specs.Configuration.{IsLetter, IsNameByte, IsName, IsSectionPage, HasPages, section_pages}
 use Rattle.vm_types.specs.Kinds.{is_paged_kind, paged_of}
 use Rattle.vm_types.specs.WellFormed.{IsRange, IsCode}
@@ -155,19 +156,19 @@ protection_gives w = weaker (protection w) (IsNamed w) IsCode (protection_named 
 
 -- ranges
 
-pub inside_gives : (at pages : ℕ) → at % 512 ≡ 0 → InRange 1 4096 pages → is_inside at pages ≡ true → IsRange at pages
+pub inside_gives : (at pages : ℕ) → at % PAGE_BYTES ≡ 0 → InRange 1 P0_PAGES pages → is_inside at pages ≡ true → IsRange at pages
 inside_gives at pages whole few e = record {
   aligned = whole;
   some = few.0;
   few = few.1;
-  inside = by_case (leb (at + 512 * pages) 2097152) refl;
+  inside = by_case (leb (at + PAGE_BYTES * pages) 2097152) refl;
 } where
-  by_case : (t : Bool) → leb (at + 512 * pages) 2097152 ≡ t → (at + 512 * pages ≤ 512 * 4096) ⊎ ((2 ^ 31 - 512 * 1024 ≤ at) × (at + 512 * pages ≤ 2 ^ 31))
-  by_case true low = inl (leb-true (at + 512 * pages) 2097152 low)
+  by_case : (t : Bool) → leb (at + PAGE_BYTES * pages) 2097152 ≡ t → (at + PAGE_BYTES * pages ≤ PAGE_BYTES * P0_PAGES) ⊎ ((2 ^ 31 - PAGE_BYTES * P1_PAGES ≤ at) × (at + PAGE_BYTES * pages ≤ 2 ^ 31))
+  by_case true low = inl (leb-true (at + PAGE_BYTES * pages) 2097152 low)
   by_case false low =
-      let high : (leb 2146959360 at && leb (at + 512 * pages) 2147483648) ≡ true = rw low at e in
-      let both = and_parts (leb 2146959360 at) (leb (at + 512 * pages) 2147483648) high in
-      inr (leb-true 2146959360 at both.0, leb-true (at + 512 * pages) 2147483648 both.1)
+      let high : (leb 2146959360 at && leb (at + PAGE_BYTES * pages) 2147483648) ≡ true = rw low at e in
+      let both = and_parts (leb 2146959360 at) (leb (at + PAGE_BYTES * pages) 2147483648) high in
+      inr (leb-true 2146959360 at both.0, leb-true (at + PAGE_BYTES * pages) 2147483648 both.1)
 
 -- the section's pages
 pub pages_give : (sections : List Section) (s page : ℕ) → page < pages_at sections s → (x : Section) × (slice_get sections s ≡ Some x) × (page < section_pages x)

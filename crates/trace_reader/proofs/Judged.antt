@@ -3,12 +3,16 @@ use Rattle.std.proofs.Common.{◌≡◌, ℕ, ◌≤◌, eqb, leb, List, [], ◌
 use Rattle.std.specs.Prelude.{IfOk}
 use Rattle.std.specs.List.{list_all}
 use Rattle.std.proofs.lemmas.Bool.{leb-true, eqb-true}
+use Rattle.std.proofs.Math.Nat.{le_trans}
+use Rattle.vm_types.specs.Versions.{most_lines}
+use Rattle.vm_types.specs.declared.limits.TheConstants.{MOST_LONG_LINES}
+use Rattle.vm_types.proofs.Versions.{lines_at_most}
 use Rattle.trace_words.specs.declared.cause.Cause.TheVariants.{Misplaced}
 use Rattle.trace_words.specs.Judged.{owed}
 use Rattle.trace_words.specs.Words.{words}
 use Rattle.trace_lines.specs.declared.breach.Breach.{Breach}
 use Rattle.trace_lines.specs.declared.keywords.Keyword.{Keyword}
-use Rattle.trace_lines.specs.declared.keywords.Keyword.TheVariants.{Version, Frames, PageFile, Param, Bad, Section, Data, Process, MapZero, MapSection, Fail, Body, End}
+use Rattle.trace_lines.specs.declared.keywords.Keyword.TheVariants.{Version, Long, Frames, PageFile, Param, Bad, Section, Data, Process, MapZero, MapSection, Fail, Body, End}
 use Rattle.trace_lines.specs.declared.part.Part.{Part}
 use Rattle.trace_lines.specs.declared.places.Place.TheVariants.{Requests}
 use Rattle.trace_lines.specs.Breaches.{at_word}
@@ -19,10 +23,11 @@ use Rattle.trace_lines.specs.Requests.{request_line}
 use Rattle.trace_lines.specs.Says.{Says, Nothing}
 use Rattle.trace_reader.specs.Right.{IsRightLine}
 use Rattle.trace_reader.proofs.Giving.{owed_gives, if_gives, weaker}
-use Rattle.trace_reader.proofs.LinesRight.{Gives, version_gives, frames_gives, pagefile_gives, param_gives, bad_gives, section_gives, data_gives, process_gives, mapzero_gives, mapsec_gives, fail_gives, body_gives, end_gives, request_gives}
+use Rattle.trace_reader.proofs.LinesRight.{Gives, version_gives, long_gives, frames_gives, pagefile_gives, param_gives, bad_gives, section_gives, data_gives, process_gives, mapzero_gives, mapsec_gives, fail_gives, body_gives, end_gives, request_gives}
 
 keyword_gives : (part : Part) (args : List (List ℕ)) (keyword : Keyword) → IfOk (by_keyword part args keyword) (Gives part (rank (place_of keyword)))
 keyword_gives part args Version = version_gives part args
+keyword_gives part args Long = long_gives part args
 keyword_gives part args Frames = frames_gives part args
 keyword_gives part args PageFile = pagefile_gives part args
 keyword_gives part args Param = param_gives part args
@@ -62,13 +67,13 @@ words_give part (first ∷ args) = first_gives part first args
 -- what a judged line says
 pub record IsJudged (number : ℕ) (part : Part) (said : Says) : Type 0 where
   pub right : IsRightLine part said
-  pub few : number ≤ 200000
+  pub few : number ≤ MOST_LONG_LINES
 
 pub judged_gives : (number : ℕ) (part : Part) (line : List ℕ) → IfOk (judged number part line) (IsJudged number part)
 judged_gives number part line =
     owed_gives (leb (length line) 255) _ _ (IsJudged number part) (λ _. owed_gives (list_all is_text (content line)) _ _ (IsJudged number part) (λ _.
-    owed_gives (leb number 200000) _ (by_words part (words (content line))) (IsJudged number part) (λ e.
-    weaker (by_words part (words (content line))) (IsRightLine part) (IsJudged number part) (words_give part (words (content line))) (λ said r. record { right = r; few = leb-true number 200000 e }))))
+    owed_gives (leb number (most_lines part.config.version)) _ (by_words part (words (content line))) (IsJudged number part) (λ e.
+    weaker (by_words part (words (content line))) (IsRightLine part) (IsJudged number part) (words_give part (words (content line))) (λ said r. record { right = r; few = le_trans (leb-true number (most_lines part.config.version) e) (lines_at_most part.config.version) }))))
 
 pub at_ok : {A : Type 0} (r : Result A Breach) (x : A) (P : A → Type 0) → IfOk r P → r ≡ Ok x → P x
 at_ok {A} r x P h e = subst (λ (s : Result A Breach). IfOk s P) e h

@@ -1,20 +1,22 @@
 -- What a line that breaks no rule says: each kind of line by its words.
-use Rattle.std.proofs.Common.{◌≡◌, ℕ, suc, ◌+◌, ◌%◌, ◌^◌, ◌<◌, ◌≤◌, Bool, true, false, cond, not, eqb, leb, ltb, ◌&&◌, List, [], ◌∷◌, length, All, Option, Some, None, Ok, refl, sym, arith, ap}
+use Rattle.std.proofs.Common.{◌≡◌, ℕ, suc, ◌+◌, ◌%◌, ◌^◌, ◌<◌, ◌≤◌, Bool, true, false, cond, not, eqb, leb, ltb, ◌&&◌, List, [], ◌∷◌, length, All, Option, Some, None, Ok, Err, refl, sym, arith, ap}
 use Rattle.std.specs.Prelude.{IfOk, codes, slice_get, is_some}
 use Rattle.std.specs.List.{list_any}
 use Rattle.std.specs.Option.{option_map_or}
 use Rattle.std.proofs.lemmas.Bool.{and_parts, leb-true, ltb-true, not-true, true≢false}
 use Rattle.std.proofs.lemmas.List.Elements.{All-nil, All-cons}
-use Rattle.vm_types.specs.Configuration.{FitsVersion, IsBlock, IsMapping, IsLimited}
+use Rattle.vm_types.specs.declared.limits.TheConstants.{MOST_BLOCKS, MOST_EXTENT, P0_PAGES, PAGE_BYTES}
+use Rattle.vm_types.specs.Configuration.{IsBlock, IsMapping, IsLimited}
 use Rattle.vm_types.specs.Kinds.{is_paged_kind}
+use Rattle.vm_types.specs.Versions.{is_first, most_frames, most_requests}
 use Rattle.vm_types.specs.WellFormed.{IsCode, IsRange, IsRequestOf, IsWellFormedRequest, width_bytes}
 use Rattle.vm_types.specs.declared.config.Config.{Config}
 use Rattle.vm_types.specs.declared.config.Mapping.{Mapping}
 use Rattle.vm_types.specs.declared.config.Origin.TheVariants as origin
 use Rattle.vm_types.specs.declared.config.ProcSpec.{ProcSpec}
 use Rattle.vm_types.specs.declared.config.SectionKind.{SectionKind}
+use Rattle.vm_types.specs.declared.config.SectionKind.TheVariants as kind
 use Rattle.vm_types.specs.declared.config.Version.{Version}
-use Rattle.vm_types.specs.declared.config.Version.TheVariants as version
 use Rattle.vm_types.specs.declared.names.BlockId.TheVariants as block
 use Rattle.vm_types.specs.declared.reference.Mode.{Mode}
 use Rattle.vm_types.specs.declared.reference.Width.{Width}
@@ -23,6 +25,7 @@ use Rattle.vm_types.specs.declared.reference.Op.TheVariants as what
 use Rattle.vm_types.specs.declared.service.Service.TheVariants as asked
 use Rattle.vm_types.specs.declared.service.Request.{Request as Wanted}
 use Rattle.vm_types.specs.declared.service.Request.TheVariants as wanted
+use Rattle.trace_words.specs.declared.cause.Cause.TheVariants.{UnknownWord}
 use Rattle.trace_words.specs.declared.ops.Access.{Access}
 use Rattle.trace_words.specs.declared.ops.Access.TheVariants.{Read, Write, Add}
 use Rattle.trace_words.specs.declared.services.ServiceName.{ServiceName}
@@ -45,12 +48,12 @@ use Rattle.trace_lines.specs.declared.ranges.Range.{Range}
 use Rattle.trace_lines.specs.declared.ranges.CodedRange.{CodedRange}
 use Rattle.trace_lines.specs.Declarations.{are_ordered, has_room, paged_kind, section_kind, section_line, data_line, process_line}
 use Rattle.trace_lines.specs.Fails.{is_same, slots_at, block_named, call_numbers, fail_line}
-use Rattle.trace_lines.specs.Headers.{version_line, most_frames, frames_line, pagefile_line, param_line, bad_line, is_listed}
+use Rattle.trace_lines.specs.Headers.{version_line, long_line, frames_line, pagefile_line, param_line, bad_line, is_listed}
 use Rattle.trace_lines.specs.Lookups.{process, section, number_named, or_none, pages_at, blocks_at, bytes_at, has_file, aligned, is_inside}
 use Rattle.trace_lines.specs.Mappings.{overlaps, mapped, mapzero_line, mapsec_line}
 use Rattle.trace_lines.specs.ParamWords.{param_of, least, most}
 use Rattle.trace_lines.specs.Places.{rank}
-use Rattle.trace_lines.specs.Requests.{params_agree, has_frames, body_line, end_line, asked_by, read_line, write_of, reference_line, range_of, coded_range_of, adjust_line, service_line, has_pins, is_word_of, verb_in, by_verb, request_line}
+use Rattle.trace_lines.specs.Requests.{params_agree, has_frames, body_line, end_line, asked_by, read_line, write_of, reference_line, range_of, coded_range_of, adjust_line, service_line, is_word_of, verb_in, by_verb, request_line}
 use Rattle.trace_lines.specs.Says as says
 use Rattle.trace_lines.specs.Says.{Says}
 use Rattle.trace_reader.specs.Right.{Fits, place_for}
@@ -65,20 +68,21 @@ version_gives part [] = tt
 version_gives part (n ∷ []) = pass_gives _ _ (decimal_within 1 2 n) _ (Gives part 0) (λ _. (tt, refl))
 version_gives part (a ∷ b ∷ more) = tt
 
-fits_version : (v : Version) (n : ℕ) → n ≤ most_frames v → FitsVersion v n
-fits_version version.One n few = few
-fits_version version.Two n few = few
+pub long_gives : (part : Part) (words : List (List ℕ)) → IfOk (long_line words) (Gives part 0)
+long_gives part [] = tt
+long_gives part (n ∷ []) = pass_gives _ _ (decimal_within 2 2 n) _ (Gives part 0) (λ _. (tt, refl))
+long_gives part (a ∷ b ∷ more) = tt
 
 pub frames_gives : (part : Part) (words : List (List ℕ)) → IfOk (frames_line part.config words) (Gives part 1)
 frames_gives part [] = tt
 frames_gives part (n ∷ []) =
     let most = most_frames part.config.version in
-    step_gives _ _ (decimal_within 8 most n) _ (InRange 8 most) (Gives part 1) (number_gives 8 most n) (λ n range. ((range.0, fits_version part.config.version n range.1), refl))
+    step_gives _ _ (decimal_within 8 most n) _ (InRange 8 most) (Gives part 1) (number_gives 8 most n) (λ n range. ((range.0, range.1), refl))
 frames_gives part (a ∷ b ∷ more) = tt
 
 pub pagefile_gives : (part : Part) (words : List (List ℕ)) → IfOk (pagefile_line words) (Gives part 2)
 pagefile_gives part [] = tt
-pagefile_gives part (n ∷ []) = step_gives _ _ (decimal_within 1 16384 n) _ (InRange 1 16384) (Gives part 2) (number_gives 1 16384 n) (λ n range. (range, refl))
+pagefile_gives part (n ∷ []) = step_gives _ _ (decimal_within 1 MOST_BLOCKS n) _ (InRange 1 MOST_BLOCKS) (Gives part 2) (number_gives 1 MOST_BLOCKS n) (λ n range. (range, refl))
 pagefile_gives part (a ∷ b ∷ more) = tt
 
 pub param_gives : (part : Part) (words : List (List ℕ)) → IfOk (param_line part.given words) (Gives part 3)
@@ -100,13 +104,16 @@ none_found : (o : Option ℕ) → not (is_some o) ≡ true → o ≡ None
 none_found None e = refl
 none_found (Some n) e = cc
 
--- a section in the page file is of version 2
+-- version 1 has no section in the page file
 abbrev IsOfVersion : Version → SectionKind → Type 0
-IsOfVersion v of_kind = is_paged_kind of_kind ≡ true → v ≡ version.Two
+IsOfVersion v of_kind = is_paged_kind of_kind ≡ true → is_first v ≡ false
 
 paged_gives : (v : Version) → IfOk (paged_kind v) (IsOfVersion v)
-paged_gives version.One = tt
-paged_gives version.Two = λ paged. refl
+paged_gives v = by (is_first v) refl
+  where
+    by : (b : Bool) → is_first v ≡ b → IfOk (cond b (Err UnknownWord) (Ok kind.Paged)) (IsOfVersion v)
+    by true e = tt
+    by false e = λ paged. e
 
 kind_gives : (v : Version) (word : List ℕ) → IfOk (section_kind v word) (IsOfVersion v)
 kind_gives v word =
@@ -137,7 +144,7 @@ data_gives part (name ∷ offset ∷ hex ∷ []) =
     ((there, leb-true (at + length bytes) (bytes_at part.config.sections s) inside, file), refl))))))
 data_gives part (a ∷ b ∷ c ∷ d ∷ more) = tt
 
-ordered_gives : (spec : ProcSpec) → spec.extent ≤ 1024 → are_ordered spec ≡ true → IsLimited spec
+ordered_gives : (spec : ProcSpec) → spec.extent ≤ MOST_EXTENT → are_ordered spec ≡ true → IsLimited spec
 ordered_gives spec few e =
     let a = leb (spec.locks + 2) spec.limit in
     let b = leb spec.limit spec.quota in
@@ -155,7 +162,7 @@ process_gives part (a ∷ b ∷ c ∷ d ∷ []) = tt
 process_gives part (x ∷ limit ∷ quota ∷ extent ∷ locks ∷ []) =
     pass_gives _ _ (letter x) _ (Gives part 3) (λ p. owed_gives (eqb p (length part.config.procs)) _ _ (Gives part 3) (λ order.
     pass_gives _ _ (decimal limit) _ (Gives part 3) (λ l. pass_gives _ _ (decimal quota) _ (Gives part 3) (λ q.
-    step_gives _ _ (decimal_within 0 1024 extent) _ (InRange 0 1024) (Gives part 3) (number_gives 0 1024 extent) (λ x few. pass_gives _ _ (decimal locks) _ (Gives part 3) (λ k.
+    step_gives _ _ (decimal_within 0 MOST_EXTENT extent) _ (InRange 0 MOST_EXTENT) (Gives part 3) (number_gives 0 MOST_EXTENT extent) (λ x few. pass_gives _ _ (decimal locks) _ (Gives part 3) (λ k.
     let spec : ProcSpec = record { limit = l; quota = q; extent = x; locks = k } in
     owed_gives (are_ordered spec) _ _ (Gives part 3) (λ ordered. owed_gives (ltb (length part.config.procs) 16) _ (Ok (says.Process spec)) (Gives part 3) (λ room.
     ((ordered_gives spec few.1 ordered, ltb-true (length part.config.procs) 16 room), refl)))))))))
@@ -177,8 +184,8 @@ mapzero_gives part (a ∷ b ∷ []) = tt
 mapzero_gives part (a ∷ b ∷ c ∷ []) = tt
 mapzero_gives part (x ∷ addr ∷ n ∷ prot ∷ []) =
     step_gives _ _ (process part.config.procs x) _ (λ p. p < length part.config.procs) (Gives part 3) (process_number part.config.procs x) (λ p there.
-    step_gives _ _ (aligned 512 addr) _ (λ at. IsWord at × (at % 512 ≡ 0)) (Gives part 3) (aligned_gives 512 addr) (λ at whole.
-    step_gives _ _ (decimal_within 1 4096 n) _ (InRange 1 4096) (Gives part 3) (number_gives 1 4096 n) (λ pages few.
+    step_gives _ _ (aligned PAGE_BYTES addr) _ (λ at. IsWord at × (at % PAGE_BYTES ≡ 0)) (Gives part 3) (aligned_gives PAGE_BYTES addr) (λ at whole.
+    step_gives _ _ (decimal_within 1 P0_PAGES n) _ (InRange 1 P0_PAGES) (Gives part 3) (number_gives 1 P0_PAGES n) (λ pages few.
     step_gives _ _ (protection prot) _ IsCode (Gives part 3) (protection_gives prot) (λ code good.
     mapped_gives part (record { proc = record { 0 = p }; at = record { 0 = at }; pages = pages; from = origin.Zero; prot = code })
     (λ inside. record { proc = there; range = inside_gives at pages whole.1 few inside; code = good; origin = tt })))))
@@ -193,8 +200,8 @@ mapsec_gives part (a ∷ b ∷ c ∷ d ∷ []) = tt
 mapsec_gives part (a ∷ b ∷ c ∷ d ∷ e ∷ []) = tt
 mapsec_gives part (x ∷ addr ∷ n ∷ name ∷ first ∷ prot ∷ []) =
     step_gives _ _ (process part.config.procs x) _ (λ p. p < length part.config.procs) (Gives part 3) (process_number part.config.procs x) (λ p there.
-    step_gives _ _ (aligned 512 addr) _ (λ at. IsWord at × (at % 512 ≡ 0)) (Gives part 3) (aligned_gives 512 addr) (λ at whole.
-    step_gives _ _ (decimal_within 1 4096 n) _ (InRange 1 4096) (Gives part 3) (number_gives 1 4096 n) (λ pages few.
+    step_gives _ _ (aligned PAGE_BYTES addr) _ (λ at. IsWord at × (at % PAGE_BYTES ≡ 0)) (Gives part 3) (aligned_gives PAGE_BYTES addr) (λ at whole.
+    step_gives _ _ (decimal_within 1 P0_PAGES n) _ (InRange 1 P0_PAGES) (Gives part 3) (number_gives 1 P0_PAGES n) (λ pages few.
     pass_gives _ _ (section part.config.sections name) _ (Gives part 3) (λ s. pass_gives _ _ (decimal first) _ (Gives part 3) (λ page.
     step_gives _ _ (protection prot) _ IsCode (Gives part 3) (protection_gives prot) (λ code good.
     owed_gives (leb (page + pages) (pages_at part.config.sections s)) _ _ (Gives part 3) (λ fits.
@@ -259,8 +266,8 @@ end_gives part (a ∷ more) = tt
 
 asked_gives : (part : Part) (p : ℕ) (request : Wanted) → p < length part.config.procs → IsWellFormedRequest request → IsRequestOf part.config.version request → IfOk (asked_by part.config p request) (Gives part 4)
 asked_gives part p request there good known =
-    owed_gives (ltb (length part.config.body) 100000) _ (Ok (says.Request (record { proc = record { 0 = p }; request = request }))) (Gives part 4) (λ room.
-    ((record { proc = there; request = good; of_version = known }, ltb-true (length part.config.body) 100000 room), refl))
+    owed_gives (ltb (length part.config.body) (most_requests part.config.version)) _ (Ok (says.Request (record { proc = record { 0 = p }; request = request }))) (Gives part 4) (λ room.
+    ((record { proc = there; request = good; of_version = known }, ltb-true (length part.config.body) (most_requests part.config.version) room), refl))
 
 read_gives : (part : Part) (x : List ℕ) (mode : Mode) (width : Width) (words : List (List ℕ)) → IfOk (read_line part.config x mode width words) (Gives part 4)
 read_gives part x mode width [] = tt
@@ -298,8 +305,8 @@ range_gives part x [] = tt
 range_gives part x (a ∷ []) = tt
 range_gives part x (addr ∷ n ∷ []) =
     step_gives _ _ (process part.config.procs x) _ (λ p. p < length part.config.procs) (IsGoodRange part) (process_number part.config.procs x) (λ p there.
-    step_gives _ _ (aligned 512 addr) _ (λ at. IsWord at × (at % 512 ≡ 0)) (IsGoodRange part) (aligned_gives 512 addr) (λ at whole.
-    step_gives _ _ (decimal_within 1 4096 n) _ (InRange 1 4096) (IsGoodRange part) (number_gives 1 4096 n) (λ pages few.
+    step_gives _ _ (aligned PAGE_BYTES addr) _ (λ at. IsWord at × (at % PAGE_BYTES ≡ 0)) (IsGoodRange part) (aligned_gives PAGE_BYTES addr) (λ at whole.
+    step_gives _ _ (decimal_within 1 P0_PAGES n) _ (InRange 1 P0_PAGES) (IsGoodRange part) (number_gives 1 P0_PAGES n) (λ pages few.
     owed_gives (is_inside at pages) _ (Ok (record { proc = p; at = at; pages = pages })) (IsGoodRange part) (λ inside. (there, inside_gives at pages whole.1 few inside)))))
 range_gives part x (a ∷ b ∷ c ∷ more) = tt
 
@@ -312,8 +319,8 @@ coded_range_gives part x (a ∷ []) = tt
 coded_range_gives part x (a ∷ b ∷ []) = tt
 coded_range_gives part x (addr ∷ n ∷ prot ∷ []) =
     step_gives _ _ (process part.config.procs x) _ (λ p. p < length part.config.procs) (IsGoodCodedRange part) (process_number part.config.procs x) (λ p there.
-    step_gives _ _ (aligned 512 addr) _ (λ at. IsWord at × (at % 512 ≡ 0)) (IsGoodCodedRange part) (aligned_gives 512 addr) (λ at whole.
-    step_gives _ _ (decimal_within 1 4096 n) _ (InRange 1 4096) (IsGoodCodedRange part) (number_gives 1 4096 n) (λ pages few.
+    step_gives _ _ (aligned PAGE_BYTES addr) _ (λ at. IsWord at × (at % PAGE_BYTES ≡ 0)) (IsGoodCodedRange part) (aligned_gives PAGE_BYTES addr) (λ at whole.
+    step_gives _ _ (decimal_within 1 P0_PAGES n) _ (InRange 1 P0_PAGES) (IsGoodCodedRange part) (number_gives 1 P0_PAGES n) (λ pages few.
     step_gives _ _ (protection prot) _ IsCode (IsGoodCodedRange part) (protection_gives prot) (λ code good.
     owed_gives (is_inside at pages) _ (Ok (record { proc = p; at = at; pages = pages; prot = code })) (IsGoodCodedRange part) (λ inside. (there, inside_gives at pages whole.1 few inside, good))))))
 coded_range_gives part x (a ∷ b ∷ c ∷ d ∷ more) = tt
@@ -325,11 +332,6 @@ adjust_gives part x (limit ∷ []) =
     step_gives _ _ (decimal limit) _ IsWord (Gives part 4) (decimal_gives limit) (λ n small. asked_gives part p (wanted.Service (asked.Adjust n)) there small tt))
 adjust_gives part x (a ∷ b ∷ more) = tt
 
--- pages are pinned in version 2
-has_two : (v : Version) → has_pins v ≡ true → v ≡ version.Two
-has_two version.One known = absurd (true≢false (sym known))
-has_two version.Two known = refl
-
 service_gives : (part : Part) (x : List ℕ) (name : ServiceName) (words : List (List ℕ)) → is_word_of part.config.version name ≡ true → IfOk (service_line part.config x name words) (Gives part 4)
 service_gives part x service.Create words known = bind_gives (coded_range_of part.config x words) _ (IsGoodCodedRange part) (Gives part 4) (coded_range_gives part x words) (λ r good. asked_gives part r.proc (wanted.Service (asked.Create (record { 0 = r.at }) r.pages r.prot)) good.0 (good.1, good.2) tt)
 service_gives part x service.Protect words known = bind_gives (coded_range_of part.config x words) _ (IsGoodCodedRange part) (Gives part 4) (coded_range_gives part x words) (λ r good. asked_gives part r.proc (wanted.Service (asked.Protect (record { 0 = r.at }) r.pages r.prot)) good.0 (good.1, good.2) tt)
@@ -337,8 +339,8 @@ service_gives part x service.Delete words known = bind_gives (range_of part.conf
 service_gives part x service.Lock words known = bind_gives (range_of part.config x words) _ (IsGoodRange part) (Gives part 4) (range_gives part x words) (λ r good. asked_gives part r.proc (wanted.Service (asked.Lock (record { 0 = r.at }) r.pages)) good.0 good.1 tt)
 service_gives part x service.Unlock words known = bind_gives (range_of part.config x words) _ (IsGoodRange part) (Gives part 4) (range_gives part x words) (λ r good. asked_gives part r.proc (wanted.Service (asked.Unlock (record { 0 = r.at }) r.pages)) good.0 good.1 tt)
 service_gives part x service.Purge words known = bind_gives (range_of part.config x words) _ (IsGoodRange part) (Gives part 4) (range_gives part x words) (λ r good. asked_gives part r.proc (wanted.Service (asked.Purge (record { 0 = r.at }) r.pages)) good.0 good.1 tt)
-service_gives part x service.Pin words known = bind_gives (range_of part.config x words) _ (IsGoodRange part) (Gives part 4) (range_gives part x words) (λ r good. asked_gives part r.proc (wanted.Service (asked.Pin (record { 0 = r.at }) r.pages)) good.0 good.1 (has_two part.config.version known))
-service_gives part x service.Unpin words known = bind_gives (range_of part.config x words) _ (IsGoodRange part) (Gives part 4) (range_gives part x words) (λ r good. asked_gives part r.proc (wanted.Service (asked.Unpin (record { 0 = r.at }) r.pages)) good.0 good.1 (has_two part.config.version known))
+service_gives part x service.Pin words known = bind_gives (range_of part.config x words) _ (IsGoodRange part) (Gives part 4) (range_gives part x words) (λ r good. asked_gives part r.proc (wanted.Service (asked.Pin (record { 0 = r.at }) r.pages)) good.0 good.1 (not-true (is_first part.config.version) known))
+service_gives part x service.Unpin words known = bind_gives (range_of part.config x words) _ (IsGoodRange part) (Gives part 4) (range_gives part x words) (λ r good. asked_gives part r.proc (wanted.Service (asked.Unpin (record { 0 = r.at }) r.pages)) good.0 good.1 (not-true (is_first part.config.version) known))
 service_gives part x service.Adjust words known = adjust_gives part x words
 
 unknown_gives : (part : Part) (x : List ℕ) (words : List (List ℕ)) → IfOk (by_verb part.config x words None) (Gives part 4)

@@ -6,6 +6,7 @@ use Rattle.std.proofs.lemmas.Bool.{false≢true}
 use Rattle.std.proofs.lemmas.List.{length-append, length-take-le, length-drop}
 use Rattle.std.proofs.lemmas.List.Sums.{sum_by-cons}
 use Rattle.std.proofs.lemmas.List.Elements.{All-from_recursion}
+use Rattle.vm_types.specs.declared.limits.TheConstants.{PAGE_BYTES}
 use Rattle.vm_types.specs.Configuration.{section_pages}
 use Rattle.vm_types.specs.Kinds.{is_paged_kind}
 use Rattle.vm_types.specs.declared.config.Section.{Section}
@@ -69,7 +70,7 @@ same_length (x ∷ xs) [] h = absurd h
 same_length (x ∷ xs) (y ∷ ys) h = ap suc (same_length xs ys h.1)
 
 pub same_pages : (x y : Section) → IsSame x y → section_pages y ≡ section_pages x
-same_pages x y h = ap (λ (n : ℕ). n / 512) h.count
+same_pages x y h = ap (λ (n : ℕ). n / PAGE_BYTES) h.count
 
 pub same_sum : (xs ys : List Section) → AreSame xs ys → sum_by section_pages ys ≡ sum_by section_pages xs
 same_sum [] [] h = refl

@@ -3,6 +3,7 @@ use Rattle.std.proofs.Common.{◌≡◌, ◌≢◌, ℕ, ◌+◌, ◌<◌, ◌�
 use Rattle.std.proofs.Math.Seq.{drop-append_seam}
 use Rattle.std.specs.Prelude.{IsOk}
 use Rattle.vm_types.specs.declared.config.Task.{Task}
+use Rattle.vm_types.specs.declared.limits.TheConstants.{MOST_LONG_LINES}
 use Rattle.trace_words.specs.declared.cause.Cause.TheVariants.{LineTooLong}
 use Rattle.trace_lines.specs.declared.breach.Breach.{Breach}
 use Rattle.trace_lines.specs.declared.part.Part.{Part}
@@ -93,7 +94,7 @@ pub has_asked : (held : Draft) (number : ℕ) (text : List ℕ) (task : Task) (r
     → next.part ≡ changed held.part (Request task) → IsSeen next.seen next.part.config → HasTaken held number asked.line next (number + 1)
 has_asked held number text task rest next h asked same seen =
     let taken : next_line number held.part asked.line ≡ Ok next.part = next_asks number held.part asked.line task asked.asks ∙ ap (λ (p : Part). Ok p) (sym same) in
-    let few : number ≤ 200000 = next_number number held.part next.part asked.line h.draft taken in
+    let few : number ≤ MOST_LONG_LINES = next_number number held.part next.part asked.line h.draft taken in
     record {
       taken = taken;
       counted = refl;

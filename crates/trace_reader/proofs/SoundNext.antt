@@ -7,13 +7,14 @@ use Rattle.std.proofs.lemmas.Iterator.Adapters.{position_from-zero}
 use Rattle.std.proofs.lemmas.List.Elements.{All-from_recursion}
 use Rattle.std.proofs.lemmas.Bool.{and_parts, leb-true, ltb-true}
 use Rattle.std.proofs.lemmas.List.{length-replicate}
+use Rattle.vm_types.specs.declared.limits.TheConstants.{MOST_SECTION_PAGES, PAGE_BYTES}
 use Rattle.vm_types.specs.Configuration.{IsName, IsSection, section_pages}
 use Rattle.vm_types.specs.Kinds.{is_paged_kind}
+use Rattle.vm_types.specs.Versions.{is_first}
 use Rattle.vm_types.specs.declared.config.Params.{Params}
 use Rattle.vm_types.specs.declared.config.Section.{Section as Held}
 use Rattle.vm_types.specs.declared.config.SectionKind.{SectionKind}
 use Rattle.vm_types.specs.declared.config.Version.{Version}
-use Rattle.vm_types.specs.declared.config.Version.TheVariants as version
 use Rattle.trace_lines.specs.declared.params.Param.{Param as Parameter}
 use Rattle.trace_lines.specs.declared.params.Param.TheVariants as param
 use Rattle.trace_lines.specs.declared.part.Part.{Part}
@@ -66,12 +67,12 @@ not_named sections name none k d lt same =
 
 -- a blank section has the pages that it is to have
 blank_pages : (name : List ℕ) (of_kind : SectionKind) (pages : ℕ) → section_pages (blank_section name of_kind pages) ≡ pages
-blank_pages name of_kind pages = ap (λ (n : ℕ). n / 512) (length-replicate (512 * pages) 0) ∙ omega arith
+blank_pages name of_kind pages = ap (λ (n : ℕ). n / PAGE_BYTES) (length-replicate (PAGE_BYTES * pages) 0) ∙ omega arith
 
-blank_good : (v : Version) (name : List ℕ) (of_kind : SectionKind) (pages : ℕ) → (is_paged_kind of_kind ≡ true → v ≡ version.Two) → IsName name → 1 ≤ pages → IsSection v (blank_section name of_kind pages)
+blank_good : (v : Version) (name : List ℕ) (of_kind : SectionKind) (pages : ℕ) → (is_paged_kind of_kind ≡ true → is_first v ≡ false) → IsName name → 1 ≤ pages → IsSection v (blank_section name of_kind pages)
 blank_good v name of_kind pages of_version good some =
-    let count : length (replicate (512 * pages) 0) ≡ 512 * pages = length-replicate (512 * pages) 0 in
-    record { name = good; whole = ap (λ (n : ℕ). n % 512) count ∙ omega arith; some = omega (arith, count, some); paged = λ paged. (of_version paged, ap (λ (n : ℕ). replicate n 0) (sym count)) }
+    let count : length (replicate (PAGE_BYTES * pages) 0) ≡ PAGE_BYTES * pages = length-replicate (PAGE_BYTES * pages) 0 in
+    record { name = good; whole = ap (λ (n : ℕ). n % PAGE_BYTES) count ∙ omega arith; some = omega (arith, count, some); paged = λ paged. (of_version paged, ap (λ (n : ℕ). replicate n 0) (sym count)) }
 
 pub sound_next : (part : Part) (said : Says) → AreSound part.config → IsPlaced (rank part.place) part.config → IsRightLine part said → AreSound (changed part said).config
 sound_next part says.Nothing s p r = s
@@ -82,7 +83,7 @@ sound_next part (says.Param q n) s p r = with_params part.config (with_param q n
 sound_next part (says.Bad f) s p r = with_bad part.config f s r.fits.0 r.fits.1
 sound_next part (says.Section name of_kind pages) s p r =
     let both = and_parts (ltb (length part.config.sections) 64) _ r.fits.3 in
-    let room = leb-true _ 16384 both.1 in
+    let room = leb-true _ MOST_SECTION_PAGES both.1 in
     with_section part.config (blank_section name of_kind pages) s (blank_good part.config.version name of_kind pages r.fits.4 r.fits.0 r.fits.1) (ltb-true (length part.config.sections) 64 both.0) (omega (arith, room, blank_pages name of_kind pages))
     (λ k d lt. not_named part.config.sections name r.fits.2 k d lt)
 sound_next part (says.Data k at bytes) s p r = with_sections part.config (with_bytes part.config.sections k at bytes) s (same_with_bytes part.config.sections k at bytes r.fits.1 r.fits.2)

@@ -7,8 +7,10 @@ use Rattle.std.proofs.lemmas.List.{length-append}
 use Rattle.std.proofs.lemmas.List.Elements.{All-nil, All-push, All-weaker}
 use Rattle.std.proofs.lemmas.List.Quantifiers.{all_pairs_push}
 use Rattle.std.proofs.lemmas.List.Sums.{sum_by-append, sum_by-cons}
+use Rattle.vm_types.specs.declared.limits.TheConstants.{MOST_BLOCKS, MOST_SECTION_PAGES, PAGE_BYTES}
 use Rattle.vm_types.specs.Configuration.{FitsVersion, AreSections, IsName, IsSection, HasPages, IsMapping, AreApart, IsBlock, AreFails, IsTask, section_pages, IsLimited}
 use Rattle.vm_types.specs.Kinds.{is_paged_kind, paged_of}
+use Rattle.vm_types.specs.Versions.{most_frames, most_requests}
 use Rattle.vm_types.specs.declared.config.Config.{Config}
 use Rattle.vm_types.specs.declared.config.Fails.{Fails}
 use Rattle.vm_types.specs.declared.config.Mapping.{Mapping}
@@ -19,7 +21,6 @@ use Rattle.vm_types.specs.declared.config.ProcSpec.{ProcSpec}
 use Rattle.vm_types.specs.declared.config.Section.{Section as Held}
 use Rattle.vm_types.specs.declared.config.Task.{Task}
 use Rattle.vm_types.specs.declared.config.Version.{Version}
-use Rattle.vm_types.specs.declared.config.Version.TheVariants as version
 use Rattle.vm_types.specs.declared.names.BlockId.{BlockId}
 use Rattle.vm_types.specs.declared.names.BlockId.TheVariants as block
 use Rattle.trace_lines.specs.Fails.{is_same}
@@ -70,16 +71,16 @@ stay_procs a p x e = e
 -- two mappings without a page of both
 apart : (m n : Mapping) → overlaps m n ≡ false → AreApart m n
 apart m n e = by_proc (eqb (m.proc).0 (n.proc).0) refl e where
-  by_end : (p q : Bool) → ltb (m.at).0 ((n.at).0 + 512 * n.pages) ≡ p → ltb (n.at).0 ((m.at).0 + 512 * m.pages) ≡ q → (p && q) ≡ false → ((m.at).0 + 512 * m.pages ≤ (n.at).0) ⊎ ((n.at).0 + 512 * n.pages ≤ (m.at).0)
-  by_end false q a b f = inr (ltb-false (m.at).0 ((n.at).0 + 512 * n.pages) a)
-  by_end true false a b f = inl (ltb-false (n.at).0 ((m.at).0 + 512 * m.pages) b)
+  by_end : (p q : Bool) → ltb (m.at).0 ((n.at).0 + PAGE_BYTES * n.pages) ≡ p → ltb (n.at).0 ((m.at).0 + PAGE_BYTES * m.pages) ≡ q → (p && q) ≡ false → ((m.at).0 + PAGE_BYTES * m.pages ≤ (n.at).0) ⊎ ((n.at).0 + PAGE_BYTES * n.pages ≤ (m.at).0)
+  by_end false q a b f = inr (ltb-false (m.at).0 ((n.at).0 + PAGE_BYTES * n.pages) a)
+  by_end true false a b f = inl (ltb-false (n.at).0 ((m.at).0 + PAGE_BYTES * m.pages) b)
   by_end true true a b f = absurd (same f) where
     same : true ≡ false → ⊥
     same g = cc
 
   by_proc : (t : Bool) → eqb (m.proc).0 (n.proc).0 ≡ t → overlaps m n ≡ false → AreApart m n
   by_proc false p f = inl (eqb-false (m.proc).0 (n.proc).0 p)
-  by_proc true p f = inr (by_end (ltb (m.at).0 ((n.at).0 + 512 * n.pages)) (ltb (n.at).0 ((m.at).0 + 512 * m.pages)) refl refl (rw p at f))
+  by_proc true p f = inr (by_end (ltb (m.at).0 ((n.at).0 + PAGE_BYTES * n.pages)) (ltb (n.at).0 ((m.at).0 + PAGE_BYTES * m.pages)) refl refl (rw p at f))
 
 is_same_self : (a : BlockId) → is_same a a ≡ true
 is_same_self (block.Section s n) = rw (eq-eqb s.0 s.0 refl, eq-eqb n n refl) refl
@@ -94,7 +95,7 @@ other_block a b e same = let yes : is_same a b ≡ true = ap (is_same a) (sym sa
 sections_same : (v : Version) (xs ys : List Held) → AreSections v xs → AreSame xs ys → AreSections v ys
 sections_same v xs ys s same = record {
   few = (let n = same_length xs ys same in let few : length xs ≤ 64 = s.few in omega arith);
-  pages = (let n = same_sum xs ys same in let pages : sum_by section_pages xs ≤ 16384 = s.pages in omega (arith, n, pages));
+  pages = (let n = same_sum xs ys same in let pages : sum_by section_pages xs ≤ MOST_SECTION_PAGES = s.pages in omega (arith, n, pages));
   each = λ k d lt. (let there : k < length xs = omega (arith, lt, same_length xs ys same) in section_same (get_or xs k d) (get_or ys k d) (same_get_or xs ys k d same there) (s.each k d there));
   differ = λ i j d lt bound.
       (let there : j < length xs = omega (arith, bound, same_length xs ys same) in
@@ -105,8 +106,8 @@ sections_same v xs ys s same = record {
   section_same : (x y : Held) → IsSame x y → IsSection v x → IsSection v y
   section_same x y same s = record {
     name = subst IsName (sym same.name) s.name;
-    whole = ap (λ (n : ℕ). n % 512) same.count ∙ s.whole;
-    some = (let some : 512 ≤ length x.bytes = s.some in let n = same.count in omega arith);
+    whole = ap (λ (n : ℕ). n % PAGE_BYTES) same.count ∙ s.whole;
+    some = (let some : PAGE_BYTES ≤ length x.bytes = s.some in let n = same.count in omega arith);
     paged = λ paged. (
       (s.paged (ap is_paged_kind (sym same.kind) ∙ paged)).0,
       subst (λ (bytes : List ℕ). bytes ≡ replicate (length bytes) 0) (sym (same.zeros (ap is_paged_kind (sym same.kind) ∙ paged))) (s.paged (ap is_paged_kind (sym same.kind) ∙ paged)).1,
@@ -151,7 +152,7 @@ with_frames c n s few none = record {
   body = s.body;
 }
 
-pub with_pagefile : (c : Config) (n : ℕ) → AreSound c → n ≤ 16384 → c.fails ≡ [] → AreSound (record c { pagefile = n })
+pub with_pagefile : (c : Config) (n : ℕ) → AreSound c → n ≤ MOST_BLOCKS → c.fails ≡ [] → AreSound (record c { pagefile = n })
 with_pagefile c n s few none = record {
   frames = s.frames;
   bad = s.bad;
@@ -187,7 +188,7 @@ with_params c params s good = record {
   body = s.body;
 }
 
-pub with_section : (c : Config) (x : Held) → AreSound c → IsSection c.version x → length c.sections < 64 → sum_by section_pages c.sections + section_pages x ≤ 16384 → ((k : ℕ) (d : Held) → k < length c.sections → (get_or c.sections k d).name ≢ x.name)
+pub with_section : (c : Config) (x : Held) → AreSound c → IsSection c.version x → length c.sections < 64 → sum_by section_pages c.sections + section_pages x ≤ MOST_SECTION_PAGES → ((k : ℕ) (d : Held) → k < length c.sections → (get_or c.sections k d).name ≢ x.name)
     → AreSound (record c { sections = c.sections ++ x ∷ [] })
 with_section c x s good few pages differ =
     let go : SectionsGo c (record c { sections = c.sections ++ x ∷ [] }) = λ k y e. (y, get_append c.sections (x ∷ []) k y e, refl, refl) in
@@ -284,7 +285,7 @@ with_fail c f s good new = record {
   body = s.body;
 }
 
-pub with_task : (c : Config) (t : Task) → AreSound c → IsTask c.version (length c.procs) t → length c.body < 100000 → AreSound (record c { body = c.body ++ t ∷ [] })
+pub with_task : (c : Config) (t : Task) → AreSound c → IsTask c.version (length c.procs) t → length c.body < most_requests c.version → AreSound (record c { body = c.body ++ t ∷ [] })
 with_task c t s good room = record {
   frames = s.frames;
   bad = s.bad;
@@ -298,17 +299,16 @@ with_task c t s good room = record {
   maps_apart = s.maps_apart;
   fails = fails_go c (record c { body = c.body ++ t ∷ [] }) (stay c) (stay_procs c) refl c.fails s.fails;
   fails_differ = s.fails_differ;
-  few_tasks = simp length-append (omega arith);
+  few_tasks = simp length-append (omega (arith, room));
   body = All-push (IsTask c.version (length c.procs)) c.body t s.body good;
 }
 
-none_fit : (v : Version) → FitsVersion v 0
-none_fit version.One = lit≤ tt
-none_fit version.Two = lit≤ tt
+zero_le : (n : ℕ) → 0 ≤ n
+zero_le n = omega arith
 
 pub with_version : (c : Config) (v : Version) → AreSound c → c.frames ≡ 0 → c.sections ≡ [] → c.body ≡ [] → AreSound (record c { version = v })
 with_version c v s no_frames no_sections no_tasks = record {
-  frames = subst (FitsVersion v) (sym no_frames) (none_fit v);
+  frames = subst (FitsVersion v) (sym no_frames) (zero_le (most_frames v));
   bad = s.bad;
   bad_differ = s.bad_differ;
   pagefile = s.pagefile;
@@ -320,6 +320,6 @@ with_version c v s no_frames no_sections no_tasks = record {
   maps_apart = s.maps_apart;
   fails = fails_go c (record c { version = v }) (stay c) (stay_procs c) refl c.fails s.fails;
   fails_differ = s.fails_differ;
-  few_tasks = s.few_tasks;
+  few_tasks = subst (λ (tasks : List Task). length tasks ≤ most_requests v) (sym no_tasks) (zero_le (most_requests v));
   body = subst (All (IsTask v (length c.procs))) (sym no_tasks) (All-nil (IsTask v (length c.procs)));
 }

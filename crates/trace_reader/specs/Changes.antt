@@ -1,5 +1,6 @@
 -- What the lines of a trace declare, one after another. Source: this project's own.
 use Rattle.std.specs.Prelude.{ℕ, zero, suc, ◌+◌, ◌*◌, Bool, true, false, List, [], ◌∷◌, ◌++◌, length, take, drop, replicate, slice_set}
+use Rattle.vm_types.specs.declared.limits.TheConstants.{PAGE_BYTES}
 use Rattle.vm_types.specs.declared.config.Config.{Config}
 use Rattle.vm_types.specs.declared.config.Section.{Section as Held}
 use Rattle.vm_types.specs.declared.config.SectionKind.{SectionKind}
@@ -29,7 +30,7 @@ with_bytes (x ∷ sections) (suc s) at new = x ∷ with_bytes sections s at new
 
 -- a section of zeros
 abbrev pub blank_section : List ℕ → SectionKind → ℕ → Held
-blank_section name of_kind pages = record { name = name; kind = of_kind; bytes = replicate (512 * pages) 0 }
+blank_section name of_kind pages = record { name = name; kind = of_kind; bytes = replicate (PAGE_BYTES * pages) 0 }
 
 -- the declarations with these
 abbrev pub at : Part → Config → Part

@@ -1,6 +1,8 @@
 -- What the lines so far keep. Source: this project's own.
 use Rattle.std.specs.Prelude.{◌≡◌, ◌≢◌, ℕ, ◌<◌, ◌≤◌, true, [], length, All, AllPairs, Result, Err, IsOk}
+use Rattle.vm_types.specs.declared.limits.TheConstants.{MOST_BLOCKS, MOST_COUNTED, MOST_EXTENT, MOST_FRAMES, MOST_FREE, MOST_LIFTS, MOST_PROCESSES, MOST_READ_CLUSTER}
 use Rattle.vm_types.specs.Configuration.{FitsVersion, AreSections, IsMapping, AreApart, AreFails, IsTask, IsLimited}
+use Rattle.vm_types.specs.Versions.{most_requests}
 use Rattle.vm_types.specs.declared.config.Config.{Config}
 use Rattle.vm_types.specs.declared.config.Params.{Params}
 use Rattle.trace_lines.specs.declared.breach.Breach.{Breach}
@@ -12,36 +14,36 @@ use Rattle.trace_reader.specs.declared.draft.Refused.TheVariants.{Fault, NoMemor
 
 -- the ranges of the parameters
 pub record AreInRange (params : Params) : Type 0 where
-  pub pfc : (1 ≤ params.pfc) × (params.pfc ≤ 8)
-  pub hilimit : params.hilimit ≤ 16384
-  pub lolimit : params.lolimit ≤ 16384
-  pub waitlimit : (1 ≤ params.waitlimit) × (params.waitlimit ≤ 16384)
-  pub wrtcluster : (1 ≤ params.wrtcluster) × (params.wrtcluster ≤ 16)
-  pub freelim : params.freelim ≤ 4096
-  pub freegoal : params.freegoal ≤ 4096
-  pub awstime : params.awstime ≤ 100000
-  pub pfrath : params.pfrath ≤ 100000
-  pub pfratl : params.pfratl ≤ 100000
-  pub wsinc : params.wsinc ≤ 1024
-  pub wsdec : params.wsdec ≤ 1024
-  pub awsmin : (2 ≤ params.awsmin) × (params.awsmin ≤ 1024)
-  pub borrowlim : params.borrowlim ≤ 4096
+  pub pfc : (1 ≤ params.pfc) × (params.pfc ≤ MOST_READ_CLUSTER)
+  pub hilimit : params.hilimit ≤ MOST_FRAMES
+  pub lolimit : params.lolimit ≤ MOST_FRAMES
+  pub waitlimit : (1 ≤ params.waitlimit) × (params.waitlimit ≤ MOST_FRAMES)
+  pub wrtcluster : (1 ≤ params.wrtcluster) × (params.wrtcluster ≤ MOST_LIFTS)
+  pub freelim : params.freelim ≤ MOST_FREE
+  pub freegoal : params.freegoal ≤ MOST_FREE
+  pub awstime : params.awstime ≤ MOST_COUNTED
+  pub pfrath : params.pfrath ≤ MOST_COUNTED
+  pub pfratl : params.pfratl ≤ MOST_COUNTED
+  pub wsinc : params.wsinc ≤ MOST_EXTENT
+  pub wsdec : params.wsdec ≤ MOST_EXTENT
+  pub awsmin : (2 ≤ params.awsmin) × (params.awsmin ≤ MOST_EXTENT)
+  pub borrowlim : params.borrowlim ≤ MOST_FREE
 
 -- what the declarations keep by themselves
 pub record AreSound (config : Config) : Type 0 where
   pub frames : FitsVersion config.version config.frames
   pub bad : All (λ f. f < config.frames) config.bad
   pub bad_differ : AllPairs (λ f g. f ≢ g) config.bad
-  pub pagefile : config.pagefile ≤ 16384
+  pub pagefile : config.pagefile ≤ MOST_BLOCKS
   pub params : AreInRange config.params
   pub sections : AreSections config.version config.sections
-  pub few_procs : length config.procs ≤ 16
+  pub few_procs : length config.procs ≤ MOST_PROCESSES
   pub procs : All IsLimited config.procs
   pub maps : All (IsMapping (length config.procs) config.sections) config.maps
   pub maps_apart : AllPairs AreApart config.maps
   pub fails : All (AreFails config) config.fails
   pub fails_differ : AllPairs (λ a b. a.block ≢ b.block) config.fails
-  pub few_tasks : length config.body ≤ 100000
+  pub few_tasks : length config.body ≤ most_requests config.version
   pub body : All (IsTask config.version (length config.procs)) config.body
 
 -- what the places before keep

@@ -1,6 +1,7 @@
 -- A text in pieces: what the lines taken so far declare, and what they say of the whole text.
 -- Source: this project's own.
 use Rattle.std.specs.Prelude.{◌≡◌, ◌≢◌, ℕ, ◌+◌, ◌-◌, ◌≤◌, true, false, List, [], ◌++◌, length, take, drop, slice_index_or, All, Option, Result, Ok, Err, IsOk}
+use Rattle.vm_types.specs.declared.limits.TheConstants.{MOST_LONG_LINES}
 use Rattle.vm_types.specs.declared.config.Config.{Config}
 use Rattle.trace_lines.specs.declared.part.Part.{Part}
 use Rattle.trace_lines.specs.Seen.{IsSeen}
@@ -17,7 +18,7 @@ use Rattle.trace_reader.specs.Meaning as meaning
 pub record IsReading (held : Draft) (number : ℕ) : Type 0 where
   pub seen : IsSeen held.seen held.part.config
   pub draft : IsDraft held.part
-  pub few : number ≤ 200001
+  pub few : number ≤ MOST_LONG_LINES + 1
 
 -- the line was taken
 pub record HasTaken (before : Draft) (number : ℕ) (line : List ℕ) (after : Draft) (next : ℕ) : Type 0 where

@@ -11,7 +11,7 @@ use std::alloc::Global;
 use trace_lines::{
     Breach, DEFAULTS, Line, Part, Place, Seen, block_key, judge, page_key, plain_line,
 };
-use vm_types::{BlockId, Config, Listed, Mapping, NoMemory, Task, Version};
+use vm_types::{BlockId, Config, Listed, Mapping, NoMemory, PAGE_BYTES, Task, Version};
 
 /// Why a line wasn't taken.
 #[derive(Clone, Copy, Debug)]
@@ -147,7 +147,7 @@ impl Draft {
         ensures part { OnOk result (self.new.part ≡ changed self.old.part (Map m)) }
         ensures seen { OnOk result (IsSeen self.new.seen self.new.part.config) }
     {
-        let first = page_key(m.proc.0, m.at.0 / 512);
+        let first = page_key(m.proc.0, m.at.0 / PAGE_BYTES);
         add_range(&mut self.seen.pages, first, m.pages)?;
         self.part.config.maps.push(m)
     }

@@ -1,12 +1,13 @@
 ghost use Rattle.std.specs.Prelude.{◌≡◌, ℕ, ◌+◌, ◌^◌, ◌<◌, ◌≤◌, ◌++◌, ◌∷◌, [], ◌||◌, ◌==◌, ◌&&◌, nat_le, nat_lt, length, OnOk, IfOk};
 ghost use Rattle.std.specs.Ordering.{nat_cmp};
 ghost use Rattle.std.specs.BTreeSet.{contains};
+ghost use Rattle.vm_types.specs.declared.limits.TheConstants.{MOST_SECTION_PAGES};
 ghost use Rattle.trace_lines.specs.Lookups.{bytes_at};
 ghost use Rattle.trace_reader.specs.Changes.{blank_section, overwritten, with_bytes};
 
 use std::alloc::Global;
 use std::collections::BTreeSet;
-use vm_types::{BlockId, Fails, Listed, NoMemory, Section, SectionKind};
+use vm_types::{BlockId, Fails, Listed, NoMemory, PAGE_BYTES, Section, SectionKind};
 
 /// Adds a number to a set.
 pub(crate) fn add(set: &mut BTreeSet<u64>, key: u64) -> Result<(), NoMemory>
@@ -34,10 +35,10 @@ pub(crate) fn blank(
     kind: SectionKind,
     pages: u32,
 ) -> Result<Section, NoMemory>
-    requires { pages ≤ 16384 }
+    requires { pages ≤ MOST_SECTION_PAGES }
     ensures { IfOk result (λ section. section ≡ blank_section name.now kind pages) }
 {
-    let count = 512 * pages as usize;
+    let count = PAGE_BYTES as usize * pages as usize;
     Ok(Section {
         name: Listed::of(name.to_vec(alloc)?),
         kind,

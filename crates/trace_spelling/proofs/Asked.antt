@@ -4,7 +4,9 @@ use Rattle.std.specs.Prelude.{codes, decimal as printed}
 use Rattle.std.specs.List.{list_all}
 use Rattle.std.proofs.lemmas.Bool.{and_from}
 use Rattle.std.proofs.lemmas.List.Elements.{All-head, All-tail}
+use Rattle.vm_types.specs.declared.limits.TheConstants.{P0_PAGES, PAGE_BYTES}
 use Rattle.vm_types.specs.Configuration.{IsWellFormed, IsProcess, IsTask, all_pins}
+use Rattle.vm_types.specs.Versions.{most_requests}
 use Rattle.vm_types.specs.WellFormed.{width_bytes, IsRange, IsCode, IsWellFormedReference, IsWellFormedService, IsWellFormedRequest, IsRequestOf, IsServiceOf}
 use Rattle.vm_types.specs.declared.config.Config.{Config}
 use Rattle.vm_types.specs.declared.config.ProcSpec.{ProcSpec}
@@ -68,7 +70,7 @@ body_leads c w =
     let part = asking c place.Declarations [] in
     let agree : (params_agree c.params && has_frames (asking c place.Declarations []).config) ≡ true = and_from (params_agree c.params) (has_frames (asking c place.Declarations []).config) (params_fit c w) (frames_fit c.frames (length c.bad + all_pins c) c.procs w.procs) in
     let some : 1 ≤ length c.procs = w.some_process.0 in
-    leads_line part (codes "BODY" ∷ []) says.Body (line_of (4 ∷ []) (codes "BODY") [] (literal 4 _ refl refl refl, tt) (omega arith))
+    leads_line part (codes "BODY" ∷ []) says.Body refl (line_of (4 ∷ []) (codes "BODY") [] (literal 4 _ refl refl refl, tt) (omega arith))
     (keyword_says part (codes "BODY") [] keyword.Body refl refl refl refl ∙ (rw (lt-ltb 0 (length c.procs) (omega arith), agree) refl))
 
 -- END
@@ -76,7 +78,7 @@ body_leads c w =
 pub end_leads : (c : Config) → Leads (asking c place.Requests c.body) ((codes "END" ∷ []) ∷ []) (asking c place.Ended c.body)
 end_leads c =
     let part = asking c place.Requests c.body in
-    leads_line part (codes "END" ∷ []) says.End (line_of (3 ∷ []) (codes "END") [] (literal 3 _ refl refl refl, tt) (omega arith))
+    leads_line part (codes "END" ∷ []) says.End refl (line_of (3 ∷ []) (codes "END") [] (literal 3 _ refl refl refl, tt) (omega arith))
     (keyword_says part (codes "END") [] keyword.End refl refl refl refl)
 
 -- requests
@@ -97,7 +99,7 @@ value_word One v = let w = hex_word 2 v (omega arith) in record { is = w.is; sho
 value_word Two v = let w = hex_word 4 v (omega arith) in record { is = w.is; short = omega (arith, w.short) }
 value_word Four v = hex_word 8 v (omega arith)
 
-module _ (c : Config) (w : IsWellFormed c) (before : List Task) (room : length before < 100000) (p : Proc) (there : p.0 < length c.procs) where
+module _ (c : Config) (w : IsWellFormed c) (before : List Task) (room : length before < most_requests c.version) (p : Proc) (there : p.0 < length c.procs) where
   abbrev part : Part
   part = asking c place.Requests before
 
@@ -107,8 +109,8 @@ module _ (c : Config) (w : IsWellFormed c) (before : List Task) (room : length b
   letter_small : p.0 < 26
   letter_small = let most = few in omega arith
 
-  room_test : ltb (length before) 100000 ≡ true
-  room_test = lt-ltb (length before) 100000 room
+  room_test : ltb (length before) (most_requests c.version) ≡ true
+  room_test = lt-ltb (length before) (most_requests c.version) room
 
   -- what is asked is taken as it stands
   abbrev asked : Request → Says
@@ -118,7 +120,7 @@ module _ (c : Config) (w : IsWellFormed c) (before : List Task) (room : length b
   then_asking r = asking c place.Requests (before ++ record { proc = p; request = r } ∷ [])
 
   request_leads : (words : Line) (r : Request) → IsLine (process_name p.0 ∷ words) → request_line part.config (process_name p.0) words ≡ Ok (asked r) → Leads part ((process_name p.0 ∷ words) ∷ []) (then_asking r)
-  request_leads words r is e = leads_line part (process_name p.0 ∷ words) (asked r) is (letter_says part p.0 words letter_small refl ∙ e)
+  request_leads words r is e = leads_line part (process_name p.0 ∷ words) (asked r) refl is (letter_says part p.0 words letter_small refl ∙ e)
 
   reference_leads : (mode : Mode) (at : Addr) (o : Op) → IsWellFormedReference (record { mode = mode; addr = at; op = o })
       → Leads part ((process_name p.0 ∷ reference_words (record { mode = mode; addr = at; op = o })) ∷ []) (then_asking (request.Reference (record { mode = mode; addr = at; op = o })))
@@ -155,12 +157,12 @@ module _ (c : Config) (w : IsWellFormed c) (before : List Task) (room : length b
   range_read : (at : Addr) (pages : ℕ) → IsRange at.0 pages → range_of part.config (process_name p.0) (address_text at.0 ∷ printed pages ∷ []) ≡ Ok (record { proc = p.0; at = at.0; pages = pages })
   range_read at pages is =
       let small = range_small at.0 pages is in
-      rw (process_read c.procs p.0 there few, aligned_read 512 at.0 (omega arith) is.aligned, within_read 1 4096 pages is.some is.few (lit< tt), inside_read at.0 pages is) refl
+      rw (process_read c.procs p.0 there few, aligned_read PAGE_BYTES at.0 (omega arith) is.aligned, within_read 1 P0_PAGES pages is.some is.few (lit< tt), inside_read at.0 pages is) refl
 
   coded_read : (at : Addr) (pages code : ℕ) → IsRange at.0 pages → IsCode code → coded_range_of part.config (process_name p.0) (address_text at.0 ∷ printed pages ∷ protection_name code ∷ []) ≡ Ok (record { proc = p.0; at = at.0; pages = pages; prot = code })
   coded_read at pages code is good =
       let small = range_small at.0 pages is in
-      rw (process_read c.procs p.0 there few, aligned_read 512 at.0 (omega arith) is.aligned, within_read 1 4096 pages is.some is.few (lit< tt), protection_read code good, inside_read at.0 pages is) refl
+      rw (process_read c.procs p.0 there few, aligned_read PAGE_BYTES at.0 (omega arith) is.aligned, within_read 1 P0_PAGES pages is.some is.few (lit< tt), protection_read code good, inside_read at.0 pages is) refl
 
   service_leads : (s : Service) → IsServiceOf c.version s → IsWellFormedService s → Leads part ((process_name p.0 ∷ service_words s) ∷ []) (then_asking (request.Service s))
   service_leads (service.Create at pages code) known is =
@@ -200,5 +202,5 @@ pub requests_lead : (c : Config) → IsWellFormed c → Leads (asking c place.Re
 requests_lead c w = leads_each lines.request_line (λ body. asking c place.Requests body) c.body (λ before task after e.
     let is : IsTask c.version (length c.procs) task = member (IsTask c.version (length c.procs)) before task after c.body e w.body in
     let count = count_before before task after c.body e in
-    let most : length c.body ≤ 100000 = w.few_tasks in
+    let most : length c.body ≤ most_requests c.version = w.few_tasks in
     task_leads c w before (omega arith) task.proc is.proc task.request is.of_version is.request)

@@ -6,6 +6,7 @@ use Rattle.std.specs.Option.{option_map_or}
 use Rattle.std.proofs.lemmas.Bool.{and_from, and_parts, false_from_ne_true, not_from_false}
 use Rattle.std.proofs.lemmas.List.{length-map}
 use Rattle.std.proofs.lemmas.List.Elements.{All-head, All-tail}
+use Rattle.vm_types.specs.declared.limits.TheConstants.{MOST_BLOCKS, MOST_EXTENT, MOST_SECTION_PAGES}
 use Rattle.vm_types.specs.Configuration.{IsWellFormed, IsName, IsNameByte, IsBlock, IsProcess, AreFails, section_pages, all_pins}
 use Rattle.vm_types.specs.Kinds.{paged_of}
 use Rattle.vm_types.specs.SectionBlocks.{section_block_count}
@@ -88,7 +89,7 @@ block_read c w (block.Section s page) is =
     let there = is.0 in
     let f = found c.version c.sections w.sections s.0 there.0 there.1 in
     let inside : page < section_pages there.0 = there.2 in
-    let most : section_pages there.0 ≤ 16384 = f.few in
+    let most : section_pages there.0 ≤ MOST_SECTION_PAGES = f.few in
     let blocks : blocks_at c.sections s.0 ≡ section_pages there.0 = ap (λ (o : Option Section). option_map_or section_block_count o 0) there.1 ∙ ap (λ (b : Bool). cond b 0 (section_pages there.0)) (ap paged_of (sym there.1) ∙ is.1) in
     let text : block_text c.sections (block.Section s page) ≡ 83 ∷ 58 ∷ (there.0.name ++ 47 ∷ printed page) = ap (λ (n : List ℕ). 83 ∷ 58 ∷ (n ++ 47 ∷ printed page)) f.named in
     let below : ltb page (blocks_at c.sections s.0) ≡ true = lt-ltb page (blocks_at c.sections s.0) (omega (arith, blocks, inside)) in
@@ -104,7 +105,7 @@ block_read c w (block.Section s page) is =
       there = rw (f.number, below) refl;
     }
 block_read c w (block.PageFile b) is =
-    let most : c.pagefile ≤ 16384 = w.pagefile.1 in
+    let most : c.pagefile ≤ MOST_BLOCKS = w.pagefile.1 in
     let below : b < c.pagefile = is in
     let number = number_word b (omega arith) in
     record {
@@ -116,7 +117,7 @@ block_read c w (block.PageFile b) is =
 block_read c w (block.Swap p slot) is =
     let at = parted c.procs p.0 is.0 is.1 in
     let spec : IsProcess c.frames (length c.bad + all_pins c) is.0 = member (IsProcess c.frames (length c.bad + all_pins c)) at.0 is.0 at.1 c.procs at.2 w.procs in
-    let most : is.0.extent ≤ 1024 = spec.limited.most in
+    let most : is.0.extent ≤ MOST_EXTENT = spec.limited.most in
     let below : slot < is.0.extent = is.2 in
     let count = count_before at.0 is.0 at.1 c.procs at.2 in
     let few : length c.procs ≤ 16 = w.some_process.1 in
@@ -189,7 +190,7 @@ fail_leads c w before f is small new b =
     let few : length f.calls ≤ 16 = is.some.1 in
     let size : (leb 1 (length (map printed f.calls)) && leb (length (map printed f.calls)) 16) ≡ true = and_from (leb 1 (length (map printed f.calls))) (leb (length (map printed f.calls)) 16) (le-leb 1 (length (map printed f.calls)) (omega arith)) (le-leb (length (map printed f.calls)) 16 (omega arith)) in
     let there : block_named part.config b.name ≡ Ok f.block = there_too b.name b.there in
-    leads_line part (fail_line c.sections f) (says.Fail f.block f.calls)
+    leads_line part (fail_line c.sections f) (says.Fail f.block f.calls) refl
     (line_of (4 ∷ 28 ∷ replicate (length f.calls) 10) (codes "FAIL") (block_text c.sections f.block ∷ map printed f.calls)
     (literal 4 _ refl refl refl, (b.word, call_words f.calls small)) (omega (arith, total_calls (length f.calls))))
     (keyword_says part (codes "FAIL") (block_text c.sections f.block ∷ map printed f.calls) keyword.Fail refl refl refl refl

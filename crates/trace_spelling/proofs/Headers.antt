@@ -1,7 +1,9 @@
--- The lines VMTRACE, FRAMES, PAGEFILE, PARAM and BAD.
+-- The lines VMTRACE or LONGTRACE, FRAMES, PAGEFILE, PARAM and BAD.
 use Rattle.std.proofs.Common.{◌≡◌, ◌≢◌, ℕ, ◌<◌, ◌≤◌, ◌^◌, Bool, true, false, eqb, List, [], ◌∷◌, map, replicate, Some, Ok, refl, ◌∙◌, arith, lit<, lt-ltb, ne_eqb, eq-eqb}
 use Rattle.std.specs.Prelude.{codes, slice_index_or, slice_set, decimal as printed}
-use Rattle.vm_types.specs.Configuration.{FitsVersion, IsWellFormed, AreParams}
+use Rattle.vm_types.specs.declared.limits.TheConstants.{MOST_BLOCKS, MOST_FRAMES, MOST_FREE}
+use Rattle.vm_types.specs.Configuration.{IsWellFormed, AreParams}
+use Rattle.vm_types.specs.Versions.{most_frames}
 use Rattle.vm_types.specs.declared.config.Config.{Config}
 use Rattle.vm_types.specs.declared.config.Fails.{Fails}
 use Rattle.vm_types.specs.declared.config.Mapping.{Mapping}
@@ -17,16 +19,17 @@ use Rattle.trace_lines.specs.declared.params.Param.TheVariants.{Pfc, HiLimit, Lo
 use Rattle.trace_lines.specs.declared.part.Part.{Part}
 use Rattle.trace_lines.specs.declared.places.Place.TheVariants as place
 use Rattle.trace_lines.specs.Grammar.{by_keyword, by_words, is_comment, is_letter}
-use Rattle.trace_lines.specs.Headers.{is_listed, most_frames}
+use Rattle.vm_types.proofs.Versions.{frames_at_most}
+use Rattle.trace_lines.specs.Headers.{is_listed}
 use Rattle.trace_lines.specs.Keywords.{keyword_of, place_of}
 use Rattle.trace_lines.specs.ParamWords.{param_of, least, most, number_of, with_param, default_params}
 use Rattle.trace_lines.specs.Places.{rank}
 use Rattle.trace_lines.specs.Says as says
 use Rattle.trace_reader.specs.Changes.{start, changed}
-use Rattle.trace_spelling.specs.Lines.{Line, header_lines, version_number, param_line, param_lines, bad_line}
+use Rattle.trace_spelling.specs.Lines.{Line, version_line, param_line, param_lines, bad_line}
 use Rattle.trace_spelling.proofs.Numbers.{number_read, within_read}
 use Rattle.trace_spelling.proofs.Printing.{IsShortWord, literal, number_word}
-use Rattle.trace_spelling.proofs.Leading.{line_of, Leads, leads_none, leads_line, leads_append, leads_each}
+use Rattle.trace_spelling.proofs.Leading.{IsLine, line_of, Leads, leads_none, leads_line, leads_append, leads_each}
 use Rattle.trace_spelling.proofs.Lists.{member, none_before}
 
 -- a line of this keyword where it stands
@@ -42,40 +45,39 @@ declaring c given params bad sections procs maps fails = record {
   given = given;
 }
 
--- VMTRACE, FRAMES, PAGEFILE
+-- VMTRACE or LONGTRACE, and then FRAMES and PAGEFILE
 
-version_leads : (v : Version) → Leads start ((codes "VMTRACE" ∷ printed (version_number v) ∷ []) ∷ []) (changed start (says.Version v))
-version_leads version.One =
-    leads_line start (codes "VMTRACE" ∷ printed 1 ∷ []) (says.Version version.One) (line_of (8 ∷ 10 ∷ []) (codes "VMTRACE") (printed 1 ∷ []) (literal 8 _ refl refl refl, (number_word 1 (lit< tt), tt)) (omega arith))
-    (keyword_says start (codes "VMTRACE") (printed 1 ∷ []) keyword.Version refl refl refl refl ∙ (rw (within_read 1 2 1 (omega arith) (omega arith) (lit< tt)) refl))
-version_leads version.Two =
-    leads_line start (codes "VMTRACE" ∷ printed 2 ∷ []) (says.Version version.Two) (line_of (8 ∷ 10 ∷ []) (codes "VMTRACE") (printed 2 ∷ []) (literal 8 _ refl refl refl, (number_word 2 (lit< tt), tt)) (omega arith))
-    (keyword_says start (codes "VMTRACE") (printed 2 ∷ []) keyword.Version refl refl refl refl ∙ (rw (within_read 1 2 2 (omega arith) (omega arith) (lit< tt)) refl))
+pub version_is_line : (v : Version) → IsLine (version_line v)
+version_is_line version.One = line_of (8 ∷ 10 ∷ []) (codes "VMTRACE") (printed 1 ∷ []) (literal 8 _ refl refl refl, (number_word 1 (lit< tt), tt)) (omega arith)
+version_is_line version.Two = line_of (8 ∷ 10 ∷ []) (codes "VMTRACE") (printed 2 ∷ []) (literal 8 _ refl refl refl, (number_word 2 (lit< tt), tt)) (omega arith)
+version_is_line version.Long = line_of (9 ∷ 10 ∷ []) (codes "LONGTRACE") (printed 2 ∷ []) (literal 9 _ refl refl refl, (number_word 2 (lit< tt), tt)) (omega arith)
 
-frames_most : (v : Version) (n : ℕ) → FitsVersion v n → n ≤ most_frames v
-frames_most version.One n few = few
-frames_most version.Two n few = few
+pub version_says : (v : Version) → by_words start (version_line v) ≡ Ok (says.Version v)
+version_says version.One = keyword_says start (codes "VMTRACE") (printed 1 ∷ []) keyword.Version refl refl refl refl ∙ (rw (within_read 1 2 1 (omega arith) (omega arith) (lit< tt)) refl)
+version_says version.Two = keyword_says start (codes "VMTRACE") (printed 2 ∷ []) keyword.Version refl refl refl refl ∙ (rw (within_read 1 2 2 (omega arith) (omega arith) (lit< tt)) refl)
+version_says version.Long = keyword_says start (codes "LONGTRACE") (printed 2 ∷ []) keyword.Long refl refl refl refl ∙ (rw (within_read 2 2 2 (omega arith) (omega arith) (lit< tt)) refl)
 
 frames_short : (v : Version) → most_frames v < 2 ^ 32
-frames_short version.One = lit< tt
-frames_short version.Two = lit< tt
+frames_short v = let most = frames_at_most v in omega (arith, most)
 
-pub headers_lead : (c : Config) → IsWellFormed c → Leads start (header_lines c) (declaring c (replicate 14 false) default_params [] [] [] [] [])
+-- the header's lines behind the first
+abbrev pub machine_lines : Config → List Line
+machine_lines c = (codes "FRAMES" ∷ printed c.frames ∷ []) ∷ (codes "PAGEFILE" ∷ printed c.pagefile ∷ []) ∷ []
+
+pub headers_lead : (c : Config) → IsWellFormed c → Leads (changed start (says.Version c.version)) (machine_lines c) (declaring c (replicate 14 false) default_params [] [] [] [] [])
 headers_lead c w =
-    let frames_small : c.frames ≤ 16384 = w.frames.1 in
-    let pagefile_small : c.pagefile ≤ 16384 = w.pagefile.1 in
+    let frames_small : c.frames ≤ MOST_FRAMES = w.frames.1 in
+    let pagefile_small : c.pagefile ≤ MOST_BLOCKS = w.pagefile.1 in
     let first = changed start (says.Version c.version) in
     let second = changed first (says.Frames c.frames) in
     let third = changed second (says.PageFile c.pagefile) in
     let frames : Line = codes "FRAMES" ∷ printed c.frames ∷ [] in
     let pagefile : Line = codes "PAGEFILE" ∷ printed c.pagefile ∷ [] in
-    let first_line : Line = codes "VMTRACE" ∷ printed (version_number c.version) ∷ [] in
-    leads_append start first third (first_line ∷ []) (frames ∷ pagefile ∷ []) (version_leads c.version)
-    (leads_append first second third (frames ∷ []) (pagefile ∷ [])
-    (leads_line first frames (says.Frames c.frames) (line_of (8 ∷ 10 ∷ []) (codes "FRAMES") (printed c.frames ∷ []) (literal 8 _ refl refl refl, (number_word c.frames (omega arith), tt)) (omega arith))
-    (keyword_says first (codes "FRAMES") (printed c.frames ∷ []) keyword.Frames refl refl refl refl ∙ (rw (within_read 8 (most_frames c.version) c.frames w.frames.0 (frames_most c.version c.frames w.of_version) (frames_short c.version)) refl)))
-    (leads_line second pagefile (says.PageFile c.pagefile) (line_of (8 ∷ 10 ∷ []) (codes "PAGEFILE") (printed c.pagefile ∷ []) (literal 8 _ refl refl refl, (number_word c.pagefile (omega arith), tt)) (omega arith))
-    (keyword_says second (codes "PAGEFILE") (printed c.pagefile ∷ []) keyword.PageFile refl refl refl refl ∙ (rw (within_read 1 16384 c.pagefile w.pagefile.0 w.pagefile.1 (lit< tt)) refl))))
+    leads_append first second third (frames ∷ []) (pagefile ∷ [])
+    (leads_line first frames (says.Frames c.frames) refl (line_of (8 ∷ 10 ∷ []) (codes "FRAMES") (printed c.frames ∷ []) (literal 8 _ refl refl refl, (number_word c.frames (omega arith), tt)) (omega arith))
+    (keyword_says first (codes "FRAMES") (printed c.frames ∷ []) keyword.Frames refl refl refl refl ∙ (rw (within_read 8 (most_frames c.version) c.frames w.frames.0 w.of_version (frames_short c.version)) refl)))
+    (leads_line second pagefile (says.PageFile c.pagefile) refl (line_of (8 ∷ 10 ∷ []) (codes "PAGEFILE") (printed c.pagefile ∷ []) (literal 8 _ refl refl refl, (number_word c.pagefile (omega arith), tt)) (omega arith))
+    (keyword_says second (codes "PAGEFILE") (printed c.pagefile ∷ []) keyword.PageFile refl refl refl refl ∙ (rw (within_read 1 MOST_BLOCKS c.pagefile w.pagefile.0 w.pagefile.1 (lit< tt)) refl)))
 
 -- PARAM
 
@@ -171,7 +173,7 @@ set_leads c given params s is =
     let part = declaring c given params [] [] [] [] [] in
     let bound = most_small s.0 in
     let high : s.1 ≤ most s.0 = is.high in
-    leads_line part (set_line s) (says.Param s.0 s.1)
+    leads_line part (set_line s) (says.Param s.0 s.1) refl
     (line_of (5 ∷ 10 ∷ 10 ∷ []) (codes "PARAM") (param_name s.0 ∷ printed s.1 ∷ []) (literal 5 _ refl refl refl, (param_word s.0, (number_word s.1 (omega (arith, bound, high)), tt))) (omega arith))
     (keyword_says part (codes "PARAM") (param_name s.0 ∷ printed s.1 ∷ []) keyword.Param refl refl refl refl
     ∙ (rw (param_named s.0, within_read (least s.0) (most s.0) s.1 is.low is.high bound, is.free) refl))
@@ -194,9 +196,9 @@ fits given p n low high free = record { low = low; high = high; free = free }
 are_set : (p : Params) → AreParams p → AreSet (replicate 14 false) (settings p)
 are_set p w =
     let low : p.lolimit ≤ p.hilimit = w.lolimit in
-    let high : p.hilimit ≤ 16384 = w.hilimit in
+    let high : p.hilimit ≤ MOST_FRAMES = w.hilimit in
     let lim : p.freelim ≤ p.freegoal = w.freelim in
-    let goal : p.freegoal ≤ 4096 = w.freegoal in (
+    let goal : p.freegoal ≤ MOST_FREE = w.freegoal in (
       fits _ Pfc p.pfc w.pfc.0 w.pfc.1 refl,
       (
         fits _ HiLimit p.hilimit (omega arith) high refl,
@@ -248,10 +250,10 @@ params_lead c w = sets_lead c (replicate 14 false) default_params (settings c.pa
 pub bads_lead : (c : Config) → IsWellFormed c → Leads (declaring c (replicate 14 true) c.params [] [] [] [] []) (map bad_line c.bad) (declaring c (replicate 14 true) c.params c.bad [] [] [] [])
 bads_lead c w = leads_each bad_line (λ bad. declaring c (replicate 14 true) c.params bad [] [] [] []) c.bad (λ before f after e.
     let part = declaring c (replicate 14 true) c.params before [] [] [] [] in
-    let few : c.frames ≤ 16384 = w.frames.1 in
+    let few : c.frames ≤ MOST_FRAMES = w.frames.1 in
     let below : f < c.frames = member (λ g. g < c.frames) before f after c.bad e w.bad in
     let small : f < 2 ^ 32 = omega arith in
     let new : is_listed before f ≡ false = none_before (λ g h. g ≢ h) (λ g. eqb g f) before f after c.bad e w.bad_differ (λ g differ. ne_eqb g f differ) in
-    leads_line part (bad_line f) (says.Bad f)
+    leads_line part (bad_line f) (says.Bad f) refl
     (line_of (3 ∷ 10 ∷ []) (codes "BAD") (printed f ∷ []) (literal 3 _ refl refl refl, (number_word f small, tt)) (omega arith))
     (keyword_says part (codes "BAD") (printed f ∷ []) keyword.Bad refl refl refl refl ∙ (rw (number_read f small, lt-ltb f c.frames below, new) refl)))

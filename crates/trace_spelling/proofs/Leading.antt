@@ -3,11 +3,14 @@ use Rattle.std.proofs.Common.{◌≡◌, ℕ, ◌+◌, ◌<◌, ◌≤◌, true,
 use Rattle.std.specs.List.{list_all}
 use Rattle.std.proofs.lemmas.List.{map-append}
 use Rattle.vm_text.specs.Spaced.{spaced}
+use Rattle.vm_types.specs.Versions.{most_lines}
 use Rattle.trace_words.specs.declared.cause.Cause.TheVariants.{LineTooLong, NotAscii, TooMany}
 use Rattle.trace_words.specs.Judged.{owed}
 use Rattle.trace_words.specs.Words.{words}
+use Rattle.trace_lines.specs.declared.breach.Bound.TheVariants.{Most}
+use Rattle.trace_lines.specs.declared.breach.Limited.TheVariants as limited
 use Rattle.trace_lines.specs.declared.part.Part.{Part}
-use Rattle.trace_lines.specs.Breaches.{at_word}
+use Rattle.trace_lines.specs.Breaches.{at_word, bounded}
 use Rattle.trace_lines.specs.Grammar.{is_text, content, by_words, judged}
 use Rattle.trace_lines.specs.Says.{Says}
 use Rattle.trace_reader.specs.Changes.{changed}
@@ -55,7 +58,7 @@ line_of ns word more h few = record {
   short = omega (arith, length-append word (spaced more), short_spaced ns (word ∷ more) h);
 }
 
-line_read : (number : ℕ) (part : Part) (line : Line) (says : Says) → IsLine line → number ≤ 200000 → by_words part line ≡ Ok says → judged number part (line_text line) ≡ Ok says
+line_read : (number : ℕ) (part : Part) (line : Line) (says : Says) → IsLine line → number ≤ most_lines part.config.version → by_words part line ≡ Ok says → judged number part (line_text line) ≡ Ok says
 line_read number part [] says is few e = absurd (omega (arith, is.some))
 line_read number part (word ∷ more) says is few e =
     let drawn = line_drawn word more is.words in
@@ -63,9 +66,9 @@ line_read number part (word ∷ more) says is few e =
     let ascii : list_all is_text (content (word ++ spaced more)) ≡ true = ap (list_all is_text) same ∙ drawn_texts (word ++ spaced more) drawn in
     let parted : words (content (word ++ spaced more)) ≡ word ∷ more = ap words same ∙ words_line word more is.words in
     let said : by_words part (words (content (word ++ spaced more))) ≡ Ok says = ap (by_words part) parted ∙ e in
-    owed_passes (leb (length (word ++ spaced more)) 255) (at_word 0 LineTooLong) (owed (list_all is_text (content (word ++ spaced more))) (at_word 0 NotAscii) (owed (leb number 200000) (at_word 0 TooMany) (by_words part (words (content (word ++ spaced more)))))) (le-leb (length (word ++ spaced more)) 255 is.short)
-    ∙ owed_passes (list_all is_text (content (word ++ spaced more))) (at_word 0 NotAscii) (owed (leb number 200000) (at_word 0 TooMany) (by_words part (words (content (word ++ spaced more))))) ascii
-    ∙ owed_passes (leb number 200000) (at_word 0 TooMany) (by_words part (words (content (word ++ spaced more)))) (le-leb number 200000 few)
+    owed_passes (leb (length (word ++ spaced more)) 255) (at_word 0 LineTooLong) (owed (list_all is_text (content (word ++ spaced more))) (at_word 0 NotAscii) (owed (leb number (most_lines part.config.version)) (bounded 0 TooMany (Most limited.Lines (most_lines part.config.version))) (by_words part (words (content (word ++ spaced more)))))) (le-leb (length (word ++ spaced more)) 255 is.short)
+    ∙ owed_passes (list_all is_text (content (word ++ spaced more))) (at_word 0 NotAscii) (owed (leb number (most_lines part.config.version)) (bounded 0 TooMany (Most limited.Lines (most_lines part.config.version))) (by_words part (words (content (word ++ spaced more))))) ascii
+    ∙ owed_passes (leb number (most_lines part.config.version)) (bounded 0 TooMany (Most limited.Lines (most_lines part.config.version))) (by_words part (words (content (word ++ spaced more)))) (le-leb number (most_lines part.config.version) few)
     ∙ said
 
 abbrev pub AreLines : List Line → Type 0
@@ -76,27 +79,29 @@ lines_append : (xs ys : List Line) → AreLines xs → AreLines ys → AreLines 
 lines_append [] ys a b = b
 lines_append (x ∷ xs) ys a b = (a.0, lines_append xs ys a.1 b)
 
--- the lines are read one after another, whatever follows
+-- the lines are read one after another, whatever follows, and none of them says the version
 pub record Leads (part : Part) (lines : List Line) (after : Part) : Type 0 where
   pub printed : AreLines lines
-  pub judged : (number : ℕ) (rest : List (List ℕ)) → 0 < length rest → number + length lines ≤ 200001
+  pub version : after.config.version ≡ part.config.version
+  pub judged : (number : ℕ) (rest : List (List ℕ)) → 0 < length rest → number + length lines ≤ most_lines part.config.version + 1
       → judge number part (map line_text lines ++ rest) ≡ judge (number + length lines) after rest
 
 pub leads_none : (part : Part) → Leads part [] part
 leads_none part = record {
   printed = tt;
+  version = refl;
   judged = λ number rest some few. (let same : number ≡ number + 0 = omega arith in ap (λ (n : ℕ). judge n part rest) same);
 }
 
-line_judged : (part : Part) (line : Line) (says : Says) → IsLine line → by_words part line ≡ Ok says → (number : ℕ) (rest : List (List ℕ)) → 0 < length rest → number + length (line ∷ []) ≤ 200001
+pub line_judged : (part : Part) (line : Line) (says : Says) → IsLine line → by_words part line ≡ Ok says → (number : ℕ) (rest : List (List ℕ)) → 0 < length rest → number + length (line ∷ []) ≤ most_lines part.config.version + 1
     → judge number part (line_text line ∷ rest) ≡ judge (number + length (line ∷ [])) (changed part says) rest
 line_judged part line says is e number [] some few = absurd (omega arith)
 line_judged part line says is e number (next ∷ more) some few =
     let here : next_line number part (line_text line) ≡ Ok (changed part says) = rw (line_read number part line says is (omega arith) e) refl in
     rw here refl
 
-pub leads_line : (part : Part) (line : Line) (says : Says) → IsLine line → by_words part line ≡ Ok says → Leads part (line ∷ []) (changed part says)
-leads_line part line says is e = record { printed = (is, tt); judged = line_judged part line says is e }
+pub leads_line : (part : Part) (line : Line) (says : Says) → (changed part says).config.version ≡ part.config.version → IsLine line → by_words part line ≡ Ok says → Leads part (line ∷ []) (changed part says)
+leads_line part line says same is e = record { printed = (is, tt); version = same; judged = line_judged part line says is e }
 
 pub leads_to : (p q r : Part) (lines : List Line) → Leads p lines q → q ≡ r → Leads p lines r
 leads_to p q r lines h e = subst (λ (z : Part). Leads p lines z) e h
@@ -104,15 +109,17 @@ leads_to p q r lines h e = subst (λ (z : Part). Leads p lines z) e h
 pub leads_append : (p q r : Part) (xs ys : List Line) → Leads p xs q → Leads q ys r → Leads p (xs ++ ys) r
 leads_append p q r xs ys h k = record {
   printed = lines_append xs ys h.printed k.printed;
+  version = k.version ∙ h.version;
   judged = λ number rest some few.
       (let long : length (xs ++ ys) ≡ length xs + length ys = length-append xs ys in
       let texts : map line_text (xs ++ ys) ++ rest ≡ map line_text xs ++ (map line_text ys ++ rest) =
       ap (λ (ls : List (List ℕ)). ls ++ rest) (map-append line_text xs ys) ∙ append_assoc (map line_text xs) (map line_text ys) rest in
       let more : 0 < length (map line_text ys ++ rest) = omega (arith, length-append (map line_text ys) rest) in
+      let most : most_lines q.config.version ≡ most_lines p.config.version = ap most_lines h.version in
       let count : (number + length xs) + length ys ≡ number + length (xs ++ ys) = omega arith in
       ap (judge number p) texts
       ∙ h.judged number (map line_text ys ++ rest) more (omega arith)
-      ∙ k.judged (number + length xs) rest some (omega arith)
+      ∙ k.judged (number + length xs) rest some (omega (arith, most, few, long))
       ∙ ap (λ (n : ℕ). judge n r rest) count);
 }
 

@@ -4,6 +4,7 @@ use Rattle.std.specs.Prelude.{codes, slice_get, position, sum_by, bytes_eq, deci
 use Rattle.std.specs.List.{list_any}
 use Rattle.std.specs.Option.{option_map_or}
 use Rattle.std.proofs.lemmas.Bool.{and_from, and_left, and_right, or_left, or_right}
+use Rattle.vm_types.specs.declared.limits.TheConstants.{MOST_EXTENT, MOST_SECTION_PAGES, P0_PAGES, P1_PAGES, PAGE_BYTES}
 use Rattle.vm_types.specs.Configuration.{IsWellFormed, AreSections, IsName, IsSection, IsProcess, IsMapping, AreApart, all_pins, section_pages}
 use Rattle.vm_types.specs.WellFormed.{IsRange}
 use Rattle.vm_types.specs.declared.config.Config.{Config}
@@ -46,16 +47,16 @@ process_leads c w before x after e =
     let locks : x.locks + 2 ≤ x.limit = is.limited.locks in
     let quota : x.limit ≤ x.quota = is.limited.quota in
     let extent : x.quota ≤ x.extent = is.limited.extent in
-    let most : x.extent ≤ 1024 = is.limited.most in
+    let most : x.extent ≤ MOST_EXTENT = is.limited.most in
     let here : length before < 16 = omega arith in
     let ordered : are_ordered x ≡ true =
     and_from (leb (x.locks + 2) x.limit && leb x.limit x.quota) (leb x.quota x.extent)
     (and_from (leb (x.locks + 2) x.limit) (leb x.limit x.quota) (le-leb (x.locks + 2) x.limit locks) (le-leb x.limit x.quota quota)) (le-leb x.quota x.extent extent) in
-    leads_line part (process_line (length before) x) (says.Process x)
+    leads_line part (process_line (length before) x) (says.Process x) refl
     (line_of (7 ∷ 1 ∷ 10 ∷ 10 ∷ 10 ∷ 10 ∷ []) (codes "PROCESS") (process_name (length before) ∷ printed x.limit ∷ printed x.quota ∷ printed x.extent ∷ printed x.locks ∷ [])
     (literal 7 _ refl refl refl, (letter_word (length before) (omega arith), (number_word x.limit (omega arith), (number_word x.quota (omega arith), (number_word x.extent (omega arith), (number_word x.locks (omega arith), tt)))))) (omega arith))
     (keyword_says part (codes "PROCESS") (process_name (length before) ∷ printed x.limit ∷ printed x.quota ∷ printed x.extent ∷ printed x.locks ∷ []) keyword.Process refl refl refl refl
-    ∙ (rw (letter_read (length before) (omega arith), eq-eqb (length before) (length before) refl, number_read x.limit (omega arith), number_read x.quota (omega arith), within_read 0 1024 x.extent (omega arith) most (lit< tt), number_read x.locks (omega arith), ordered, lt-ltb (length before) 16 here) refl))
+    ∙ (rw (letter_read (length before) (omega arith), eq-eqb (length before) (length before) refl, number_read x.limit (omega arith), number_read x.quota (omega arith), within_read 0 MOST_EXTENT x.extent (omega arith) most (lit< tt), number_read x.locks (omega arith), ordered, lt-ltb (length before) 16 here) refl))
 
 processes_from : (c : Config) → IsWellFormed c → (p : ℕ) (before rest : List ProcSpec) → length before ≡ p → before ++ rest ≡ c.procs → Leads (with_procs c before) (process_lines p rest) (with_procs c c.procs)
 processes_from c w p before [] at e = subst (λ (xs : List ProcSpec). Leads (with_procs c before) [] (with_procs c xs)) (sym (append-nil before) ∙ e) (leads_none (with_procs c before))
@@ -77,14 +78,14 @@ aligned_read bytes at small whole = rw (hexadecimal_read 8 at (omega arith) (ome
 
 pub inside_read : (at pages : ℕ) → IsRange at pages → is_inside at pages ≡ true
 inside_read at pages is = by_region is.inside where
-  by_region : (at + 512 * pages ≤ 512 * 4096) ⊎ ((2 ^ 31 - 512 * 1024 ≤ at) × (at + 512 * pages ≤ 2 ^ 31)) → is_inside at pages ≡ true
-  by_region (inl low) = or_left (leb (at + 512 * pages) 2097152) (leb 2146959360 at && leb (at + 512 * pages) 2147483648) (le-leb (at + 512 * pages) 2097152 (omega arith))
-  by_region (inr high) = or_right (leb (at + 512 * pages) 2097152) (leb 2146959360 at && leb (at + 512 * pages) 2147483648)
-      (and_from (leb 2146959360 at) (leb (at + 512 * pages) 2147483648) (le-leb 2146959360 at high.0) (le-leb (at + 512 * pages) 2147483648 high.1))
+  by_region : (at + PAGE_BYTES * pages ≤ PAGE_BYTES * P0_PAGES) ⊎ ((2 ^ 31 - PAGE_BYTES * P1_PAGES ≤ at) × (at + PAGE_BYTES * pages ≤ 2 ^ 31)) → is_inside at pages ≡ true
+  by_region (inl low) = or_left (leb (at + PAGE_BYTES * pages) 2097152) (leb 2146959360 at && leb (at + PAGE_BYTES * pages) 2147483648) (le-leb (at + PAGE_BYTES * pages) 2097152 (omega arith))
+  by_region (inr high) = or_right (leb (at + PAGE_BYTES * pages) 2097152) (leb 2146959360 at && leb (at + PAGE_BYTES * pages) 2147483648)
+      (and_from (leb 2146959360 at) (leb (at + PAGE_BYTES * pages) 2147483648) (le-leb 2146959360 at high.0) (le-leb (at + PAGE_BYTES * pages) 2147483648 high.1))
 
 pub range_small : (at pages : ℕ) → IsRange at pages → at < 2 ^ 31
 range_small at pages is = by_region is.inside where
-  by_region : (at + 512 * pages ≤ 512 * 4096) ⊎ ((2 ^ 31 - 512 * 1024 ≤ at) × (at + 512 * pages ≤ 2 ^ 31)) → at < 2 ^ 31
+  by_region : (at + PAGE_BYTES * pages ≤ PAGE_BYTES * P0_PAGES) ⊎ ((2 ^ 31 - PAGE_BYTES * P1_PAGES ≤ at) × (at + PAGE_BYTES * pages ≤ 2 ^ 31)) → at < 2 ^ 31
   by_region (inl low) = omega (arith, is.some)
   by_region (inr high) = omega (arith, is.some, high.1)
 
@@ -93,12 +94,12 @@ pub record IsFound (sections : List Section) (s : ℕ) (x : Section) : Type 0 wh
   pub name : IsName x.name
   pub number : number_named sections x.name ≡ Some s
   pub pages : pages_at sections s ≡ section_pages x
-  pub few : section_pages x ≤ 16384
+  pub few : section_pages x ≤ MOST_SECTION_PAGES
 
 pub found : (v : Version) (sections : List Section) → AreSections v sections → (s : ℕ) (x : Section) → slice_get sections s ≡ Some x → IsFound sections s x
 found v sections are s x e =
     let at = parted sections s x e in
-    let total : sum_by section_pages sections ≤ 16384 = are.pages in
+    let total : sum_by section_pages sections ≤ MOST_SECTION_PAGES = are.pages in
     let here : position (λ (y : Section). bytes_eq y.name x.name) (at.0 ++ x ∷ at.1) ≡ Some (length at.0) = position_at (λ (y : Section). bytes_eq y.name x.name) at.0 x at.1 (others_before at.0 x at.1 sections at.2 are.differ) (same_bytes x.name) in
     record {
       named = ap name_of e;
@@ -114,9 +115,9 @@ section_read sections s x f = rw (f.named, name_passes x.name f.name, f.number) 
 -- MAPZERO and MAPSEC
 
 apart_differ : (m n : Mapping) → AreApart m n → overlaps m n ≡ false
-apart_differ m n (inl procs) = and_left (eqb (m.proc).0 (n.proc).0 && ltb (m.at).0 ((n.at).0 + 512 * n.pages)) (ltb (n.at).0 ((m.at).0 + 512 * m.pages)) (and_left (eqb (m.proc).0 (n.proc).0) (ltb (m.at).0 ((n.at).0 + 512 * n.pages)) (ne_eqb (m.proc).0 (n.proc).0 procs))
-apart_differ m n (inr (inl before)) = and_right (eqb (m.proc).0 (n.proc).0 && ltb (m.at).0 ((n.at).0 + 512 * n.pages)) (ltb (n.at).0 ((m.at).0 + 512 * m.pages)) (le-ltb (n.at).0 ((m.at).0 + 512 * m.pages) before)
-apart_differ m n (inr (inr behind)) = and_left (eqb (m.proc).0 (n.proc).0 && ltb (m.at).0 ((n.at).0 + 512 * n.pages)) (ltb (n.at).0 ((m.at).0 + 512 * m.pages)) (and_right (eqb (m.proc).0 (n.proc).0) (ltb (m.at).0 ((n.at).0 + 512 * n.pages)) (le-ltb (m.at).0 ((n.at).0 + 512 * n.pages) behind))
+apart_differ m n (inl procs) = and_left (eqb (m.proc).0 (n.proc).0 && ltb (m.at).0 ((n.at).0 + PAGE_BYTES * n.pages)) (ltb (n.at).0 ((m.at).0 + PAGE_BYTES * m.pages)) (and_left (eqb (m.proc).0 (n.proc).0) (ltb (m.at).0 ((n.at).0 + PAGE_BYTES * n.pages)) (ne_eqb (m.proc).0 (n.proc).0 procs))
+apart_differ m n (inr (inl before)) = and_right (eqb (m.proc).0 (n.proc).0 && ltb (m.at).0 ((n.at).0 + PAGE_BYTES * n.pages)) (ltb (n.at).0 ((m.at).0 + PAGE_BYTES * m.pages)) (le-ltb (n.at).0 ((m.at).0 + PAGE_BYTES * m.pages) before)
+apart_differ m n (inr (inr behind)) = and_left (eqb (m.proc).0 (n.proc).0 && ltb (m.at).0 ((n.at).0 + PAGE_BYTES * n.pages)) (ltb (n.at).0 ((m.at).0 + PAGE_BYTES * m.pages)) (and_right (eqb (m.proc).0 (n.proc).0) (ltb (m.at).0 ((n.at).0 + PAGE_BYTES * n.pages)) (le-ltb (m.at).0 ((n.at).0 + PAGE_BYTES * n.pages) behind))
 
 abbrev with_maps : Config → List Mapping → Part
 with_maps c maps = declaring c (replicate 14 true) c.params c.bad c.sections c.procs maps []
@@ -132,29 +133,29 @@ map_leads c w before m origin.Zero is new =
     let few : length c.procs ≤ 16 = w.some_process.1 in
     let there : (m.proc).0 < length c.procs = is.proc in
     let small = range_small (m.at).0 m.pages is.range in
-    let pages : m.pages ≤ 4096 = is.range.few in
-    leads_line part (map_words c.sections m origin.Zero) (says.Map (from m origin.Zero))
+    let pages : m.pages ≤ P0_PAGES = is.range.few in
+    leads_line part (map_words c.sections m origin.Zero) (says.Map (from m origin.Zero)) refl
     (line_of (7 ∷ 1 ∷ 8 ∷ 10 ∷ 4 ∷ []) (codes "MAPZERO") (process_name (m.proc).0 ∷ address_text (m.at).0 ∷ printed m.pages ∷ protection_name m.prot ∷ [])
     (literal 7 _ refl refl refl, (letter_word (m.proc).0 (omega arith), (hex_word 8 (m.at).0 (omega arith), (number_word m.pages (omega arith), (protection_word m.prot is.code, tt))))) (omega arith))
     (keyword_says part (codes "MAPZERO") (process_name (m.proc).0 ∷ address_text (m.at).0 ∷ printed m.pages ∷ protection_name m.prot ∷ []) keyword.MapZero refl refl refl refl
-    ∙ (rw (process_read c.procs (m.proc).0 there few, aligned_read 512 (m.at).0 (omega arith) is.range.aligned, within_read 1 4096 m.pages is.range.some is.range.few (lit< tt), protection_read m.prot is.code, inside_read (m.at).0 m.pages is.range, new) refl))
+    ∙ (rw (process_read c.procs (m.proc).0 there few, aligned_read PAGE_BYTES (m.at).0 (omega arith) is.range.aligned, within_read 1 P0_PAGES m.pages is.range.some is.range.few (lit< tt), protection_read m.prot is.code, inside_read (m.at).0 m.pages is.range, new) refl))
 map_leads c w before m (origin.Section s first) is new =
     let part = with_maps c before in
     let few : length c.procs ≤ 16 = w.some_process.1 in
     let there : (m.proc).0 < length c.procs = is.proc in
     let small = range_small (m.at).0 m.pages is.range in
-    let pages : m.pages ≤ 4096 = is.range.few in
+    let pages : m.pages ≤ P0_PAGES = is.range.few in
     let f = found c.version c.sections w.sections s.0 is.origin.0 is.origin.1 in
     let last : first + m.pages ≤ section_pages is.origin.0 = is.origin.2 in
-    let most : section_pages is.origin.0 ≤ 16384 = f.few in
+    let most : section_pages is.origin.0 ≤ MOST_SECTION_PAGES = f.few in
     let count : pages_at c.sections s.0 ≡ section_pages is.origin.0 = f.pages in
     let within : leb (first + m.pages) (pages_at c.sections s.0) ≡ true = le-leb (first + m.pages) (pages_at c.sections s.0) (omega arith) in
     let name_short : IsShortWord 15 (section_name c.sections s.0) = subst (IsShortWord 15) (sym f.named) (name_word is.origin.0.name f.name) in
-    leads_line part (map_words c.sections m (origin.Section s first)) (says.Map (from m (origin.Section s first)))
+    leads_line part (map_words c.sections m (origin.Section s first)) (says.Map (from m (origin.Section s first))) refl
     (line_of (6 ∷ 1 ∷ 8 ∷ 10 ∷ 15 ∷ 10 ∷ 4 ∷ []) (codes "MAPSEC") (process_name (m.proc).0 ∷ address_text (m.at).0 ∷ printed m.pages ∷ section_name c.sections s.0 ∷ printed first ∷ protection_name m.prot ∷ [])
     (literal 6 _ refl refl refl, (letter_word (m.proc).0 (omega arith), (hex_word 8 (m.at).0 (omega arith), (number_word m.pages (omega arith), (name_short, (number_word first (omega arith), (protection_word m.prot is.code, tt))))))) (omega arith))
     (keyword_says part (codes "MAPSEC") (process_name (m.proc).0 ∷ address_text (m.at).0 ∷ printed m.pages ∷ section_name c.sections s.0 ∷ printed first ∷ protection_name m.prot ∷ []) keyword.MapSection refl refl refl refl
-    ∙ (rw (process_read c.procs (m.proc).0 there few, aligned_read 512 (m.at).0 (omega arith) is.range.aligned, within_read 1 4096 m.pages is.range.some is.range.few (lit< tt), section_read c.sections s.0 is.origin.0 f, number_read first (omega arith), protection_read m.prot is.code, within, inside_read (m.at).0 m.pages is.range, new) refl))
+    ∙ (rw (process_read c.procs (m.proc).0 there few, aligned_read PAGE_BYTES (m.at).0 (omega arith) is.range.aligned, within_read 1 P0_PAGES m.pages is.range.some is.range.few (lit< tt), section_read c.sections s.0 is.origin.0 f, number_read first (omega arith), protection_read m.prot is.code, within, inside_read (m.at).0 m.pages is.range, new) refl))
 
 pub maps_lead : (c : Config) → IsWellFormed c → Leads (declaring c (replicate 14 true) c.params c.bad c.sections c.procs [] []) (map (map_line c.sections) c.maps) (declaring c (replicate 14 true) c.params c.bad c.sections c.procs c.maps [])
 maps_lead c w = leads_each (map_line c.sections) (λ maps. declaring c (replicate 14 true) c.params c.bad c.sections c.procs maps []) c.maps (λ before m after e.

@@ -1,5 +1,5 @@
 -- The lines SECTION and DATA.
-use Rattle.std.proofs.Common.{◌≡◌, ◌≢◌, ℕ, zero, suc, ◌+◌, ◌-◌, ◌*◌, ◌/◌, ◌%◌, ◌<◌, ◌≤◌, ◌^◌, Bool, true, false, not, leb, ltb, eqb, List, [], ◌∷◌, ◌++◌, map, flat_map, length, get_or, take, drop, replicate, All, AllPairs, Option, Some, None, Ok, refl, sym, ap, ap₂, subst, ◌∙◌, arith, lit<, eq-eqb, eqb-true, if◌then◌else◌, lt-ltb, le-leb, append_assoc, append-nil, length-append}
+use Rattle.std.proofs.Common.{◌≡◌, ◌≢◌, ℕ, zero, suc, ◌+◌, ◌-◌, ◌*◌, ◌/◌, ◌%◌, ◌<◌, ◌≤◌, ◌^◌, Bool, true, false, not, leb, ltb, eqb, List, [], ◌∷◌, ◌++◌, map, flat_map, length, get_or, take, drop, replicate, All, AllPairs, Option, Some, None, Ok, refl, sym, ap, ap₂, subst, ◌∙◌, arith, lit<, eq-eqb, eqb-true, if◌then◌else◌, lt-ltb, le-leb, append_assoc, append-nil, length-append, cond, Err}
 use Rattle.std.specs.Prelude.{codes, slice_get, position, sum_by, is_some, bytes_eq, decimal as printed}
 use Rattle.std.specs.List.{AllByRecursion}
 use Rattle.std.specs.Option.{option_map_or}
@@ -8,6 +8,7 @@ use Rattle.std.proofs.lemmas.List.{map-append, length-map, length-replicate, len
 use Rattle.std.proofs.lemmas.List.Elements.{All-take, All-drop, All-replicate, recursion_from_All}
 use Rattle.std.proofs.lemmas.List.Sums.{sum_by-cons}
 use Rattle.std.proofs.Math.Seq.{take-add, take-append_seam, drop-append-add}
+use Rattle.vm_types.specs.declared.limits.TheConstants.{MOST_SECTION_PAGES, PAGE_BYTES}
 use Rattle.vm_types.specs.Configuration.{IsWellFormed, IsSection, IsName, section_pages}
 use Rattle.vm_types.specs.Kinds.{is_paged_kind, paged_of}
 use Rattle.vm_types.specs.declared.config.Config.{Config}
@@ -15,10 +16,11 @@ use Rattle.vm_types.specs.declared.config.Section.{Section}
 use Rattle.vm_types.specs.declared.config.SectionKind.{SectionKind}
 use Rattle.vm_types.specs.declared.config.SectionKind.TheVariants as kind
 use Rattle.vm_types.specs.declared.config.Version.{Version}
-use Rattle.vm_types.specs.declared.config.Version.TheVariants as version
+use Rattle.vm_types.specs.Versions.{is_first}
+use Rattle.trace_words.specs.declared.cause.Cause.TheVariants.{UnknownWord}
 use Rattle.trace_lines.specs.declared.keywords.Keyword.TheVariants as keyword
 use Rattle.trace_lines.specs.declared.part.Part.{Part}
-use Rattle.trace_lines.specs.Declarations.{has_room, paged_kind, section_kind}
+use Rattle.trace_lines.specs.Declarations.{has_room, section_kind}
 use Rattle.trace_lines.specs.Lookups.{bytes_at, has_file, number_named, section}
 use Rattle.trace_lines.specs.Says as says
 use Rattle.trace_reader.specs.Changes.{blank_section, overwritten, with_bytes, changed}
@@ -38,9 +40,9 @@ blank x = blank_section x.name x.kind (section_pages x)
 
 blank_pages : (x : Section) → section_pages (blank x) ≡ section_pages x
 blank_pages x =
-    let long : length (replicate (512 * section_pages x) 0) ≡ 512 * section_pages x = length-replicate (512 * section_pages x) 0 in
-    ap (λ (n : ℕ). n / 512) long ∙ whole (section_pages x) where
-      whole : (n : ℕ) → (512 * n) / 512 ≡ n
+    let long : length (replicate (PAGE_BYTES * section_pages x) 0) ≡ PAGE_BYTES * section_pages x = length-replicate (PAGE_BYTES * section_pages x) 0 in
+    ap (λ (n : ℕ). n / PAGE_BYTES) long ∙ whole (section_pages x) where
+      whole : (n : ℕ) → (PAGE_BYTES * n) / PAGE_BYTES ≡ n
       whole n = omega arith
 
 blank_sum : (xs : List Section) → sum_by section_pages (map blank xs) ≡ sum_by section_pages xs
@@ -64,10 +66,10 @@ blank_number xs name =
     ∙ ap (position (λ n. bytes_eq n name)) (blank_names xs)
     ∙ sym (position_map (λ (s : Section). s.name) (λ n. bytes_eq n name) xs)
 
-kind_read : (v : Version) (of_kind : SectionKind) → (is_paged_kind of_kind ≡ true → v ≡ version.Two) → section_kind v (kind_word of_kind) ≡ Ok of_kind
+kind_read : (v : Version) (of_kind : SectionKind) → (is_paged_kind of_kind ≡ true → is_first v ≡ false) → section_kind v (kind_word of_kind) ≡ Ok of_kind
 kind_read v kind.Shared known = refl
 kind_read v kind.Crf known = refl
-kind_read v kind.Paged known = ap paged_kind (known refl)
+kind_read v kind.Paged known = ap (λ (b : Bool). cond b (Err UnknownWord) (Ok kind.Paged)) (known refl)
 
 kind_is_word : (of_kind : SectionKind) → IsShortWord 6 (kind_word of_kind)
 kind_is_word kind.Shared = literal 6 _ refl refl refl
@@ -95,24 +97,24 @@ pub sections_lead : (c : Config) → IsWellFormed c → Leads (declaring c (repl
 sections_lead c w = leads_each lines.section_line (λ xs. declaring c (replicate 14 true) c.params c.bad (map blank xs) [] [] []) c.sections (λ before x after e.
     let part = declaring c (replicate 14 true) c.params c.bad (map blank before) [] [] [] in
     let is : IsSection c.version x = member (IsSection c.version) before x after c.sections e w.sections.each in
-    let known : is_paged_kind x.kind ≡ true → c.version ≡ version.Two = λ paged. (is.paged paged).0 in
-    let bytes : 512 ≤ length x.bytes = is.some in
-    let some : 1 ≤ length x.bytes / 512 = omega arith in
+    let known : is_paged_kind x.kind ≡ true → is_first c.version ≡ false = λ paged. (is.paged paged).0 in
+    let bytes : PAGE_BYTES ≤ length x.bytes = is.some in
+    let some : 1 ≤ length x.bytes / PAGE_BYTES = omega arith in
     let sum = sum_before section_pages before x after c.sections e in
     let count = count_before before x after c.sections e in
     let few : length c.sections ≤ 64 = w.sections.few in
-    let all_pages : sum_by section_pages c.sections ≤ 16384 = w.sections.pages in
-    let small : length x.bytes / 512 ≤ 16384 = omega arith in
+    let all_pages : sum_by section_pages c.sections ≤ MOST_SECTION_PAGES = w.sections.pages in
+    let small : length x.bytes / PAGE_BYTES ≤ MOST_SECTION_PAGES = omega arith in
     let new : number_named (map blank before) x.name ≡ None = blank_number before x.name ∙ position_none (λ s. bytes_eq s.name x.name) before (others_before before x after c.sections e w.sections.differ) in
     let short : length (map blank before) < 64 = omega (arith, length-map before blank) in
-    let inside : sum_by section_pages (map blank before) + length x.bytes / 512 ≤ 16384 = omega (arith, blank_sum before) in
-    let room : has_room (map blank before) (length x.bytes / 512) ≡ true = and_from (ltb (length (map blank before)) 64) (leb (sum_by section_pages (map blank before) + length x.bytes / 512) 16384) (lt-ltb (length (map blank before)) 64 short) (le-leb (sum_by section_pages (map blank before) + length x.bytes / 512) 16384 inside) in
+    let inside : sum_by section_pages (map blank before) + length x.bytes / PAGE_BYTES ≤ MOST_SECTION_PAGES = omega (arith, blank_sum before) in
+    let room : has_room (map blank before) (length x.bytes / PAGE_BYTES) ≡ true = and_from (ltb (length (map blank before)) 64) (leb (sum_by section_pages (map blank before) + length x.bytes / PAGE_BYTES) MOST_SECTION_PAGES) (lt-ltb (length (map blank before)) 64 short) (le-leb (sum_by section_pages (map blank before) + length x.bytes / PAGE_BYTES) MOST_SECTION_PAGES inside) in
     let unnamed = not_found (number_named (map blank before) x.name) new in
-    leads_to part (changed part (says.Section x.name x.kind (length x.bytes / 512))) (declaring c (replicate 14 true) c.params c.bad (map blank (before ++ x ∷ [])) [] [] []) (lines.section_line x ∷ [])
-    (leads_line part (lines.section_line x) (says.Section x.name x.kind (length x.bytes / 512))
-    (line_of (7 ∷ 15 ∷ 6 ∷ 10 ∷ []) (codes "SECTION") (x.name ∷ kind_word x.kind ∷ printed (length x.bytes / 512) ∷ []) (literal 7 _ refl refl refl, (name_word x.name is.name, (kind_is_word x.kind, (number_word (length x.bytes / 512) (omega arith), tt)))) (omega arith))
-    (keyword_says part (codes "SECTION") (x.name ∷ kind_word x.kind ∷ printed (length x.bytes / 512) ∷ []) keyword.Section refl refl refl refl
-    ∙ (rw (name_passes x.name is.name, kind_read c.version x.kind known, within_read 1 4294967295 (length x.bytes / 512) some (omega arith) (lit< tt), unnamed, room) refl)))
+    leads_to part (changed part (says.Section x.name x.kind (length x.bytes / PAGE_BYTES))) (declaring c (replicate 14 true) c.params c.bad (map blank (before ++ x ∷ [])) [] [] []) (lines.section_line x ∷ [])
+    (leads_line part (lines.section_line x) (says.Section x.name x.kind (length x.bytes / PAGE_BYTES)) refl
+    (line_of (7 ∷ 15 ∷ 6 ∷ 10 ∷ []) (codes "SECTION") (x.name ∷ kind_word x.kind ∷ printed (length x.bytes / PAGE_BYTES) ∷ []) (literal 7 _ refl refl refl, (name_word x.name is.name, (kind_is_word x.kind, (number_word (length x.bytes / PAGE_BYTES) (omega arith), tt)))) (omega arith))
+    (keyword_says part (codes "SECTION") (x.name ∷ kind_word x.kind ∷ printed (length x.bytes / PAGE_BYTES) ∷ []) keyword.Section refl refl refl refl
+    ∙ (rw (name_passes x.name is.name, kind_read c.version x.kind known, within_read 1 4294967295 (length x.bytes / PAGE_BYTES) some (omega arith) (lit< tt), unnamed, room) refl)))
     (ap (λ (xs : List Section). declaring c (replicate 14 true) c.params c.bad xs [] [] []) (sym (map-append blank before (x ∷ [])))))
 
 -- a section with so many of its pieces
@@ -122,15 +124,15 @@ begun x k = record x { bytes = take (64 * k) x.bytes ++ replicate (length x.byte
 
 none_begun : (v : Version) (x : Section) → IsSection v x → begun x 0 ≡ blank x
 none_begun v x is =
-    let whole : length x.bytes % 512 ≡ 0 = is.whole in
-    let long : length x.bytes - 64 * 0 ≡ 512 * (length x.bytes / 512) = omega arith in
+    let whole : length x.bytes % PAGE_BYTES ≡ 0 = is.whole in
+    let long : length x.bytes - 64 * 0 ≡ PAGE_BYTES * (length x.bytes / PAGE_BYTES) = omega arith in
     ap (λ (n : ℕ). blank_bytes x (replicate n 0)) long where
       blank_bytes : Section → List ℕ → Section
       blank_bytes x bytes = record x { bytes = bytes }
 
 all_begun : (v : Version) (x : Section) → IsSection v x → begun x (length x.bytes / 64) ≡ x
 all_begun v x is =
-    let whole : length x.bytes % 512 ≡ 0 = is.whole in
+    let whole : length x.bytes % PAGE_BYTES ≡ 0 = is.whole in
     let long : length x.bytes - 64 * (length x.bytes / 64) ≡ 0 = omega arith in
     let bytes : take (64 * (length x.bytes / 64)) x.bytes ++ replicate (length x.bytes - 64 * (length x.bytes / 64)) 0 ≡ x.bytes =
     ap (λ (n : ℕ). take (64 * (length x.bytes / 64)) x.bytes ++ replicate n 0) long ∙ append-nil (take (64 * (length x.bytes / 64)) x.bytes) ∙ take_all (64 * (length x.bytes / 64)) x.bytes (omega arith) in
@@ -215,12 +217,12 @@ module _ (c : Config) (w : IsWellFormed c) (t : IsTyped c) (before : List Sectio
   bytes_small : All (λ b. b < 2 ^ 8) x.bytes
   bytes_small = member (λ (s : Section). All (λ b. b < 2 ^ 8) s.bytes) before x after c.sections e t.bytes
 
-  few_bytes : length x.bytes ≤ 16384 * 512
+  few_bytes : length x.bytes ≤ MOST_SECTION_PAGES * PAGE_BYTES
   few_bytes =
-      let whole : length x.bytes % 512 ≡ 0 = is_section.whole in
-      let sum : sum_by section_pages before + length x.bytes / 512 ≤ sum_by section_pages c.sections = sum_before section_pages before x after c.sections e in
-      let all_pages : sum_by section_pages c.sections ≤ 16384 = w.sections.pages in
-      let pages : length x.bytes / 512 ≤ 16384 = omega (arith, sum, all_pages) in
+      let whole : length x.bytes % PAGE_BYTES ≡ 0 = is_section.whole in
+      let sum : sum_by section_pages before + length x.bytes / PAGE_BYTES ≤ sum_by section_pages c.sections = sum_before section_pages before x after c.sections e in
+      let all_pages : sum_by section_pages c.sections ≤ MOST_SECTION_PAGES = w.sections.pages in
+      let pages : length x.bytes / PAGE_BYTES ≤ MOST_SECTION_PAGES = omega (arith, sum, all_pages) in
       omega (arith, whole, pages)
 
   piece_leads : (k : ℕ) → 64 * (k + 1) ≤ length x.bytes → are_zeros (piece x.bytes k) ≡ false → Leads (with_pieces k) (lines.data_line x k ∷ []) (with_pieces (k + 1))
@@ -235,7 +237,7 @@ module _ (c : Config) (w : IsWellFormed c) (t : IsTyped c) (before : List Sectio
       let digits : length (pairs_text (piece x.bytes k)) ≡ 2 * length (piece x.bytes k) = length_pairs (piece x.bytes k) in
       let word : IsShortWord 128 (pairs_text (piece x.bytes k)) = record { is = record { some = lt-ltb 0 (length (pairs_text (piece x.bytes k))) (omega arith); plain = pairs_plain (piece x.bytes k) }; short = omega arith } in
       leads_to (with_pieces k) (changed (with_pieces k) (says.Data (length before) (64 * k) (piece x.bytes k))) (with_pieces (k + 1)) (lines.data_line x k ∷ [])
-      (leads_line (with_pieces k) (lines.data_line x k) (says.Data (length before) (64 * k) (piece x.bytes k))
+      (leads_line (with_pieces k) (lines.data_line x k) (says.Data (length before) (64 * k) (piece x.bytes k)) refl
       (line_of (4 ∷ 15 ∷ 10 ∷ 128 ∷ []) (codes "DATA") (x.name ∷ printed (64 * k) ∷ pairs_text (piece x.bytes k) ∷ []) (literal 4 _ refl refl refl, (name_word x.name is_section.name, (number_word (64 * k) (omega arith), (word, tt)))) (omega arith))
       (keyword_says (with_pieces k) (codes "DATA") (x.name ∷ printed (64 * k) ∷ pairs_text (piece x.bytes k) ∷ []) keyword.Data refl refl refl refl
       ∙ (rw (here, file, number_read (64 * k) (omega arith), pairs_read (piece x.bytes k) (omega arith) (omega arith) small, inside) refl)))

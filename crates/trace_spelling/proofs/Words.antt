@@ -1,5 +1,5 @@
 -- Printed words are read as what they name: processes, sections, protection codes, operations, services, bytes.
-use Rattle.std.proofs.Common.{◌≡◌, ℕ, zero, suc, ◌+◌, ◌-◌, ◌*◌, ◌/◌, ◌%◌, ◌^◌, ◌<◌, ◌≤◌, true, ◌&&◌, ◌||◌, leb, eqb, List, [], ◌∷◌, ◌++◌, length, get_or, All, Some, Ok, refl, ap, ◌∙◌, arith, inl, inr, le-leb, eq-eqb, length-append}
+use Rattle.std.proofs.Common.{◌≡◌, ℕ, zero, suc, ◌+◌, ◌-◌, ◌*◌, ◌/◌, ◌%◌, ◌^◌, ◌<◌, ◌≤◌, true, ◌&&◌, ◌||◌, leb, eqb, List, [], ◌∷◌, ◌++◌, length, get_or, All, Some, Ok, refl, ap, ◌∙◌, arith, inl, inr, le-leb, eq-eqb, length-append, Bool, None, cond, not}
 use Rattle.std.specs.Prelude.{slice_get, slice_index, IfSome}
 use Rattle.std.specs.List.{list_all}
 use Rattle.std.proofs.lemmas.Bool.{and_from, or_left, or_right}
@@ -173,8 +173,8 @@ service_read v (service.Protect at pages prot) known = refl
 service_read v (service.Lock at pages) known = refl
 service_read v (service.Unlock at pages) known = refl
 service_read v (service.Purge at pages) known = refl
-service_read v (service.Pin at pages) known = ap (λ (u : Version). verb_in u (Some (verb.Service Pin))) known
-service_read v (service.Unpin at pages) known = ap (λ (u : Version). verb_in u (Some (verb.Service Unpin))) known
+service_read v (service.Pin at pages) known = ap (λ (b : Bool). cond (not b) (Some (verb.Service Pin)) None) known
+service_read v (service.Unpin at pages) known = ap (λ (b : Bool). cond (not b) (Some (verb.Service Unpin)) None) known
 service_read v (service.Adjust limit) known = refl
 
 pub service_word : (s : Service) → IsShortWord 6 (service_name s)

@@ -27,14 +27,16 @@ use Rattle.vm_text.specs.Services.{protection_name, service_words}
 abbrev pub Line : Type 0
 Line = List (List ℕ)
 
-abbrev pub version_number : Version → ℕ
-version_number version.One = 1
-version_number version.Two = 2
+-- VMTRACE n, LONGTRACE n
+abbrev pub version_line : Version → Line
+version_line version.One = codes "VMTRACE" ∷ decimal 1 ∷ []
+version_line version.Two = codes "VMTRACE" ∷ decimal 2 ∷ []
+version_line version.Long = codes "LONGTRACE" ∷ decimal 2 ∷ []
 
--- VMTRACE n, FRAMES n, PAGEFILE n
+-- the version's line, FRAMES n, PAGEFILE n
 abbrev pub header_lines : Config → List Line
 header_lines config =
-    (codes "VMTRACE" ∷ decimal (version_number config.version) ∷ [])
+    version_line config.version
     ∷ (codes "FRAMES" ∷ decimal config.frames ∷ [])
     ∷ (codes "PAGEFILE" ∷ decimal config.pagefile ∷ [])
     ∷ []
