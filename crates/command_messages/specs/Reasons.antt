@@ -3,8 +3,10 @@ use Rattle.std.specs.Prelude.{ℕ, ◌==◌, Bool, true, false, ◌&&◌, ◌||�
 use Rattle.trace_words.specs.declared.cause.Cause.{Cause}
 use Rattle.trace_words.specs.declared.cause.Cause.TheVariants.{LineTooLong, NotAscii, TooMany, UnknownWord, Misplaced, NoSuch, BadNumber, OutOfRange, Unaligned, Repeated}
 use Rattle.trace_lines.specs.declared.breach.Bound.{Bound}
-use Rattle.trace_lines.specs.declared.breach.Bound.TheVariants.{Free, Within, Multiple, Next, BelowFrames, Bytes, Pages, Regions, Locks, Quota, Extent, LoLimit, HiLimit, FreeLim, Frames, FramesAndLocks}
+use Rattle.trace_lines.specs.declared.breach.Bound.TheVariants.{Free, Within, Multiple, Next, BelowFrames, Bytes, Pages, Regions, Locks, Quota, Extent, LoLimit, HiLimit, FreeLim, Frames, FramesAndLocks, Most}
 use Rattle.trace_lines.specs.declared.breach.Breach.{Breach}
+use Rattle.trace_lines.specs.declared.breach.Limited.{Limited}
+use Rattle.trace_lines.specs.declared.breach.Limited.TheVariants as limited
 
 -- the rule that the word of this number breaks
 abbrev pub rule_text : ℕ → Cause → List ℕ
@@ -31,6 +33,24 @@ with_one front n back = front ++ decimal n ++ back
 abbrev pub with_so : List ℕ → ℕ → List ℕ → List ℕ
 with_so name n so = name ++ codes " is " ++ decimal n ++ codes ", so " ++ so ++ codes " " ++ decimal n
 
+-- how many of these a trace has at most
+abbrev pub most_front : Limited → List ℕ
+most_front limited.Lines = codes "a trace of this version has at most "
+most_front limited.Requests = codes "a trace of this version has at most "
+most_front limited.Sections = codes "a trace has at most "
+most_front limited.SectionPages = codes "a trace has at most "
+most_front limited.Processes = codes "a trace has at most "
+
+abbrev pub most_back : Limited → List ℕ
+most_back limited.Lines = codes " lines"
+most_back limited.Requests = codes " requests"
+most_back limited.Sections = codes " sections"
+most_back limited.SectionPages = codes " pages of sections"
+most_back limited.Processes = codes " processes"
+
+abbrev pub most_text : Limited → ℕ → List ℕ
+most_text what n = most_front what ++ decimal n ++ most_back what
+
 -- what may stand in the place of a word, with the numbers that are at play; of a word that may be anything the
 -- rule that it breaks
 abbrev pub bound_text : List ℕ → Bound → List ℕ
@@ -50,6 +70,7 @@ bound_text rule (HiLimit n) = with_so (codes "WAITLIMIT") n (codes "HILIMIT is a
 bound_text rule (FreeLim n) = with_so (codes "FREEGOAL") n (codes "FREELIM is at most")
 bound_text rule (Frames n) = with_so (codes "FRAMES") n (codes "each extent, the bad frames and 2 are at most")
 bound_text rule (FramesAndLocks n) = with_so (codes "FRAMES") n (codes "each extent, the bad frames, the locks of all processes and 2 are at most")
+bound_text rule (Most what n) = most_text what n
 
 abbrev pub breach_text : Breach → List ℕ
 breach_text breach = bound_text (rule_text breach.word breach.cause) breach.bound

@@ -3,10 +3,10 @@
 ghost use Rattle.std.specs.Prelude.{◌≡◌, ◌+◌, ◌≤◌, length};
 ghost use Rattle.arrayvec.specs.ArrayVec.{array_vec_len};
 ghost use Rattle.command_messages.specs.Texts.{Adds, AreWords};
-ghost use Rattle.command_messages.specs.Reasons.{begins, bound_text, breach_text, first_reason, from_to, is_dump, is_log, is_marked, is_wide, later_reason, reason_text, rule_text, with_one, with_so};
+ghost use Rattle.command_messages.specs.Reasons.{begins, bound_text, breach_text, first_reason, from_to, is_dump, is_log, is_marked, is_wide, later_reason, most_back, most_front, most_text, reason_text, rule_text, with_one, with_so};
 
 use arrayvec::ArrayVec;
-use trace_reader::{Bound, Breach, Cause};
+use trace_reader::{Bound, Breach, Cause, Limited};
 use vm_text::{after, push_decimal, push_word};
 
 // The rule that the word of this number breaks.
@@ -74,6 +74,39 @@ fn push_so(out: &mut ArrayVec<u8, 640>, name: &[u8], n: u32, so: &[u8])
     push_decimal(out, u64::from(n));
 }
 
+// What stands before the number of these that a trace has at most.
+fn most_front(limited: Limited) -> &'static [u8]
+    ensures { AreWords result.now (most_front limited) 50 }
+{
+    match limited {
+        Limited::Lines | Limited::Requests => b"a trace of this version has at most ",
+        Limited::Sections | Limited::SectionPages | Limited::Processes => b"a trace has at most ",
+    }
+}
+
+// And what stands behind it.
+fn most_back(limited: Limited) -> &'static [u8]
+    ensures { AreWords result.now (most_back limited) 50 }
+{
+    match limited {
+        Limited::Lines => b" lines",
+        Limited::Requests => b" requests",
+        Limited::Sections => b" sections",
+        Limited::SectionPages => b" pages of sections",
+        Limited::Processes => b" processes",
+    }
+}
+
+// Adds how many of these a trace has at most.
+fn push_most(out: &mut ArrayVec<u8, 640>, limited: Limited, n: u32)
+    requires { array_vec_len out.old ≤ 40 }
+    ensures { Adds out.old.items out.new.items (most_text limited n) 150 }
+{
+    push_word(out, most_front(limited));
+    push_decimal(out, u64::from(n));
+    push_word(out, most_back(limited));
+}
+
 // Adds what may stand in the place of a word, or the rule that it breaks if that is anything.
 fn push_bound(out: &mut ArrayVec<u8, 640>, rule: &[u8], bound: Bound)
     requires rule { length rule.now ≤ 100 }
@@ -128,6 +161,7 @@ fn push_bound(out: &mut ArrayVec<u8, 640>, rule: &[u8], bound: Bound)
             n,
             b"each extent, the bad frames, the locks of all processes and 2 are at most",
         ),
+        Bound::Most(limited, n) => push_most(out, limited, n),
     }
 }
 

@@ -3,7 +3,7 @@ use command_ends::Wrong;
 use command_messages::{LineFault, explain, quoted_fault};
 use outside_io::MemorySink;
 use std::test::Fail;
-use trace_reader::{Bound, Breach, Cause};
+use trace_reader::{Bound, Breach, Cause, Limited};
 
 // The words of a faulty command line, and what is said before usage.
 #[test]
@@ -150,7 +150,7 @@ fn says_what_stands_in_the_place_of_a_trace(rt: HostRuntime) -> Result<(), Fail>
 #[test]
 fn marks_the_word_that_is_wrong(rt: HostRuntime) -> Result<(), Fail> {
     let alloc = rt.alloc();
-    let table: [(u8, Cause, Bound, &[u8], &str); 11] = [
+    let table: [(u8, Cause, Bound, &[u8], &str); 13] = [
         (
             1,
             Cause::OutOfRange,
@@ -220,6 +220,20 @@ fn marks_the_word_that_is_wrong(rt: HostRuntime) -> Result<(), Fail> {
             Bound::Locks(4),
             b"PROCESS A 4 4 4 3",
             "the limit is 4, so the locks and 2 are at most 4\n    PROCESS A 4 4 4 3\n                    ^\n",
+        ),
+        (
+            1,
+            Cause::TooMany,
+            Bound::Most(Limited::Requests, 8_000_000),
+            b"A R4 00000000",
+            "a trace of this version has at most 8000000 requests\n    A R4 00000000\n    ^\n",
+        ),
+        (
+            4,
+            Cause::TooMany,
+            Bound::Most(Limited::SectionPages, 16_384),
+            b"SECTION LIB SHARED 16385",
+            "a trace has at most 16384 pages of sections\n    SECTION LIB SHARED 16385\n                       ^\n",
         ),
         (
             0,

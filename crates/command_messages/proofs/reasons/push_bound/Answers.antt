@@ -36,3 +36,6 @@ returns-in-HiLimit c = subst (λ (bound : Bound). Adds c.args.out.now.items c.pu
 
 pub returns-in-FreeLim : goal.returns-in-FreeLim
 returns-in-FreeLim c = subst (λ (bound : Bound). Adds c.args.out.now.items c.push_so-in-FreeLim.new.out.items (bound_text c.args.rule.now bound) 150) (sym c.in-FreeLim.is) c.push_so-in-FreeLim.ensures
+
+pub returns-in-Most : goal.returns-in-Most
+returns-in-Most c = subst (λ (bound : Bound). Adds c.args.out.now.items c.push_most.new.out.items (bound_text c.args.rule.now bound) 150) (sym c.in-Most.is) c.push_most.ensures
