@@ -10,7 +10,7 @@ use Rattle.vm_journal.specs.Own.{own_entries}
 use Rattle.history_lock.specs.declared.view.View.{View}
 use Rattle.history_lock.specs.declared.stage.Stage.{Stage}
 use Rattle.history_lock.specs.declared.stage.Stage.TheVariants.{Idle, Sleeping}
-use Rattle.history_lock.specs.Views.{tickets, sleeps, heard, told, IsIn, IsLive}
+use Rattle.history_lock.specs.Views.{tickets, sleeps, heard, told, IsAway, IsLive}
 use Rattle.history_lock.specs.Rule.{IsTicketOf, HasTicket, HasParts, total, Fits}
 use Rattle.history_lock.specs.Plays.{slept, rose}
 use Rattle.history_lock.proofs.Sums.{total-set, set_each}
@@ -20,7 +20,7 @@ use Rattle.history_lock.proofs.Facts.{Rule, wraps, stays, owned_stays, slot_stay
 record Rests (st : Stage) : Type 0 where
   no_ticket : tickets st ≡ 0
   lives : IsLive st
-  is_out : IsIn st → ⊥
+  is_out : IsAway st → ⊥
   heard_none : heard st ≡ []
   told_own : (xs : List Entry) → told st xs ≡ xs
   fits : (holder : ℕ → ℕ) (inside : Option ℕ) (serving next j : ℕ) → HasTicket holder inside serving next j st

@@ -10,7 +10,7 @@ use Rattle.vm_journal.specs.declared.entry.Entry.{Entry}
 use Rattle.vm_journal.specs.Own.{own_entries}
 use Rattle.history_lock.specs.declared.view.View.{View}
 use Rattle.history_lock.specs.declared.stage.Stage.{Stage}
-use Rattle.history_lock.specs.declared.stage.Stage.TheVariants.{Idle, Joined, Waiting, Holding, Published, Spent}
+use Rattle.history_lock.specs.declared.stage.Stage.TheVariants.{Idle, Sleeping, Joined, Waiting, Holding, Published, Spent}
 use Rattle.history_lock.specs.Views.{tickets, IsAway, IsLive}
 use Rattle.history_lock.specs.Rule.{total, HasParts, HasTicket, HasSlot, Serves}
 use Rattle.history_lock.proofs.Sums.{total-le, at_below, at_one}

@@ -8,8 +8,8 @@ use Rattle.vm_journal.specs.declared.entry.Entry.{Entry}
 use Rattle.vm_journal.specs.Own.{own_entries}
 use Rattle.history_lock.specs.declared.view.View.{View}
 use Rattle.history_lock.specs.declared.stage.Stage.{Stage}
-use Rattle.history_lock.specs.declared.stage.Stage.TheVariants.{Idle, Joined, Waiting, Holding, Published, Spent}
-use Rattle.history_lock.specs.Views.{tickets, heard, told, IsAway, IsLive}
+use Rattle.history_lock.specs.declared.stage.Stage.TheVariants.{Idle, Sleeping, Joined, Waiting, Holding, Published, Spent}
+use Rattle.history_lock.specs.Views.{tickets, sleeps, heard, told, IsAway, IsLive}
 
 abbrev pub total : {A : Type 0} → (A → ℕ) → List A → ℕ
 total f [] = 0

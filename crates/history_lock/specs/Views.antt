@@ -62,6 +62,7 @@ told Spent xs = xs
 -- the value is away with the pass
 abbrev pub IsAway : Stage → Type 0
 IsAway Idle = ⊥
+IsAway Sleeping = ⊥
 IsAway (Joined ys ks ms) = ⊥
 IsAway (Waiting t) = ⊥
 IsAway (Holding t) = Unit {0}

@@ -7,7 +7,7 @@ use Rattle.paging_study.specs.Places.{one_if, page_at, count_places, any_place}
 use Rattle.paging_study.specs.Intervals.{begins, is_inside}
 use Rattle.paging_study.specs.Least.{is_dropped, is_open, IsDrop, AreEnds}
 use Rattle.paging_study.specs.Open.{HoldsPlaces, LosesLast, is_pending}
-use Rattle.paging_study.proofs.Counts.{count_same, count_none}
+use Rattle.paging_study.proofs.Counts.{count_same}
 use Rattle.paging_study.proofs.Begins.{any_place-some, begins-lt, Inside, inside}
 use Rattle.paging_study.proofs.Holds.{holds_same}
 

@@ -5,7 +5,7 @@ use Rattle.std.proofs.lemmas.List.{get_or-set_same, get_or-set_other}
 use Rattle.std.proofs.lemmas.Nat.{div-add-mod', mod_below, div_below}
 use Rattle.paging_study.specs.Places.{one_if, flag_at, count_places}
 use Rattle.paging_study.specs.Marks.{AreGroupCounts}
-use Rattle.paging_study.proofs.Counts.{count_none, count_same, count_but_one}
+use Rattle.paging_study.proofs.Counts.{count_none, count_same, count_but_one, same_past}
 use Rattle.std.specs.List.{count_by}
 use Rattle.std.proofs.lemmas.List.Sums.{sum_by-cons}
 use Rattle.paging_study.proofs.Forward.{one_if-le}

@@ -42,18 +42,12 @@ pub(crate) fn drops_of(alloc: Global, ends: &[u32], room: usize) -> Result<Drops
     })
 }
 
-/// The interval that ends at the place is no longer open. Says if it was.
-fn close(ends: &mut BTreeSet<u32>, place: u32) -> bool
-    ensures closed { (test : ℕ → Bool) → (places : ℕ) → HoldsPlaces ends.old test places → HoldsPlaces ends.new (λ end. test end && not (end == place)) places }
-    ensures was { (test : ℕ → Bool) → (places : ℕ) → HoldsPlaces ends.old test places → 1 ≤ place → place ≤ places → result ≡ test place }
-{
-    ends.remove(&place)
-}
-
 /// With more intervals open than there is room for, the one that ends last is dropped: its end; 0 if
 /// none is dropped.
-fn drop_last(ends: &mut BTreeSet<u32>, room: usize) -> u32
-    ensures { (test : ℕ → Bool) → (places : ℕ) → HoldsPlaces ends.old test places → LosesLast ends.old ends.new room result test places }
+fn drop_last(ends: &mut PlaceSet, room: usize) -> u32
+    requires { length ends.old ≤ 200000 }
+    ensures loses { (test : ℕ → Bool) → (places : ℕ) → places ≤ length ends.old → HoldsPlaces ends.old test places → LosesLast ends.old ends.new room result test places }
+    ensures len { length ends.new ≡ length ends.old }
 {
     if ends.len() <= room {
         return 0;
@@ -62,8 +56,10 @@ fn drop_last(ends: &mut BTreeSet<u32>, room: usize) -> u32
 }
 
 /// Opens the interval that ends there, if there is one.
-fn begin(ends: &mut BTreeSet<u32>, end: u32) -> Result<(), NoMemory>
-    ensures { OnOk result ((test : ℕ → Bool) → (places : ℕ) → HoldsPlaces ends.old test places → end ≤ places → HoldsPlaces ends.new (λ e. test e || e == end) places) }
+fn begin(ends: &mut PlaceSet, end: u32)
+    requires { end ≤ length ends.old }
+    ensures opened { (test : ℕ → Bool) → (places : ℕ) → end ≤ places → HoldsPlaces ends.old test places → HoldsPlaces ends.new (λ e. test e || e == end) places }
+    ensures len { length ends.new ≡ length ends.old }
 {
     if end > 0 {
         ends.insert(end as usize - 1);
