@@ -102,7 +102,7 @@ pub record Clears (words words' : List ℕ) (n : ℕ) (leaves empty : Bool) : Ty
   pub is_empty : empty ≡ (leaves && eqb (get_or words' (n / 64) 0) 0)
   pub len : length words' ≡ length words
 
-module _ (words tops roots : List ℕ) (count n : ℕ) (levels : AreLevels words tops roots count) where
+module _ (words tops roots crowns : List ℕ) (count n : ℕ) (levels : AreLevels words tops roots crowns count) where
   -- the word of the place, and the words of the bits above
   pub top_of : n / 64 < length words → n / 64 / 64 < length tops
   top_of within = div_below (n / 64) 64 (length tops) (omega arith) (omega (arith, levels.tops_len))
@@ -110,21 +110,26 @@ module _ (words tops roots : List ℕ) (count n : ℕ) (levels : AreLevels words
   pub root_of : n / 64 < length words → n / 64 / 64 / 64 < length roots
   root_of within = div_below (n / 64 / 64) 64 (length roots) (omega arith) (omega (arith, top_of within, levels.roots_len))
 
-  -- few places
-  pub few : count ≤ 262144
-  few = omega (arith, levels.count_is, count_places-le (flag_at (flags_of words)) (length (flags_of words)), length-flags_of words, levels.tops_len, levels.roots_len, levels.one_root)
+  pub crown_of : n / 64 < length words → n / 64 / 64 / 64 / 64 < length crowns
+  crown_of within = div_below (n / 64 / 64 / 64) 64 (length crowns) (omega arith) (omega (arith, root_of within, levels.crowns_len))
 
-  pub inserted : (words' tops' roots' : List ℕ) → Sets words words' n → Sets tops tops' (n / 64) → Sets roots roots' (n / 64 / 64) → n < length (flags_of words) → (count' : ℕ) → count' ≡ count + one_if (not (is_set words n)) → AreLevels words' tops' roots' count'
-  inserted words' tops' roots' low mid top within count' is =
+  -- few places
+  pub few : count ≤ 16777216
+  few = omega (arith, levels.count_is, count_places-le (flag_at (flags_of words)) (length (flags_of words)), length-flags_of words, levels.tops_len, levels.roots_len, levels.crowns_len, levels.one_crown)
+
+  pub inserted : (words' tops' roots' crowns' : List ℕ) → Sets words words' n → Sets tops tops' (n / 64) → Sets roots roots' (n / 64 / 64) → Sets crowns crowns' (n / 64 / 64 / 64) → n < length (flags_of words) → (count' : ℕ) → count' ≡ count + one_if (not (is_set words n)) → AreLevels words' tops' roots' crowns' count'
+  inserted words' tops' roots' crowns' low mid top crown within count' is =
       let flag : one_if (get_or (flags_of words) n false) ≡ one_if (is_set words n) = ap one_if (flag_is words n) in
       let change = count_after (flags_of words) (flags_of words') n true within (flags_set words words' n within low.len low.bits) in
       record {
         tops_are = tops_set words tops words' tops' (n / 64) levels.tops_are low.others low.some mid.bits;
         roots_are = tops_set tops roots tops' roots' (n / 64 / 64) levels.roots_are mid.others mid.some top.bits;
+        crowns_are = tops_set roots crowns roots' crowns' (n / 64 / 64 / 64) levels.crowns_are top.others top.some crown.bits;
         count_is = omega (arith, levels.count_is, flag, change, both_one (is_set words n));
         tops_len = omega (arith, levels.tops_len, low.len, mid.len);
         roots_len = omega (arith, levels.roots_len, mid.len, top.len);
-        one_root = omega (arith, levels.one_root, top.len);
+        crowns_len = omega (arith, levels.crowns_len, top.len, crown.len);
+        one_crown = omega (arith, levels.one_crown, crown.len);
       }
 
   pub had : is_set words n ≡ true → n < length (flags_of words) → 1 ≤ count
@@ -133,40 +138,48 @@ module _ (words tops roots : List ℕ) (count n : ℕ) (levels : AreLevels words
       let change = count_after (flags_of words) (set (flags_of words) n false) n false within refl in
       omega (arith, levels.count_is, flag, change)
 
-  pub taken : (words' tops' roots' : List ℕ) (empty empty' empty'' : Bool) → Clears words words' n true empty → Clears tops tops' (n / 64) empty empty' → Clears roots roots' (n / 64 / 64) empty' empty'' → is_set words n ≡ true → AreLevels words' tops' roots' (count - 1)
-  taken words' tops' roots' empty empty' empty'' low mid top there =
+  pub taken : (words' tops' roots' crowns' : List ℕ) (empty empty' empty'' empty''' : Bool) → Clears words words' n true empty → Clears tops tops' (n / 64) empty empty' → Clears roots roots' (n / 64 / 64) empty' empty''
+      → Clears crowns crowns' (n / 64 / 64 / 64) empty'' empty''' → is_set words n ≡ true → AreLevels words' tops' roots' crowns' (count - 1)
+  taken words' tops' roots' crowns' empty empty' empty'' empty''' low mid top crown there =
       let within : n < length (flags_of words) = place_of words n there in
       let flag : one_if (get_or (flags_of words) n false) ≡ 1 = ap one_if (flag_is words n ∙ there) in
       let change = count_after (flags_of words) (flags_of words') n false within (flags_clear words words' n within low.len low.bits) in
       let above : is_set tops (n / 64) ≡ true = above_word words tops n levels.tops_are there in
+      let higher : is_set roots (n / 64 / 64) ≡ true = above_word tops roots (n / 64) levels.roots_are above in
       record {
         tops_are = tops_clear words tops words' tops' (n / 64) levels.tops_are low.others true empty (λ no. ap (λ (ws : List ℕ). get_or ws (n / 64) 0) (low.stays no)) (some_bit words n there) low.is_empty mid.bits;
         roots_are = tops_clear tops roots tops' roots' (n / 64 / 64) levels.roots_are mid.others empty empty' (λ no. ap (λ (ws : List ℕ). get_or ws (n / 64 / 64) 0) (mid.stays no)) (some_bit tops (n / 64) above) mid.is_empty top.bits;
+        crowns_are = tops_clear roots crowns roots' crowns' (n / 64 / 64 / 64) levels.crowns_are top.others empty' empty'' (λ no. ap (λ (ws : List ℕ). get_or ws (n / 64 / 64 / 64) 0) (top.stays no)) (some_bit roots (n / 64 / 64) higher) top.is_empty crown.bits;
         count_is = omega (arith, levels.count_is, flag, change);
         tops_len = omega (arith, levels.tops_len, low.len, mid.len);
         roots_len = omega (arith, levels.roots_len, mid.len, top.len);
-        one_root = omega (arith, levels.one_root, top.len);
+        crowns_len = omega (arith, levels.crowns_len, top.len, crown.len);
+        one_crown = omega (arith, levels.one_crown, crown.len);
       }
 
 -- the way down to the last place
-module _ (words tops roots : List ℕ) (count : ℕ) (levels : AreLevels words tops roots count) where
-  pub root_some : 0 < count_places (flag_at (flags_of words)) (length (flags_of words)) → 0 < get_or roots 0 0
-  root_some some = elim (cases_lt 0 (get_or roots 0 0)) [
+module _ (words tops roots crowns : List ℕ) (count : ℕ) (levels : AreLevels words tops roots crowns count) where
+  pub crown_some : 0 < count_places (flag_at (flags_of words)) (length (flags_of words)) → 0 < get_or crowns 0 0
+  crown_some some = elim (cases_lt 0 (get_or crowns 0 0)) [
     | inl more ↦ more
     | inr none ↦
-        let no_tops : (g : ℕ) → is_set tops g ≡ false = none_below tops roots levels.roots_are (none_in_one roots levels.one_root (omega arith)) in
+        let no_roots : (g : ℕ) → is_set roots g ≡ false = none_below roots crowns levels.crowns_are (none_in_one crowns levels.one_crown (omega arith)) in
+        let no_tops : (g : ℕ) → is_set tops g ≡ false = none_below tops roots levels.roots_are no_roots in
         let no_words : (n : ℕ) → is_set words n ≡ false = none_below words tops levels.tops_are no_tops in
         let no_places : count_places (flag_at (flags_of words)) (length (flags_of words)) ≡ 0 = count_none (flag_at (flags_of words)) (length (flags_of words)) (λ i _. flag_is words (suc i - 1) ∙ no_words (suc i - 1)) in
         absurd (omega arith)
   ]
 
-  pub last_of_all : (top word last : ℕ) → ((n : ℕ) → n / 64 ≡ 0 → is_set roots n ≡ true → n ≤ top)
+  pub last_of_all : (root top word last : ℕ) → ((n : ℕ) → n / 64 ≡ 0 → is_set crowns n ≡ true → n ≤ root)
+      → top / 64 ≡ root → ((n : ℕ) → n / 64 ≡ root → is_set roots n ≡ true → n ≤ top)
       → word / 64 ≡ top → ((n : ℕ) → n / 64 ≡ top → is_set tops n ≡ true → n ≤ word)
       → last / 64 ≡ word → ((n : ℕ) → n / 64 ≡ word → is_set words n ≡ true → n ≤ last)
       → (n : ℕ) → is_set words n ≡ true → n ≤ last
-  last_of_all top word last last_root word_at last_top last_at last_word =
+  last_of_all root top word last last_crown top_at last_root word_at last_top last_at last_word =
       last_below words tops word last levels.tops_are
-      (last_below tops roots top word levels.roots_are (λ g there. last_root g (in_one roots g levels.one_root there) there) word_at last_top)
+      (last_below tops roots top word levels.roots_are
+      (last_below roots crowns root top levels.crowns_are (λ g there. last_crown g (in_one crowns g levels.one_crown there) there) top_at last_root)
+      word_at last_top)
       last_at last_word
 
 -- with no bit set
@@ -176,13 +189,15 @@ none_set m n = ap (λ (w : ℕ). eqb (bit_at w (n % 64)) 1) (same_there m (n / 6
 no_tops : (a b : ℕ) → AreTops (replicate a 0) (replicate b 0)
 no_tops a b g = none_set b g ∙ sym (le-ltb 0 (get_or (replicate a 0) g 0) (omega (arith, same_there a g 0)))
 
-pub none_yet : (words tops roots : List ℕ) (a b c : ℕ) → words ≡ replicate a 0 → tops ≡ replicate b 0 → roots ≡ replicate c 0
-    → length words ≤ length tops * 64 → length tops ≤ length roots * 64 → length roots ≡ 1 → AreLevels words tops roots 0
-none_yet words tops roots a b c words_are tops_are roots_are tops_len roots_len one_root = record {
+pub none_yet : (words tops roots crowns : List ℕ) (a b c d : ℕ) → words ≡ replicate a 0 → tops ≡ replicate b 0 → roots ≡ replicate c 0 → crowns ≡ replicate d 0
+    → length words ≤ length tops * 64 → length tops ≤ length roots * 64 → length roots ≤ length crowns * 64 → length crowns ≡ 1 → AreLevels words tops roots crowns 0
+none_yet words tops roots crowns a b c d words_are tops_are roots_are crowns_are tops_len roots_len crowns_len one_crown = record {
   tops_are = rw (words_are, tops_are) (no_tops a b);
   roots_are = rw (tops_are, roots_are) (no_tops b c);
+  crowns_are = rw (roots_are, crowns_are) (no_tops c d);
   count_is = sym (count_none (flag_at (flags_of words)) (length (flags_of words)) (λ i _. flag_is words (suc i - 1) ∙ ap (λ (ws : List ℕ). is_set ws (suc i - 1)) words_are ∙ none_set a (suc i - 1)));
   tops_len = tops_len;
   roots_len = roots_len;
-  one_root = one_root;
+  crowns_len = crowns_len;
+  one_crown = one_crown;
 }

@@ -19,11 +19,14 @@ flags_of words = flags_to (is_set words) (length words * 64)
 abbrev pub AreTops : List ℕ → List ℕ → Type 0
 AreTops words tops = (g : ℕ) → is_set tops g ≡ nat_lt 0 (slice_index words g)
 
--- bits for the words, bits for the words of those, in one word, and how many bits of the words are set
-pub record AreLevels (words tops roots : List ℕ) (count : ℕ) : Type 0 where
+-- bits for the words, bits for the words of those, and so once more, in one word, and how many bits of the words
+-- are set
+pub record AreLevels (words tops roots crowns : List ℕ) (count : ℕ) : Type 0 where
   pub tops_are : AreTops words tops
   pub roots_are : AreTops tops roots
+  pub crowns_are : AreTops roots crowns
   pub count_is : count ≡ count_places (flag_at (flags_of words)) (length (flags_of words))
   pub tops_len : length words ≤ length tops * 64
   pub roots_len : length tops ≤ length roots * 64
-  pub one_root : length roots ≡ 1
+  pub crowns_len : length roots ≤ length crowns * 64
+  pub one_crown : length crowns ≡ 1

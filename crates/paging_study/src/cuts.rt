@@ -1,4 +1,5 @@
 ghost use Rattle.std.specs.Prelude.{◌≡◌, ℕ, suc, ◌<◌, ◌≤◌, true, AllPairs, length, IfOk};
+ghost use Rattle.vm_types.specs.declared.limits.TheConstants.{MOST_LONG_REQUESTS};
 ghost use Rattle.paging_study.specs.Places.{page_at, has, count_places, flag_at};
 ghost use Rattle.paging_study.specs.Least.{AreCuts};
 
@@ -8,7 +9,7 @@ use vm_types::NoMemory;
 /// Says for each place if it is a cut: an interval is dropped there, and no later cut is before its
 /// end. `drops` has at each place the end of the interval that is dropped there, 0 if none is.
 pub(crate) fn cut_flags(alloc: Global, drops: &[u32]) -> Result<Vec<bool>, NoMemory>
-    requires { length drops.now ≤ 100000 }
+    requires { length drops.now ≤ MOST_LONG_REQUESTS }
     ensures cuts { IfOk result (λ flags. AreCuts (page_at drops.now) (length drops.now) (flag_at flags.items)) }
     ensures len { IfOk result (λ flags. length flags.items ≡ length drops.now) }
 {
@@ -28,7 +29,7 @@ pub(crate) fn cut_flags(alloc: Global, drops: &[u32]) -> Result<Vec<bool>, NoMem
 
 /// The places, from 1, whose flag is set, in order.
 pub(crate) fn places_of(alloc: Global, flags: &[bool]) -> Result<Vec<u32>, NoMemory>
-    requires { length flags.now ≤ 100000 }
+    requires { length flags.now ≤ MOST_LONG_REQUESTS }
     ensures ascending { IfOk result (λ places. AllPairs (λ a b. a < b) places.items) }
     ensures same { IfOk result (λ places. (i : ℕ) → i < length flags.now → has places.items (suc i) ≡ flag_at flags.now (suc i)) }
     ensures range { IfOk result (λ places. (place : ℕ) → has places.items place ≡ true → (1 ≤ place) × (place ≤ length flags.now)) }

@@ -1,4 +1,5 @@
-ghost use Rattle.std.specs.Prelude.{◌≡◌, ℕ, Bool, ◌+◌, ◌<◌, ◌≤◌, ◌==◌, ◌&&◌, ◌||◌, nat_le, not, All, length, IfOk};
+ghost use Rattle.std.specs.Prelude.{◌≡◌, ℕ, Bool, ◌+◌, ◌*◌, ◌<◌, ◌≤◌, ◌==◌, ◌&&◌, ◌||◌, nat_le, not, All, length, IfOk};
+ghost use Rattle.vm_types.specs.declared.limits.TheConstants.{MOST_LONG_REQUESTS};
 ghost use Rattle.paging_study.specs.Places.{page_at, count_places};
 ghost use Rattle.paging_study.specs.Intervals.{begins};
 ghost use Rattle.paging_study.specs.Least.{is_dropped, AreEnds, AreDrops};
@@ -20,7 +21,7 @@ pub(crate) struct Drops {
 /// Drops, at each place with more open intervals inside it than there is room for, the one that ends
 /// last. `ends` says for each place where the interval from it ends, 0 if there is none.
 pub(crate) fn drops_of(alloc: Global, ends: &[u32], room: usize) -> Result<Drops, NoMemory>
-    requires few { length ends.now ≤ 100000 }
+    requires few { length ends.now ≤ MOST_LONG_REQUESTS }
     requires within { All (λ end. end ≤ length ends.now) ends.now }
     ensures drops { IfOk result (λ d. (page : ℕ → ℕ) → AreEnds page (length ends.now) (page_at ends.now) → AreDrops page (page_at d.ends.items) (length ends.now) room) }
     ensures faults { IfOk result (λ d. (page : ℕ → ℕ) → AreEnds page (length ends.now) (page_at ends.now) → d.faults + count_places (λ n. nat_le 1 (begins page n) && not (is_dropped (page_at d.ends.items) (length ends.now) n)) (length ends.now) ≡ length ends.now) }
@@ -45,7 +46,7 @@ pub(crate) fn drops_of(alloc: Global, ends: &[u32], room: usize) -> Result<Drops
 /// With more intervals open than there is room for, the one that ends last is dropped: its end; 0 if
 /// none is dropped.
 fn drop_last(ends: &mut PlaceSet, room: usize) -> u32
-    requires { length ends.old ≤ 200000 }
+    requires { length ends.old ≤ 2 * MOST_LONG_REQUESTS }
     ensures loses { (test : ℕ → Bool) → (places : ℕ) → places ≤ length ends.old → HoldsPlaces ends.old test places → LosesLast ends.old ends.new room result test places }
     ensures len { length ends.new ≡ length ends.old }
 {

@@ -1,4 +1,5 @@
 ghost use Rattle.std.specs.Prelude.{◌≡◌, ℕ, suc, ◌-◌, ◌<◌, ◌≤◌, length, slice_index, slice_set, IfOk};
+ghost use Rattle.vm_types.specs.declared.limits.TheConstants.{MOST_LONG_REQUESTS};
 ghost use Rattle.paging_study.specs.Places.{page_at};
 ghost use Rattle.paging_study.specs.Least.{AreBegins, AreEnds};
 
@@ -9,7 +10,7 @@ use vm_types::NoMemory;
 /// For each reference the place of the last one before it to the same page, counted from 1; 0 if
 /// there is none.
 pub(crate) fn begins_of(alloc: Global, pages: &[u32]) -> Result<Vec<u32>, NoMemory>
-    requires { length pages.now ≤ 100000 }
+    requires { length pages.now ≤ MOST_LONG_REQUESTS }
     ensures begins { IfOk result (λ firsts. AreBegins (page_at pages.now) firsts.items) }
     ensures len { IfOk result (λ firsts. length firsts.items ≡ length pages.now) }
 {
@@ -33,7 +34,7 @@ fn greatest(pages: &[u32]) -> u32
 /// For each reference the place of the next one to the same page, counted from 1; 0 if there is none.
 /// `firsts` has for each the place of the last one before it.
 pub(crate) fn ends_of(alloc: Global, firsts: &[u32]) -> Result<Vec<u32>, NoMemory>
-    requires few { length firsts.now ≤ 100000 }
+    requires few { length firsts.now ≤ MOST_LONG_REQUESTS }
     requires before { (i : ℕ) → i < length firsts.now → slice_index firsts.now i ≤ i }
     ensures ends { IfOk result (λ ends. (page : ℕ → ℕ) → AreBegins page firsts.now → AreEnds page (length firsts.now) (page_at ends.items)) }
     ensures len { IfOk result (λ ends. length ends.items ≡ length firsts.now) }

@@ -1,4 +1,5 @@
 ghost use Rattle.std.specs.Prelude.{◌≡◌, ℕ, suc, false, ◌+◌, ◌<◌, ◌≤◌, ◌==◌, ◌&&◌, ◌||◌, nat_lt, nat_le, not, length, slice_index, slice_index_or, IfOk};
+ghost use Rattle.vm_types.specs.declared.limits.TheConstants.{MOST_LONG_REQUESTS};
 ghost use Rattle.paging_study.specs.Places.{one_if, page_at, flag_at, count_places};
 ghost use Rattle.paging_study.specs.Recency.{is_hit, is_at_distance};
 
@@ -61,7 +62,7 @@ fn since(last: &Marks, first: u32, i: usize) -> usize
 
 /// Counts a reference, if its page was referenced before, among those with so many other pages since.
 fn count_hit(hits: &mut Vec<u32>, first: u32, between: usize)
-    requires { (d : ℕ) → d < length hits.old.items → slice_index hits.old.items d < 100000 }
+    requires { (d : ℕ) → d < length hits.old.items → slice_index hits.old.items d < MOST_LONG_REQUESTS }
     ensures hits { (d : ℕ) → d < length hits.old.items → slice_index hits.new.items d ≡ slice_index hits.old.items d + one_if (nat_le 1 first && between == d) }
     ensures len { length hits.new.items ≡ length hits.old.items }
 {

@@ -1,4 +1,5 @@
 ghost use Rattle.std.specs.Prelude.{◌≡◌, ℕ, suc, false, ◌+◌, ◌*◌, ◌/◌, ◌^◌, ◌<◌, ◌≤◌, ◌&&◌, nat_lt, length, replicate, slice_set, sum, count_by, IfOk};
+ghost use Rattle.vm_types.specs.declared.limits.TheConstants.{MOST_LONG_REQUESTS};
 ghost use Rattle.paging_study.specs.Places.{one_if, flag_at, count_places};
 ghost use Rattle.paging_study.specs.Marks.{AreGroupCounts};
 
@@ -18,13 +19,13 @@ pub(crate) struct Marks {
     ghost by_block: { AreGroupCounts 128 flags.items blocks.items },
     ghost eights_len: { length flags.items ≡ length eights.items * 8 },
     ghost blocks_len: { length flags.items ≡ length blocks.items * 128 },
-    ghost few: { length flags.items ≤ 2 ^ 20 },
+    ghost few: { length flags.items ≤ 2 ^ 23 },
 }
 
 impl Marks {
     /// As many places as there are in blocks enough for so many and one more, none marked.
     pub(crate) fn new(alloc: Global, places: usize) -> Result<Marks, NoMemory>
-        requires { places ≤ 100000 }
+        requires { places ≤ MOST_LONG_REQUESTS }
         ensures { IfOk result (λ marks. marks.flags.items ≡ replicate ((places / 128 + 1) * 128) false) }
     {
         let count = places / 128 + 1;

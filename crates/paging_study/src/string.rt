@@ -1,4 +1,5 @@
 ghost use Rattle.std.specs.Prelude.{◌≡◌, ◌≤◌, length, IfOk};
+ghost use Rattle.vm_types.specs.declared.limits.TheConstants.{MOST_LONG_REQUESTS};
 ghost use Rattle.paging_study.specs.Places.{page_at};
 ghost use Rattle.paging_study.specs.Least.{AreBegins};
 
@@ -6,7 +7,7 @@ use crate::intervals::begins_of;
 use std::alloc::Global;
 use vm_types::NoMemory;
 
-/// The pages that references are to, at most 100,000, and where their intervals begin.
+/// The pages that references are to, at most as many as a trace may have requests, and where their intervals begin.
 #[derive(Debug, Drop)]
 pub struct PageString {
     /// The page of each reference.
@@ -14,7 +15,7 @@ pub struct PageString {
     /// For each reference the place of the last one before it to the same page, counted from 1; 0 if
     /// there is none.
     pub firsts: Vec<u32>,
-    ghost few: { length pages.items ≤ 100000 },
+    ghost few: { length pages.items ≤ MOST_LONG_REQUESTS },
     ghost begins: { AreBegins (page_at pages.items) firsts.items },
     ghost len: { length firsts.items ≡ length pages.items },
 }
@@ -27,7 +28,7 @@ impl PageString {
     /// # Errors
     /// `NoMemory` if memory runs out.
     pub fn of(alloc: Global, pages: Vec<u32>) -> Result<PageString, NoMemory>
-        requires { length pages.items ≤ 100000 }
+        requires { length pages.items ≤ MOST_LONG_REQUESTS }
         ensures { IfOk result (λ string. string.pages.items ≡ pages.items) }
     {
         let firsts = begins_of(alloc, &pages)?;

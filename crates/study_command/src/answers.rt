@@ -1,4 +1,5 @@
 ghost use Rattle.std.specs.Prelude.{◌≤◌, length, IfOk};
+ghost use Rattle.vm_types.specs.declared.limits.TheConstants.{MOST_LONG_REQUESTS};
 ghost use Rattle.paging_study.specs.PageString.{page_string};
 ghost use Rattle.study_command.specs.Answered.{AreAnswers};
 
@@ -30,7 +31,7 @@ pub(crate) struct Answers {
 /// Studies the references of the process to pages of the configuration.
 pub(crate) fn answers_of(alloc: Global, config: &Config, study: Study) -> Result<Answers, NoMemory>
     requires frames { (1 ≤ study.frames) × (study.frames ≤ 1024) }
-    requires few { length config.now.body ≤ 100000 }
+    requires few { length config.now.body ≤ MOST_LONG_REQUESTS }
     ensures { IfOk result (AreAnswers (page_string (study.process).0 config.now.body) study.frames) }
 {
     let pages = page_string(alloc, config, study.process)?;

@@ -6,7 +6,8 @@ use paging_study::{
 use std::alloc::Global;
 use std::test::Fail;
 use vm_types::{
-    Addr, Config, Listed, Mode, NoMemory, Op, Proc, Ref, Request, Service, Task, Version, Width,
+    Addr, Config, Listed, MOST_LONG_REQUESTS, Mode, NoMemory, Op, Proc, Ref, Request, Service,
+    Task, Version, Width,
 };
 
 /// A read of a byte.
@@ -120,7 +121,7 @@ fn finds_what_trying_every_schedule_finds(rt: HostRuntime) -> Result<(), Fail> {
         (&[1, 0, 1, 0, 0, 0], 3, 2),
     ];
     for (pages, frames, faults) in table {
-        if 1 <= frames && frames <= 1024 && pages.len() <= 100_000 {
+        if 1 <= frames && frames <= 1024 && pages.len() <= MOST_LONG_REQUESTS as usize {
             let pages = PageString::of(rt.alloc(), Vec::from_slice(rt.alloc(), pages)?)?;
             assert_eq!(rt; least_faults(rt.alloc(), &pages, frames)?.faults, faults);
         }
@@ -133,10 +134,10 @@ fn finds_what_trying_every_schedule_finds(rt: HostRuntime) -> Result<(), Fail> {
 #[test]
 fn takes_the_most_pages_and_frames(rt: HostRuntime) -> Result<(), Fail> {
     let mut pages = Vec::new(rt.alloc());
-    for i in 0..100_000 {
+    for i in 0..300_000 {
         pages.push(i % 3)?;
     }
-    if pages.len() <= 100_000 {
+    if pages.len() <= MOST_LONG_REQUESTS as usize {
         let pages = PageString::of(rt.alloc(), pages)?;
         assert_eq!(rt; ring_faults(rt.alloc(), &pages, 1024)?, 3);
         assert_eq!(rt; lru_faults(rt.alloc(), &pages, 1024)?.last(), Some(&3));
@@ -149,7 +150,7 @@ fn takes_the_most_pages_and_frames(rt: HostRuntime) -> Result<(), Fail> {
     for i in 0..2050 {
         pages.push(i % 1025)?;
     }
-    if pages.len() <= 100_000 {
+    if pages.len() <= MOST_LONG_REQUESTS as usize {
         let pages = PageString::of(rt.alloc(), pages)?;
         assert_eq!(rt; ring_faults(rt.alloc(), &pages, 1024)?, 2050);
         assert_eq!(rt; lru_faults(rt.alloc(), &pages, 1024)?.last(), Some(&2050));
