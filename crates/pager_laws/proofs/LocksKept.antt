@@ -9,8 +9,7 @@ use Rattle.vm_types.specs.declared.names.Page.{Page}
 use Rattle.vm_types.specs.declared.names.Page.TheVariants.{Private, Shared}
 use Rattle.vm_types.specs.declared.config.Config.{Config}
 use Rattle.vm_types.specs.declared.config.ProcSpec.{ProcSpec}
-use Rattle.vm_types.specs.declared.config.Version.{Version}
-use Rattle.vm_types.specs.declared.config.Version.TheVariants as version
+use Rattle.vm_types.specs.Versions.{is_first}
 use Rattle.vm_journal.specs.declared.entry.Entry.{Entry}
 use Rattle.pager_laws.proofs.TurnKept.{count_fewer, count_map, fits_map}
 use Rattle.pager_model.specs.Around.{entry_view, process_view, quiet}
@@ -175,12 +174,12 @@ unlocked_range config past a p address pages kept own idle =
     (λ spec found. omega (arith, unlocked_less address pages (a.ring p).slots, ((kept.processes p).bounds spec found).locks))
     (λ spec found. subst (λ (n : ℕ). n ≤ pins_of config.version spec) (sym (pins_same false address pages (a.ring p).slots)) ((kept.processes p).bounds spec found).pins)
 
-pub pinned_range : (config : Config) (past : List Entry) (a : Pager) (p address pages : ℕ) → config.version ≡ version.Two → IsKept config (quiet (open_flights past)) a → IsResident config a p → is_busy p (open_flights past) ≡ false
+pub pinned_range : (config : Config) (past : List Entry) (a : Pager) (p address pages : ℕ) → is_first config.version ≡ false → IsKept config (quiet (open_flights past)) a → IsResident config a p → is_busy p (open_flights past) ≡ false
     → ((spec : ProcSpec) → slice_get config.procs p ≡ Some spec → fixed (range_pinned true address pages (a.ring p)).slots ≤ spec.locks)
     → IsKept config (quiet (open_flights past)) (with_ring a p (range_pinned true address pages (a.ring p)))
-pinned_range config past a p address pages two kept own idle locks =
+pinned_range config past a p address pages later kept own idle locks =
     ring_relocked config past a p (range_pinned true address pages (a.ring p)) kept own idle (marked (repinned_slot true address pages) (pinning true address pages) (a.ring p)) locks
-    (λ spec found. subst (λ (v : Version). pinned (range_pinned true address pages (a.ring p)).slots ≤ pins_of v spec) (sym two) (omega (arith, pinned_few (range_pinned true address pages (a.ring p)).slots, locks spec found)))
+    (λ spec found. subst (λ (b : Bool). pinned (range_pinned true address pages (a.ring p)).slots ≤ cond b 0 spec.locks) (sym later) (omega (arith, pinned_few (range_pinned true address pages (a.ring p)).slots, locks spec found)))
 
 pub unpinned_range : (config : Config) (past : List Entry) (a : Pager) (p address pages : ℕ) → IsKept config (quiet (open_flights past)) a → IsResident config a p → is_busy p (open_flights past) ≡ false
     → IsKept config (quiet (open_flights past)) (with_ring a p (range_pinned false address pages (a.ring p)))

@@ -1,11 +1,13 @@
 -- Each number of a rank is small, by the limits of the configuration.
 use Rattle.std.proofs.Common.{◌≡◌, ◌⊎◌, inl, inr, ℕ, ◌*◌, ◌^◌, ◌<◌, ◌≤◌, Bool, true, false, not, cond, List, [], ◌+◌, ◌∷◌, Option, Some, None, length, count_by, nat_eq, nat_le, slice_get, refl, sym, ap, ◌∙◌, subst, arith}
 use Rattle.std.specs.List.{AllByRecursion, sum_by}
+use Rattle.std.proofs.Math.Nat.{le_trans}
 use Rattle.std.proofs.lemmas.Bool.{and_from, cases_lt, eq-eqb, eqb-true, le-leb, or_left}
 use Rattle.std.proofs.lemmas.List.FromFn.{length-range_with_len}
 use Rattle.std.proofs.lemmas.List.Sums.{sum_by-cons}
 use Rattle.std.proofs.lemmas.Option.{get_or_from_slice_get, slice_get_within}
 use Rattle.vm_types.specs.Configuration.{IsProcess, IsWellFormed, all_pins}
+use Rattle.vm_types.proofs.Versions.{requests_at_most}
 use Rattle.vm_types.specs.Ring.{Held, filled, is_filled_slot}
 use Rattle.vm_types.specs.declared.names.Page.{Page}
 use Rattle.vm_types.specs.declared.names.FrameState.{FrameState}
@@ -196,10 +198,10 @@ module _ (config : Config) (past : List Entry) (formed : IsWellFormed config) (r
       by true less = less
       by false less = omega arith
 
-  pub small_numbers : (c : Control) → AllByRecursion (λ (n : ℕ). n < 2 ^ 17) (rank config past c)
+  pub small_numbers : (c : Control) → AllByRecursion (λ (n : ℕ). n < 2 ^ 23) (rank config past c)
   small_numbers c =
       let p = process_at_hand config past c.doing in
-      let tasks = formed.few_tasks in
+      let tasks = le_trans formed.few_tasks (requests_at_most config.version) in
       let file = formed.pagefile in
       let frames = formed.frames in (
         omega (arith, tasks),

@@ -12,7 +12,7 @@ value_of base (x ∷ xs) = x * base ^ length xs + value_of base xs
 
 -- above each number of a rank
 abbrev pub base_of_ranks : ℕ
-base_of_ranks = 2 ^ 17
+base_of_ranks = 2 ^ 23
 
 -- so many moves can follow, at most, before the rundown
 abbrev pub most_moves : Config → List Entry → Control → ℕ

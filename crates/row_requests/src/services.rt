@@ -124,15 +124,12 @@ fn service_fails(
     }
 }
 
-/// Whether the version has the service: pages are pinned and unpinned in version 2 alone.
+/// Whether the version has the service: no page is pinned or unpinned in version 1.
 fn is_of_version(version: Version, s: Service) -> bool
     ensures { IsTrue result ↔ IsServiceOf version s }
 {
     match s {
-        Service::Pin { .. } | Service::Unpin { .. } => match version {
-            Version::One => false,
-            Version::Two => true,
-        },
+        Service::Pin { .. } | Service::Unpin { .. } => !version.is_first(),
         _ => true,
     }
 }
