@@ -100,6 +100,24 @@ def body(count, lines_in_all):
     return text(lines + ['END'])
 
 
+def long_body(count):
+    """So many requests of four processes in a long trace. Their pages fit the working sets, but each thousandth is a
+    page more, which takes another's place, and each ten thousandth is pinned or unpinned."""
+    draws = Draws(9)
+    lines = ['LONGTRACE 2', 'FRAMES 128', 'PAGEFILE 400']
+    for x in 'ABCD':
+        lines += ['PROCESS %s 20 24 30 4' % x, 'MAPZERO %s 00000000 40 UW' % x]
+    lines.append('BODY')
+    for n in range(count):
+        x = 'ABCD'[draws.below(4)]
+        if n % 10000 == 9999:
+            lines.append('%s %s 00000000 1' % (x, 'LCKPAG' if n // 10000 % 2 else 'ULKPAG'))
+        else:
+            page = draws.below(40) if n % 1000 == 0 else draws.below(16)
+            lines.append(request(draws, x, 512 * page + 4 * draws.below(128)))
+    return text(lines + ['END'])
+
+
 def most_entries():
     """100,000 requests, each of which evicts a page that is written before the next one and reads one back."""
     lines = head(8, 16384) + ['PARAM PFC 8', 'PARAM WRTCLUSTER 16', 'PARAM HILIMIT 0', 'PARAM LOLIMIT 0',
@@ -234,6 +252,7 @@ LARGE = [
     ('most-entries', ['serial'], most_entries),
     ('a-line-too-many', ['serial'], lambda: body(99000, 200001)),
     ('a-request-too-many', ['serial'], lambda: body(100001, 150000)),
+    ('million-requests', ['serial'], lambda: long_body(1000000)),
     ('failing-blocks', ['serial'], failing_blocks),
     ('failing-blocks-log', ['check'], 'failing-blocks'),
     ('single-mappings', ['serial'], single_mappings),
