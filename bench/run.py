@@ -63,10 +63,10 @@ def request(draws, pages):
     return f"A W4 {first + place // 4 * 4:08X} {value:08X}\n"
 
 
-def make_trace(path, frames, pages, requests):
+def make_trace(path, frames, pages, requests, first="VMTRACE 1"):
     draws = Draws(7)
     with open(path, "w", encoding="ascii", newline="\n") as out:
-        out.write(f"VMTRACE 1\nFRAMES {frames}\nPAGEFILE 128\nPROCESS A {LIMIT} {LIMIT} {LIMIT} 0\n")
+        out.write(f"{first}\nFRAMES {frames}\nPAGEFILE 128\nPROCESS A {LIMIT} {LIMIT} {LIMIT} 0\n")
         out.write(f"MAPZERO A 00000000 {pages} UW\nBODY\n")
         for _ in range(requests):
             out.write(request(draws, pages))
