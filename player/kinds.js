@@ -32,7 +32,7 @@
   Player.sortText = function (text, name) {
     const first = firstLine(text);
     const cut = /^LOG[ \t]*\r?\n/m.exec(text);
-    if (/^VMTRACE\b/.test(first)) {
+    if (/^(VMTRACE|LONGTRACE)\b/.test(first)) {
       return cut ? { trace: text.slice(0, cut.index), log: text.slice(cut.index + cut[0].length) }
         : { trace: text };
     }

@@ -57,6 +57,7 @@
 
   const DECLARATIONS = {
     VMTRACE: (config, w) => { config.version = number(w[1], "the version"); },
+    LONGTRACE: (config, w) => { config.version = number(w[1], "the version"); },
     FRAMES: (config, w) => { config.frames = number(w[1], "the number of frames", MOST_FRAMES); },
     PAGEFILE: (config, w) => { config.pagefile = number(w[1], "the size of the page file", MOST_BLOCKS); },
     PARAM: (config, w) => { config.parameters[w[1]] = number(w[2], "a parameter"); },
