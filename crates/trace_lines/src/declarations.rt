@@ -10,15 +10,19 @@ use crate::line::Line;
 use crate::lookups::{bytes_at, has_file, number_named, section as section_of, total_pages};
 use trace_words::{Cause, Words, decimal, is, is_name, letter, pairs};
 use vm_types::{
-    Config, MOST_EXTENT, MOST_PROCESSES, MOST_SECTION_PAGES, MOST_SECTIONS, ProcSpec, Section, SectionKind,
-    Version,
+    Config, MOST_EXTENT, MOST_PROCESSES, MOST_SECTION_PAGES, MOST_SECTIONS, ProcSpec, Section,
+    SectionKind, Version,
 };
 
 // The kind of a section in the page file, which version 1 doesn't have.
 fn paged_kind(version: Version) -> Result<SectionKind, Cause>
     ensures { result ≡ paged_kind version }
 {
-    if version.is_first() { Err(Cause::UnknownWord) } else { Ok(SectionKind::Paged) }
+    if version.is_first() {
+        Err(Cause::UnknownWord)
+    } else {
+        Ok(SectionKind::Paged)
+    }
 }
 
 fn section_kind(version: Version, word: &[u8]) -> Result<SectionKind, Cause>

@@ -38,7 +38,11 @@ fn all_pins(config: &Config) -> u64
     ensures value { result ≡ all_pins config.now }
     ensures few { result ≤ MOST_PROCESSES * MOST_EXTENT }
 {
-    if config.version.is_first() { 0 } else { all_locks(config.procs.items()) }
+    if config.version.is_first() {
+        0
+    } else {
+        all_locks(config.procs.items())
+    }
 }
 
 // Whether each process alone has a frame to spare beside the page at hand and the pages that all of them

@@ -4,7 +4,6 @@ use Rattle.std.specs.List.{list_any}
 use Rattle.vm_types.specs.declared.limits.TheConstants.{MOST_BLOCKS, MOST_FAILS, MOST_PROCESSES}
 use Rattle.vm_types.specs.Configuration.{FitsVersion, IsLimited, IsName, IsMapping, IsBlock, IsTask}
 use Rattle.vm_types.specs.Kinds.{is_paged_kind}
-use Rattle.vm_types.specs.declared.config.ProcSpec.{ProcSpec}
 use Rattle.vm_types.specs.Versions.{is_first, most_requests}
 use Rattle.trace_lines.specs.declared.part.Part.{Part}
 use Rattle.trace_lines.specs.Declarations.{has_room}

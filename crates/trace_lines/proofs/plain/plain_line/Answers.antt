@@ -1,7 +1,6 @@
 use Rattle.std.proofs.Common.{◌≡◌, sym, ap, ◌∙◌, arith, subst, List, [], ◌∷◌, ℕ, Ok}
 use Rattle.vm_types.specs.WellFormed.{width_bytes}
 use Rattle.vm_types.specs.declared.config.ProcSpec.{ProcSpec}
-use Rattle.vm_types.specs.declared.config.Task.{Task}
 use Rattle.trace_lines.specs.Lookups.{process, aligned}
 use Rattle.trace_lines.specs.Plain.{IsPlainFront}
 use Rattle.trace_lines.proofs.PlainForm.{plain_judged}
