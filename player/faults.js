@@ -16,8 +16,8 @@
   };
   Player.FAULT_MEANINGS = MEANINGS;
 
-  const HEADS = new Set(["VMTRACE", "FRAMES", "PAGEFILE", "PARAM", "BAD", "SECTION", "DATA", "PROCESS",
-    "MAPZERO", "MAPSEC", "FAIL", "BODY", "END"]);
+  const HEADS = new Set(["VMTRACE", "LONGTRACE", "FRAMES", "PAGEFILE", "PARAM", "BAD", "SECTION", "DATA",
+    "PROCESS", "MAPZERO", "MAPSEC", "FAIL", "BODY", "END"]);
   const CODES = new Set("NA KW KR UW EW ERKW ER SW SREW SRKW SR URSW UREW URKW UR".split(" "));
   const OPERATION = /^[KESU]?(?:[RW][124]|A4)$/;
   const SERVICE = /^(?:CRETVA|DELTVA|SETPRT|LKWSET|ULWSET|LCKPAG|ULKPAG|PURGWS|ADJWSL)$/;
@@ -26,13 +26,13 @@
 
   // What each word of a line is, behind its first: p a process, a address, n number, h hexadecimal, s name of
   // a section, c protection code, k kind, m parameter, b block.
-  const FORMS = { FRAMES: "n", PAGEFILE: "n", VMTRACE: "n", PARAM: "mn", BAD: "n", SECTION: "skn", DATA: "snx",
-    PROCESS: "pnnnn", MAPZERO: "panc", MAPSEC: "pansnc", FAIL: "bnnnnnnnnnnnnnnnn" };
+  const FORMS = { FRAMES: "n", PAGEFILE: "n", VMTRACE: "n", LONGTRACE: "n", PARAM: "mn", BAD: "n", SECTION: "skn",
+    DATA: "snx", PROCESS: "pnnnn", MAPZERO: "panc", MAPSEC: "pansnc", FAIL: "bnnnnnnnnnnnnnnnn" };
   const REQUESTS = { CRETVA: "anc", DELTVA: "an", SETPRT: "anc", LKWSET: "an", ULWSET: "an", LCKPAG: "an",
     ULKPAG: "an", PURGWS: "an", ADJWSL: "n" };
 
   // The forms of lines, and what may stand in a place, as docs/FORMATS.md has them.
-  const LINES = { VMTRACE: "VMTRACE 1 or VMTRACE 2, first of all",
+  const LINES = { VMTRACE: "VMTRACE 1 or VMTRACE 2, first of all", LONGTRACE: "LONGTRACE 2, first of all",
     FRAMES: "FRAMES n, second, 8 to 4096 (in version 2 to 16384)",
     PAGEFILE: "PAGEFILE n, third, 1 to 16384", PARAM: "PARAM name n", BAD: "BAD f, a frame below FRAMES",
     SECTION: "SECTION name SHARED n, or CRF n, or in version 2 PAGED n", DATA: "DATA name offset hex",
