@@ -4,6 +4,7 @@ use Rattle.std.specs.List.{range_with_len}
 use Rattle.std.specs.Option.{is_some}
 use Rattle.std.proofs.lemmas.Bool.{cases_eq, false≢true, leb-true, leb-false}
 use Rattle.std.proofs.lemmas.Option.{none-some, same_Some}
+use Rattle.vm_types.specs.declared.limits.TheConstants.{PAGE_BYTES}
 use Rattle.vm_types.specs.Adjust.{greater, lesser}
 use Rattle.vm_types.specs.Ring.{choose, filled}
 use Rattle.vm_types.specs.WellFormed.{IsWellFormedReference}
@@ -147,7 +148,7 @@ module _ (config : Config) (p : ℕ) (r : Ref) (formed_r : IsWellFormedReference
       tail = tail_without config past ready.formed ready.run f fs free
 
       put : Option Page
-      put = page_by config (pager_after config past).map p (page_number (512 * v))
+      put = page_by config (pager_after config past).map p (page_number (PAGE_BYTES * v))
 
       held : (k : ℕ) → 0 < count_of fs k → at_number (pager_after config past).page f put k ≡ (pager_after config past₀).page k
       held k some = go (cases_eq f k)
@@ -332,7 +333,7 @@ module _ (config : Config) (past : List Entry) (p : ℕ) (r : Ref) (formed_r : I
         let legal = back_legal config past p ready w f g mapped invalid holds (unread f holds) below in
         (legal, answered config p r formed_r (by_seat p (what.Back (proc p) (page_address w) (pfn f) (a.state f)) ∷ past) (back_ready config past p ready w f legal (omega (arith, few))) (still_pending f (a.status p)) none (valid_at p w f) (back_valid config past p ready w f))
       where
-        still_pending : (f : ℕ) (s : ProcStatus) → is_pending config ((after_any_back a s p (512 * w) f).references p) ≡ false
+        still_pending : (f : ℕ) (s : ProcStatus) → is_pending config ((after_any_back a s p (PAGE_BYTES * w) f).references p) ≡ false
         still_pending f status.Coming = not_pending
         still_pending f status.Resident = not_pending
         still_pending f status.Leaving = not_pending

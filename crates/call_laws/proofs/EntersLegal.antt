@@ -2,6 +2,7 @@
 use Rattle.std.proofs.Common.{◌≡◌, inl, ℕ, ◌+◌, ◌*◌, ◌<◌, ◌^◌, true, false, List, ◌∷◌, Some, None, length, find, refl, sym, ap, ◌∙◌, Option, subst, arith}
 use Rattle.std.proofs.lemmas.Bool.{and_from, false≢true}
 use Rattle.std.proofs.lemmas.Option.{none-some}
+use Rattle.vm_types.specs.declared.limits.TheConstants.{PAGE_BYTES}
 use Rattle.vm_types.specs.Ring.{filled}
 use Rattle.vm_types.specs.declared.config.Config.{Config}
 use Rattle.vm_types.specs.declared.config.Origin.TheVariants as origin
@@ -97,7 +98,7 @@ module _ (config : Config) (past : List Entry) (p : ℕ) (ready : IsReady config
   pub back_ready : (v f : ℕ) → IsLegal config past a (by_seat p (what.Back (proc p) (page_address v) (pfn f) (a.state f))) → length past + 1 < 2 ^ 63 → IsReady config (by_seat p (what.Back (proc p) (page_address v) (pfn f) (a.state f)) ∷ past) p
   back_ready v f legal few = ready_after config past p _ ready legal few refl refl (by (a.status p) ready.own.resident)
     where
-      by : (s : ProcStatus) → s ≡ status.Resident → (after_any_back a s p (512 * v) f).status p ≡ status.Resident
+      by : (s : ProcStatus) → s ≡ status.Resident → (after_any_back a s p (PAGE_BYTES * v) f).status p ≡ status.Resident
       by status.Resident is = ready.own.resident
       by status.Leaving is = absurd (cc)
       by status.Gone is = absurd (cc)
@@ -107,10 +108,10 @@ module _ (config : Config) (past : List Entry) (p : ℕ) (ready : IsReady config
   pub back_valid : (v f : ℕ) → entry_of (pager_after config (by_seat p (what.Back (proc p) (page_address v) (pfn f) (a.state f)) ∷ past)).valid p v ≡ Some (valid_at p v f)
   back_valid v f = by (a.status p)
     where
-      first : entry_of (valid_at p (page_number (512 * v)) f ∷ a.valid) p v ≡ Some (valid_at p v f)
+      first : entry_of (valid_at p (page_number (PAGE_BYTES * v)) f ∷ a.valid) p v ≡ Some (valid_at p v f)
       first = subst (λ (w : ℕ). entry_of (valid_at p w f ∷ a.valid) p v ≡ Some (valid_at p v f)) (sym (same_number v)) (find_cons_yes (is_entry p v) (valid_at p v f) a.valid (and_from _ _ (nat_eq_refl p) (nat_eq_refl v)))
 
-      by : (s : ProcStatus) → entry_of (after_any_back a s p (512 * v) f).valid p v ≡ Some (valid_at p v f)
+      by : (s : ProcStatus) → entry_of (after_any_back a s p (PAGE_BYTES * v) f).valid p v ≡ Some (valid_at p v f)
       by status.Resident = first
       by status.Leaving = first
       by status.Gone = first

@@ -1,5 +1,6 @@
 -- A seat without an open flight may make any entry, unless a reuse is due.
 use Rattle.std.proofs.Common.{◌≡◌, ℕ, ◌*◌, ◌<◌, ◌^◌, ◌%◌, Bool, true, false, List, arith}
+use Rattle.vm_types.specs.declared.limits.TheConstants.{PAGE_BYTES}
 use Rattle.vm_types.specs.declared.config.Config.{Config}
 use Rattle.vm_journal.specs.declared.entry.Entry.{Entry}
 use Rattle.vm_journal.specs.declared.entry.What.{What}
@@ -24,7 +25,7 @@ free_turn config past seat w free = record {
 pub page_starts : (v : ℕ) → v < 2 ^ 23 → IsPageStart (page_address v).0
 page_starts v small = record { aligned = mod_512 v; small = omega (arith, small) }
   where
-    mod_512 : (v : ℕ) → (512 * v) % 512 ≡ 0
+    mod_512 : (v : ℕ) → (PAGE_BYTES * v) % PAGE_BYTES ≡ 0
     mod_512 v = omega arith
 
 pub small_page : (address : ℕ) → address < 2 ^ 32 → page_number address < 2 ^ 23

@@ -3,6 +3,7 @@ use Rattle.std.proofs.Common.{◌≡◌, inl, inr, ℕ, zero, suc, ◌+◌, ◌*
 use Rattle.std.specs.List.{range_with_len}
 use Rattle.std.proofs.lemmas.Bool.{not-true, and_from, and_parts, eq-eqb, false≢true, ltb-false, ne_eqb, true≢false}
 use Rattle.std.proofs.lemmas.Option.{same_Some, slice_get_within}
+use Rattle.vm_types.specs.declared.limits.TheConstants.{PAGE_BYTES}
 use Rattle.vm_types.specs.Configuration.{IsBlock}
 use Rattle.vm_types.specs.Ring.{Held, filled, unpinned}
 use Rattle.vm_types.specs.declared.config.Config.{Config}
@@ -124,7 +125,7 @@ module _ (config : Config) (past : List Entry) (seat p : ℕ) (may : MayWork con
       known = valid_at_page config past a p s.vpn there.entry kept there.valid
 
       by_page : (g : Page) → s.page ≡ g → is_private g ≡ true
-          → (a.lies g ≡ Some (block.Swap (proc p) (slot_with (a.ring p) (page_number (512 * s.vpn))))) × (a.modify s.frame ≡ false) × (reads_on s.frame (open_flights past) + writes_on s.frame (open_flights past) ≡ 0)
+          → (a.lies g ≡ Some (block.Swap (proc p) (slot_with (a.ring p) (page_number (PAGE_BYTES * s.vpn))))) × (a.modify s.frame ≡ false) × (reads_on s.frame (open_flights past) + writes_on s.frame (open_flights past) ≡ 0)
       by_page g same private =
           let facts = saved (ap is_private same ∙ private) in
           let slot = ap (slot_with (a.ring p)) (same_number s.vpn) ∙ slot_is n s there in

@@ -2,6 +2,7 @@
 use Rattle.std.proofs.Common.{◌≡◌, ◌⊎◌, inl, inr, ℕ, ◌+◌, ◌*◌, ◌<◌, ◌≤◌, ◌^◌, ◌||◌, Bool, true, false, cond, not, List, ◌∷◌, Option, Some, None, length, filter, count_by, nat_eq, refl, sym, ap, ◌∙◌, subst, arith}
 use Rattle.std.proofs.lemmas.Bool.{cases_eq, false≢true}
 use Rattle.std.proofs.lemmas.Option.{none-some, same_Some}
+use Rattle.vm_types.specs.declared.limits.TheConstants.{PAGE_BYTES}
 use Rattle.vm_types.specs.Configuration.{IsBlock, IsWellFormed}
 use Rattle.vm_types.specs.Same.{same_block}
 use Rattle.vm_types.specs.declared.config.Config.{Config}
@@ -102,12 +103,12 @@ module _ (config : Config) (past : List Entry) (p f : ℕ) (c : BlockId) (h : Pa
   pub out_after_near : (b : BlockId) (g : Page) → same_block c b ≡ false → (g ≡ h → ⊥) → IsOutIn config (by_seat p (what.In (pfn f) b (role.Near g)) ∷ past) c h
   out_after_near b g apart other = record { exists = there.exists; still = still_after b (role.Near g) apart; out = put_elsewhere (Some g) (λ is. other (same_Some g h is)); lies = there.lies }
 
-  pub out_after_fault : (b : BlockId) (g : Page) (v : ℕ) → page_by config a.map p (page_number (512 * v)) ≡ Some g → same_block c b ≡ false → (g ≡ h → ⊥)
+  pub out_after_fault : (b : BlockId) (g : Page) (v : ℕ) → page_by config a.map p (page_number (PAGE_BYTES * v)) ≡ Some g → same_block c b ≡ false → (g ≡ h → ⊥)
       → IsOutIn config (by_seat p (what.In (pfn f) b (role.Fault (proc p) (page_address v))) ∷ past) c h
   out_after_fault b g v mapped apart other = record {
     exists = there.exists;
     still = still_after b (role.Fault (proc p) (page_address v)) apart;
-    out = put_elsewhere (page_by config a.map p (page_number (512 * v))) (λ is. other (same_Some g h (sym mapped ∙ is)));
+    out = put_elsewhere (page_by config a.map p (page_number (PAGE_BYTES * v))) (λ is. other (same_Some g h (sym mapped ∙ is)));
     lies = there.lies;
   }
 

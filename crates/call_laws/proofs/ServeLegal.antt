@@ -5,6 +5,7 @@ use Rattle.std.specs.Option.{is_some}
 use Rattle.std.proofs.lemmas.Bool.{not-true, and_from, and_parts, cases_lt, eqb-true, false≢true, leb-false, leb-true, lt-ltb, ltb-false}
 use Rattle.std.proofs.lemmas.List.Folds.{find_at}
 use Rattle.std.proofs.lemmas.Option.{none-some, same_Some, slice_get_cases}
+use Rattle.vm_types.specs.declared.limits.TheConstants.{PAGE_BYTES}
 use Rattle.vm_types.specs.Ring.{Held, Ring, fixed, is_fixed, is_fixed_slot}
 use Rattle.vm_types.specs.Same.{same_page}
 use Rattle.vm_types.specs.WellFormed.{IsRange, IsServiceOf, IsWellFormedService}
@@ -171,7 +172,7 @@ module _ (config : Config) (past : List Entry) (p : ℕ) (ready : IsReady config
   loose_there v free held is = sym (ap (λ (o : Option (Option Held)). passes is_fixed (slot_of o)) is) ∙ free
 
   dropped : (v : ℕ) (e : Valid) → entry_of a.valid p v ≡ Some e → is_stopped config past a e.frame ≡ false → IsValidAt config a p v e → (purged : Bool) → (purged ≡ true → is_fixed_at a p v ≡ false)
-      → IsDropped config past a p (512 * v) e.frame purged (goes_to past a e.frame)
+      → IsDropped config past a p (PAGE_BYTES * v) e.frame purged (goes_to past a e.frame)
   dropped v e valid goes known purged free = record {
     own = ready.own;
     taken = record { entry = e; valid = ap (entry_of a.valid p) (same_number v) ∙ valid; frame = refl; goes = refl };
@@ -179,7 +180,7 @@ module _ (config : Config) (past : List Entry) (p : ℕ) (ready : IsReady config
     waits = waits_not config past a e.frame goes;
   }
 
-  evicted : (v : ℕ) (why : EvictWhy) → ((e : Valid) → entry_of a.valid p v ≡ Some e → is_stopped config past a e.frame ≡ false → IsEvict why config past a p p (512 * v) e.frame (goes_to past a e.frame)) → (o : Option Valid) → entry_of a.valid p v ≡ o → Legal (evict_given config past a p v why o)
+  evicted : (v : ℕ) (why : EvictWhy) → ((e : Valid) → entry_of a.valid p v ≡ Some e → is_stopped config past a e.frame ≡ false → IsEvict why config past a p p (PAGE_BYTES * v) e.frame (goes_to past a e.frame)) → (o : Option Valid) → entry_of a.valid p v ≡ o → Legal (evict_given config past a p v why o)
   evicted v why row None valid = tt
   evicted v why row (Some e) valid =
       let known = valid_at_page config past a p v e (kept config past p ready) valid in

@@ -1,5 +1,6 @@
 -- The words of a condition that doesn't hold, with what would have been right. Source: this project's own.
 use Rattle.std.specs.Prelude.{ℕ, ◌*◌, ◌&&◌, ◌==◌, List, [], ◌∷◌, ◌++◌, Option, None, Some, nat_lt, if◌then◌else◌, codes, decimal}
+use Rattle.vm_types.specs.declared.limits.TheConstants.{PAGE_BYTES}
 use Rattle.vm_types.specs.declared.names.BlockId.{BlockId}
 use Rattle.vm_types.specs.declared.names.BlockId.TheVariants.{PageFile, Section, Swap}
 use Rattle.vm_types.specs.declared.names.Page.{Page}
@@ -166,7 +167,7 @@ abbrev pub shared_text : ℕ → ℕ → List ℕ
 shared_text s i = codes "#" ++ decimal s ++ codes "/" ++ decimal i
 
 abbrev pub page_text : Page → List ℕ
-page_text (Private p v) = if nat_lt p.0 16 && nat_lt v 8388608 then place_text p.0 (512 * v) else codes "none"
+page_text (Private p v) = if nat_lt p.0 16 && nat_lt v 8388608 then place_text p.0 (PAGE_BYTES * v) else codes "none"
 page_text (Shared s i) = shared_text s.0 i
 
 abbrev pub block_text : BlockId → List ℕ

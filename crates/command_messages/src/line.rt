@@ -14,6 +14,7 @@ use outside_io::keep_front;
 use study_command::first_word;
 use trace_words::decimal_within;
 use vm_text::{after, is};
+use vm_types::MOST_EXTENT;
 
 // Whether it is a letter, A to P.
 fn is_process(value: &[u8]) -> bool
@@ -44,7 +45,7 @@ fn takes(option: LineOption, value: &[u8]) -> bool
 {
     match option {
         LineOption::Process => is_process(value),
-        LineOption::Frames => is_number(1, 1024, value),
+        LineOption::Frames => is_number(1, MOST_EXTENT, value),
         LineOption::Seed => is_number(0, 4_294_967_295, value),
         LineOption::Procs => is_number(1, 16, value),
         LineOption::Refs => is_number(1, 100_000, value),

@@ -13,7 +13,7 @@ use vm_text::{
     cut, push_address, push_count, push_decimal, push_frame, push_place, push_process, push_state,
     push_status, push_why, push_word,
 };
-use vm_types::{Addr, BlockId, Page, Pfn, SecId};
+use vm_types::{Addr, BlockId, PAGE_BYTES, Page, Pfn, SecId};
 
 // Adds a page of a section by the section's number, behind a mark.
 fn push_shared(out: &mut ArrayVec<u8, 64>, mark: &[u8], s: SecId, page: u32)
@@ -36,7 +36,7 @@ fn push_page(out: &mut ArrayVec<u8, 64>, page: Page)
     match page {
         Page::Private(p, v) => {
             if p.0 < 16 && v < 0x80_0000 {
-                push_place(out, p, Addr(512 * v));
+                push_place(out, p, Addr(PAGE_BYTES * v));
             } else {
                 push_word(out, b"none");
             }

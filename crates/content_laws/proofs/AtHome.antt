@@ -2,6 +2,7 @@
 use Rattle.std.proofs.Common.{◌≡◌, ℕ, ◌<◌, ◌||◌, Bool, true, false, not, List, Option, Some, None, is_some, find, length, nat_le, count_by, refl, sym, ap, ◌∙◌, arith}
 use Rattle.std.proofs.lemmas.Bool.{eq-eqb, false≢true, leb-false, ne_eqb, true≢false}
 use Rattle.std.proofs.lemmas.Option.{none-some}
+use Rattle.vm_types.specs.declared.limits.TheConstants.{PAGE_BYTES}
 use Rattle.vm_types.specs.BlockView.{BlockView}
 use Rattle.vm_types.specs.Configuration.{IsBlock}
 use Rattle.vm_types.specs.declared.names.Page.{Page}
@@ -41,10 +42,10 @@ holder_inside config o a f g kept holds = not_bad_inside config f (go (is state.
 
 -- ---- buffers
 -- the buffer of a frame that isn't read is home, with a page's length
-pub buffer_home : (config : Config) (state_of : ℕ → FrameState) (buffer : ℕ → Option (List ℕ)) (f : ℕ) → HasBuffers config state_of buffer → f < config.frames → is state.Reading (state_of f) ≡ false → (bytes : List ℕ) × (buffer f ≡ Some bytes) × (length bytes ≡ 512)
+pub buffer_home : (config : Config) (state_of : ℕ → FrameState) (buffer : ℕ → Option (List ℕ)) (f : ℕ) → HasBuffers config state_of buffer → f < config.frames → is state.Reading (state_of f) ≡ false → (bytes : List ℕ) × (buffer f ≡ Some bytes) × (length bytes ≡ PAGE_BYTES)
 buffer_home config state_of buffer f buffers inside not_read = go (buffer f) refl
   where
-    go : (o : Option (List ℕ)) → buffer f ≡ o → (bytes : List ℕ) × (buffer f ≡ Some bytes) × (length bytes ≡ 512)
+    go : (o : Option (List ℕ)) → buffer f ≡ o → (bytes : List ℕ) × (buffer f ≡ Some bytes) × (length bytes ≡ PAGE_BYTES)
     go None at = absurd (false≢true (sym (ap is_some at) ∙ (buffers.home f inside ∙ ap not not_read)))
     go (Some bytes) at = (bytes, at, buffers.sizes f bytes at)
 

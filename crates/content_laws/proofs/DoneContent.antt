@@ -2,6 +2,7 @@
 use Rattle.std.proofs.Common.{◌≡◌, ◌⊎◌, ℕ, ◌&&◌, Bool, true, false, cond, not, List, ◌∷◌, Option, Some, None, length, refl, sym, ap, ap₂, ◌∙◌, subst, inl, inr}
 use Rattle.std.proofs.lemmas.Bool.{false≢true, true≢false, cases_eq}
 use Rattle.std.proofs.lemmas.Option.{none-some, same_Some}
+use Rattle.vm_types.specs.declared.limits.TheConstants.{PAGE_BYTES}
 use Rattle.vm_types.specs.BlockView.{BlockView}
 use Rattle.vm_types.specs.Same.{same_page}
 use Rattle.vm_types.specs.WellFormed.{IsWellFormedReference}
@@ -126,7 +127,7 @@ module _ (tells tells_plan : Bool) (config : Config) (past : List Entry) (a : Pa
   done_content seat r answer before kept maps touches formed legal bytes has put fits =
       subst (λ (modify : ℕ → Bool). ContentFits tells tells_plan config (e ∷ past) (record (after_done config a p r) { modify = modify }) buffer' home) (sym modify_is) (record {
         buffers = buffers_put config a.state a.state buffer buffer' f (Some (bytes_after r.op bytes (offset_in_page r))) put
-            (λ ys is. subst (λ (zs : List ℕ). length zs ≡ 512) (same_Some _ _ is) (bytes_after_size r bytes formed ((fits.buffers).sizes f bytes has)))
+            (λ ys is. subst (λ (zs : List ℕ). length zs ≡ PAGE_BYTES) (same_Some _ _ is) (bytes_after_size r bytes formed ((fits.buffers).sizes f bytes has)))
             (sym (ap (λ (s : FrameState). not (is state.Reading s)) at.state)) (λ h apart. refl) fits.buffers;
         homes = fits.homes;
         held = λ told. held_move (now config past) (now config (e ∷ past)) a.page a.page a.state a.state buffer buffer' f there (here told) (fits.held told);

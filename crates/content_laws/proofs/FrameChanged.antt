@@ -2,6 +2,7 @@
 use Rattle.std.proofs.Common.{◌≡◌, ◌⊎◌, ℕ, ◌<◌, ◌≤◌, Bool, true, false, not, List, ◌∷◌, Option, Some, is_some, length, count_by, sym, ap, ◌∙◌, subst, inl, inr}
 use Rattle.std.specs.List.{AllByRecursion}
 use Rattle.std.proofs.lemmas.Bool.{cases_eq}
+use Rattle.vm_types.specs.declared.limits.TheConstants.{PAGE_BYTES}
 use Rattle.vm_types.specs.declared.names.Page.{Page}
 use Rattle.vm_types.specs.declared.names.FrameState.{FrameState}
 use Rattle.vm_types.specs.declared.names.FrameState.TheVariants as state
@@ -22,11 +23,11 @@ use Rattle.pager_rules.proofs.Quiet.{starts_by}
 -- ---- buffers
 -- one frame's buffer is put, and its state changes
 pub buffers_put : (config : Config) (state_of state_of' : ℕ → FrameState) (buffer buffer' : ℕ → Option (List ℕ)) (f : ℕ) (o : Option (List ℕ)) → PutsBuffer f o buffer buffer'
-    → ((bytes : List ℕ) → o ≡ Some bytes → length bytes ≡ 512) → is_some o ≡ not (is state.Reading (state_of' f)) → ((h : ℕ) → (f ≡ h → ⊥) → state_of' h ≡ state_of h)
+    → ((bytes : List ℕ) → o ≡ Some bytes → length bytes ≡ PAGE_BYTES) → is_some o ≡ not (is state.Reading (state_of' f)) → ((h : ℕ) → (f ≡ h → ⊥) → state_of' h ≡ state_of h)
     → HasBuffers config state_of buffer → HasBuffers config state_of' buffer'
 buffers_put config state_of state_of' buffer buffer' f o put size here there old = record { sizes = λ h bytes has. sizes h bytes has (cases_eq f h); home = λ h inside. home h inside (cases_eq f h) }
   where
-    sizes : (h : ℕ) (bytes : List ℕ) → buffer' h ≡ Some bytes → (f ≡ h) ⊎ (f ≡ h → ⊥) → length bytes ≡ 512
+    sizes : (h : ℕ) (bytes : List ℕ) → buffer' h ≡ Some bytes → (f ≡ h) ⊎ (f ≡ h → ⊥) → length bytes ≡ PAGE_BYTES
     sizes h bytes has (inl same) = size bytes (sym put.here ∙ (ap buffer' same ∙ has))
     sizes h bytes has (inr apart) = old.sizes h bytes (sym (put.others h apart) ∙ has)
 

@@ -1,6 +1,7 @@
 -- Content at the opening.
 use Rattle.std.proofs.Common.{◌≡◌, ℕ, Bool, true, false, not, List, [], ◌&&◌, Option, Some, refl, sym, ap, ◌∙◌, None, arith, cond, replicate, slice_get}
 use Rattle.std.proofs.lemmas.Option.{none-some, same_Some}
+use Rattle.vm_types.specs.declared.limits.TheConstants.{PAGE_BYTES}
 use Rattle.vm_types.specs.BlockView.{BlockView}
 use Rattle.vm_types.specs.declared.names.Page.{Page}
 use Rattle.vm_types.specs.declared.names.Page.TheVariants.{Private, Shared}
@@ -37,6 +38,6 @@ opening_content tells tells_plan config buffer home buffers homes = record {
     lying told b x (Private p v) at_home lies = absurd (none-some b lies)
     lying told b x (Shared s i) at_home lies = go (paged_of (slice_get config.sections s.0)) lies
       where
-        go : (c : Bool) → cond c None (Some (block.Section s i)) ≡ Some b → x.content ≡ Some (cond (c && true) (cond c (replicate 512 0) (section_bytes config s.0 i)) (section_bytes config s.0 i))
+        go : (c : Bool) → cond c None (Some (block.Section s i)) ≡ Some b → x.content ≡ Some (cond (c && true) (cond c (replicate PAGE_BYTES 0) (section_bytes config s.0 i)) (section_bytes config s.0 i))
         go true lies = absurd (none-some b lies)
         go false lies = homes.first told s i x (ap home (same_Some _ _ lies) ∙ at_home)

@@ -2,6 +2,7 @@
 use Rattle.std.proofs.Common.{◌≡◌, ◌⊎◌, ℕ, ◌<◌, ◌&&◌, Bool, true, false, not, List, ◌∷◌, Option, Some, find, length, nat_eq, count_by, slice_get, refl, sym, ap, ◌∙◌, subst, inl, inr, arith}
 use Rattle.std.proofs.lemmas.Bool.{and_from, eq-eqb, false≢true, true≢false}
 use Rattle.std.proofs.lemmas.Option.{same_Some}
+use Rattle.vm_types.specs.declared.limits.TheConstants.{PAGE_BYTES}
 use Rattle.vm_types.specs.BlockView.{BlockView}
 use Rattle.vm_types.specs.Configuration.{IsBlock}
 use Rattle.vm_types.specs.declared.names.Page.{Page}
@@ -52,7 +53,7 @@ use Rattle.pager_rules.specs.Kept.{FitsDirection, FitsFlight, FitsFrame, FitsRea
 module _ (tells tells_plan : Bool) (config : Config) (past : List Entry) (a : Pager) (buffer buffer' : ℕ → Option (List ℕ)) (home home' : BlockId → Option BlockView) (fits : ContentFits tells tells_plan config past a buffer home)
     (maps : a.map ≡ (flat_after config past).map) (touches : a.touched ≡ (flat_after config past).touched) (k : ℕ) (x : Flight) (r : Role) (lift : Lift) (kept : IsKept config (quiet (open_flights past)) a)
     (found : find (starts k) (open_flights past) ≡ Some x) (reads : x.direction ≡ reading r) (fits_lift : FitsView tells (told_plan config tells_plan lift.block) x (flight_view config past a x lift.page) lift)
-    (known : IsBlock config x.block) (real : is_real config lift.page ≡ true) (size : length lift.buffer ≡ 512) (put : PutsBuffer x.frame (Some lift.buffer) buffer buffer') (back : PutsBlock x.block (Some lift.seen) home home')
+    (known : IsBlock config x.block) (real : is_real config lift.page ≡ true) (size : length lift.buffer ≡ PAGE_BYTES) (put : PutsBuffer x.frame (Some lift.buffer) buffer buffer') (back : PutsBlock x.block (Some lift.seen) home home')
     (state_of : ℕ → FrameState) (modify : ℕ → Bool) (lies : Page → Option BlockId) (states : (h : ℕ) → (x.frame ≡ h → ⊥) → state_of h ≡ a.state h) (marks : (h : ℕ) → (x.frame ≡ h → ⊥) → modify h ≡ a.modify h)
     (not_reading : is state.Reading (state_of x.frame) ≡ false) (less : (g : Page) (d : BlockId) → lies g ≡ Some d → a.lies g ≡ Some d)
     (filled : tells ≡ true → has_bytes (state_of x.frame) ≡ true → lift.buffer ≡ now config past lift.page) where
@@ -120,7 +121,7 @@ module _ (tells tells_plan : Bool) (config : Config) (past : List Entry) (a : Pa
 
   pub landed : Landed tells tells_plan config past k x lift.seen state_of a.page modify lies buffer' home'
   landed = record {
-    buffers = buffers_put config a.state state_of buffer buffer' f (Some lift.buffer) put (λ ys is. subst (λ (zs : List ℕ). length zs ≡ 512) (same_Some _ _ is) size) (sym (ap not not_reading)) states fits.buffers;
+    buffers = buffers_put config a.state state_of buffer buffer' f (Some lift.buffer) put (λ ys is. subst (λ (zs : List ℕ). length zs ≡ PAGE_BYTES) (same_Some _ _ is) size) (sym (ap not not_reading)) states fits.buffers;
     homes = homes_landed config home home' k x lift.seen flights found (starts_once past k) (kept.blocks x.block).flights known back fits.homes;
     held = λ told. held_move (now config past) (now config past) a.page a.page a.state state_of buffer buffer' f (λ h apart. (refl, states h apart, put.others h apart, λ g holds. refl))
         (λ g holds has. put.here ∙ ap Some (filled told has ∙ ap (now config past) (same_Some _ _ (sym fits_lift.held_page ∙ holds)))) (fits.held told);
@@ -138,7 +139,7 @@ module _ (tells tells_plan : Bool) (config : Config) (past : List Entry) (a : Pa
 -- ---- INOK and INFAIL, of the flight of a lift
 module _ (tells tells_plan : Bool) (config : Config) (past : List Entry) (a : Pager) (buffer buffer' : ℕ → Option (List ℕ)) (home home' : BlockId → Option BlockView)
     (maps : a.map ≡ (flat_after config past).map) (touches : a.touched ≡ (flat_after config past).touched) (kept : IsKept config (quiet (open_flights past)) a) (seat : Seat) (n : Pfn) (lift : Lift)
-    (fits_lift : FitsLift tells tells_plan config past a lift) (known : IsBlock config lift.block) (real : is_real config lift.page ≡ true) (size : length lift.buffer ≡ 512)
+    (fits_lift : FitsLift tells tells_plan config past a lift) (known : IsBlock config lift.block) (real : is_real config lift.page ≡ true) (size : length lift.buffer ≡ PAGE_BYTES)
     (put : PutsBuffer n.0 (Some lift.buffer) buffer buffer') (back : PutsBlock lift.block (Some lift.seen) home home') where
   abbrev x : Flight
   x = fits_lift.0

@@ -2,6 +2,7 @@
 use Rattle.std.proofs.Common.{◌≡◌, ℕ, ◌&&◌, Bool, true, false, cond, not, Option, Some, None, slice_get, refl, sym, ap, ap₂, ◌∙◌, replicate, subst}
 use Rattle.std.proofs.lemmas.Bool.{false≢true}
 use Rattle.std.proofs.lemmas.Option.{none-some, same_Some}
+use Rattle.vm_types.specs.declared.limits.TheConstants.{PAGE_BYTES}
 use Rattle.vm_types.specs.declared.names.Page.{Page}
 use Rattle.vm_types.specs.declared.names.SecId.{SecId}
 use Rattle.vm_types.specs.declared.names.Page.TheVariants.{Private, Shared}
@@ -81,7 +82,7 @@ first_behind config flat g p v s i mapped private behind untouched =
     go : (o : Option Mapped) → section_at o ≡ Some (block.Section s i) → bytes_at config flat (Private (proc p) v) o ≡ section_bytes config s.0 i
     go None section = absurd (none-some _ section)
     go (Some m) section = ap₂ (λ (t : Bool) (o : Origin). cond (true && not t) (first_bytes config o) (flat.stored (Private (proc p) v))) (ap (has_page flat.touched) (sym own) ∙ untouched) (origin_is m.origin s i section)
-        ∙ ap (λ (b : Bool). cond b (replicate 512 0) (section_bytes config s.0 i)) (unshared_file (slice_get config.sections s.0) (unshared_behind config flat.map g p v s i mapped private behind))
+        ∙ ap (λ (b : Bool). cond b (replicate PAGE_BYTES 0) (section_bytes config s.0 i)) (unshared_file (slice_get config.sections s.0) (unshared_behind config flat.map g p v s i mapped private behind))
 
 -- the same by the page's own place
 pub unshared_own : (config : Config) (map : Map) (g : Page) (s : SecId) (i : ℕ) → own_page config map g ≡ Some g → own_section map g ≡ Some (block.Section s i) → shared_of (slice_get config.sections s.0) ≡ false

@@ -3,6 +3,7 @@ use Rattle.std.proofs.Common.{◌≡◌, ℕ, ◌<◌, ◌&&◌, Bool, true, fal
 use Rattle.std.proofs.lemmas.Bool.{false_from_ne_true}
 use Rattle.std.proofs.lemmas.List.{length-replicate}
 use Rattle.std.proofs.lemmas.Option.{none-some, same_Some}
+use Rattle.vm_types.specs.declared.limits.TheConstants.{PAGE_BYTES}
 use Rattle.vm_types.specs.BlockView.{BlockView}
 use Rattle.vm_types.specs.declared.names.Page.{Page}
 use Rattle.vm_types.specs.declared.names.Pfn.{Pfn}
@@ -38,11 +39,11 @@ use Rattle.pager_rules.specs.Kept.{FitsFrame, IsKept}
 use Rattle.pager_rules.proofs.Pages.{zeroed_paged}
 use Rattle.content_laws.proofs.DoneContent.{bytes_now}
 
-first_zeros : (config : Config) (o : Origin) → is_zero_origin config o ≡ true → first_bytes config o ≡ replicate 512 0
+first_zeros : (config : Config) (o : Origin) → is_zero_origin config o ≡ true → first_bytes config o ≡ replicate PAGE_BYTES 0
 first_zeros config origin.Zero zeros = refl
-first_zeros config (origin.Section s i) zeros = ap (λ (b : Bool). cond b (replicate 512 0) (section_bytes config s.0 i)) zeros
+first_zeros config (origin.Section s i) zeros = ap (λ (b : Bool). cond b (replicate PAGE_BYTES 0) (section_bytes config s.0 i)) zeros
 
-untouched_bytes : (config : Config) (flat : FlatState) (p v : ℕ) (o : Option Mapped) → flat.map p v ≡ o → IsDemandZero config o → has_page flat.touched (zeroed_page config p v o) ≡ false → bytes_in config flat (zeroed_page config p v o) ≡ replicate 512 0
+untouched_bytes : (config : Config) (flat : FlatState) (p v : ℕ) (o : Option Mapped) → flat.map p v ≡ o → IsDemandZero config o → has_page flat.touched (zeroed_page config p v o) ≡ false → bytes_in config flat (zeroed_page config p v o) ≡ replicate PAGE_BYTES 0
 untouched_bytes config flat p v None mapped demand out = absurd demand
 untouched_bytes config flat p v (Some m) mapped demand out =
     bytes_now config flat p v m (page_behind config p v m.origin) mapped refl
@@ -51,11 +52,11 @@ untouched_bytes config flat p v (Some m) mapped demand out =
 
 module _ (tells tells_plan : Bool) (config : Config) (past : List Entry) (a : Pager) (buffer buffer' : ℕ → Option (List ℕ)) (home : BlockId → Option BlockView) where
   pub zero_content : (seat : Seat) (address : Addr) (f : Pfn) → IsKept config (quiet (open_flights past)) a → a.map ≡ (flat_after config past).map → a.touched ≡ (flat_after config past).touched → IsZero config a seat.0 address.0 f.0
-      → PutsBuffer f.0 (Some (replicate 512 0)) buffer buffer' → ContentFits tells tells_plan config past a buffer home
+      → PutsBuffer f.0 (Some (replicate PAGE_BYTES 0)) buffer buffer' → ContentFits tells tells_plan config past a buffer home
       → ContentFits tells tells_plan config (record { seat = seat; what = what.Zero address f } ∷ past) (after_zero config a seat.0 address.0 f.0) buffer' home
   zero_content seat address f kept maps touches legal put fits = record {
-    buffers = buffers_put config a.state b.state buffer buffer' n (Some (replicate 512 0)) put
-        (λ ys is. subst (λ (zs : List ℕ). length zs ≡ 512) (same_Some _ _ is) (length-replicate {A = ℕ} 512 0))
+    buffers = buffers_put config a.state b.state buffer buffer' n (Some (replicate PAGE_BYTES 0)) put
+        (λ ys is. subst (λ (zs : List ℕ). length zs ≡ PAGE_BYTES) (same_Some _ _ is) (length-replicate {A = ℕ} PAGE_BYTES 0))
         (sym (ap (λ (s : FrameState). not (is state.Reading s)) (at_number_same a.state n state.Active))) (λ h apart. at_number_other a.state n state.Active h apart) fits.buffers;
     homes = fits.homes;
     held = λ told. held_move (now config past) (now config (e ∷ past)) a.page b.page a.state b.state buffer buffer' n
@@ -98,5 +99,5 @@ module _ (tells tells_plan : Bool) (config : Config) (past : List Entry) (a : Pa
       untouched : has_page (flat_after config past).touched x ≡ false
       untouched = subst (λ (ys : List Page). has_page ys x ≡ false) touches (false_from_ne_true (has_page a.touched x) (λ has. omega (arith, count_from_has a.touched x has, (kept.pages x).touched, legal.not_charged)))
 
-      now_zero : now config past x ≡ replicate 512 0
+      now_zero : now config past x ≡ replicate PAGE_BYTES 0
       now_zero = untouched_bytes config (flat_after config past) seat.0 v (a.map seat.0 v) (ap (λ (map : Map). map seat.0 v) (sym maps)) legal.demand_zero untouched

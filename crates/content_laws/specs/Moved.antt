@@ -1,5 +1,6 @@
 -- What each kind of entry does to the buffers of frames and to the blocks at home. This project's own.
 use Rattle.std.specs.Prelude.{◌≡◌, ℕ, Bool, List, Option, Some, None, length, replicate}
+use Rattle.vm_types.specs.declared.limits.TheConstants.{PAGE_BYTES}
 use Rattle.vm_types.specs.BlockView.{BlockView}
 use Rattle.vm_types.specs.declared.names.BlockId.{BlockId}
 use Rattle.vm_types.specs.declared.config.Config.{Config}
@@ -37,13 +38,13 @@ pub record BringsBlock (tells tells_plan : Bool) (config : Config) (past : List 
 -- and of a read the buffer too, with the bytes that the lift has
 pub record BringsBuffer (tells tells_plan : Bool) (config : Config) (past : List Entry) (a : Pager) (f k : ℕ) (result : Result) (buffer buffer' : ℕ → Option (List ℕ)) (home home' : BlockId → Option BlockView) : Type 0 where
   pub block : BringsBlock tells tells_plan config past a k result home home'
-  pub size : length (block.lift).buffer ≡ 512
+  pub size : length (block.lift).buffer ≡ PAGE_BYTES
   pub put : PutsBuffer f (Some (block.lift).buffer) buffer buffer'
 
 -- by its kind: an operation is applied, a page is zeroed, a transfer begins or lands, or nothing moves
 abbrev pub Moves : Bool → Bool → Config → List Entry → Pager → ℕ → What → (ℕ → Option (List ℕ)) → (ℕ → Option (List ℕ)) → (BlockId → Option BlockView) → (BlockId → Option BlockView) → Type 0
 Moves tells tells_plan config past a p (what.Done r answer) buffer buffer' home home' = AppliesOperation a p r buffer buffer' × (home' ≡ home)
-Moves tells tells_plan config past a p (what.Zero address f) buffer buffer' home home' = PutsBuffer f.0 (Some (replicate 512 0)) buffer buffer' × (home' ≡ home)
+Moves tells tells_plan config past a p (what.Zero address f) buffer buffer' home home' = PutsBuffer f.0 (Some (replicate PAGE_BYTES 0)) buffer buffer' × (home' ≡ home)
 Moves tells tells_plan config past a p (what.In f b role) buffer buffer' home home' = PutsBuffer f.0 None buffer buffer' × PutsBlock b None home home'
 Moves tells tells_plan config past a p (what.InOk f k) buffer buffer' home home' = BringsBuffer tells tells_plan config past a f.0 k good buffer buffer' home home'
 Moves tells tells_plan config past a p (what.InFail f k c d) buffer buffer' home home' = BringsBuffer tells tells_plan config past a f.0 k (bad c d) buffer buffer' home home'

@@ -1,6 +1,7 @@
 -- Buffers and blocks at the opening. This project's own.
 use Rattle.std.specs.Prelude.{◌≡◌, ◌<◌, ℕ, Bool, true, List, Option, Some, length}
 use Rattle.std.specs.Option.{is_some}
+use Rattle.vm_types.specs.declared.limits.TheConstants.{PAGE_BYTES}
 use Rattle.vm_types.specs.BlockView.{BlockView}
 use Rattle.vm_types.specs.Configuration.{IsBlock}
 use Rattle.vm_types.specs.declared.names.SecId.{SecId}
@@ -12,7 +13,7 @@ use Rattle.pager_model.specs.CountedBlock.{told_plan}
 
 -- each frame's buffer is home and has a page's length
 pub record HasNewBuffers (config : Config) (buffer : ℕ → Option (List ℕ)) : Type 0 where
-  pub sizes : (f : ℕ) (bytes : List ℕ) → buffer f ≡ Some bytes → length bytes ≡ 512
+  pub sizes : (f : ℕ) (bytes : List ℕ) → buffer f ≡ Some bytes → length bytes ≡ PAGE_BYTES
   pub home : (f : ℕ) → f < config.frames → is_some (buffer f) ≡ true
 
 -- a block that was never called, with the plan that the configuration gives it

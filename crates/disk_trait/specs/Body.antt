@@ -1,5 +1,6 @@
 -- What a block in memory holds. Source: this project's own.
 use Rattle.std.specs.Prelude.{ℕ, List, [], replicate}
+use Rattle.vm_types.specs.declared.limits.TheConstants.{PAGE_BYTES}
 use Rattle.disk_trait.specs.declared.body.Place.{Place}
 use Rattle.disk_trait.specs.declared.body.Place.TheVariants as place
 
@@ -15,7 +16,7 @@ pub record BodyView : Type 0 where
 abbrev pub bytes_at : Place → List ℕ
 bytes_at (place.Buffer buf) = buf.bytes
 bytes_at (place.Planned planned) = planned.value.buf.bytes
-bytes_at other = replicate 512 0
+bytes_at other = replicate PAGE_BYTES 0
 
 -- the numbers of the calls that fail, if there are any
 abbrev pub calls_at : Place → List ℕ

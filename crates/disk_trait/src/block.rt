@@ -1,4 +1,5 @@
 ghost use Rattle.std.specs.Prelude.{◌≡◌, ◌+◌, ◌-◌, ◌^◌, ◌<◌, length, is_some, OnOk, OnErr};
+ghost use Rattle.vm_types.specs.declared.limits.TheConstants.{PAGE_BYTES};
 ghost use Rattle.vm_types.specs.BlockView.{BlockView, Tells};
 ghost use Rattle.disk_trait.specs.Told.{told, IsAnyContent};
 
@@ -19,7 +20,7 @@ pub trait Block: Send + Drop {
     /// # Errors
     /// `Failed` where the block failed. It has its content still, and the buffer any bytes.
     fn read(&mut self, buf: &mut [u8]) -> Result<(), Failed>
-        requires size { length buf.old ≡ 512 }
+        requires size { length buf.old ≡ PAGE_BYTES }
         requires few_calls { (seen self.old).reads + (seen self.old).writes < 2 ^ 48 }
         ensures bytes { OnOk result ((seen self.old).content ≡ told tells.content buf.new) }
         ensures content { (seen self.new).content ≡ (seen self.old).content }
@@ -34,7 +35,7 @@ pub trait Block: Send + Drop {
     /// # Errors
     /// `Failed` where the block failed. It then has any 512 bytes.
     fn write(&mut self, bytes: &[u8]) -> Result<(), Failed>
-        requires size { length bytes.now ≡ 512 }
+        requires size { length bytes.now ≡ PAGE_BYTES }
         requires few_calls { (seen self.old).reads + (seen self.old).writes < 2 ^ 48 }
         ensures content { OnOk result ((seen self.new).content ≡ told tells.content bytes.now) }
         ensures torn { OnErr result (IsAnyContent tells.content (seen self.new).content) }

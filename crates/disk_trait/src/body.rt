@@ -1,4 +1,5 @@
 ghost use Rattle.std.specs.Prelude.{◌≡◌, ◌+◌, ◌-◌, ◌^◌, ◌<◌, ◌++◌, ◌↔◌, [], length, replicate, take, drop, IfOk, OnOk, OnErr, IsErr, Contains};
+ghost use Rattle.vm_types.specs.declared.limits.TheConstants.{PAGE_BYTES};
 ghost use Rattle.disk_trait.specs.Body.{IsSpare};
 
 use crate::planned_buf::PlannedBuf;
@@ -44,7 +45,7 @@ impl Model for Body {
       faults = faults_at b.place;
     } };
 
-    ghost invariant = { λ b. (length (bytes_at b.place) ≡ 512) × IsThere b.place };
+    ghost invariant = { λ b. (length (bytes_at b.place) ≡ PAGE_BYTES) × IsThere b.place };
 }
 
 impl Body {
@@ -53,7 +54,7 @@ impl Body {
     /// # Errors
     /// `NoMemory` for want of memory.
     pub(crate) fn zeros(alloc: Global, spare: SpareBuf, calls: &[u32]) -> Result<Body, NoMemory>
-        ensures { IfOk result (λ b. b ≡ record { bytes = replicate 512 0; calls = calls.now; faults = 0 }) }
+        ensures { IfOk result (λ b. b ≡ record { bytes = replicate PAGE_BYTES 0; calls = calls.now; faults = 0 }) }
     {
         if calls.is_empty() {
             return Ok(Body {
@@ -73,7 +74,7 @@ impl Body {
         bytes: &[u8],
         calls: &[u32],
     ) -> Result<Body, NoMemory>
-        requires { length bytes.now ≡ 512 }
+        requires { length bytes.now ≡ PAGE_BYTES }
         ensures { IfOk result (λ b. b ≡ record { bytes = bytes.now; calls = calls.now; faults = 0 }) }
     {
         if bytes == ZEROS.as_slice() {
@@ -93,7 +94,7 @@ impl Body {
     /// # Errors
     /// `NoMemory` for want of memory.
     fn planned(alloc: Global, buf: PageBuf, calls: &[u32]) -> Result<Body, NoMemory>
-        requires { length buf.bytes ≡ 512 }
+        requires { length buf.bytes ≡ PAGE_BYTES }
         ensures { IfOk result (λ b. b ≡ record { bytes = buf.bytes; calls = calls.now; faults = 0 }) }
     {
         let planned = PlannedBuf::new(alloc, buf, calls)?;
@@ -108,7 +109,7 @@ impl Body {
     /// Its 512 bytes.
     pub(crate) fn bytes(&self) -> &[u8]
         ensures bytes { result.now ≡ self.now.bytes }
-        ensures size { length result.now ≡ 512 }
+        ensures size { length result.now ≡ PAGE_BYTES }
     {
         match &self.place {
             Place::Buffer(buf) => buf.bytes(),
@@ -132,7 +133,7 @@ impl Body {
     /// # Errors
     /// `Failed` where that call is to fail.
     pub(crate) fn read(&mut self, call: u64, into: &mut [u8]) -> Result<(), Failed>
-        requires size { length into.old ≡ 512 }
+        requires size { length into.old ≡ PAGE_BYTES }
         requires few_faults { self.old.faults < 2 ^ 64 - 1 }
         ensures fails { IsErr result ↔ Contains self.old.calls call }
         ensures read { OnOk result (into.new ≡ self.old.bytes) }
@@ -154,12 +155,12 @@ impl Body {
     /// # Errors
     /// `Failed` where that call is to fail. It leaves the first 256 bytes new and the rest old.
     pub(crate) fn write(&mut self, call: u64, bytes: &[u8]) -> Result<(), Failed>
-        requires size { length bytes.now ≡ 512 }
+        requires size { length bytes.now ≡ PAGE_BYTES }
         requires few_faults { self.old.faults < 2 ^ 64 - 1 }
         ensures fails { IsErr result ↔ Contains self.old.calls call }
         ensures bytes { OnOk result (self.new.bytes ≡ bytes.now) }
         ensures torn { OnErr result (self.new.bytes ≡ take 256 bytes.now ++ drop 256 self.old.bytes) }
-        ensures size { length self.new.bytes ≡ 512 }
+        ensures size { length self.new.bytes ≡ PAGE_BYTES }
         ensures calls { self.new.calls ≡ self.old.calls }
         ensures ok { OnOk result (self.new.faults ≡ self.old.faults) }
         ensures failed { OnErr result (self.new.faults ≡ self.old.faults + 1) }
@@ -181,8 +182,8 @@ impl Body {
 
 /// The bytes of a buffer that wasn't written.
 fn zero_bytes() -> &'static [u8]
-    ensures bytes { result.now ≡ replicate 512 0 }
-    ensures size { length result.now ≡ 512 }
+    ensures bytes { result.now ≡ replicate PAGE_BYTES 0 }
+    ensures size { length result.now ≡ PAGE_BYTES }
 {
     &ZEROS
 }
@@ -200,7 +201,7 @@ fn spare_at(place: Place) -> SpareBuf
 /// A buffer of the part, with these bytes.
 #[inline(never)]
 fn filled(spare: SpareBuf, bytes: &[u8]) -> PageBuf
-    requires { length bytes.now ≡ 512 }
+    requires { length bytes.now ≡ PAGE_BYTES }
     ensures { result.bytes ≡ bytes.now }
 {
     let mut buf = spare.fill();

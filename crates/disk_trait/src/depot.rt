@@ -1,4 +1,5 @@
 ghost use Rattle.std.specs.Prelude.{◌≡◌, ℕ, ◌+◌, ◌<◌, ◌≤◌, [], ◌∷◌, ◌++◌, length, map, replicate, take, OnOk, OnErr, IfOk, IsErrOf};
+ghost use Rattle.vm_types.specs.declared.limits.TheConstants.{PAGE_BYTES};
 ghost use Rattle.vm_types.specs.Counts.{Rose};
 ghost use Rattle.disk_trait.specs.DepotView.{DepotView, given_back};
 ghost use Rattle.disk_trait.specs.Told.{told};
@@ -53,7 +54,7 @@ pub trait Depot {
     /// # Errors
     /// `NoMemory` for want of memory, `Failed` where the depot failed.
     fn make(&mut self, id: BlockId, bytes: &[u8], fails: &[u32]) -> Result<Self::Block, MakeFault>
-        requires { length bytes.now ≡ 512 }
+        requires { length bytes.now ≡ PAGE_BYTES }
         ensures content { IfOk result (λ b. (Self.Block.seen b).content ≡ told Self.Block.tells.content bytes.now) }
         ensures plan { IfOk result (λ b. (Self.Block.seen b).plan ≡ told Self.Block.tells.plan fails.now) }
         ensures reads { IfOk result (λ b. (Self.Block.seen b).reads ≡ 0) }
@@ -68,7 +69,7 @@ pub trait Depot {
     /// # Errors
     /// `NoMemory` for want of memory, `Failed` where the depot failed.
     fn make_zeros(&mut self, id: BlockId, fails: &[u32]) -> Result<Self::Block, MakeFault>
-        ensures content { IfOk result (λ b. (Self.Block.seen b).content ≡ told Self.Block.tells.content (replicate 512 0)) }
+        ensures content { IfOk result (λ b. (Self.Block.seen b).content ≡ told Self.Block.tells.content (replicate PAGE_BYTES 0)) }
         ensures plan { IfOk result (λ b. (Self.Block.seen b).plan ≡ told Self.Block.tells.plan fails.now) }
         ensures reads { IfOk result (λ b. (Self.Block.seen b).reads ≡ 0) }
         ensures writes { IfOk result (λ b. (Self.Block.seen b).writes ≡ 0) }

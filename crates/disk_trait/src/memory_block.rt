@@ -1,4 +1,5 @@
 ghost use Rattle.std.specs.Prelude.{◌≡◌, ◌+◌, ◌^◌, ◌<◌, ◌≤◌, ◌++◌, ◌↔◌, length, take, drop, true, refl, IsErr, OnOk, OnErr};
+ghost use Rattle.vm_types.specs.declared.limits.TheConstants.{PAGE_BYTES};
 
 use crate::block::Block;
 use crate::body::Body;
@@ -11,7 +12,7 @@ pub struct MemoryBlock {
     reads: u64,
     writes: u64,
     body: Body,
-    ghost whole: { length body.bytes ≡ 512 },
+    ghost whole: { length body.bytes ≡ PAGE_BYTES },
     ghost few_calls: { reads + writes ≤ 2 ^ 48 },
     ghost few_faults: { body.faults ≤ reads + writes },
 }
@@ -21,7 +22,7 @@ impl MemoryBlock {
 
     /// A block of these bytes and calls, not read or written so far.
     pub(crate) fn new(body: Body) -> MemoryBlock
-        requires whole { length body.bytes ≡ 512 }
+        requires whole { length body.bytes ≡ PAGE_BYTES }
         requires unused { body.faults ≡ 0 }
         ensures bytes { bytes_of result ≡ body.bytes }
         ensures plan { plan_of result ≡ body.calls }
@@ -39,7 +40,7 @@ impl MemoryBlock {
     /// Its 512 bytes. Takes no memory.
     pub fn bytes(&self) -> &[u8]
         ensures bytes { result.now ≡ bytes_of self.now }
-        ensures size { length result.now ≡ 512 }
+        ensures size { length result.now ≡ PAGE_BYTES }
     {
         self.body.bytes()
     }
@@ -75,7 +76,7 @@ impl Block for MemoryBlock {
     ghost few_faults = { λ b. lt_of_le_of_lt (le_trans b.few_faults b.few_calls) (lit< tt) };
 
     fn read(&mut self, buf: &mut [u8]) -> Result<(), Failed>
-        requires size { length buf.old ≡ 512 }
+        requires size { length buf.old ≡ PAGE_BYTES }
         requires few_calls { reads_of self.old + writes_of self.old < 2 ^ 48 }
         ensures fails { IsErr result ↔ IsDueToFail self.old }
         ensures bytes { OnOk result (buf.new ≡ bytes_of self.old) }
@@ -92,7 +93,7 @@ impl Block for MemoryBlock {
 
     /// A write that fails leaves the first 256 bytes new and the rest old.
     fn write(&mut self, bytes: &[u8]) -> Result<(), Failed>
-        requires size { length bytes.now ≡ 512 }
+        requires size { length bytes.now ≡ PAGE_BYTES }
         requires few_calls { reads_of self.old + writes_of self.old < 2 ^ 48 }
         ensures fails { IsErr result ↔ IsDueToFail self.old }
         ensures content { OnOk result (bytes_of self.new ≡ bytes.now) }

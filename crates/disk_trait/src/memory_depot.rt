@@ -1,4 +1,5 @@
 ghost use Rattle.std.specs.Prelude.{◌≡◌, ◌+◌, ◌-◌, ◌^◌, ◌<◌, ◌≤◌, ◌↔◌, [], ◌∷◌, ◌++◌, length, min, map, IsSome, IfSome, IfOk, IsErrOf, OnOk, OnErr, Contains, replicate};
+ghost use Rattle.vm_types.specs.declared.limits.TheConstants.{PAGE_BYTES};
 
 use crate::block::Block;
 use crate::body::Body;
@@ -117,7 +118,7 @@ impl Depot for MemoryDepot {
     ghost known = { λ _. refl };
 
     fn make(&mut self, id: BlockId, bytes: &[u8], fails: &[u32]) -> Result<MemoryBlock, MakeFault>
-        requires { length bytes.now ≡ 512 }
+        requires { length bytes.now ≡ PAGE_BYTES }
         ensures block { IfOk result (IsNew bytes.now fails.now) }
         ensures counts { CountsCall self.old self.new result }
     {
@@ -128,7 +129,7 @@ impl Depot for MemoryDepot {
 
     /// A call of it counts as one of `make`.
     fn make_zeros(&mut self, _id: BlockId, fails: &[u32]) -> Result<MemoryBlock, MakeFault>
-        ensures block { IfOk result (IsNew (replicate 512 0) fails.now) }
+        ensures block { IfOk result (IsNew (replicate PAGE_BYTES 0) fails.now) }
         ensures counts { CountsCall self.old self.new result }
     {
         let spare = self.next_spare()?;

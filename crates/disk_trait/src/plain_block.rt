@@ -1,4 +1,5 @@
 ghost use Rattle.std.specs.Prelude.{◌≡◌, ◌^◌, ◌<◌, length, true, false, refl, IfOk};
+ghost use Rattle.vm_types.specs.declared.limits.TheConstants.{PAGE_BYTES};
 
 use crate::block::Block;
 use std::alloc::Global;
@@ -10,7 +11,7 @@ pub struct PlainBlock {
     bytes: Vec<u8>,
     reads: u64,
     writes: u64,
-    ghost whole: { length bytes.items ≡ 512 },
+    ghost whole: { length bytes.items ≡ PAGE_BYTES },
 }
 
 impl PlainBlock {
@@ -21,7 +22,7 @@ impl PlainBlock {
     /// # Errors
     /// `NoMemory` for want of memory.
     pub(crate) fn new(alloc: Global, bytes: &[u8]) -> Result<PlainBlock, NoMemory>
-        requires { length bytes.now ≡ 512 }
+        requires { length bytes.now ≡ PAGE_BYTES }
         ensures bytes { IfOk result (λ b. bytes_of b ≡ bytes.now) }
         ensures reads { IfOk result (λ b. reads_of b ≡ 0) }
         ensures writes { IfOk result (λ b. writes_of b ≡ 0) }

@@ -1,4 +1,5 @@
 ghost use Rattle.std.specs.Prelude.{◌≡◌, ◌+◌, ◌-◌, ◌^◌, ◌<◌, ◌++◌, ◌↔◌, length, take, drop, IfOk, OnOk, OnErr, IsTrue, IsErr, Contains, if◌then◌else◌};
+ghost use Rattle.vm_types.specs.declared.limits.TheConstants.{PAGE_BYTES};
 
 use page_pool::PageBuf;
 use std::alloc::Global;
@@ -33,7 +34,7 @@ impl PlannedBuf {
     /// Its 512 bytes.
     pub(crate) fn bytes(&self) -> &[u8]
         ensures bytes { result.now ≡ self.now.buf.bytes }
-        ensures size { length result.now ≡ 512 }
+        ensures size { length result.now ≡ PAGE_BYTES }
     {
         self.buf.bytes()
     }
@@ -50,7 +51,7 @@ impl PlannedBuf {
     /// # Errors
     /// `Failed` where that call is to fail.
     pub(crate) fn read(&mut self, call: u64, into: &mut [u8]) -> Result<(), Failed>
-        requires size { length into.old ≡ 512 }
+        requires size { length into.old ≡ PAGE_BYTES }
         requires few_faults { self.old.faults < 2 ^ 64 - 1 }
         ensures fails { IsErr result ↔ Contains self.old.calls.items call }
         ensures read { OnOk result (into.new ≡ self.old.buf.bytes) }
@@ -71,12 +72,12 @@ impl PlannedBuf {
     /// # Errors
     /// `Failed` where that call is to fail. It leaves the first 256 bytes new and the rest old.
     pub(crate) fn write(&mut self, call: u64, bytes: &[u8]) -> Result<(), Failed>
-        requires size { length bytes.now ≡ 512 }
+        requires size { length bytes.now ≡ PAGE_BYTES }
         requires few_faults { self.old.faults < 2 ^ 64 - 1 }
         ensures fails { IsErr result ↔ Contains self.old.calls.items call }
         ensures bytes { OnOk result (self.new.buf.bytes ≡ bytes.now) }
         ensures torn { OnErr result (self.new.buf.bytes ≡ take 256 bytes.now ++ drop 256 self.old.buf.bytes) }
-        ensures size { length self.new.buf.bytes ≡ 512 }
+        ensures size { length self.new.buf.bytes ≡ PAGE_BYTES }
         ensures calls { self.new.calls.items ≡ self.old.calls.items }
         ensures ok { OnOk result (self.new.faults ≡ self.old.faults) }
         ensures failed { OnErr result (self.new.faults ≡ self.old.faults + 1) }
@@ -118,10 +119,10 @@ pub fn is_due(fails: &[u32], call: u64) -> bool
 /// Doesn't allocate.
 #[inline]
 pub fn write_half(block: &mut [u8], bytes: &[u8])
-    requires block_size { length block.old ≡ 512 }
-    requires size { length bytes.now ≡ 512 }
+    requires block_size { length block.old ≡ PAGE_BYTES }
+    requires size { length bytes.now ≡ PAGE_BYTES }
     ensures bytes { block.new ≡ take 256 bytes.now ++ drop 256 block.old }
-    ensures size { length block.new ≡ 512 }
+    ensures size { length block.new ≡ PAGE_BYTES }
 {
     block[..256].copy_from_slice(&bytes[..256]);
 }

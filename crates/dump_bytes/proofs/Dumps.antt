@@ -2,6 +2,7 @@
 use Rattle.std.proofs.Common.{◌≡◌, ℕ, ◌-◌, ◌^◌, ◌<◌, ◌≤◌, List, [], ◌∷◌, ◌++◌, length, map, refl, sym, ap, subst, ◌∙◌, append_assoc, lit<, arith}
 use Rattle.std.specs.Prelude.{codes}
 use Rattle.std.specs.List.{flat_map, AllByRecursion}
+use Rattle.vm_types.specs.declared.limits.TheConstants.{MOST_FRAMES}
 use Rattle.dump_bytes.specs.Dumped.{Dumped}
 use Rattle.dump_bytes.specs.Text.{number, frame_text, process_text, dump_text}
 use Rattle.dump_bytes.specs.Bounds.{IsFrame, IsProcess, IsDump, Ascends}
@@ -19,7 +20,7 @@ same x = x
 abbrev Any : ℕ → Type 0
 Any x = Unit {0}
 
-reads_flight : (low high : ℕ) → low < high → high ≤ 16384 → Reads (rising_number_at low high) number (IsBetween same Any low high)
+reads_flight : (low high : ℕ) → low < high → high ≤ MOST_FRAMES → Reads (rising_number_at low high) number (IsBetween same Any low high)
 reads_flight low high lt le =
     reads_as number (IsWithin low (high - 1)) (IsBetween same Any low high) (rising_number_at low high)
     (λ x i. let t = i.to in record { is_ok = tt; from = i.from; below = omega arith })
@@ -45,7 +46,7 @@ all_any (x ∷ xs) = (tt, all_any xs)
 abbrev AreParts : DumpParts → Type 0
 AreParts p =
     let n = p.1.0 in
-    (p.0 ≡ codes "VMSDUMP1") × (IsWithin 8 16384 n × (IsWithin 0 n p.1.1.0 × (IsWithin 0 n p.1.1.1.0 × (IsWithin 1 16 p.1.1.1.1.0
+    (p.0 ≡ codes "VMSDUMP1") × (IsWithin 8 MOST_FRAMES n × (IsWithin 0 n p.1.1.0 × (IsWithin 0 n p.1.1.1.0 × (IsWithin 1 16 p.1.1.1.1.0
     × (IsWithin 0 (2 ^ 32 - 1) p.1.1.1.1.1.0 × (IsWithin 0 (2 ^ 32 - 1) p.1.1.1.1.1.1.0 × (IsWithin 0 (2 ^ 32 - 1) p.1.1.1.1.1.1.1.0
     × (AreItems (IsFrame p.1.1.1.1.0) n p.1.1.1.1.1.1.1.1.0 × (AreItems (IsWithin 0 (n - 1)) p.1.1.0 p.1.1.1.1.1.1.1.1.1.0
     × (AreItems (IsWithin 0 (n - 1)) p.1.1.1.0 p.1.1.1.1.1.1.1.1.1.1.0 × (AreItems (IsProcess n) p.1.1.1.1.0 p.1.1.1.1.1.1.1.1.1.1.1.0
@@ -180,7 +181,7 @@ dump_made d i =
 pub reads_dump : Reads dump_at dump_text IsDump
 reads_dump =
     reads_made dumped_from _ _ dump_text IsDump same_text dump_is dump_made
-    _ (reads_both _ _ _ _ _ _ (reads_letters (codes "VMSDUMP1")) (λ t _. reads_both _ _ _ _ _ _ (reads_number 4 8 16384 (omega arith) (lit< tt)) (λ n i.
+    _ (reads_both _ _ _ _ _ _ (reads_letters (codes "VMSDUMP1")) (λ t _. reads_both _ _ _ _ _ _ (reads_number 4 8 MOST_FRAMES (omega arith) (lit< tt)) (λ n i.
     let n_from = i.from in
     let n_to = i.to in
     reads_both _ _ _ _ _ _ (reads_number 4 0 n (omega arith) (omega arith)) (λ f _. reads_both _ _ _ _ _ _ (reads_number 4 0 n (omega arith) (omega arith)) (λ m _.

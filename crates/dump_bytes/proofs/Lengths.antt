@@ -5,6 +5,7 @@ use Rattle.dump_bytes.specs.Dumped.{Process, Dumped}
 use Rattle.dump_bytes.specs.Text.{number, frame_text, slot_text, word_text, process_text, head_text, dump_text}
 use Rattle.dump_bytes.specs.Bounds.{IsProcess, IsDump}
 use Rattle.std.specs.Prelude.{codes}
+use Rattle.vm_types.specs.declared.limits.TheConstants.{MOST_EXTENT, MOST_FRAMES}
 
 -- so many texts of at most so many bytes each
 texts-le : {A : Type 0} (text : A → List ℕ) (Is : A → Type 0) (most : ℕ) → ((x : A) → Is x → length (text x) ≤ most)
@@ -36,7 +37,7 @@ process-le frames p is =
     let few_slots = is.few_slots.1 in
     let few_words = is.few_words in
     process_parts-le ((p.status ∷ 0 ∷ 0 ∷ 0 ∷ []) ++ number (length p.slots) ++ number p.hand ++ number p.limit) (flat_map slot_text p.slots) (number (length p.words)) (flat_map word_text p.words)
-    refl (rows-le slot_text 8 (λ x. lit≤ tt) 1024 p.slots few_slots) refl (rows-le word_text 8 (λ x. lit≤ tt) 1024 p.words (omega arith))
+    refl (rows-le slot_text 8 (λ x. lit≤ tt) MOST_EXTENT p.slots few_slots) refl (rows-le word_text 8 (λ x. lit≤ tt) MOST_EXTENT p.words (omega arith))
 
 dump_parts-le : (head frames free modified procs count flights : List ℕ) → length head ≡ 36 → length frames ≤ 327680 → length free ≤ 65536 → length modified ≤ 65536 → length procs ≤ 262464
     → length count ≡ 4 → length flights ≤ 65536 → length (head ++ frames ++ free ++ modified ++ procs ++ count ++ flights) ≤ 786792
@@ -59,5 +60,5 @@ dump-le d is =
     let modified = is.modified.few in
     let flights = is.flights.few in
     dump_parts-le (codes "VMSDUMP1" ++ head_text d) (flat_map frame_text d.frames) (flat_map number d.free) (flat_map number d.modified) (flat_map process_text d.procs) (number (length d.flights)) (flat_map number d.flights)
-    refl (rows-le frame_text 20 (λ x. lit≤ tt) 16384 d.frames n) (rows-le number 4 (λ x. lit≤ tt) 16384 d.free (omega arith)) (rows-le number 4 (λ x. lit≤ tt) 16384 d.modified (omega arith))
-    (texts-le process_text (IsProcess (length d.frames)) 16404 (process-le (length d.frames)) 16 d.procs is.each_process p) refl (rows-le number 4 (λ x. lit≤ tt) 16384 d.flights (omega arith))
+    refl (rows-le frame_text 20 (λ x. lit≤ tt) MOST_FRAMES d.frames n) (rows-le number 4 (λ x. lit≤ tt) MOST_FRAMES d.free (omega arith)) (rows-le number 4 (λ x. lit≤ tt) MOST_FRAMES d.modified (omega arith))
+    (texts-le process_text (IsProcess (length d.frames)) 16404 (process-le (length d.frames)) 16 d.procs is.each_process p) refl (rows-le number 4 (λ x. lit≤ tt) MOST_FRAMES d.flights (omega arith))

@@ -3,6 +3,7 @@ use Rattle.std.proofs.Common.{◌≡◌, ℕ, ◌-◌, ◌^◌, ◌<◌, ◌≤�
 use Rattle.std.specs.Prelude.{◌==◌, nat_lt}
 use Rattle.std.specs.List.{flat_map, AllByRecursion}
 use Rattle.std.proofs.lemmas.Bool.{ltb-true, lt-ltb, eqb-true, eq-eqb}
+use Rattle.vm_types.specs.declared.limits.TheConstants.{MOST_EXTENT, MOST_FRAMES}
 use Rattle.dump_bytes.specs.declared.dump.SlotRec.{SlotRec}
 use Rattle.dump_bytes.specs.Dumped.{Process}
 use Rattle.dump_bytes.specs.Text.{number, slot_text, word_text, process_text}
@@ -19,7 +20,7 @@ use Rattle.dump_bytes.proofs.Words.{reads_word}
 abbrev vpn_of : ℕ × ℕ → ℕ
 vpn_of w = w.0
 
-pub reads_entry : (frames low high : ℕ) → 0 < frames → frames ≤ 16384 → low < high → high ≤ 4194304 → Reads (entry_at frames low high) word_text (IsBetween vpn_of (IsValidEntry frames) low high)
+pub reads_entry : (frames low high : ℕ) → 0 < frames → frames ≤ MOST_FRAMES → low < high → high ≤ 4194304 → Reads (entry_at frames low high) word_text (IsBetween vpn_of (IsValidEntry frames) low high)
 reads_entry frames low high some few lt le =
     reads_as word_text (λ w. IsWithin low (high - 1) w.0 × IsValidWord frames w.1) (IsBetween vpn_of (IsValidEntry frames) low high) (entry_at frames low high)
     (λ w i. let f = i.0.from in let t = i.0.to in record { is_ok = record { vpn = omega arith; word = i.1 }; from = f; below = omega arith })
@@ -34,7 +35,7 @@ process_from p = record { status = p.0; hand = p.1.1.1.0; limit = p.1.1.1.1.0; s
 
 abbrev AreParts : ℕ → Parts → Type 0
 AreParts frames p =
-    (nat_lt p.0 4 ≡ true) × (AreZeros p.1.0 × (IsWithin 1 1024 p.1.1.0 × (IsWithin 0 (p.1.1.0 - 1) p.1.1.1.0 × (IsWithin 0 (2 ^ 32 - 1) p.1.1.1.1.0
+    (nat_lt p.0 4 ≡ true) × (AreZeros p.1.0 × (IsWithin 1 MOST_EXTENT p.1.1.0 × (IsWithin 0 (p.1.1.0 - 1) p.1.1.1.0 × (IsWithin 0 (2 ^ 32 - 1) p.1.1.1.1.0
     × (AreItems IsSlot p.1.1.0 p.1.1.1.1.1.0 × (IsWithin 0 p.1.1.0 p.1.1.1.1.1.1.0 × AreRising vpn_of (IsValidEntry frames) p.1.1.1.1.1.1.0 0 4194304 p.1.1.1.1.1.1.1))))))
 
 abbrev parts_text : Parts → List ℕ
@@ -118,10 +119,10 @@ process_made frames q i =
       refl,
     )
 
-pub reads_process : (frames : ℕ) → 0 < frames → frames ≤ 16384 → Reads (process_at frames) process_text (IsProcess frames)
+pub reads_process : (frames : ℕ) → 0 < frames → frames ≤ MOST_FRAMES → Reads (process_at frames) process_text (IsProcess frames)
 reads_process frames some few =
     reads_made process_from _ _ process_text (IsProcess frames) (same_text frames) (process_is frames) (process_made frames)
-    _ (reads_both _ _ _ _ _ _ (reads_below 4 (omega arith)) (λ s a. reads_both _ _ _ _ _ _ reads_zeros (λ z b. reads_both _ _ _ _ _ _ (reads_number 4 1 1024 (omega arith) (lit< tt)) (λ n c.
+    _ (reads_both _ _ _ _ _ _ (reads_below 4 (omega arith)) (λ s a. reads_both _ _ _ _ _ _ reads_zeros (λ z b. reads_both _ _ _ _ _ _ (reads_number 4 1 MOST_EXTENT (omega arith) (lit< tt)) (λ n c.
     let n_to = c.to in
     reads_both _ _ _ _ _ _ (reads_number 4 0 (n - 1) (omega arith) (omega arith)) (λ h d. reads_both _ _ _ _ _ _ reads_any (λ l e.
     reads_both _ _ _ _ _ _ (reads_items n _ slot_text IsSlot reads_slot) (λ slots f. reads_both _ _ _ _ _ _ (reads_number 4 0 n (omega arith) (omega arith)) (λ k g.

@@ -4,6 +4,7 @@ use Rattle.std.specs.Prelude.{◌==◌, ◌&&◌, nat_le, not, if◌then◌else�
 use Rattle.std.proofs.lemmas.Bool.{eqb-true, eq-eqb, leb-true, le-leb}
 use Rattle.std.proofs.lemmas.Bool.Decides.{eqb_tells}
 use Rattle.std.proofs.Math.Nat.{mod-lt}
+use Rattle.vm_types.specs.declared.limits.TheConstants.{MOST_FRAMES}
 use Rattle.vm_types.specs.declared.names.Pfn.{Pfn}
 use Rattle.pte_forms.specs.declared.pte.Place.{Place}
 use Rattle.pte_forms.specs.Word.{IsPte, word_of, kind_bits}
@@ -58,7 +59,7 @@ kind_of false f = refl
 abbrev pte_of : ℕ → ℕ → Pte
 pte_of b m = record { prot = b / 8 % 16; place = Valid (b / 4 % 2 == 1) (record { 0 = m }) }
 
-word_is : (frames b m : ℕ) → 0 < frames → frames ≤ 16384 → is_word_head b ≡ true → m ≤ frames - 1 → IsValidWord frames (b * 256 ^ 3 + m)
+word_is : (frames b m : ℕ) → 0 < frames → frames ≤ MOST_FRAMES → is_word_head b ≡ true → m ≤ frames - 1 → IsValidWord frames (b * 256 ^ 3 + m)
 word_is frames b m some few head le =
     let h = head_is b head in
     let parts = head_parts b h in
@@ -95,7 +96,7 @@ word_parts_of frames word pte false frame is e lt place =
     let small = is.code.small in
     record { b = 128 + 8 * pte.prot + 4 * 0; m = frame; head = is_head _ (head_of pte.prot 0 small is.code.named (omega arith)); below = omega arith; made = omega arith }
 
-pub reads_word : (frames : ℕ) → 0 < frames → frames ≤ 16384 → Reads (word_at frames) number (IsValidWord frames)
+pub reads_word : (frames : ℕ) → 0 < frames → frames ≤ MOST_FRAMES → Reads (word_at frames) number (IsValidWord frames)
 reads_word frames some few =
     reads_made (λ p. p.0 * 256 ^ 3 + p.1) _ _ number (IsValidWord frames)
     (λ p i. let h = head_is p.0 i.0 in let b = h.to in let m = i.1.to in high_byte 3 p.0 p.1 (omega arith) (omega arith))

@@ -2,6 +2,7 @@
 -- this project's own.
 use Rattle.std.specs.Prelude.{◌≡◌, ℕ, ◌^◌, ◌<◌, ◌≤◌, Bool, false, List, [], ◌∷◌, length, map, Option, Some, None}
 use Rattle.std.specs.List.{AllByRecursion}
+use Rattle.vm_types.specs.declared.limits.TheConstants.{MOST_EXTENT, MOST_FRAMES, MOST_SECTION_PAGES}
 use Rattle.vm_types.specs.declared.names.Page.{Page}
 use Rattle.vm_types.specs.declared.names.Page.TheVariants.{Private, Shared}
 use Rattle.pte_forms.specs.Word.{IsPte, word_of}
@@ -15,7 +16,7 @@ use Rattle.dump_bytes.specs.Dumped.{Process, Dumped}
 abbrev pub IsDumpedPage : ℕ → Option Page → Type 0
 IsDumpedPage procs None = Unit {0}
 IsDumpedPage procs (Some (Private owner vpn)) = (owner.0 < procs) × (vpn < 2 ^ 22)
-IsDumpedPage procs (Some (Shared section page)) = (section.0 < 64) × (page < 16384)
+IsDumpedPage procs (Some (Shared section page)) = (section.0 < 64) × (page < MOST_SECTION_PAGES)
 
 pub record IsFrame (procs : ℕ) (f : FrameRec) : Type 0 where
   pub state : f.state < 8
@@ -49,7 +50,7 @@ Ascends (n ∷ numbers) = AllByRecursion (λ m. n < m) numbers × Ascends number
 
 pub record IsProcess (frames : ℕ) (p : Process) : Type 0 where
   pub status : p.status < 4
-  pub few_slots : (1 ≤ length p.slots) × (length p.slots ≤ 1024)
+  pub few_slots : (1 ≤ length p.slots) × (length p.slots ≤ MOST_EXTENT)
   pub hand : p.hand < length p.slots
   pub limit : p.limit < 2 ^ 32
   pub slots : AllByRecursion IsSlot p.slots
@@ -63,7 +64,7 @@ pub record AreFrames (frames : ℕ) (numbers : List ℕ) : Type 0 where
   pub each : AllByRecursion (λ n. n < frames) numbers
 
 pub record IsDump (d : Dumped) : Type 0 where
-  pub frames : (8 ≤ length d.frames) × (length d.frames ≤ 16384)
+  pub frames : (8 ≤ length d.frames) × (length d.frames ≤ MOST_FRAMES)
   pub procs : (1 ≤ length d.procs) × (length d.procs ≤ 16)
   pub size : d.size < 2 ^ 32
   pub charged : d.charged < 2 ^ 32

@@ -7,6 +7,7 @@ use Rattle.dump_bytes.specs.declared.dump.SlotRec.{SlotRec}
 use Rattle.dump_bytes.specs.Dumped.{Process, Dumped}
 use Rattle.byteorder.specs.Endian.{big_number}
 use Rattle.std.specs.Prelude.{ℕ, zero, suc, ◌+◌, ◌-◌, ◌*◌, ◌/◌, ◌%◌, ◌^◌, ◌==◌, ◌&&◌, ◌||◌, nat_le, nat_lt, Bool, if◌then◌else◌, List, [], ◌∷◌, length, Result, Ok, Err, Option, Some, None, not, codes}
+use Rattle.vm_types.specs.declared.limits.TheConstants.{MOST_EXTENT, MOST_FRAMES}
 
 -- one step after the other, up to the first that fails
 infixl 10 ◌>>=◌
@@ -124,7 +125,7 @@ entry_at frames low high = both_at (number_at 4 low (high - 1)) (λ vpn. word_at
 abbrev pub process_at : ℕ → Reader Process
 process_at frames =
     made_at (λ p. record { status = p.0; hand = p.1.1.1.0; limit = p.1.1.1.1.0; slots = p.1.1.1.1.1.0; words = p.1.1.1.1.1.1.1 })
-    (both_at (below_at 4) (λ s. both_at zeros_at (λ z. both_at (number_at 4 1 1024) (λ n. both_at (number_at 4 0 (n - 1)) (λ h. both_at any_at (λ l.
+    (both_at (below_at 4) (λ s. both_at zeros_at (λ z. both_at (number_at 4 1 MOST_EXTENT) (λ n. both_at (number_at 4 0 (n - 1)) (λ h. both_at any_at (λ l.
     both_at (items_at n slot_at) (λ slots. both_at (number_at 4 0 n) (λ c. rising_at (λ w. w.0) c 0 4194304 (entry_at frames)))))))))
 
 -- these letters
@@ -156,7 +157,7 @@ dumped_from p = record {
 
 abbrev pub dump_at : Reader Dumped
 dump_at = made_at dumped_from
-    (both_at (letters_at (codes "VMSDUMP1")) (λ t. both_at (number_at 4 8 16384) (λ n. both_at (number_at 4 0 n) (λ f. both_at (number_at 4 0 n) (λ m. both_at (number_at 4 1 16) (λ p.
+    (both_at (letters_at (codes "VMSDUMP1")) (λ t. both_at (number_at 4 8 MOST_FRAMES) (λ n. both_at (number_at 4 0 n) (λ f. both_at (number_at 4 0 n) (λ m. both_at (number_at 4 1 16) (λ p.
     both_at any_at (λ s. both_at any_at (λ c. both_at any_at (λ a. both_at (items_at n (frame_at p)) (λ frames. both_at (items_at f (number_at 4 0 (n - 1))) (λ free.
     both_at (items_at m (number_at 4 0 (n - 1))) (λ modified. both_at (items_at p (process_at n)) (λ procs. both_at (number_at 4 0 n) (λ k. rising_at (λ x. x) k 0 n rising_number_at))))))))))))))
 

@@ -1,4 +1,5 @@
 ghost use Rattle.std.specs.Prelude.{◌≡◌, ◌+◌, ◌-◌, ◌<◌, ◌≤◌, [], map, take, length, vec_len, vec_capacity, slice_index, All};
+ghost use Rattle.vm_types.specs.declared.limits.TheConstants.{MOST_EXTENT, MOST_FRAMES};
 ghost use Rattle.dump_bytes.specs.Answers.{Gives};
 ghost use Rattle.dump_bytes.specs.Dumped.{process_of};
 ghost use Rattle.dump_bytes.specs.Reading.{items_at, rising_at, number_at, frame_at, slot_at, entry_at, process_at, rising_number_at};
@@ -8,6 +9,7 @@ use crate::dump::{FrameRec, ProcRec, SlotRec};
 use crate::left::Left;
 use crate::reading::{byte_below, number_in, zeros_in};
 use crate::rows::{entry_in, frame_in, slot_in};
+use vm_types::MOST_EXTENT;
 
 /// The rows of so many frames.
 pub(crate) fn frames_in<'a>(
@@ -98,8 +100,8 @@ fn entries_in<'a>(
     words: &mut Vec<(u32, u32)>,
 ) -> Result<&'a [u8], Left>
     requires some { 0 < frames }
-    requires few_frames { frames ≤ 16384 }
-    requires few { count ≤ 1024 }
+    requires few_frames { frames ≤ MOST_FRAMES }
+    requires few { count ≤ MOST_EXTENT }
     requires empty { words.old.items ≡ [] }
     requires room { count ≤ vec_capacity words.old }
     ensures { Gives (λ rest. (words.new.items, rest.now)) result
@@ -121,13 +123,13 @@ fn entries_in<'a>(
 /// A process, if there are so many frames.
 fn process_in<'a>(bytes: &'a [u8], frames: u32, proc: &mut ProcRec) -> Result<&'a [u8], Left>
     requires some { 0 < frames }
-    requires few { frames ≤ 16384 }
+    requires few { frames ≤ MOST_FRAMES }
     requires room { HasRoom proc.old }
     ensures { Gives (λ rest. (process_of proc.new, rest.now)) result (process_at frames bytes.now) }
 {
     let (status, rest) = byte_below(bytes, 4)?;
     let rest = zeros_in(rest)?;
-    let (slots, rest) = number_in(rest, 1, 1024)?;
+    let (slots, rest) = number_in(rest, 1, MOST_EXTENT)?;
     let (hand, rest) = number_in(rest, 0, slots - 1)?;
     let (limit, rest) = number_in(rest, 0, u32::MAX)?;
     proc.status = status;
@@ -146,7 +148,7 @@ pub(crate) fn processes_in<'a>(
     procs: &mut Vec<ProcRec>,
 ) -> Result<&'a [u8], Left>
     requires some { 0 < frames }
-    requires few { frames ≤ 16384 }
+    requires few { frames ≤ MOST_FRAMES }
     requires there { count ≤ length procs.old.items }
     requires room { All HasRoom procs.old.items }
     ensures { Gives (λ rest. (map process_of procs.new.items, rest.now)) result

@@ -3,15 +3,16 @@ ghost use Rattle.dump_bytes.specs.Room.{HasRoom, IsRoomy};
 
 use crate::dump::{Dump, ProcRec};
 use std::alloc::{AllocError, Global};
+use vm_types::{MOST_EXTENT, MOST_FRAMES};
 
 // The most frames of a dump.
-const FRAMES: usize = 16384;
+const FRAMES: usize = MOST_FRAMES as usize;
 
 // The most processes of a dump.
 const PROCS: usize = 16;
 
 // The most slots of a process, and so the most valid entries.
-const SLOTS: usize = 1024;
+const SLOTS: usize = MOST_EXTENT as usize;
 
 /// A process without slots and entries, and room for as many as there can be.
 fn process_with_room(alloc: Global) -> Result<ProcRec, AllocError>

@@ -1,4 +1,5 @@
 ghost use Rattle.std.specs.Prelude.{◌≡◌, ◌+◌, ◌*◌, ◌-◌, ◌<◌, ◌≤◌, ◌==◌, if◌then◌else◌, IfOk};
+ghost use Rattle.vm_types.specs.declared.limits.TheConstants.{MOST_FRAMES};
 ghost use Rattle.dump_bytes.specs.Answers.{Gives};
 ghost use Rattle.dump_bytes.specs.Reading.{byte_at, is_slot_code, is_word_head, slot_from, page_from};
 ghost use Rattle.dump_bytes.specs.Reading as reading;
@@ -127,7 +128,7 @@ fn word_head_in(bytes: &[u8]) -> Result<(u32, &[u8]), Left>
 /// The word of a valid entry, if there are so many frames.
 fn word_in(bytes: &[u8], frames: u32) -> Result<(u32, &[u8]), Left>
     requires some { 0 < frames }
-    requires few { frames ≤ 16384 }
+    requires few { frames ≤ MOST_FRAMES }
     ensures { Gives (λ x. (x.0, x.1.now)) result (reading.word_at frames bytes.now) }
 {
     let (head, rest) = word_head_in(bytes)?;
@@ -144,7 +145,7 @@ pub(crate) fn entry_in(
     high: u32,
 ) -> Result<((u32, u32), &[u8]), Left>
     requires some { 0 < frames }
-    requires few { frames ≤ 16384 }
+    requires few { frames ≤ MOST_FRAMES }
     requires between { low < high }
     ensures below { IfOk result (λ x. x.0.0 < high) }
     ensures read { Gives (λ x. (x.0, x.1.now)) result (reading.entry_at frames low high bytes.now) }

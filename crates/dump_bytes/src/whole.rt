@@ -8,6 +8,7 @@ use crate::dump::Dump;
 use crate::left::Left;
 use crate::lists::{frames_in, numbers_in, processes_in, rising_in};
 use crate::reading::{letters_in, number_in};
+use vm_types::MOST_FRAMES;
 
 /// Puts the dump with which the bytes begin into one with room; the bytes after it.
 fn dump_in<'a>(bytes: &'a [u8], dump: &mut Dump) -> Result<&'a [u8], Left>
@@ -15,7 +16,7 @@ fn dump_in<'a>(bytes: &'a [u8], dump: &mut Dump) -> Result<&'a [u8], Left>
     ensures { Gives (λ rest. (dumped dump.new, rest.now)) result (dump_at bytes.now) }
 {
     let rest = letters_in(bytes)?;
-    let (frames, rest) = number_in(rest, 8, 16384)?;
+    let (frames, rest) = number_in(rest, 8, MOST_FRAMES)?;
     let (free, rest) = number_in(rest, 0, frames)?;
     let (modified, rest) = number_in(rest, 0, frames)?;
     let (procs, rest) = number_in(rest, 1, 16)?;

@@ -6,6 +6,7 @@ use Rattle.std.proofs.lemmas.Bool.{cases_eq, cases_lt, false≢true, ne_eqb}
 use Rattle.std.proofs.lemmas.List.FromFn.{length-map-range_with_len}
 use Rattle.std.proofs.lemmas.List.Sums.{count_by-le-length, sum_by-cons}
 use Rattle.std.proofs.lemmas.Option.{none-some}
+use Rattle.vm_types.specs.declared.limits.TheConstants.{MOST_EXTENT, P0_PAGES, P1_PAGES}
 use Rattle.vm_types.specs.Configuration.{IsSectionPage, IsWellFormed}
 use Rattle.vm_types.specs.Ring.{Held}
 use Rattle.vm_types.specs.Same.{state_code}
@@ -138,7 +139,7 @@ module _ (config : Config) (past : List Entry) (a : Pager) (formed : IsWellForme
   dumped_page None each = tt
   dumped_page (Some (Private p v)) each = let own = each (Private p v) refl in (own.0, mappable own.1)
     where
-      mappable : (v < 4096) ⊎ ((2 ^ 22 - 1024 ≤ v) × (v < 2 ^ 22)) → v < 2 ^ 22
+      mappable : (v < P0_PAGES) ⊎ ((2 ^ 22 - P1_PAGES ≤ v) × (v < 2 ^ 22)) → v < 2 ^ 22
       mappable (inl low) = omega (arith, low)
       mappable (inr high) = high.1
   dumped_page (Some (Shared s i)) each =
@@ -150,7 +151,7 @@ module _ (config : Config) (past : List Entry) (a : Pager) (formed : IsWellForme
       (omega (arith, few, most), omega (arith, number, pages))
 
   -- all processes together have at most as many valid entries as slots
-  ring_few : (p : ℕ) → p < procs → length (a.ring p).slots ≤ 1024
+  ring_few : (p : ℕ) → p < procs → length (a.ring p).slots ≤ MOST_EXTENT
   ring_few p less = let bounds = bounded config (past_view past) a formed kept p less in let slots = bounds.1.slots in let most = bounds.2 in omega (arith, slots, most)
 
   own_length : (p : ℕ) → length (pages_in (a.ring p).slots) ≡ length (pages_of a.valid p)
@@ -163,7 +164,7 @@ module _ (config : Config) (past : List Entry) (a : Pager) (formed : IsWellForme
   own_count : (p : ℕ) → count_by (λ (e : Valid). is_own p e && true) a.valid ≡ length (pages_of a.valid p)
   own_count p = sym (count_filter (λ (e : Valid). true) (is_own p) a.valid) ∙ counted (filter (is_own p) a.valid) ∙ sym (length_map (λ (e : Valid). e.vpn) (filter (is_own p) a.valid))
 
-  own_few : (p : ℕ) → p < procs → count_by (λ (e : Valid). is_own p e && true) a.valid ≤ 1024
+  own_few : (p : ℕ) → p < procs → count_by (λ (e : Valid). is_own p e && true) a.valid ≤ MOST_EXTENT
   own_few p less =
       let count = own_count p in
       let same = own_length p in
@@ -171,7 +172,7 @@ module _ (config : Config) (past : List Entry) (a : Pager) (formed : IsWellForme
       let ring = ring_few p less in
       omega (arith, count, same, few, ring)
 
-  sum_few : (f : ℕ → ℕ) (s n : ℕ) → ((p : ℕ) → p < s + n → f p ≤ 1024) → sum_by f (range_with_len s n) ≤ 1024 * n
+  sum_few : (f : ℕ → ℕ) (s n : ℕ) → ((p : ℕ) → p < s + n → f p ≤ MOST_EXTENT) → sum_by f (range_with_len s n) ≤ MOST_EXTENT * n
   sum_few f s zero few = omega arith
   sum_few f s (suc n) few =
       let all = sum_by-cons f s (range_with_len (s + 1) n) in

@@ -2,6 +2,7 @@
 use Rattle.std.proofs.Common.{◌≡◌, inl, inr, ℕ, ◌+◌, ◌^◌, ◌<◌, ◌≤◌, Bool, true, false, cond, ◌&&◌, List, [], ◌∷◌, Option, Some, None, count_by, filter, length, map, nat_eq, refl, sym, ap, ◌∙◌, subst, arith}
 use Rattle.std.specs.List.{AllByRecursion}
 use Rattle.std.proofs.lemmas.Bool.{and_parts, and_from, eqb-true}
+use Rattle.vm_types.specs.declared.limits.TheConstants.{MOST_FRAMES}
 use Rattle.vm_types.specs.Ring.{Held}
 use Rattle.vm_types.specs.declared.config.Config.{Config}
 use Rattle.pte_forms.specs.Word.{word_of}
@@ -41,7 +42,7 @@ below_all : (v : ℕ) → IsMappable v → v < 2 ^ 22
 below_all v (inl low) = omega (arith, low)
 below_all v (inr high) = high.1
 
-module _ (config : Config) (o : PastView) (a : Pager) (kept : IsKept config o a) (right : IsOfConfig config a) (few : config.frames ≤ 16384) where
+module _ (config : Config) (o : PastView) (a : Pager) (kept : IsKept config o a) (right : IsOfConfig config a) (few : config.frames ≤ MOST_FRAMES) where
   -- two entries of one page are for one frame
   one_frame : (e x : Valid) → x.proc ≡ e.proc → x.vpn ≡ e.vpn → IsForItsPage config a.map a.page e → IsForItsPage config a.map a.page x → x.frame ≡ e.frame
   one_frame e x proc vpn its other =

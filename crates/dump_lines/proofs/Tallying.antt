@@ -7,6 +7,7 @@ use Rattle.std.proofs.lemmas.List.{append_assoc, get_or-replicate, get_or_past, 
 use Rattle.std.proofs.lemmas.List.FromFn.{fill_by_all, get_or-map-range_with_len, length-map-range_with_len}
 use Rattle.std.proofs.lemmas.List.Sums.{count_by-le-length, sum_by-append, sum_by-cons}
 use Rattle.std.specs.List.{AllByRecursion}
+use Rattle.vm_types.specs.declared.limits.TheConstants.{MOST_EXTENT}
 use Rattle.dump_bytes.specs.declared.dump.ProcRec.{ProcRec}
 use Rattle.dump_bytes.specs.Bounds.{IsProcess}
 use Rattle.dump_bytes.specs.Dumped.{Process, Dumped, process_of}
@@ -44,7 +45,7 @@ module _ (procs : List ProcRec) (i : ℕ) (p : ProcRec) (within : i < length pro
   pins_more f = ap (λ (ps : List Process). pins_in ps f) passed ∙ sum_by-append _ (map process_of (take i procs)) (process_of p ∷ [])
 
 -- a process has few entries and few slots
-pub few_shares : (frames : ℕ) (procs : List ProcRec) (i : ℕ) → AllByRecursion (IsProcess frames) (map process_of procs) → (f : ℕ) → shares_in (map process_of (take i procs)) f ≤ 1024 * i
+pub few_shares : (frames : ℕ) (procs : List ProcRec) (i : ℕ) → AllByRecursion (IsProcess frames) (map process_of procs) → (f : ℕ) → shares_in (map process_of (take i procs)) f ≤ MOST_EXTENT * i
 few_shares frames procs zero all f = omega arith
 few_shares frames [] (suc i) all f = omega arith
 few_shares frames (p ∷ procs) (suc i) all f =
@@ -53,7 +54,7 @@ few_shares frames (p ∷ procs) (suc i) all f =
     let rest = few_shares frames procs i all.1 f in
     omega (arith, sum_by-append (λ (w : ℕ × ℕ). cond (is_for f w) 1 0) p.words.items (entries (map process_of (take i procs))), count_by-le-length (is_for f) p.words.items)
 
-pub few_pins : (frames : ℕ) (procs : List ProcRec) (i : ℕ) → AllByRecursion (IsProcess frames) (map process_of procs) → (f : ℕ) → pins_in (map process_of (take i procs)) f ≤ 1024 * i
+pub few_pins : (frames : ℕ) (procs : List ProcRec) (i : ℕ) → AllByRecursion (IsProcess frames) (map process_of procs) → (f : ℕ) → pins_in (map process_of (take i procs)) f ≤ MOST_EXTENT * i
 few_pins frames procs zero all f = omega arith
 few_pins frames [] (suc i) all f = omega arith
 few_pins frames (p ∷ procs) (suc i) all f =
@@ -65,10 +66,10 @@ few_pins frames (p ∷ procs) (suc i) all f =
       count_by-le-length (is_pin p.words.items f) p.slots.items,
     )
 
-pub few_pins_of_all : (frames : ℕ) (procs : List ProcRec) → AllByRecursion (IsProcess frames) (map process_of procs) → (f : ℕ) → pins_in (map process_of procs) f ≤ 1024 * length procs
+pub few_pins_of_all : (frames : ℕ) (procs : List ProcRec) → AllByRecursion (IsProcess frames) (map process_of procs) → (f : ℕ) → pins_in (map process_of procs) f ≤ MOST_EXTENT * length procs
 few_pins_of_all frames procs all f =
     let whole = take_all (length procs) procs (omega arith) in
-    subst (λ (ps : List ProcRec). pins_in (map process_of ps) f ≤ 1024 * length procs) whole (few_pins frames procs (length procs) all f)
+    subst (λ (ps : List ProcRec). pins_in (map process_of ps) f ≤ MOST_EXTENT * length procs) whole (few_pins frames procs (length procs) all f)
 
 pub few_times : (numbers : List ℕ) (f : ℕ) → times_in numbers f ≤ length numbers
 few_times numbers f = count_by-le-length (λ (n : ℕ). nat_eq n f) numbers

@@ -1,6 +1,7 @@
 -- What of a dump can be printed: pages of 16 processes at most, and slots whose pages have an address of 32 bits.
 -- This project's own.
 use Rattle.std.specs.Prelude.{◌^◌, ◌<◌, ◌≤◌, All, Some, length}
+use Rattle.vm_types.specs.declared.limits.TheConstants.{MOST_EXTENT}
 use Rattle.vm_types.specs.declared.names.Page.{Page}
 use Rattle.dump_bytes.specs.declared.dump.FrameRec.{FrameRec}
 use Rattle.dump_bytes.specs.declared.dump.ProcRec.{ProcRec}
@@ -17,5 +18,5 @@ abbrev pub IsPrintableSlot : SlotRec → Type 0
 IsPrintableSlot slot = slot.vpn < 2 ^ 22
 
 pub record IsPrintableProcess (p : ProcRec) : Type 0 where
-  pub few : length p.slots.items ≤ 1024
+  pub few : length p.slots.items ≤ MOST_EXTENT
   pub slots : All IsPrintableSlot p.slots.items

@@ -1,6 +1,7 @@
 -- The lines of a dump's processes, each followed by those of the filled slots of its working set list. This
 -- project's own.
 use Rattle.std.specs.Prelude.{ℕ, ◌+◌, ◌*◌, Bool, List, [], ◌∷◌, ◌++◌, codes, count_by, decimal, if◌then◌else◌}
+use Rattle.vm_types.specs.declared.limits.TheConstants.{PAGE_BYTES}
 use Rattle.vm_text.specs.Names.{place_text, process_name}
 use Rattle.vm_text.specs.States.{status_word}
 use Rattle.run_words.specs.Text.{ended}
@@ -24,7 +25,7 @@ marked mark word = if mark then word else []
 -- the slot's number, the process with the first address of the slot's page, and the marks
 abbrev pub slot_text : ℕ → ℕ → SlotRec → List ℕ
 slot_text x n s =
-    codes "SLOT " ++ decimal n ++ codes " " ++ place_text x (512 * s.vpn) ++ marked s.locked (codes " LOCKED") ++ marked s.pinned (codes " PINNED")
+    codes "SLOT " ++ decimal n ++ codes " " ++ place_text x (PAGE_BYTES * s.vpn) ++ marked s.locked (codes " LOCKED") ++ marked s.pinned (codes " PINNED")
 
 abbrev pub slot_line : ℕ → ℕ → SlotRec → List ℕ
 slot_line x n s = if s.filled then ended (slot_text x n s) else []

@@ -1,6 +1,7 @@
 //! The kept numbers that differ from their recounts.
 
 ghost use Rattle.std.specs.Prelude.{◌≡◌, ℕ, ◌≤◌, count_by, length};
+ghost use Rattle.vm_types.specs.declared.limits.TheConstants.{MOST_FRAMES};
 ghost use Rattle.outside_io.specs.Writes.{Writes};
 ghost use Rattle.dump_lines.specs.Checks as checked;
 ghost use Rattle.dump_lines.specs.Checks.{checks_from, checks_of};
@@ -79,7 +80,7 @@ pub(crate) fn print_wrong<K: Sink>(
     counts: &[Counts],
     sink: &mut K,
 ) -> Result<(), WriteFault>
-    requires few { length frames.now ≤ 16384 }
+    requires few { length frames.now ≤ MOST_FRAMES }
     requires same { length counts.now ≡ length frames.now }
     ensures { Writes (K.seen sink.old) (K.seen sink.new) result (wrong_lines (checks_from 0 frames.now counts.now)) }
 {
@@ -91,7 +92,7 @@ pub(crate) fn print_wrong<K: Sink>(
 
 /// How many of the frames' numbers differ from their recounts.
 pub(crate) fn count_wrong(frames: &[FrameRec], counts: &[Counts]) -> u32
-    requires few { length frames.now ≤ 16384 }
+    requires few { length frames.now ≤ MOST_FRAMES }
     requires same { length counts.now ≡ length frames.now }
     ensures { result ≡ count_by is_wrong (checks_from 0 frames.now counts.now) }
 {

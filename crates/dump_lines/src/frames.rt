@@ -1,6 +1,7 @@
 //! The lines of frames.
 
 ghost use Rattle.std.specs.Prelude.{◌≡◌, ◌+◌, ◌≤◌, ◌++◌, [], All, length};
+ghost use Rattle.vm_types.specs.declared.limits.TheConstants.{MOST_FRAMES};
 ghost use Rattle.arrayvec.specs.ArrayVec.{array_vec_len};
 ghost use Rattle.outside_io.specs.Writes.{Writes};
 ghost use Rattle.run_words.specs.Text.{ended};
@@ -14,7 +15,7 @@ use command_ends::{push_counted, write_line};
 use dump_bytes::FrameRec;
 use outside_io::{Sink, WriteFault};
 use vm_text::{push_count, push_mark, push_place, push_state, push_word};
-use vm_types::{Addr, Page};
+use vm_types::{Addr, PAGE_BYTES, Page};
 
 /// Adds a page, which is of one of 16 processes, or of one of 64 sections.
 fn push_page(out: &mut ArrayVec<u8, 160>, page: Page)
@@ -24,7 +25,7 @@ fn push_page(out: &mut ArrayVec<u8, 160>, page: Page)
     ensures len { array_vec_len out.new ≤ array_vec_len out.old + 30 }
 {
     match page {
-        Page::Private(process, vpn) => push_place(out, process, Addr(512 * vpn)),
+        Page::Private(process, vpn) => push_place(out, process, Addr(PAGE_BYTES * vpn)),
         Page::Shared(section, number) => {
             push_counted(out, b"#", section.0);
             push_counted(out, b"/", number);
@@ -86,7 +87,7 @@ fn print_frame<K: Sink>(f: u32, row: FrameRec, sink: &mut K) -> Result<(), Write
 
 /// Writes the lines of the frames.
 pub(crate) fn print_frames<K: Sink>(frames: &[FrameRec], sink: &mut K) -> Result<(), WriteFault>
-    requires few { length frames.now ≤ 16384 }
+    requires few { length frames.now ≤ MOST_FRAMES }
     requires printable { All IsPrintableFrame frames.now }
     ensures { Writes (K.seen sink.old) (K.seen sink.new) result (frame_lines 0 frames.now) }
 {

@@ -2,6 +2,7 @@
 
 ghost use Rattle.std.specs.Prelude.{◌≤◌, length};
 ghost use Rattle.std.specs.List.{flat_map};
+ghost use Rattle.vm_types.specs.declared.limits.TheConstants.{MOST_FRAMES};
 ghost use Rattle.outside_io.specs.Writes.{Writes};
 ghost use Rattle.dump_lines.specs.ListLines.{list_line, list_lines, on_line};
 
@@ -47,7 +48,7 @@ pub(crate) fn print_list<K: Sink>(
     sink: &mut K,
 ) -> Result<(), WriteFault>
     requires short { length name.now ≤ 8 }
-    requires few { length members.now ≤ 16384 }
+    requires few { length members.now ≤ MOST_FRAMES }
     ensures { Writes (K.seen sink.old) (K.seen sink.new) result (list_lines name.now members.now) }
 {
     print_head(name, members.len() as u32, sink)?;

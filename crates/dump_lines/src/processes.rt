@@ -1,6 +1,7 @@
 //! The lines of processes and of the slots of their working set lists.
 
 ghost use Rattle.std.specs.Prelude.{◌≡◌, ◌+◌, ◌^◌, ◌<◌, ◌≤◌, ◌++◌, [], All, length, map};
+ghost use Rattle.vm_types.specs.declared.limits.TheConstants.{MOST_EXTENT};
 ghost use Rattle.outside_io.specs.Writes.{Writes};
 ghost use Rattle.run_words.specs.Text.{ended};
 ghost use Rattle.arrayvec.specs.ArrayVec.{array_vec_len};
@@ -14,11 +15,11 @@ use command_ends::{push_counted, write_line};
 use dump_bytes::{ProcRec, SlotRec};
 use outside_io::{Sink, WriteFault};
 use vm_text::{push_place, push_process, push_status, push_word};
-use vm_types::{Addr, Proc};
+use vm_types::{Addr, PAGE_BYTES, Proc};
 
 /// How many of the slots are filled.
 fn count_filled(slots: &[SlotRec]) -> u32
-    requires { length slots.now ≤ 1024 }
+    requires { length slots.now ≤ MOST_EXTENT }
     ensures { result ≡ filled_in slots.now }
 {
     slots.iter().filter(|slot| slot.filled).count() as u32
@@ -26,7 +27,7 @@ fn count_filled(slots: &[SlotRec]) -> u32
 
 fn print_head<K: Sink>(x: u32, proc: &ProcRec, sink: &mut K) -> Result<(), WriteFault>
     requires letter { x < 16 }
-    requires few { length proc.now.slots.items ≤ 1024 }
+    requires few { length proc.now.slots.items ≤ MOST_EXTENT }
     ensures { Writes (K.seen sink.old) (K.seen sink.new) result (ended (process_text x (process_of proc.now))) }
 {
     let mut out = ArrayVec::new();
@@ -60,7 +61,7 @@ fn push_slot(out: &mut ArrayVec<u8, 160>, x: u32, n: u32, slot: SlotRec)
 {
     push_counted(out, b"SLOT ", n);
     push_word(out, b" ");
-    push_place(out, Proc(x), Addr(512 * slot.vpn));
+    push_place(out, Proc(x), Addr(PAGE_BYTES * slot.vpn));
     push_marked(out, slot.locked, b" LOCKED");
     push_marked(out, slot.pinned, b" PINNED");
 }
@@ -80,7 +81,7 @@ fn print_slot<K: Sink>(x: u32, n: u32, slot: SlotRec, sink: &mut K) -> Result<()
 
 fn print_slots<K: Sink>(x: u32, slots: &[SlotRec], sink: &mut K) -> Result<(), WriteFault>
     requires letter { x < 16 }
-    requires few { length slots.now ≤ 1024 }
+    requires few { length slots.now ≤ MOST_EXTENT }
     requires small { All IsPrintableSlot slots.now }
     ensures { Writes (K.seen sink.old) (K.seen sink.new) result (slot_lines x 0 slots.now) }
 {

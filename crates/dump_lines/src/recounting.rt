@@ -2,6 +2,7 @@
 
 ghost use Rattle.std.specs.Prelude.{◌≡◌, ◌+◌, ◌*◌, ◌<◌, ◌≤◌, [], ◌∷◌, IfOk, length, map, nat_lt, replicate, slice_index, if◌then◌else◌};
 ghost use Rattle.std.specs.List.{AllByRecursion, range_with_len};
+ghost use Rattle.vm_types.specs.declared.limits.TheConstants.{MOST_EXTENT};
 ghost use Rattle.dump_bytes.specs.Bounds.{IsDump, IsProcess};
 ghost use Rattle.dump_bytes.specs.Dumped.{dumped, process_of};
 ghost use Rattle.dump_lines.specs.Counts.{recount_of};
@@ -29,8 +30,8 @@ fn no_counts(alloc: Global, frames: usize) -> Result<Vec<u32>, NoMemory>
 fn count_process(proc: &ProcRec, shares: &mut [u32], uses: &mut [u32])
     requires bounds { IsProcess (length shares.old) (process_of proc.now) }
     requires same { length uses.old ≡ length shares.old }
-    requires room { HaveRoom 1024 shares.old }
-    requires room_for_uses { HaveRoom 1024 uses.old }
+    requires room { HaveRoom MOST_EXTENT shares.old }
+    requires room_for_uses { HaveRoom MOST_EXTENT uses.old }
     ensures shares { AreRaised (shares_in (process_of proc.now ∷ [])) shares.old shares.new }
     ensures uses { AreRaised (pins_in (process_of proc.now ∷ [])) uses.old uses.new }
 {
@@ -42,8 +43,8 @@ fn count_process(proc: &ProcRec, shares: &mut [u32], uses: &mut [u32])
 fn count_processes(procs: &[ProcRec], shares: &mut [u32], uses: &mut [u32])
     requires bounds { AllByRecursion (IsProcess (length shares.old)) (map process_of procs.now) }
     requires same { length uses.old ≡ length shares.old }
-    requires room { HaveRoom (1024 * length procs.now) shares.old }
-    requires room_for_uses { HaveRoom (1024 * length procs.now) uses.old }
+    requires room { HaveRoom (MOST_EXTENT * length procs.now) shares.old }
+    requires room_for_uses { HaveRoom (MOST_EXTENT * length procs.now) uses.old }
     ensures shares { AreRaised (shares_in (map process_of procs.now)) shares.old shares.new }
     ensures uses { AreRaised (pins_in (map process_of procs.now)) uses.old uses.new }
 {

@@ -10,7 +10,7 @@ use crate::take::{
 };
 use crate::words::Words;
 use vm_text::{bytes_of, is};
-use vm_types::{Addr, Answer, Op, Ref, Reply, Service};
+use vm_types::{Addr, Answer, Op, P0_PAGES, PAGE_BYTES, Ref, Reply, Service};
 
 // Whether the address is a multiple of the bytes that the op takes.
 fn is_aligned(address: Addr, op: Op) -> bool
@@ -70,10 +70,10 @@ pub(crate) fn take_reply(words: &mut Words<'_>, op: Op) -> Option<Reply>
 fn is_range(at: Addr, pages: u32) -> bool
     ensures { IsTrue result ↔ IsRange at.0 pages }
 {
-    let end = u64::from(at.0) + 512 * u64::from(pages);
-    at.0 % 512 == 0
+    let end = u64::from(at.0) + u64::from(PAGE_BYTES) * u64::from(pages);
+    at.0 % PAGE_BYTES == 0
         && 1 <= pages
-        && pages <= 4096
+        && pages <= P0_PAGES
         && (end <= 0x20_0000 || (0x7ff8_0000 <= at.0 && end <= 0x8000_0000))
 }
 

@@ -14,7 +14,9 @@ use vm_text::{
     bytes_of, read_block, read_count, read_op, read_page, read_place, read_process,
     read_protection, read_state, read_status, read_why,
 };
-use vm_types::{Addr, BlockId, FrameState, Mode, Op, Page, Pfn, Proc, ProcStatus, Section, Why};
+use vm_types::{
+    Addr, BlockId, FrameState, Mode, Op, PAGE_BYTES, Page, Pfn, Proc, ProcStatus, Section, Why,
+};
 
 pub(crate) fn take_number(words: &mut Words<'_>) -> Option<u64>
     ensures { Takes (λ n. n < 2 ^ 64) (λ n. decimal n ∷ []) words.old words.new result }
@@ -54,7 +56,7 @@ pub(crate) fn take_page_start(words: &mut Words<'_>) -> Option<Addr>
     ensures { Takes (λ a. IsPageStart a.0) (λ a. address_text a.0 ∷ []) words.old words.new result }
 {
     let address = words.next_hex(8)?;
-    if address % 512 != 0 {
+    if address % PAGE_BYTES != 0 {
         return None;
     }
     Some(Addr(address))

@@ -10,7 +10,7 @@ use crate::sought::Sought;
 use crate::waits::replace;
 use disk_trait::Block;
 use vm_state::{Carrier, State};
-use vm_types::{BlockId, Origin, Proc, Ref, Reply, Seat};
+use vm_types::{BlockId, Origin, PAGE_BYTES, Proc, Ref, Reply, Seat};
 
 /// No adjustment is pending. The page's entry alone says mostly what comes next.
 pub fn answer<B: Block>(state: &mut State<B>, seat: Seat, r: Ref, carrier: &mut Carrier<B>) -> Next
@@ -44,7 +44,7 @@ fn look<B: Block>(state: &mut State<B>, seat: Seat, r: Ref, carrier: &mut Carrie
     requires { MayRefer state.old seat r (at_refusal state.old seat r) carrier.old }
     ensures { Gives B.seen B.tells state.old state.new seat r (at_refusal state.old seat r) result carrier.old carrier.new }
 {
-    let there = state.found(Proc(seat.0), r.addr.0 / 512);
+    let there = state.found(Proc(seat.0), r.addr.0 / PAGE_BYTES);
     match state.refusal(Proc(seat.0), r, there) {
         Some(why) => {
             state.denied(seat, r, why);

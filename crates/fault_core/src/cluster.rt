@@ -18,7 +18,7 @@ use arrayvec::ArrayVec;
 use disk_trait::Block;
 use read_cluster::choose;
 use vm_state::State;
-use vm_types::{BlockId, Page, SecId};
+use vm_types::{BlockId, PAGE_BYTES, Page, SecId};
 
 /// The block so many places behind another.
 pub fn block_after(b: BlockId, places: u32) -> BlockId
@@ -67,7 +67,7 @@ fn following_shared<B: Block>(state: &State<B>, s: SecId, i: u32) -> Option<Page
     ensures { result ≡ following_shared (slice_get state.now.config.sections s.0) s i }
 {
     let section = state.config().sections.items().get(s.0 as usize)?;
-    if (i as usize) < section.bytes.items().len() / 512 {
+    if (i as usize) < section.bytes.items().len() / PAGE_BYTES as usize {
         Some(Page::Shared(s, i))
     } else {
         None

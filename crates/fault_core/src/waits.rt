@@ -15,14 +15,14 @@ use call_begins::{goes_to, is_stopped};
 use disk_trait::Block;
 use vm_journal::EvictWhy;
 use vm_state::{Carrier, OpenRead, State};
-use vm_types::{Addr, Pfn, Proc, Ref, Seat};
+use vm_types::{Addr, PAGE_BYTES, Pfn, Proc, Ref, Seat};
 use working_set::Choice;
 
 /// The first address of the page that is referred to.
 pub fn page_start(r: Ref) -> Addr
     ensures { result ≡ page_address (page_number (r.addr).0) }
 {
-    Addr(512 * (r.addr.0 / 512))
+    Addr(PAGE_BYTES * (r.addr.0 / PAGE_BYTES))
 }
 
 /// Whether a collision names this read.
@@ -92,7 +92,7 @@ pub fn replace<B: Block>(state: &mut State<B>, seat: Seat, r: Ref, carrier: &mut
             if is_stopped(state, slot.frame, to) {
                 Next::Again(AgainWhy::ModifiedFull)
             } else {
-                let a = Addr(512 * slot.vpn);
+                let a = Addr(PAGE_BYTES * slot.vpn);
                 state.evict(seat, p, a, slot.frame, EvictWhy::Replace, to);
                 Next::More
             }

@@ -1,4 +1,5 @@
 ghost use Rattle.std.specs.Prelude.{◌≡◌, ℕ, ◌+◌, ◌^◌, ◌≤◌, None, false, refl, replicate};
+ghost use Rattle.vm_types.specs.declared.limits.TheConstants.{PAGE_BYTES};
 
 use disk_trait::Block;
 use std::fs::File;
@@ -63,7 +64,7 @@ impl<R: Files + Drop + Send> Block for FileBlock<R> {
 
     ghost seen = { λ b. record { content = None; plan = None; reads = b.reads; writes = b.writes; faults = b.faults } };
 
-    ghost any_content = { λ _. (replicate 512 0, length-replicate {A = ℕ} 512 0, refl) };
+    ghost any_content = { λ _. (replicate PAGE_BYTES 0, length-replicate {A = ℕ} PAGE_BYTES 0, refl) };
 
     ghost told_plan = { λ _. refl };
 

@@ -11,7 +11,7 @@ ghost use Rattle.first_parts.specs.Laying.{CanLayMapping, CanPlace, first_place}
 
 use page_tables::{Look, Tables};
 use pte_forms::{Place, Pte};
-use vm_types::{Config, Mapping, Origin, Proc, SectionKind, origin_after};
+use vm_types::{Config, Mapping, Origin, PAGE_BYTES, Proc, SectionKind, origin_after};
 
 /// What the entry of a page shows that was never in a frame, by what is behind it.
 fn place_of(config: &Config, firsts: &[u32], origin: Origin) -> Place
@@ -50,7 +50,7 @@ fn lay(tables: &mut Tables, config: &Config, firsts: &[u32], mapping: &Mapping)
         ≡ (if covers p v mapping.now then Some (first_pte config.now p v (mapped_by v mapping.now)) else pte_in tables.old p v) }
     ensures procs { tables.new.procs ≡ tables.old.procs }
 {
-    let first = mapping.at.0 / 512;
+    let first = mapping.at.0 / PAGE_BYTES;
     for k in 0..mapping.pages {
         let place = place_of(config, firsts, origin_after(mapping.from, k));
         let prot = mapping.prot;

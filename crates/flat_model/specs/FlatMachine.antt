@@ -1,6 +1,7 @@
 -- What the flat machine keeps, and how it answers. This project's own.
 use Rattle.std.specs.Prelude.{◌≡◌, ℕ, ◌*◌, vec_len, Bool, true, false, ◌&&◌, List, Option, Some, None, Result, ◌<◌, find, length, is_some, count_by, not, slice_get, MatchResult}
 use Rattle.std.specs.List.{position_or_len}
+use Rattle.vm_types.specs.declared.limits.TheConstants.{PRIVATE_PAGES}
 use Rattle.vm_types.specs.Access.{is_allowed}
 use Rattle.vm_types.specs.Configuration.{IsWellFormed}
 use Rattle.vm_types.specs.Kinds.{paged_of}
@@ -54,7 +55,7 @@ pub record AreTablesOf (config : Config) (tables : Tables) : Type 0 where
   pub well_formed : IsWellFormed config
   pub pagefile : tables.pagefile ≡ config.pagefile
   pub sections : tables.sections ≡ config.sections
-  pub places : vec_len tables.pages ≡ length config.procs * 5120
+  pub places : vec_len tables.pages ≡ length config.procs * PRIVATE_PAGES
 
 -- whether an entry is of a charged page that passes a test
 abbrev pub is_touch_of : Config → (Page → Bool) → Stored → Bool

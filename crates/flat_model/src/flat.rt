@@ -15,8 +15,8 @@ use crate::page::apply;
 use crate::tables::Tables;
 use std::alloc::Global;
 use vm_types::{
-    Addr, Config, NoMemory, Op, Origin, Page, Proc, Ref, Reply, Section, Service, Why, allowed,
-    is_same_page,
+    Addr, Config, NoMemory, Op, Origin, PAGE_BYTES, Page, Proc, Ref, Reply, Section, Service, Why,
+    allowed, is_same_page,
 };
 
 /// A page that was referred to, and its bytes.
@@ -84,7 +84,7 @@ fn is_own_in(page: Page, p: Proc, at: Addr, pages: u32) -> bool
 {
     match page {
         Page::Private(q, v) => {
-            let first = at.0 / 512;
+            let first = at.0 / PAGE_BYTES;
             p.0 == q.0 && first <= v && v - first < pages
         }
         Page::Shared(_, _) => false,
@@ -157,7 +157,7 @@ impl Flat {
         requires { IsWellFormedReference r }
         ensures told { AnswersAsFlat self.old self.new p.0 r result }
     {
-        let number = r.addr.0 / 512;
+        let number = r.addr.0 / PAGE_BYTES;
         let Some(behind) = self.tables.look(p, number) else {
             return Ok(Reply::Refused(Why::Unmapped));
         };

@@ -8,14 +8,14 @@ ghost use Rattle.flat_model.specs.Behind.{IsLaid, IsChangedIn, behind_by, protec
 ghost use Rattle.vm_types.specs.Laying.{CanLay, CanChange};
 
 use crate::behind::Behind;
-use vm_types::{Addr, Mapping, Proc, origin_after, page_place};
+use vm_types::{Addr, Mapping, PAGE_BYTES, Proc, origin_after, page_place};
 
 /// Maps each page of a mapping to what the mapping says.
 fn lay(pages: &mut [Option<Behind>], mapping: &Mapping)
     requires { CanLay (length pages.old) mapping.now }
     ensures { IsLaid mapping.now (item_at pages.old) (item_at pages.new) }
 {
-    let first = mapping.at.0 / 512;
+    let first = mapping.at.0 / PAGE_BYTES;
     for k in 0..mapping.pages {
         let place = page_place(mapping.proc, first + k).unwrap();
         pages[place] = Some(Behind {
@@ -50,7 +50,7 @@ pub(crate) fn set_range(
     requires { CanChange (length pages.old) p.0 at.0 count }
     ensures { IsChangedIn (λ old. to) p.0 at.0 count (item_at pages.old) (item_at pages.new) }
 {
-    let first = at.0 / 512;
+    let first = at.0 / PAGE_BYTES;
     for k in 0..count {
         let place = page_place(p, first + k).unwrap();
         pages[place] = to;
@@ -75,7 +75,7 @@ pub(crate) fn protect_range(pages: &mut [Option<Behind>], p: Proc, at: Addr, cou
     requires { CanChange (length pages.old) p.0 at.0 count }
     ensures { IsChangedIn (option_map (protected_by prot)) p.0 at.0 count (item_at pages.old) (item_at pages.new) }
 {
-    let first = at.0 / 512;
+    let first = at.0 / PAGE_BYTES;
     for k in 0..count {
         let place = page_place(p, first + k).unwrap();
         pages[place] = protected(pages[place], prot);

@@ -2,6 +2,7 @@
 
 ghost use Rattle.std.specs.Prelude.{◌≡◌, ℕ, ◌*◌, find, length, slice_get, vec_len, IfOk};
 ghost use Rattle.std.specs.Option.{option_map};
+ghost use Rattle.vm_types.specs.declared.limits.TheConstants.{PRIVATE_PAGES};
 ghost use Rattle.vm_types.specs.Behind.{covers};
 ghost use Rattle.vm_types.specs.PagePlaces.{item_at};
 ghost use Rattle.vm_types.specs.Configuration.{IsWellFormed};
@@ -15,7 +16,10 @@ use crate::behind::Behind;
 use crate::laying::lay_all;
 use crate::tables::Tables;
 use std::alloc::Global;
-use vm_types::{Config, Listed, NoMemory, Origin, Page, Proc, SecId, Section, SectionKind};
+use vm_types::{
+    Config, Listed, NoMemory, Origin, PAGE_BYTES, PRIVATE_PAGES, Page, Proc, SecId, Section,
+    SectionKind,
+};
 
 /// A copy of the bytes.
 fn copied(alloc: Global, bytes: &[u8]) -> Result<Listed<u8>, NoMemory>
@@ -49,10 +53,10 @@ fn sections_copy(alloc: Global, sections: &[Section]) -> Result<Listed<Section>,
 /// What each page of the processes is mapped to.
 fn pages_of(alloc: Global, config: &Config) -> Result<Vec<Option<Behind>>, NoMemory>
     requires { IsWellFormed config.now }
-    ensures count { IfOk result (λ pages. vec_len pages ≡ length config.now.procs * 5120) }
+    ensures count { IfOk result (λ pages. vec_len pages ≡ length config.now.procs * PRIVATE_PAGES) }
     ensures pages { IfOk result (λ pages. (p v : ℕ) → item_at pages.items p v ≡ option_map (behind_by v) (find (covers p v) config.now.maps)) }
 {
-    let mut pages = vec![in alloc; None; config.procs.items().len() * 5120]?;
+    let mut pages = vec![in alloc; None; config.procs.items().len() * PRIVATE_PAGES as usize]?;
     lay_all(&mut pages, config.maps.items());
     Ok(pages)
 }
@@ -123,9 +127,11 @@ pub fn bytes_at(sections: &[Section], origin: Origin) -> [u8; 512]
             if is_paged(sections, s) {
                 return [0; 512];
             }
-            let from = 512 * page as usize;
+            let from = PAGE_BYTES as usize * page as usize;
             let mut bytes = [0; 512];
-            bytes.copy_from_slice(&sections[s.0 as usize].bytes.items()[from..from + 512]);
+            bytes.copy_from_slice(
+                &sections[s.0 as usize].bytes.items()[from..from + PAGE_BYTES as usize],
+            );
             bytes
         }
     }

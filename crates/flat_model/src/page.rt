@@ -1,12 +1,13 @@
 //! The bytes of one page.
 
 ghost use Rattle.std.specs.Prelude.{◌≡◌, ℕ, ◌+◌, ◌<◌, ◌≤◌, ◌^◌, ◌++◌, length, take, drop};
+ghost use Rattle.vm_types.specs.declared.limits.TheConstants.{PAGE_BYTES};
 ghost use Rattle.vm_types.specs.declared.reference.Width.TheVariants.{One, Two, Four};
 ghost use Rattle.vm_types.specs.WellFormed.{IsWellFormedReference, width_bytes};
 ghost use Rattle.vm_text.specs.References.{IsReplyTo};
 ghost use Rattle.pager_model.specs.Flat.{number_at, with_number, reply_from, bytes_after, offset_in_page};
 
-use vm_types::{Op, Ref, Reply, Width};
+use vm_types::{Op, PAGE_BYTES, Ref, Reply, Width};
 
 /// The byte at an offset.
 fn byte_at(page: &[u8], offset: usize) -> u32
@@ -98,13 +99,13 @@ fn put_number(page: &mut [u8], width: Width, offset: usize, n: u32)
 
 /// The reply of a reference by the 512 bytes of its page, which it may change.
 pub fn apply(page: &mut [u8], r: Ref) -> Reply
-    requires page { length page.old ≡ 512 }
+    requires page { length page.old ≡ PAGE_BYTES }
     requires well_formed { IsWellFormedReference r }
     ensures reply { result ≡ reply_from r.op page.old (offset_in_page r) }
     ensures fits { IsReplyTo r.op result }
     ensures bytes { page.new ≡ bytes_after r.op page.old (offset_in_page r) }
 {
-    let offset = (r.addr.0 % 512) as usize;
+    let offset = (r.addr.0 % PAGE_BYTES) as usize;
     match r.op {
         Op::Read(width) => Reply::Value(number(page, width, offset)),
         Op::Write(width, n) => {

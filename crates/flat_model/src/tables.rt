@@ -2,6 +2,7 @@
 
 ghost use Rattle.std.specs.Prelude.{◌≡◌, ℕ, ◌+◌, ◌*◌, ◌<◌, ◌≤◌, ◌↔◌, Some, None, IsTrue, vec_len};
 ghost use Rattle.std.specs.Option.{option_map};
+ghost use Rattle.vm_types.specs.declared.limits.TheConstants.{PRIVATE_PAGES};
 ghost use Rattle.vm_types.specs.PagePlaces.{item_at};
 ghost use Rattle.vm_types.specs.WellFormed.{IsRange};
 ghost use Rattle.flat_model.specs.Behind.{IsChangedIn, protected_by};
@@ -9,7 +10,7 @@ ghost use Rattle.flat_model.specs.Usable.{IsUsable};
 
 use crate::behind::Behind;
 use crate::laying::{protect_range, set_range};
-use vm_types::{Addr, Listed, Proc, Section, page_place};
+use vm_types::{Addr, Listed, PRIVATE_PAGES, Proc, Section, page_place};
 
 /// The page file's size in blocks and the sections, which never change, and by its place what each
 /// page is mapped to.
@@ -32,15 +33,15 @@ impl Tables {
 
     /// Whether the tables have a process.
     pub(crate) fn has(&self, p: Proc) -> bool
-        ensures { IsTrue result ↔ (5120 * p.0 + 5120 ≤ vec_len self.now.pages) }
+        ensures { IsTrue result ↔ (PRIVATE_PAGES * p.0 + PRIVATE_PAGES ≤ vec_len self.now.pages) }
     {
-        p.0 as usize * 5120 + 5120 <= self.pages.len()
+        p.0 as usize * PRIVATE_PAGES as usize + PRIVATE_PAGES as usize <= self.pages.len()
     }
 
     /// Maps each page of a range to this, or to nothing.
     pub(crate) fn set(&mut self, p: Proc, at: Addr, count: u32, to: Option<Behind>)
         requires range { IsRange at.0 count }
-        requires room { 5120 * p.0 + 5120 ≤ vec_len self.old.pages }
+        requires room { PRIVATE_PAGES * p.0 + PRIVATE_PAGES ≤ vec_len self.old.pages }
         requires usable { IsUsable self.old.sections to }
         ensures pages { IsChangedIn (λ old. to) p.0 at.0 count (item_at self.old.pages.items) (item_at self.new.pages.items) }
         ensures count { vec_len self.new.pages ≡ vec_len self.old.pages }
@@ -53,7 +54,7 @@ impl Tables {
     /// Gives each mapped page of a range this protection code.
     pub(crate) fn protect(&mut self, p: Proc, at: Addr, count: u32, prot: u8)
         requires range { IsRange at.0 count }
-        requires room { 5120 * p.0 + 5120 ≤ vec_len self.old.pages }
+        requires room { PRIVATE_PAGES * p.0 + PRIVATE_PAGES ≤ vec_len self.old.pages }
         requires prot { prot < 16 }
         ensures pages { IsChangedIn (option_map (protected_by prot)) p.0 at.0 count (item_at self.old.pages.items) (item_at self.new.pages.items) }
         ensures count { vec_len self.new.pages ≡ vec_len self.old.pages }

@@ -4,6 +4,7 @@ use Rattle.std.specs.Prelude.{sum_by}
 use Rattle.std.proofs.lemmas.List.Elements.{All-weaker}
 use Rattle.std.proofs.lemmas.List.FromFn.{length-map-range_with_len}
 use Rattle.std.proofs.lemmas.List.Sums.{sum-map, sum_by-cons, sum_by-le}
+use Rattle.vm_types.specs.declared.limits.TheConstants.{MOST_EXTENT, MOST_SECTION_PAGES}
 use Rattle.vm_types.specs.Configuration.{IsProcess, IsWellFormed, all_pins, section_pages}
 use Rattle.vm_types.specs.SectionBlocks.{section_block_count}
 use Rattle.vm_types.specs.declared.config.Config.{Config}
@@ -33,13 +34,13 @@ fewer (x ∷ sections) =
     omega (arith, counts, pages, section_few x, fewer sections)
 
 -- they have 32-bit numbers
-pub few_pages : (config : Config) → IsWellFormed config → sum (block_counts config.sections) ≤ 16384
+pub few_pages : (config : Config) → IsWellFormed config → sum (block_counts config.sections) ≤ MOST_SECTION_PAGES
 few_pages config formed = let pages = formed.sections.pages in omega (arith, pages, fewer config.sections)
 
-pub few_slots : (config : Config) → IsWellFormed config → sum (extents config.procs) ≤ length config.procs * 1024
+pub few_slots : (config : Config) → IsWellFormed config → sum (extents config.procs) ≤ length config.procs * MOST_EXTENT
 few_slots config formed =
-    subst (λ n. n ≤ length config.procs * 1024) (sym (sum-map (λ (spec : ProcSpec). spec.extent) config.procs))
-    (sum_by-le (λ (spec : ProcSpec). spec.extent) 1024 config.procs (All-weaker (IsProcess config.frames (length config.bad + all_pins config)) (λ (spec : ProcSpec). spec.extent ≤ 1024) (λ (spec : ProcSpec) is. is.limited.most) config.procs formed.procs))
+    subst (λ n. n ≤ length config.procs * MOST_EXTENT) (sym (sum-map (λ (spec : ProcSpec). spec.extent) config.procs))
+    (sum_by-le (λ (spec : ProcSpec). spec.extent) MOST_EXTENT config.procs (All-weaker (IsProcess config.frames (length config.bad + all_pins config)) (λ (spec : ProcSpec). spec.extent ≤ MOST_EXTENT) (λ (spec : ProcSpec) is. is.limited.most) config.procs formed.procs))
 
 pub few_blocks : (config : Config) → IsWellFormed config → sum (block_counts config.sections) + config.pagefile + sum (extents config.procs) < 2 ^ 32
 few_blocks config formed = omega (arith, few_pages config formed, few_slots config formed, formed.some_process.1, formed.pagefile.1)

@@ -3,6 +3,7 @@
 use Rattle.std.specs.Prelude.{ℕ, List, Option, Some, None, replicate}
 use Rattle.std.specs.Option.{option_map}
 use Rattle.std.specs.Borrow.{Lends, MutBor, Fml, Array, u8}
+use Rattle.vm_types.specs.declared.limits.TheConstants.{PAGE_BYTES}
 use Rattle.page_pool.specs.Pool.{Buffer}
 use Rattle.frame_store.specs.declared.place.Place.{Place}
 use Rattle.frame_store.specs.declared.place.Place.TheVariants as place
@@ -10,7 +11,7 @@ use Rattle.frame_store.specs.contracts.place.Place.{the_row}
 
 -- a buffer of zeros as long as it wasn't written; none: out
 abbrev pub buffer_of : Place → Option Buffer
-buffer_of (place.Spare pool) = Some (record { pool = pool; bytes = replicate 512 0 })
+buffer_of (place.Spare pool) = Some (record { pool = pool; bytes = replicate PAGE_BYTES 0 })
 buffer_of (place.Buffer buf) = Some buf
 buffer_of place.Out = None
 

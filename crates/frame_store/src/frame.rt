@@ -3,6 +3,7 @@
 ghost use Rattle.std.specs.Prelude.{◌≡◌, ◌+◌, ◌<◌, ◌≤◌, Some, None, IsSome, IfSome, length, replicate};
 ghost use Rattle.std.specs.Option.{option_map};
 ghost use Rattle.std.specs.Borrow.{sem};
+ghost use Rattle.vm_types.specs.declared.limits.TheConstants.{PAGE_BYTES};
 ghost use Rattle.frame_store.specs.Place.{bytes_in, with_bytes};
 
 use crate::place::{Place, buffer};
@@ -43,7 +44,7 @@ impl Frame {
 
     /// A frame of zeros, which has a buffer once it is written.
     pub(crate) fn zeros(spare: SpareBuf) -> Frame
-        ensures { result ≡ Some (record { pool = spare; bytes = replicate 512 0 }) }
+        ensures { result ≡ Some (record { pool = spare; bytes = replicate PAGE_BYTES 0 }) }
     {
         Frame {
             place: Place::Spare(spare),
@@ -54,7 +55,7 @@ impl Frame {
     pub(crate) fn bytes(&self) -> &[u8]
         requires { IsSome self.now }
         ensures bytes { bytes_in self.now ≡ Some result.now }
-        ensures size { length result.now ≡ 512 }
+        ensures size { length result.now ≡ PAGE_BYTES }
     {
         match &self.place {
             Place::Buffer(buf) => buf.bytes(),
@@ -67,7 +68,7 @@ impl Frame {
         requires { IsSome self.old }
         ensures* writes_back { sem 𝓛 (LendsFrame self.entry result) }
         ensures bytes { bytes_in self.old ≡ Some result.now }
-        ensures size { length result.now ≡ 512 }
+        ensures size { length result.now ≡ PAGE_BYTES }
     {
         let place = &mut self.place;
         place.bytes_mut()
@@ -75,7 +76,7 @@ impl Frame {
 
     /// Makes its bytes zero, if it isn't out.
     pub(crate) fn zero(&mut self)
-        ensures { self.new ≡ with_bytes self.old (replicate 512 0) }
+        ensures { self.new ≡ with_bytes self.old (replicate PAGE_BYTES 0) }
     {
         if let Place::Buffer(buf) = &mut self.place {
             buf.zero();
@@ -114,7 +115,7 @@ impl Frame {
         ensures left { pool.new.left + 1 ≡ pool.old.left }
         ensures pool { result.pool ≡ pool.old.name }
         ensures bytes { bytes_in self.now ≡ Some result.bytes }
-        ensures size { length result.bytes ≡ 512 }
+        ensures size { length result.bytes ≡ PAGE_BYTES }
     {
         let buf = match &self.place {
             Place::Buffer(buf) => pool.take_copy(buf).unwrap(),
@@ -128,8 +129,8 @@ impl Frame {
 
 /// The bytes of a frame that wasn't written.
 fn zeros() -> &'static [u8]
-    ensures bytes { result.now ≡ replicate 512 0 }
-    ensures size { length result.now ≡ 512 }
+    ensures bytes { result.now ≡ replicate PAGE_BYTES 0 }
+    ensures size { length result.now ≡ PAGE_BYTES }
 {
     &ZEROS
 }

@@ -1,4 +1,5 @@
 ghost use Rattle.std.specs.Prelude.{◌≡◌, ◌+◌, ◌<◌, ◌^◌, true, false, length, if◌then◌else◌, OnOk, OnErr};
+ghost use Rattle.vm_types.specs.declared.limits.TheConstants.{PAGE_BYTES};
 ghost use Rattle.disk_trait.specs.Told.{told, IsAnyContent};
 ghost use Rattle.frame_store.specs.LiftView.{IsCarried};
 
@@ -131,7 +132,7 @@ impl<B: Block> Lift<B> {
           buffer = self.new.buffer;
           result = self.new.result;
         } }
-        ensures size { length self.new.buffer ≡ 512 }
+        ensures size { length self.new.buffer ≡ PAGE_BYTES }
         ensures written { self.old.is_read ≡ false → self.new.buffer ≡ self.old.buffer }
         ensures plan { (B.seen self.new.held).plan ≡ (B.seen self.old.held).plan }
         ensures reads { (B.seen self.new.held).reads ≡ (B.seen self.old.held).reads + (if self.old.is_read then 1 else 0) }
@@ -151,7 +152,7 @@ impl<B: Block> Lift<B> {
 fn move_bytes<B: Block>(block: &mut B, buf: &mut PageBuf, read: bool) -> Result<(), Failed>
     requires { (B.seen block.old).reads + (B.seen block.old).writes < 2 ^ 48 }
     ensures pool { buf.new.pool ≡ buf.old.pool }
-    ensures size { length buf.new.bytes ≡ 512 }
+    ensures size { length buf.new.bytes ≡ PAGE_BYTES }
     ensures written { read ≡ false → buf.new ≡ buf.old }
     ensures plan { (B.seen block.new).plan ≡ (B.seen block.old).plan }
     ensures reads { (B.seen block.new).reads ≡ (B.seen block.old).reads + (if read then 1 else 0) }

@@ -5,7 +5,7 @@ ghost use Rattle.frame_store.specs.Blocks.{block_counts, blocks_of, extents, pag
 ghost use Rattle.frame_store.specs.Numbers.{AreNumbers, first_at, firsts, listed_by, number_by};
 
 use std::alloc::{AllocError, Global};
-use vm_types::{BlockId, Config, NoMemory, ProcSpec, Section, SectionKind};
+use vm_types::{BlockId, Config, NoMemory, PAGE_BYTES, ProcSpec, Section, SectionKind};
 
 /// The numbers of the first blocks of each section, of the page file, and of each process's swap space.
 #[derive(Drop)]
@@ -75,7 +75,7 @@ pub fn page_counts(alloc: Global, sections: &[Section]) -> Result<Vec<usize>, Al
 {
     sections
         .iter()
-        .map(|section| section.bytes.items().len() / 512)
+        .map(|section| section.bytes.items().len() / PAGE_BYTES as usize)
         .collect(alloc)
 }
 
@@ -84,7 +84,7 @@ pub fn section_block_count(section: &Section) -> usize
     ensures { result ≡ section_block_count section.now }
 {
     match section.kind {
-        SectionKind::Shared | SectionKind::Crf => section.bytes.items().len() / 512,
+        SectionKind::Shared | SectionKind::Crf => section.bytes.items().len() / PAGE_BYTES as usize,
         SectionKind::Paged => 0,
     }
 }

@@ -1,6 +1,7 @@
 //! The buffers of a store's frames as they are at the start.
 
 ghost use Rattle.std.specs.Prelude.{◌≡◌, ◌+◌, ◌≤◌, IfOk, OnOk, Some, replicate};
+ghost use Rattle.vm_types.specs.declared.limits.TheConstants.{PAGE_BYTES};
 
 use crate::frame::Frame;
 use page_pool::Pool;
@@ -10,7 +11,7 @@ use std::alloc::{AllocError, Global};
 pub(crate) fn zero_frames(alloc: Global, pool: &mut Pool, n: u32) -> Result<Vec<Frame>, AllocError>
     requires { n ≤ pool.old.left }
     ensures buffers { IfOk result (λ v.
-        v.items ≡ replicate n (Some (record { pool = pool.old.name; bytes = replicate 512 0 }))) }
+        v.items ≡ replicate n (Some (record { pool = pool.old.name; bytes = replicate PAGE_BYTES 0 }))) }
     ensures left { OnOk result (pool.new.left + n ≡ pool.old.left) }
     ensures name { pool.new.name ≡ pool.old.name }
 {

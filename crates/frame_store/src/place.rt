@@ -2,6 +2,7 @@
 
 ghost use Rattle.std.specs.Prelude.{◌≡◌, IsSome, Some, length};
 ghost use Rattle.std.specs.Borrow.{sem};
+ghost use Rattle.vm_types.specs.declared.limits.TheConstants.{PAGE_BYTES};
 ghost use Rattle.frame_store.specs.Place.{LendsPlace, buffer_of, bytes_in};
 
 use page_pool::{PageBuf, SpareBuf};
@@ -24,7 +25,7 @@ impl Place {
         requires { IsSome (buffer_of self.old) }
         ensures* writes_back { sem 𝓛 (LendsPlace self.entry result) }
         ensures bytes { bytes_in (buffer_of self.old) ≡ Some result.now }
-        ensures size { length result.now ≡ 512 }
+        ensures size { length result.now ≡ PAGE_BYTES }
     {
         if let Place::Buffer(buf) = self {
             return buf.bytes_mut();
@@ -38,7 +39,7 @@ impl Place {
         requires { IsSome (buffer_of self.old) }
         ensures* writes_back { sem 𝓛 (LendsPlace self.entry result) }
         ensures bytes { bytes_in (buffer_of self.old) ≡ Some result.now }
-        ensures size { length result.now ≡ 512 }
+        ensures size { length result.now ≡ PAGE_BYTES }
     {
         *self = Place::Buffer(buffer(mem::replace(self, Place::Out)));
         match self {

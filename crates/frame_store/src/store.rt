@@ -1,5 +1,6 @@
 ghost use Rattle.std.specs.Prelude.{◌≡◌, ◌+◌, ◌-◌, ◌*◌, ◌<◌, ◌≤◌, ◌^◌, true, false, if◌then◌else◌, length, replicate, Option, Some, None, IsSome, IfSome, IfOk, All, map, is_some, slice_get, slice_set};
 ghost use Rattle.std.specs.Borrow.{sem};
+ghost use Rattle.vm_types.specs.declared.limits.TheConstants.{PAGE_BYTES};
 ghost use Rattle.vm_types.specs.declared.names.BlockId.{BlockId};
 ghost use Rattle.page_pool.specs.Pool.{Buffer};
 
@@ -12,7 +13,7 @@ use page_pool::{PageBuf, Pool};
 use pfn_database::Pfns;
 use std::alloc::Global;
 use std::marker::Model;
-use vm_types::{BlockId, Config, NoMemory, Page, Pfn, Seat};
+use vm_types::{BlockId, Config, NoMemory, PAGE_BYTES, Page, Pfn, Seat};
 
 /// The frames of memory with their buffers, the blocks of the disk, and the open transfers. An open
 /// transfer has its block with it; a read has the frame's buffer too, and a write a copy of it.
@@ -66,7 +67,7 @@ impl<B: Block> Store<B> {
         ensures left { IfOk result (λ s. s.left ≡ 16 * (length config.now.procs + 2)) }
         ensures size { IfOk result (λ s. s.pool.size ≡ config.now.frames + 16 * (length config.now.procs + 2)) }
         ensures frames { IfOk result (λ s. s.frames ≡ opening config.now.frames config.now.bad) }
-        ensures buffers { IfOk result (λ s. s.buffers ≡ replicate config.now.frames (Some (replicate 512 0))) }
+        ensures buffers { IfOk result (λ s. s.buffers ≡ replicate config.now.frames (Some (replicate PAGE_BYTES 0))) }
         ensures ids { IfOk result (λ s. s.ids ≡ blocks_of config.now) }
         ensures blocks { IfOk result (λ s. s.blocks ≡ map (λ (p : BlockId × B). Some p.1) blocks.items) }
         ensures flights { IfOk result (λ s. s.flights ≡ replicate config.now.frames None) }
@@ -120,7 +121,7 @@ impl<B: Block> Store<B> {
     pub fn bytes(&self, f: Pfn) -> &[u8]
         requires { IsSome (held_at self.now.buffers f.0) }
         ensures bytes { held_at self.now.buffers f.0 ≡ Some result.now }
-        ensures size { length result.now ≡ 512 }
+        ensures size { length result.now ≡ PAGE_BYTES }
     {
         self.buffers[f.0 as usize].bytes()
     }
@@ -130,7 +131,7 @@ impl<B: Block> Store<B> {
         requires { IsSome (held_at self.old.buffers f.0) }
         ensures* writes_back { sem 𝓛 (LendsBytes B.row B.Block self.entry f.0 result) }
         ensures bytes { held_at self.old.buffers f.0 ≡ Some result.now }
-        ensures size { length result.now ≡ 512 }
+        ensures size { length result.now ≡ PAGE_BYTES }
     {
         self.buffers[f.0 as usize].bytes_mut()
     }
@@ -139,7 +140,7 @@ impl<B: Block> Store<B> {
     pub fn zero(&mut self, f: Pfn)
         requires { IsSome (held_at self.old.buffers f.0) }
         ensures { self.new ≡ record self.old {
-          buffers = slice_set self.old.buffers f.0 (Some (replicate 512 0));
+          buffers = slice_set self.old.buffers f.0 (Some (replicate PAGE_BYTES 0));
         } }
     {
         self.buffers[f.0 as usize].zero();
@@ -157,7 +158,7 @@ impl<B: Block> Store<B> {
         ensures lift { result ≡ begun self.old.pool seat page f.0 id start true result.buffer result.held }
         ensures buffer { held_at self.old.buffers f.0 ≡ Some result.buffer }
         ensures held { held_at self.old.blocks (number_in self.old.ids id) ≡ Some result.held }
-        ensures size { length result.buffer ≡ 512 }
+        ensures size { length result.buffer ≡ PAGE_BYTES }
     {
         let buf = self.buffers[f.0 as usize].take();
         let block = self.home.take(id);
@@ -191,7 +192,7 @@ impl<B: Block> Store<B> {
         ensures lift { result ≡ begun self.old.pool seat page f.0 id start false result.buffer result.held }
         ensures buffer { held_at self.old.buffers f.0 ≡ Some result.buffer }
         ensures held { held_at self.old.blocks (number_in self.old.ids id) ≡ Some result.held }
-        ensures size { length result.buffer ≡ 512 }
+        ensures size { length result.buffer ≡ PAGE_BYTES }
     {
         let buf = self.buffers[f.0 as usize].copy(&mut self.pool);
         let block = self.home.take(id);
@@ -219,7 +220,7 @@ impl<B: Block> Store<B> {
         requires buffer { lift.is_read ≡ true → held_at self.old.buffers lift.frame ≡ None }
         requires block { slice_get self.old.blocks (number_in self.old.ids lift.block) ≡ Some None }
         ensures store { self.new ≡ landed self.old lift }
-        ensures size { length lift.buffer ≡ 512 }
+        ensures size { length lift.buffer ≡ PAGE_BYTES }
     {
         let Lift {
             frame,

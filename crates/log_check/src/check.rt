@@ -1,4 +1,5 @@
 ghost use Rattle.std.specs.Prelude.{◌≡◌, ◌+◌, ◌≤◌, ◌<◌, List, [], ℕ, IfOk, IfSome, IsSome, length};
+ghost use Rattle.vm_types.specs.declared.limits.TheConstants.{MOST_LOG_LINES};
 ghost use Rattle.vm_types.specs.Configuration.{IsWellFormed};
 ghost use Rattle.outside_io.specs.BytesLeft.{bytes_left};
 ghost use Rattle.log_check.specs.Followed.{IsFollowed};
@@ -32,7 +33,7 @@ enum Step {
 
 /// What is said where a log ends behind so many lines, all of them legal.
 fn end_of(place: &Place, lines: u32) -> Verdict
-    requires { lines ≤ 16777216 }
+    requires { lines ≤ MOST_LOG_LINES }
     ensures { IsEndOf place.now lines result }
 {
     match place {
@@ -59,7 +60,7 @@ fn take_next<S: Source>(
     count: u32,
 ) -> Result<Step, CheckFault>
     requires followed { IsFollowed followed.old }
-    requires few { count < 16777216 }
+    requires few { count < MOST_LOG_LINES }
     requires fewer { length followed.old.past.past ≤ count }
     ensures text { AnswersNext followed.old place count (bytes_left S.seen lines.old) followed.new (bytes_left S.seen lines.new) result }
     ensures front { (text : List ℕ) → IsBehind text count (bytes_left S.seen lines.old) → IsFrontNext text count (bytes_left S.seen lines.new) out.new.items result }

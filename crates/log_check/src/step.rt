@@ -1,6 +1,7 @@
 //! Why an entry isn't a legal next one.
 
 ghost use Rattle.std.specs.Prelude.{◌≡◌, ◌↔◌, ◌+◌, ◌<◌, ◌≤◌, IfSome, IsNone, length};
+ghost use Rattle.vm_types.specs.declared.limits.TheConstants.{MOST_FRAMES};
 ghost use Rattle.vm_journal.specs.HasLine.{HasLine, WhatHasLine};
 ghost use Rattle.pager_model.specs.Order.{IsInOrder};
 ghost use Rattle.pager_model.specs.Step.{IsLegal, IsLegalWhat};
@@ -33,7 +34,7 @@ fn what_fails(
     requires line { WhatHasLine (length past.now.config.procs) past.now.config.sections what }
     requires seat { seat.0 < length past.now.config.procs + 2 }
     requires processes { (shown pager.now).processes ≡ length past.now.config.procs }
-    requires frames { (shown pager.now).frames ≤ 16384 }
+    requires frames { (shown pager.now).frames ≤ MOST_FRAMES }
     requires flat { FollowsFlat past.now.config past.now.past (shown pager.now).pager }
     requires order { IsInOrder past.now.config past.now.past }
     ensures legal { IsNone result ↔ IsLegalWhat past.now.config past.now.past (shown pager.now).pager seat.0 what }

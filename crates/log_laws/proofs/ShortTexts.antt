@@ -6,6 +6,7 @@ use Rattle.std.proofs.lemmas.List.Elements.{All-append, All-filter, All-map, All
 use Rattle.std.proofs.lemmas.List.FromFn.{get_or-range_with_len, length-map-range_with_len, length-range_with_len}
 use Rattle.std.proofs.lemmas.List.Sums.{count_by-le-length, get_or-le-sum_by, sum_by-cons}
 use Rattle.std.proofs.lemmas.Option.{get_or_from_slice_get, slice_get_within}
+use Rattle.vm_types.specs.declared.limits.TheConstants.{MOST_BLOCKS, MOST_FRAMES, MOST_SECTION_PAGES}
 use Rattle.vm_types.specs.Configuration.{IsWellFormed, section_pages}
 use Rattle.vm_types.specs.Kinds.{is_shared_kind}
 use Rattle.vm_types.specs.Ring.{is_filled_slot}
@@ -123,7 +124,7 @@ process_short p row count limit =
     (spelt {n = 7} {text = codes " LIMIT "} (omega arith))) (number_most row.limit limit)))
 
 -- ---- the pages have names
-most_pages : (sections : List Section) (s : ℕ) (section : Section) → sum_by section_pages sections ≤ 16384 → slice_get sections s ≡ Some section → section_pages section ≤ 16384
+most_pages : (sections : List Section) (s : ℕ) (section : Section) → sum_by section_pages sections ≤ MOST_SECTION_PAGES → slice_get sections s ≡ Some section → section_pages section ≤ MOST_SECTION_PAGES
 most_pages sections s section few at =
     let same = ap section_pages (get_or_from_slice_get sections s section section at) in
     omega (arith, get_or-le-sum_by section_pages sections s section (slice_get_within sections s section at), few, same)
@@ -142,14 +143,14 @@ page_named config (Shared s i) formed of_it =
     )
 
 module _ (procs : ℕ) (names : List Section) (few : length names ≤ 64) where
-  own_named : (s n : ℕ) (b : Bool) → s < length names → n ≤ 16384 → All (IsNamedPage procs names) (if b then map (Shared (record { 0 = s })) (range_with_len 0 n) else [])
+  own_named : (s n : ℕ) (b : Bool) → s < length names → n ≤ MOST_FRAMES → All (IsNamedPage procs names) (if b then map (Shared (record { 0 = s })) (range_with_len 0 n) else [])
   own_named s n true there most =
       All-map (IsNamedPage procs names) (Shared (record { 0 = s })) (range_with_len 0 n) (λ k d inside.
       let less : k < n = omega (arith, inside, length-range_with_len 0 n) in
       (record { there = there; small = omega (arith, there, few) }, omega (arith, get_or-range_with_len 0 n k d less, less, most)))
   own_named s n false there most = All-nil (IsNamedPage procs names)
 
-  from_named : (s : ℕ) (sections : List Section) → s + length sections ≡ length names → sum_by section_pages sections ≤ 16384 → All (IsNamedPage procs names) (pages_from s sections)
+  from_named : (s : ℕ) (sections : List Section) → s + length sections ≡ length names → sum_by section_pages sections ≤ MOST_SECTION_PAGES → All (IsNamedPage procs names) (pages_from s sections)
   from_named s [] sized most = All-nil (IsNamedPage procs names)
   from_named s (section ∷ sections) sized most =
       let all = sum_by-cons section_pages section sections in
@@ -190,10 +191,10 @@ module _ (config : Config) (past : List Entry) (formed : IsWellFormed config) (r
       (process_short p (process_row a p) (omega (arith, count_by-le-length is_filled_slot (a.ring p).slots, bounds.1.slots, bounds.2)) (omega (arith, bounds.1.most, bounds.2)))
       (processes_short (p + 1) n (omega (arith, within)))
 
-  charged_small : length a.charged ≤ 16384
+  charged_small : length a.charged ≤ MOST_BLOCKS
   charged_small = omega (arith, kept.fit, formed.pagefile.1)
 
-  assigned_small : length a.assigned ≤ 16384
+  assigned_small : length a.assigned ≤ MOST_BLOCKS
   assigned_small = omega (arith, assigned_fit a.assigned a.charged (λ g. (kept.pages g).blocks) (λ g. (kept.pages g).charged), charged_small)
 
   -- the report's lines

@@ -2,6 +2,7 @@
 use Rattle.std.proofs.Common.{ℕ, ◌+◌, ◌*◌, ◌^◌, ◌<◌, ◌≤◌, Bool, true, false, List, [], ◌∷◌, ◌++◌, Option, length, refl, sym, subst, arith, length-append, lit<, lit≤}
 use Rattle.std.specs.Prelude.{codes, decimal}
 use Rattle.std.proofs.lemmas.Fmt.{length-decimal-le}
+use Rattle.vm_types.specs.declared.limits.TheConstants.{PAGE_BYTES}
 use Rattle.vm_types.specs.declared.config.Section.{Section}
 use Rattle.vm_types.specs.declared.names.BlockId.{BlockId}
 use Rattle.vm_types.specs.declared.names.BlockId.TheVariants as block
@@ -75,7 +76,7 @@ module _ (procs : ℕ) (names : List Section) (are : AreNames procs names) where
       both (section_most s there) (both {m = 1} {xs = codes "/"} (record { is = omega arith }) (small_most i small))
 
   pub page_most : (page : Page) → IsNamedPage procs names page → AtMost 26 (page_text names page)
-  page_most (Private p v) named = within 26 (omega arith) (place_most p.0 (512 * v))
+  page_most (Private p v) named = within 26 (omega arith) (place_most p.0 (PAGE_BYTES * v))
   page_most (Shared s i) named = section_page_most s.0 i named.0.there named.1
 
   pub block_most : (b : BlockId) → IsNamedBlock procs names b → AtMost 28 (block_text names b)

@@ -1,5 +1,6 @@
 -- A log as a text: legal whole, at fault at a line, or too long. This project's own.
 use Rattle.std.specs.Prelude.{◌≡◌, ◌≢◌, ◌⊎◌, ℕ, ◌+◌, ◌<◌, ◌≤◌, List, [], ◌∷◌, ◌++◌, length}
+use Rattle.vm_types.specs.declared.limits.TheConstants.{MOST_LOG_LINES}
 use Rattle.vm_types.specs.declared.config.Config.{Config}
 use Rattle.vm_journal.specs.declared.entry.Entry.{Entry}
 use Rattle.pager_model.specs.Order.{IsInOrder}
@@ -34,7 +35,7 @@ pub record BeginsLegal (config : Config) (text : List ℕ) (count : ℕ) (stand 
 
 -- how many lines a log may have
 abbrev pub most_lines : ℕ
-most_lines = 16777216
+most_lines = MOST_LOG_LINES
 
 -- all lines are legal, the status line is the last one, and so many are entries
 pub record IsLegalLog (config : Config) (text : List ℕ) (entries : ℕ) : Type 0 where

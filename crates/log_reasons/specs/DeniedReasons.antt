@@ -1,5 +1,6 @@
 -- What a condition that doesn't hold states, of the row DENIED. This project's own.
 use Rattle.std.specs.Prelude.{◌≡◌, ◌⊎◌, ◌*◌, ◌≤◌, ℕ, true, List, Some, None, length}
+use Rattle.vm_types.specs.declared.limits.TheConstants.{PAGE_BYTES}
 use Rattle.vm_types.specs.declared.config.Config.{Config}
 use Rattle.vm_types.specs.declared.names.Proc.{Proc}
 use Rattle.vm_types.specs.declared.names.ProcStatus.TheVariants as status
@@ -34,7 +35,7 @@ LostFails config past p other = ⊥
 
 -- a read, where it was for a fault, was for the page of the address
 abbrev pub RoleForFails : Role → ℕ → Reason → Type 0
-RoleForFails r address (reason.LostOtherPage at) = (q : Proc) × (r ≡ role.Fault q at) × (at.0 ≡ page_number address * 512 → ⊥)
+RoleForFails r address (reason.LostOtherPage at) = (q : Proc) × (r ≡ role.Fault q at) × (at.0 ≡ page_number address * PAGE_BYTES → ⊥)
 RoleForFails r address other = ⊥
 
 abbrev pub WayForFails : Direction → ℕ → Reason → Type 0

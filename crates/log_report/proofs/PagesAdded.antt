@@ -5,6 +5,7 @@ use Rattle.std.specs.List.{range_with_len}
 use Rattle.std.proofs.lemmas.List.{append_assoc, drop_more}
 use Rattle.std.proofs.lemmas.List.FromFn.{map-range_with_len_more}
 use Rattle.std.proofs.lemmas.List.Sums.{get_or-le-sum_by}
+use Rattle.vm_types.specs.declared.limits.TheConstants.{MOST_SECTION_PAGES}
 use Rattle.vm_types.specs.Configuration.{section_pages}
 use Rattle.vm_types.specs.declared.config.Section.{Section}
 use Rattle.vm_types.specs.declared.names.Page.{Page}
@@ -32,5 +33,5 @@ section_added sections s section old new all within read added before =
     next = drop_more sections s section within ∙ ap (λ (x : Section). x ∷ drop (s + 1) sections) (sym read)
 
 -- sections have few pages
-pub few_pages : (sections : List Section) → sum_by section_pages sections ≤ 16384 → All (λ (section : Section). section_pages section ≤ 16384) sections
+pub few_pages : (sections : List Section) → sum_by section_pages sections ≤ MOST_SECTION_PAGES → All (λ (section : Section). section_pages section ≤ MOST_SECTION_PAGES) sections
 few_pages sections few k d within = omega (arith, get_or-le-sum_by section_pages sections k d within, few)

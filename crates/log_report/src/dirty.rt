@@ -1,6 +1,7 @@
 //! The pages of shared sections that are held with modify set.
 
 ghost use Rattle.std.specs.Prelude.{◌≡◌, ◌≤◌, ◌++◌, ◌&&◌, All, IfOk, OnOk, filter, length};
+ghost use Rattle.vm_types.specs.declared.limits.TheConstants.{MOST_SECTION_PAGES};
 ghost use Rattle.vm_types.specs.Configuration.{IsWellFormed, section_pages};
 ghost use Rattle.vm_types.specs.declared.config.Section.{Section as SectionOf};
 ghost use Rattle.pager_model.specs.Forget.{holds_page};
@@ -10,7 +11,9 @@ ghost use Rattle.log_report.specs.SharedPages.{shared_pages_of};
 
 use shadow_pager::ShadowPager;
 use std::alloc::Global;
-use vm_types::{Config, NoMemory, Page, Pfn, SecId, Section, is_same_page, is_shared_kind};
+use vm_types::{
+    Config, NoMemory, PAGE_BYTES, Page, Pfn, SecId, Section, is_same_page, is_shared_kind,
+};
 
 /// Whether this is the page that is held.
 fn holds(page: Page, held: Option<Page>) -> bool
@@ -43,14 +46,14 @@ fn is_dirty(config: &Config, pager: &ShadowPager, page: Page) -> bool
 
 /// Adds the pages of a section, if it is a shared one.
 fn add_pages(s: SecId, section: &Section, pages: &mut Vec<Page>) -> Result<(), NoMemory>
-    requires { section_pages section.now ≤ 16384 }
+    requires { section_pages section.now ≤ MOST_SECTION_PAGES }
     ensures { OnOk result (pages.new.items ≡ pages.old.items ++ shared_pages_of s.0 section.now) }
 {
     if !is_shared_kind(section.kind) {
         return Ok(());
     }
     let bytes = section.bytes.items();
-    for i in 0..(bytes.len() / 512) as u32 {
+    for i in 0..(bytes.len() / PAGE_BYTES as usize) as u32 {
         pages.push(Page::Shared(s, i))?;
     }
     Ok(())
@@ -59,7 +62,7 @@ fn add_pages(s: SecId, section: &Section, pages: &mut Vec<Page>) -> Result<(), N
 /// The pages of shared sections, in order of section and page.
 fn shared_pages(alloc: Global, sections: &[Section]) -> Result<Vec<Page>, NoMemory>
     requires few { length sections.now ≤ 64 }
-    requires small { All (λ (section : SectionOf). section_pages section ≤ 16384) sections.now }
+    requires small { All (λ (section : SectionOf). section_pages section ≤ MOST_SECTION_PAGES) sections.now }
     ensures { IfOk result (λ pages. pages.items ≡ pages_from 0 sections.now) }
 {
     let mut pages = Vec::new(alloc);

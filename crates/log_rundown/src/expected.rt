@@ -1,4 +1,5 @@
 ghost use Rattle.std.specs.Prelude.{◌≡◌, ◌*◌, nat_eq};
+ghost use Rattle.vm_types.specs.declared.limits.TheConstants.{PAGE_BYTES};
 ghost use Rattle.pager_policy.specs.Rundown.{writer_of};
 ghost use Rattle.log_laws.specs.Underway.{is_made, landed_as, same_made, shown_as};
 ghost use Rattle.log_rundown.specs.Chosen.{eviction_as};
@@ -8,7 +9,7 @@ use crate::eviction::Eviction;
 use crate::write::Write;
 use shadow_history::{Flight, ShadowHistory};
 use vm_journal::{Entry, EvictWhy, What};
-use vm_types::{Addr, Config, Pfn, Proc, Seat, is_same_block, is_same_state};
+use vm_types::{Addr, Config, PAGE_BYTES, Pfn, Proc, Seat, is_same_block, is_same_state};
 
 /// Whether it is the modified page writer's seat.
 fn is_writer(config: &Config, seat: Seat) -> bool
@@ -19,9 +20,9 @@ fn is_writer(config: &Config, seat: Seat) -> bool
 
 /// Whether the address is the first one of the page of this number.
 fn is_page_address(vpn: u32, a: Addr) -> bool
-    ensures { result ≡ nat_eq (512 * vpn) a.0 }
+    ensures { result ≡ nat_eq (PAGE_BYTES * vpn) a.0 }
 {
-    512 * u64::from(vpn) == u64::from(a.0)
+    u64::from(PAGE_BYTES) * u64::from(vpn) == u64::from(a.0)
 }
 
 /// Whether the entry is this eviction.

@@ -1,6 +1,7 @@
 ghost use Rattle.std.specs.Prelude.{◌≡◌, ◌&&◌, ◌-◌, ◌<◌, ◌≤◌, IfSome, length, nat_le};
 ghost use Rattle.std.specs.List.{range_with_len};
 ghost use Rattle.std.specs.Option.{option_map};
+ghost use Rattle.vm_types.specs.declared.limits.TheConstants.{MOST_EXTENT};
 ghost use Rattle.vm_types.specs.Configuration.{IsWellFormed};
 ghost use Rattle.pager_policy.specs.Rundown.{is_shared_at, shared_from, shared_of_processes, shared_place};
 ghost use Rattle.shadow_pager.specs.Shown.{shown};
@@ -27,7 +28,7 @@ fn is_shared_from(pager: &ShadowPager, p: Proc, n: u32, m: u32) -> bool
 /// The first slot of a process, from this one on, that has a shared page.
 fn shared_from(pager: &ShadowPager, p: Proc, n: u32) -> Option<u32>
     ensures first { result ≡ shared_from (shown pager.now).pager p.0 n }
-    ensures few { IfSome result (λ m. m < 1024) }
+    ensures few { IfSome result (λ m. m < MOST_EXTENT) }
 {
     for m in 0..pager.slots_of(p) {
         if is_shared_from(pager, p, n, m) {

@@ -2,6 +2,7 @@
 -- reserved protection code, which no entry's word has. No contract of a public call names these
 -- definitions.
 use Rattle.std.specs.Prelude.{◌≡◌, ℕ, false, ◌*◌, ◌/◌, ◌%◌, ◌^◌, ◌<◌, ◌&&◌, not, List, Option, Some, None, length, map, nat_eq, nat_lt, slice_index, if◌then◌else◌}
+use Rattle.vm_types.specs.declared.limits.TheConstants.{PRIVATE_PAGES}
 use Rattle.pte_forms.specs.Word.{word_of}
 use Rattle.pte_forms.specs.declared.pte.Pte.{Pte}
 use Rattle.pte_forms.specs.declared.pte.Place.{Place}
@@ -47,5 +48,5 @@ pub record IsKeptWord (word : ℕ) : Type 0 where
 
 -- 5120 words for each process; each of them but that of no entry stands for an entry
 pub record ArePacked (procs : ℕ) (words : List ℕ) : Type 0 where
-  pub count : length words ≡ procs * 5120
+  pub count : length words ≡ procs * PRIVATE_PAGES
   pub kept : (place : ℕ) → place < length words → nat_eq (slice_index words place) absent ≡ false → IsKeptWord (slice_index words place)

@@ -8,7 +8,7 @@ use crate::packed::{ABSENT, entry_by, word_at};
 use pte_forms::{Pte, to_word};
 use std::alloc::Global;
 use std::marker::Model;
-use vm_types::{NoMemory, Proc, page_place};
+use vm_types::{NoMemory, PRIVATE_PAGES, Proc, page_place};
 
 /// The page tables of the processes, each over P0 pages 0 to 4095 and the last 1024 pages of P1. A
 /// page is numbered by its first address divided by 512. No entry has the modify mark, which the
@@ -44,7 +44,7 @@ impl Tables {
     {
         Ok(Tables {
             procs,
-            words: vec![in alloc; ABSENT; procs as usize * 5120]?,
+            words: vec![in alloc; ABSENT; procs as usize * PRIVATE_PAGES as usize]?,
         })
     }
 

@@ -7,6 +7,7 @@ use Rattle.std.proofs.lemmas.Bool.{and_parts, eqb-true, false≢true, leb-true, 
 use Rattle.std.proofs.lemmas.Option.{none-some, get_or_from_slice_get, slice_get_within}
 use Rattle.std.proofs.lemmas.List.Folds.{find_at}
 use Rattle.std.specs.List.{position_or_len}
+use Rattle.vm_types.specs.declared.limits.TheConstants.{P0_PAGES, P1_PAGES, PAGE_BYTES}
 use Rattle.vm_types.specs.Configuration.{IsBlock}
 use Rattle.vm_types.specs.declared.names.SecId.{SecId}
 use Rattle.pager_model.specs.Lookups.{count_page, is_assigned_to}
@@ -86,7 +87,7 @@ page_right config map p v g right = go (map p v) refl
 in_pages : (address pages v : ℕ) → IsRange address pages → page_number address ≤ v → v < page_number address + pages → IsMappable v
 in_pages address pages v range low high = by range.inside
   where
-    by : (address + 512 * pages ≤ 512 * 4096) ⊎ ((2 ^ 31 - 512 * 1024 ≤ address) × (address + 512 * pages ≤ 2 ^ 31)) → IsMappable v
+    by : (address + PAGE_BYTES * pages ≤ PAGE_BYTES * P0_PAGES) ⊎ ((2 ^ 31 - PAGE_BYTES * P1_PAGES ≤ address) × (address + PAGE_BYTES * pages ≤ 2 ^ 31)) → IsMappable v
     by (inl below) = inl (omega (arith, range.aligned))
     by (inr above) = inr (omega (arith, range.aligned, above.0), omega (arith, range.aligned, above.1))
 

@@ -3,6 +3,7 @@
 use Rattle.std.specs.Prelude.{◌≡◌, ◌<◌, ℕ, Bool, true, false, List, Option, Some, length, count_by, slice_get, nat_eq, not}
 use Rattle.std.specs.Option.{is_some}
 use Rattle.std.specs.List.{AllByRecursion}
+use Rattle.vm_types.specs.declared.limits.TheConstants.{PAGE_BYTES}
 use Rattle.vm_types.specs.BlockView.{BlockView}
 use Rattle.vm_types.specs.Configuration.{IsBlock}
 use Rattle.vm_types.specs.declared.names.Page.{Page}
@@ -29,7 +30,7 @@ has_bytes other = true
 
 -- each buffer has a page's length; the one of a frame is away exactly while the frame is read
 pub record HasBuffers (config : Config) (state_of : ℕ → FrameState) (buffer : ℕ → Option (List ℕ)) : Type 0 where
-  pub sizes : (f : ℕ) (bytes : List ℕ) → buffer f ≡ Some bytes → length bytes ≡ 512
+  pub sizes : (f : ℕ) (bytes : List ℕ) → buffer f ≡ Some bytes → length bytes ≡ PAGE_BYTES
   pub home : (f : ℕ) → f < config.frames → is_some (buffer f) ≡ not (is state.Reading (state_of f))
 
 -- each block of the configuration is home exactly while it is in no flight

@@ -1,6 +1,7 @@
 -- DENIED: a reference is refused, with the flat machine's reason or for a lost carrier. This project's
 -- own; access control violations by Kenah and Bate, "VAX/VMS Internals and Data Structures", paging.
 use Rattle.std.specs.Prelude.{◌≡◌, ◌⊎◌, ℕ, false, ◌+◌, ◌*◌, ◌<◌, List, Some, length}
+use Rattle.vm_types.specs.declared.limits.TheConstants.{PAGE_BYTES}
 use Rattle.vm_types.specs.declared.names.Addr.{Addr}
 use Rattle.vm_types.specs.declared.names.Page.{Page}
 use Rattle.vm_types.specs.declared.names.Proc.{Proc}
@@ -36,7 +37,7 @@ pub record IsDenied (config : Config) (past : List Entry) (a : Pager) (p : ℕ) 
 -- the process isn't resident, or the page is mapped and its entry isn't valid
 pub record IsDeniedFault (config : Config) (past : List Entry) (a : Pager) (p : ℕ) (r : Ref) (reason : Why) : Type 0 where
   pub lost : HasLost past p
-  pub named : (x : Flight) (q : Proc) (at : Addr) → (carrying p past).first ≡ Some x → x.direction ≡ reading (role.Fault q at) → at.0 ≡ page_number (r.addr).0 * 512
+  pub named : (x : Flight) (q : Proc) (at : Addr) → (carrying p past).first ≡ Some x → x.direction ≡ reading (role.Fault q at) → at.0 ≡ page_number (r.addr).0 * PAGE_BYTES
   pub fault : reason ≡ why.DiskFault
   pub process : p < length config.procs
   pub waits : (a.status p ≡ status.Resident → ⊥) ⊎ ((g : Page) × (page_by config a.map p (page_number (r.addr).0) ≡ Some g) × (entries_at a.valid p (page_number (r.addr).0) ≡ 0))

@@ -2,6 +2,7 @@
 -- project's own; rights by the VAX Architecture Reference Manual.
 use Rattle.std.specs.Prelude.{ℕ, Bool, true, false, ◌+◌, ◌%◌, ◌^◌, ◌&&◌, List, [], ◌++◌, Option, Some, None, length, take, drop, nat_eq, not, if◌then◌else◌}
 use Rattle.std.specs.Int.{from_le_bytes, to_le_bytes, w8, w16, w32}
+use Rattle.vm_types.specs.declared.limits.TheConstants.{PAGE_BYTES}
 use Rattle.vm_types.specs.Access.{is_allowed}
 use Rattle.vm_types.specs.declared.names.Page.{Page}
 use Rattle.vm_types.specs.declared.names.Page.TheVariants.{Private, Shared}
@@ -92,7 +93,7 @@ found_at config flat p r None = []
 found_at config flat p r (Some m) = page_bytes config flat (page_behind config p (page_number (r.addr).0) m.origin) m.origin
 
 abbrev pub offset_in_page : Ref → ℕ
-offset_in_page r = (r.addr).0 % 512
+offset_in_page r = (r.addr).0 % PAGE_BYTES
 
 abbrev pub reply_unless : Option Why → Reply → Reply
 reply_unless None answer = answer

@@ -2,6 +2,7 @@
 -- copy on reference; a section in the page file is shared, and has no file.
 use Rattle.std.specs.Prelude.{ℕ, Bool, true, false, ◌*◌, List, Option, Some, None, find, slice_get, replicate, take, drop, if◌then◌else◌}
 use Rattle.std.specs.Option.{option_map}
+use Rattle.vm_types.specs.declared.limits.TheConstants.{PAGE_BYTES}
 use Rattle.vm_types.specs.declared.names.Proc.{Proc}
 use Rattle.vm_types.specs.declared.names.Page.{Page}
 use Rattle.vm_types.specs.declared.names.Page.TheVariants.{Private, Shared}
@@ -45,8 +46,8 @@ page_behind config p v (origin.Section s i) =
 
 -- the bytes of a section's page
 abbrev pub bytes_of : Option Section → ℕ → List ℕ
-bytes_of None i = replicate 512 0
-bytes_of (Some section) i = take 512 (drop (512 * i) section.bytes)
+bytes_of None i = replicate PAGE_BYTES 0
+bytes_of (Some section) i = take PAGE_BYTES (drop (PAGE_BYTES * i) section.bytes)
 
 abbrev pub section_bytes : Config → ℕ → ℕ → List ℕ
 section_bytes config s i = bytes_of (slice_get config.sections s) i
@@ -54,9 +55,9 @@ section_bytes config s i = bytes_of (slice_get config.sections s) i
 -- the bytes that a page has before it is touched: zeros behind a demand zero page and in a section of the page
 -- file, else its file's
 abbrev pub first_bytes : Config → Origin → List ℕ
-first_bytes config origin.Zero = replicate 512 0
+first_bytes config origin.Zero = replicate PAGE_BYTES 0
 first_bytes config (origin.Section s i) =
-    if paged_of (slice_get config.sections s.0) then replicate 512 0 else section_bytes config s.0 i
+    if paged_of (slice_get config.sections s.0) then replicate PAGE_BYTES 0 else section_bytes config s.0 i
 
 abbrev pub is_private : Page → Bool
 is_private (Private p v) = true

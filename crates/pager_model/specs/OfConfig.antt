@@ -1,6 +1,7 @@
 -- What is mapped, held and assigned is of the configuration. This project's own.
 use Rattle.std.specs.Prelude.{◌≡◌, ◌⊎◌, ℕ, true, ◌-◌, ◌^◌, ◌<◌, ◌≤◌, Option, Some, length, slice_get}
 use Rattle.std.specs.List.{AllByRecursion}
+use Rattle.vm_types.specs.declared.limits.TheConstants.{P0_PAGES, P1_PAGES}
 use Rattle.vm_types.specs.Configuration.{IsSectionPage}
 use Rattle.vm_types.specs.WellFormed.{IsCode}
 use Rattle.vm_types.specs.declared.names.Page.{Page}
@@ -14,7 +15,7 @@ use Rattle.pager_model.specs.Pager.{Pager, Assigned}
 
 -- a page that a process may map: of P0 the pages 0 to 4095, of P1 the last 1024
 abbrev pub IsMappable : ℕ → Type 0
-IsMappable v = (v < 4096) ⊎ ((2 ^ 22 - 1024 ≤ v) × (v < 2 ^ 22))
+IsMappable v = (v < P0_PAGES) ⊎ ((2 ^ 22 - P1_PAGES ≤ v) × (v < 2 ^ 22))
 
 abbrev pub IsOrigin : Config → Origin → Type 0
 IsOrigin config origin.Zero = Unit {0}

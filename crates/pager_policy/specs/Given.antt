@@ -2,6 +2,7 @@
 -- project's own.
 use Rattle.std.specs.Prelude.{ℕ, Bool, ◌+◌, ◌*◌, ◌&&◌, List, [], ◌∷◌, Option, Some, None, length, slice_get, nat_le, if◌then◌else◌}
 use Rattle.std.specs.List.{range_with_len}
+use Rattle.vm_types.specs.declared.limits.TheConstants.{PAGE_BYTES}
 use Rattle.vm_types.specs.Ring.{Held}
 use Rattle.vm_types.specs.declared.names.Addr.{Addr}
 use Rattle.vm_types.specs.declared.names.Page.{Page}
@@ -50,7 +51,7 @@ made_by seat (w ∷ ws) past = made_by seat ws (by_seat seat w ∷ past)
 
 -- the first address of a page
 abbrev pub page_address : ℕ → Addr
-page_address v = record { 0 = 512 * v }
+page_address v = record { 0 = PAGE_BYTES * v }
 
 abbrev pub address_of : Page → Addr
 address_of (Private p v) = page_address v

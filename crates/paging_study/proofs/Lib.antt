@@ -14,6 +14,7 @@ pub mod Together
 pub mod Distance
 pub mod RingSteps
 pub mod OneChoice
+pub mod PageStrings
 pub mod LetGo
 pub mod MarkCounts
 pub mod Hints

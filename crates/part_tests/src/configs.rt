@@ -5,7 +5,7 @@ ghost use Rattle.vm_types.specs.Configuration.{IsWellFormed};
 
 use std::alloc::Global;
 use vm_types::{
-    Addr, Config, Listed, Mapping, Mode, NoMemory, Op, Origin, Params, Proc, ProcSpec, Ref,
+    Addr, Body, Config, Listed, Mapping, Mode, NoMemory, Op, Origin, Params, Proc, ProcSpec, Ref,
     Request, SecId, Section, SectionKind, Task, Version, Width,
 };
 
@@ -88,6 +88,9 @@ pub(crate) fn config(alloc: Global, pagefile: u32) -> Result<Config, NoMemory>
     };
     let first = Origin::Section(SecId(0), 0);
     let second = Origin::Section(SecId(1), 0);
+    let mut body = Body::new(alloc);
+    body.push(task(0))?;
+    body.push(task(1))?;
     Ok(Config {
         version: Version::One,
         frames: 64,
@@ -107,6 +110,6 @@ pub(crate) fn config(alloc: Global, pagefile: u32) -> Result<Config, NoMemory>
             mapping(15, 0x7fff_fe00, second, 4),
         ]?),
         fails: Listed::new(alloc),
-        body: Listed::of(vec![in alloc; task(0), task(1)]?),
+        body,
     })
 }

@@ -4,6 +4,7 @@ use Rattle.std.proofs.lemmas.Bool.{eqb-false, eqb-true}
 use Rattle.std.proofs.lemmas.List.{get_or-replicate, get_or-set_other, get_or-set_same, length-replicate}
 use Rattle.std.proofs.lemmas.List.Sums.{count_by-le-length, get_or-le-sum_by, sum_by_more}
 use Rattle.std.proofs.lemmas.Option.{none-some, same_Some, slice_get-get_or}
+use Rattle.vm_types.specs.declared.limits.TheConstants.{MOST_EXTENT}
 use Rattle.vm_types.specs.Configuration.{IsWellFormed}
 use Rattle.vm_types.specs.Ring.{Held, filled, is_filled_slot}
 use Rattle.vm_types.specs.declared.config.Config.{Config}
@@ -237,7 +238,7 @@ module _ (config : Config) (past : List Entry) (formed : IsWellFormed config) (r
         let at : slice_get config.procs p ≡ Some (get_or specs p d) = slice_get-get_or config.procs p d there ∙ ap (λ (xs : List ProcSpec). Some (get_or xs p d)) (sym are) in
         sym ((kept.processes p).bounds (get_or specs p d) at).slots
 
-    pub few_slots : p < length config.procs → length slots ≤ 1024
+    pub few_slots : p < length config.procs → length slots ≤ MOST_EXTENT
     few_slots there =
         let none : ProcSpec = record { limit = 0; quota = 0; extent = 0; locks = 0 } in
         omega (arith, extent_is config.procs none refl there, (formed.procs p none there).limited.most)

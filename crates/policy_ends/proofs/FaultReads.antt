@@ -2,6 +2,7 @@
 use Rattle.std.proofs.Common.{◌≡◌, ℕ, ◌+◌, ◌*◌, ◌<◌, ◌≤◌, Bool, true, false, cond, List, [], ◌∷◌, Option, Some, None, length, find, count_by, is_some, refl, sym, ap, ◌∙◌, subst, arith}
 use Rattle.std.specs.List.{AllByRecursion}
 use Rattle.std.proofs.lemmas.Bool.{and_from, eq-eqb, false≢true, true≢false}
+use Rattle.vm_types.specs.declared.limits.TheConstants.{PAGE_BYTES}
 use Rattle.vm_types.specs.declared.names.BlockId.{BlockId}
 use Rattle.vm_types.specs.declared.names.BlockId.TheVariants as block
 use Rattle.vm_types.specs.declared.config.Config.{Config}
@@ -135,7 +136,7 @@ module _ (config : Config) (now : List Entry) (none : open_flights now ≡ []) (
   valid_first =
       ap (λ (o : Option Flight). is_some (entry_of (after_in_ok (pager_after config begun) f o).valid p v)) is_open
       ∙ ap is_some
-      (find_cons_yes (is_entry p v) (valid_at p (page_number (512 * v)) f) (pager_after config begun).valid (and_from _ _ (nat_eq_refl p) (eq-eqb (page_number (512 * v)) v (same_number v))))
+      (find_cons_yes (is_entry p v) (valid_at p (page_number (PAGE_BYTES * v)) f) (pager_after config begun).valid (and_from _ _ (nat_eq_refl p) (eq-eqb (page_number (PAGE_BYTES * v)) v (same_number v))))
 
   pub read_valid : (outcomes : List Outcome) → length outcomes ≡ length (carrier_of p (made_by p (what.In (pfn f) b (role.Fault (proc p) (page_address v)) ∷ rest) now)) → first_bad outcomes ≡ false
       → HasEntry p v (pager_after config (landed_from config (made_by p (what.In (pfn f) b (role.Fault (proc p) (page_address v)) ∷ rest) now) p outcomes))

@@ -3,6 +3,7 @@
 use Rattle.std.proofs.Common.{◌≡◌, ℕ, ◌*◌, ◌<◌, ◌≤◌, ◌&&◌, Bool, true, false, not, cond, List, ◌∷◌, Option, Some, None, length, count_by, slice_get, slice_set, nat_eq, nat_le, refl, sym, ap, ap₂, ◌∙◌, subst, arith}
 use Rattle.std.specs.List.{sum_by}
 use Rattle.std.proofs.lemmas.Bool.{eqb-false, eqb-true, eq-eqb, false≢true, leb-true, ne_eqb}
+use Rattle.vm_types.specs.declared.limits.TheConstants.{PAGE_BYTES}
 use Rattle.vm_types.specs.Ring.{Held, Ring, filled, is_filled_slot}
 use Rattle.vm_types.specs.declared.names.FrameState.{FrameState}
 use Rattle.vm_types.specs.declared.names.ProcStatus.{ProcStatus}
@@ -136,6 +137,6 @@ pub evict_lowers : (config : Config) (past : List Entry) (seat p q n f u v : ℕ
 evict_lowers config past seat p q n f u v why formed calm there most run =
     let a : Pager = pager_after config past in
     let more : List Entry = by_seat seat (eviction past a q n f why) ∷ past in
-    let less = evicted_fewer config past a seat q (512 * n) f why (goes_to past a f) (run_kept config past formed run.0) calm run.1.row in
+    let less = evicted_fewer config past a seat q (PAGE_BYTES * n) f why (goes_to past a f) (run_kept config past formed run.0) calm run.1.row in
     lower_filled config past more a (pager_after config more) p u v (omega arith) (omega arith) (omega arith) (omega arith) most
-    (ring_lower config a q (evicted_ring why (a.ring q) (a.limit q) (page_number (512 * n))) there less (pager_after config more) refl)
+    (ring_lower config a q (evicted_ring why (a.ring q) (a.limit q) (page_number (PAGE_BYTES * n))) there less (pager_after config more) refl)

@@ -6,6 +6,7 @@ use Rattle.std.proofs.lemmas.Bool.{and_from, cases_lt, eq-eqb, eqb-true, le-leb,
 use Rattle.std.proofs.lemmas.List.FromFn.{length-range_with_len}
 use Rattle.std.proofs.lemmas.List.Sums.{sum_by-cons}
 use Rattle.std.proofs.lemmas.Option.{get_or_from_slice_get, slice_get_within}
+use Rattle.vm_types.specs.declared.limits.TheConstants.{MOST_EXTENT}
 use Rattle.vm_types.specs.Configuration.{IsProcess, IsWellFormed, all_pins}
 use Rattle.vm_types.proofs.Versions.{requests_at_most}
 use Rattle.vm_types.specs.Ring.{Held, filled, is_filled_slot}
@@ -38,7 +39,7 @@ use Rattle.policy_ends.proofs.Order.{fewer_pass}
 use Rattle.policy_ends.proofs.WriteSteps.{count_most}
 
 -- ---- sums and cases
-sum_most : {X : Type 0} (f : X → ℕ) (xs : List X) → ((x : X) → f x ≤ 1024) → sum_by f xs ≤ 1024 * length xs
+sum_most : {X : Type 0} (f : X → ℕ) (xs : List X) → ((x : X) → f x ≤ MOST_EXTENT) → sum_by f xs ≤ MOST_EXTENT * length xs
 sum_most f [] each = omega arith
 sum_most f (x ∷ xs) each = let first = each x in omega (arith, first, sum_by-cons f x xs, sum_most f xs each)
 
@@ -84,10 +85,10 @@ module _ (config : Config) (past : List Entry) (formed : IsWellFormed config) (r
   kept = run_kept config past formed run
 
   -- ---- slots
-  few_filled : (q : ℕ) → filled (a.ring q).slots ≤ 1024
+  few_filled : (q : ℕ) → filled (a.ring q).slots ≤ MOST_EXTENT
   few_filled q = by (slice_get config.procs q) refl
     where
-      by : (o : Option ProcSpec) → slice_get config.procs q ≡ o → filled (a.ring q).slots ≤ 1024
+      by : (o : Option ProcSpec) → slice_get config.procs q ≡ o → filled (a.ring q).slots ≤ MOST_EXTENT
       by None is = let none = (kept.processes q).none is in omega (arith, none.1, count_most is_filled_slot (a.ring q).slots)
       by (Some spec) is =
           let known : IsProcess config.frames (length config.bad + all_pins config) spec = subst (λ (s : ProcSpec). IsProcess config.frames (length config.bad + all_pins config) s) (get_or_from_slice_get config.procs q spec spec is) (formed.procs q spec (slice_get_within config.procs q spec is)) in
@@ -105,7 +106,7 @@ module _ (config : Config) (past : List Entry) (formed : IsWellFormed config) (r
   others_most p = let most = formed.some_process in
       omega (arith, most.1, processes_length, sum_most (λ (q : ℕ). cond (nat_eq q p) 0 (presence (a.status q))) (processes_of config) (λ q. by (nat_eq q p) (presence_most (a.status q))))
     where
-      by : {n : ℕ} (b : Bool) → n ≤ 2 → cond b 0 n ≤ 1024
+      by : {n : ℕ} (b : Bool) → n ≤ 2 → cond b 0 n ≤ MOST_EXTENT
       by true less = omega arith
       by false less = omega (arith, less)
 

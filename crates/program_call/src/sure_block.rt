@@ -1,4 +1,5 @@
 ghost use Rattle.std.specs.Prelude.{◌≡◌, ◌+◌, ◌^◌, ◌<◌, ◌≤◌, ◌++◌, ◌↔◌, length, take, drop, Some, true, refl, IfOk, OnOk, OnErr, IsErr, IsTrue, Contains, if◌then◌else◌};
+ghost use Rattle.vm_types.specs.declared.limits.TheConstants.{PAGE_BYTES};
 
 use disk_trait::{Block, is_due, write_half};
 use std::alloc::Global;
@@ -13,7 +14,7 @@ pub(crate) struct SureBlock {
     reads: u64,
     writes: u64,
     faults: u64,
-    ghost whole: { length bytes.items ≡ 512 },
+    ghost whole: { length bytes.items ≡ PAGE_BYTES },
     ghost few_calls: { reads + writes ≤ 2 ^ 48 },
     ghost few_faults: { faults ≤ reads + writes },
 }
@@ -24,7 +25,7 @@ impl SureBlock {
     /// # Errors
     /// `NoMemory` if memory ran out.
     pub(crate) fn new(alloc: Global, bytes: &[u8], calls: &[u32]) -> Result<SureBlock, NoMemory>
-        requires { length bytes.now ≡ 512 }
+        requires { length bytes.now ≡ PAGE_BYTES }
         ensures bytes { IfOk result (λ b. b.bytes.items ≡ bytes.now) }
         ensures calls { IfOk result (λ b. b.calls.items ≡ calls.now) }
         ensures reads { IfOk result (λ b. b.reads ≡ 0) }
@@ -66,7 +67,7 @@ impl Block for SureBlock {
     ghost few_faults = { λ b. lt_of_le_of_lt (le_trans b.few_faults b.few_calls) (lit< tt) };
 
     fn read(&mut self, buf: &mut [u8]) -> Result<(), Failed>
-        requires size { length buf.old ≡ 512 }
+        requires size { length buf.old ≡ PAGE_BYTES }
         requires few_calls { self.old.reads + self.old.writes < 2 ^ 48 }
         ensures fails { IsErr result ↔ Contains self.old.calls.items (self.old.reads + self.old.writes + 1) }
         ensures bytes { OnOk result (buf.new ≡ self.old.bytes.items) }
@@ -89,7 +90,7 @@ impl Block for SureBlock {
 
     /// A write that fails leaves the first 256 bytes new and the rest old.
     fn write(&mut self, bytes: &[u8]) -> Result<(), Failed>
-        requires size { length bytes.now ≡ 512 }
+        requires size { length bytes.now ≡ PAGE_BYTES }
         requires few_calls { self.old.reads + self.old.writes < 2 ^ 48 }
         ensures fails { IsErr result ↔ Contains self.old.calls.items (self.old.reads + self.old.writes + 1) }
         ensures content { OnOk result (self.new.bytes.items ≡ bytes.now) }

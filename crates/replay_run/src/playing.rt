@@ -70,7 +70,7 @@ fn works_of<B: Block>(
     ensures count { IfOk result (λ works. length works.items ≡ procs + 2) }
     ensures each { IfOk result (λ works. (k : ℕ) (work : _) → slice_get works.items k ≡ Some work → work.items ≡ requests_of k state.now.config.body) }
 {
-    all_works(alloc, state.config().body.items(), procs + 2)
+    all_works(alloc, &state.config().body, procs + 2)
 }
 
 /// The lock round a state that has no entries, and the jobs of its seats, the last seat's first.

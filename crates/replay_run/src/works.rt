@@ -1,16 +1,8 @@
-ghost use Rattle.std.specs.Prelude.{◌≡◌, ℕ, ◌<◌, [], ◌∷◌, ◌++◌, IfOk, OnOk, Some, length, slice_get};
+ghost use Rattle.std.specs.Prelude.{◌≡◌, ℕ, [], ◌∷◌, ◌++◌, IfOk, OnOk, Some, length, slice_get};
 ghost use Rattle.pager_model.specs.Order.{requests_of};
 
 use std::alloc::Global;
-use vm_types::{NoMemory, Request, Task};
-
-/// The task at a place.
-fn task_at(body: &[Task], i: usize) -> Task
-    requires { i < length body.now }
-    ensures { slice_get body.now i ≡ Some result }
-{
-    body[i]
-}
+use vm_types::{Body, NoMemory, Request, Task};
 
 /// Adds the request of a task, if it is the process's.
 #[tactic(auto, using(crate::proofs::TaskRequests::asks_here, crate::proofs::TaskRequests::asks_none))]
@@ -29,12 +21,12 @@ fn add_request(requests: &mut Vec<Request>, task: Task, k: u32) -> Result<(), No
 /// # Errors
 /// `NoMemory` if memory ran out.
 #[tactic(auto, using(crate::proofs::TaskRequests::requests_more))]
-fn work_of(alloc: Global, body: &[Task], k: u32) -> Result<Vec<Request>, NoMemory>
+fn work_of(alloc: Global, body: &Body, k: u32) -> Result<Vec<Request>, NoMemory>
     ensures { IfOk result (λ v. v.items ≡ requests_of k body.now) }
 {
     let mut requests = Vec::new(alloc);
     for i in 0..body.len() {
-        let task = task_at(body, i);
+        let task = body.at(i);
         add_request(&mut requests, task, k)?;
     }
     Ok(requests)
@@ -44,7 +36,7 @@ fn work_of(alloc: Global, body: &[Task], k: u32) -> Result<Vec<Request>, NoMemor
 ///
 /// # Errors
 /// `NoMemory` if memory ran out.
-pub(crate) fn all_works(alloc: Global, body: &[Task], n: u32) -> Result<Vec<Vec<Request>>, NoMemory>
+pub(crate) fn all_works(alloc: Global, body: &Body, n: u32) -> Result<Vec<Vec<Request>>, NoMemory>
     ensures count { IfOk result (λ works. length works.items ≡ n) }
     ensures each { IfOk result (λ works. (k : ℕ) (work : _) → slice_get works.items k ≡ Some work → work.items ≡ requests_of k body.now) }
 {

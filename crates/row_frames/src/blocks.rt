@@ -9,7 +9,7 @@ ghost use Rattle.log_reasons.specs.ReadReasons.{HomeFails};
 use log_reasons::Reason;
 use shadow_history::ShadowHistory;
 use shadow_tables::is_paged;
-use vm_types::{BlockId, Config, Page, Proc, SecId, Section};
+use vm_types::{BlockId, Config, PAGE_BYTES, Page, Proc, SecId, Section};
 
 /// Whether a section has a page of this number.
 fn has_page(sections: &[Section], s: SecId, page: u32) -> bool
@@ -17,7 +17,7 @@ fn has_page(sections: &[Section], s: SecId, page: u32) -> bool
 {
     match sections.get(s.0 as usize) {
         None => false,
-        Some(section) => (page as usize) < section.bytes.items().len() / 512,
+        Some(section) => (page as usize) < section.bytes.items().len() / PAGE_BYTES as usize,
     }
 }
 

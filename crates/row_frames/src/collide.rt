@@ -14,7 +14,7 @@ use log_reasons::Reason;
 use row_requests::own_fails;
 use shadow_history::ShadowHistory;
 use shadow_pager::ShadowPager;
-use vm_types::{Addr, Config, Pfn, Proc, Seat};
+use vm_types::{Addr, Config, PAGE_BYTES, Pfn, Proc, Seat};
 
 /// A fault that meets a read: of which seat and at which address the fault is, into which frame the read
 /// goes, and the number of the entry that began it. Any numbers.
@@ -83,5 +83,12 @@ pub fn collide_fails(past: &ShadowHistory<'_>, pager: &ShadowPager, c: Collision
     if let Some(reason) = other_read_fails(past, p, c.frame, c.read) {
         return Some(reason);
     }
-    named_fails(past.config(), pager, p, c.at.0 / 512, c.frame, c.read)
+    named_fails(
+        past.config(),
+        pager,
+        p,
+        c.at.0 / PAGE_BYTES,
+        c.frame,
+        c.read,
+    )
 }

@@ -19,7 +19,7 @@ use shadow_history::ShadowHistory;
 use shadow_pager::ShadowPager;
 use shadow_tables::Ring;
 use vm_journal::EvictWhy;
-use vm_types::{Addr, BlockId, Choice, FrameState, Page, Pfn, Proc, ProcStatus, Seat};
+use vm_types::{Addr, BlockId, Choice, FrameState, PAGE_BYTES, Page, Pfn, Proc, ProcStatus, Seat};
 
 /// A page that leaves a working set: which seat's entry it is, of which process and at which address the
 /// page is, in which frame, why it leaves, and to which state the frame goes. Any numbers.
@@ -54,7 +54,7 @@ fn taken_fails(past: &ShadowHistory<'_>, pager: &ShadowPager, e: Eviction) -> Op
     ensures said { IfSome result (TakenFails past.now.past (shown pager.now).pager (e.process).0 (page_number (e.at).0) (e.frame).0 e.to) }
 {
     let f = e.frame;
-    match pager.entry(e.process, e.at.0 / 512) {
+    match pager.entry(e.process, e.at.0 / PAGE_BYTES) {
         None => Some(Reason::PageNotValid),
         Some(entry) => {
             if entry.frame().0 != f.0 {
@@ -148,7 +148,7 @@ fn replace_fails(past: &ShadowHistory<'_>, pager: &ShadowPager, e: Eviction) -> 
     if let Some(reason) = full_fails(pager, p) {
         return Some(reason);
     }
-    if let Some(reason) = victim_fails(pager.ring(p), pager.limit_of(p), e.at.0 / 512) {
+    if let Some(reason) = victim_fails(pager.ring(p), pager.limit_of(p), e.at.0 / PAGE_BYTES) {
         return Some(reason);
     }
     if let Some(reason) = taken_fails(past, pager, e) {
@@ -194,7 +194,7 @@ fn drop_fails(
     if let Some(reason) = taken_fails(past, pager, e) {
         return Some(reason);
     }
-    if let Some(reason) = loose_fails(pager.ring(e.process), e.at.0 / 512, purged) {
+    if let Some(reason) = loose_fails(pager.ring(e.process), e.at.0 / PAGE_BYTES, purged) {
         return Some(reason);
     }
     waits_fails(past, pager, e.to)
@@ -254,7 +254,7 @@ fn leaving_fails(past: &ShadowHistory<'_>, pager: &ShadowPager, e: Eviction) -> 
     ensures said { IfSome result (LeavingFails past.now.config past.now.past (shown pager.now).pager (e.process).0 (e.at).0 (e.frame).0 e.to) }
 {
     let p = e.process;
-    let v = e.at.0 / 512;
+    let v = e.at.0 / PAGE_BYTES;
     let block = BlockId::Swap(p, pager.ring(p).slot_with(v));
     if let Some(reason) = leaves_fails(pager, p) {
         return Some(reason);

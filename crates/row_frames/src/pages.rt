@@ -19,7 +19,9 @@ use row_requests::{empty_head_fails, own_fails, room_fails};
 use shadow_history::ShadowHistory;
 use shadow_pager::ShadowPager;
 use shadow_tables::{Behind, is_paged};
-use vm_types::{Addr, BlockId, Config, FrameState, Origin, Page, Pfn, Proc, ProcStatus, Seat};
+use vm_types::{
+    Addr, BlockId, Config, FrameState, Origin, PAGE_BYTES, Page, Pfn, Proc, ProcStatus, Seat,
+};
 
 /// A page that comes back: of which process and at which address it is, and its frame and that one's state.
 #[derive(Clone, Copy)]
@@ -124,7 +126,7 @@ pub fn zero_fails(
     if let Some(reason) = own_fails(config, pager, p) {
         return Some(reason);
     }
-    if let Some(reason) = zeros_fail(config, pager, p, a.0 / 512) {
+    if let Some(reason) = zeros_fail(config, pager, p, a.0 / PAGE_BYTES) {
         return Some(reason);
     }
     if let Some(reason) = room_fails(pager, p) {
@@ -153,7 +155,7 @@ fn stay_fails(config: &Config, pager: &ShadowPager, back: Back) -> Option<Reason
         × (entries_at (shown pager.now).pager.valid (back.process).0 (page_number (back.at).0) ≡ 0) × ((shown pager.now).pager.state (back.frame).0 ≡ back.from)) }
     ensures said { IfSome result (StayFails config.now (shown pager.now).pager (back.process).0 (page_number (back.at).0) (back.frame).0 back.from) }
 {
-    let v = back.at.0 / 512;
+    let v = back.at.0 / PAGE_BYTES;
     if let Some(reason) = held_fails(config, pager, back.process, v, back.frame) {
         return Some(reason);
     }
@@ -205,7 +207,7 @@ fn swapped_fails(config: &Config, pager: &ShadowPager, back: Back) -> Option<Rea
     if back.from != FrameState::Free {
         return Some(Reason::NotFromFree);
     }
-    match pager.page_of(config, back.process, back.at.0 / 512) {
+    match pager.page_of(config, back.process, back.at.0 / PAGE_BYTES) {
         None => None,
         Some(page) => {
             let lies = pager.lies(page);

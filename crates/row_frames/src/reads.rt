@@ -21,7 +21,7 @@ use shadow_history::{Direction, ShadowHistory};
 use shadow_pager::ShadowPager;
 use shadow_tables::Behind;
 use vm_journal::Role;
-use vm_types::{Addr, BlockId, Config, Origin, Page, Pfn, Proc, ProcStatus, Seat};
+use vm_types::{Addr, BlockId, Config, Origin, PAGE_BYTES, Page, Pfn, Proc, ProcStatus, Seat};
 
 /// A read that begins: which seat's it is, into which frame, and of which block.
 #[derive(Clone, Copy)]
@@ -123,7 +123,14 @@ fn fault_page_fails(
     if let Some(reason) = may_read_fails(past, pager, read) {
         return Some(reason);
     }
-    from_fails(past, pager, Proc(read.seat.0), a.0 / 512, read.block, page)
+    from_fails(
+        past,
+        pager,
+        Proc(read.seat.0),
+        a.0 / PAGE_BYTES,
+        read.block,
+        page,
+    )
 }
 
 /// The page that a process has at a page number.
@@ -145,7 +152,7 @@ fn in_fault_fails(
     ensures legal { IsNone result ↔ IsInFault past.now.config past.now.past (shown pager.now).pager (read.seat).0 (read.frame).0 read.block q.0 a.0 }
     ensures said { IfSome result (InFaultFails past.now.config past.now.past (shown pager.now).pager (read.seat).0 (read.frame).0 read.block q.0 a.0) }
 {
-    match page_of(past, pager, Proc(read.seat.0), a.0 / 512) {
+    match page_of(past, pager, Proc(read.seat.0), a.0 / PAGE_BYTES) {
         None => Some(Reason::NotMapped),
         Some(page) => fault_page_fails(past, pager, read, q, a, page),
     }
@@ -304,7 +311,7 @@ fn in_come_fails(
     ensures legal { IsNone result ↔ IsInCome past.now.config past.now.past (shown pager.now).pager (read.frame).0 read.block q a.0 }
     ensures said { IfSome result (InComeFails past.now.config past.now.past (shown pager.now).pager (read.frame).0 read.block q a.0) }
 {
-    match page_of(past, pager, q, a.0 / 512) {
+    match page_of(past, pager, q, a.0 / PAGE_BYTES) {
         None => Some(Reason::NotMapped),
         Some(page) => come_page_fails(past, pager, read, q, page),
     }

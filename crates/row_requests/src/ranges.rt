@@ -1,6 +1,7 @@
 //! The pages of a range, one by one.
 
 ghost use Rattle.std.specs.Prelude.{◌≡◌, ◌↔◌, ◌+◌, ◌≤◌, ℕ, true, false, None, Some, IfSome, IsNone, IsTrue};
+ghost use Rattle.vm_types.specs.declared.limits.TheConstants.{MOST_FRAMES};
 ghost use Rattle.vm_types.specs.WellFormed.{IsRange};
 ghost use Rattle.vm_types.specs.declared.names.Page.{Page as AnyPage};
 ghost use Rattle.pager_model.specs.FlatService.{in_range};
@@ -15,7 +16,7 @@ ghost use Rattle.shadow_pager.specs.Shown.{shown};
 use log_reasons::Reason;
 use shadow_history::ShadowHistory;
 use shadow_pager::ShadowPager;
-use vm_types::{Addr, Config, Page, Pfn, Proc};
+use vm_types::{Addr, Config, PAGE_BYTES, Page, Pfn, Proc};
 
 /// Pages of a process, from an address on.
 #[derive(Clone, Copy)]
@@ -53,7 +54,7 @@ fn first_unmapped(config: &Config, pager: &ShadowPager, range: Range) -> Option<
     ensures found { IfSome result (λ v. (in_range (range.at).0 range.pages v ≡ true) × (page_by config.now (shown pager.now).pager.map (range.process).0 v ≡ None)) }
     ensures none { IsNone result → AreMapped config.now (shown pager.now).pager (range.process).0 (range.at).0 range.pages }
 {
-    let first = range.at.0 / 512;
+    let first = range.at.0 / PAGE_BYTES;
     for n in 0..range.pages {
         if is_unmapped_at(config, pager, range.process, first + n) {
             return Some(first + n);
@@ -68,7 +69,7 @@ fn first_mapped(config: &Config, pager: &ShadowPager, range: Range) -> Option<u3
     ensures found { IfSome result (λ v. (in_range (range.at).0 range.pages v ≡ true) × ((g : AnyPage) × (page_by config.now (shown pager.now).pager.map (range.process).0 v ≡ Some g))) }
     ensures none { IsNone result → IsInUse config.now (shown pager.now).pager (range.process).0 (range.at).0 range.pages → ⊥ }
 {
-    let first = range.at.0 / 512;
+    let first = range.at.0 / PAGE_BYTES;
     for n in 0..range.pages {
         if is_mapped(config, pager, range.process, first + n) {
             return Some(first + n);
@@ -142,7 +143,7 @@ pub(crate) fn none_is_valid(pager: &ShadowPager, range: Range) -> bool
     requires { IsRange (range.at).0 range.pages }
     ensures { IsTrue result ↔ ((v : ℕ) → in_range (range.at).0 range.pages v ≡ true → entries_at (shown pager.now).pager.valid (range.process).0 v ≡ 0) }
 {
-    let first = range.at.0 / 512;
+    let first = range.at.0 / PAGE_BYTES;
     for n in 0..range.pages {
         if is_valid_at(pager, range.process, first + n) {
             return false;
@@ -155,7 +156,7 @@ pub(crate) fn none_is_valid(pager: &ShadowPager, range: Range) -> bool
 fn is_in_range(range: Range, v: u32) -> bool
     ensures { result ≡ in_range (range.at).0 range.pages v }
 {
-    let first = range.at.0 / 512;
+    let first = range.at.0 / PAGE_BYTES;
     first <= v && v - first < range.pages
 }
 
@@ -174,7 +175,7 @@ fn flies(past: &ShadowHistory<'_>, pager: &ShadowPager, range: Range, f: Pfn) ->
 
 /// Whether no frame with a private page of a process's range has a flight.
 pub(crate) fn none_flies(past: &ShadowHistory<'_>, pager: &ShadowPager, range: Range) -> bool
-    requires { (shown pager.now).frames ≤ 16384 }
+    requires { (shown pager.now).frames ≤ MOST_FRAMES }
     ensures { IsTrue result ↔ ((v f : ℕ) → in_range (range.at).0 range.pages v ≡ true → (shown pager.now).pager.page f ≡ Some (AnyPage.Private (proc (range.process).0) v)
         → reads_on f (open_flights past.now.past) + writes_on f (open_flights past.now.past) ≡ 0) }
 {

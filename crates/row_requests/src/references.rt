@@ -1,6 +1,7 @@
 //! DONE and DENIED: why a reference isn't answered, or isn't refused.
 
 ghost use Rattle.std.specs.Prelude.{◌≡◌, ◌↔◌, ◌⊎◌, ◌+◌, ◌*◌, ◌<◌, false, Some, IfSome, IsNone, IsTrue, length};
+ghost use Rattle.vm_types.specs.declared.limits.TheConstants.{PAGE_BYTES};
 ghost use Rattle.vm_types.specs.declared.names.Page.{Page as AnyPage};
 ghost use Rattle.vm_types.specs.declared.names.Addr.{Addr as AnyAddress};
 ghost use Rattle.vm_types.specs.declared.names.Proc.{Proc as AnyProc};
@@ -28,7 +29,7 @@ use shadow_history::{Direction, ShadowHistory};
 use shadow_pager::ShadowPager;
 use shadow_tables::Behind;
 use vm_journal::Role;
-use vm_types::{Addr, Config, Proc, ProcStatus, Ref, Seat, Why};
+use vm_types::{Addr, Config, PAGE_BYTES, Proc, ProcStatus, Ref, Seat, Why};
 
 /// Whether a page is mapped to what allows the reference.
 fn allows(behind: Option<Behind>, r: Ref) -> bool
@@ -58,7 +59,7 @@ fn answered_fails(config: &Config, pager: &ShadowPager, p: Proc, r: Ref) -> Opti
         × ((e : Valid) × (entry_of (shown pager.now).pager.valid p.0 (page_number (r.addr).0) ≡ Some e))) }
     ensures said { IfSome result (AnsweredFails config.now (shown pager.now).pager p.0 r) }
 {
-    let v = r.addr.0 / 512;
+    let v = r.addr.0 / PAGE_BYTES;
     let references = pager.references(p);
     if is_pending(config, references) {
         return Some(Reason::AdjustmentIsPending(references));
@@ -126,14 +127,14 @@ fn refused_fails(
 
 /// Whether an address is the first one of the page of another.
 fn is_page_of(at: Addr, a: Addr) -> bool
-    ensures { IsTrue result ↔ (at.0 ≡ page_number a.0 * 512) }
+    ensures { IsTrue result ↔ (at.0 ≡ page_number a.0 * PAGE_BYTES) }
 {
-    at.0 == a.0 / 512 * 512
+    at.0 == a.0 / PAGE_BYTES * PAGE_BYTES
 }
 
 /// Why the role, which is that of a read for a fault, isn't of the page of this address.
 fn role_for_fails(role: Role, a: Addr) -> Option<Reason>
-    ensures legal { IsNone result ↔ ((q : AnyProc) (at : AnyAddress) → role ≡ Role.Fault q at → at.0 ≡ page_number a.0 * 512) }
+    ensures legal { IsNone result ↔ ((q : AnyProc) (at : AnyAddress) → role ≡ Role.Fault q at → at.0 ≡ page_number a.0 * PAGE_BYTES) }
     ensures said { IfSome result (RoleForFails role a.0) }
 {
     match role {
@@ -150,7 +151,7 @@ fn role_for_fails(role: Role, a: Addr) -> Option<Reason>
 
 /// Why the way, which is that of a read for a fault, isn't of the page of this address.
 fn way_for_fails(direction: Direction, a: Addr) -> Option<Reason>
-    ensures legal { IsNone result ↔ ((q : AnyProc) (at : AnyAddress) → direction_of direction ≡ reading (Role.Fault q at) → at.0 ≡ page_number a.0 * 512) }
+    ensures legal { IsNone result ↔ ((q : AnyProc) (at : AnyAddress) → direction_of direction ≡ reading (Role.Fault q at) → at.0 ≡ page_number a.0 * PAGE_BYTES) }
     ensures said { IfSome result (WayForFails (direction_of direction) a.0) }
 {
     match direction {
@@ -163,7 +164,7 @@ fn way_for_fails(direction: Direction, a: Addr) -> Option<Reason>
 fn lost_for_fails(past: &ShadowHistory<'_>, seat: Seat, a: Addr) -> Option<Reason>
     requires { seat.0 < length past.now.config.procs + 2 }
     ensures legal { IsNone result ↔ ((x : OpenFlight) (q : AnyProc) (at : AnyAddress) → (carrying seat.0 past.now.past).first ≡ Some x
-        → x.direction ≡ reading (Role.Fault q at) → at.0 ≡ page_number a.0 * 512) }
+        → x.direction ≡ reading (Role.Fault q at) → at.0 ≡ page_number a.0 * PAGE_BYTES) }
     ensures said { IfSome result (LostForFails past.now.past seat.0 a.0) }
 {
     match past.carrying(seat).first() {
@@ -223,7 +224,7 @@ fn denied_fault_fails(
     if let Some(reason) = lost_for_fails(past, seat, r.addr) {
         return Some(reason);
     }
-    waits_for_fails(past.config(), pager, Proc(seat.0), r.addr.0 / 512)
+    waits_for_fails(past.config(), pager, Proc(seat.0), r.addr.0 / PAGE_BYTES)
 }
 
 /// Why a reference isn't refused.

@@ -10,7 +10,7 @@ ghost use Rattle.shadow_pager.specs.Shown.{shown};
 
 use shadow_pager::ShadowPager;
 use shadow_tables::{Behind, is_paged};
-use vm_types::{Config, Op, Page, Proc, Ref, Why, allowed};
+use vm_types::{Config, Op, PAGE_BYTES, Page, Proc, Ref, Why, allowed};
 
 /// Whether an operation changes a page.
 fn is_change(op: Op) -> bool
@@ -72,7 +72,7 @@ fn refusal_at(config: &Config, pager: &ShadowPager, p: Proc, r: Ref, behind: Beh
 {
     refusal_by(
         is_allowed(behind, r),
-        is_full_at(config, pager, p, r.addr.0 / 512, behind),
+        is_full_at(config, pager, p, r.addr.0 / PAGE_BYTES, behind),
     )
 }
 
@@ -81,7 +81,7 @@ pub fn refusal(config: &Config, pager: &ShadowPager, p: Proc, r: Ref) -> Option<
     requires { MapsRight config.now (shown pager.now).pager.map }
     ensures { (stored : AnyPage → List ℕ) → result ≡ flat_refusal config.now (record { map = (shown pager.now).pager.map; touched = (shown pager.now).pager.touched; stored = stored }) p.0 r }
 {
-    match pager.mapping(p, r.addr.0 / 512) {
+    match pager.mapping(p, r.addr.0 / PAGE_BYTES) {
         None => Some(Why::Unmapped),
         Some(behind) => refusal_at(config, pager, p, r, behind),
     }

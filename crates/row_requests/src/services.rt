@@ -1,6 +1,7 @@
 //! SERVED: a service is answered.
 
 ghost use Rattle.std.specs.Prelude.{◌≡◌, ◌↔◌, ◌⊎◌, ◌<◌, ◌≤◌, IfSome, IsNone, IsTrue, length};
+ghost use Rattle.vm_types.specs.declared.limits.TheConstants.{MOST_FRAMES};
 ghost use Rattle.vm_types.specs.WellFormed.{IsRange, IsServiceOf, IsWellFormedService};
 ghost use Rattle.pager_model.specs.Served.{IsDelete, IsServed, IsServedFault, IsService, may_fail};
 ghost use Rattle.log_reasons.specs.ServedReasons.{DeleteFails, ServedFails, ServedFaultFails, ServiceFails};
@@ -21,7 +22,7 @@ use vm_types::{Answer, Proc, ProcStatus, Seat, Service, Version};
 /// Why a range may not be deleted.
 fn delete_fails(past: &ShadowHistory<'_>, pager: &ShadowPager, range: Range) -> Option<Reason>
     requires range { IsRange (range.at).0 range.pages }
-    requires frames { (shown pager.now).frames ≤ 16384 }
+    requires frames { (shown pager.now).frames ≤ MOST_FRAMES }
     ensures legal { IsNone result ↔ IsDelete past.now.config past.now.past (shown pager.now).pager (range.process).0 (range.at).0 range.pages }
     ensures said { IfSome result (DeleteFails past.now.config past.now.past (shown pager.now).pager (range.process).0 (range.at).0 range.pages) }
 {
@@ -46,7 +47,7 @@ fn good_fails(
 ) -> Option<Reason>
     requires formed { IsWellFormedService s }
     requires process { process.0 < (shown pager.now).processes }
-    requires frames { (shown pager.now).frames ≤ 16384 }
+    requires frames { (shown pager.now).frames ≤ MOST_FRAMES }
     ensures legal { IsNone result ↔ IsService past.now.config past.now.past (shown pager.now).pager process.0 s Answer.Good }
     ensures said { IfSome result (ServiceFails past.now.config past.now.past (shown pager.now).pager process.0 s Answer.Good) }
 {
@@ -101,7 +102,7 @@ fn service_fails(
 ) -> Option<Reason>
     requires formed { IsWellFormedService s }
     requires process { process.0 < (shown pager.now).processes }
-    requires frames { (shown pager.now).frames ≤ 16384 }
+    requires frames { (shown pager.now).frames ≤ MOST_FRAMES }
     ensures legal { IsNone result ↔ IsService past.now.config past.now.past (shown pager.now).pager process.0 s answer }
     ensures said { IfSome result (ServiceFails past.now.config past.now.past (shown pager.now).pager process.0 s answer) }
 {
@@ -180,7 +181,7 @@ pub fn served_fails(
 ) -> Option<Reason>
     requires formed { IsWellFormedService s }
     requires processes { (shown pager.now).processes ≡ length past.now.config.procs }
-    requires frames { (shown pager.now).frames ≤ 16384 }
+    requires frames { (shown pager.now).frames ≤ MOST_FRAMES }
     ensures legal { IsNone result ↔ IsServed past.now.config past.now.past (shown pager.now).pager seat.0 s answer }
     ensures said { IfSome result (ServedFails past.now.config past.now.past (shown pager.now).pager seat.0 s answer) }
 {

@@ -1,5 +1,6 @@
 ghost use Rattle.std.specs.Prelude.{◌≡◌, ◌+◌, ◌≤◌, ◌<◌, ◌++◌, ◌∷◌, [], Some, All, IfOk, IsErrOf, OnOk, length, map, replicate, slice_get};
 ghost use Rattle.std.specs.List.{range_with_len};
+ghost use Rattle.vm_types.specs.declared.limits.TheConstants.{PAGE_BYTES};
 ghost use Rattle.vm_types.specs.Configuration.{IsWellFormed};
 ghost use Rattle.vm_types.specs.SectionBlocks.{section_block_count};
 ghost use Rattle.vm_types.specs.Counts.{Rose};
@@ -14,7 +15,7 @@ use crate::planned::planned_calls;
 use disk_trait::{Block, Depot, MakeFault};
 use frame_store::{block_count, section_block_count};
 use std::alloc::Global;
-use vm_types::{BlockId, Config, Proc, SecId, Section};
+use vm_types::{BlockId, Config, PAGE_BYTES, Proc, SecId, Section};
 
 /// Makes a block with these bytes, and adds it to those that were made.
 fn make_one<D: Depot>(
@@ -24,7 +25,7 @@ fn make_one<D: Depot>(
     bytes: &[u8],
     blocks: &mut Vec<(BlockId, D::Block)>,
 ) -> Result<(), MakeFault>
-    requires size { length bytes.now ≡ 512 }
+    requires size { length bytes.now ≡ PAGE_BYTES }
     requires first { AreFirst config.now id bytes.now }
     ensures adds { OnOk result (Adds D.Block.seen D.Block.tells config.now (id ∷ []) blocks.old.items blocks.new.items) }
     ensures retired { (D.seen depot.new).retired ≡ (D.seen depot.old).retired }
@@ -44,7 +45,7 @@ fn make_one_of_zeros<D: Depot>(
     id: BlockId,
     blocks: &mut Vec<(BlockId, D::Block)>,
 ) -> Result<(), MakeFault>
-    requires { AreFirst config.now id (replicate 512 0) }
+    requires { AreFirst config.now id (replicate PAGE_BYTES 0) }
     ensures adds { OnOk result (Adds D.Block.seen D.Block.tells config.now (id ∷ []) blocks.old.items blocks.new.items) }
     ensures retired { (D.seen depot.new).retired ≡ (D.seen depot.old).retired }
     ensures cause { HasCause (D.seen depot.old).failures (D.seen depot.new).failures result }
@@ -73,9 +74,9 @@ fn make_section<D: Depot>(
 {
     let bytes = section.bytes.items();
     for i in 0..section_block_count(section) as u32 {
-        let from = 512 * i as usize;
+        let from = PAGE_BYTES as usize * i as usize;
         let id = BlockId::Section(s, i);
-        make_one(config, depot, id, &bytes[from..from + 512], blocks)?;
+        make_one(config, depot, id, &bytes[from..from + PAGE_BYTES as usize], blocks)?;
     }
     Ok(())
 }

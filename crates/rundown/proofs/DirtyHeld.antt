@@ -9,6 +9,7 @@ use Rattle.std.proofs.lemmas.List.Elements.{filter-append}
 use Rattle.std.proofs.lemmas.List.FromFn.{map-range_with_len_more}
 use Rattle.std.proofs.lemmas.List.Sums.{get_or-le-sum_by}
 use Rattle.std.proofs.lemmas.Option.{get_or_from_slice_get, none-some, same_Some, slice_get_within}
+use Rattle.vm_types.specs.declared.limits.TheConstants.{MOST_SECTION_PAGES}
 use Rattle.vm_types.specs.Configuration.{IsWellFormed, section_pages}
 use Rattle.vm_types.specs.declared.config.Config.{Config}
 use Rattle.vm_types.specs.declared.config.Section.{Section}
@@ -132,7 +133,7 @@ module _ (t : Page → Bool) where
       next = drop_more sections s section within ∙ ap (λ (x : Section). x ∷ drop (s + 1) sections) (sym read)
 
 -- ---- sections have few pages
-pub few_pages : (sections : List Section) (s : ℕ) (x : Section) → sum_by section_pages sections ≤ 16384 → slice_get sections s ≡ Some x → section_pages x ≤ 16384
+pub few_pages : (sections : List Section) (s : ℕ) (x : Section) → sum_by section_pages sections ≤ MOST_SECTION_PAGES → slice_get sections s ≡ Some x → section_pages x ≤ MOST_SECTION_PAGES
 few_pages sections s x few is =
     let most = get_or-le-sum_by section_pages sections s x (slice_get_within sections s x is) in
     let same = ap section_pages (get_or_from_slice_get sections s x x is) in

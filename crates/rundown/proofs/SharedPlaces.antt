@@ -3,6 +3,7 @@ use Rattle.std.proofs.Common.{◌≡◌, ℕ, suc, ◌+◌, ◌-◌, ◌<◌, �
 use Rattle.std.specs.List.{range_with_len}
 use Rattle.std.proofs.lemmas.Bool.{and_parts}
 use Rattle.std.proofs.lemmas.Option.{slice_get_past}
+use Rattle.vm_types.specs.declared.limits.TheConstants.{MOST_EXTENT}
 use Rattle.vm_types.specs.Configuration.{IsWellFormed}
 use Rattle.vm_types.specs.declared.config.Config.{Config}
 use Rattle.vm_types.specs.declared.names.Proc.{Proc}
@@ -24,7 +25,7 @@ is_in_question a p n m = nat_le n m && is_shared_at a p m
 pub found_shared : (a : Pager) (p n m : ℕ) → Some m ≡ shared_from a p n → is_shared_at a p m ≡ true
 found_shared a p n m is = (and_parts (nat_le n m) (is_shared_at a p m) (found_passes (is_in_question a p n) (slots_of a p) m (sym is))).1
 
-pub place_there : (s : History) (p : Proc) (n m : ℕ) → p.0 < length s.config.procs → m < 1024 → Some m ≡ shared_from (pager s) p.0 n → IsThere s (record { process = p; slot = m })
+pub place_there : (s : History) (p : Proc) (n m : ℕ) → p.0 < length s.config.procs → m < MOST_EXTENT → Some m ≡ shared_from (pager s) p.0 n → IsThere s (record { process = p; slot = m })
 place_there s p n m within small is = record { within = within; small = small; shared = found_shared (pager s) p.0 n m is }
 
 -- a place in plain numbers

@@ -7,7 +7,7 @@ ghost use Rattle.rundown.specs.DirtyPages.{shared_pages_of};
 use disk_trait::Block;
 use std::alloc::Global;
 use vm_state::State;
-use vm_types::{NoMemory, Page, SecId, Section, is_shared_kind};
+use vm_types::{NoMemory, PAGE_BYTES, Page, SecId, Section, is_shared_kind};
 
 /// Whether a frame holds a page with modify set. A shared page is of a section of the configuration.
 fn is_dirty<B: Block>(state: &State<B>, page: Page) -> bool
@@ -63,7 +63,7 @@ fn add_dirty<B: Block>(
         return Ok(());
     }
     let bytes = section.bytes.items();
-    for i in 0..(bytes.len() / 512) as u32 {
+    for i in 0..(bytes.len() / PAGE_BYTES as usize) as u32 {
         add_if_dirty(state, Page::Shared(s, i), pages)?;
     }
     Ok(())

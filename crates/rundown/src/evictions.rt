@@ -13,7 +13,7 @@ use disk_trait::Block;
 use vm_journal::EvictWhy;
 use vm_state::{Carrier, State};
 use vm_swapper::see;
-use vm_types::Addr;
+use vm_types::{Addr, PAGE_BYTES};
 
 /// The page at a place is evicted, unless that is stopped: then one cluster is written first. None if
 /// the carrier for the eviction has failed: then the next place is to be looked at, and nothing was made.
@@ -35,7 +35,7 @@ pub fn clean_at<B: Block>(
             let row = state.frame(x.frame);
             let to = goes_to(row);
             if !is_stopped(state, x.frame, to) {
-                let a = Addr(512 * x.vpn);
+                let a = Addr(PAGE_BYTES * x.vpn);
                 state.evict(seat, at.process, a, x.frame, EvictWhy::Rundown, to);
                 return Some(Cleaning::Evicting {
                     process: at.process,

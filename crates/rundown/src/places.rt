@@ -1,6 +1,7 @@
 ghost use Rattle.std.specs.Prelude.{◌≡◌, ◌&&◌, ◌-◌, ◌<◌, IfSome, length, nat_le};
 ghost use Rattle.std.specs.List.{range_with_len};
 ghost use Rattle.std.specs.Option.{option_map};
+ghost use Rattle.vm_types.specs.declared.limits.TheConstants.{MOST_EXTENT};
 ghost use Rattle.pager_policy.specs.Rundown.{is_shared_at, shared_from, shared_of_processes, shared_place};
 ghost use Rattle.vm_state.specs.History.{pager};
 ghost use Rattle.rundown.specs.Places.{IsThere, place_as};
@@ -32,7 +33,7 @@ fn is_shared_from<B: Block>(state: &State<B>, p: Proc, n: u32, m: u32) -> bool
 fn shared_from<B: Block>(state: &State<B>, p: Proc, n: u32) -> Option<u32>
     requires { p.0 < length state.now.config.procs }
     ensures first { result ≡ shared_from (pager state.now) p.0 n }
-    ensures few { IfSome result (λ m. m < 1024) }
+    ensures few { IfSome result (λ m. m < MOST_EXTENT) }
 {
     for m in 0..slot_count(state, p) {
         if is_shared_from(state, p, n, m) {

@@ -1,5 +1,6 @@
 -- The reads that a seat has begun for a reference, and that they were lost. This project's own.
 use Rattle.std.specs.Prelude.{◌≡◌, ℕ, ◌*◌, List, ◌∷◌, Some}
+use Rattle.vm_types.specs.declared.limits.TheConstants.{PAGE_BYTES}
 use Rattle.vm_types.specs.declared.names.Addr.{Addr}
 use Rattle.vm_types.specs.declared.names.Proc.{Proc}
 use Rattle.vm_types.specs.declared.reference.Ref.{Ref}
@@ -22,4 +23,4 @@ pub record IsReadFor (past : List Entry) (seat : ℕ) (r : Ref) : Type 0 where
 -- they have landed, and the seat may refuse the reference
 pub record IsLost (past : List Entry) (seat : ℕ) (r : Ref) : Type 0 where
   pub lost : HasLost past seat
-  pub named : (x : Flight) (q : Proc) (at : Addr) → (carrying seat past).first ≡ Some x → x.direction ≡ reading (role.Fault q at) → at.0 ≡ page_number (r.addr).0 * 512
+  pub named : (x : Flight) (q : Proc) (at : Addr) → (carrying seat past).first ≡ Some x → x.direction ≡ reading (role.Fault q at) → at.0 ≡ page_number (r.addr).0 * PAGE_BYTES

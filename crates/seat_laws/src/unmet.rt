@@ -4,7 +4,7 @@ ghost use Rattle.seat_laws.specs.Unmet.{IsUnmet};
 
 use disk_trait::Block;
 use vm_state::State;
-use vm_types::{Proc, Ref};
+use vm_types::{PAGE_BYTES, Proc, Ref};
 
 /// Whether a reference of a process of the configuration is still to be met: its process isn't resident,
 /// or its page is mapped, and has no valid entry.
@@ -15,7 +15,7 @@ pub fn is_unmet<B: Block>(state: &State<B>, p: Proc, r: Ref) -> bool
     if !state.status(p).is_resident() {
         return true;
     }
-    match state.found(p, r.addr.0 / 512) {
+    match state.found(p, r.addr.0 / PAGE_BYTES) {
         Some(found) => !found.valid,
         None => false,
     }

@@ -54,7 +54,7 @@ pub fn ask<B: Block>(state: &mut State<B>, worker: &mut Worker<B>, seat: Seat, p
     ensures { HasWorked B.seen B.tells state.old state.new seat worker.new }
 {
     state.run_law();
-    match state.config().body.items().get(place).copied() {
+    match state.config().body.get(place) {
         Some(task) => {
             if task.proc.0 != seat.0 {
                 return Went::Barred;

@@ -2,6 +2,7 @@
 use Rattle.std.proofs.Common.{◌≡◌, inl, inr, ◌⊎◌, ℕ, ◌*◌, ◌<◌, Bool, true, false, List, [], ◌∷◌, Some, length, refl, sym, ap, ◌∙◌, subst, arith}
 use Rattle.std.proofs.lemmas.Bool.{true≢false}
 use Rattle.std.proofs.lemmas.Option.{same_Some}
+use Rattle.vm_types.specs.declared.limits.TheConstants.{PAGE_BYTES}
 use Rattle.vm_types.specs.BlockView.{BlockView, Tells}
 use Rattle.vm_types.specs.WellFormed.{IsServiceOf, IsWellFormedReference, IsWellFormedService}
 use Rattle.vm_types.specs.declared.names.Addr.{Addr}
@@ -64,7 +65,7 @@ abbrev fault_address : Direction → ℕ
 fault_address (reading (role.Fault q at)) = at.0
 fault_address other = 0
 
-named_by : (seat : ℕ) (r : Ref) (own : Bool) (d : Direction) (q : Proc) (at : Addr) → BeginsFor seat (request.Reference r) own d → d ≡ reading (role.Fault q at) → at.0 ≡ page_number (r.addr).0 * 512
+named_by : (seat : ℕ) (r : Ref) (own : Bool) (d : Direction) (q : Proc) (at : Addr) → BeginsFor seat (request.Reference r) own d → d ≡ reading (role.Fault q at) → at.0 ≡ page_number (r.addr).0 * PAGE_BYTES
 named_by seat r true d q at kind is = let here : (page_address (page_number (r.addr).0)).0 ≡ at.0 = ap fault_address (sym kind ∙ is) in sym here ∙ omega arith
 named_by seat r false d q at kind is = absurd (true≢false (sym (ap is_fault is) ∙ kind))
 

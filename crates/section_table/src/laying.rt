@@ -8,7 +8,7 @@ ghost use Rattle.section_table.specs.Laying.{IsLaid};
 ghost use Rattle.vm_types.specs.Laying.{CanLay};
 
 use page_rows::PageRows;
-use vm_types::{Mapping, Origin, origin_after, page_place};
+use vm_types::{Mapping, Origin, PAGE_BYTES, origin_after, page_place};
 
 /// Puts behind each page of a mapping what the mapping says.
 fn lay(origins: &mut PageRows<Origin>, mapping: &Mapping)
@@ -16,7 +16,7 @@ fn lay(origins: &mut PageRows<Origin>, mapping: &Mapping)
     ensures laid { IsLaid mapping.now (item_at origins.old) (item_at origins.new) }
     ensures places { length origins.new ≡ length origins.old }
 {
-    let first = mapping.at.0 / 512;
+    let first = mapping.at.0 / PAGE_BYTES;
     for k in 0..mapping.pages {
         let place = page_place(mapping.proc, first + k).unwrap();
         origins.set(place, Some(origin_after(mapping.from, k)));

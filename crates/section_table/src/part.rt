@@ -2,7 +2,7 @@ ghost use Rattle.std.specs.Prelude.{◌≡◌, IfOk, map};
 ghost use Rattle.section_table.specs.SectionTable.{backs_private, backs_shared, part_of, private_home, shared_home};
 
 use std::alloc::{AllocError, Global};
-use vm_types::{BlockId, Origin, SecId, Section, SectionKind};
+use vm_types::{BlockId, Origin, PAGE_BYTES, SecId, Section, SectionKind};
 
 /// A section's kind and the number of its pages.
 #[derive(Clone, Copy, Debug, PartialEq, Eq)]
@@ -17,7 +17,7 @@ fn part_of(section: &Section) -> Part
 {
     Part {
         kind: section.kind,
-        pages: section.bytes.items().len() / 512,
+        pages: section.bytes.items().len() / PAGE_BYTES as usize,
     }
 }
 

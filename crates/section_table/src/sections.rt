@@ -1,4 +1,5 @@
 ghost use Rattle.std.specs.Prelude.{◌≡◌, ℕ, None, Some, IfOk, IsSome, length, map};
+ghost use Rattle.vm_types.specs.declared.limits.TheConstants.{PRIVATE_PAGES};
 ghost use Rattle.vm_types.specs.Behind.{first_behind};
 ghost use Rattle.vm_types.specs.Configuration.{IsWellFormed};
 ghost use Rattle.vm_types.specs.PagePlaces.{changed_at};
@@ -31,7 +32,7 @@ impl Model for Sections {
 
     ghost view = { λ s. record { procs = s.procs; parts = s.parts.items; origins = s.origins } };
 
-    ghost invariant = { λ s. length s.origins ≡ s.procs * 5120 };
+    ghost invariant = { λ s. length s.origins ≡ s.procs * PRIVATE_PAGES };
 }
 
 impl Sections {

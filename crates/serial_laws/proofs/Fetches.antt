@@ -3,6 +3,7 @@ use Rattle.std.proofs.Common.{◌≡◌, ◌⊎◌, inl, inr, ℕ, ◌-◌, ◌*
 use Rattle.std.specs.List.{AllByRecursion, range_with_len}
 use Rattle.std.proofs.lemmas.Bool.{false≢true, true≢false}
 use Rattle.std.proofs.lemmas.Option.{none-some, same_Some}
+use Rattle.vm_types.specs.declared.limits.TheConstants.{PAGE_BYTES}
 use Rattle.vm_types.specs.Same.{same_page}
 use Rattle.vm_types.specs.declared.names.Addr.{Addr}
 use Rattle.vm_types.specs.declared.names.Page.{Page}
@@ -117,10 +118,10 @@ module _ (config : Config) (past : List Entry) (between : IsBetween config past)
       go false file = absurd (none-some _ (sym is ∙ (ap (λ (b : Bool). cond (b && nat_eq (count_page a.charged (Shared s i)) 0) None (a.lies (Shared s i))) file ∙ (kept.pages (Shared s i)).shared s i refl file)))
 
   -- only this page is charged
-  zero_charged : (charged : List Page) (h : Page) → (h ≡ g → ⊥) → count_page (zeroed_page config p (page_number (512 * v)) (a.map p (page_number (512 * v))) ∷ charged) h ≡ count_page charged h
-  zero_charged charged h apart = count_cons_no (same_page h) _ charged (by (same_page h (zeroed_page config p (page_number (512 * v)) (a.map p (page_number (512 * v))))) refl)
+  zero_charged : (charged : List Page) (h : Page) → (h ≡ g → ⊥) → count_page (zeroed_page config p (page_number (PAGE_BYTES * v)) (a.map p (page_number (PAGE_BYTES * v))) ∷ charged) h ≡ count_page charged h
+  zero_charged charged h apart = count_cons_no (same_page h) _ charged (by (same_page h (zeroed_page config p (page_number (PAGE_BYTES * v)) (a.map p (page_number (PAGE_BYTES * v))))) refl)
     where
-      by : (c : Bool) → same_page h (zeroed_page config p (page_number (512 * v)) (a.map p (page_number (512 * v)))) ≡ c → c ≡ false
+      by : (c : Bool) → same_page h (zeroed_page config p (page_number (PAGE_BYTES * v)) (a.map p (page_number (PAGE_BYTES * v)))) ≡ c → c ≡ false
       by false is = refl
       by true is = absurd (apart (pages_equal h _ is ∙ (ap (λ (n : ℕ). zeroed_page config p n (a.map p n)) (same_number v) ∙ zeroed_is config p v (a.map p v) g mapped)))
 
@@ -193,7 +194,7 @@ module _ (config : Config) (past : List Entry) (between : IsBetween config past)
     in_charged now same there h was =
         let later = (steady_made config p rest (by_seat p (what.In (pfn f) b fault_role) ∷ now) steady).step.charged h in
         let first = first_charged h was in
-        let put : charged_with (pager_after config now).charged (page_by config (pager_after config now).map p (page_number (512 * v))) ≡ charged_with a.charged (Some g) =
+        let put : charged_with (pager_after config now).charged (page_by config (pager_after config now).map p (page_number (PAGE_BYTES * v))) ≡ charged_with a.charged (Some g) =
         ap₂ charged_with same (ap (page_by config (pager_after config now).map p) (same_number v) ∙ there) in
         let count = ap (λ (pages : List Page). count_page pages h) put in
         omega (arith, later, first, count)
@@ -240,9 +241,9 @@ module _ (config : Config) (past : List Entry) (between : IsBetween config past)
     goes_on goes_well outcomes c each true bad is = goes_not c (sym is)
     goes_on goes_well outcomes c each false good is = subst (λ (d : Control). IsControlled config (landed outcomes) d) (same_control (control asking) c is) (goes_well outcomes each good)
 
-    named : (s : Ref) (q : Proc) (at : Addr) → request.Reference r ≡ request.Reference s → (reading_on.first).direction ≡ reading (role.Fault q at) → at.0 ≡ page_number (s.addr).0 * 512
+    named : (s : Ref) (q : Proc) (at : Addr) → request.Reference r ≡ request.Reference s → (reading_on.first).direction ≡ reading (role.Fault q at) → at.0 ≡ page_number (s.addr).0 * PAGE_BYTES
     named s q at same is =
-        let address : 512 * v ≡ at.0 = ap fault_address (sym reading_on.role ∙ is) in
+        let address : PAGE_BYTES * v ≡ at.0 = ap fault_address (sym reading_on.role ∙ is) in
         let number = ap (λ (x : Ref). page_number (x.addr).0) (same_reference r s same) in
         omega (arith, address, number)
 

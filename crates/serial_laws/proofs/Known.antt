@@ -1,6 +1,7 @@
 -- What is known of each move of the table: the form from which the laws follow.
 use Rattle.std.proofs.Common.{◌≡◌, ◌⊎◌, ℕ, ◌*◌, ◌<◌, Bool, true, false, List, ◌∷◌, [], Some, length, map}
 use Rattle.std.specs.List.{AllByRecursion}
+use Rattle.vm_types.specs.declared.limits.TheConstants.{PAGE_BYTES}
 use Rattle.vm_types.specs.declared.names.Addr.{Addr}
 use Rattle.vm_types.specs.declared.names.Proc.{Proc}
 use Rattle.vm_types.specs.declared.names.ProcStatus.{ProcStatus}
@@ -61,7 +62,7 @@ pub record IsCarrying (past : List Entry) (seat : ℕ) : Type 0 where
 pub record IsRefusal (config : Config) (landed : List Entry) (seat : ℕ) (first : Flight) (outcomes : List Outcome) : Type 0 where
   pub may : MayRefuse config landed seat
   pub failed : (all_bad outcomes ≡ true) ⊎ ((begins_with_fault (Some first) ≡ true) × (first_bad outcomes ≡ true))
-  pub named : (r : Ref) (q : Proc) (at : Addr) → may.task.request ≡ request.Reference r → first.direction ≡ reading (role.Fault q at) → at.0 ≡ page_number (r.addr).0 * 512
+  pub named : (r : Ref) (q : Proc) (at : Addr) → may.task.request ≡ request.Reference r → first.direction ≡ reading (role.Fault q at) → at.0 ≡ page_number (r.addr).0 * PAGE_BYTES
 
 abbrev pub landed_from : Config → List Entry → ℕ → List Outcome → List Entry
 landed_from config begun seat outcomes = landed_by config seat (carrier_of seat begun) outcomes begun

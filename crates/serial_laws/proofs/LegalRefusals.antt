@@ -1,6 +1,7 @@
 -- A request that a carrier's failure refuses is refused legally.
 use Rattle.std.proofs.Common.{◌≡◌, ◌⊎◌, inr, ℕ, ◌*◌, ◌<◌, Bool, List, Some, None, length, refl, sym, ap, ◌∙◌, subst, arith}
 use Rattle.std.proofs.lemmas.Option.{same_Some}
+use Rattle.vm_types.specs.declared.limits.TheConstants.{PAGE_BYTES}
 use Rattle.vm_types.specs.WellFormed.{IsRequestOf, IsWellFormedRequest}
 use Rattle.vm_types.specs.declared.names.Addr.{Addr}
 use Rattle.vm_types.specs.declared.names.Proc.{Proc}
@@ -38,7 +39,7 @@ use Rattle.serial_laws.proofs.Walks.{body_known, task_formed}
 
 -- the refusal of a request of this process
 refused_by : (config : Config) (past : List Entry) (task : Task) (q : Request) → IsBetween config past → (task.proc).0 < length config.procs → IsWellFormedRequest q → IsRequestOf config.version q → HasLost past (task.proc).0
-    → ((r : Ref) (x : Flight) (p : Proc) (at : Addr) → q ≡ request.Reference r → (carrying (task.proc).0 past).first ≡ Some x → x.direction ≡ reading (role.Fault p at) → at.0 ≡ page_number (r.addr).0 * 512)
+    → ((r : Ref) (x : Flight) (p : Proc) (at : Addr) → q ≡ request.Reference r → (carrying (task.proc).0 past).first ≡ Some x → x.direction ≡ reading (role.Fault p at) → at.0 ≡ page_number (r.addr).0 * PAGE_BYTES)
     → ((pager_after config past).status (task.proc).0 ≡ status.Resident → ⊥) ⊎ IsUnmet config (pager_after config past) (task.proc).0 q
     → IsLegal config past (pager_after config past) (by_seat (task.proc).0 (refusal_of (record task { request = q })))
 refused_by config past task (request.Reference r) between process formed known lost named waits = record {
@@ -68,7 +69,7 @@ module _ (config : Config) (past : List Entry) (seat : ℕ) (ws : List What) (on
   lost = subst (λ (flights : List Flight). HasLost (landed_by config seat flights outcomes begun) seat) (sym (known.carrying).carrier)
       (lost_when_failed config begun seat (known.carrying).first (known.carrying).more outcomes (known.carrying).carries (each ∙ ap length (known.carrying).carrier) refusal.failed)
 
-  named : (r : Ref) (x : Flight) (p : Proc) (at : Addr) → (refusal.may.task).request ≡ request.Reference r → (carrying ((refusal.may.task).proc).0 landed).first ≡ Some x → x.direction ≡ reading (role.Fault p at) → at.0 ≡ page_number (r.addr).0 * 512
+  named : (r : Ref) (x : Flight) (p : Proc) (at : Addr) → (refusal.may.task).request ≡ request.Reference r → (carrying ((refusal.may.task).proc).0 landed).first ≡ Some x → x.direction ≡ reading (role.Fault p at) → at.0 ≡ page_number (r.addr).0 * PAGE_BYTES
   named r x p at own first reads =
       let by_own = ap (λ (n : ℕ). (carrying n landed).first) refusal.may.own ∙ first in
       let same : (known.carrying).first ≡ x = same_Some (known.carrying).first x (sym ((known.carrying).carries).firsts ∙ (sym (landed_first config seat (carrier_of seat begun) outcomes begun) ∙ by_own)) in

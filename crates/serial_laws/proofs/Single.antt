@@ -1,6 +1,7 @@
 -- The first read of a copy on reference page, which is made by itself.
 use Rattle.std.proofs.Common.{◌≡◌, ℕ, ◌+◌, ◌*◌, Bool, true, false, cond, List, [], ◌∷◌, Option, Some, length, filter, nat_eq, reverse, ap, ◌∙◌, arith}
 use Rattle.std.proofs.lemmas.Bool.{and_from, eq-eqb, false≢true, true≢false}
+use Rattle.vm_types.specs.declared.limits.TheConstants.{PAGE_BYTES}
 use Rattle.vm_types.specs.declared.names.Page.{Page}
 use Rattle.vm_types.specs.declared.names.BlockId.{BlockId}
 use Rattle.vm_types.specs.declared.config.Config.{Config}
@@ -46,15 +47,15 @@ module _ (config : Config) (now : List Entry) (none : open_flights now ≡ []) (
   well (went_well ∷ []) each good = ap (λ (xs : List Flight). landed_by config p xs (went_well ∷ []) begun) alone
   well (went_well ∷ o ∷ outcomes) each good = absurd (let one = ap length alone in omega (arith, each, one))
 
-  pub well_valid : entry_of (pager_after config read_well).valid p v ≡ Some (valid_at p (page_number (512 * v)) f)
+  pub well_valid : entry_of (pager_after config read_well).valid p v ≡ Some (valid_at p (page_number (PAGE_BYTES * v)) f)
   well_valid =
       ap (λ (o : Option Flight). entry_of (after_in_ok (pager_after config begun) f o).valid p v) (find_cons_yes (starts (length now + 1)) x (open_flights now) (nat_eq_refl (length now + 1)))
-      ∙ find_cons_yes (is_entry p v) (valid_at p (page_number (512 * v)) f) (pager_after config begun).valid (and_from _ _ (nat_eq_refl p) (eq-eqb (page_number (512 * v)) v (same_number v)))
+      ∙ find_cons_yes (is_entry p v) (valid_at p (page_number (PAGE_BYTES * v)) f) (pager_after config begun).valid (and_from _ _ (nat_eq_refl p) (eq-eqb (page_number (PAGE_BYTES * v)) v (same_number v)))
 
   -- ---- it lands badly: its page isn't charged any more
   module _ (g : Page) (mapped : page_by config (pager_after config now).map p v ≡ Some g) (private : is_private g ≡ true) (section : is_section_block b ≡ true) where
     holds : (pager_after config begun).page f ≡ Some g
-    holds = at_number_same (pager_after config now).page f (page_by config (pager_after config now).map p (page_number (512 * v))) ∙ (ap (page_by config (pager_after config now).map p) (same_number v) ∙ mapped)
+    holds = at_number_same (pager_after config now).page f (page_by config (pager_after config now).map p (page_number (PAGE_BYTES * v))) ∙ (ap (page_by config (pager_after config now).map p) (same_number v) ∙ mapped)
 
     abbrev pub read_badly : ℕ → List Entry
     read_badly n = by_seat p (what.Reuse (pfn f) g) ∷ by_seat p (what.InFail (pfn f) (length now + 1) (last_count b begun) n) ∷ begun

@@ -10,5 +10,5 @@ pub fn next_task<B: Block>(state: &State<B>) -> Option<Task>
     ensures { result ≡ next_task state.now.config state.now.past }
 {
     let count = state.all_answered();
-    state.config().body.items().get(count as usize).copied()
+    state.config().body.get(count as usize)
 }

@@ -25,7 +25,7 @@ const ENTRIES_PER_REQUEST: u32 = 5;
 fn reserve_answers<B: Block>(state: &mut State<B>)
     ensures { state.new ≡ record state.old { spare = (state.new).spare } }
 {
-    let requests = state.config().body.items().len();
+    let requests = state.config().body.len();
     let _ = state.reserve(ENTRIES_PER_REQUEST * requests.min(1 << 24) as u32);
 }
 

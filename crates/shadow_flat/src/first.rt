@@ -4,7 +4,7 @@ ghost use Rattle.pager_model.specs.Maps.{first_bytes, paged_of};
 ghost use Rattle.flat_model.specs.Usable.{IsOrigin};
 ghost use Rattle.pager_model.specs.OfConfig.{IsOrigin as IsOriginOf};
 
-use vm_types::{Config, Origin, SecId, Section, SectionKind};
+use vm_types::{Config, Origin, PAGE_BYTES, SecId, Section, SectionKind};
 
 /// Whether a section's pages are in the page file; those of one that is not there aren't.
 fn is_paged(sections: &[Section], s: SecId) -> bool
@@ -30,9 +30,11 @@ fn bytes_in(sections: &[Section], origin: Origin) -> [u8; 512]
             if is_paged(sections, s) {
                 return [0; 512];
             }
-            let from = 512 * page as usize;
+            let from = PAGE_BYTES as usize * page as usize;
             let mut bytes = [0; 512];
-            bytes.copy_from_slice(&sections[s.0 as usize].bytes.items()[from..from + 512]);
+            bytes.copy_from_slice(
+                &sections[s.0 as usize].bytes.items()[from..from + PAGE_BYTES as usize],
+            );
             bytes
         }
     }

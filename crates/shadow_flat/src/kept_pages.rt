@@ -13,7 +13,7 @@ use flat_model::apply;
 use shadow_tables::PageTable;
 use std::alloc::Global;
 use std::marker::Model;
-use vm_types::{Config, NoMemory, Origin, Page, Ref, Reply, Section};
+use vm_types::{Config, NoMemory, Origin, PAGE_BYTES, PRIVATE_PAGES, Page, Ref, Reply, Section};
 
 /// The bytes of pages, each page's in a row that no other page has. Contracts see the slots by page, and the rows.
 #[derive(Debug, Drop)]
@@ -41,9 +41,9 @@ impl Model for KeptPages {
 fn places_of(procs: usize, sections: &[Section]) -> usize
     requires { procs < 2 ^ 32 }
 {
-    let mut places = procs * 5120;
+    let mut places = procs * PRIVATE_PAGES as usize;
     for section in sections {
-        places = places.saturating_add(section.bytes.items().len() / 512 + 64);
+        places = places.saturating_add(section.bytes.items().len() / PAGE_BYTES as usize + 64);
     }
     places
 }

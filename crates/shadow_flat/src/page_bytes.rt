@@ -11,7 +11,7 @@ use row_requests::refusal;
 use shadow_pager::ShadowPager;
 use shadow_tables::{Behind, page_behind};
 use std::alloc::Global;
-use vm_types::{Addr, Config, NoMemory, Origin, Page, Proc, Ref, Reply, Service, Why};
+use vm_types::{Addr, Config, NoMemory, Origin, PAGE_BYTES, Page, Proc, Ref, Reply, Service, Why};
 
 /// The bytes of the pages that were referred to.
 #[derive(Debug, Drop)]
@@ -46,7 +46,7 @@ impl PageBytes {
         requires origin { IsOrigin config.now behind.origin }
         ensures { AnswersMapped config.now self.old self.new p.0 r behind result }
     {
-        let page = page_behind(config, p, r.addr.0 / 512, behind.origin());
+        let page = page_behind(config, p, r.addr.0 / PAGE_BYTES, behind.origin());
         self.pages.refer(config, page, behind.origin(), r)
     }
 
@@ -69,7 +69,7 @@ impl PageBytes {
         if let Some(why) = refusal(config, pager, p, r) {
             return Ok(Reply::Refused(why));
         }
-        match pager.mapping(p, r.addr.0 / 512) {
+        match pager.mapping(p, r.addr.0 / PAGE_BYTES) {
             Some(behind) => self.answer_mapped(config, p, r, behind),
             None => Ok(Reply::Refused(Why::Unmapped)),
         }
@@ -80,7 +80,7 @@ impl PageBytes {
         requires { IsRange at.0 pages }
         ensures { IsForgotten p.0 at.0 pages self.old self.new }
     {
-        let first = at.0 / 512;
+        let first = at.0 / PAGE_BYTES;
         for k in 0..pages {
             self.pages.forget(Page::Private(p, first + k));
         }

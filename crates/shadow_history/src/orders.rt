@@ -8,13 +8,13 @@ use crate::spoken::request_of;
 use std::alloc::Global;
 use std::marker::Model;
 use vm_journal::What;
-use vm_types::{NoMemory, Request, Seat, Task};
+use vm_types::{Body, NoMemory, Request, Seat};
 
 /// What each process still asks for, of the tasks of a body. Contracts see the body and, by process,
 /// the place of its next task.
 #[derive(Drop)]
 pub(crate) struct Orders<'a> {
-    body: &'a [Task],
+    body: &'a Body,
     next: Vec<usize>,
     after: Vec<usize>,
 }
@@ -34,7 +34,7 @@ impl<'a> Orders<'a> {
     ///
     /// # Errors
     /// `NoMemory` if out of memory.
-    pub(crate) fn new(alloc: Global, body: &'a [Task], procs: usize) -> Result<Orders<'a>, NoMemory>
+    pub(crate) fn new(alloc: Global, body: &'a Body, procs: usize) -> Result<Orders<'a>, NoMemory>
         requires { AreOf body.now procs }
         ensures { IfOk result (λ o. (p : ℕ) → left_of o p ≡ requests_of p body.now) }
     {
@@ -52,7 +52,7 @@ impl<'a> Orders<'a> {
         if p < self.next.len() {
             let place = self.next[p];
             if place < self.body.len() {
-                return Some(self.body[place].request);
+                return Some(self.body.at(place).request);
             }
         }
         None
@@ -91,7 +91,7 @@ impl<'a> Orders<'a> {
 }
 
 /// Links each task to the same process's next one, from the last task back.
-fn link(body: &[Task], next: &mut Vec<usize>, after: &mut Vec<usize>)
+fn link(body: &Body, next: &mut Vec<usize>, after: &mut Vec<usize>)
     requires tasks { AreOf body.now (length next.old.items) }
     requires none { AreLinked body.now (length body.now) next.old.items after.old.items }
     ensures linked { AreLinked body.now 0 next.new.items after.new.items }
@@ -107,11 +107,11 @@ fn link(body: &[Task], next: &mut Vec<usize>, after: &mut Vec<usize>)
 }
 
 /// The process of a task.
-fn process_at(body: &[Task], t: usize) -> usize
+fn process_at(body: &Body, t: usize) -> usize
     requires { t < length body.now }
     ensures { (task : Task) → slice_get body.now t ≡ Some task → (task.proc).0 ≡ result }
 {
-    body[t].proc.0 as usize
+    body.at(t).proc.0 as usize
 }
 
 /// Whether all of the places are past a body of so many tasks.

@@ -60,7 +60,7 @@ impl<'a> ShadowHistory<'a> {
             failed: None,
             carriers: no_carriers(alloc, procs + 2)?,
             counts: Vec::new(alloc),
-            orders: Orders::new(alloc, config.body.items(), procs)?,
+            orders: Orders::new(alloc, &config.body, procs)?,
         })
     }
 

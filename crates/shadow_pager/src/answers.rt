@@ -16,7 +16,7 @@ ghost use Rattle.pager_model.specs.Sets.{has_page};
 use crate::changes::more;
 use crate::shadow_pager::ShadowPager;
 use shadow_tables::{PageList, is_of_section, is_own, is_paged};
-use vm_types::{BlockId, Config, FrameState, NoMemory, Op, Page, Pfn, Proc, Ref};
+use vm_types::{BlockId, Config, FrameState, NoMemory, Op, PAGE_BYTES, Page, Pfn, Proc, Ref};
 
 /// A copy on reference page whose read from its section block failed is no longer charged.
 ///
@@ -88,7 +88,7 @@ impl ShadowPager {
         ensures { OnOk result (shown self.new ≡ with_pager (shown self.old) (after_done config.now (shown self.old).pager p.0 r)) }
     {
         let process = p.0 as usize;
-        let v = r.addr.0 / 512;
+        let v = r.addr.0 / PAGE_BYTES;
         let page = self.page_of(config, p, v);
         self.references[process] = more(self.references[process])?;
         touch(config, &mut self.touched, page)?;

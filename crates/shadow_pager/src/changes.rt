@@ -10,7 +10,7 @@ ghost use Rattle.pager_model.specs.Zero.{after_zero, zeroed_page};
 
 use crate::shadow_pager::ShadowPager;
 use shadow_tables::page_behind;
-use vm_types::{Addr, Config, FrameState, NoMemory, Page, Pfn, Proc, ProcStatus};
+use vm_types::{Addr, Config, FrameState, NoMemory, PAGE_BYTES, Page, Pfn, Proc, ProcStatus};
 
 /// One more.
 pub(crate) fn more(count: u64) -> Result<u64, NoMemory>
@@ -42,7 +42,7 @@ impl ShadowPager {
         ensures { OnOk result (shown self.new ≡ with_pager (shown self.old) (after_zero config.now (shown self.old).pager p.0 a.0 f.0)) }
     {
         let (process, frame) = (p.0 as usize, f.0 as usize);
-        let v = a.0 / 512;
+        let v = a.0 / PAGE_BYTES;
         let page = self.zeroed_page(config, p, v);
         self.faults[process] = more(self.faults[process])?;
         self.valid.put(p, v, f)?;

@@ -3,6 +3,7 @@
 
 ghost use Rattle.std.specs.Prelude.{◌≡◌, ◌<◌, ◌≤◌, None, Some, IfSome, OnOk, length, nat_lt, position, if◌then◌else◌};
 ghost use Rattle.std.specs.List.{position_or_len};
+ghost use Rattle.vm_types.specs.declared.limits.TheConstants.{MOST_FRAMES};
 ghost use Rattle.vm_types.specs.WellFormed.{IsRange};
 ghost use Rattle.vm_types.specs.declared.config.Config.{Config as ConfigValue};
 ghost use Rattle.pager_model.specs.Changes.{without_assigned};
@@ -10,7 +11,7 @@ ghost use Rattle.pager_model.specs.Forget.{forget_all, forgotten, holder, holds_
 
 use crate::shadow_pager::ShadowPager;
 use shadow_tables::remove;
-use vm_types::{Addr, Config, FrameState, NoMemory, Page, Proc, is_same_page};
+use vm_types::{Addr, Config, FrameState, NoMemory, PAGE_BYTES, Page, Proc, is_same_page};
 
 /// Whether a frame that holds this, if anything, holds the page.
 fn holds(page: Page, held: Option<Page>) -> bool
@@ -36,7 +37,7 @@ fn place_of(held: &[Option<Page>], page: Page) -> usize
 
 /// The number, if it is below the count.
 fn below(number: usize, count: usize) -> Option<u32>
-    requires { count ≤ 16384 }
+    requires { count ≤ MOST_FRAMES }
     ensures number { result ≡ (if nat_lt number count then Some number else None) }
     ensures within { IfSome result (λ n. n < count) }
 {
@@ -49,7 +50,7 @@ fn below(number: usize, count: usize) -> Option<u32>
 
 /// The first frame that holds a page.
 fn holder_in(held: &[Option<Page>], page: Page) -> Option<u32>
-    requires { length held.now ≤ 16384 }
+    requires { length held.now ≤ MOST_FRAMES }
     ensures holds { result ≡ position (holds_page page) held.now }
     ensures within { IfSome result (λ f. f < length held.now) }
 {
@@ -139,7 +140,7 @@ impl ShadowPager {
         ensures { OnOk result (shown self.new ≡ with_pager (shown self.old)
             (forget_all config.now (own_pages config.now (shown self.old).pager.map p.0 (range_of at.0 pages)) (shown self.old).pager)) }
     {
-        let first = at.0 / 512;
+        let first = at.0 / PAGE_BYTES;
         for k in 0..pages {
             let page = self.page_of(config, p, first + k);
             self.forget_own(page)?;

@@ -11,7 +11,7 @@ use crate::changes::more;
 use crate::shadow_pager::ShadowPager;
 use shadow_tables::{FrameList, lay_nowhere, remove, slot_lying};
 use vm_journal::EvictWhy;
-use vm_types::{Addr, FrameState, NoMemory, Pfn, Proc, ProcStatus};
+use vm_types::{Addr, FrameState, NoMemory, PAGE_BYTES, Pfn, Proc, ProcStatus};
 
 /// Adds a frame at the end of the free list, where it is to be.
 pub(crate) fn push_if(there: bool, list: &mut FrameList, f: Pfn) -> Result<(), NoMemory>
@@ -44,7 +44,7 @@ impl ShadowPager {
         ensures { OnOk result (shown self.new ≡ with_pager (shown self.old) (in_ring (shown self.old).pager q.0 a.0 f.0)) }
     {
         let (process, frame) = (q.0 as usize, f.0 as usize);
-        let v = a.0 / 512;
+        let v = a.0 / PAGE_BYTES;
         self.valid.put(q, v, f)?;
         self.states[frame] = FrameState::Active;
         self.rings[process].place(self.limits[process], v);
@@ -58,7 +58,7 @@ impl ShadowPager {
         ensures { OnOk result (shown self.new ≡ with_pager (shown self.old) (in_slot (shown self.old).pager q.0 a.0 f.0 slot)) }
     {
         let (process, frame) = (q.0 as usize, f.0 as usize);
-        let v = a.0 / 512;
+        let v = a.0 / PAGE_BYTES;
         self.valid.put(q, v, f)?;
         lay_nowhere(&mut self.lies, self.held.at(frame))?;
         self.states[frame] = FrameState::Active;
@@ -128,7 +128,7 @@ impl ShadowPager {
         ensures { OnOk result (shown self.new ≡ with_pager (shown self.old) (after_evict (shown self.old).pager why p.0 a.0 f.0 to)) }
     {
         let process = p.0 as usize;
-        let v = a.0 / 512;
+        let v = a.0 / PAGE_BYTES;
         push_if(is_free(to), &mut self.free, f)?;
         add_if(is_modified(to), &mut self.modified, f)?;
         self.states[f.0 as usize] = to;

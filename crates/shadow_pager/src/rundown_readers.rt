@@ -2,6 +2,7 @@
 #![tactic(auto, unfolding(crate::specs::Shown::shown))]
 
 ghost use Rattle.std.specs.Prelude.{◌≡◌, ◌≤◌, length, slice_get};
+ghost use Rattle.vm_types.specs.declared.limits.TheConstants.{MOST_EXTENT};
 ghost use Rattle.pager_model.specs.Lookups.{slot_of};
 
 use crate::shadow_pager::ShadowPager;
@@ -21,7 +22,7 @@ impl ShadowPager {
     /// How many slots a process has; one that isn't there has none.
     pub fn slots_of(&self, p: Proc) -> u32
         ensures count { result ≡ length ((shown self.now).pager.ring p.0).slots }
-        ensures few { result ≤ 1024 }
+        ensures few { result ≤ MOST_EXTENT }
     {
         match self.rings.get(p.0 as usize) {
             Some(ring) => ring.slots(),

@@ -2,6 +2,7 @@
 
 ghost use Rattle.std.specs.Prelude.{◌≡◌, ℕ, false, ◌*◌, ◌^◌, ◌<◌, ◌≤◌, [], None, All, IfOk, length, map, not, filter, replicate, vec_len};
 ghost use Rattle.std.specs.List.{range_with_len};
+ghost use Rattle.vm_types.specs.declared.limits.TheConstants.{MOST_EXTENT, MOST_FRAMES, PRIVATE_PAGES};
 ghost use Rattle.vm_types.specs.Configuration.{IsWellFormed};
 ghost use Rattle.vm_types.specs.declared.config.ProcSpec.{ProcSpec as Spec};
 ghost use Rattle.vm_types.specs.declared.config.Section.{Section as SectionOf};
@@ -42,7 +43,7 @@ pub struct ShadowPager {
     pub(crate) touched: PageList,
     pub(crate) lies: LyingPages,
     pub(crate) assigned: AssignedBlocks,
-    ghost few: { vec_len states ≤ 16384 },
+    ghost few: { vec_len states ≤ MOST_FRAMES },
     ghost each_held: { length held ≡ vec_len states },
     ghost each_mark: { vec_len marks ≡ vec_len states },
     ghost each_ring: { vec_len rings ≡ vec_len statuses },
@@ -50,7 +51,7 @@ pub struct ShadowPager {
     ghost each_references: { vec_len references ≡ vec_len statuses },
     ghost each_faults: { vec_len faults ≡ vec_len statuses },
     ghost each_collided: { vec_len collided ≡ vec_len statuses },
-    ghost each_page: { vec_len pages ≡ vec_len statuses * 5120 },
+    ghost each_page: { vec_len pages ≡ vec_len statuses * PRIVATE_PAGES },
 }
 
 /// Whether a frame is bad; one that isn't there counts as bad.
@@ -103,7 +104,7 @@ fn free_of(alloc: Global, config: &Config) -> Result<FrameList, NoMemory>
 
 /// An empty ring for each process, of as many slots as its extent.
 fn rings_of(alloc: Global, procs: &[ProcSpec]) -> Result<Vec<Ring>, NoMemory>
-    requires { All (λ (spec : Spec). spec.extent ≤ 1024) procs.now }
+    requires { All (λ (spec : Spec). spec.extent ≤ MOST_EXTENT) procs.now }
     ensures { IfOk result (λ rings. rings.items ≡ map empty_ring procs.now) }
 {
     let mut rings = Vec::new(alloc);
@@ -177,7 +178,7 @@ struct ProcessTables {
 
 /// Makes the tables by the number of a process.
 fn process_tables(alloc: Global, procs: &[ProcSpec]) -> Result<ProcessTables, NoMemory>
-    requires { All (λ (spec : Spec). spec.extent ≤ 1024) procs.now }
+    requires { All (λ (spec : Spec). spec.extent ≤ MOST_EXTENT) procs.now }
     ensures count { IfOk result (λ t. vec_len t.statuses ≡ length procs.now) }
     ensures statuses { IfOk result (λ t. t.statuses.items ≡ replicate (length procs.now) ProcStatus.Resident) }
     ensures rings { IfOk result (λ t. t.rings.items ≡ map empty_ring procs.now) }
@@ -211,7 +212,7 @@ struct PageTables {
 /// Makes the tables and lists of pages.
 fn page_tables(alloc: Global, config: &Config) -> Result<PageTables, NoMemory>
     requires { IsWellFormed config.now }
-    ensures count { IfOk result (λ t. vec_len t.pages ≡ length config.now.procs * 5120) }
+    ensures count { IfOk result (λ t. vec_len t.pages ≡ length config.now.procs * PRIVATE_PAGES) }
     ensures pages { IfOk result (λ t. (p v : ℕ) → item_at t.pages.items p v ≡ first_map config.now p v) }
     ensures valid { IfOk result (λ t. t.valid ≡ []) }
     ensures charged { IfOk result (λ t. t.charged ≡ []) }

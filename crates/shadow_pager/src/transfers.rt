@@ -15,7 +15,7 @@ use crate::frames::{add_if, push_if};
 use crate::shadow_pager::ShadowPager;
 use shadow_tables::{AssignedBlocks, PageList, is_of_section, is_own, lay_at, remove, slot_of};
 use vm_journal::Role;
-use vm_types::{Addr, BlockId, Config, FrameState, NoMemory, Page, Pfn, Proc};
+use vm_types::{Addr, BlockId, Config, FrameState, NoMemory, PAGE_BYTES, Page, Pfn, Proc};
 
 /// Whether a first read of a copy on reference page was from this block.
 fn is_first(page: Option<Page>, block: BlockId) -> bool
@@ -61,7 +61,7 @@ impl ShadowPager {
         ensures { OnOk result (shown self.new ≡ with_pager (shown self.old) (after_in_fault config.now (shown self.old).pager q.0 a.0 f.0)) }
     {
         let (process, frame) = (q.0 as usize, f.0 as usize);
-        let page = self.page_of(config, q, a.0 / 512);
+        let page = self.page_of(config, q, a.0 / PAGE_BYTES);
         self.faults[process] = more(self.faults[process])?;
         charge(&mut self.charged, page)?;
         self.states[frame] = FrameState::Reading;
@@ -95,7 +95,7 @@ impl ShadowPager {
             Role::Fault(q, a) => self.read_faulted(config, q, a, f),
             Role::Near(page) => self.read_lying(f, Some(page)),
             Role::Come(q, a) => {
-                let page = self.page_of(config, q, a.0 / 512);
+                let page = self.page_of(config, q, a.0 / PAGE_BYTES);
                 self.read_lying(f, page)
             }
         }

@@ -2,6 +2,7 @@
 
 ghost use Rattle.std.specs.Prelude.{◌≡◌, ℕ, ◌*◌, None, Some, All, IfOk, find, length, vec_len};
 ghost use Rattle.std.specs.Option.{option_map};
+ghost use Rattle.vm_types.specs.declared.limits.TheConstants.{PRIVATE_PAGES};
 ghost use Rattle.vm_types.specs.Behind.{covers};
 ghost use Rattle.vm_types.specs.Configuration.{IsWellFormed};
 ghost use Rattle.vm_types.specs.PagePlaces.{item_at};
@@ -12,14 +13,17 @@ ghost use Rattle.vm_types.specs.Laying.{CanChange, CanLay};
 
 use crate::behind::Behind;
 use std::alloc::Global;
-use vm_types::{Addr, Config, Mapping, NoMemory, Origin, Proc, origin_after, page_place};
+use vm_types::{
+    Addr, Config, Mapping, NoMemory, Origin, PAGE_BYTES, PRIVATE_PAGES, Proc, origin_after,
+    page_place,
+};
 
 /// Maps each page of a mapping to what the mapping says.
 fn lay(pages: &mut [Option<Behind>], mapping: &Mapping)
     requires { CanLay (length pages.old) mapping.now }
     ensures { IsLaid mapping.now (item_at pages.old) (item_at pages.new) }
 {
-    let first = mapping.at.0 / 512;
+    let first = mapping.at.0 / PAGE_BYTES;
     for k in 0..mapping.pages {
         let place = page_place(mapping.proc, first + k).unwrap();
         pages[place] = Some(Behind::new(origin_after(mapping.from, k), mapping.prot));
@@ -46,10 +50,10 @@ fn lay_all(pages: &mut [Option<Behind>], maps: &[Mapping])
 /// `NoMemory` if out of memory.
 pub fn pages_of(alloc: Global, config: &Config) -> Result<Vec<Option<Behind>>, NoMemory>
     requires { IsWellFormed config.now }
-    ensures count { IfOk result (λ pages. vec_len pages ≡ length config.now.procs * 5120) }
+    ensures count { IfOk result (λ pages. vec_len pages ≡ length config.now.procs * PRIVATE_PAGES) }
     ensures pages { IfOk result (λ pages. (p v : ℕ) → item_at pages.items p v ≡ first_map config.now p v) }
 {
-    let mut pages = vec![in alloc; None; config.procs.items().len() * 5120]?;
+    let mut pages = vec![in alloc; None; config.procs.items().len() * PRIVATE_PAGES as usize]?;
     lay_all(&mut pages, config.maps.items());
     Ok(pages)
 }
@@ -60,7 +64,7 @@ pub fn zero_range(pages: &mut Vec<Option<Behind>>, p: Proc, at: Addr, count: u32
     ensures pages { (q v : ℕ) → item_at pages.new.items q v ≡ map_range (λ old. Some (demand_zero prot)) p.0 at.0 count (item_at pages.old.items) q v }
     ensures count { vec_len pages.new ≡ vec_len pages.old }
 {
-    let first = at.0 / 512;
+    let first = at.0 / PAGE_BYTES;
     for k in 0..count {
         let place = page_place(p, first + k).unwrap();
         pages[place] = Some(Behind::new(Origin::Zero, prot));
@@ -73,7 +77,7 @@ pub fn clear_range(pages: &mut Vec<Option<Behind>>, p: Proc, at: Addr, count: u3
     ensures pages { (q v : ℕ) → item_at pages.new.items q v ≡ map_range (λ old. None) p.0 at.0 count (item_at pages.old.items) q v }
     ensures count { vec_len pages.new ≡ vec_len pages.old }
 {
-    let first = at.0 / 512;
+    let first = at.0 / PAGE_BYTES;
     for k in 0..count {
         let place = page_place(p, first + k).unwrap();
         pages[place] = None;
@@ -96,7 +100,7 @@ pub fn protect_range(pages: &mut Vec<Option<Behind>>, p: Proc, at: Addr, count: 
     ensures pages { (q v : ℕ) → item_at pages.new.items q v ≡ map_range (option_map (with_prot prot)) p.0 at.0 count (item_at pages.old.items) q v }
     ensures count { vec_len pages.new ≡ vec_len pages.old }
 {
-    let first = at.0 / 512;
+    let first = at.0 / PAGE_BYTES;
     for k in 0..count {
         let place = page_place(p, first + k).unwrap();
         pages[place] = protected(pages[place], prot);

@@ -6,7 +6,7 @@ ghost use Rattle.shadow_tables.specs.PageTables.{IsRowSet, IsTableSet, first_row
 use crate::rows::Rows;
 use std::alloc::Global;
 use std::marker::Model;
-use vm_types::{NoMemory, Page, Proc, SecId, Section, page_place};
+use vm_types::{NoMemory, PAGE_BYTES, Page, Proc, SecId, Section, page_place};
 
 /// How many runs of 64 pages a process may map.
 const RUNS: usize = 80;
@@ -33,7 +33,7 @@ fn section_runs(section: &Section) -> usize
     ensures runs { result ≡ section_runs section.now }
     ensures small { result * 64 < 2 ^ 63 }
 {
-    section.bytes.items().len() / 512 / 64 + 1
+    section.bytes.items().len() / PAGE_BYTES as usize / 64 + 1
 }
 
 /// Places without items for the pages of each section.

@@ -1,4 +1,5 @@
 ghost use Rattle.std.specs.Prelude.{◌≡◌, ◌+◌, ◌%◌, ◌++◌, ◌<◌, ◌≤◌, true, IfOk, count_by, drop, length, map, position, replicate, slice_get, slice_index_or, slice_set, take, if◌then◌else◌};
+ghost use Rattle.vm_types.specs.declared.limits.TheConstants.{MOST_EXTENT};
 ghost use Rattle.vm_types.specs.Ring.{choose, filled, fixed, is_empty_slot, is_filled_slot, is_fixed_slot, is_locked_slot, is_loose_slot, is_pinned_slot, is_unpinned_slot, unpinned};
 ghost use Rattle.vm_journal.specs.declared.entry.EvictWhy.{EvictWhy};
 ghost use Rattle.pager_model.specs.Evict.{evicted_ring, victim_of};
@@ -11,7 +12,7 @@ use crate::held::Held;
 use std::alloc::Global;
 use std::marker::Model;
 use vm_journal::EvictWhy;
-use vm_types::{Addr, Choice, NoMemory};
+use vm_types::{Addr, Choice, NoMemory, PAGE_BYTES};
 
 /// A working set list: slots, each empty or with a page, and the hand.
 #[derive(Debug, Drop)]
@@ -30,7 +31,7 @@ impl Model for Ring {
 
     ghost view = { λ r. record { slots = r.slots.items; hand = r.hand } };
 
-    ghost invariant = { λ r. (vec_len r.slots ≤ 1024) × (r.hand ≤ vec_len r.slots)
+    ghost invariant = { λ r. (vec_len r.slots ≤ MOST_EXTENT) × (r.hand ≤ vec_len r.slots)
         × (r.pages ≡ filled r.slots.items) × (r.marks ≡ fixed r.slots.items) };
 }
 
@@ -101,7 +102,7 @@ fn is_in(slot: Option<Held>, at: Addr, pages: u32) -> bool
 fn is_page_in(at: Addr, pages: u32, vpn: u32) -> bool
     ensures { result ≡ in_range at.0 pages vpn }
 {
-    let first = at.0 / 512;
+    let first = at.0 / PAGE_BYTES;
     first <= vpn && vpn - first < pages
 }
 
@@ -158,7 +159,7 @@ fn places_to_loose(slots: &[Option<Held>], hand: usize) -> Option<usize>
 
 /// How many slots are filled.
 fn count_filled(slots: &[Option<Held>]) -> u32
-    requires { length slots.now ≤ 1024 }
+    requires { length slots.now ≤ MOST_EXTENT }
     ensures { result ≡ filled slots.now }
 {
     slots.iter().filter(|slot| is_filled(**slot)).count() as u32
@@ -166,7 +167,7 @@ fn count_filled(slots: &[Option<Held>]) -> u32
 
 /// How many pages are locked or pinned.
 fn count_fixed(slots: &[Option<Held>]) -> u32
-    requires { length slots.now ≤ 1024 }
+    requires { length slots.now ≤ MOST_EXTENT }
     ensures { result ≡ fixed slots.now }
 {
     slots.iter().filter(|slot| is_fixed(**slot)).count() as u32
@@ -198,7 +199,7 @@ fn change_slot(
     held: Option<Held>,
 )
     requires within { slot < length slots.old }
-    requires few { length slots.old ≤ 1024 }
+    requires few { length slots.old ≤ MOST_EXTENT }
     requires pages { pages.old ≡ filled slots.old }
     requires marks { marks.old ≡ fixed slots.old }
     ensures slots { slots.new ≡ slice_set slots.old slot held }
@@ -241,9 +242,9 @@ fn repin_slots(slots: &mut [Option<Held>], pin: bool, at: Addr, pages: u32)
 
 /// The slot so many places after the hand.
 fn slot_after(slots: &[Option<Held>], hand: usize, places: usize) -> u32
-    requires few { length slots.now ≤ 1024 }
+    requires few { length slots.now ≤ MOST_EXTENT }
     requires some { 0 < length slots.now }
-    requires hand { hand ≤ 1024 }
+    requires hand { hand ≤ MOST_EXTENT }
     requires places { places ≤ 2048 }
     ensures { result ≡ (hand + places) % length slots.now }
 {
@@ -268,7 +269,7 @@ impl Ring {
     /// # Errors
     /// `NoMemory` if out of memory.
     pub fn new(alloc: Global, slots: u32) -> Result<Ring, NoMemory>
-        requires { slots ≤ 1024 }
+        requires { slots ≤ MOST_EXTENT }
         ensures { IfOk result (λ r. r ≡ record { slots = replicate slots None; hand = 0 }) }
     {
         Ok(Ring {
@@ -282,7 +283,7 @@ impl Ring {
     /// How many slots there are.
     pub fn slots(&self) -> u32
         ensures count { result ≡ length self.now.slots }
-        ensures few { result ≤ 1024 }
+        ensures few { result ≤ MOST_EXTENT }
     {
         self.slots.len() as u32
     }

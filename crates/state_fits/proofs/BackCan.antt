@@ -2,6 +2,7 @@
 use Rattle.std.proofs.Common.{◌≡◌, inl, inr, ℕ, ◌<◌, ◌≤◌, true, List, Some, None, length, slice_index_or, refl, sym, ap, ◌∙◌, subst, arith}
 use Rattle.std.proofs.lemmas.Bool.{false≢true}
 use Rattle.std.proofs.lemmas.Option.{get_or_from_slice_get}
+use Rattle.vm_types.specs.declared.limits.TheConstants.{MOST_EXTENT}
 use Rattle.vm_types.specs.Configuration.{IsWellFormed}
 use Rattle.vm_types.specs.Ring.{filled}
 use Rattle.vm_types.specs.declared.config.Config.{Config}
@@ -65,7 +66,7 @@ pub record CanBackComing (p v f : ℕ) (parts : Parts) (x : ProcessRow) : Type 0
   pub kept : kept_at parts.pages (Private (proc p) v) ≡ Some charged
   pub slot : ℕ
   pub lies : charged.lies ≡ Some (block.Swap (proc p) slot)
-  pub few : slot < 1024
+  pub few : slot < MOST_EXTENT
   pub empty : IsEmptySlot x.ring slot
   pub fits : (g : Page) → (row_of parts.frames f).page ≡ Some g → FitsSlotIndex (Some g) slot
 

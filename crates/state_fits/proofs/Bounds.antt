@@ -3,6 +3,7 @@ use Rattle.std.proofs.Common.{◌≡◌, inl, inr, ℕ, ◌+◌, ◌-◌, ◌^�
 use Rattle.std.specs.Prelude.{IsSome, is_some}
 use Rattle.std.proofs.lemmas.Bool.{and_from, le-leb, lt-ltb}
 use Rattle.std.proofs.lemmas.Option.{get_or_from_slice_get, slice_get_within}
+use Rattle.vm_types.specs.declared.limits.TheConstants.{P0_PAGES, P1_PAGES}
 use Rattle.vm_types.specs.Configuration.{IsProcess, IsWellFormed, all_pins}
 use Rattle.vm_types.specs.PagePlaces.{region_place}
 use Rattle.vm_types.specs.declared.config.Config.{Config}
@@ -21,13 +22,13 @@ use Rattle.state_fits.specs.Pages.{PagesFit}
 use Rattle.state_fits.specs.Swaps.{SwapsFit}
 
 pub place_there : (v : ℕ) → IsMappable v → IsSome (region_place v)
-place_there v (inl low) = rw (lt-ltb v 4096 low) refl
-place_there v (inr high) = go (nat_lt v 4096)
+place_there v (inl low) = rw (lt-ltb v P0_PAGES low) refl
+place_there v (inr high) = go (nat_lt v P0_PAGES)
   where
-    inside : (nat_le (2 ^ 22 - 1024) v && nat_lt v (2 ^ 22)) ≡ true
-    inside = and_from _ _ (le-leb (2 ^ 22 - 1024) v high.0) (lt-ltb v (2 ^ 22) high.1)
+    inside : (nat_le (2 ^ 22 - P1_PAGES) v && nat_lt v (2 ^ 22)) ≡ true
+    inside = and_from _ _ (le-leb (2 ^ 22 - P1_PAGES) v high.0) (lt-ltb v (2 ^ 22) high.1)
 
-    go : (b : Bool) → is_some (cond b (Some v) (cond (nat_le (2 ^ 22 - 1024) v && nat_lt v (2 ^ 22)) (Some (v - (2 ^ 22 - 1024) + 4096)) None)) ≡ true
+    go : (b : Bool) → is_some (cond b (Some v) (cond (nat_le (2 ^ 22 - P1_PAGES) v && nat_lt v (2 ^ 22)) (Some (v - (2 ^ 22 - P1_PAGES) + P0_PAGES)) None)) ≡ true
     go true = refl
     go false = rw inside refl
 

@@ -4,6 +4,7 @@ use Rattle.std.specs.Prelude.{◌&&◌, IsSome, is_some}
 use Rattle.std.specs.Option.{option_map}
 use Rattle.std.proofs.lemmas.Bool.{and_from, lt-ltb, le-leb}
 use Rattle.std.proofs.lemmas.Option.{get_or_from_slice_get, none-some}
+use Rattle.vm_types.specs.declared.limits.TheConstants.{MOST_FRAMES, P0_PAGES, P1_PAGES}
 use Rattle.vm_types.specs.Configuration.{IsWellFormed}
 use Rattle.vm_types.specs.PagePlaces.{region_place}
 use Rattle.vm_types.specs.declared.config.Config.{Config}
@@ -57,28 +58,28 @@ use Rattle.state_fits.proofs.ReadBegun.{free_row, pte_away}
 -- of every role
 pub record CanRead (config : Config) (parts : Parts) (seat f : ℕ) (x : Page) : Type 0 where
   pub below : f < length (parts.frames).rows
-  pub number : f < 16384
+  pub number : f < MOST_FRAMES
   pub head : slice_get (parts.frames).free 0 ≡ Some f
   pub empty : (row_of parts.frames f).page ≡ None
   pub starts : f < length parts.starts
   pub still : slice_index_or parts.starts f None ≡ None
   pub roles : f < length parts.roles
   pub seats : seat < length parts.busy
-  pub busy : (n : ℕ) → n ≡ slice_index_or parts.busy seat n → n ≤ 16384
-  pub in_flight : parts.in_flight ≤ 16384
+  pub busy : (n : ℕ) → n ≡ slice_index_or parts.busy seat n → n ≤ MOST_FRAMES
+  pub in_flight : parts.in_flight ≤ MOST_FRAMES
   pub mapped : (p : Proc) (v : ℕ) → x ≡ Private p v → IsMapped parts.tables p.0 v
   pub entry : (p : Proc) (v : ℕ) (pte : Pte) → x ≡ Private p v → pte_in parts.tables p.0 v ≡ Some pte → IsEntry (record pte { place = place.Transition (pfn f) })
   pub global : (s : SecId) (i : ℕ) → x ≡ Shared s i → section_page_number config s.0 i < length (parts.globals).frames
 
 -- a page that may be mapped has a place
 pub has_place : (v : ℕ) → IsMappable v → IsSome (region_place v)
-has_place v (inl low) = rw (lt-ltb v 4096 low) refl
-has_place v (inr high) = go (nat_lt v 4096)
+has_place v (inl low) = rw (lt-ltb v P0_PAGES low) refl
+has_place v (inr high) = go (nat_lt v P0_PAGES)
   where
-    inside : (nat_le (2 ^ 22 - 1024) v && nat_lt v (2 ^ 22)) ≡ true
-    inside = and_from _ _ (le-leb (2 ^ 22 - 1024) v high.0) (lt-ltb v (2 ^ 22) high.1)
+    inside : (nat_le (2 ^ 22 - P1_PAGES) v && nat_lt v (2 ^ 22)) ≡ true
+    inside = and_from _ _ (le-leb (2 ^ 22 - P1_PAGES) v high.0) (lt-ltb v (2 ^ 22) high.1)
 
-    go : (b : Bool) → is_some (cond b (Some v) (cond (nat_le (2 ^ 22 - 1024) v && nat_lt v (2 ^ 22)) (Some (v - (2 ^ 22 - 1024) + 4096)) None)) ≡ true
+    go : (b : Bool) → is_some (cond b (Some v) (cond (nat_le (2 ^ 22 - P1_PAGES) v && nat_lt v (2 ^ 22)) (Some (v - (2 ^ 22 - P1_PAGES) + P0_PAGES)) None)) ≡ true
     go true = refl
     go false = rw inside refl
 
@@ -110,7 +111,7 @@ module _ (config : Config) (past : List Entry) (a : Pager) (seat : Seat) (f : Pf
   seat_there : seat.0 < length config.procs + 2
   seat_there = let few = legal.line.seat in omega (arith, few)
 
-  few_flights : length (open_flights past) ≤ 16384
+  few_flights : length (open_flights past) ≤ MOST_FRAMES
   few_flights = let few = flights_few config (past_view past) a kept in omega (arith, few, formed.frames.1)
 
   none_on : flight_on f.0 (open_flights past) ≡ None

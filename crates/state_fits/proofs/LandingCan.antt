@@ -3,6 +3,7 @@ use Rattle.std.proofs.Common.{◌≡◌, ℕ, ◌<◌, ◌≤◌, ◌+◌, Bool,
 use Rattle.std.specs.Prelude.{IsSome, is_some}
 use Rattle.std.specs.Option.{option_and_then}
 use Rattle.std.proofs.lemmas.Option.{get_or_from_slice_get, slice_get_within}
+use Rattle.vm_types.specs.declared.limits.TheConstants.{MOST_EXTENT}
 use Rattle.vm_types.specs.Configuration.{IsProcess, IsWellFormed, all_pins}
 use Rattle.vm_types.specs.Ring.{filled}
 use Rattle.vm_types.specs.Same.{same_page}
@@ -188,7 +189,7 @@ module _ (config : Config) (past : List Entry) (a : Pager) (seat : Seat) (f : Pf
         within : swap_slot (legal.row.flight).block < length (a.ring q.0).slots
         within = (come_swap config past a seat f k kept right legal parts fit q address is).within
 
-        few : (o : Option ProcSpec) → slice_get config.procs q.0 ≡ o → swap_slot (legal.row.flight).block < 1024
+        few : (o : Option ProcSpec) → slice_get config.procs q.0 ≡ o → swap_slot (legal.row.flight).block < MOST_EXTENT
         few None none = let zero = ((kept.processes q.0).none none).1 in absurd (omega (arith, zero, within))
         few (Some spec) found =
             let bounded = (kept.processes q.0).bounds spec found in

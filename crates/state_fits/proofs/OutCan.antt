@@ -3,6 +3,7 @@ use Rattle.std.proofs.Common.{◌≡◌, ℕ, ◌+◌, ◌<◌, ◌≤◌, true,
 use Rattle.std.specs.Option.{option_map}
 use Rattle.std.proofs.lemmas.Bool.{true≢false}
 use Rattle.std.proofs.lemmas.Option.{none-some}
+use Rattle.vm_types.specs.declared.limits.TheConstants.{MOST_FRAMES}
 use Rattle.vm_types.specs.Configuration.{IsWellFormed}
 use Rattle.vm_types.specs.declared.config.Config.{Config}
 use Rattle.vm_types.specs.declared.names.BlockId.{BlockId}
@@ -51,8 +52,8 @@ pub record CanBeginWrite (parts : Parts) (seat f : ℕ) : Type 0 where
   pub starts : f < length parts.starts
   pub roles : f < length parts.roles
   pub seats : seat < length parts.busy
-  pub busy : (n : ℕ) → n ≡ slice_index_or parts.busy seat n → n ≤ 16384
-  pub in_flight : parts.in_flight ≤ 16384
+  pub busy : (n : ℕ) → n ≡ slice_index_or parts.busy seat n → n ≤ MOST_FRAMES
+  pub in_flight : parts.in_flight ≤ MOST_FRAMES
 
 -- of the page, if it is charged, and of the page file block that it is given
 pub record CanGiveBlock (parts : Parts) (g : Page) (b : ℕ) : Type 0 where
@@ -83,7 +84,7 @@ module _ (config : Config) (past : List Entry) (a : Pager) (seat : Seat) (f : Pf
   unfolding frame_row
   row_flights = ap (λ (r : Row). r.flights) (fit.frames.rows f.0)
 
-  few_flights : length (open_flights past) ≤ 16384
+  few_flights : length (open_flights past) ≤ MOST_FRAMES
   few_flights = let few = flights_few config (past_view past) a kept in omega (arith, few, formed.frames.1)
 
   pub can_begin_write : CanBeginWrite parts seat.0 f.0

@@ -1,6 +1,7 @@
 -- The ring slot of a page that becomes valid again, and its modify mark. Source: Kenah and Bate, "VAX/VMS
 -- Internals and Data Structures", working set lists; the swap block of each slot is this project's own.
 use Rattle.std.specs.Prelude.{◌≡◌, ℕ, Bool, true, ◌+◌, ◌^◌, ◌-◌, ◌<◌, ◌≤◌, Some, None, length}
+use Rattle.vm_types.specs.declared.limits.TheConstants.{MOST_EXTENT}
 use Rattle.vm_types.specs.PagePlaces.{changed_at}
 use Rattle.vm_types.specs.Ring.{Held, choose, filled}
 use Rattle.vm_types.specs.declared.names.BlockId.TheVariants as block
@@ -31,7 +32,7 @@ pub record CanComeHome (p v : ℕ) (x : ProcessRow) (pages : ChargedTable) (swap
   pub of : Proc
   pub slot : ℕ
   pub lies : charged.lies ≡ Some (block.Swap of slot)
-  pub few : slot < 1024
+  pub few : slot < MOST_EXTENT
   pub empty : IsEmptySlot x.ring slot
 
 abbrev pub CanTakeSlot : ProcStatus → ℕ → ℕ → ProcessRow → ChargedTable → SwapTable → Type 0

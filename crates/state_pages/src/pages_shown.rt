@@ -11,7 +11,10 @@ use crate::found::{Backing, Found};
 use crate::reading::{is_paged, page_over};
 use pte_forms::{Place, Pte};
 use state_parts::{ChargedPage, ChargedPages};
-use vm_types::{BlockId, Config, Op, Origin, Page, Pfn, Proc, SecId, Section, SectionKind};
+use vm_types::{
+    BlockId, Config, Op, Origin, P0_PAGES, P1_PAGES, PAGE_BYTES, Page, Pfn, Proc, SecId, Section,
+    SectionKind,
+};
 
 /// Whether the operation changes bytes.
 pub fn changes(op: Op) -> bool
@@ -166,7 +169,7 @@ fn process_waits(pages: &ChargedPages, p: Proc) -> bool
     ensures some { result ≡ true → HasWaiting pages.now }
     ensures none { result ≡ false → NoneWaits pages.now p.0 }
 {
-    waits_between(pages, p, 0, 4096) || waits_between(pages, p, (1 << 22) - 1024, 1 << 22)
+    waits_between(pages, p, 0, P0_PAGES) || waits_between(pages, p, (1 << 22) - P1_PAGES, 1 << 22)
 }
 
 /// Whether some page of so many processes is charged that wasn't touched.
@@ -201,7 +204,7 @@ fn paged_pages(section: &Section) -> u32
     ensures { result ≡ paged_pages section.now }
 {
     match section.kind {
-        SectionKind::Paged => (section.bytes.items().len() / 512) as u32,
+        SectionKind::Paged => (section.bytes.items().len() / PAGE_BYTES as usize) as u32,
         SectionKind::Shared | SectionKind::Crf => 0,
     }
 }

@@ -10,7 +10,7 @@ ghost use Rattle.state_fits.specs.Serving.{ranged, with_code};
 use page_tables::{Look, Tables};
 use pte_forms::{Place, Pte};
 use section_table::Sections;
-use vm_types::{Addr, Origin, Proc};
+use vm_types::{Addr, Origin, PAGE_BYTES, Proc};
 
 /// Gives the entries of so many mapped pages of the process from the address's page on (1 to 4096, in P0
 /// or the end of P1) the protection code.
@@ -21,7 +21,7 @@ pub fn protect(tables: &mut Tables, p: Proc, at: Addr, pages: u32, prot: u8)
     ensures changed { (q w : ℕ) → pte_in tables.new q w ≡ ranged (option_map (with_code prot)) p.0 at.0 pages (pte_in tables.old) q w }
     ensures procs { tables.new.procs ≡ tables.old.procs }
 {
-    let first = at.0 / 512;
+    let first = at.0 / PAGE_BYTES;
     for n in 0..pages {
         set_code(tables, p, first + n, prot);
     }
@@ -59,7 +59,7 @@ pub fn create_zeros(
     ensures behind { (q w : ℕ) → behind_of sections.new q w ≡ ranged (λ old. Some Origin.Zero) p.0 at.0 pages (behind_of sections.old) q w }
     ensures sections { (sections.new.procs ≡ sections.old.procs) × (sections.new.parts ≡ sections.old.parts) }
 {
-    let first = at.0 / 512;
+    let first = at.0 / PAGE_BYTES;
     for n in 0..pages {
         let vpn = first + n;
         tables.map(

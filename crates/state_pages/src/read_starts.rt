@@ -6,16 +6,16 @@ use page_file::PageFile;
 use section_table::Sections;
 use state_parts::{ChargedPages, ProcessRow};
 use vm_journal::Role;
-use vm_types::{Config, Page};
+use vm_types::{Config, PAGE_BYTES, Page};
 
 /// The page that a read of this role brings in; none if its process has none there.
 pub fn read_page(config: &Config, sections: &Sections, role: Role) -> Option<Page>
     ensures { result ≡ page_read config.now sections.now role }
 {
     match role {
-        Role::Fault(q, a) => mapped_page(config, sections, q, a.0 / 512),
+        Role::Fault(q, a) => mapped_page(config, sections, q, a.0 / PAGE_BYTES),
         Role::Near(page) => Some(page),
-        Role::Come(q, a) => mapped_page(config, sections, q, a.0 / 512),
+        Role::Come(q, a) => mapped_page(config, sections, q, a.0 / PAGE_BYTES),
     }
 }
 

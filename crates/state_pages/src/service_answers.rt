@@ -2,6 +2,7 @@
 
 ghost use Rattle.std.specs.Prelude.{◌≡◌, ◌≤◌, true, Some, length};
 ghost use Rattle.std.specs.List.{list_any};
+ghost use Rattle.vm_types.specs.declared.limits.TheConstants.{MOST_EXTENT};
 ghost use Rattle.vm_types.specs.WellFormed.{IsRange};
 ghost use Rattle.pager_model.specs.Forget.{range_of};
 ghost use Rattle.pager_model.specs.Ring.{range_locked, range_pinned};
@@ -11,7 +12,7 @@ ghost use Rattle.state_pages.specs.ServiceAnswers.{has_entry, limit_answer, lock
 use crate::shown::entry_in;
 use page_tables::Tables;
 use state_parts::{count_in, fixed_in};
-use vm_types::{Addr, Answer, Proc, ProcSpec, Service};
+use vm_types::{Addr, Answer, PAGE_BYTES, Proc, ProcSpec, Service};
 use working_set::Ring;
 
 /// Whether a page number of a process has an entry, if `mapped`, or else whether it has none.
@@ -27,7 +28,7 @@ pub fn some_entry(tables: &Tables, p: Proc, mapped: bool, at: Addr, pages: u32) 
     requires { IsRange at.0 pages }
     ensures { result ≡ list_any (has_entry tables.now p.0 mapped) (range_of at.0 pages) }
 {
-    let first = at.0 / 512;
+    let first = at.0 / PAGE_BYTES;
     for n in 0..pages {
         if has_entry(tables, p, mapped, first + n) {
             return true;
@@ -38,8 +39,8 @@ pub fn some_entry(tables: &Tables, p: Proc, mapped: bool, at: Addr, pages: u32) 
 
 /// The answer to a lock, or a pin, of a range that is mapped.
 pub fn lock_answer(ring: &Ring, spec: &ProcSpec, at: Addr, pages: u32) -> Answer
-    requires slots { length ring.now.slots ≤ 1024 }
-    requires locks { spec.now.locks ≤ 1024 }
+    requires slots { length ring.now.slots ≤ MOST_EXTENT }
+    requires locks { spec.now.locks ≤ MOST_EXTENT }
     ensures locked { result ≡ lock_answer ring.now (range_locked true at.0 pages ring.now) at.0 pages (Some spec.now) }
     ensures pinned { result ≡ lock_answer ring.now (range_pinned true at.0 pages ring.now) at.0 pages (Some spec.now) }
 {
@@ -54,7 +55,7 @@ pub fn lock_answer(ring: &Ring, spec: &ProcSpec, at: Addr, pages: u32) -> Answer
 
 /// The answer to an adjustment of a limit.
 pub fn limit_answer(spec: &ProcSpec, limit: u32) -> Answer
-    requires { spec.now.locks ≤ 1024 }
+    requires { spec.now.locks ≤ MOST_EXTENT }
     ensures { result ≡ limit_answer limit (Some spec.now) }
 {
     if limit >= spec.locks + 2 && limit <= spec.extent {

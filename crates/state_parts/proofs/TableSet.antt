@@ -5,6 +5,7 @@ use Rattle.std.specs.Option.{option_and_then, option_map}
 use Rattle.std.proofs.lemmas.Bool.{cases_lt, eqb-false, eqb-true, false≢true}
 use Rattle.std.proofs.lemmas.List.{get_or_read, get_or-replicate, get_or-set_other, get_or-set_same, length-replicate}
 use Rattle.std.proofs.lemmas.Option.{none-some, slice_get_past, slice_get_within, unwrap_or-slice_get}
+use Rattle.vm_types.specs.declared.limits.TheConstants.{PRIVATE_PAGES}
 use Rattle.vm_types.specs.Configuration.{section_pages}
 use Rattle.vm_types.specs.Kinds.{is_paged_kind, paged_of}
 use Rattle.vm_types.specs.PagePlaces.{changed_at, item_at, page_place, region_place}
@@ -40,18 +41,18 @@ item_within {X} xs i some = go (slice_index_or xs i None) refl some
     go None is none = absurd (false≢true none)
     go (Some x) is there = slice_get_within xs i (Some x) (item_there xs i x is)
 
-own_place : (t : ChargedTable) (p v : ℕ) → length t.pages ≡ t.procs * 5120 → IsSome (charged_at t p v) → HasPage t p v
+own_place : (t : ChargedTable) (p v : ℕ) → length t.pages ≡ t.procs * PRIVATE_PAGES → IsSome (charged_at t p v) → HasPage t p v
 own_place t p v count some = go (region_place v) refl some
   where
-    go : (o : Option ℕ) → region_place v ≡ o → IsSome (option_and_then (λ k. slice_index_or t.pages k None) (option_map (λ k. 5120 * p + k) o)) → HasPage t p v
+    go : (o : Option ℕ) → region_place v ≡ o → IsSome (option_and_then (λ k. slice_index_or t.pages k None) (option_map (λ k. PRIVATE_PAGES * p + k) o)) → HasPage t p v
     go None is none = absurd (false≢true none)
     go (Some k) is there = record {
-      proc = let within = item_within t.pages (5120 * p + k) there in omega (arith, within, count);
+      proc = let within = item_within t.pages (PRIVATE_PAGES * p + k) there in omega (arith, within, count);
       page = ap is_some is;
     }
 
 -- a page of which something is kept has a place
-pub kept_place : (t : ChargedTable) → length t.pages ≡ t.procs * 5120 → (g : Page) → IsSome (kept_at t g) → HasPlace t g
+pub kept_place : (t : ChargedTable) → length t.pages ≡ t.procs * PRIVATE_PAGES → (g : Page) → IsSome (kept_at t g) → HasPlace t g
 kept_place t count (Private p v) some = own_place t p.0 v count some
 kept_place t count (Shared s i) some = item_within (rows_of t s.0) i some
 

@@ -2,6 +2,7 @@
 -- slots. Source: Kenah and Bate, "VAX/VMS Internals and Data Structures", the swapper; that each slot has
 -- a block of its own is this project's own.
 use Rattle.std.specs.Prelude.{ℕ, ◌+◌, ◌*◌, ◌<◌, List, Option, None, nat_lt, slice_index_or, if◌then◌else◌}
+use Rattle.vm_types.specs.declared.limits.TheConstants.{MOST_EXTENT}
 
 -- how many processes there are, and the page numbers by process and slot
 pub record SwapTable : Type 0 where
@@ -10,9 +11,9 @@ pub record SwapTable : Type 0 where
 
 -- the page number in the block of a process's slot
 abbrev pub swapped_at : SwapTable → ℕ → ℕ → Option ℕ
-swapped_at t p n = if nat_lt n 1024 then slice_index_or t.pages (1024 * p + n) None else None
+swapped_at t p n = if nat_lt n MOST_EXTENT then slice_index_or t.pages (MOST_EXTENT * p + n) None else None
 
 -- the process is one of the table's, and the slot has a block
 pub record HasSlot (t : SwapTable) (p n : ℕ) : Type 0 where
   pub proc : p < t.procs
-  pub slot : n < 1024
+  pub slot : n < MOST_EXTENT

@@ -1,4 +1,5 @@
 ghost use Rattle.std.specs.Prelude.{◌≡◌, ◌+◌, ◌*◌, ◌^◌, ◌<◌, ◌≤◌, ℕ, None, IfOk, IsSome, length, map};
+ghost use Rattle.vm_types.specs.declared.limits.TheConstants.{PRIVATE_PAGES};
 ghost use Rattle.vm_types.specs.PagePlaces.{changed_at, item_at, region_place};
 ghost use Rattle.state_parts.specs.ChargedTable.{first_rows, section_runs};
 
@@ -6,7 +7,7 @@ use crate::charged_page::ChargedPage;
 use page_rows::PageRows;
 use std::alloc::Global;
 use std::marker::Model;
-use vm_types::{NoMemory, Page, Proc, Section, SectionKind, page_place};
+use vm_types::{NoMemory, PAGE_BYTES, Page, Proc, Section, SectionKind, page_place};
 
 /// How many runs of 64 pages a process may map.
 const RUNS: usize = 80;
@@ -29,7 +30,7 @@ impl Model for ChargedPages {
 
     ghost view = { λ t. record { procs = t.procs; pages = t.pages; shared = t.shared.items } };
 
-    ghost invariant = { λ t. length t.pages ≡ t.procs * 5120 };
+    ghost invariant = { λ t. length t.pages ≡ t.procs * PRIVATE_PAGES };
 }
 
 impl ChargedPages {
@@ -84,7 +85,7 @@ impl ChargedPages {
 /// Sets what is kept of a private page.
 fn set_own(pages: &mut PageRows<ChargedPage>, p: Proc, vpn: u32, kept: Option<ChargedPage>)
     requires page { IsSome (region_place vpn) }
-    requires within { (p.0 + 1) * 5120 ≤ length pages.old }
+    requires within { (p.0 + 1) * PRIVATE_PAGES ≤ length pages.old }
     ensures changed { (q w : ℕ) → item_at pages.new q w ≡ changed_at (item_at pages.old) p.0 vpn kept q w }
     ensures places { length pages.new ≡ length pages.old }
 {
@@ -99,7 +100,7 @@ fn section_runs(section: &Section) -> usize
     ensures small { result * 64 < 2 ^ 63 }
 {
     match section.kind {
-        SectionKind::Paged => section.bytes.items().len() / 512 / 64 + 1,
+        SectionKind::Paged => section.bytes.items().len() / PAGE_BYTES as usize / 64 + 1,
         SectionKind::Shared | SectionKind::Crf => 0,
     }
 }

@@ -9,7 +9,7 @@ ghost use Rattle.state_parts.specs.Repinned.{page_to_pin};
 ghost use Rattle.state_parts.specs.Victim.{HasVictim, slot_given};
 
 use vm_journal::EvictWhy;
-use vm_types::Addr;
+use vm_types::{Addr, PAGE_BYTES};
 use working_set::{Choice, Ring};
 
 /// Unlocks each page of the ring.
@@ -226,7 +226,7 @@ fn is_in(ring: &Ring, slot: u32, at: Addr, pages: u32) -> bool
     requires { slot < length ring.now.slots }
     ensures { result ≡ is_slot_in at.0 pages (slot_at ring.now slot) }
 {
-    let first = at.0 / 512;
+    let first = at.0 / PAGE_BYTES;
     ring.at(slot)
         .is_some_and(|vpn| vpn >= first && vpn - first < pages)
 }

@@ -1,13 +1,14 @@
 ghost use Rattle.std.specs.Prelude.{◌≡◌, ℕ, None, IfOk};
+ghost use Rattle.vm_types.specs.declared.limits.TheConstants.{MOST_EXTENT};
 ghost use Rattle.vm_types.specs.PagePlaces.{changed_at};
 
 use page_rows::PageRows;
 use std::alloc::Global;
 use std::marker::Model;
-use vm_types::{NoMemory, Proc};
+use vm_types::{MOST_EXTENT, NoMemory, Proc};
 
 /// The slots of the longest working set list.
-const SLOTS: usize = 1024;
+const SLOTS: usize = MOST_EXTENT as usize;
 
 /// The runs of 64 slots of a process.
 const RUNS: usize = 16;
@@ -27,7 +28,7 @@ impl Model for SwapPages {
 
     ghost view = { λ t. record { procs = t.procs; pages = t.pages } };
 
-    ghost invariant = { λ t. length t.pages ≡ t.procs * 1024 };
+    ghost invariant = { λ t. length t.pages ≡ t.procs * MOST_EXTENT };
 }
 
 impl SwapPages {

@@ -12,8 +12,8 @@ use frame_store::{Carried, Store, section_block_count};
 use std::alloc::Global;
 use std::test::Fail;
 use vm_types::{
-    BlockId, Config, Listed, Page, Params, Pfn, Proc, ProcSpec, Seat, SecId, Section, SectionKind,
-    Version,
+    BlockId, Body, Config, Listed, Page, Params, Pfn, Proc, ProcSpec, Seat, SecId, Section,
+    SectionKind, Version,
 };
 
 const PARAMS: Params = Params {
@@ -89,7 +89,7 @@ fn greatest(alloc: Global) -> Result<Config, Fail>
         procs: Listed::of(Vec::from_slice(alloc, &[SPEC; 16])?),
         maps: Listed::new(alloc),
         fails: Listed::new(alloc),
-        body: Listed::new(alloc),
+        body: Body::new(alloc),
     })
 }
 

@@ -6,8 +6,8 @@ use paging_study::{
 use std::alloc::Global;
 use std::test::Fail;
 use vm_types::{
-    Addr, Config, Listed, MOST_LONG_REQUESTS, Mode, NoMemory, Op, Proc, Ref, Request, Service,
-    Task, Version, Width,
+    Addr, Body, Config, Listed, MOST_LONG_REQUESTS, Mode, NoMemory, Op, Proc, Ref, Request,
+    Service, Task, Version, Width,
 };
 
 /// A read of a byte.
@@ -23,7 +23,11 @@ fn read(proc: u32, at: u32) -> Task {
 }
 
 /// A configuration with a body and nothing else.
-fn config(alloc: Global, body: &[Task]) -> Result<Config, NoMemory> {
+fn config(alloc: Global, tasks: &[Task]) -> Result<Config, NoMemory> {
+    let mut body = Body::new(alloc);
+    for task in tasks {
+        body.push(*task)?;
+    }
     Ok(Config {
         version: Version::One,
         frames: 8,
@@ -34,7 +38,7 @@ fn config(alloc: Global, body: &[Task]) -> Result<Config, NoMemory> {
         procs: Listed::new(alloc),
         maps: Listed::new(alloc),
         fails: Listed::new(alloc),
-        body: Listed::of(Vec::from_slice(alloc, body)?),
+        body,
     })
 }
 

@@ -9,8 +9,8 @@ use std::alloc::Global;
 use std::test::Fail;
 use vm_journal::{Entry, Role, What};
 use vm_types::{
-    Addr, BlockId, Config, FrameState, Listed, Mapping, Mode, NoMemory, Op, Origin, Page, Pfn,
-    Proc, ProcSpec, ProcStatus, Ref, Reply, Seat, SecId, Section, SectionKind, Version, Width,
+    Addr, BlockId, Body, Config, FrameState, Listed, Mapping, Mode, NoMemory, Op, Origin, Page,
+    Pfn, Proc, ProcSpec, ProcStatus, Ref, Reply, Seat, SecId, Section, SectionKind, Version, Width,
 };
 
 /// A process that has the one page of a shared section at 0.
@@ -45,7 +45,7 @@ fn config(alloc: Global) -> Result<Config, NoMemory>
         procs: Listed::of(vec![in alloc; spec]?),
         maps: Listed::of(vec![in alloc; mapping]?),
         fails: Listed::new(alloc),
-        body: Listed::new(alloc),
+        body: Body::new(alloc),
     })
 }
 

@@ -24,7 +24,7 @@ fn makes_a_trace(rt: HostRuntime) -> Result<(), Fail> {
     let bytes = sections[1].bytes.items();
     assert_eq!(rt; bytes.len(), 32_768);
     assert!(rt; bytes[511] == 255 && bytes[512] == 1 && bytes[513] == 2 && bytes[32_767] == 62);
-    let body = made.body.items();
+    let body = &made.body;
     assert_eq!(rt; body.len(), 400);
     let read = Op::Read(Width::Four);
     let first = [
@@ -33,13 +33,13 @@ fn makes_a_trace(rt: HostRuntime) -> Result<(), Fail> {
         task(1, 45_668, read),
         task(3, 287_852, read),
     ];
-    assert_eq!(rt; body[0], first[0]);
-    assert_eq!(rt; body[1], first[1]);
-    assert_eq!(rt; body[2], first[2]);
-    assert_eq!(rt; body[3], first[3]);
-    assert_eq!(rt; body[399], task(1, 278_372, read));
+    assert_eq!(rt; body.get(0), Some(first[0]));
+    assert_eq!(rt; body.get(1), Some(first[1]));
+    assert_eq!(rt; body.get(2), Some(first[2]));
+    assert_eq!(rt; body.get(3), Some(first[3]));
+    assert_eq!(rt; body.get(399), Some(task(1, 278_372, read)));
     // The greatest.
     let made = make_trace(rt.alloc(), u64::MAX, 16, 100_000)?;
-    assert!(rt; made.frames == 1568 && made.body.items().len() == 100_000);
+    assert!(rt; made.frames == 1568 && made.body.len() == 100_000);
     Ok(())
 }

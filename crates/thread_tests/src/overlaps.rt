@@ -9,7 +9,7 @@ ghost use Rattle.vm_types.specs.Configuration.{IsTask};
 
 use crate::desks::{Desk, ask, entries, last_desk, swap, write};
 use crate::meeting::{Begun, MeetingBlock, MeetingDepot, Side};
-use crate::traces::{config_of, task_at};
+use crate::traces::{config_of, task_at, tasks_of};
 use history_lock::HistoryLock;
 use replay_run::{run_threads, take_last};
 use run_blocks::make_blocks;
@@ -269,7 +269,7 @@ fn landed_beside<R: Threads + Wait + Sync>(
     let begun = Arc::new(alloc, Begun::new())?;
     let mut depot = MeetingDepot::new(alloc, begun.clone()?);
     let config = config_of(alloc, trace)?;
-    let mut body = Vec::from_slice(alloc, config.body.items())?;
+    let mut body = tasks_of(alloc, &config.body)?;
     if config.procs.items().len() != 2 || body.is_empty() {
         return Err(Fail::from("two processes with a request"));
     }

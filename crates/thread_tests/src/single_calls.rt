@@ -6,7 +6,7 @@ ghost use Rattle.vm_state.specs.Based.{base_of};
 ghost use Rattle.vm_types.specs.Configuration.{IsTask};
 
 use crate::desks::{ask, entries, last_desk, swap, write};
-use crate::traces::{config_of, task_at};
+use crate::traces::{config_of, task_at, tasks_of};
 use disk_trait::{Block, MemoryDepot};
 use history_lock::HistoryLock;
 use run_blocks::make_blocks;
@@ -68,7 +68,7 @@ fn answers_of<W: Wait, B: Block>(
 /// What the four calls answer on the trace's state, which was halted before or not.
 fn answers_on_trace<W: Wait>(rt: &W, alloc: Global, halted: bool) -> Result<Told, Fail> {
     let config = config_of(alloc, ASKING)?;
-    let body = Vec::from_slice(alloc, config.body.items())?;
+    let body = tasks_of(alloc, &config.body)?;
     if config.procs.items().len() != 1 || body.len() != 2 {
         return Err(Fail::from("a process with two requests"));
     }

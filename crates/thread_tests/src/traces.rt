@@ -7,7 +7,7 @@ use outside_io::MemorySource;
 use std::alloc::Global;
 use std::test::Fail;
 use trace_reader::read_trace;
-use vm_types::{Config, Task};
+use vm_types::{Body, Config, NoMemory, Task};
 
 /// The configuration whose body is these lines, so many times.
 pub fn repeated(alloc: Global, head: &str, lines: &str, times: u32) -> Result<Config, Fail>
@@ -30,6 +30,18 @@ pub fn config_of(alloc: Global, trace: &str) -> Result<Config, Fail>
     ensures { IfOk result IsWellFormed }
 {
     repeated(alloc, trace, "", 0)
+}
+
+/// The tasks of a body, in order.
+#[tactic(auto, using(crate::proofs::Tasks::one_more, crate::proofs::Tasks::all_taken))]
+pub fn tasks_of(alloc: Global, body: &Body) -> Result<Vec<Task>, NoMemory>
+    ensures { IfOk result (λ tasks. tasks.items ≡ body.now) }
+{
+    let mut tasks = Vec::new(alloc);
+    for i in 0..body.len() {
+        tasks.push(body.at(i))?;
+    }
+    Ok(tasks)
 }
 
 /// The task at a place.

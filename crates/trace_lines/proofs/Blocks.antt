@@ -5,6 +5,7 @@ use Rattle.std.specs.List.{list_any, AllByRecursion}
 use Rattle.std.specs.Option.{option_map_or}
 use Rattle.std.proofs.lemmas.List.Sums.{sum_by-cons}
 use Rattle.std.proofs.lemmas.List.Elements.{recursion_from_All}
+use Rattle.vm_types.specs.declared.limits.TheConstants.{MOST_EXTENT}
 use Rattle.vm_types.specs.Configuration.{section_pages}
 use Rattle.vm_types.specs.SectionBlocks.{section_block_count}
 use Rattle.vm_types.specs.declared.names.BlockId.{BlockId}
@@ -51,11 +52,11 @@ blocks_at_most sections s = let pages = pages_at_most sections s in let few = fe
     fewer None = omega arith
     fewer (Some x) = few_blocks x
 
-slots_most : (procs : List ProcSpec) (p : ℕ) → AllByRecursion (λ spec. spec.extent ≤ 1024) procs → slots_at procs p ≤ 1024
+slots_most : (procs : List ProcSpec) (p : ℕ) → AllByRecursion (λ spec. spec.extent ≤ MOST_EXTENT) procs → slots_at procs p ≤ MOST_EXTENT
 slots_most [] p each = omega arith
 slots_most (x ∷ procs) zero each = each.0
 slots_most (x ∷ procs) (suc p) each = slots_most procs p each.1
 
 -- a process has at most 1024 slots
-pub slots_at_most : (procs : List ProcSpec) (p : ℕ) → All (λ spec. spec.extent ≤ 1024) procs → slots_at procs p ≤ 1024
-slots_at_most procs p each = slots_most procs p (recursion_from_All (λ (spec : ProcSpec). spec.extent ≤ 1024) procs each)
+pub slots_at_most : (procs : List ProcSpec) (p : ℕ) → All (λ spec. spec.extent ≤ MOST_EXTENT) procs → slots_at procs p ≤ MOST_EXTENT
+slots_at_most procs p each = slots_most procs p (recursion_from_All (λ (spec : ProcSpec). spec.extent ≤ MOST_EXTENT) procs each)

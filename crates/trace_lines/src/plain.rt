@@ -83,7 +83,7 @@ pub(crate) fn takes_request(number: u32, part: &Part) -> bool
     let version = part.config.version;
     number <= version.most_lines()
         && part.place.rank() == Place::Requests.rank()
-        && part.config.body.items().len() < version.most_requests() as usize
+        && part.config.body.len() < version.most_requests() as usize
 }
 
 /// The request of a line that is written in the plain form, as `A W4 00000200 0000002A`: a reference

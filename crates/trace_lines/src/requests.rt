@@ -116,7 +116,7 @@ fn asked_by<'a>(config: &Config, p: u32, request: Request) -> Result<Line<'a>, B
     ensures { said result ≡ asked_by config.now p request }
 {
     let most = config.version.most_requests();
-    if config.body.items().len() >= most as usize {
+    if config.body.len() >= most as usize {
         let bound = Bound::Most(Limited::Requests, most);
         return Err(Breach::bounded(1, Cause::TooMany, bound));
     }

@@ -1,6 +1,7 @@
 -- One more byte, process, process's mappings, reference.
 use Rattle.std.proofs.Common.{◌≡◌, ℕ, zero, suc, ◌+◌, ◌-◌, ◌/◌, ◌%◌, ◌<◌, List, [], ◌∷◌, ◌++◌, length, replicate, slice_set, refl, sym, ap, ◌∙◌, arith, add-one}
 use Rattle.std.proofs.lemmas.List.{length-append}
+use Rattle.vm_types.specs.declared.limits.TheConstants.{PAGE_BYTES}
 use Rattle.vm_types.specs.declared.config.Origin.TheVariants as origin
 use Rattle.trace_maker.specs.Draws.{after_six, task_from}
 use Rattle.trace_maker.specs.Made.{pattern, made_process, made_procs, made_map, made_maps, state_after, made_body}
@@ -9,14 +10,14 @@ pub pattern_none : pattern 0 ≡ []
 unfolding pattern
 pattern_none = refl
 
-pub pattern_more : (n : ℕ) → pattern (n + 1) ≡ pattern n ++ ((n / 512 + n % 512) % 256) ∷ []
+pub pattern_more : (n : ℕ) → pattern (n + 1) ≡ pattern n ++ ((n / PAGE_BYTES + n % PAGE_BYTES) % 256) ∷ []
 unfolding pattern
 pattern_more n = rw add-one refl
 
 pub pattern_long : (n : ℕ) → length (pattern n) ≡ n
 unfolding pattern
 pattern_long zero = refl
-pattern_long (suc n) = length-append (pattern n) (((n / 512 + n % 512) % 256) ∷ []) ∙ omega (arith, pattern_long n)
+pattern_long (suc n) = length-append (pattern n) (((n / PAGE_BYTES + n % PAGE_BYTES) % 256) ∷ []) ∙ omega (arith, pattern_long n)
 
 set_next : (xs ys : List ℕ) (y x : ℕ) → slice_set (xs ++ y ∷ ys) (length xs) x ≡ (xs ++ x ∷ []) ++ ys
 set_next [] ys y x = refl
@@ -26,9 +27,9 @@ zeros_left : (m n : ℕ) → n < m → replicate {A = ℕ} (m - n) 0 ≡ 0 ∷ r
 zeros_left m n less = let left : m - n ≡ suc (m - (n + 1)) = omega (arith, less) in ap (λ k. replicate {A = ℕ} k 0) left
 
 -- the next byte in the place of the first zero
-pub pattern_set : (m n : ℕ) → n < m → slice_set (pattern n ++ replicate (m - n) 0) n ((n / 512 + n % 512) % 256) ≡ pattern (n + 1) ++ replicate (m - (n + 1)) 0
+pub pattern_set : (m n : ℕ) → n < m → slice_set (pattern n ++ replicate (m - n) 0) n ((n / PAGE_BYTES + n % PAGE_BYTES) % 256) ≡ pattern (n + 1) ++ replicate (m - (n + 1)) 0
 pattern_set m n less =
-    let x = (n / 512 + n % 512) % 256 in
+    let x = (n / PAGE_BYTES + n % PAGE_BYTES) % 256 in
     ap (λ ys. slice_set (pattern n ++ ys) n x) (zeros_left m n less)
     ∙ ap (λ k. slice_set (pattern n ++ 0 ∷ replicate (m - (n + 1)) 0) k x) (sym (pattern_long n))
     ∙ set_next (pattern n) (replicate (m - (n + 1)) 0) 0 x

@@ -6,6 +6,7 @@ use Rattle.std.proofs.lemmas.List.{length-append}
 use Rattle.std.proofs.lemmas.List.Elements.{All-nil, All-cons, All-push, All-weaker}
 use Rattle.std.proofs.lemmas.List.Quantifiers.{all_pairs_push}
 use Rattle.std.proofs.lemmas.List.Kept.{AllPairs-cons}
+use Rattle.vm_types.specs.declared.limits.TheConstants.{P0_PAGES, PAGE_BYTES}
 use Rattle.vm_types.specs.Configuration.{IsName, IsLetter, IsNameByte, IsSection, AreSections, IsProcess, HasPages, IsMapping, AreApart, AreFails, IsTask, IsWellFormed, all_pins, section_pages}
 use Rattle.vm_types.specs.Kinds.{is_paged_kind}
 use Rattle.vm_types.specs.WellFormed.{IsRange, IsCode, FitsOp, op_bytes}
@@ -46,18 +47,18 @@ all_procs P (suc n) p = All-push P (made_procs n) made_process (all_procs P n p)
 
 section_good : (name : List ℕ) (of_kind : SectionKind) (pages : ℕ) → is_paged_kind of_kind ≡ false → IsName name → 1 ≤ pages → IsSection version.One (made_section name of_kind pages)
 section_good name of_kind pages file good some =
-    let count : length (pattern (512 * pages)) ≡ 512 * pages = length_pattern (512 * pages) in
-    record { name = good; whole = ap (λ (n : ℕ). n % 512) count ∙ omega arith; some = omega (arith, count, some); paged = λ paged. absurd (true≢false (sym paged ∙ file)) }
+    let count : length (pattern (PAGE_BYTES * pages)) ≡ PAGE_BYTES * pages = length_pattern (PAGE_BYTES * pages) in
+    record { name = good; whole = ap (λ (n : ℕ). n % PAGE_BYTES) count ∙ omega arith; some = omega (arith, count, some); paged = λ paged. absurd (true≢false (sym paged ∙ file)) }
 
 pages_of : (name : List ℕ) (of_kind : SectionKind) (pages : ℕ) → section_pages (made_section name of_kind pages) ≡ pages
-pages_of name of_kind pages = ap (λ (n : ℕ). n / 512) (length_pattern (512 * pages)) ∙ omega arith
+pages_of name of_kind pages = ap (λ (n : ℕ). n / PAGE_BYTES) (length_pattern (PAGE_BYTES * pages)) ∙ omega arith
 
 -- mappings
 
 code_good : IsCode 4
 code_good = record { small = lit< tt; named = λ e. omega (arith, e) }
 
-low_range : (at pages : ℕ) → at % 512 ≡ 0 → 1 ≤ pages → pages ≤ 4096 → at + 512 * pages ≤ 2097152 → IsRange at pages
+low_range : (at pages : ℕ) → at % PAGE_BYTES ≡ 0 → 1 ≤ pages → pages ≤ P0_PAGES → at + PAGE_BYTES * pages ≤ 2097152 → IsRange at pages
 low_range at pages whole some few inside = record { aligned = whole; some = some; few = few; inside = inl inside }
 
 last_range : IsRange 0x7fffc000 32
@@ -89,7 +90,7 @@ maps_below n = all_maps (λ m. (m.proc).0 < n) n (λ p lt. (lt, lt, lt, lt))
 
 -- of a process before, or below an address
 abbrev IsBefore : ℕ → ℕ → Mapping → Type 0
-IsBefore p bound m = ((m.proc).0 < p) ⊎ ((m.at).0 + 512 * m.pages ≤ bound)
+IsBefore p bound m = ((m.proc).0 < p) ⊎ ((m.at).0 + PAGE_BYTES * m.pages ≤ bound)
 
 before_apart : (p bound : ℕ) (m n : Mapping) → (n.proc).0 ≡ p → bound ≤ (n.at).0 → IsBefore p bound m → AreApart m n
 before_apart p bound m n own above (inl lt) = inl (λ e. omega (arith, e, own, lt))
@@ -99,12 +100,12 @@ record AreBefore (p bound : ℕ) (maps : List Mapping) : Type 0 where
   pub apart : AllPairs AreApart maps
   pub before : All (IsBefore p bound) maps
 
-one_before : (p bound : ℕ) (maps : List Mapping) (n : Mapping) → (n.proc).0 ≡ p → bound ≤ (n.at).0 → AreBefore p bound maps → AreBefore p ((n.at).0 + 512 * n.pages) (maps ++ n ∷ [])
+one_before : (p bound : ℕ) (maps : List Mapping) (n : Mapping) → (n.proc).0 ≡ p → bound ≤ (n.at).0 → AreBefore p bound maps → AreBefore p ((n.at).0 + PAGE_BYTES * n.pages) (maps ++ n ∷ [])
 one_before p bound maps n own above b = record {
   apart = all_pairs_push AreApart maps n b.apart (λ k d lt. before_apart p bound (get_or maps k d) n own above (b.before k d lt));
-  before = All-push (IsBefore p ((n.at).0 + 512 * n.pages)) maps n (All-weaker (IsBefore p bound) (IsBefore p ((n.at).0 + 512 * n.pages)) (λ m h. higher m h) maps b.before) (inr (omega arith));
+  before = All-push (IsBefore p ((n.at).0 + PAGE_BYTES * n.pages)) maps n (All-weaker (IsBefore p bound) (IsBefore p ((n.at).0 + PAGE_BYTES * n.pages)) (λ m h. higher m h) maps b.before) (inr (omega arith));
 } where
-  higher : (m : Mapping) → IsBefore p bound m → IsBefore p ((n.at).0 + 512 * n.pages) m
+  higher : (m : Mapping) → IsBefore p bound m → IsBefore p ((n.at).0 + PAGE_BYTES * n.pages) m
   higher m (inl lt) = inl lt
   higher m (inr le) = inr (omega (arith, le, above))
 
@@ -154,7 +155,7 @@ address_good r d3 d4 g =
       mod_below : (a n : ℕ) → 1 ≤ n → a % n < n
       mod_below a n some = omega arith
 
-      whole : (f q p b : ℕ) → f ≡ 4 * q → (f + 512 * p + 4 * b) % 4 ≡ 0
+      whole : (f q p b : ℕ) → f ≡ 4 * q → (f + PAGE_BYTES * p + 4 * b) % 4 ≡ 0
       whole f q p b e = omega arith
 
 op_good : (kind value at : ℕ) → value < 2 ^ 32 → at % 4 ≡ 0 → (at % op_bytes (op_of kind value) ≡ 0) × FitsOp (op_of kind value)

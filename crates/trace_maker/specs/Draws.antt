@@ -1,5 +1,6 @@
 -- The draws of the generator, and a reference of six of them. Source: this project's own.
 use Rattle.std.specs.Prelude.{ℕ, ◌+◌, ◌*◌, ◌/◌, ◌%◌, ◌^◌, ◌==◌, nat_lt, if◌then◌else◌}
+use Rattle.vm_types.specs.declared.limits.TheConstants.{PAGE_BYTES}
 use Rattle.vm_types.specs.declared.config.Task.{Task}
 use Rattle.vm_types.specs.declared.reference.Mode.TheVariants.{U}
 use Rattle.vm_types.specs.declared.reference.Width.TheVariants.{Four}
@@ -37,7 +38,7 @@ abbrev pub near_pages : Region → ℕ → ℕ
 near_pages region d = if d % 4 == 0 then region.pages else region.pages / 4
 
 abbrev pub address_from : Region → ℕ → ℕ → ℕ
-address_from region d3 d4 = region.first + 512 * ((d3 / 256) % near_pages region d3) + 4 * (d4 % 128)
+address_from region d3 d4 = region.first + PAGE_BYTES * ((d3 / 256) % near_pages region d3) + 4 * (d4 % 128)
 
 -- the reference of these six draws
 abbrev pub task_of : ℕ → ℕ → ℕ → ℕ → ℕ → ℕ → ℕ → Task

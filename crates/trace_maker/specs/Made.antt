@@ -1,5 +1,6 @@
 -- The configuration that a seed makes. Source: this project's own.
 use Rattle.std.specs.Prelude.{ℕ, zero, suc, ◌+◌, ◌*◌, ◌/◌, ◌%◌, List, [], ◌∷◌, ◌++◌, codes}
+use Rattle.vm_types.specs.declared.limits.TheConstants.{PAGE_BYTES}
 use Rattle.vm_types.specs.declared.config.Config.{Config}
 use Rattle.vm_types.specs.declared.config.Mapping.{Mapping}
 use Rattle.vm_types.specs.declared.config.Origin.{Origin}
@@ -34,10 +35,10 @@ made_params = record {
 -- the first so many bytes of a section: byte k of page i is i + k modulo 256
 unfoldable pub pattern : ℕ → List ℕ
 pattern zero = []
-pattern (suc n) = pattern n ++ ((n / 512 + n % 512) % 256) ∷ []
+pattern (suc n) = pattern n ++ ((n / PAGE_BYTES + n % PAGE_BYTES) % 256) ∷ []
 
 abbrev pub made_section : List ℕ → SectionKind → ℕ → Section
-made_section name of_kind pages = record { name = name; kind = of_kind; bytes = pattern (512 * pages) }
+made_section name of_kind pages = record { name = name; kind = of_kind; bytes = pattern (PAGE_BYTES * pages) }
 
 abbrev pub made_sections : List Section
 made_sections = made_section (codes "LIB") kind.Shared 256 ∷ made_section (codes "IMG") kind.Crf 64 ∷ []

@@ -1,7 +1,7 @@
 ghost use Rattle.std.specs.Prelude.{◌≡◌, ◌/◌, ◌<◌, ◌≤◌, ◌^◌};
 ghost use Rattle.trace_maker.specs.Draws.{next_state, after_six, task_from, region_of, near_pages, op_of};
 
-use vm_types::{Addr, Mode, Op, Proc, Ref, Request, Task, Width};
+use vm_types::{Addr, Mode, Op, PAGE_BYTES, Proc, Ref, Request, Task, Width};
 
 /// The states of the generator.
 #[derive(Clone, Copy, Debug)]
@@ -39,7 +39,7 @@ impl Draws {
             proc: Proc(proc),
             request: Request::Reference(Ref {
                 mode: Mode::U,
-                addr: Addr(region.first + 512 * page + byte),
+                addr: Addr(region.first + PAGE_BYTES * page + byte),
                 op,
             }),
         }

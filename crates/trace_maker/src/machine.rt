@@ -3,7 +3,8 @@ ghost use Rattle.trace_maker.specs.Made.{pattern, made_section, made_sections, m
 
 use std::alloc::Global;
 use vm_types::{
-    Addr, Listed, Mapping, NoMemory, Origin, Proc, ProcSpec, SecId, Section, SectionKind,
+    Addr, Listed, Mapping, NoMemory, Origin, PAGE_BYTES, Proc, ProcSpec, SecId, Section,
+    SectionKind,
 };
 
 // The first bytes of a section.
@@ -12,7 +13,7 @@ fn bytes_of(alloc: Global, count: u32) -> Result<Listed<u8>, NoMemory>
 {
     let mut bytes = vec![in alloc; 0; count as usize]?;
     for n in 0..count {
-        bytes[n as usize] = ((n / 512 + n % 512) % 256) as u8;
+        bytes[n as usize] = ((n / PAGE_BYTES as usize + n % PAGE_BYTES as usize) % 256) as u8;
     }
     Ok(Listed::of(bytes))
 }
@@ -24,7 +25,7 @@ fn section(alloc: Global, name: &[u8], kind: SectionKind, pages: u32) -> Result<
     Ok(Section {
         name: Listed::of(name.to_vec(alloc)?),
         kind,
-        bytes: bytes_of(alloc, 512 * pages)?,
+        bytes: bytes_of(alloc, PAGE_BYTES * pages)?,
     })
 }
 

@@ -6,21 +6,20 @@ ghost use Rattle.trace_maker.specs.Made.{made_body, made_config};
 use crate::draws::Draws;
 use crate::machine::{mappings, processes, sections};
 use std::alloc::Global;
-use vm_types::{Config, Listed, NoMemory, Params, Task, Version};
+use vm_types::{Body, Config, Listed, NoMemory, Params, Version};
 
 // So many references.
 #[tactic(auto, using(crate::proofs::Growing::body_none, crate::proofs::Growing::body_more, crate::proofs::Growing::state_none, crate::proofs::Growing::state_more))]
-fn body(alloc: Global, seed: u64, procs: u32, refs: u32) -> Result<Listed<Task>, NoMemory>
+fn body(alloc: Global, seed: u64, procs: u32, refs: u32) -> Result<Body, NoMemory>
     requires { 1 ≤ procs }
     ensures { IfOk result (λ body. body ≡ made_body seed procs refs) }
 {
     let mut draws = Draws { state: seed };
-    let mut body = Vec::new(alloc);
-    body.try_reserve(refs as usize)?;
+    let mut body = Body::new(alloc);
     for n in 0..refs {
-        body.push_reserved(draws.task(procs));
+        body.push(draws.task(procs))?;
     }
-    Ok(Listed::of(body))
+    Ok(body)
 }
 
 /// The trace that a seed makes, with so many processes, 1 to 16, and so many references, 1 to

@@ -11,7 +11,7 @@ use std::alloc::Global;
 use trace_lines::{
     Breach, DEFAULTS, Line, Part, Place, Seen, block_key, judge, page_key, plain_line,
 };
-use vm_types::{BlockId, Config, Listed, Mapping, NoMemory, PAGE_BYTES, Task, Version};
+use vm_types::{BlockId, Body, Config, Listed, Mapping, NoMemory, PAGE_BYTES, Task, Version};
 
 /// Why a line wasn't taken.
 #[derive(Clone, Copy, Debug)]
@@ -70,7 +70,7 @@ impl Draft {
                     procs: Listed::new(alloc),
                     maps: Listed::new(alloc),
                     fails: Listed::new(alloc),
-                    body: Listed::new(alloc),
+                    body: Body::new(alloc),
                 },
                 given: [false; 14],
             },

@@ -16,7 +16,7 @@ use vm_state::State;
 fn are_answered<B: Block>(state: &State<B>) -> bool
     ensures { result ≡ true → length state.now.config.body ≤ spoken state.now.past }
 {
-    state.all_answered() >= state.config().body.items().len() as u64
+    state.all_answered() >= state.config().body.len() as u64
 }
 
 /// Looks in a turn whether as many requests were answered as the configuration has.

@@ -7,7 +7,7 @@ use call_begins::{goes_to, is_stopped};
 use disk_trait::Block;
 use vm_journal::EvictWhy;
 use vm_state::State;
-use vm_types::{Addr, Proc, Seat};
+use vm_types::{Addr, PAGE_BYTES, Proc, Seat};
 
 /// Evicts a valid page, unless its frame has to wait for the modified list.
 pub fn evict<B: Block>(state: &mut State<B>, seat: Seat, vpn: u32, why: EvictWhy) -> ServeNext
@@ -21,7 +21,7 @@ pub fn evict<B: Block>(state: &mut State<B>, seat: Seat, vpn: u32, why: EvictWhy
             if is_stopped(state, f, to) {
                 ServeNext::Again(ServeWhy::ModifiedFull)
             } else {
-                let a = Addr(512 * vpn);
+                let a = Addr(PAGE_BYTES * vpn);
                 state.evict(seat, Proc(seat.0), a, f, why, to);
                 ServeNext::More
             }

@@ -7,7 +7,7 @@ ghost use Rattle.vm_services.specs.OwnFlights.{is_own_in_flight};
 
 use disk_trait::Block;
 use vm_state::State;
-use vm_types::{Addr, Page, Proc};
+use vm_types::{Addr, PAGE_BYTES, Page, Proc};
 
 /// Whether a private page is in a frame with an open transfer.
 fn is_page_in_flight<B: Block>(state: &State<B>, p: Proc, vpn: u32) -> bool
@@ -38,7 +38,7 @@ pub fn is_range_in_flight<B: Block>(state: &State<B>, p: Proc, at: Addr, pages: 
     requires { IsRange at.0 pages }
     ensures { result ≡ is_range_in_flight state.now.config state.now.past (pager state.now) p.0 at.0 pages }
 {
-    let first = at.0 / 512;
+    let first = at.0 / PAGE_BYTES;
     for n in 0..pages {
         if is_own_in_flight(state, p, first + n) {
             return true;

@@ -6,7 +6,7 @@ ghost use Rattle.vm_state.specs.History.{pager};
 
 use disk_trait::Block;
 use vm_state::State;
-use vm_types::{Addr, Proc};
+use vm_types::{Addr, PAGE_BYTES, Proc};
 
 /// Whether a page number of a process isn't mapped.
 fn is_unmapped_at<B: Block>(state: &State<B>, p: Proc, vpn: u32) -> bool
@@ -20,7 +20,7 @@ pub fn is_unmapped<B: Block>(state: &State<B>, p: Proc, at: Addr, pages: u32) ->
     requires { IsRange at.0 pages }
     ensures { result ≡ is_unmapped (pager state.now) p.0 at.0 pages }
 {
-    let first = at.0 / 512;
+    let first = at.0 / PAGE_BYTES;
     for n in 0..pages {
         if is_unmapped_at(state, p, first + n) {
             return true;
@@ -41,7 +41,7 @@ pub fn valid_in<B: Block>(state: &State<B>, p: Proc, at: Addr, pages: u32) -> Op
     requires { IsRange at.0 pages }
     ensures { result ≡ valid_in (pager state.now) p.0 at.0 pages }
 {
-    let first = at.0 / 512;
+    let first = at.0 / PAGE_BYTES;
     for n in 0..pages {
         if is_valid_at(state, p, first + n) {
             return Some(first + n);

@@ -7,7 +7,7 @@ ghost use Rattle.vm_services.specs.Lowest.{lower, purged_in};
 use disk_trait::Block;
 use state_pages::Slot;
 use vm_state::State;
-use vm_types::{Addr, Proc};
+use vm_types::{Addr, PAGE_BYTES, Proc};
 
 /// The lower of two page numbers, if both are there, and else the one that is.
 fn lower(first: Option<u32>, second: Option<u32>) -> Option<u32>
@@ -26,7 +26,7 @@ fn purged_in(slot: Option<Slot>, at: Addr, pages: u32) -> Option<u32>
     ensures { result ≡ purged_in at.0 pages slot }
 {
     let slot = slot?;
-    let first = at.0 / 512;
+    let first = at.0 / PAGE_BYTES;
     if !slot.locked && !slot.pinned && first <= slot.vpn && slot.vpn < first + pages {
         Some(slot.vpn)
     } else {

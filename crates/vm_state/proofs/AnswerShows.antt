@@ -3,6 +3,7 @@ use Rattle.std.proofs.Common.{◌≡◌, ℕ, ◌+◌, ◌-◌, ◌<◌, ◌≤�
 use Rattle.std.specs.List.{list_any}
 use Rattle.std.specs.Option.{is_some}
 use Rattle.std.proofs.lemmas.Option.{slice_get-get_or}
+use Rattle.vm_types.specs.declared.limits.TheConstants.{MOST_EXTENT}
 use Rattle.vm_types.specs.BlockView.{BlockView, Tells}
 use Rattle.vm_types.specs.Configuration.{IsProcess, all_pins}
 use Rattle.vm_types.specs.Ring.{Ring}
@@ -59,12 +60,12 @@ module _ {B : Type 0} {seen : B → BlockView} {tells : Tells} {config : Config}
       pub spec_is : slice_get config.procs p ≡ Some (slice_index_or specs p d)
       spec_is = slice_get-get_or config.procs p d there ∙ ap (λ (xs : List ProcSpec). Some (slice_index_or xs p d)) (sym are)
 
-      pub few_slots : length (x.ring).slots ≤ 1024
+      pub few_slots : length (x.ring).slots ≤ MOST_EXTENT
       few_slots =
           let limits : IsProcess config.frames (length config.bad + all_pins config) (slice_index_or specs p d) = subst (λ (xs : List ProcSpec). IsProcess config.frames (length config.bad + all_pins config) (slice_index_or xs p d)) (sym are) (before.formed.procs p d there) in
           let most = limits.limited.most in
           let slots = (((kept before).processes p).bounds (slice_index_or specs p d) spec_is).slots in
-          subst (λ (r : Ring). length r.slots ≤ 1024) (sym ring_is) (omega (arith, most, slots))
+          subst (λ (r : Ring). length r.slots ≤ MOST_EXTENT) (sym ring_is) (omega (arith, most, slots))
 
       pub lock_is : (address pages : ℕ) (would : Ring → Ring) → lock_answer x.ring (would x.ring) address pages (Some (slice_index_or specs p d)) ≡ lock_answer (a.ring p) (would (a.ring p)) address pages (slice_get config.procs p)
       lock_is address pages would i = lock_answer (ring_is i) (would (ring_is i)) address pages (sym spec_is i)

@@ -2,6 +2,7 @@
 use Rattle.std.specs.Prelude.{if◌then◌else◌}
 use Rattle.std.proofs.Common.{◌≡◌, ℕ, ◌+◌, ◌-◌, ◌≤◌, ◌<◌, ◌^◌, Bool, true, List, ◌∷◌, Option, Some, None, IsSome, length, slice_index_or, slice_set, refl, sym, ap, ◌∙◌, subst, arith, length-set}
 use Rattle.std.specs.Option.{option_map}
+use Rattle.vm_types.specs.declared.limits.TheConstants.{PAGE_BYTES}
 use Rattle.vm_types.specs.BlockView.{BlockView, Tells}
 use Rattle.vm_types.specs.WellFormed.{IsWellFormedReference, width_bytes}
 use Rattle.vm_types.specs.declared.config.Config.{Config}
@@ -135,7 +136,7 @@ module _ {B : Type 0} {seen : B → BlockView} {tells : Tells} {config : Config}
     may_mark m = subst (λ (s : FrameState). FitsModify s m) (sym active) tt
 
     -- ---- its buffer
-    buffer_at : (bytes : List ℕ) × (held_at store.buffers e.frame ≡ Some bytes) × (length bytes ≡ 512)
+    buffer_at : (bytes : List ℕ) × (held_at store.buffers e.frame ≡ Some bytes) × (length bytes ≡ PAGE_BYTES)
     buffer_at = buffer_home config a.state (held_at store.buffers) e.frame before.bytes.buffers at.within (ap (is state.Reading) at.active)
 
     pub buffer_there : IsSome (held_at store.buffers f.0)

@@ -1,5 +1,6 @@
 -- INFAIL closes, and its calls may be made.
 use Rattle.std.proofs.Common.{◌≡◌, ℕ, ◌+◌, ◌-◌, ◌≤◌, ◌<◌, List, ◌∷◌, Option, Some, None, length, slice_get, slice_index_or, slice_set, sym, ap, ◌∙◌, subst, subst₂}
+use Rattle.vm_types.specs.declared.limits.TheConstants.{PAGE_BYTES}
 use Rattle.vm_types.specs.BlockView.{BlockView, Tells}
 use Rattle.vm_types.specs.declared.config.Config.{Config}
 use Rattle.vm_types.specs.declared.names.BlockId.{BlockId}
@@ -67,7 +68,7 @@ module _ {B : Type 0} {seen : B → BlockView} {tells : Tells} {config : Config}
         → IsState seen tells config (record { seat = seat; what = what.InFail (record { 0 = f }) k c d } ∷ past) (spare - 1) store'
         (record fields { frames = store'.frames; starts = store'.flights; roles = slice_set fields.roles f None; busy = slice_set fields.busy seat.0 (n - 1); in_flight = fields.in_flight - 1; failed = failed }) numbers
 
-    closes_here : lift.result ≡ Bad c d → length lift.buffer ≡ 512 → owed (record { seat = seat; what = what.InFail (record { 0 = lift.frame }) lift.start c d } ∷ past) + 1 ≤ spare → Closes (Some legal.row.flight.block) lift.frame lift.start
+    closes_here : lift.result ≡ Bad c d → length lift.buffer ≡ PAGE_BYTES → owed (record { seat = seat; what = what.InFail (record { 0 = lift.frame }) lift.start c d } ∷ past) + 1 ≤ spare → Closes (Some legal.row.flight.block) lift.frame lift.start
     closes_here ended size paid rows =
         let its = legal.row in
         rw (landed_is, land.landed_is before seat lift fits its.flight its.role its.lands its.reads on.within on.state frames')
@@ -79,7 +80,7 @@ module _ {B : Type 0} {seen : B → BlockView} {tells : Tells} {config : Config}
         (land.brings before seat lift fits its.flight its.role its.lands its.reads on.within on.state frames' (bad c d) (ap result_of ended) size)
         (land.places before seat lift fits its.flight its.role its.lands its.reads on.within on.state frames')))
 
-    pub in_fail_closes : (f : Pfn) (k : ℕ) (failed : Option BlockId) → f.0 ≡ lift.frame → k ≡ lift.start → failed ≡ Some lift.block → lift.result ≡ Bad c d → length lift.buffer ≡ 512
+    pub in_fail_closes : (f : Pfn) (k : ℕ) (failed : Option BlockId) → f.0 ≡ lift.frame → k ≡ lift.start → failed ≡ Some lift.block → lift.result ≡ Bad c d → length lift.buffer ≡ PAGE_BYTES
         → owed (record { seat = seat; what = what.InFail (record { 0 = lift.frame }) lift.start c d } ∷ past) + 1 ≤ spare → Closes failed f.0 k
     in_fail_closes f k failed f_is k_is failed_is ended size paid =
         let its = legal.row in

@@ -1,6 +1,7 @@
 -- INOK closes, and its calls may be made.
 use Rattle.std.proofs.Common.{◌≡◌, ℕ, ◌+◌, ◌-◌, ◌≤◌, ◌<◌, List, [], ◌∷◌, ◌++◌, Option, Some, None, length, slice_get, slice_index_or, slice_set, sym, ap, ◌∙◌, subst, subst₂}
 use Rattle.std.proofs.lemmas.Option.{same_Some}
+use Rattle.vm_types.specs.declared.limits.TheConstants.{PAGE_BYTES}
 use Rattle.vm_types.specs.BlockView.{BlockView, Tells}
 use Rattle.vm_types.specs.declared.config.Config.{Config}
 use Rattle.vm_types.specs.declared.names.Page.{Page}
@@ -79,7 +80,7 @@ module _ {B : Type 0} {seen : B → BlockView} {tells : Tells} {config : Config}
         → IsState seen tells config (record { seat = seat; what = what.InOk (record { 0 = f }) k } ∷ past) (spare - 1) store'
         (record fields { frames = store'.frames; starts = store'.flights; roles = slice_set fields.roles f None; busy = slice_set fields.busy seat.0 (n - 1); in_flight = fields.in_flight - 1 }) numbers
 
-    near_here : (g : Page) → legal.row.role ≡ role.Near g → lift.result ≡ Good → length lift.buffer ≡ 512 → owed (record { seat = seat; what = what.InOk (record { 0 = lift.frame }) lift.start } ∷ past) + 1 ≤ spare → ClosesNear lift.frame lift.start
+    near_here : (g : Page) → legal.row.role ≡ role.Near g → lift.result ≡ Good → length lift.buffer ≡ PAGE_BYTES → owed (record { seat = seat; what = what.InOk (record { 0 = lift.frame }) lift.start } ∷ past) + 1 ≤ spare → ClosesNear lift.frame lift.start
     near_here g near ended size paid rows free =
         let its = legal.row in
         rw (landed_is, land.landed_is before seat lift fits its.flight its.role its.lands its.reads on.within on.state frames')
@@ -91,6 +92,6 @@ module _ {B : Type 0} {seen : B → BlockView} {tells : Tells} {config : Config}
         (land.brings before seat lift fits its.flight its.role its.lands its.reads on.within on.state frames' good (ap result_of ended) size)
         (land.places before seat lift fits its.flight its.role its.lands its.reads on.within on.state frames')))
 
-    pub near_closes : (f : Pfn) (k : ℕ) → f.0 ≡ lift.frame → k ≡ lift.start → (g : Page) → IsReadAs past lift.start (role.Near g) → lift.result ≡ Good → length lift.buffer ≡ 512
+    pub near_closes : (f : Pfn) (k : ℕ) → f.0 ≡ lift.frame → k ≡ lift.start → (g : Page) → IsReadAs past lift.start (role.Near g) → lift.result ≡ Good → length lift.buffer ≡ PAGE_BYTES
         → owed (record { seat = seat; what = what.InOk (record { 0 = lift.frame }) lift.start } ∷ past) + 1 ≤ spare → ClosesNear f.0 k
     near_closes f k f_is k_is g near ended size paid = subst₂ ClosesNear (sym f_is) (sym k_is) (near_here g (role_is (role.Near g) near) ended size paid)

@@ -3,6 +3,7 @@ use Rattle.std.proofs.Common.{◌≡◌, ℕ, ◌+◌, ◌*◌, ◌≤◌, Bool,
 use Rattle.std.specs.Option.{is_some, option_map}
 use mir.Val.{bool_byte}
 use Rattle.std.proofs.lemmas.Bool.{true≢false}
+use Rattle.vm_types.specs.declared.limits.TheConstants.{MOST_FRAMES}
 use Rattle.vm_types.specs.BlockView.{BlockView, Tells}
 use Rattle.vm_types.specs.declared.config.Config.{Config}
 use Rattle.vm_journal.specs.declared.entry.Entry.{Entry}
@@ -46,7 +47,7 @@ module _ {B : Type 0} {seen : B → BlockView} {tells : Tells} {config : Config}
       let found = (kept before).failed.found at.0 at.1 in
       ap is_some (before.parts.failed ∙ ap (λ (o : Option Flight). option_map (λ (x : Flight). x.block) o) found.1)
 
-  pub few : fields.in_flight ≤ 16384
+  pub few : fields.in_flight ≤ MOST_FRAMES
   few = let total = before.parts.seats.total in let less = flights_few config (past_view past) (pager_after config past) (kept before) in let most = before.formed.frames.1 in omega (arith, total, less, most)
 
   pub owed_is : (n : ℕ) → n ≡ cond (is_some fields.failed) 1 0 → 2 * fields.in_flight + n ≡ owed past

@@ -2,6 +2,7 @@
 use Rattle.std.proofs.Common.{◌≡◌, ℕ, ◌+◌, ◌<◌, Bool, true, not, List, Option, Some, None, find, length, slice_get, slice_set, if◌then◌else◌, refl, sym, ap, ◌∙◌, subst, arith, length-set}
 use Rattle.std.specs.Option.{option_map}
 use Rattle.std.proofs.lemmas.Option.{none-some, same_Some, slice_get-get_or}
+use Rattle.vm_types.specs.declared.limits.TheConstants.{PAGE_BYTES}
 use Rattle.vm_types.specs.BlockView.{BlockView, Tells}
 use Rattle.vm_types.specs.Configuration.{IsBlock}
 use Rattle.vm_types.specs.declared.config.Config.{Config}
@@ -118,7 +119,7 @@ module _ {B : Type 0} {seen : B → BlockView} {tells : Tells} {config : Config}
           others = λ c apart. ap (option_map seen) (block_kept config store.blocks before.places.blocks lift.block known (Some lift.held) c apart);
         })
 
-    pub brings : (result : Result) → result_of lift.result ≡ result → length lift.buffer ≡ 512
+    pub brings : (result : Result) → result_of lift.result ≡ result → length lift.buffer ≡ PAGE_BYTES
         → BringsBuffer tells.content tells.plan config past a lift.frame lift.start result (held_at store.buffers) (held_at store_after.buffers) (home store) (home store_after)
     brings result ended size = record {
       block = record { lift = lift_seen seen lift; fits = fits; start = refl; ended = ended; back = block_back };

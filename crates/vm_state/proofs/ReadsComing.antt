@@ -1,6 +1,7 @@
 -- INOK closes for a process that comes back, and its calls may be made.
 use Rattle.std.proofs.Common.{◌≡◌, ℕ, ◌+◌, ◌-◌, ◌≤◌, true, false, List, ◌∷◌, Option, Some, None, length, slice_index_or, slice_set, refl, sym, ap, ◌∙◌, subst, subst₂, arith}
 use Rattle.std.proofs.lemmas.Option.{same_Some}
+use Rattle.vm_types.specs.declared.limits.TheConstants.{PAGE_BYTES}
 use Rattle.vm_types.specs.BlockView.{BlockView, Tells}
 use Rattle.vm_types.specs.PagePlaces.{changed_at}
 use Rattle.vm_types.specs.declared.config.Config.{Config}
@@ -141,7 +142,7 @@ module _ {B : Type 0} {seen : B → BlockView} {tells : Tells} {config : Config}
           in_flight = fields.in_flight - 1;
         }) numbers
 
-    come_here : lift.result ≡ Good → length lift.buffer ≡ 512 → owed (record { seat = seat; what = what.InOk (record { 0 = lift.frame }) lift.start } ∷ past) + 1 ≤ spare
+    come_here : lift.result ≡ Good → length lift.buffer ≡ PAGE_BYTES → owed (record { seat = seat; what = what.InOk (record { 0 = lift.frame }) lift.start } ∷ past) + 1 ≤ spare
         → ClosesCome (record y { ring = slotted y.ring m v }) m (record { 0 = lift.frame }) lift.start
     come_here good_now size paid rows changed =
         let its = legal.row in
@@ -167,7 +168,7 @@ module _ {B : Type 0} {seen : B → BlockView} {tells : Tells} {config : Config}
         (land.brings before seat lift fits its.flight its.role its.lands its.reads on.within on.state frames' good (ap result_of good_now) size)
         (land.places before seat lift fits its.flight its.role its.lands its.reads on.within on.state frames')))
 
-    pub come_closes : (f : Pfn) (k : ℕ) → f.0 ≡ lift.frame → k ≡ lift.start → lift.result ≡ Good → length lift.buffer ≡ 512
+    pub come_closes : (f : Pfn) (k : ℕ) → f.0 ≡ lift.frame → k ≡ lift.start → lift.result ≡ Good → length lift.buffer ≡ PAGE_BYTES
         → owed (record { seat = seat; what = what.InOk (record { 0 = lift.frame }) lift.start } ∷ past) + 1 ≤ spare → ClosesCome row' slot f k
     come_closes f k f_is k_is good_now size paid =
         let named : f ≡ record { 0 = lift.frame } = ap (λ (h : ℕ). pfn h) f_is in

@@ -1,6 +1,7 @@
 -- INOK closes where the page becomes valid, for a fault and for a process that comes back, and its calls may be made.
 use Rattle.std.proofs.Common.{◌≡◌, ℕ, ◌+◌, ◌-◌, ◌≤◌, ◌<◌, Bool, false, List, ◌∷◌, Option, Some, None, IsSome, length, slice_index_or, slice_set, refl, sym, ap, ◌∙◌, subst, subst₂, arith}
 use Rattle.std.proofs.lemmas.Option.{same_Some}
+use Rattle.vm_types.specs.declared.limits.TheConstants.{PAGE_BYTES}
 use Rattle.vm_types.specs.BlockView.{BlockView, Tells}
 use Rattle.vm_types.specs.PagePlaces.{changed_at}
 use Rattle.vm_types.specs.Ring.{Ring, choose, filled}
@@ -118,7 +119,7 @@ module _ {B : Type 0} {seen : B → BlockView} {tells : Tells} {config : Config}
             in_flight = fields.in_flight - 1;
           }) numbers
 
-      fault_here : lift.result ≡ Good → length lift.buffer ≡ 512 → owed (record { seat = seat; what = what.InOk (record { 0 = lift.frame }) lift.start } ∷ past) + 1 ≤ spare
+      fault_here : lift.result ≡ Good → length lift.buffer ≡ PAGE_BYTES → owed (record { seat = seat; what = what.InOk (record { 0 = lift.frame }) lift.start } ∷ past) + 1 ≤ spare
           → ClosesFault (placed y.ring y.limit v) (is_first_read (Some h) legal.row.flight.block) (page_slot h slot) (record { 0 = lift.frame }) lift.start
       fault_here good_now size paid rows changed =
           let its = legal.row in
@@ -143,7 +144,7 @@ module _ {B : Type 0} {seen : B → BlockView} {tells : Tells} {config : Config}
           (land.places before seat lift fits its.flight its.role its.lands its.reads on.within on.state frames')))
 
       pub fault_closes : (ring : Ring) → ring ≡ placed y.ring y.limit v → (id : BlockId) → id ≡ lift.block → (modify : Bool) → modify ≡ is_first_read (Some h) id → (held : ℕ) → held ≡ page_slot h slot
-          → (f : Pfn) (k : ℕ) → f.0 ≡ lift.frame → k ≡ lift.start → lift.result ≡ Good → length lift.buffer ≡ 512
+          → (f : Pfn) (k : ℕ) → f.0 ≡ lift.frame → k ≡ lift.start → lift.result ≡ Good → length lift.buffer ≡ PAGE_BYTES
           → owed (record { seat = seat; what = what.InOk (record { 0 = lift.frame }) lift.start } ∷ past) + 1 ≤ spare → ClosesFault ring modify held f k
       fault_closes ring ring_is id id_is modify modify_is held held_is f k f_is k_is good_now size paid =
           let its = legal.row in

@@ -5,6 +5,7 @@ use Rattle.std.specs.Option.{is_some, option_map}
 use Rattle.std.proofs.lemmas.Bool.{cases_lt}
 use Rattle.std.proofs.lemmas.List.{get_or-replicate, length-map, length-replicate}
 use Rattle.std.proofs.lemmas.Option.{get_or_from_slice_get, slice_get-map, slice_get_within, none-some}
+use Rattle.vm_types.specs.declared.limits.TheConstants.{PAGE_BYTES}
 use Rattle.vm_types.specs.BlockView.{BlockView, Tells}
 use Rattle.vm_types.specs.Configuration.{IsBlock, IsWellFormed}
 use Rattle.vm_types.specs.declared.config.Config.{Config}
@@ -34,7 +35,7 @@ module _ {B : Type 0} (seen : B → BlockView) (tells : Tells) (config : Config)
   pub record IsOpened : Type 0 where
     pub left : store.left ≡ 16 * (length config.procs + 2)
     pub size : store.pool.size ≡ config.frames + 16 * (length config.procs + 2)
-    pub buffers : store.buffers ≡ replicate config.frames (Some (replicate 512 0))
+    pub buffers : store.buffers ≡ replicate config.frames (Some (replicate PAGE_BYTES 0))
     pub ids : store.ids ≡ blocks_of config
     pub blocks_are : store.blocks ≡ map place blocks
     pub names : map name blocks ≡ blocks_of config
@@ -42,24 +43,24 @@ module _ {B : Type 0} (seen : B → BlockView) (tells : Tells) (config : Config)
 
   module _ (opened : IsOpened) where
     -- ---- buffers
-    buffer_is : (f : ℕ) (bytes : List ℕ) → held_at store.buffers f ≡ Some bytes → length bytes ≡ 512
+    buffer_is : (f : ℕ) (bytes : List ℕ) → held_at store.buffers f ≡ Some bytes → length bytes ≡ PAGE_BYTES
     buffer_is f bytes there = go (cases_lt f config.frames)
       where
-        go : (f < config.frames) ⊎ (config.frames ≤ f) → length bytes ≡ 512
+        go : (f < config.frames) ⊎ (config.frames ≤ f) → length bytes ≡ PAGE_BYTES
         go (inl below) =
-            let same : Some (replicate 512 0) ≡ Some bytes = sym (get_or-replicate config.frames f (Some (replicate 512 0)) None below) ∙ (ap (λ (xs : List (Option (List ℕ))). held_at xs f) (sym opened.buffers) ∙ there) in
-            let is : replicate 512 0 ≡ bytes = cc in
-            ap length (sym is) ∙ length-replicate {A = ℕ} 512 0
+            let same : Some (replicate PAGE_BYTES 0) ≡ Some bytes = sym (get_or-replicate config.frames f (Some (replicate PAGE_BYTES 0)) None below) ∙ (ap (λ (xs : List (Option (List ℕ))). held_at xs f) (sym opened.buffers) ∙ there) in
+            let is : replicate PAGE_BYTES 0 ≡ bytes = cc in
+            ap length (sym is) ∙ length-replicate {A = ℕ} PAGE_BYTES 0
         go (inr past) =
             let got = held_get store.buffers f bytes there in
             let within = slice_get_within store.buffers f (Some bytes) got in
-            let count = ap length opened.buffers ∙ length-replicate config.frames (Some (replicate 512 0)) in
+            let count = ap length opened.buffers ∙ length-replicate config.frames (Some (replicate PAGE_BYTES 0)) in
             absurd (omega (arith, within, count, past))
 
     new_buffers : HasNewBuffers config (held_at store.buffers)
     new_buffers = record {
       sizes = buffer_is;
-      home = λ f below. ap is_some (ap (λ (xs : List (Option (List ℕ))). held_at xs f) opened.buffers ∙ get_or-replicate config.frames f (Some (replicate 512 0)) None below);
+      home = λ f below. ap is_some (ap (λ (xs : List (Option (List ℕ))). held_at xs f) opened.buffers ∙ get_or-replicate config.frames f (Some (replicate PAGE_BYTES 0)) None below);
     }
 
     -- ---- blocks
@@ -116,7 +117,7 @@ module _ {B : Type 0} (seen : B → BlockView) (tells : Tells) (config : Config)
           bytes = opening_content tells.content tells.plan config (held_at store.buffers) (home_in seen config store) new_buffers new_homes;
           places = record {
             ids = opened.ids;
-            buffers = ap length opened.buffers ∙ length-replicate config.frames (Some (replicate 512 0));
+            buffers = ap length opened.buffers ∙ length-replicate config.frames (Some (replicate PAGE_BYTES 0));
             blocks = many;
             left = (let left = opened.left in omega (arith, left));
             firsts = have;

@@ -3,6 +3,7 @@ use Rattle.std.proofs.Common.{◌≡◌, ℕ, ◌+◌, ◌-◌, ◌≤◌, ◌<�
 use Rattle.std.specs.Prelude.{IfSome, IsSome, is_some}
 use Rattle.std.specs.Option.{option_map}
 use Rattle.std.proofs.lemmas.Option.{get_or_from_slice_get, none-some, same_Some}
+use Rattle.vm_types.specs.declared.limits.TheConstants.{PAGE_BYTES}
 use Rattle.vm_types.specs.BlockView.{BlockView, Tells}
 use Rattle.vm_types.specs.declared.config.Config.{Config}
 use Rattle.vm_types.specs.declared.names.BlockId.{BlockId}
@@ -99,7 +100,7 @@ module _ {B : Type 0} {seen : B → BlockView} {tells : Tells} {config : Config}
   page_is o is g there = same_Some _ _ (sym there ∙ (is ∙ (row_page ∙ on.holds)))
 
   -- ---- what the store requires
-  found_bytes : (bytes : List ℕ) × (held_at store.buffers f.0 ≡ Some bytes) × (length bytes ≡ 512)
+  found_bytes : (bytes : List ℕ) × (held_at store.buffers f.0 ≡ Some bytes) × (length bytes ≡ PAGE_BYTES)
   found_bytes = buffer_home config a.state (held_at store.buffers) f.0 before.bytes.buffers on.within (not_reading (a.state f.0) (subst (IsOneOf (state.Modified ∷ state.Active ∷ [])) row_state can.state))
 
   pub buffer_there : IsSome (held_at store.buffers f.0)

@@ -3,6 +3,7 @@ use Rattle.std.proofs.Common.{Result, ◌≡◌, ◌≢◌, ℕ, ◌+◌, ◌-�
 use Rattle.std.specs.Prelude.{Ok, Err, IsErr, OnOk, ◌↔◌, is_some}
 use Rattle.std.specs.Option.{option_map}
 use Rattle.std.proofs.lemmas.Option.{same_Some, slice_get-get_or}
+use Rattle.vm_types.specs.declared.limits.TheConstants.{PAGE_BYTES}
 use Rattle.vm_types.specs.BlockView.{BlockView, Tells}
 use Rattle.vm_types.specs.WellFormed.{IsCode}
 use Rattle.vm_types.specs.PagePlaces.{changed_at}
@@ -201,7 +202,7 @@ module _ {B : Type 0} {seen : B → BlockView} {tells : Tells} {config : Config}
       → (slot : ℕ) (ring : Ring) → choose x.ring x.limit ≡ Empty slot → ring ≡ placed x.ring x.limit v → (frames' : Frames)
       → (h : Page) → g ≡ h → (held : ℕ) → held ≡ page_slot h slot → IsEntered frames' h held
       → frames'.free ≡ without fields.frames.free f.0 → frames'.modified ≡ without fields.frames.modified f.0
-      → (store' : StoreView B) → store' ≡ record store { frames = frames'; buffers = slice_set store.buffers f.0 (Some (replicate 512 0)) }
+      → (store' : StoreView B) → store' ≡ record store { frames = frames'; buffers = slice_set store.buffers f.0 (Some (replicate PAGE_BYTES 0)) }
       → (tables' : PageTables) (old : Pte) → tables'.procs ≡ (fields.tables).procs → ((q w : ℕ) → pte_in tables' q w ≡ changed_at (pte_in fields.tables) seat.0 v (Some (record { prot = old.prot; place = place.Valid false f })) q w) → pte_in fields.tables seat.0 v ≡ Some old
       → (globals' shared' : GlobalPages) → globals' ≡ held_in config h f.0 fields.globals → shared' ≡ shared_in config h globals'
       → (pages' : ChargedTable) → IsTableSet fields.pages pages' h fresh
@@ -215,10 +216,10 @@ module _ {B : Type 0} {seen : B → BlockView} {tells : Tells} {config : Config}
       let kept_now : IsTableSet fields.pages pages' g fresh = subst (λ (k : Page). IsTableSet fields.pages pages' k fresh) back changed' in
       let globals_now : shared' ≡ shared_in config g (held_in config g f.0 fields.globals) = (shares ∙ ap (shared_in config h) holds) ∙ ap (λ (k : Page). shared_in config k (held_in config k f.0 fields.globals)) back in
       rw (taken, store_is, file_is) (subst (λ (starts : List (Option ℕ)). IsState seen tells config (record { seat = seat; what = what.Zero address f } ∷ past) (spare - 1)
-      (record store { frames = frames'; buffers = slice_set store.buffers f.0 (Some (replicate 512 0)) })
+      (record store { frames = frames'; buffers = slice_set store.buffers f.0 (Some (replicate PAGE_BYTES 0)) })
       (record fields { frames = frames'; starts = starts; processes = slice_set fields.processes seat.0 (record x { ring = placed x.ring x.limit v; faults = x.faults + 1 }); tables = tables'; pages = pages'; globals = shared'; file = record fields.file { charged = fields.file.charged + 1 } }) numbers) same
-      (closed before (record { seat = seat; what = what.Zero address f }) (λ told. tt) legal paid (record store { frames = frames'; buffers = slice_set store.buffers f.0 (Some (replicate 512 0)) }) _
+      (closed before (record { seat = seat; what = what.Zero address f }) (λ told. tt) legal paid (record store { frames = frames'; buffers = slice_set store.buffers f.0 (Some (replicate PAGE_BYTES 0)) }) _
       (zero_parts config past a seat address f before.formed (kept before) (right before) legal fields before.parts x read slot
       ((λ i. choose (sym is.0 i) (sym is.1 i)) ∙ chosen) frames' entered free modified tables' old procs changed there pages' kept_now shared' globals_now)
-      (list_puts_buffer store.buffers f.0 (Some (replicate 512 0)) (let count = before.places.buffers in let less = head.within in omega (arith, count, less)), refl)
-      (record { ids = before.places.ids; buffers = length-set store.buffers f.0 (Some (replicate 512 0)) ∙ before.places.buffers; blocks = before.places.blocks; left = before.places.left; firsts = before.places.firsts; size = before.places.size })))
+      (list_puts_buffer store.buffers f.0 (Some (replicate PAGE_BYTES 0)) (let count = before.places.buffers in let less = head.within in omega (arith, count, less)), refl)
+      (record { ids = before.places.ids; buffers = length-set store.buffers f.0 (Some (replicate PAGE_BYTES 0)) ∙ before.places.buffers; blocks = before.places.blocks; left = before.places.left; firsts = before.places.firsts; size = before.places.size })))

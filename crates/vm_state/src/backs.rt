@@ -6,7 +6,7 @@ use disk_trait::Block;
 use frame_changes::enter;
 use state_pages::{enter_ring, frame_slot, marked_back, share};
 use vm_journal::{Entry, What};
-use vm_types::{Addr, FrameState, Pfn, Proc, Seat};
+use vm_types::{Addr, FrameState, PAGE_BYTES, Pfn, Proc, Seat};
 
 impl<B: Block> State<B> {
     ghost use Rattle.vm_journal.specs.declared.entry.What.{What};
@@ -18,7 +18,7 @@ impl<B: Block> State<B> {
         requires { MayAdd self.old (entry_by seat (What.Back p a f from)) }
         ensures { self.new ≡ added self.old (entry_by seat (What.Back p a f from)) }
     {
-        let vpn = a.0 / 512;
+        let vpn = a.0 / PAGE_BYTES;
         let kept = self.store.frames().row(f);
         let page = kept.page.unwrap();
         let row = &mut self.processes[p.0 as usize];

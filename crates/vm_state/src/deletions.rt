@@ -5,7 +5,7 @@ use crate::state::State;
 use disk_trait::Block;
 use state_pages::{empty_frame, entry_in, uncharge};
 use vm_journal::What;
-use vm_types::{Addr, Answer, Page, Proc, Seat, Service};
+use vm_types::{Addr, Answer, PAGE_BYTES, Page, Proc, Seat, Service};
 
 impl<B: Block> State<B> {
     ghost use Rattle.vm_journal.specs.declared.entry.What.{What};
@@ -20,7 +20,7 @@ impl<B: Block> State<B> {
     {
         let p = Proc(seat.0);
         for n in 0..pages {
-            let vpn = at.0 / 512 + n;
+            let vpn = at.0 / PAGE_BYTES + n;
             let place = entry_in(self.tables.look(p, vpn)).unwrap().place;
             empty_frame(self.store.frames_mut(), place);
             let page = Page::Private(p, vpn);

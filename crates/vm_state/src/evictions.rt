@@ -7,7 +7,7 @@ use pte_forms::Pte;
 use state_pages::{entry_in, left_at, unshare};
 use state_parts::give_up;
 use vm_journal::{Entry, EvictWhy, What};
-use vm_types::{Addr, FrameState, Pfn, Proc, Seat};
+use vm_types::{Addr, FrameState, PAGE_BYTES, Pfn, Proc, Seat};
 
 impl<B: Block> State<B> {
     ghost use Rattle.vm_journal.specs.declared.entry.What.{What};
@@ -19,7 +19,7 @@ impl<B: Block> State<B> {
         requires { MayAdd self.old (entry_by seat (What.Evict p a f why to)) }
         ensures { self.new ≡ added self.old (entry_by seat (What.Evict p a f why to)) }
     {
-        let vpn = a.0 / 512;
+        let vpn = a.0 / PAGE_BYTES;
         let look = self.tables.look(p, vpn);
         let prot = entry_in(look).unwrap().prot;
         let kept = self.store.frames().row(f);

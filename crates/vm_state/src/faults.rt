@@ -7,7 +7,7 @@ use frame_changes::enter;
 use state_pages::{entry_in, frame_slot, hold, mapped_page, share};
 use state_parts::{ChargedPage, take_slot};
 use vm_journal::{Entry, What};
-use vm_types::{Addr, Pfn, Proc, Seat};
+use vm_types::{Addr, PAGE_BYTES, Pfn, Proc, Seat};
 
 /// What is kept of a page that has just been charged.
 const FRESH: ChargedPage = ChargedPage {
@@ -26,7 +26,7 @@ impl<B: Block> State<B> {
         ensures { self.new ≡ added self.old (entry_by seat (What.Zero a f)) }
     {
         let p = Proc(seat.0);
-        let vpn = a.0 / 512;
+        let vpn = a.0 / PAGE_BYTES;
         let page = mapped_page(&self.config, &self.sections, p, vpn).unwrap();
         let row = &mut self.processes[seat.0 as usize];
         let slot = take_slot(&mut row.ring, row.limit, vpn);

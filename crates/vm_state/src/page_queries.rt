@@ -15,7 +15,7 @@ use state_pages::{
     Backing, Found, changes, entry_in, found_shown, frame_in, is_paged, is_touched_row, is_valid,
     own_backing, section_page, shared_backing, shared_home, some_waits,
 };
-use vm_types::{Page, Pfn, Proc, Ref, SecId, Why, allowed};
+use vm_types::{PAGE_BYTES, Page, Pfn, Proc, Ref, SecId, Why, allowed};
 
 /// No reader allocates.
 impl<B: Block> State<B> {
@@ -110,7 +110,7 @@ impl<B: Block> State<B> {
     pub fn granted(&self, p: Proc, r: Ref) -> Option<bool>
         ensures { IfSome result (IsGranted self.now p.0 r) }
     {
-        match entry_in(self.tables.look(p, r.addr.0 / 512)) {
+        match entry_in(self.tables.look(p, r.addr.0 / PAGE_BYTES)) {
             None => None,
             Some(pte) => {
                 if self.file.charged() < self.config.pagefile {

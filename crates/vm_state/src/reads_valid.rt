@@ -9,7 +9,7 @@ use frame_store::{Carried, Lift};
 use state_pages::{come_home, first_read, frame_slot, share};
 use state_parts::take_slot;
 use vm_journal::{Entry, Role, What};
-use vm_types::{Addr, Page, Proc, Seat};
+use vm_types::{Addr, PAGE_BYTES, Page, Proc, Seat};
 
 impl<B: Block> State<B> {
     ghost use Rattle.vm_journal.specs.declared.entry.Role.{Role};
@@ -26,7 +26,7 @@ impl<B: Block> State<B> {
         let k = lift.start();
         let block = lift.id();
         self.store.land(lift);
-        let vpn = a.0 / 512;
+        let vpn = a.0 / PAGE_BYTES;
         let kept = self.store.frames().row(f);
         let page = kept.page.unwrap();
         let row = &mut self.processes[q.0 as usize];
@@ -51,7 +51,7 @@ impl<B: Block> State<B> {
         let f = lift.frame();
         let k = lift.start();
         self.store.land(lift);
-        let vpn = a.0 / 512;
+        let vpn = a.0 / PAGE_BYTES;
         let row = &mut self.processes[q.0 as usize];
         let slot = come_home(row, &mut self.pages, &mut self.swaps, q, vpn);
         let page = Page::Private(q, vpn);

@@ -6,7 +6,7 @@ use disk_trait::Block;
 use flat_model::apply;
 use state_pages::{frame_in, marked, touch};
 use vm_journal::What;
-use vm_types::{Proc, Ref, Reply, Seat, Why};
+use vm_types::{PAGE_BYTES, Proc, Ref, Reply, Seat, Why};
 
 impl<B: Block> State<B> {
     ghost use Rattle.vm_journal.specs.declared.entry.What.{What};
@@ -25,7 +25,7 @@ impl<B: Block> State<B> {
         ensures right { B.tells.content ≡ true
             → result ≡ flat_reply self.old.config (flat_after self.old.config self.old.past) seat.0 r }
     {
-        let look = self.tables.look(Proc(seat.0), r.addr.0 / 512);
+        let look = self.tables.look(Proc(seat.0), r.addr.0 / PAGE_BYTES);
         let f = frame_in(look).unwrap();
         let kept = self.store.frames().row(f);
         let row = &mut self.processes[seat.0 as usize];

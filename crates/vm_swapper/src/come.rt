@@ -1,4 +1,5 @@
 ghost use Rattle.std.specs.Prelude.{◌≡◌, ◌+◌, ◌<◌, ◌≤◌, ◌↔◌, length};
+ghost use Rattle.vm_types.specs.declared.limits.TheConstants.{MOST_EXTENT};
 ghost use Rattle.pager_policy.specs.Swap.{come_gives};
 ghost use Rattle.vm_types.specs.Adjust.{lesser};
 ghost use Rattle.vm_types.specs.declared.names.ProcStatus.TheVariants as status;
@@ -84,7 +85,7 @@ fn lesser(m: u32, n: u32) -> u32
 
 /// The pages that lie in the swap blocks of a run are read, as far as frames are free.
 fn read_from<B: Block>(state: &mut State<B>, run: Run, carrier: &mut Carrier<B>) -> Swap
-    requires slot { run.slot < 1024 }
+    requires slot { run.slot < MOST_EXTENT }
     requires may { MaySwap state.old run.seat run.p (at_reads state.old (run.p).0 run.slot) carrier.old }
     ensures { Swaps B.seen B.tells state.old state.new run.seat (at_reads state.old (run.p).0 run.slot) result carrier.old carrier.new }
 {

@@ -1,4 +1,5 @@
 ghost use Rattle.std.specs.Prelude.{◌≡◌, ◌+◌, ◌<◌, ◌≤◌, ◌↔◌, length};
+ghost use Rattle.vm_types.specs.declared.limits.TheConstants.{MOST_EXTENT};
 ghost use Rattle.pager_policy.specs.Swap.{leave_gives};
 ghost use Rattle.vm_types.specs.declared.names.ProcStatus.TheVariants as status;
 ghost use Rattle.call_begins.specs.MayBegin.{MayBegin, empty};
@@ -16,7 +17,7 @@ use call_begins::{goes_to, is_stopped};
 use disk_trait::Block;
 use vm_journal::EvictWhy;
 use vm_state::{Carrier, State};
-use vm_types::{Addr, Proc, ProcStatus, Seat};
+use vm_types::{Addr, PAGE_BYTES, Proc, ProcStatus, Seat};
 
 /// Makes the next entries for a process that leaves memory, by any seat without an open transfer: by the
 /// first case that applies. There may be room for too few entries; else a shared page is evicted, then a
@@ -78,7 +79,7 @@ fn evict_at<B: Block>(state: &mut State<B>, run: Run, carrier: &mut Carrier<B>) 
             if is_stopped(state, x.frame, to) {
                 Swap::Again(SwapWhy::ModifiedFull)
             } else {
-                let a = Addr(512 * x.vpn);
+                let a = Addr(PAGE_BYTES * x.vpn);
                 state.evict(run.seat, run.p, a, x.frame, EvictWhy::Leave, to);
                 Swap::More
             }
@@ -89,7 +90,7 @@ fn evict_at<B: Block>(state: &mut State<B>, run: Run, carrier: &mut Carrier<B>) 
 
 /// The private pages in the slots of a run are written to the swap blocks.
 fn write_from<B: Block>(state: &mut State<B>, run: Run, carrier: &mut Carrier<B>) -> Swap
-    requires slot { run.slot < 1024 }
+    requires slot { run.slot < MOST_EXTENT }
     requires may { MaySwap state.old run.seat run.p (at_writes state.old (run.p).0 run.slot) carrier.old }
     ensures { Swaps B.seen B.tells state.old state.new run.seat (at_writes state.old (run.p).0 run.slot) result carrier.old carrier.new }
 {

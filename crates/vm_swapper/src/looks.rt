@@ -1,4 +1,5 @@
 ghost use Rattle.std.specs.Prelude.{◌≡◌, ◌<◌, ◌≤◌, IfSome, length};
+ghost use Rattle.vm_types.specs.declared.limits.TheConstants.{MOST_EXTENT};
 ghost use Rattle.vm_state.specs.History.{pager};
 ghost use Rattle.vm_swapper.specs.Looks.{first, has};
 
@@ -27,7 +28,7 @@ pub enum Look {
 pub fn slot_count<B: Block>(state: &State<B>, p: Proc) -> u32
     requires { p.0 < length state.now.config.procs }
     ensures count { result ≡ length ((pager state.now).ring p.0).slots }
-    ensures few { result ≤ 1024 }
+    ensures few { result ≤ MOST_EXTENT }
 {
     state.run_law();
     let spec = &state.config().procs.items()[p.0 as usize];
@@ -52,7 +53,7 @@ fn has<B: Block>(state: &State<B>, p: Proc, n: u32, look: Look) -> bool
 pub fn first<B: Block>(state: &State<B>, p: Proc, look: Look) -> Option<u32>
     requires { p.0 < length state.now.config.procs }
     ensures first { result ≡ first state.now.config state.now.past (pager state.now) p.0 look }
-    ensures few { IfSome result (λ n. n < 1024) }
+    ensures few { IfSome result (λ n. n < MOST_EXTENT) }
 {
     for n in 0..slot_count(state, p) {
         if has(state, p, n, look) {

@@ -1,4 +1,5 @@
 ghost use Rattle.std.specs.Prelude.{◌≡◌, ◌<◌, ◌≤◌, length};
+ghost use Rattle.vm_types.specs.declared.limits.TheConstants.{MOST_EXTENT};
 ghost use Rattle.vm_state.specs.History.{pager};
 ghost use Rattle.vm_swapper.specs.Runs.{gathered, wanted_at};
 
@@ -45,7 +46,7 @@ pub fn gathered<B: Block>(
     wanted: Wanted,
 ) -> ArrayVec<u32, 16>
     requires process { (run.p).0 < length state.now.config.procs }
-    requires slot { run.slot < 1024 }
+    requires slot { run.slot < MOST_EXTENT }
     requires most { most ≤ 16 }
     ensures { result.items ≡ gathered (wanted_at state.now.config state.now.past (pager state.now) (run.p).0 wanted) run.slot most }
 {

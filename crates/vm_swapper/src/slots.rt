@@ -14,7 +14,7 @@ ghost use Rattle.vm_swapper.specs.SeenSlots.{IsPlaced, HasSmallNumber, seen_as};
 use crate::seen::{Seen, is_private, is_still, see};
 use disk_trait::Block;
 use vm_state::State;
-use vm_types::{Addr, BlockId, FrameState, Page, Pfn, Proc};
+use vm_types::{Addr, BlockId, FrameState, PAGE_BYTES, Page, Pfn, Proc};
 
 /// Whether it is the swap block of this slot.
 fn lies_in(lies: Option<BlockId>, p: Proc, n: u32) -> bool
@@ -175,7 +175,7 @@ pub fn address_of(page: Page) -> Addr
     ensures { result ≡ address_of page }
 {
     match page {
-        Page::Private(_, v) => Addr(512 * v),
+        Page::Private(_, v) => Addr(PAGE_BYTES * v),
         Page::Shared(..) => Addr(0),
     }
 }

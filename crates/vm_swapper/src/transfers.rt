@@ -1,4 +1,5 @@
 ghost use Rattle.std.specs.Prelude.{◌≡◌, ◌+◌, ◌<◌, ◌≤◌, length};
+ghost use Rattle.vm_types.specs.declared.limits.TheConstants.{MOST_EXTENT};
 ghost use Rattle.pager_policy.specs.Given.{reads_made};
 ghost use Rattle.call_laws.specs.AreLegal.{AreLegal};
 ghost use Rattle.call_begins.specs.Lifted.{HasLifts};
@@ -16,7 +17,7 @@ use vm_types::{Addr, BlockId, Pfn};
 
 /// Begins the writes of these frames to the swap blocks of a run. The carrier takes their lifts.
 pub fn write_all<B: Block>(state: &mut State<B>, run: Run, frames: &[u32], carrier: &mut Carrier<B>)
-    requires slot { run.slot < 1024 }
+    requires slot { run.slot < MOST_EXTENT }
     requires few { length frames.now ≤ 16 }
     requires may { AreLegal state.old.config state.old.past (run.seat).0 (writes_from (run.p).0 run.slot frames.now) }
     requires room { owed state.old.past + 64 ≤ state.old.spare }
@@ -46,7 +47,7 @@ pub fn read_all<B: Block>(
     addresses: &[u32],
     carrier: &mut Carrier<B>,
 )
-    requires slot { run.slot < 1024 }
+    requires slot { run.slot < MOST_EXTENT }
     requires few { length addresses.now ≤ 16 }
     requires may { AreLegal state.old.config state.old.past (run.seat).0
         (reads_made (pager state.old).page (pager state.old).free (reads_from (run.p).0 run.slot addresses.now)) }

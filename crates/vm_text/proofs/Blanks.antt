@@ -4,6 +4,7 @@ use Rattle.std.specs.Prelude.{nat_lt, decimal, slice_index_or}
 use Rattle.std.specs.List.{join_with_byte}
 use Rattle.std.proofs.lemmas.Bool.{lt-ltb, ltb-true}
 use Rattle.std.proofs.lemmas.List.Splits.{join_with_byte-slice_split}
+use Rattle.vm_types.specs.declared.limits.TheConstants.{PAGE_BYTES}
 use Rattle.vm_types.specs.Configuration.{IsNameByte}
 use Rattle.vm_types.specs.WellFormed.{IsRange, IsWellFormedService, op_bytes}
 use Rattle.vm_types.specs.declared.config.Section.{Section}
@@ -246,7 +247,7 @@ section_page_above : (procs : ℕ) (names : List Section) (s i : ℕ) → AreNam
 section_page_above procs names s i are h small = above-append (section_name names s) (47 ∷ decimal i) (section_above procs names s are h) (decimal_above i (omega arith))
 
 pub page_above : (procs : ℕ) (names : List Section) (page : Page) → AreNames procs names → IsNamedPage procs names page → above (page_text names page) ≡ true
-page_above procs names (Private p v) are h = place_above p.0 (512 * v)
+page_above procs names (Private p v) are h = place_above p.0 (PAGE_BYTES * v)
 page_above procs names (Shared s i) are h = section_page_above procs names s.0 i are h.0.there h.1
 
 pub block_above : (procs : ℕ) (names : List Section) (b : BlockId) → AreNames procs names → IsNamedBlock procs names b → above (block_text names b) ≡ true

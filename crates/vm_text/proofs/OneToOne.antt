@@ -4,6 +4,7 @@ use Rattle.std.specs.Prelude.{decimal, bytes_eq, if◌then◌else◌}
 use Rattle.std.proofs.lemmas.Bool.{cases_lt}
 use Rattle.std.proofs.lemmas.Fmt.{decimal_injective}
 use Rattle.std.proofs.lemmas.Option.{get_or_from_slice_get}
+use Rattle.vm_types.specs.declared.limits.TheConstants.{PAGE_BYTES}
 use Rattle.vm_types.specs.WellFormed.{IsWellFormedReference, IsWellFormedService, IsRange, IsCode, FitsOp, op_bytes, width_bytes}
 use Rattle.vm_types.specs.declared.config.Section.{Section}
 use Rattle.vm_types.specs.declared.names.Addr.{Addr}
@@ -138,10 +139,10 @@ letter_no_section procs names p s i address are h e =
 
 pub page_same : (procs : ℕ) (names : List Section) (x y : Page) → AreNames procs names → IsNamedPage procs names x → IsNamedPage procs names y → page_text names x ≡ page_text names y → x ≡ y
 page_same procs names (Private p v) (Private q w) are h h' e =
-    let a : Addr = record { 0 = 512 * v } in
-    let b : Addr = record { 0 = 512 * w } in
+    let a : Addr = record { 0 = PAGE_BYTES * v } in
+    let b : Addr = record { 0 = PAGE_BYTES * w } in
     let parts = place_same p q a b (omega (arith, h.1)) (omega (arith, h'.1)) e in
-    let number : 512 * v ≡ 512 * w = ap (λ (x : Addr). x.0) parts.1 in
+    let number : PAGE_BYTES * v ≡ PAGE_BYTES * w = ap (λ (x : Addr). x.0) parts.1 in
     let same : v ≡ w = omega arith in
     let process = parts.0 in
     cc
@@ -150,8 +151,8 @@ page_same procs names (Shared s i) (Shared t j) are h h' e =
     let section = parts.0 in
     let number = parts.1 in
     cc
-page_same procs names (Private p v) (Shared t j) are h h' e = absurd (letter_no_section procs names p.0 t.0 j (512 * v) are h'.0.there e)
-page_same procs names (Shared s i) (Private q w) are h h' e = absurd (letter_no_section procs names q.0 s.0 i (512 * w) are h.0.there (sym e))
+page_same procs names (Private p v) (Shared t j) are h h' e = absurd (letter_no_section procs names p.0 t.0 j (PAGE_BYTES * v) are h'.0.there e)
+page_same procs names (Shared s i) (Private q w) are h h' e = absurd (letter_no_section procs names q.0 s.0 i (PAGE_BYTES * w) are h.0.there (sym e))
 
 pub block_same : (procs : ℕ) (names : List Section) (x y : BlockId) → AreNames procs names → IsNamedBlock procs names x → IsNamedBlock procs names y → block_text names x ≡ block_text names y → x ≡ y
 block_same procs names (block.Section s i) (block.Section t j) are h h' e =

@@ -1,5 +1,6 @@
 -- What has a name in text, so that a name stands for one thing. Source: this project's own.
 use Rattle.std.specs.Prelude.{◌≡◌, ◌≢◌, ℕ, ◌%◌, ◌^◌, ◌<◌, ◌≤◌, List, length, slice_get, All, AllPairs, IsSomeAnd}
+use Rattle.vm_types.specs.declared.limits.TheConstants.{PAGE_BYTES}
 use Rattle.vm_types.specs.Configuration.{IsName}
 use Rattle.vm_types.specs.declared.config.Section.{Section}
 use Rattle.vm_types.specs.declared.names.Page.{Page}
@@ -15,7 +16,7 @@ pub record AreNames (procs : ℕ) (names : List Section) : Type 0 where
 
 -- the first address of a page
 pub record IsPageStart (address : ℕ) : Type 0 where
-  pub aligned : address % 512 ≡ 0
+  pub aligned : address % PAGE_BYTES ≡ 0
   pub small : address < 2 ^ 32
 
 -- a process, and the first address of a page

@@ -1,5 +1,6 @@
 -- The words for processes, seats, addresses, frames, pages and blocks. Source: this project's own.
 use Rattle.std.specs.Prelude.{ℕ, ◌+◌, ◌*◌, List, [], ◌∷◌, ◌++◌, Option, Some, None, slice_get, nat_lt, nat_eq, if◌then◌else◌, codes, decimal}
+use Rattle.vm_types.specs.declared.limits.TheConstants.{PAGE_BYTES}
 use Rattle.vm_types.specs.declared.config.Section.{Section}
 use Rattle.vm_types.specs.declared.names.Page.{Page}
 use Rattle.vm_types.specs.declared.names.Page.TheVariants.{Private, Shared}
@@ -44,7 +45,7 @@ section_page_text names s page = section_name names s ++ (codes "/" ++ decimal p
 
 -- a page: a process and the first address, or a section and the number in it
 abbrev pub page_text : List Section → Page → List ℕ
-page_text names (Private p v) = place_text p.0 (512 * v)
+page_text names (Private p v) = place_text p.0 (PAGE_BYTES * v)
 page_text names (Shared s i) = section_page_text names s.0 i
 
 -- a block, as S:LIB/3, P:7 and X:A/2

@@ -7,7 +7,7 @@ ghost use Rattle.vm_text.specs.Readings.{Reads};
 use crate::number::{push_count, push_hex, read_count, read_hex};
 use crate::text::{after, cut, is, push_word};
 use arrayvec::ArrayVec;
-use vm_types::{Addr, BlockId, Page, Pfn, Proc, Seat, SecId, Section};
+use vm_types::{Addr, BlockId, PAGE_BYTES, Page, Pfn, Proc, Seat, SecId, Section};
 
 /// Adds a process's letter, A to P. Doesn't allocate.
 pub fn push_process<const CAP: usize>(out: &mut ArrayVec<u8, CAP>, process: Proc)
@@ -94,7 +94,7 @@ pub fn push_page<const CAP: usize>(out: &mut ArrayVec<u8, CAP>, page: Page, name
     ensures len { array_vec_len out.new ≤ array_vec_len out.old + 26 }
 {
     match page {
-        Page::Private(process, number) => push_place(out, process, Addr(512 * number)),
+        Page::Private(process, number) => push_place(out, process, Addr(PAGE_BYTES * number)),
         Page::Shared(section, number) => push_section_page(out, section, number, names),
     }
 }
@@ -170,7 +170,7 @@ pub fn read_page_start(word: &[u8]) -> Option<Addr>
     ensures { Reads (λ a. IsPageStart a.0) (λ a. address_text a.0) word.now result }
 {
     let address = read_hex(word, 8)?;
-    if address % 512 != 0 {
+    if address % PAGE_BYTES != 0 {
         return None;
     }
     Some(Addr(address))
@@ -219,7 +219,7 @@ pub fn read_page(word: &[u8], procs: u32, names: &[Section]) -> Option<Page>
     ensures { Reads (IsNamedPage procs names.now) (page_text names.now) word.now result }
 {
     if let Some((process, address)) = read_place(word, procs) {
-        return Some(Page::Private(process, address.0 / 512));
+        return Some(Page::Private(process, address.0 / PAGE_BYTES));
     }
     let (section, page) = read_section_page(word, procs, names)?;
     Some(Page::Shared(section, page))

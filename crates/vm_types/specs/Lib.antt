@@ -5,6 +5,7 @@ pub mod Adjust
 pub mod Same
 pub mod Kinds
 pub mod Versions
+pub mod Short
 pub mod WellFormed
 pub mod Configuration
 pub mod SectionBlocks

@@ -1,6 +1,7 @@
 ghost use Rattle.std.specs.Prelude.{◌≡◌};
 ghost use Rattle.vm_types.specs.Versions.{is_first, is_long, most_frames, most_lines, most_requests};
 
+use crate::body::Body;
 use crate::limits::{
     MOST_FRAMES, MOST_FRAMES_OF_ONE, MOST_LINES, MOST_LONG_LINES, MOST_LONG_REQUESTS, MOST_REQUESTS,
 };
@@ -186,5 +187,5 @@ pub struct Config {
     pub maps: Listed<Mapping>,
     pub fails: Listed<Fails>,
     /// At most as many as the version has.
-    pub body: Listed<Task>,
+    pub body: Body,
 }

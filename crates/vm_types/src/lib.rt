@@ -5,6 +5,7 @@ mod access;
 mod address;
 mod behind;
 mod block_order;
+mod body;
 mod config;
 mod faults;
 mod in_tables;
@@ -18,11 +19,13 @@ mod reply;
 mod ring_choice;
 mod same;
 mod service;
+mod short;
 
 pub use access::allowed;
 pub use address::split;
 pub use behind::origin_after;
 pub use block_order::{if_next, is_next_block};
+pub use body::Body;
 pub use config::{
     Config, Fails, Mapping, Origin, Params, ProcSpec, Section, SectionKind, Task, Version,
 };

@@ -1,4 +1,5 @@
 use Rattle.std.proofs.Common.{ℕ, ◌*◌, List, length, map, take_all, refl, sym, ap, subst, arith}
+use Rattle.vm_types.specs.declared.limits.TheConstants.{MOST_EXTENT}
 use Rattle.dump_bytes.specs.declared.dump.ProcRec.{ProcRec}
 use Rattle.dump_bytes.specs.Bounds.{IsProcess}
 use Rattle.dump_bytes.specs.Dumped.{process_of}
@@ -21,13 +22,13 @@ count_process-requires-clause-bounds c =
 pub count_process-requires-clause-room : goal.count_process-requires-clause-room
 count_process-requires-clause-room c =
     let within = c.loop-proc-test.true in
-    room_left (1024 * length c.args.procs.now) 1024 _ _ _ c.requires.room c.loop-proc.invariant.shares
+    room_left (MOST_EXTENT * length c.args.procs.now) MOST_EXTENT _ _ _ c.requires.room c.loop-proc.invariant.shares
     (λ f. let few = few_shares _ c.args.procs.now c.loop-proc.proc-index c.requires.bounds f in omega arith)
 
 pub count_process-requires-clause-room_for_uses : goal.count_process-requires-clause-room_for_uses
 count_process-requires-clause-room_for_uses c =
     let within = c.loop-proc-test.true in
-    room_left (1024 * length c.args.procs.now) 1024 _ _ _ c.requires.room_for_uses c.loop-proc.invariant.uses
+    room_left (MOST_EXTENT * length c.args.procs.now) MOST_EXTENT _ _ _ c.requires.room_for_uses c.loop-proc.invariant.uses
     (λ f. let few = few_pins _ c.args.procs.now c.loop-proc.proc-index c.requires.bounds f in omega arith)
 
 pub loop-proc-preserved : goal.loop-proc-preserved

@@ -2,6 +2,7 @@ use Rattle.std.proofs.Common.{◌≡◌, ℕ, ◌≤◌, List, length, map, refl
 use Rattle.std.specs.Prelude.{IfOk, replicate}
 use Rattle.std.proofs.lemmas.List.{length-map, length-replicate, with_items_is}
 use Rattle.std_alloc.specs.Vec.{with_items}
+use Rattle.vm_types.specs.declared.limits.TheConstants.{MOST_FRAMES}
 use Rattle.dump_bytes.specs.declared.dump.ProcRec.{ProcRec}
 use Rattle.dump_bytes.specs.Dumped.{dumped, process_of}
 use Rattle.dump_lines.specs.declared.counts.Counts.{Counts}
@@ -19,7 +20,7 @@ count_members-requires-clause-room c =
     let left : c.deref_mut-3.result.now ≡ c.count_processes.new.uses = c.deref_mut-3.ensures.value ∙ with_items_is c.in_ok-uses.uses c.count_processes.new.uses size in
     let pins = raised_of _ _ _ _ _ _ c.count_processes.ensures.uses (ap {B = ℕ → ℕ} (λ (ps : List ProcRec) (f : ℕ). pins_in (map process_of ps) f) c.deref.ensures.value) none (sym left) in
     let few_procs = c.requires.procs.1 in
-    let few_flights : length c.deref-2.result.now ≤ 16384 = omega (arith, ap (length {A = ℕ}) c.deref-2.ensures.value, c.requires.flights.few, c.requires.frames.1) in
+    let few_flights : length c.deref-2.result.now ≤ MOST_FRAMES = omega (arith, ap (length {A = ℕ}) c.deref-2.ensures.value, c.requires.flights.few, c.requires.frames.1) in
     room_left 40000 _ _ _ _ (room_of_nothing c.len-frames.result 40000 (lit< tt)) pins (λ f. let few = few_pins_of_all _ c.args.dump.now.procs.items c.requires.each_process f in omega (arith, length-map c.args.dump.now.procs.items process_of))
 
 pub gather-requires-clause-room : goal.gather-requires-clause-room
@@ -32,7 +33,7 @@ gather-requires-clause-room c =
     let pins = raised_of _ _ _ _ _ _ c.count_processes.ensures.uses (ap {B = ℕ → ℕ} (λ (ps : List ProcRec) (f : ℕ). pins_in (map process_of ps) f) c.deref.ensures.value) none (sym left) in
     let flights = raised_of _ _ _ _ _ _ c.count_members.ensures (ap {B = ℕ → ℕ} (λ (ns : List ℕ) (f : ℕ). times_in ns f) c.deref-2.ensures.value) refl (sym left_2) in
     let few_procs = c.requires.procs.1 in
-    let few_flights : length c.args.dump.now.flights.items ≤ 16384 = omega (arith, c.requires.flights.few, c.requires.frames.1) in
+    let few_flights : length c.args.dump.now.flights.items ≤ MOST_FRAMES = omega (arith, c.requires.flights.few, c.requires.frames.1) in
     let room = room_left 40000 20000 _ _ _ (room_of_nothing c.len-frames.result 40000 (lit< tt)) pins (λ f. let few = few_pins_of_all _ c.args.dump.now.procs.items c.requires.each_process f in omega (arith, length-map c.args.dump.now.procs.items process_of)) in
     room_left 20000 1 _ _ _ room flights (λ f. let few = few_times c.args.dump.now.flights.items f in omega arith)
 

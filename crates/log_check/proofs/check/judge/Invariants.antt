@@ -1,5 +1,6 @@
 use Rattle.std.proofs.Common.{◌≡◌, ◌≤◌, length}
 use Rattle.std.specs.Prelude.{IfSome, IsSome}
+use Rattle.vm_types.specs.declared.limits.TheConstants.{MOST_LOG_LINES}
 use Rattle.outside_io.specs.BytesLeft.{bytes_left}
 use Rattle.log_check.specs.Followed.{IsFollowed}
 use Rattle.log_check.specs.Reading.{HasRead, IsBehind}
@@ -12,7 +13,7 @@ invariant-lines g l = record {
   followed : IsFollowed l.followed;
   config : l.followed.past.config ≡ l.fn.followed.past.config;
   fewer : length l.followed.past.past ≤ l.count;
-  most : l.count ≤ 16777216;
+  most : l.count ≤ MOST_LOG_LINES;
   read : IfSome (bytes_left g.S.Source.seen l.fn.lines) (λ text. HasRead text l.followed.past l.place l.count (bytes_left g.S.Source.seen l.lines));
   behind : IfSome (bytes_left g.S.Source.seen l.fn.lines) (λ text. IsBehind text l.count (bytes_left g.S.Source.seen l.lines));
   still_told : IsSome (g.S.Source.seen l.fn.lines.source.now).left → IsSome (g.S.Source.seen l.lines.source.now).left;

@@ -1,5 +1,6 @@
 use Rattle.std.proofs.Common.{◌∙◌, ◌≤◌, List, ap, arith, filter, length, subst, sym}
 use Rattle.std.specs.Prelude.{All}
+use Rattle.vm_types.specs.declared.limits.TheConstants.{MOST_SECTION_PAGES}
 use Rattle.vm_types.specs.Configuration.{section_pages}
 use Rattle.vm_types.specs.declared.config.Section.{Section}
 use Rattle.pager_model.specs.DirtyPages.{is_dirty, pages_from}
@@ -12,7 +13,7 @@ shared_pages-requires-clause-few c = omega (arith, ap length c.items.ensures, (c
 
 pub shared_pages-requires-clause-small : goal.shared_pages-requires-clause-small
 shared_pages-requires-clause-small c =
-    subst (λ (xs : List Section). All (λ (section : Section). section_pages section ≤ 16384) xs) (sym c.items.ensures)
+    subst (λ (xs : List Section). All (λ (section : Section). section_pages section ≤ MOST_SECTION_PAGES) xs) (sym c.items.ensures)
     (few_pages c.args.config.now.sections (c.requires.sections).pages)
 
 pub returns : goal.returns

@@ -1,4 +1,5 @@
 use Rattle.std.proofs.Common.{◌≡◌, ◌+◌, ◌/◌, ◌<◌, ◌≤◌, ℕ, Some}
+use Rattle.vm_types.specs.declared.limits.TheConstants.{PAGE_BYTES}
 use Rattle.vm_types.specs.declared.names.Page.{Page}
 use Rattle.pager_model.specs.Lookups.{page_by}
 use Rattle.shadow_pager.specs.Shown.{shown}
@@ -6,4 +7,4 @@ use Rattle.row_requests.proofs.ranges.first_unmapped.Given as goal
 
 -- those so far are mapped
 abbrev pub invariant-loop-n : goal.invariant-loop-n
-invariant-loop-n l = (v : ℕ) → l.range.at.0 / 512 ≤ v → v < l.range.at.0 / 512 + l.n → (g : Page) × (page_by l.config (shown l.pager).pager.map l.range.process.0 v ≡ Some g)
+invariant-loop-n l = (v : ℕ) → l.range.at.0 / PAGE_BYTES ≤ v → v < l.range.at.0 / PAGE_BYTES + l.n → (g : Page) × (page_by l.config (shown l.pager).pager.map l.range.process.0 v ≡ Some g)

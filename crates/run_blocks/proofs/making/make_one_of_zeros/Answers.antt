@@ -1,4 +1,5 @@
 use Rattle.std.proofs.Common.{replicate}
+use Rattle.vm_types.specs.declared.limits.TheConstants.{PAGE_BYTES}
 use Rattle.run_blocks.proofs.Added.{added_one}
 use Rattle.run_blocks.proofs.making.make_one_of_zeros.Goals as goal
 use Rattle.run_blocks.proofs.making.make_one_of_zeros.Goals.{in-Ok, in-Err}
@@ -7,7 +8,7 @@ pub returns-clause-adds : goal.returns-clause-adds
 returns-clause-adds g c =
     elim c.match-push.branch [
       | in-Ok w ↦ rw (w.result-is, w.in-Ok.ensures.items)
-          (added_one g.D.Block.Block.seen g.D.Block.Block.tells c.args.config.now c.args.id c.in_ok-block.block (replicate 512 0) c.planned_calls.result.now c.args.blocks.now.items
+          (added_one g.D.Block.Block.seen g.D.Block.Block.tells c.args.config.now c.args.id c.in_ok-block.block (replicate PAGE_BYTES 0) c.planned_calls.result.now c.args.blocks.now.items
           (record {
             content_is = c.in_ok-block.ensures.content;
             plan_is = c.in_ok-block.ensures.plan;

@@ -1,4 +1,5 @@
 use Rattle.std.proofs.Common.{◌∙◌, ◌*◌, ◌+◌, ◌-◌, List, ℕ, ap, drop, length, sym, take, arith}
+use Rattle.vm_types.specs.declared.limits.TheConstants.{PAGE_BYTES}
 use Rattle.vm_types.proofs.SectionBlocks.{few_blocks}
 use Rattle.frame_store.specs.Blocks.{section_block}
 use Rattle.run_blocks.proofs.Added.{added_item}
@@ -21,7 +22,7 @@ overflow_cast-i-end g c =
 
 pub make_one-requires-clause-first : goal.make_one-requires-clause-first
 make_one-requires-clause-first g c κs within =
-    ap (λ (bytes : List ℕ). take (512 * c.loop-i.i + 512 - 512 * c.loop-i.i) (drop (512 * c.loop-i.i) bytes)) c.items-bytes.ensures
+    ap (λ (bytes : List ℕ). take (PAGE_BYTES * c.loop-i.i + PAGE_BYTES - PAGE_BYTES * c.loop-i.i) (drop (PAGE_BYTES * c.loop-i.i) bytes)) c.items-bytes.ensures
     ∙ page_bytes c.args.config.now (c.args.s).0 c.loop-i.i c.args.section.now (sym c.requires.there)
 
 pub slice_bounds-make_one-end : goal.slice_bounds-make_one-end

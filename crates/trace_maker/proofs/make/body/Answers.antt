@@ -5,4 +5,4 @@ use Rattle.trace_maker.proofs.make.body.Goals as goal
 pub returns : goal.returns
 returns c =
     let all : c.loop-n.n ≡ c.args.refs = omega arith in
-    c.of.ensures ∙ (c.loop-n.invariant.body ∙ ap (λ (n : ℕ). made_body c.args.seed c.args.procs n) all)
+    c.loop-n.invariant.body ∙ ap (λ (n : ℕ). made_body c.args.seed c.args.procs n) all

@@ -1,11 +1,9 @@
-use Rattle.std.proofs.Common.{◌≡◌, ◌≤◌, vec_capacity, vec_len}
+use Rattle.std.proofs.Common.{◌≡◌}
 use Rattle.trace_maker.specs.Made.{made_body, state_after}
 use Rattle.trace_maker.proofs.make.body.Given as goal
 
 abbrev pub invariant-loop-n : goal.invariant-loop-n
 invariant-loop-n l = record {
   state : l.draws.state ≡ state_after l.seed l.n;
-  body : (l.body).items ≡ made_body l.seed l.procs l.n;
-  len : vec_len l.body ≡ l.n;
-  room : l.refs ≤ vec_capacity l.body;
+  body : l.body ≡ made_body l.seed l.procs l.n;
 }

@@ -1,6 +1,7 @@
 use Rattle.std.proofs.Common.{◌≡◌, ℕ, ◌<◌, List, length, Some, None, slice_get, refl, sym, ap, ◌∙◌, subst}
 use Rattle.std.specs.Option.{option_map}
 use Rattle.std.proofs.lemmas.List.{length-map}
+use Rattle.vm_types.specs.declared.limits.TheConstants.{PAGE_BYTES}
 use Rattle.page_pool.specs.Pool.{Buffer}
 use Rattle.frame_store.specs.Blocks.{number_in}
 use Rattle.frame_store.specs.Home.{HomeView}
@@ -39,4 +40,4 @@ returns-clause-store g c =
     ∙ (λ i. landed (c.self.view_is i) (c.lift.view_is i))
 
 pub returns-clause-size : goal.returns-clause-size
-returns-clause-size g c = subst (λ (l : LiftView g.row.B.Denot). length l.buffer ≡ 512) c.lift.view_is (subst (λ (xs : List ℕ). length xs ≡ 512) c.bytes.ensures.bytes c.bytes.ensures.size)
+returns-clause-size g c = subst (λ (l : LiftView g.row.B.Denot). length l.buffer ≡ PAGE_BYTES) c.lift.view_is (subst (λ (xs : List ℕ). length xs ≡ PAGE_BYTES) c.bytes.ensures.bytes c.bytes.ensures.size)

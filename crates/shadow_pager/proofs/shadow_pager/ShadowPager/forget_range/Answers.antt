@@ -1,5 +1,6 @@
 use Rattle.std.proofs.Common.{◌≡◌, ◌+◌, ◌-◌, ◌/◌, ap, ap₂, arith, refl, ◌∙◌, sym}
 use Rattle.std.specs.List.{range_with_len}
+use Rattle.vm_types.specs.declared.limits.TheConstants.{PAGE_BYTES}
 use Rattle.pager_model.specs.Forget.{forget_all, own_pages}
 use Rattle.pager_model.specs.Lookups.{page_by}
 use Rattle.pager_model.specs.Maps.{Map}
@@ -13,7 +14,7 @@ pub loop-k-init : goal.loop-k-init
 loop-k-init c =
     let config = c.args.config.now in
     let s = shown c.args.self.now in
-    let first : c.args.at.0 / 512 + 0 ≡ c.args.at.0 / 512 = omega arith in
+    let first : c.args.at.0 / PAGE_BYTES + 0 ≡ c.args.at.0 / PAGE_BYTES = omega arith in
     let all : c.args.pages - 0 ≡ c.args.pages = omega arith in
     record {
       frames = refl;
@@ -26,7 +27,7 @@ pub loop-k-preserved : goal.loop-k-preserved
 loop-k-preserved c =
     let config = c.args.config.now in
     let p = c.args.p.0 in
-    let first = c.args.at.0 / 512 in
+    let first = c.args.at.0 / PAGE_BYTES in
     let k = c.loop-k.k in
     let pages = c.args.pages in
     let before = c.loop-k.invariant in
@@ -51,4 +52,4 @@ returns c =
     let past = c.loop-k.invariant in
     let none : 0 ≡ c.args.pages - c.loop-k.k = omega arith in
     same_shown (shown c.loop-k.self) (shown c.args.self.now) _ past.frames past.processes
-    (ap (λ n. forget_all config (own_pages config maps c.args.p.0 (range_with_len (c.args.at.0 / 512 + c.loop-k.k) n)) (shown c.loop-k.self).pager) none ∙ past.rest)
+    (ap (λ n. forget_all config (own_pages config maps c.args.p.0 (range_with_len (c.args.at.0 / PAGE_BYTES + c.loop-k.k) n)) (shown c.loop-k.self).pager) none ∙ past.rest)

@@ -1,5 +1,6 @@
 use Rattle.std.proofs.Common.{◌≡◌, ◌+◌, ◌-◌, ◌/◌}
 use Rattle.std.specs.List.{range_with_len}
+use Rattle.vm_types.specs.declared.limits.TheConstants.{PAGE_BYTES}
 use Rattle.pager_model.specs.Forget.{forget_all, own_pages}
 use Rattle.shadow_pager.specs.Shown.{shown}
 use Rattle.shadow_pager.proofs.shadow_pager.ShadowPager.forget_range.Given as goal
@@ -13,6 +14,6 @@ invariant-loop-k l =
       frames : (shown l.self).frames ≡ (shown l.initial.self).frames;
       processes : (shown l.self).processes ≡ (shown l.initial.self).processes;
       mapped : (shown l.self).pager.map ≡ maps;
-      rest : forget_all config (own_pages config maps l.fn.p.0 (range_with_len (l.fn.at.0 / 512 + l.k) (l.fn.pages - l.k))) (shown l.self).pager
-          ≡ forget_all config (own_pages config maps l.fn.p.0 (range_with_len (l.fn.at.0 / 512) l.fn.pages)) (shown l.initial.self).pager;
+      rest : forget_all config (own_pages config maps l.fn.p.0 (range_with_len (l.fn.at.0 / PAGE_BYTES + l.k) (l.fn.pages - l.k))) (shown l.self).pager
+          ≡ forget_all config (own_pages config maps l.fn.p.0 (range_with_len (l.fn.at.0 / PAGE_BYTES) l.fn.pages)) (shown l.initial.self).pager;
     }

@@ -1,6 +1,7 @@
 use Rattle.std.proofs.Common.{length, ap, ◌+◌, ◌/◌, ◌∙◌, refl, sym, subst, arith}
 use Rattle.std.proofs.lemmas.List.{length-reverse}
 use Rattle.std.specs.Prelude.{IsSome}
+use Rattle.vm_types.specs.declared.limits.TheConstants.{PAGE_BYTES}
 use Rattle.vm_journal.specs.declared.entry.What.TheVariants as what
 use Rattle.vm_types.specs.declared.reply.Answer.TheVariants as answer
 use Rattle.vm_types.specs.declared.service.Service.TheVariants as service
@@ -23,26 +24,26 @@ loop-n-init g c = record {
 
 pub unwrap-place-requires : goal.unwrap-place-requires
 unwrap-place-requires g c =
-    subst IsSome (sym (looked c.loop-n.self-inside.tables c.args.seat.0 (c.args.at.0 / 512 + c.loop-n.n) c.look.result c.entry_in.result c.look.ensures.value c.entry_in.ensures))
+    subst IsSome (sym (looked c.loop-n.self-inside.tables c.args.seat.0 (c.args.at.0 / PAGE_BYTES + c.loop-n.n) c.look.result c.entry_in.result c.look.ensures.value c.entry_in.ensures))
     (close.can_unmap c.self.invariant c.args.seat c.args.at c.args.pages (may_before c.self.view_is c.requires).legal c.loop-n.n c.loop-n-test.true _ c.loop-n.invariant.parts).0
 
 pub empty_frame-requires-clause-below : goal.empty_frame-requires-clause-below
 empty_frame-requires-clause-below g c = λ f named.
     rw c.frames_mut.ensures.value
     (close.can_empty c.self.invariant c.args.seat c.args.at c.args.pages (may_before c.self.view_is c.requires).legal c.loop-n.n c.loop-n-test.true _ c.loop-n.invariant.parts
-    c.unwrap-place.result (sym (looked c.loop-n.self-inside.tables c.args.seat.0 (c.args.at.0 / 512 + c.loop-n.n) c.look.result c.entry_in.result c.look.ensures.value c.entry_in.ensures) ∙ c.unwrap-place.ensures) f named).0
+    c.unwrap-place.result (sym (looked c.loop-n.self-inside.tables c.args.seat.0 (c.args.at.0 / PAGE_BYTES + c.loop-n.n) c.look.result c.entry_in.result c.look.ensures.value c.entry_in.ensures) ∙ c.unwrap-place.ensures) f named).0
 
 pub empty_frame-requires-clause-state : goal.empty_frame-requires-clause-state
 empty_frame-requires-clause-state g c = λ f named.
     rw c.frames_mut.ensures.value
     (close.can_empty c.self.invariant c.args.seat c.args.at c.args.pages (may_before c.self.view_is c.requires).legal c.loop-n.n c.loop-n-test.true _ c.loop-n.invariant.parts
-    c.unwrap-place.result (sym (looked c.loop-n.self-inside.tables c.args.seat.0 (c.args.at.0 / 512 + c.loop-n.n) c.look.result c.entry_in.result c.look.ensures.value c.entry_in.ensures) ∙ c.unwrap-place.ensures) f named).1
+    c.unwrap-place.result (sym (looked c.loop-n.self-inside.tables c.args.seat.0 (c.args.at.0 / PAGE_BYTES + c.loop-n.n) c.look.result c.entry_in.result c.look.ensures.value c.entry_in.ensures) ∙ c.unwrap-place.ensures) f named).1
 
 pub empty_frame-requires-clause-flights : goal.empty_frame-requires-clause-flights
 empty_frame-requires-clause-flights g c = λ f named.
     rw c.frames_mut.ensures.value
     (close.can_empty c.self.invariant c.args.seat c.args.at c.args.pages (may_before c.self.view_is c.requires).legal c.loop-n.n c.loop-n-test.true _ c.loop-n.invariant.parts
-    c.unwrap-place.result (sym (looked c.loop-n.self-inside.tables c.args.seat.0 (c.args.at.0 / 512 + c.loop-n.n) c.look.result c.entry_in.result c.look.ensures.value c.entry_in.ensures) ∙ c.unwrap-place.ensures) f named).2
+    c.unwrap-place.result (sym (looked c.loop-n.self-inside.tables c.args.seat.0 (c.args.at.0 / PAGE_BYTES + c.loop-n.n) c.look.result c.entry_in.result c.look.ensures.value c.entry_in.ensures) ∙ c.unwrap-place.ensures) f named).2
 
 pub uncharge-requires-clause-assigned : goal.uncharge-requires-clause-assigned
 uncharge-requires-clause-assigned g c = λ p b found assigned.
@@ -59,7 +60,7 @@ forget-requires g c =
 pub loop-n-preserved : goal.loop-n-preserved
 loop-n-preserved g c = record {
   parts = close.one_deleted c.self.invariant c.args.seat c.args.at c.args.pages (may_before c.self.view_is c.requires).legal c.loop-n.n c.loop-n-test.true _ c.loop-n.invariant.parts
-      c.unwrap-place.result (sym (looked c.loop-n.self-inside.tables c.args.seat.0 (c.args.at.0 / 512 + c.loop-n.n) c.look.result c.entry_in.result c.look.ensures.value c.entry_in.ensures) ∙ c.unwrap-place.ensures)
+      c.unwrap-place.result (sym (looked c.loop-n.self-inside.tables c.args.seat.0 (c.args.at.0 / PAGE_BYTES + c.loop-n.n) c.look.result c.entry_in.result c.look.ensures.value c.entry_in.ensures) ∙ c.unwrap-place.ensures)
       c.at-kept.result c.at-kept.ensures.value c.empty_frame.new.frames (rw (← c.frames_mut.ensures.value) c.empty_frame.ensures.emptied) c.uncharge.new.file c.uncharge.ensures.uncharged
       c.unmap.new.self c.unmap.ensures.procs c.unmap.ensures.changed c.forget.new.self c.forget.ensures.procs c.forget.ensures.parts c.forget.ensures.changed
       c.set.new.self c.set.ensures;

@@ -1,4 +1,5 @@
 use Rattle.std.proofs.Common.{◌/◌, IsSome, sym, ap, ◌∙◌, subst}
+use Rattle.vm_types.specs.declared.limits.TheConstants.{PAGE_BYTES}
 use Rattle.pfn_database.specs.Frames.{Frames, row_of}
 use Rattle.pfn_database.specs.declared.row.Row.{Row}
 use Rattle.vm_journal.specs.declared.entry.What.TheVariants as what
@@ -36,7 +37,7 @@ leave-requires-clause-pins g c = λ pinned. rw c.frames_mut.ensures.value ((clos
 pub unwrap-prot-requires : goal.unwrap-prot-requires
 unwrap-prot-requires g c =
     let there = (close.can c.self.invariant c.args.seat c.args.p c.args.a c.args.f c.args.why c.args.to (may_before c.self.view_is c.requires).legal).mapped in
-    subst IsSome (sym (looked c.self.inside.tables c.args.p.0 (c.args.a.0 / 512) c.look-look.result c.entry_in.result c.look-look.ensures.value c.entry_in.ensures)) there
+    subst IsSome (sym (looked c.self.inside.tables c.args.p.0 (c.args.a.0 / PAGE_BYTES) c.look-look.result c.entry_in.result c.look-look.ensures.value c.entry_in.ensures)) there
 
 pub left_at-place-requires : goal.left_at-place-requires
 left_at-place-requires g c =
@@ -48,7 +49,7 @@ set-requires-clause-entry g c =
     let page = sym (ap (λ (z : Row). z.page) (c.row-kept.ensures.row ∙ ap (λ (fs : Frames). row_of fs c.args.f.0) c.frames.ensures)) ∙ c.unwrap-page.ensures in
     let place_is = c.left_at-place.ensures c.self.inside.config (rw c.deref.ensures.value (numbered c.self.invariant c.args.f.0 c.unwrap-page.result page)) in
     rw place_is ((close.can c.self.invariant c.args.seat c.args.p c.args.a c.args.f c.args.why c.args.to (may_before c.self.view_is c.requires).legal).entry c.unwrap-page.result c.unwrap-prot.result page
-    (sym (looked c.self.inside.tables c.args.p.0 (c.args.a.0 / 512) c.look-look.result c.entry_in.result c.look-look.ensures.value c.entry_in.ensures) ∙ c.unwrap-prot.ensures))
+    (sym (looked c.self.inside.tables c.args.p.0 (c.args.a.0 / PAGE_BYTES) c.look-look.result c.entry_in.result c.look-look.ensures.value c.entry_in.ensures) ∙ c.unwrap-prot.ensures))
 
 pub unshare-requires : goal.unshare-requires
 unshare-requires g c =
@@ -69,5 +70,5 @@ invariant_of-self g c =
     (rw (← c.frames_mut.ensures.value) c.leave.ensures.rows) (rw (← c.frames_mut.ensures.value) c.leave.ensures.free) (rw (← c.frames_mut.ensures.value) c.leave.ensures.modified)
     c.left_at-place.result (c.left_at-place.ensures c.self.inside.config (rw c.deref.ensures.value number))
     c.set.new.self c.unwrap-prot.result c.set.ensures.procs c.set.ensures.changed
-    (sym (looked c.self.inside.tables c.args.p.0 (c.args.a.0 / 512) c.look-look.result c.entry_in.result c.look-look.ensures.value c.entry_in.ensures) ∙ c.unwrap-prot.ensures)
+    (sym (looked c.self.inside.tables c.args.p.0 (c.args.a.0 / PAGE_BYTES) c.look-look.result c.entry_in.result c.look-look.ensures.value c.entry_in.ensures) ∙ c.unwrap-prot.ensures)
     c.unshare.new.globals (c.unshare.ensures c.self.inside.config (rw c.deref-2.ensures.value number)))
