@@ -13,7 +13,7 @@ fn bytes_of(alloc: Global, count: u32) -> Result<Listed<u8>, NoMemory>
 {
     let mut bytes = vec![in alloc; 0; count as usize]?;
     for n in 0..count {
-        bytes[n as usize] = ((n / PAGE_BYTES as usize + n % PAGE_BYTES as usize) % 256) as u8;
+        bytes[n as usize] = ((n / PAGE_BYTES + n % PAGE_BYTES) % 256) as u8;
     }
     Ok(Listed::of(bytes))
 }
