@@ -17,7 +17,7 @@ landed_on-requires-clause-body g c κs within =
     let left = c.take_last-last.new.items.items in
     let two : length config.procs ≡ 2 = search rules in
     let all = subst (λ (n : ℕ). All (IsTask config.version n) config.body) two (c.in_ok-config.ensures).body in
-    let whole = c.in_ok-body.ensures.items ∙ c.items.ensures in
+    let whole = c.in_ok-body.ensures in
     let parts = split_tasks (IsTask config.version 2) config.body left c.take_last-last.result (sym whole ∙ c.take_last-last.ensures) all in
     subst (λ (s : History). All (IsTask s.config.version 2) c.deref.result.now) (sym c.in_ok-state.ensures)
     (subst (λ (tasks : List Task). All (IsTask config.version 2) tasks) (sym c.deref.ensures.value) parts.0)
@@ -28,6 +28,6 @@ landed_on-requires-clause-last g c κs within =
     let left = c.take_last-last.new.items.items in
     let two : length config.procs ≡ 2 = search rules in
     let all = subst (λ (n : ℕ). All (IsTask config.version n) config.body) two (c.in_ok-config.ensures).body in
-    let whole = c.in_ok-body.ensures.items ∙ c.items.ensures in
+    let whole = c.in_ok-body.ensures in
     let parts = split_tasks (IsTask config.version 2) config.body left c.take_last-last.result (sym whole ∙ c.take_last-last.ensures) all in
     subst (λ (s : History). IsTask s.config.version 2 c.take_last-last.result) (sym c.in_ok-state.ensures) parts.1
