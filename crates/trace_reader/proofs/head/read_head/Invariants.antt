@@ -1,5 +1,6 @@
-use Rattle.std.proofs.Common.{◌≡◌, ◌-◌}
+use Rattle.std.proofs.Common.{◌≡◌, ◌+◌, ◌-◌}
 use Rattle.std.specs.Prelude.{IsSome}
+use Rattle.vm_types.specs.declared.limits.TheConstants.{MOST_LONG_LINES}
 use Rattle.outside_io.specs.BytesLeft.{bytes_left}
 use Rattle.trace_reader.specs.Stream.{IsReading}
 use Rattle.trace_reader.specs.HeadAnswer.{IsTold}
@@ -15,4 +16,4 @@ invariant-front g l = record {
 }
 
 abbrev pub decreases-front : goal.decreases-front
-decreases-front g l = 200010 - l.reader.number
+decreases-front g l = MOST_LONG_LINES + 10 - l.reader.number

@@ -1,4 +1,5 @@
-use Rattle.std.proofs.Common.{◌≡◌, ◌-◌, ◌*◌}
+use Rattle.std.proofs.Common.{◌≡◌, ◌+◌, ◌-◌, ◌*◌}
+use Rattle.vm_types.specs.declared.limits.TheConstants.{MOST_LONG_LINES}
 use Rattle.trace_reader.proofs.Reading.{IsBetween}
 use Rattle.trace_reader.proofs.read.read_pieces.Given as goal
 
@@ -9,4 +10,4 @@ invariant-loop-count g l = record {
 }
 
 abbrev pub decreases-loop-count : goal.decreases-loop-count
-decreases-loop-count g l = 256 * (200010 - l.reader.number) - l.held
+decreases-loop-count g l = 256 * (MOST_LONG_LINES + 10 - l.reader.number) - l.held
