@@ -35,6 +35,7 @@ pub(crate) struct Body {
 
 impl Model for Body {
     ghost use Rattle.std.specs.Prelude.{◌≡◌, length};
+    ghost use Rattle.vm_types.specs.declared.limits.TheConstants.{PAGE_BYTES};
     ghost use Rattle.disk_trait.specs.Body.{BodyView, IsThere, bytes_at, calls_at, faults_at};
 
     ghost Value = { BodyView };

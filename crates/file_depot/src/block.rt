@@ -59,6 +59,7 @@ impl<R: Files + Drop + Send> Block for FileBlock<R> {
     ghost use Rattle.std.proofs.Common.{lit<};
     ghost use Rattle.std.proofs.Math.Nat.{le_trans, lt_of_le_of_lt};
     ghost use Rattle.std.proofs.lemmas.List.{length-replicate};
+    ghost use Rattle.vm_types.specs.declared.limits.TheConstants.{PAGE_BYTES};
 
     ghost tells = { record { content = false; plan = false } };
 

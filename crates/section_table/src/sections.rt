@@ -26,6 +26,7 @@ pub struct Sections {
 
 impl Model for Sections {
     ghost use Rattle.std.specs.Prelude.{◌≡◌, ◌*◌, length};
+    ghost use Rattle.vm_types.specs.declared.limits.TheConstants.{PRIVATE_PAGES};
     ghost use Rattle.section_table.specs.SectionTable.{SectionTable};
 
     ghost Value = { SectionTable };

@@ -25,6 +25,7 @@ pub struct Ring {
 
 impl Model for Ring {
     ghost use Rattle.std.specs.Prelude.{◌≡◌, ◌≤◌, vec_len};
+    ghost use Rattle.vm_types.specs.declared.limits.TheConstants.{MOST_EXTENT};
     ghost use Rattle.vm_types.specs.Ring.{Ring as RingOfSlots, filled, fixed};
 
     ghost Value = { RingOfSlots };

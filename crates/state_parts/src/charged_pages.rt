@@ -24,6 +24,7 @@ pub struct ChargedPages {
 
 impl Model for ChargedPages {
     ghost use Rattle.std.specs.Prelude.{◌≡◌, ◌*◌, length};
+    ghost use Rattle.vm_types.specs.declared.limits.TheConstants.{PRIVATE_PAGES};
     ghost use Rattle.state_parts.specs.ChargedTable.{ChargedTable};
 
     ghost Value = { ChargedTable };

@@ -22,6 +22,7 @@ pub struct SwapPages {
 
 impl Model for SwapPages {
     ghost use Rattle.std.specs.Prelude.{◌≡◌, ◌*◌, length};
+    ghost use Rattle.vm_types.specs.declared.limits.TheConstants.{MOST_EXTENT};
     ghost use Rattle.state_parts.specs.SwapTable.{SwapTable};
 
     ghost Value = { SwapTable };
