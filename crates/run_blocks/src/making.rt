@@ -76,7 +76,13 @@ fn make_section<D: Depot>(
     for i in 0..section_block_count(section) as u32 {
         let from = PAGE_BYTES as usize * i as usize;
         let id = BlockId::Section(s, i);
-        make_one(config, depot, id, &bytes[from..from + PAGE_BYTES as usize], blocks)?;
+        make_one(
+            config,
+            depot,
+            id,
+            &bytes[from..from + PAGE_BYTES as usize],
+            blocks,
+        )?;
     }
     Ok(())
 }
