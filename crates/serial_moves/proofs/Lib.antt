@@ -1,6 +1,5 @@
 pub mod SteadySeats
 pub mod LandedCarriers
-pub mod NextTasks
 pub mod Answered
 pub mod LeftProcesses
 pub mod Refused
