@@ -5,8 +5,8 @@ use Rattle.vm_state.specs.History.{pager}
 use Rattle.rundown.proofs.DirtyHeld.{few_pages, more_added}
 use Rattle.rundown.proofs.dirty.add_dirty.Goals as goal
 
-pub overflow_cast-i-end : goal.overflow_cast-i-end
-overflow_cast-i-end g c =
+pub overflow_cast-i-end-2 : goal.overflow_cast-i-end-2
+overflow_cast-i-end-2 g c =
     let few = few_pages c.args.state.now.config.sections (c.args.s).0 c.args.section.now c.run_law.ensures.formed.sections.pages (sym c.requires) in
     omega (arith, few, ap length c.items-bytes.ensures)
 
