@@ -1,8 +1,9 @@
 mod Counted
-mod Counts
 mod Dropped
 mod Entries
 pub mod Lies
+mod Marks
+mod Offered
 mod PageTables
 mod Places
 mod Swapped

@@ -1,13 +1,13 @@
-ghost use Rattle.std.specs.Prelude.{◌≡◌, false};
+ghost use Rattle.std.specs.Prelude.{◌≡◌};
 
 use std::marker::Model;
 
 /// A page in a slot, by its number, and whether it is locked there, and pinned in memory.
 #[derive(Clone, Copy, Debug)]
 pub struct Held {
-    vpn: u32,
-    locked: bool,
-    pinned: bool,
+    pub(crate) vpn: u32,
+    pub(crate) locked: bool,
+    pub(crate) pinned: bool,
 }
 
 impl Model for Held {
@@ -22,31 +22,6 @@ impl Model for Held {
 
 impl Held {
     ghost use Rattle.vm_types.specs.Ring.{is_fixed};
-
-    /// The page, neither locked nor pinned.
-    pub(crate) fn new(vpn: u32) -> Held
-        ensures { result ≡ record { vpn = vpn; locked = false; pinned = false } }
-    {
-        Held {
-            vpn,
-            locked: false,
-            pinned: false,
-        }
-    }
-
-    /// The page, locked or not.
-    pub(crate) fn with_lock(self, locked: bool) -> Held
-        ensures { result ≡ record self { locked = locked } }
-    {
-        Held { locked, ..self }
-    }
-
-    /// The page, pinned or not.
-    pub(crate) fn with_pin(self, pinned: bool) -> Held
-        ensures { result ≡ record self { pinned = pinned } }
-    {
-        Held { pinned, ..self }
-    }
 
     /// The number of the page.
     pub fn vpn(self) -> u32

@@ -1,8 +1,0 @@
-use Rattle.std.proofs.Common.{arith}
-use Rattle.std.proofs.lemmas.Grind.{common_steps}
-use Rattle.std.proofs.lemmas.List.Edits.{map_over_more}
-use Rattle.pager_model.specs.Ring.{unlocked_slot}
-use Rattle.shadow_tables.proofs.ring.unlock_slots.Goals as goal
-
-pub loop-slot-preserved : goal.loop-slot-preserved
-loop-slot-preserved c = grind (arith, common_steps, map_over_more unlocked_slot)
