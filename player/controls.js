@@ -235,8 +235,8 @@
       element("of-lines").textContent = run ? `of ${run.length}` : "";
       element("length").textContent = run ? `${run.length} lines` : "";
       element("judged").textContent = "";
-      element("fault-process").replaceChildren(make("option", "any"),
-        ...(run ? run.config.processes : []).map((spec, p) => make("option", Player.letter(p))));
+      const letters = (run ? run.config.processes : []).map((spec, p) => Player.letter(p));
+      Player.fill(element("fault-process"), letters.join(), () => ["any", ...letters].map((text) => make("option", text)));
     });
   };
 })(globalThis.Player = globalThis.Player || {});

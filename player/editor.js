@@ -16,6 +16,7 @@
   let typed = 0;
   let marks = { fault: null, request: 0 };
   let rows = 1;
+  let drawn = "";
   // What was measured last, so that a key needs no measuring.
   const seen = { row: 24, height: 300, top: 0, left: 0 };
 
@@ -118,6 +119,12 @@
   function draw() {
     const first = Math.max(1, Math.floor(seen.top / seen.row) + 1 - SPARE_ROWS);
     const last = Math.min(rows, first + Math.ceil(seen.height / seen.row) + 2 * SPARE_ROWS);
+    const { line, start, end } = marks.fault || {};
+    const key = [first, last, seen.top, seen.left, seen.row, marks.request, line, start, end].join();
+    if (key === drawn) {
+      return;
+    }
+    drawn = key;
     const numbers = [];
     for (let row = first; row <= last; row += 1) {
       numbers.push(numberNode(row));
@@ -125,7 +132,6 @@
     at("gutter").replaceChildren(...numbers);
     const bands = marks.request ? [band("here", marks.request)] : [];
     if (marks.fault) {
-      const { line, start, end } = marks.fault;
       bands.push(band("fault", line), band("word", line, start, end));
     }
     at("marks").replaceChildren(...bands);

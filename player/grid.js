@@ -4,7 +4,7 @@
 (function (Player) {
   const { make, strip, list, percent, table, letters, keepKeys, whenSeen } = Player.panelParts;
   const box = document.getElementById("grid");
-  const shown = { run: null, letter: "A", frames: false, byAddress: false, grid: null };
+  const shown = { run: null, letter: "A", frames: false, byAddress: false, grid: null, totals: "" };
 
   // ---- totals ----
 
@@ -89,8 +89,8 @@
     shown.run = run;
     const usable = Boolean(run && run.config.processes.length);
     box.classList.toggle("without", !usable);
-    note.textContent = usable ? "" : "There is no run yet.";
     if (!usable) {
+      note.textContent = "There is no run yet.";
       shown.grid = null;
       return;
     }
@@ -98,8 +98,16 @@
     process.box.hidden = run.config.processes.length < 2;
     shown.grid = Player.gridOf(run, Player.processNumber(shown.letter));
     note.textContent = noteText(run);
-    totals.replaceChildren(...Player.totalsNodes(shown.grid.totals));
+    showTotals(shown.grid.totals);
     show();
+  }
+
+  function showTotals(counted) {
+    const key = JSON.stringify(counted);
+    if (shown.totals !== key) {
+      shown.totals = key;
+      totals.replaceChildren(...Player.totalsNodes(counted));
+    }
   }
 
   function noteText(run) {

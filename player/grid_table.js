@@ -8,267 +8,106 @@
   const MOST_CELLS = 400;
   const MOST_TALL_CELLS = 1500;
   const ROWS_AT_FIRST = 30;
-  const STATE_LETTERS = { FREE: "F", MODIFIED: "M", WRITING: "W", READING: "R", RELEASE: "L",
-    READERROR: "E", BAD: "X" };
-  const RESULTS = { hit: "hit", fault: "fault", service: "done", swapped: "out", rundown: "end" };
-  const REFUSALS = { UNMAPPED: "unmap", PROTECTED: "prot", PAGEFILEFULL: "full", DISKFAULT: "disk",
-    INUSE: "in use", LOCKLIMIT: "locks", BADLIMIT: "limit" };
-  const ACCESS_LETTERS = { R: "r", W: "w", A: "a" };
-
-  // ---- rows ----
-
-  // The rows below the head: of each band its title, its own requests where they are other ones than the
-  // first band's, what it holds, its limits and its results.
-  function rowsOf(view) {
-    const rows = [];
-    view.bands.forEach((band, b) => {
-      if (band.title) {
-        rows.push({ kind: "title", band, name: band.title });
-      }
-      if (band.heads) {
-        rows.push({ kind: "page", band, name: "page" });
-      }
-      const held = view.frames ? band.grid.frames : band.grid.rows;
-      for (let number = 0; number < held; number += 1) {
-        rows.push({ kind: "held", band, number, name: `${view.frames ? "F" : ""}${number}` });
-      }
-      if (band.grid.limits) {
-        rows.push({ kind: "limit", band, name: "limit" });
-      }
-      rows.push({ kind: "result", band, name: "result", last: b === view.bands.length - 1 });
-    });
-    return rows;
-  }
-
-  function columnAt(view, at) {
-    const band = view.bands.find((one) => one.grid.columns[at]);
-    return band ? band.grid.columns[at] : null;
-  }
-
-  // ---- cells ----
-
-  function moveOf(moves, address) {
-    return moves.find((one) => one.address === address);
-  }
-
-  // Whether a page left and came back within one column, as a process does that is swapped out and in.
-  function cameBack(column, slot) {
-    return Boolean(slot && moveOf(column.left, slot.address) && moveOf(column.came, slot.address));
-  }
-
-  // What a slot held before and after a column, as a page that left, a page that stays or came, and the line.
-  function slotCell(view, column, before, after, number) {
-    const [old, now] = [before.slots[number] || null, after.slots[number] || null];
-    const changed = (old && old.address) !== (now && now.address) || cameBack(column, old);
-    return { left: changed && old ? old.address : "", page: now ? now.address : "",
-      came: Boolean(changed && now), hand: after.hand === number,
-      locked: Boolean(now && now.locked), pinned: Boolean(now && now.pinned) };
-  }
-
-  function slotWithFrame(slots, frame) {
-    return slots.find((slot) => slot && slot.frame === frame) || null;
-  }
-
-  function frameCell(view, column, before, after, number) {
-    const frame = after.frames[number];
-    const [old, now] = [slotWithFrame(before.slots, number), slotWithFrame(after.slots, number)];
-    const changed = (old && old.address) !== (now && now.address);
-    const cell = { left: changed && old ? old.address : "", page: now ? now.address : "",
-      came: Boolean(changed && now), hand: false,
-      locked: Boolean(now && now.locked), pinned: Boolean(now && now.pinned) };
-    if (!now && frame.page) {
-      Object.assign(cell, { other: otherLabel(view, frame.page), state: frame.state });
-    }
-    return cell;
-  }
-
-  // A page that isn't in the working set: its own process's by its number alone.
-  function otherLabel(view, page) {
-    if (!Player.isPrivate(page)) {
-      return page;
-    }
-    const label = Player.pageLabel(page.slice(2), view.byAddress);
-    return page[0] === view.letter ? label : `${page[0]}/${label}`;
-  }
-
-  function cellOf(view, row, at) {
-    const column = row.band.grid.columns[at];
-    if (!column) {
-      return null;
-    }
-    const [before, after] = [row.band.held[at - view.from], row.band.held[at - view.from + 1]];
-    const cell = (view.frames ? frameCell : slotCell)(view, column, before, after, row.number);
-    cell.hit = column.result === "hit" && cell.page !== "" &&
-      Player.pageNumber(cell.page) === Player.pageNumber(column.address);
-    const move = cell.came ? moveOf(column.came, cell.page) : cell.left && moveOf(column.left, cell.left);
-    cell.line = move ? move.line : column.line;
-    return cell;
-  }
-
-  function heldText(view, row, cell) {
-    const label = (address) => `page ${Player.pageLabel(address, view.byAddress)}`;
-    const where = `${view.frames ? "frame" : "slot"} ${row.number}`;
-    const words = [];
-    if (cell.page) {
-      words.push(label(cell.page) + (cell.came ? " came in" : cell.hit ? ", hit" : ""));
-    } else if (cell.other) {
-      words.push(`${cell.other}, ${cell.state === "ACTIVE" ? "in another working set" : cell.state}`);
-    }
-    if (cell.left) {
-      words.push(`${label(cell.left)} left`);
-    }
-    [["hand", "the hand is here"], ["locked", "locked"], ["pinned", "locked in memory"]]
-      .forEach(([name, text]) => cell[name] && words.push(text));
-    return `${where}: ${words.join("; ") || "empty"}`;
-  }
-
-  const CELL_CLASSES = ["came", "hit", "hand", "locked", "pinned"];
-
-  function heldNode(view, row, at) {
-    const cell = view.blank ? null : cellOf(view, row, at);
-    if (!cell) {
-      return make("td", "held");
-    }
-    const node = make("td", `held ${CELL_CLASSES.filter((name) => cell[name]).join(" ")}`);
-    const left = cell.left && Player.pageLabel(cell.left, view.byAddress);
-    if (left) {
-      node.append(make("s", "", left));
-    }
-    if (cell.page) {
-      node.append(make("b", "", Player.pageLabel(cell.page, view.byAddress)));
-    } else if (cell.other) {
-      node.classList.add("other", cell.state);
-      node.append(cell.other === left ? "" : make("i", "", cell.other),
-        make("small", "state", STATE_LETTERS[cell.state] || ""));
-    }
-    if (cell.locked || cell.pinned) {
-      node.append(make("small", "lock", cell.pinned ? "M" : "L"));
-    }
-    node.dataset.line = cell.line;
-    node.setAttribute("aria-label", `${requestText(view, at)}, ${heldText(view, row, cell)}`);
-    return node;
-  }
-
-  function requestText(view, at) {
-    const column = columnAt(view, at);
-    return column && column.number ? `request ${column.number}` : "between requests";
-  }
-
-  function resultNode(view, row, at) {
-    const column = row.band.grid.columns[at];
-    const node = make("td", "result");
-    if (!column || view.blank) {
-      return node;
-    }
-    const small = column.result === "fault" ? Player.faultKind(column.faults[0].kind).short
-      : REFUSALS[column.why] || "";
-    const refused = column.result === "refused" || column.kind === "service" && small !== "";
-    node.classList.add(refused ? "refused" : column.result);
-    node.append(make("b", "", refused ? "no" : RESULTS[column.result]), make("small", "", small));
-    node.dataset.line = column.line;
-    node.setAttribute("aria-label", Player.columnText(column, view.byAddress));
-    return node;
-  }
-  function limitNode(view, row, at) {
-    const after = row.band.held[at - view.from + 1];
-    const column = row.band.grid.columns[at];
-    const node = make("td", column && column.limit ? "limit came" : "limit");
-    if (column) {
-      node.append(make("b", "", String(after.limit)));
-      node.dataset.line = column.line;
-      node.setAttribute("aria-label", `${requestText(view, at)}, limit ${after.limit}`);
-    }
-    return node;
-  }
-
-  // The head of a column: its request's number, the page, and what is done there.
-  function headNode(view, at) {
-    const column = columnAt(view, at);
-    const node = make("th", "ref");
-    node.scope = "col";
-    if (!column) {
-      return node;
-    }
-    const access = Player.accessOf(column);
-    node.classList.add(column.kind, access || "none");
-    node.append(make("small", "", column.number ? String(column.number) : ""));
-    if (column.kind === "reference") {
-      node.append(make("b", "", Player.pageLabel(column.address, view.byAddress)),
-        make("i", "", ACCESS_LETTERS[access]));
-    } else {
-      node.append(make("em", "", column.service || RESULTS[column.result]));
-    }
-    node.dataset.line = column.line;
-    node.setAttribute("aria-label", Player.columnHead(column, view.byAddress));
-    return node;
-  }
-
-  // A request of a band whose requests aren't those of the head.
-  function pageNode(view, row, at) {
-    const column = row.band.grid.columns[at];
-    const node = make("td", "page");
-    if (column) {
-      const text = column.kind === "reference" ? Player.pageLabel(column.address, view.byAddress) : column.service;
-      node.append(make("b", "", text), make("small", "", ACCESS_LETTERS[Player.accessOf(column)] || ""));
-      node.dataset.line = column.line;
-      node.setAttribute("aria-label", Player.columnText(column, view.byAddress));
-    }
-    return node;
-  }
-
-  const NODES = { held: heldNode, limit: limitNode, result: resultNode, page: pageNode };
-
-  function cellNode(view, r, at) {
-    const row = view.rows[r - 1];
-    const node = r === 0 ? headNode(view, at) : NODES[row.kind](view, row, at);
-    node.setAttribute("data-row", r);
-    node.setAttribute("data-column", at);
-    node.setAttribute("aria-colindex", at + 2);
-    const column = columnAt(view, at);
-    const marks = [["event", column && column.kind === "event"], ["here", at === view.here],
-      ["marked", at === view.marked], ["unlike", r === 0 && view.unlike && view.unlike.has(at)]];
-    marks.forEach(([name, holds]) => holds && node.classList.add(name));
-    return node;
-  }
 
   // ---- the table ----
+  // A row that is drawn: its node, the node behind its last cell, and its cells by their columns, each with
+  // its node and with what was drawn of it. Of a table of the same shape only cells that look otherwise than
+  // before are drawn anew.
 
-  function gap(tag) {
-    const node = make(tag, "gap");
+  function gap() {
+    const node = make("td", "gap");
     node.setAttribute("aria-hidden", "true");
     return node;
   }
 
-  function rowNode(view, r) {
+  function newRow(view, r) {
     const row = view.rows[r - 1];
     const node = make("tr", r === 0 ? "refs" : row.kind);
     node.setAttribute("aria-rowindex", r + 1);
-    if (r > 0 && row.kind === "title") {
-      const title = make("th", "", make("span", "", row.name));
-      title.colSpan = view.to - view.from + 3;
-      node.append(title);
-      return node;
-    }
-    const name = make("th", "name");
-    name.scope = r === 0 ? "col" : "row";
-    name.append(...(r === 0 ? [make("small", "", "request"), make("b", "", "page"), make("i", "", "access")]
-      : [make("span", "", row.kind === "held" && !view.frames ? `slot ${row.name}` : row.name)]));
-    node.append(name, gap("td"));
-    for (let at = view.from; at < view.to; at += 1) {
-      node.append(cellNode(view, r, at));
-    }
-    node.append(gap("td"));
     node.classList.toggle("last", r > 0 && Boolean(row.last));
-    return node;
+    if (r > 0 && row.kind === "title") {
+      node.append(make("th", "", make("span")));
+      return { node, end: null, cells: new Map() };
+    }
+    const name = make("th", "name", ...(r === 0
+      ? [make("small", "", "request"), make("b", "", "page"), make("i", "", "access")] : [make("span", "", row.name)]));
+    name.scope = r === 0 ? "col" : "row";
+    const end = gap();
+    node.append(name, gap(), end);
+    return { node, end, cells: new Map() };
   }
 
-  function columnNodes(view) {
+  // Where a cell leads, and what is said of it.
+  function putWords(drawn, { line, label }) {
+    if (drawn.line !== line) {
+      drawn.line = line;
+      drawn.node.dataset.line = line || "";
+    }
+    if (drawn.label !== label) {
+      drawn.label = label;
+      drawn.node.setAttribute("aria-label", label);
+      drawn.node.removeAttribute("title");
+    }
+  }
+
+  function newCell(cell, look, r, at) {
+    const node = make(cell.tag, cell.className, ...cell.parts.map(([tag, className, text]) => make(tag, className, text)));
+    if (cell.tag === "th") {
+      node.scope = "col";
+    }
+    node.dataset.row = r;
+    node.dataset.column = at;
+    node.setAttribute("aria-colindex", at + 2);
+    const drawn = { node, look, line: 0, label: "" };
+    putWords(drawn, cell);
+    return drawn;
+  }
+
+  function drawCell(view, drawn, r, at) {
+    const cell = Player.gridCell(view, r, at);
+    const look = `${cell.className}|${cell.parts.join("|")}`;
+    if (drawn && drawn.look === look) {
+      putWords(drawn, cell);
+      return drawn;
+    }
+    return newCell(cell, look, r, at);
+  }
+
+  function drawRow(view, row, r) {
+    if (!row.end) {
+      row.node.firstChild.colSpan = view.to - view.from + 3;
+      row.node.firstChild.firstChild.textContent = view.rows[r - 1].name;
+      return;
+    }
+    const outside = [...row.cells.keys()].filter((at) => at < view.from || at >= view.to);
+    outside.forEach((at) => {
+      row.cells.get(at).node.remove();
+      row.cells.delete(at);
+    });
+    let next = row.end;
+    for (let at = view.to - 1; at >= view.from; at -= 1) {
+      const before = row.cells.get(at);
+      const drawn = drawCell(view, before, r, at);
+      if (drawn !== before) {
+        row.cells.set(at, drawn);
+        next.before(drawn.node);
+        if (before) {
+          before.node.remove();
+        }
+      }
+      next = drawn.node;
+    }
+  }
+
+  function drawColumns(view) {
     const widths = [view.headWidth, view.from * view.cellWidth,
       ...new Array(view.to - view.from).fill(view.cellWidth), (view.count - view.to) * view.cellWidth];
-    return widths.map((width) => {
-      const node = make("col");
+    while (view.columns.children.length > widths.length) {
+      view.columns.lastChild.remove();
+    }
+    widths.forEach((width, i) => {
+      const node = view.columns.children[i] || view.columns.appendChild(make("col"));
       node.style.width = `${width}px`;
-      return node;
     });
   }
 
@@ -280,37 +119,62 @@
     return node;
   }
 
-  function bodyNodes(view) {
-    const nodes = [];
-    if (view.top > 0) {
-      nodes.push(spacer(view, view.top));
-    }
-    for (let r = 1 + view.top; r <= view.bottom; r += 1) {
-      nodes.push(rowNode(view, r));
-    }
+  // The numbers of the rows that are drawn: the head, those in view, and the results at the end.
+  function rowNumbers(view) {
     const last = view.rows.length;
+    const numbers = [0];
+    for (let r = 1 + view.top; r <= view.bottom; r += 1) {
+      numbers.push(r);
+    }
+    return view.bottom < last ? [...numbers, last] : numbers;
+  }
+
+  function layRows(view) {
+    const last = view.rows.length;
+    view.drawn = new Map(rowNumbers(view).map((r) => [r, newRow(view, r)]));
+    const nodes = [...view.drawn.values()].slice(1).map((row) => row.node);
+    if (view.top > 0) {
+      nodes.unshift(spacer(view, view.top));
+    }
     if (view.bottom < last - 1) {
-      nodes.push(spacer(view, last - 1 - view.bottom));
+      nodes.splice(nodes.length - 1, 0, spacer(view, last - 1 - view.bottom));
     }
-    if (view.bottom < last) {
-      nodes.push(rowNode(view, last));
-    }
-    return nodes;
+    view.table.replaceChildren(view.columns, make("thead", "", view.drawn.get(0).node), make("tbody", "", ...nodes));
+  }
+
+  // What makes a table another one: its rows, and which of them are drawn how high.
+  function shapeOf(view) {
+    return [view.frames, view.top, view.bottom, view.rowHeight,
+      ...view.rows.map(({ kind, name }) => kind + (kind === "title" ? "" : name))].join();
   }
 
   function drawTable(view) {
     view.bands.forEach((band) => {
       band.held = Player.gridWindow(band.grid, view.from, view.to, view.frames);
     });
-    view.rows = rowsOf(view);
+    view.rows = Player.gridRows(view);
     view.table.style.width = `${view.headWidth + view.count * view.cellWidth}px`;
     view.table.setAttribute("aria-rowcount", view.rows.length + 1);
     view.table.setAttribute("aria-colcount", view.count + 1);
     const { focused } = view;
-    view.table.replaceChildren(make("colgroup", "", ...columnNodes(view)),
-      make("thead", "", rowNode(view, 0)), make("tbody", "", ...bodyNodes(view)));
+    drawColumns(view);
+    const shape = shapeOf(view);
+    if (view.shape !== shape) {
+      view.shape = shape;
+      layRows(view);
+    }
+    view.drawn.forEach((row, r) => drawRow(view, row, r));
     view.focused = focused;
+    showHere(view);
     placeFocus(view);
+  }
+
+  // The cells of the column of the line that is shown.
+  function showHere(view) {
+    const nodes = [...view.drawn.values()].map((row) => row.cells.get(view.here)).filter(Boolean).map(({ node }) => node);
+    view.hereNodes.filter((node) => !nodes.includes(node)).forEach((node) => node.classList.remove("here"));
+    nodes.forEach((node) => node.classList.add("here"));
+    view.hereNodes = nodes;
   }
 
   // ---- the part in view ----
@@ -336,7 +200,7 @@
 
   // The columns and rows that have to be there for what is in view.
   function rangeOf(view) {
-    const rows = rowsOf(view).length;
+    const rows = Player.gridRows(view).length;
     const { left, width, top, height } = view.box;
     if (view.count * rows <= MOST_CELLS) {
       return { from: 0, to: view.count, top: 0, bottom: rows };
@@ -397,7 +261,8 @@
   // ---- focus ----
 
   function nodeAt(view, [r, at]) {
-    return view.table.querySelector(`[data-row="${r}"][data-column="${at}"]`);
+    const cell = view.drawn.has(r) && view.drawn.get(r).cells.get(at);
+    return cell ? cell.node : null;
   }
 
   // The focus stays on its cell where the table is drawn anew; one cell can be reached by Tab.
@@ -406,14 +271,18 @@
     if (!node) {
       return;
     }
+    const before = view.reached;
+    view.reached = node;
     node.setAttribute("tabindex", 0);
-    if (view.focused) {
+    if (view.focused && document.activeElement !== node) {
       node.focus({ preventScroll: true });
+    }
+    if (before && before !== node) {
+      before.removeAttribute("tabindex");
     }
   }
 
   function focusOn(view, r, at) {
-    view.table.querySelectorAll("[tabindex]").forEach((one) => one.removeAttribute("tabindex"));
     view.focus = [r, at];
     view.focused = true;
     reveal(view, at, r);
@@ -515,9 +384,14 @@
     const view = { bands: [{ grid, title: "" }], letter: grid.letter, count: grid.columns.length, from: 0,
       to: grid.columns.length, here: -1, marked: -1, frames: false, byAddress: false, blank };
     view.bands[0].held = Player.gridWindow(grid, 0, view.to, false);
-    view.rows = rowsOf(view);
-    const table = make("table", "grid plain", make("caption", "unseen", caption), make("thead", "", rowNode(view, 0)),
-      make("tbody", "", ...view.rows.map((unused, i) => rowNode(view, i + 1))));
+    view.rows = Player.gridRows(view);
+    const rows = [null, ...view.rows].map((unused, r) => {
+      const row = newRow(view, r);
+      drawRow(view, row, r);
+      return row.node;
+    });
+    const table = make("table", "grid plain", make("caption", "unseen", caption), make("thead", "", rows[0]),
+      make("tbody", "", ...rows.slice(1)));
     table.querySelectorAll(".gap").forEach((node) => node.remove());
     return make("div", "plain-box", table);
   };
@@ -537,12 +411,11 @@
   }
 
   function markColumn(view, at) {
-    view.table.querySelectorAll(".here").forEach((node) => node.classList.remove("here"));
     view.here = at;
     if (at >= 0) {
       reveal(view, at);
-      view.table.querySelectorAll(`[data-column="${at}"]`).forEach((node) => node.classList.add("here"));
     }
+    showHere(view);
   }
 
   // A table in this box; `go` is called with the line of a cell that is chosen, and its column.
@@ -553,7 +426,8 @@
     const scroll = make("div", "grid-scroll", table);
     const view = { scroll, table, go, bands: [], rows: [], count: 0, here: -1, marked: -1, focus: [0, 0],
       focused: false, from: 0, to: 0, top: 0, bottom: 0, frames: false, byAddress: false,
-      box: { left: 0, top: 0, width: 0, height: 0 } };
+      box: { left: 0, top: 0, width: 0, height: 0 }, columns: make("colgroup"), drawn: new Map(), shape: "",
+      hereNodes: [], reached: null };
     box.append(scroll);
     listen(view);
     watch(view);

@@ -33,6 +33,12 @@
     return node;
   }
 
+  // All that is drawn of a line.
+  function keyOf(line) {
+    const record = Session.run.records[line - 1];
+    return `${line} ${Session.run.length} ${seen.row} ${className(record, line)} ${record.text}`;
+  }
+
   // Draws the rows in sight; unless all are to be drawn anew, only if others are in sight now.
   function draw(anew) {
     if (!Session.run) {
@@ -45,8 +51,7 @@
     }
     [first, last] = [from, to];
     const lines = Array.from({ length: to - from + 1 }, (unused, i) => from + i);
-    const key = lines.map((line) => className(Session.run.records[line - 1], line) + Session.run.records[line - 1].text);
-    Player.fill(element("lines-all"), `${from} ${seen.row} ${Session.run.length} ${key.join("\n")}`, () => lines.map(row));
+    Player.patch(element("lines-all"), lines, keyOf, row);
   }
 
   function reveal(line) {

@@ -41,10 +41,14 @@
     const select = parts.make("select");
     const box = parts.make("label", "field", parts.make("span", "", title), select);
     select.addEventListener("change", () => changed(select.value));
+    let filled = "";
     const fill = (values, chosen) => {
       const wanted = chosen === undefined ? select.value : chosen;
-      select.replaceChildren(...values.map(([value, text]) =>
-        Object.assign(parts.make("option", "", text), { value })));
+      if (filled !== JSON.stringify(values)) {
+        filled = JSON.stringify(values);
+        select.replaceChildren(...values.map(([value, text]) =>
+          Object.assign(parts.make("option", "", text), { value })));
+      }
       select.value = values.some(([value]) => value === wanted) ? wanted : (values[0] || [""])[0];
       return select.value;
     };

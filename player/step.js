@@ -139,7 +139,7 @@
       if (run && run !== drawn) {
         drawn = run;
         verdict = null;
-        most = { free: Math.max(...sample(run.series.free)), modified: Math.max(...sample(run.series.modified)) };
+        most = { free: greatest(run.series.free), modified: greatest(run.series.modified) };
         Player.clearViews(run.config);
         drawReport(run);
       }
@@ -148,9 +148,7 @@
     Session.on("look", draw);
   };
 
-  // So many values of a long series that their greatest is near its own.
-  function sample(series) {
-    const stride = Math.ceil(series.length / 1000);
-    return series.filter((unused, i) => i % stride === 0);
+  function greatest(series) {
+    return series.reduce((most, value) => Math.max(most, value), 0);
   }
 })(globalThis.Player = globalThis.Player || {});

@@ -23,21 +23,26 @@
     return lists.reduce((most, series) => series.reduce((a, b) => Math.max(a, b), most), 1);
   }
 
-  // The least, the greatest and the last value of a series in each column.
-  function columns(series, width) {
+  // The corners of a series' curve, as columns of the picture with values: in each column its least, its
+  // greatest and its last one. Where it stays the same there is no corner.
+  function corners(series, width) {
     const last = series.length - 1;
     const found = [];
+    let value = series[0];
     for (let x = 0; x < width; x += 1) {
       const from = Math.floor((x * last) / width);
       const to = Math.max(from, Math.floor(((x + 1) * last) / width));
-      let [low, high] = [Infinity, -Infinity];
+      let [low, high] = [value, value];
       for (let i = from; i <= to; i += 1) {
         low = Math.min(low, series[i]);
         high = Math.max(high, series[i]);
       }
-      found.push([low, high, series[to]]);
+      if (low !== value || high !== value || x === 0) {
+        found.push([x, value], [x, low], [x, high], [x, series[to]]);
+        value = series[to];
+      }
     }
-    return found;
+    return [...found, [width - 1, value]];
   }
 
   function height(value, most) {
@@ -45,22 +50,19 @@
   }
 
   function drawSeries(context, series, most, { name, letter }) {
-    const points = columns(series, box.right - box.left);
+    const points = corners(series, box.right - box.left);
     context.strokeStyle = colour(name === "faults" ? "--faults" : `--${name}line`);
     context.fillStyle = context.strokeStyle;
     context.setLineDash(DASHES[name]);
     context.lineWidth = name === "faults" ? 2.2 : 1.6;
     context.beginPath();
-    points.forEach(([low, high, last], x) => {
-      const at = box.left + x;
-      context[x ? "lineTo" : "moveTo"](at, height(low, most));
-      context.lineTo(at, height(high, most));
-      context.lineTo(at, height(last, most));
+    points.forEach(([x, value], i) => {
+      context[i ? "lineTo" : "moveTo"](box.left + x, height(value, most));
     });
     context.stroke();
     context.setLineDash([]);
     if (letter) {
-      drawLetter(context, letter, height(points[points.length - 1][2], most) + box.type / 3);
+      drawLetter(context, letter, height(points[points.length - 1][1], most) + box.type / 3);
     }
   }
 
@@ -141,32 +143,32 @@
     return Math.round(Math.max(0, Math.min(1, share)) * run.length);
   }
 
-  function tableNodes(run, lines) {
+  function headNode() {
     const head = make("tr");
     ["line", "faults", "free frames", "modified list"].forEach((text) => {
       head.append(Object.assign(make("th", text), { scope: "col" }));
     });
-    const rows = lines.map((line) => {
-      const row = make("tr");
-      const button = make("button", String(line));
-      button.type = "button";
-      button.setAttribute("aria-label", `Show line ${line}`);
-      button.addEventListener("click", () => Session.go(line));
-      const first = make("td");
-      first.append(button);
-      row.append(first, ...["faults", "free", "modified"].map((name) =>
-        make("td", String(run.series[name][line]))));
-      return row;
-    });
-    return [head, ...rows];
+    return head;
+  }
+
+  function rowNode(run, line) {
+    const row = make("tr");
+    const button = make("button", String(line));
+    button.type = "button";
+    button.setAttribute("aria-label", `Show line ${line}`);
+    button.addEventListener("click", () => Session.go(line));
+    const first = make("td");
+    first.append(button);
+    row.append(first, ...["faults", "free", "modified"].map((name) => make("td", String(run.series[name][line]))));
+    return row;
   }
 
   // The run at some lines, in numbers.
   function drawTable(run) {
     const lines = [...new Set(Array.from({ length: TABLE_ROWS + 1 }, (unused, i) =>
       Math.round((i * run.length) / TABLE_ROWS)))];
-    Player.fill(element("run-table"), lines.map((line) => line + wordsAt(run, line)).join(), () =>
-      tableNodes(run, lines));
+    Player.patch(element("run-table"), ["head", ...lines], (line) => (line === "head" ? line : line + wordsAt(run, line)),
+      (line) => (line === "head" ? headNode() : rowNode(run, line)));
   }
 
   function onKey(event) {

@@ -36,6 +36,25 @@
     }
   }
 
+  // Fills a box with a node for each item. The key says all that is drawn of an item: where it is the same
+  // as before, the node stays.
+  const patched = new WeakMap();
+  function patch(box, items, keyOf, nodeOf) {
+    const before = patched.get(box) || [];
+    const keys = items.map(keyOf);
+    keys.forEach((key, i) => {
+      if (i >= before.length) {
+        box.append(nodeOf(items[i]));
+      } else if (before[i] !== key) {
+        box.children[i].replaceWith(nodeOf(items[i]));
+      }
+    });
+    for (let i = before.length; i > keys.length; i -= 1) {
+      box.lastElementChild.remove();
+    }
+    patched.set(box, keys);
+  }
+
   // An address with its page number behind it, where numbers are wished.
   function numbered(address) {
     return Session.numbers ? `${address} (${Player.pageNumber(address)})` : address;
@@ -244,5 +263,5 @@
     });
   };
 
-  Object.assign(Player, { make, element, fill, numbered, pageName, cutList });
+  Object.assign(Player, { make, element, fill, patch, numbered, pageName, cutList });
 })(globalThis.Player = globalThis.Player || {});

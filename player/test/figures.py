@@ -4,7 +4,7 @@
     python3 player/test/figures.py [--bounds]
 
 With --bounds the status is 1 where a figure is above its bound. Status 0 too where there is no browser,
-which it says. Each time is the least of some tries, since a machine has other work.
+which it says. Each time is the least of some tries, since a machine has other work; of a key it is the median.
 """
 
 import argparse
@@ -31,20 +31,23 @@ MORE_MEMORY = 1.2
 
 FIRST_RUN = "return Session.run ? performance.getEntriesByName('first-run')[0].startTime : 0;"
 
-# Changes a letter of a request at each key, as the editor gets them, and times each: until all is laid out, or
-# until the next picture of the screen. With each key other pages are faulted.
+# Types a letter over one of a request, and times each key: until all is laid out, or until the next picture of the
+# screen. The requests are the last ones, one after another, or the first one, with which all that follows changes.
 KEYSTROKES = """
-const [text, count, toScreen, done] = arguments;
+const [text, count, first, toScreen, done] = arguments;
 Player.editor.change({ text }, false);
 const field = document.getElementById("trace");
+field.focus();
 const times = [];
 const end = (begun) => { times.push(performance.now() - begun); setTimeout(next, 30); };
 function next() {
   if (times.length === count) { done(times.sort((a, b) => a - b)); return; }
-  const at = field.value.lastIndexOf("A W1 00000", field.value.length - 20 * (1 + times.length)) + 10;
-  field.setRangeText("468A"[times.length % 4], at, at + 1, "end");
+  const request = "A W1 00000";
+  const at = request.length + (first ? field.value.indexOf(request)
+    : field.value.lastIndexOf(request, field.value.length - 20 * (1 + times.length)));
+  field.setSelectionRange(at, at + 1);
   const begun = performance.now();
-  field.dispatchEvent(new InputEvent("input", { bubbles: true }));
+  document.execCommand("insertText", false, "468A"[times.length % 4]);
   document.body.getBoundingClientRect();
   if (toScreen) { requestAnimationFrame(() => setTimeout(() => end(begun))); } else { end(begun); }
 }
@@ -194,12 +197,33 @@ def measure_long(figures, browser, folder):
 
 def measure_keys(figures, browser):
     text = trace_of(100)
-    browser.wait_for(KEYSTROKES, text, KEYS, False)
-    times = browser.wait_for(KEYSTROKES, text, KEYS, False)
-    figures.say("a keystroke on 100 requests, all of the view (least)", times[0], "ms", 30)
-    print(f"  median {times[len(times) // 2]:.1f} ms, most {times[-1]:.1f} ms")
-    shown = browser.wait_for(KEYSTROKES, text, KEYS, True)
-    print(f"  until the next picture of the screen: least {shown[0]:.1f} ms, median {shown[len(shown) // 2]:.1f} ms")
+    for first, where in ((False, "at the end"), (True, "that changes all")):
+        browser.wait_for(KEYSTROKES, text, KEYS, first, False)
+        times = browser.wait_for(KEYSTROKES, text, KEYS, first, False)
+        figures.say(f"a keystroke on 100 requests, {where} (median)", middle(times), "ms", 30)
+        print(f"  least {times[0]:.1f} ms, most {times[-1]:.1f} ms; its work on the page {work_of_key(browser, text, first)}")
+        shown = browser.wait_for(KEYSTROKES, text, KEYS, first, True)
+        print(f"  until the next picture of the screen: least {shown[0]:.1f} ms, median {middle(shown):.1f} ms")
+
+
+def middle(times):
+    return times[len(times) // 2]
+
+
+def work_of_key(browser, text, first):
+    """What a key costs the page's own thread, as the browser counts it: other programs don't change it much."""
+    browser.command("Performance.enable", timeDomain="threadTicks")
+    before = counts(browser)
+    browser.wait_for(KEYSTROKES, text, KEYS, first, False)
+    after = counts(browser)
+    browser.command("Performance.disable")
+    spent = {name: (after[name] - before[name]) / (KEYS + 1) for name in after}
+    return (f"{1000 * spent['ScriptDuration']:.1f} ms of scripts, {1000 * spent['RecalcStyleDuration']:.1f} of styles, "
+            f"{1000 * spent['LayoutDuration']:.1f} of layout, {spent['LayoutCount']:.1f} layouts")
+
+
+def counts(browser):
+    return {one["name"]: one["value"] for one in browser.command("Performance.getMetrics")["metrics"]}
 
 
 def measure(figures, browser, folder):

@@ -9,8 +9,8 @@ import threading
 TOP = pathlib.Path(__file__).resolve().parent.parent.parent
 PLAYER = TOP / "player"
 SCRIPTS = """log.js trace.js model.js changes.js report.js run.js explain.js examples.js kinds.js
-test/panel_session.js panels.js grid_model.js grid_table.js grid.js trace_edit.js curve_model.js curve_chart.js
-curve.js compare_model.js compare.js exercise.js exercise_sheet.js lessons.js questions.js""".split()
+test/panel_session.js panels.js grid_model.js grid_cells.js grid_table.js grid.js trace_edit.js curve_model.js
+curve_chart.js curve.js compare_model.js compare.js exercise.js exercise_sheet.js lessons.js questions.js""".split()
 PANELS = (("grid", "References and faults"), ("curve", "What more frames are worth"),
           ("compare", "Two runs side by side"), ("questions", "Questions"))
 
