@@ -102,7 +102,7 @@
     }
     return fault ? { line: Number(fault[1]), said: `Not legal: line ${fault[1]} of the log is the first that no run ` +
       "of this trace writes after those before it." }
-      : { line: 0, said: "The trace is at fault, so no log is one of its runs." };
+      : { line: 0, said: "The trace has an error, so no log is one of its runs." };
   }
 
   async function judge() {

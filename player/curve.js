@@ -71,7 +71,7 @@
   function chooseLimit(value) {
     const [least, most] = [Number(limit.input.min), Number(limit.input.max)];
     if (value < least || value > most) {
-      follows.textContent = `A limit is at least ${least} here, so ${value} can be studied and not be run.`;
+      follows.textContent = `A limit is at least ${least} here, so ${value} can be studied, but not run.`;
       return;
     }
     write({ limit: value });

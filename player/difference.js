@@ -129,7 +129,7 @@
   function pageWords({ name, before, after }) {
     const words = [];
     if (before.lies !== after.lies) {
-      words.push(after.lies ? `${name} lies in ${after.lies}` : `${name} lies in no block`);
+      words.push(after.lies ? `${name} is on disk in ${after.lies}` : `${name} is in no block now`);
     }
     if (before.block !== after.block && after.block >= 0) {
       words.push(`${name} is assigned block P:${after.block}`);

@@ -9,8 +9,8 @@
       open ? " open" : ""}`.trim());
     node.dataset.place = `block:${name}`;
     node.append(make("b", name), page ? ` ${pageName(page)}` : "");
-    node.title = page && !lies ? "The page has this block, and doesn't lie there now: it was changed, or isn't " +
-      "written yet." : "";
+    node.title = page && !lies ? "This block is the page's, but doesn't have its bytes: the page was changed, or " +
+      "isn't written yet." : "";
     return node;
   }
 

@@ -1,7 +1,7 @@
 "use strict";
 // Says a line in words: what happened, why, and by which rule. The state is the one before it.
 (function (Player) {
-  const { seatName, blockName, costOf, writeReason, limitReason, leavingReason } = Player.reasons;
+  const { seatName, blockName, counted, costOf, writeReason, limitReason, leavingReason } = Player.reasons;
   const MODES = { K: "kernel", E: "executive", S: "supervisor" };
   const WIDTHS = { 1: "byte", 2: "word", 4: "longword" };
   const EXPLAIN = {};
@@ -35,36 +35,36 @@
     UNMAPPED: ["no mapping covers the address", "a reference to an unmapped page is refused"],
     PROTECTED: ["the page's protection code doesn't allow this access in this mode",
       "protection is judged after the mapping and before the page file"],
-    PAGEFILEFULL: ["the page would be touched for the first time, and as many pages are touched " +
-      "already as the page file has blocks", "each touched page needs a page file block of its own"],
+    PAGEFILEFULL: ["this would be the first touch of the page, and all blocks of the page file are charged to " +
+      "other pages already", "a page is charged a block of the page file at its first touch"],
     DISKFAULT: ["a transfer that the process asked for has failed",
-      "one failed transfer refuses at most one request, and of the one who asked for it"],
+      "a failed transfer refuses at most one request, of the process that asked for it"],
   };
 
   EXPLAIN.DENIED = function (state, record) {
     const { mode, kind, width } = access(record);
-    const verb = { R: "reading", W: "writing", A: "adding to" }[kind];
+    const what = { R: "read of", W: "write to", A: "addition to" }[kind];
     const [why, rule] = DENIALS[record.why];
-    return { what: `Process ${record.seat} is refused ${verb} the ${width} at ` +
-      `${record.address}${mode}: ${record.why}.`,
+    return { what: `Process ${record.seat}'s ${what} the ${width} at ${record.address}${mode} is refused: ` +
+      `${record.why}.`,
       why: `${capital(why)}. Nothing is read or written.`, rule: `Refusal: ${rule}.` };
   };
 
   EXPLAIN.ZERO = function (state, record) {
     const page = Player.pageAt(state, Player.processNumber(record.seat), record.address);
     return { what: `Process ${record.seat} touches ${page} for the first time and gets frame ` +
-      `F${record.frame} with zeros.`,
+      `F${record.frame}, filled with zeros.`,
       why: "The page is demand zero: it has no bytes on disk yet, so nothing is read. " +
         "It is charged one page file block, and counts as modified.",
       rule: "Demand zero fault: the frame is taken from the head of the free list." };
   };
 
   const BACK_REASONS = {
-    FREE: "The frame was on the free list and still held the page.",
-    MODIFIED: "The frame was on the modified list and still held the page.",
-    WRITING: "The page's write to disk is still open; the write goes on beside it.",
-    RELEASE: "The page was evicted during its write, which is still open.",
-    ACTIVE: "Another valid entry has the page in this frame; both share it now.",
+    FREE: "The frame is on the free list and still has the page's bytes.",
+    MODIFIED: "The frame is on the modified list and still has the page's bytes.",
+    WRITING: "The page is just being written to disk. The write goes on.",
+    RELEASE: "The page left its working set while it was being written. The write goes on.",
+    ACTIVE: "Another page table entry is valid for this frame; both share it now.",
   };
 
   EXPLAIN.BACK = function (state, record) {
@@ -77,15 +77,15 @@
           "meanwhile. It counts as modified again.",
         rule: "Inswap: a page that is still in memory comes back without a read." };
     }
-    return { what: `Process ${record.process} faults ${page} back from frame F${record.frame}.`,
+    return { what: `Process ${record.process} has a page fault on ${page}, which is still in frame F${record.frame}.`,
       why: `${BACK_REASONS[record.state]} No read is needed.`,
-      rule: record.state === "ACTIVE" ? "Shared page fault: the entry points to the frame in use."
-        : "Soft page fault: a page in transition is taken back without a transfer." };
+      rule: record.state === "ACTIVE" ? "Shared page fault: the page table entry names the frame that is in use."
+        : "Soft page fault: the page becomes valid again without a transfer." };
   };
 
   EXPLAIN.COLLIDE = function (state, record) {
-    return { what: `${capital(seatName(record.seat))} faults on the page of frame ` +
-      `F${record.frame}, which is being read.`,
+    return { what: `${capital(seatName(record.seat))} has a page fault on the page of frame ` +
+      `F${record.frame}, which is just being read.`,
       why: `The read that line ${record.start} began is still open. Nothing is read a second time.`,
       rule: "Collided page fault: the later process waits for the read of the first." };
   };
@@ -94,9 +94,9 @@
     const error = state.frames[record.frame] && state.frames[record.frame].state === "READERROR";
     return { what: `Frame F${record.frame} gives up ${record.page} and is empty now.`,
       why: error ? "Its read failed, so its bytes are of no use."
-        : "It is the oldest frame of the free list, and a page needs a frame.",
-      rule: error ? "Read error: the frame is emptied and heads the free list."
-        : "Frames are taken from the head of the free list; the page has to be read again later." };
+        : "It is at the head of the free list, and a page needs a frame.",
+      rule: error ? "Read error: the frame is emptied and goes to the head of the free list."
+        : "Frames are taken from the head of the free list; if the page is needed again, it has to be read." };
   };
 
   // A private page that is read from a section's block is a first copy on reference.
@@ -111,7 +111,7 @@
     const from = `A read of ${blockName(record.block)} into frame F${record.frame} begins`;
     if (record.role === "NEAR") {
       return { what: `${from}, for ${record.page}.`,
-        why: "No one asked for the page yet. Its block follows the one before in the cluster.",
+        why: "Nobody has asked for this page yet. Its block follows the one before in the cluster.",
         rule: "Read cluster: neighbours are read along with the page that was asked for." };
     }
     const page = `${record.process}/${record.address}`;
@@ -133,15 +133,15 @@
       why: near ? "The page was read as a neighbour. It waits at the tail of the free list."
         : `The page is in the working set of ${flight ? `process ${flight.process}` : "its process"} now.`,
       rule: near ? "Read cluster: neighbours become free pages that a fault can take back."
-        : "Landing of a read: the entry becomes valid." };
+        : "End of a read: the page table entry becomes valid." };
   };
 
   function failures(record) {
-    return `The block had failed ${record.before} times before, and ${record.after} times now.`;
+    return `Failed transfers of this block: ${record.before} before, ${record.after} now.`;
   }
 
   EXPLAIN.INFAIL = function (state, record) {
-    return { what: `The read into frame F${record.frame} that line ${record.start} began failed.`,
+    return { what: `The read into frame F${record.frame} that line ${record.start} began has failed.`,
       why: failures(record), rule: "Read error: the next line empties the frame." };
   };
 
@@ -151,7 +151,7 @@
     return { what: `${capital(seatName(record.seat))} begins to write ` +
       `${frame ? frame.page : "a page"} from frame F${record.frame} to ${blockName(record.block)}.`,
       why: swap ? "Its process is leaving memory, and the page goes to the swap block of its slot."
-        : `The frame heads the modified list, and can't be reused before its page is written. ${
+        : `The frame is at the head of the modified list, and can't be reused before its page is written. ${
           writeReason(state, record, run, line)}`,
       rule: swap ? "Outswap: private pages are written to swap blocks."
         : "Modified page writing: pages are taken from the head of the modified list." };
@@ -166,22 +166,22 @@
         why: "The page was changed while it was written, so it has to be written again.",
         rule: "A change during a write isn't lost: the modify mark stays." };
     }
-    return { what: `The write of frame F${record.frame} to ${where} succeeded; ` +
-      `${frame ? frame.page : "the page"} lies there now.`,
+    return { what: `The write of frame F${record.frame} to ${where} succeeded: ` +
+      `${frame ? frame.page : "the page"} is on disk now.`,
       why: frame && frame.shares ? "The page is still in a working set, so its frame stays active."
         : "No working set has the page, so its frame goes to the tail of the free list.",
-      rule: "Landing of a write: an unchanged page without shares is free." };
+      rule: "End of a write: the frame of an unmodified page that no working set has is free." };
   };
 
   EXPLAIN.OUTFAIL = function (state, record) {
-    return { what: `The write of frame F${record.frame} that line ${record.start} began failed.`,
+    return { what: `The write of frame F${record.frame} that line ${record.start} began has failed.`,
       why: failures(record),
       rule: "A failed write loses nothing: the page counts as modified again." };
   };
 
   const EVICT_REASONS = {
-    REPLACE: ["its working set is at its limit$, and this is the first page from the hand on that " +
-      "isn't locked", "Replacement: the ring is gone round from the hand, and locked pages stay"],
+    REPLACE: ["its working set is at its limit$, and this is the first page, from the hand on, that " +
+      "isn't locked", "Replacement: the search begins at the hand, and skips locked pages"],
     PURGE: ["it asked to purge this range", "Purge: pages of the range that aren't locked leave"],
     DELETE: ["it deletes this range", "Deletion: valid pages leave before the range is unmapped"],
     LEAVE: ["it is being swapped out", "Outswap: the working set is emptied"],
@@ -221,13 +221,13 @@
     LEAVING: ["begins to be swapped out", ""],
     GONE: ["is swapped out", "All pages that aren't locked in memory have left its working set."],
     COMING: ["begins to be swapped in", "It has a request to make, and its pages have to be in memory."],
-    RESIDENT: ["is in memory again", "All its pages have come back from its swap blocks."],
+    RESIDENT: ["is in memory again", "All pages that left with it are back in its working set."],
   };
 
   EXPLAIN.TURN = function (state, record, run) {
     const what = TURNS[record.status][0];
     const why = TURNS[record.status][1] || leavingReason(state, record, run);
-    return { what: `Process ${record.process} ${what}; ${seatName(record.seat)} does it.`, why,
+    return { what: `Process ${record.process} ${what}; this is the work of ${seatName(record.seat)}.`, why,
       rule: `Swapper: the status of process ${record.process} is ${record.status} now.` };
   };
 
@@ -242,17 +242,17 @@
     INUSE: "Refused: some page of the range is mapped already.",
     UNMAPPED: "Refused: some page of the range isn't mapped.",
     LOCKLIMIT: "Refused: more pages would be locked than the process may lock.",
-    BADLIMIT: "Refused: the limit is below what locks need, or above the ring's slots.",
+    BADLIMIT: "Refused: the limit would be below what locked pages need, or above the number of slots.",
     DISKFAULT: "Refused: a transfer that the service needed has failed.",
   };
 
   EXPLAIN.SERVED = function (state, record) {
     const range = record.service === "ADJWSL" ? ` to ${record.limit}`
       : ` (${record.pages} from ${record.address} on)`;
-    const count = record.counted === undefined ? "" : ` Pages that this was done to: ${record.counted}.`;
+    const count = record.counted === undefined ? "" : `, for ${counted(record.counted, "page")}`;
     return { what: `Process ${record.seat} ${SERVICE_NAMES[record.service]}${range}: ` +
       `${record.answer}.`,
-      why: record.answer === "OK" ? `The service is done.${count}` : ANSWERS[record.answer],
+      why: record.answer === "OK" ? `The service is done${count}.` : ANSWERS[record.answer],
       rule: `System service ${record.service}.` };
   };
 
@@ -265,7 +265,7 @@
   EXPLAIN.FRAME = (state, record) => ({ what: `Frame F${record.frame} is ${record.state} and holds ` +
     `${record.page}.`,
     why: `It ${record.modify ? "has to be written before it is reused" : "is unmodified"}; ` +
-      `${record.shares} valid entries share it, and ${record.refs} references hold it.`,
+      `page table entries that are valid for it: ${record.shares}; references that hold it: ${record.refs}.`,
     rule: "Report of the page frames." });
   EXPLAIN.BADFRAME = (state, record) => ({ what: `Frame F${record.frame} is bad and never used.`,
     why: "The trace says so.", rule: "Report of the page frames." });
@@ -277,10 +277,10 @@
     rule: "Report of the processes." });
   EXPLAIN.DIRTY = (state, record) => ({ what: `The change of ${record.page} was never written to ` +
     "its section.", why: "Its last write failed, or it could not leave a working set.",
-    rule: "Rundown: what could not be written is named." });
-  const STATUSES = ["the run is whole", "the words of the command line are wrong",
-    "the input is no trace", "reading the input failed", "writing the output failed",
-    "a shared page is dirty at the end", "a block could not be made", "out of memory",
+    rule: "Rundown: each shared page that couldn't be written back is listed." });
+  const STATUSES = ["the run is whole", "the command line is wrong",
+    "the input isn't a trace", "reading the input failed", "writing the output failed",
+    "a change of a shared page wasn't written back", "a block could not be made", "out of memory",
     "the log isn't legal"];
   EXPLAIN.STATUS = (state, record) => ({ what: `The program ended with status ${record.status}: ` +
     `${STATUSES[record.status]}.`, why: "", rule: "Exit status." });

@@ -36,7 +36,7 @@
   }
 
   Player.totalsNodes = function (totals) {
-    const others = [["refused", "references refused, not among these"], ["services", "services"],
+    const others = [["refused", "refused references, not counted above"], ["services", "services"],
       ["left", "pages that left the working set"]].filter(([name]) => totals[name]);
     return [table("totals", "Hits and faults", Player.totalRows(totals)),
       make("h3", "", "The faults"), make("ul", "kinds", ...kindNodes(totals)),
@@ -49,7 +49,7 @@
     shown.letter = letter;
     draw();
   });
-  const down = strip("Down", [["slots", "slots"], ["frames", "frames"]], "slots", (value) => {
+  const down = strip("Rows", [["slots", "slots"], ["frames", "frames"]], "slots", (value) => {
     shown.frames = value === "frames";
     show();
   });

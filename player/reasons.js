@@ -85,7 +85,7 @@
     return run && run.serial
       ? `The list has ${pages}. The writer begins after an answer when there are more than HILIMIT, ${HILIMIT}, ` +
         `and goes on until at most LOLIMIT, ${LOLIMIT}, are left.`
-      : `The list has ${pages}, more than LOLIMIT, ${LOLIMIT}, and the writer has work until at most so many are left.`;
+      : `The list has ${pages}, more than LOLIMIT, ${LOLIMIT}: the writer goes on until at most that many are left.`;
   }
 
   // A process writes by itself for one of two reasons; the state, and what it does next, tell which.
@@ -97,7 +97,7 @@
       return `The modified list has ${counted(state.modified.length, "page")}, and WAITLIMIT is ${WAITLIMIT}: ` +
         `process ${record.seat} can evict no page to it before some are written.`;
     }
-    return lacks ? `Process ${record.seat} lacks a frame: the free list is empty, and a page that is written frees one.`
+    return lacks ? `Process ${record.seat} needs a frame: the free list is empty, and writing a page frees one.`
       : `Why process ${record.seat} writes just now can't be known from the log: frames are free, and the list ` +
         `has fewer pages than WAITLIMIT, ${WAITLIMIT}.`;
   }
@@ -137,10 +137,10 @@
     const since = `${had} in ${counted(AWSTIME, "reference")}`;
     if (record.faults > PFRATH) {
       return `${since}, more than PFRATH, ${PFRATH}: it may rise by WSINC, ${WSINC}, up to the quota, and ` +
-        "further only while frames are plenty.";
+        "beyond it only where enough frames are free.";
     }
     return record.faults < PFRATL
-      ? `${since}, fewer than PFRATL, ${PFRATL}: it falls by WSDEC, ${WSDEC}, as far as AWSMIN and locks allow.`
+      ? `${since}, fewer than PFRATL, ${PFRATL}: it falls by WSDEC, ${WSDEC}, as far as AWSMIN and locked pages allow.`
       : `${since}: neither more than PFRATH, ${PFRATH}, nor fewer than PFRATL, ${PFRATL}.`;
   }
 
@@ -155,9 +155,9 @@
     const lists = `the free list has ${counted(state.free.length, "frame")}, and the modified list ${
       state.modified.length}`;
     return state.free.length
-      ? `Why process ${record.seat}${coming} has it leave just now can't be known from the log: ${lists}.`
-      : `Process ${record.seat}${coming} lacks a frame: ${lists}. The resident process whose last answer is ` +
-        "the longest ago has to leave.";
+      ? `Why process ${record.seat}${coming} makes it leave just now can't be known from the log: ${lists}.`
+      : `Process ${record.seat}${coming} needs a frame: ${lists}. The resident process that was answered ` +
+        "longest ago has to leave.";
   }
 
   Player.reasons = { seatName, blockName, counted, costOf, writeReason, limitReason, leavingReason };

@@ -31,8 +31,8 @@ function reasonCases() {
   const writer = Player.makeRun("1 MPW OUT F0 P:0\n",
     "VMTRACE 1\nFRAMES 8\nPAGEFILE 8\nPROCESS A 2 2 2 0\nBODY\nEND\n", serial);
   return [
-    ["a process leaves", swapping, 17, ["Process C lacks a frame: the free list has 0 frames, and the modified list 0.",
-      "whose last answer is the longest ago"], []],
+    ["a process leaves", swapping, 17, ["Process C needs a frame: the free list has 0 frames, and the modified list 0.",
+      "that was answered longest ago"], []],
     ["an eviction of one that leaves", swapping, 26, ["Process A: it is being swapped out."], ["the process is being"]],
     ["done after a fault", belady, 12, ["was a page fault: line 11 ", "a soft fault"], ["A hit"]],
     ["done without a fault", belady, 19, ["A hit"], ["page fault"]],
@@ -42,9 +42,9 @@ function reasonCases() {
     ["the rundown of a log by threads", racing, racing.rundown + 12, [], ["HILIMIT"]],
     ["the rundown of a serial log", sharing, sharing.records.findIndex((one) => one.kind === "OUT") + 1,
       ["this is the rundown"], ["HILIMIT", "begins after an answer"]],
-    ["a process that lacks a frame", cluster, 12, ["Process A lacks a frame: the free list is empty"], ["WAITLIMIT"]],
-    ["a further page of its cluster", cluster, 13, ["written together with the page before"], ["lacks"]],
-    ["a list that is full", waiting, 8, ["The modified list has 1 page, and WAITLIMIT is 1"], ["lacks a frame"]],
+    ["a process that lacks a frame", cluster, 12, ["Process A needs a frame: the free list is empty"], ["WAITLIMIT"]],
+    ["a further page of its cluster", cluster, 13, ["written together with the page before"], ["needs a frame"]],
+    ["a list that is full", waiting, 8, ["The modified list has 1 page, and WAITLIMIT is 1"], ["needs a frame"]],
     ["a limit that rises", phases, 239, ["15 faults in 16 references, more than PFRATH"], []],
     ["the limit of an eviction", belady, 7, ["at its limit, 3 pages"], []],
   ];
@@ -129,7 +129,7 @@ function testFaults(same) {
     [["BODY", "A R8 0"], "TRACE 6 UNKNOWNWORD", "R8", "none of those"],
     [["MAPZERO B 0 4 UW"], "TRACE 5 NOSUCH", "B", "declares"],
     [["MAPSEC A 0 1 LIB 0 UW"], "TRACE 5 NOSUCH", "LIB", "declares"],
-    [["MAPZERO A 0x0 4 UW"], "TRACE 5 BADNUMBER", "0x0", "no number"],
+    [["MAPZERO A 0x0 4 UW"], "TRACE 5 BADNUMBER", "0x0", "isn't a number"],
     [["BAD 9"], "TRACE 5 OUTOFRANGE", "9", "beyond its bounds"],
     [["PROCESS B 1 1 1 0"], "TRACE 5 OUTOFRANGE", "", "beyond its bounds"],
     [["BAD 1", "BAD 1"], "TRACE 6 REPEATED", "1", "declared before"],
