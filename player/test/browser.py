@@ -1,4 +1,4 @@
-"""A small client of a browser's test driver (chromedriver), with the standard library alone."""
+"""A small client of a browser's test driver, with the standard library alone: what all browsers can do, and Chromium."""
 
 import base64
 import json
@@ -30,18 +30,67 @@ def find_browser():
     return browser, driver
 
 
-class Browser:
-    """One window of a browser without a screen."""
+class Window:
+    """One window of a browser, by the commands of WebDriver; `ask` hands one on to the browser."""
 
-    def __init__(self, width=1400, height=1500):
-        browser, driver = find_browser()
+    def ask(self, method, path, body=None):
+        raise NotImplementedError
+
+    def open(self, url):
+        self.ask("POST", "/url", {"url": url})
+
+    def find(self, selector):
+        found = self.ask("POST", "/element", {"using": "css selector", "value": selector})
+        return found[ELEMENT]
+
+    def click(self, selector):
+        self.ask("POST", f"/element/{self.find(selector)}/click", {})
+
+    def type(self, selector, text):
+        self.ask("POST", f"/element/{self.find(selector)}/value", {"text": text})
+
+    def give_files(self, selector, *files):
+        """Chooses files in a field for files."""
+        self.type(selector, "\n".join(str(one) for one in files))
+
+    def run(self, script, *words):
+        return self.ask("POST", "/execute/sync", {"script": script, "args": list(words)})
+
+    def wait_for(self, script, *words):
+        """A script that answers by calling its last argument."""
+        return self.ask("POST", "/execute/async", {"script": script, "args": list(words)})
+
+    def text(self, selector):
+        return self.run("return document.querySelector(arguments[0]).textContent", selector)
+
+    def press(self, keys):
+        """Presses and releases keys, wherever the focus is; a key of ALT is held until the end."""
+        held = "\ue00a" if keys.startswith("\ue00a") else ""
+        steps = [{"type": "keyDown", "value": held}] * bool(held)
+        for key in keys.removeprefix(held):
+            steps += [{"type": "keyDown", "value": key}, {"type": "keyUp", "value": key}]
+        steps += [{"type": "keyUp", "value": held}] * bool(held)
+        self.ask("POST", "/actions", {"actions": [{"type": "key", "id": "keys", "actions": steps}]})
+
+    def shot(self):
+        return self.ask("GET", "/screenshot")
+
+    def picture(self, name):
+        with open(name, "wb") as out:
+            out.write(base64.b64decode(self.shot()))
+
+
+class Driven(Window):
+    """A window of a browser that has a program as its driver, which is asked by HTTP."""
+
+    def __init__(self, driver, asked, surroundings=None):
         self.port = free_port()
-        self.driver = subprocess.Popen([driver, f"--port={self.port}"],
+        self.driver = subprocess.Popen([driver, f"--port={self.port}"], env=surroundings,
                                        stdout=subprocess.DEVNULL, stderr=subprocess.DEVNULL)
         self.window = ""
         try:
             self.wait_for_driver()
-            self.window = self.open_window(browser, width, height)
+            self.window = self.open_window(asked)
         except BaseException:
             self.driver.terminate()
             self.driver.wait()
@@ -54,15 +103,11 @@ class Browser:
                     return
             except OSError:
                 time.sleep(0.1)
-        raise Missing("chromedriver doesn't answer")
+        raise Missing("the browser's driver doesn't answer")
 
-    def open_window(self, browser, width, height):
-        words = ["--headless=new", "--no-sandbox", "--disable-gpu", "--disable-dev-shm-usage",
-                 f"--window-size={width},{height}"]
-        options = {"binary": browser, "args": words}
-        asked = {"capabilities": {"alwaysMatch": {"goog:chromeOptions": options}}}
+    def open_window(self, asked):
         try:
-            return self.call("POST", "/session", asked)["sessionId"]
+            return self.call("POST", "/session", {"capabilities": {"alwaysMatch": asked}})["sessionId"]
         except (OSError, RuntimeError) as fault:
             raise Missing(f"the browser doesn't start: {fault}") from None
 
@@ -79,33 +124,23 @@ class Browser:
     def ask(self, method, path, body=None):
         return self.call(method, f"/session/{self.window}{path}", body)
 
-    def open(self, url):
-        self.ask("POST", "/url", {"url": url})
+    def close(self):
+        try:
+            if self.window:
+                self.ask("DELETE", "")
+        finally:
+            self.driver.terminate()
+            self.driver.wait()
 
-    def find(self, selector):
-        found = self.ask("POST", "/element", {"using": "css selector", "value": selector})
-        return found[ELEMENT]
 
-    def click(self, selector):
-        self.ask("POST", f"/element/{self.find(selector)}/click", {})
+class Browser(Driven):
+    """One window of Chromium without a screen."""
 
-    def type(self, selector, text):
-        self.ask("POST", f"/element/{self.find(selector)}/value", {"text": text})
-
-    def run(self, script, *words):
-        return self.ask("POST", "/execute/sync", {"script": script, "args": list(words)})
-
-    def text(self, selector):
-        return self.run("return document.querySelector(arguments[0]).textContent", selector)
-
-    def press(self, keys):
-        """Presses and releases keys, wherever the focus is; a key of ALT is held until the end."""
-        held = "\ue00a" if keys.startswith("\ue00a") else ""
-        steps = [{"type": "keyDown", "value": held}] * bool(held)
-        for key in keys.removeprefix(held):
-            steps += [{"type": "keyDown", "value": key}, {"type": "keyUp", "value": key}]
-        steps += [{"type": "keyUp", "value": held}] * bool(held)
-        self.ask("POST", "/actions", {"actions": [{"type": "key", "id": "keys", "actions": steps}]})
+    def __init__(self, width=1400, height=1500):
+        browser, driver = find_browser()
+        words = ["--headless=new", "--no-sandbox", "--disable-gpu", "--disable-dev-shm-usage",
+                 f"--window-size={width},{height}"]
+        super().__init__(driver, {"goog:chromeOptions": {"binary": browser, "args": words}})
 
     def command(self, name, **words):
         """A command of the browser's own, such as a size of the screen or a scheme of colours."""
@@ -121,22 +156,3 @@ class Browser:
     def eyes(self, kind):
         """How the page is seen: none, deuteranopia, protanopia, tritanopia or achromatopsia."""
         self.command("Emulation.setEmulatedVisionDeficiency", type=kind)
-
-    def wait_for(self, script, *words):
-        """A script that answers by calling its last argument."""
-        return self.ask("POST", "/execute/async", {"script": script, "args": list(words)})
-
-    def shot(self):
-        return self.ask("GET", "/screenshot")
-
-    def picture(self, name):
-        with open(name, "wb") as out:
-            out.write(base64.b64decode(self.shot()))
-
-    def close(self):
-        try:
-            if self.window:
-                self.ask("DELETE", "")
-        finally:
-            self.driver.terminate()
-            self.driver.wait()

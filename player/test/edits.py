@@ -129,6 +129,15 @@ def test_kept(page):
     page.wait("return Session.run", "it stands again")
     page.same("the text is back", "00000077" in text_of(page), True)
     page.same("and the line", page.browser.text("#text"), "2 A DONE W4 00000000 00000077")
+    page.open("#example=swapping&line=35", keep=True)
+    page.wait("return Session.run && Session.line === 35", "a link's line")
+    page.browser.click("#undo")
+    page.same("what was there is not lost", "00000077" in text_of(page), True)
+
+
+def test_kept_long(page):
+    page.open()
+    page.wait("return Session.run", "the first example stands")
     long = FIRST_RUN.replace("END\n", "A R4 00000000\n" * 40_000 + "END\n")
     page.browser.run("Player.editor.change({ text: arguments[0] }, false)", long)
     page.wait("return Session.run.length > 40000", "a long trace runs", 60)
@@ -136,12 +145,6 @@ def test_kept(page):
     page.open(keep=True)
     page.wait("return Session.run && Session.run.length > 40000", "a long trace is back too", 60)
     page.same("whole", len(text_of(page)), len(long))
-    write(page, FIRST_RUN.replace("2A", "77"))
-    time.sleep(0.5)
-    page.open("#example=swapping&line=35", keep=True)
-    page.wait("return Session.run && Session.line === 35", "a link's line")
-    page.browser.click("#undo")
-    page.same("what was there is not lost", "00000077" in text_of(page), True)
 
 
 def test_link(page):
@@ -167,19 +170,19 @@ def test_link(page):
     page.wait("return Session.run.config.processes.length === 3 && Session.line === 20", "a changed link is followed")
 
 
-def test_background(page):
+def test_background(page, references=60_000):
     """A long trace runs in the background, says so, and can be stopped."""
     page.open()
     page.wait("return Session.run", "the first example stands")
-    text = four_programs(60_000)
+    text = four_programs(references)
     page.browser.run("window.texts = []; new MutationObserver(() => texts.push(document.getElementById('ran').textContent))"
                      ".observe(document.getElementById('ran'), { childList: true });"
                      "Player.editor.change({ text: arguments[0] }, false)", text)
-    page.wait("return Session.run.length > 60000", "the long run stands", 60)
+    page.wait(f"return Session.run.length > {references}", "the long run stands", 60)
     said = page.browser.run("return texts")
     page.same("it is said", any("in the background" in one for one in said), True)
     page.same("reading is said", any("Reading the log" in one for one in said), True)
-    page.has("what it has", page.browser.text("#ran"), "60000 references")
+    page.has("what it has", page.browser.text("#ran"), f"{references} references")
     before = page.browser.run("return Session.run.length")
     page.browser.run("Player.runInWorker = () => new Promise((ended, stopped) => { window.stopped = stopped; });"
                      "Player.stopWorker = () => window.stopped({ kind: 'stopped' });"
@@ -248,6 +251,7 @@ def test_edits(page, folder):
     test_faults(page)
     test_undo(page)
     test_kept(page)
+    test_kept_long(page)
     test_link(page)
     test_without_program(page)
     test_not_loaded(page)

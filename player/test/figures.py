@@ -201,7 +201,8 @@ def measure_keys(figures, browser):
         browser.wait_for(KEYSTROKES, text, KEYS, first, False)
         times = browser.wait_for(KEYSTROKES, text, KEYS, first, False)
         figures.say(f"a keystroke on 100 requests, {where} (median)", middle(times), "ms", 30)
-        print(f"  least {times[0]:.1f} ms, most {times[-1]:.1f} ms; its work on the page {work_of_key(browser, text, first)}")
+        print(f"  least {times[0]:.1f} ms, most {times[-1]:.1f} ms; its work on the page "
+              f"{work_of_key(browser, text, first)}")
         shown = browser.wait_for(KEYSTROKES, text, KEYS, first, True)
         print(f"  until the next picture of the screen: least {shown[0]:.1f} ms, median {middle(shown):.1f} ms")
 

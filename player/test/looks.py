@@ -165,6 +165,7 @@ def test_jumps(page):
         page.browser.screen(width, height)
         for name, first in [("swapping", 15), ("belady", 5), ("write-cluster", 8)]:
             show_example(page, name, first)
+            page.wait("return document.querySelector('#grid .grid').rows.length > 0", "the grid is drawn")
             before = page.browser.run(PLACES)
             for _ in range(12):
                 page.browser.run("document.getElementById('forward').click()")
@@ -287,6 +288,8 @@ def test_keys(page, here):
     page.same("a tenth by the line of time", at(page), line + 1 + tenth)
     page.has("which is said", page.browser.run("return document.getElementById('timeline').getAttribute('aria-valuetext')"),
              "faults so far")
+    page.browser.run("document.getElementById('run-table').scrollIntoView()")
+    page.wait("return document.querySelector('#run-table button').getClientRects().length > 0", "the table is laid out")
     page.browser.click("#run-table tr:nth-child(3) button")
     page.same("and by its table", at(page), round(page.browser.run("return Session.run.length") / 10))
 
