@@ -4,15 +4,19 @@
 #     make uninstall PREFIX=/usr/local [DESTDIR=..]
 #     make deb                                        a Debian package in out/
 #
-# docs/INSTALL.md says more.
+# With MACHINE=x86_64 or MACHINE=aarch64 for the machine that is named. docs/INSTALL.md says more.
 
 PREFIX = /usr/local
 DESTDIR =
 LIBDIR = $(PREFIX)/lib
 ZSHDIR = $(PREFIX)/share/zsh/site-functions
+MACHINE := $(shell uname -m)
+
+# what release/ has for this machine
+built = $(if $(filter aarch64,$(MACHINE)),release/aarch64,release)
 
 # the shared library, and the name by which programs that are linked with it ask for it, if it has one
-LIBRARY = release/libneqysbar.so
+LIBRARY = $(built)/libneqysbar.so
 SONAME := $(shell grep -aom 1 'libneqysbar\.so\.[0-9][0-9]*' $(LIBRARY))
 
 VERSION := $(shell cat VERSION)
@@ -39,16 +43,17 @@ help:
 
 install:
 	@release/is_of_sources || { echo "make: release/ isn't built from the sources that are here: release/make does it" >&2; exit 1; }
+	@case "$(MACHINE)" in x86_64 | aarch64) ;; *) echo "make: there is no program for $(MACHINE), but for x86_64 and aarch64" >&2; exit 1 ;; esac
 	@case "$(PREFIX)" in /*) ;; *) echo "make: PREFIX has to begin with /" >&2; exit 1 ;; esac
-	umask 022 && install -d "$(home)/release" "$(home)/help" "$(binaries)" "$(headers)" "$(libraries)/pkgconfig" \
+	umask 022 && install -d "$(home)/$(built)" "$(home)/help" "$(binaries)" "$(headers)" "$(libraries)/pkgconfig" \
 	    "$(manual)" "$(bash)" "$(zsh)" "$(page)" "$(documents)/docs" "$(documents)/python/neqysbar"
 	$(put_program) neqysbar "$(home)/"
-	$(put_program) release/neqysbar "$(home)/release/"
+	$(put_program) $(built)/neqysbar "$(home)/$(built)/"
 	$(put) VERSION "$(home)/"
 	$(put) $(TEXTS) "$(home)/help/"
 	ln -sf ../lib/neqysbar/neqysbar "$(binaries)/neqysbar"
 	$(put) library/neqysbar.h "$(headers)/"
-	$(put) release/libneqysbar.a "$(libraries)/"
+	$(put) $(built)/libneqysbar.a "$(libraries)/"
 	$(put) $(LIBRARY) "$(libraries)/$(or $(SONAME),libneqysbar.so)"
 	$(if $(SONAME),ln -sf $(SONAME) "$(libraries)/libneqysbar.so")
 	sed 's|@PREFIX@|$(PREFIX)|; s|@LIBDIR@|$(LIBDIR)|; s|@VERSION@|$(VERSION)|' packaging/neqysbar.pc.in >"$(libraries)/pkgconfig/neqysbar.pc"
@@ -70,4 +75,4 @@ uninstall:
 	    "$(libraries)/pkgconfig/neqysbar.pc" "$(manual)/neqysbar.1" "$(bash)/neqysbar" "$(zsh)/_neqysbar"
 
 deb:
-	packaging/deb
+	packaging/deb $(MACHINE)
