@@ -1,6 +1,7 @@
-"""Builds the wheel: the package, the version and the shared library of release/. No compiler is needed."""
+"""Builds the wheel: the package, the version and the shared library that release/ has for this machine. No compiler is needed."""
 
 import pathlib
+import platform
 import shutil
 
 from setuptools import Distribution, setup
@@ -10,8 +11,9 @@ from wheel.bdist_wheel import bdist_wheel
 
 HERE = pathlib.Path(__file__).resolve().parent
 PACKAGE = "neqysbar"
+RELEASE = HERE.parent / "release" / ("aarch64" if platform.machine() == "aarch64" else "")
 # what the package has from outside of this folder; a source distribution has it in the package
-OUTSIDE = {"libneqysbar.so": HERE.parent / "release", "VERSION": HERE.parent}
+OUTSIDE = {"libneqysbar.so": RELEASE, "VERSION": HERE.parent}
 
 
 def source_of(name):

@@ -6,13 +6,20 @@ import ctypes
 import functools
 import os
 import pathlib
+import platform
 from typing import Any, Optional, Sequence, Union
 
 HERE = pathlib.Path(__file__).resolve().parent
 NAME = "libneqysbar.so"
-# in a wheel the library stands beside this module, in the repository in release/
-PLACES = (HERE / NAME, HERE.parent.parent / "release" / NAME)
 PathLike = Union[str, "os.PathLike[str]"]
+
+
+def places() -> tuple[pathlib.Path, pathlib.Path]:
+    """Where the library stands in a wheel, beside this module, and in the repository, in what release/ has for this machine."""
+    release = HERE.parent.parent / "release"
+    if platform.machine() == "aarch64":
+        release /= "aarch64"
+    return HERE / NAME, release / NAME
 
 
 def library_path(path: Optional[PathLike] = None) -> str:
@@ -21,11 +28,11 @@ def library_path(path: Optional[PathLike] = None) -> str:
     If it isn't there this is an OSError that names the places.
     """
     named = path or os.environ.get("NEQYSBAR_LIBRARY")
-    places = (pathlib.Path(named),) if named else PLACES
-    for place in places:
+    tried = (pathlib.Path(named),) if named else places()
+    for place in tried:
         if place.is_file():
             return str(place.resolve())
-    looked = " or ".join(str(place) for place in places)
+    looked = " or ".join(str(place) for place in tried)
     raise OSError(f"there is no {looked}; NEQYSBAR_LIBRARY may name the library")
 
 

@@ -7,6 +7,7 @@ import subprocess
 import sys
 import threading
 import unittest
+from unittest import mock
 
 from places import EXAMPLES, examples, environment, status_of
 import neqysbar
@@ -47,6 +48,13 @@ class Runs(unittest.TestCase):
             [sys.executable, "-c", "import neqysbar\ntry:\n    neqysbar.run([])\nexcept OSError as fault:\n    print(fault)"],
             env={**environment(), "NEQYSBAR_LIBRARY": "/no/such/library.so"}, stdout=subprocess.PIPE, text=True, check=True)
         self.assertEqual(told.stdout, "there is no /no/such/library.so; NEQYSBAR_LIBRARY may name the library\n")
+
+    def test_machine(self):
+        """The library that a repository has is looked for where the one for this machine is."""
+        top = neqysbar.calls.HERE.parent.parent
+        for machine, folder in (("x86_64", "release"), ("aarch64", "release/aarch64")):
+            with mock.patch("platform.machine", return_value=machine):
+                self.assertEqual(neqysbar.calls.places()[1], top / folder / "libneqysbar.so")
 
     def test_version(self):
         self.assertEqual(neqysbar.__version__, (EXAMPLES.parent / "VERSION").read_text().strip())
