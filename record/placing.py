@@ -7,8 +7,8 @@ import itertools
 
 from keeping import Kept
 from request_arrays import Requests
-from trace_limits import (LETTERS, P0_PAGES, P1_END, P1_PAGES, PAGE_BYTES, PINS, PROCESSES, SECTION_PAGES, SERVICES,
-                          RecordError, most_requests)
+from trace_limits import (LETTERS, MOST_REQUESTS, P0_PAGES, P1_END, P1_PAGES, PAGE_BYTES, PINS, PROCESSES,
+                          SECTION_PAGES, SERVICES, RecordError)
 
 # more pages than all the places that a process may have: a recording that uses more is cut in any case
 PLACES = P0_PAGES + P1_PAGES + SECTION_PAGES
@@ -174,13 +174,12 @@ def pieces_of(reference, widths):
 def gather(recordings, options):
     """All requests of the recordings, up to the number that a trace may have."""
     found = Gathered(recordings)
-    room = most_requests(options.frames, bool(options.common))
     for source, number, reference in interleave(recordings, options.quantum):
         pieces = pieces_of(reference, options.widths)
         if reference[1] in PINS:
-            found.pins, room = True, most_requests(options.frames, True)
-        if len(found.requests) + len(pieces) * (1 + (reference[1] == "M")) > room:
-            found.cut_at(source, number, f"a trace has at most {room} requests")
+            found.pins = True
+        if len(found.requests) + len(pieces) * (1 + (reference[1] == "M")) > MOST_REQUESTS:
+            found.cut_at(source, number, f"a trace has at most {MOST_REQUESTS} requests")
             break
         if not found.add(source, number, reference, pieces):
             break

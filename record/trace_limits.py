@@ -24,35 +24,33 @@ PINS = ("LCKPAG", "ULKPAG")
 
 @dataclasses.dataclass(frozen=True)
 class Version:
-    """What a trace with this number in its first line may have; `pins` says that it may lock pages in
-    memory and have sections in the page file."""
+    """What a trace with this first line may have; `pins` says that it may lock pages in memory and have
+    sections in the page file, and counts the locks of all processes among the frames."""
 
+    first: str
     frames: int
     requests: int
     pins: bool
 
 
-VERSIONS = {
-    1: Version(frames=4096, requests=100_000, pins=False),
-    2: Version(frames=16_384, requests=100_000, pins=True),
-}
+# the first one that has what a trace needs is taken
+VERSIONS = [
+    Version("VMTRACE 1", frames=4096, requests=100_000, pins=False),
+    Version("VMTRACE 2", frames=16_384, requests=100_000, pins=True),
+    Version("LONGTRACE 2", frames=16_384, requests=8_000_000, pins=True),
+]
 LEAST_FRAMES = 8
-MOST_FRAMES = max(one.frames for one in VERSIONS.values())
-MOST_REQUESTS = max(one.requests for one in VERSIONS.values())
+MOST_FRAMES = max(one.frames for one in VERSIONS)
+MOST_REQUESTS = max(one.requests for one in VERSIONS)
 
 
 class RecordError(Exception):
     """What the user is told, as one sentence."""
 
 
-def most_requests(frames, pins):
-    """How many requests a trace may have that has so many frames, and pins or none."""
-    return max(one.requests for one in VERSIONS.values() if frames <= one.frames and (one.pins or not pins))
-
-
 def version_for(frames, requests, pins):
-    """The lowest version that may have all of this."""
-    return next(number for number, one in sorted(VERSIONS.items())
+    """The first version that may have all of this."""
+    return next(one for one in VERSIONS
                 if frames <= one.frames and requests <= one.requests and (one.pins or not pins))
 
 

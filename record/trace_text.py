@@ -3,8 +3,8 @@
 import textwrap
 
 from keeping import Kept
-from trace_limits import (GREATEST_EXTENT, LEAST_FRAMES, LETTERS, MOST_FRAMES, PAGE_BYTES, PAGEFILE, SERVICES, VERSIONS,
-                          CODES, RecordError, version_for)
+from trace_limits import (CODES, GREATEST_EXTENT, LEAST_FRAMES, LETTERS, MOST_FRAMES, PAGE_BYTES, PAGEFILE, SERVICES,
+                          RecordError, version_for)
 
 PARAMETERS = {
     "PFC": (1, 8), "HILIMIT": (0, 16384), "LOLIMIT": (0, 16384), "WAITLIMIT": (1, 16384),
@@ -39,7 +39,7 @@ def process_bounds(options, processes, version):
         if not lock + 2 <= limit <= quota <= extent <= GREATEST_EXTENT:
             raise RecordError(f"process {letter}: locks + 2 <= limit <= quota <= extent <= "
                               f"{GREATEST_EXTENT} doesn't hold of {lock}, {limit}, {quota}, {extent}")
-    pins = sum(locks) if VERSIONS[version].pins else 0
+    pins = sum(locks) if version.pins else 0
     if max(extents) + pins + 2 > options.frames:
         also = f"the locks of all processes, {pins}, " if pins else ""
         raise RecordError(f"the greatest extent, {max(extents)}, {also}and 2 are more than the "
@@ -131,7 +131,7 @@ def trace_lines(options, found, layout):
     """All lines of the trace. Those before the requests are checked before the first one is given."""
     version = version_for(options.frames, len(found.requests), found.pins or bool(options.common))
     bounds = process_bounds(options, len(found.owners), version)
-    head = [f"VMTRACE {version}"]
+    head = [version.first]
     head += head_comments(options, found, layout) if options.comments else []
     head += [f"FRAMES {options.frames}", f"PAGEFILE {options.pagefile or needed_blocks(layout)}"]
     head += [f"PARAM {name} {number}" for name, number in options.parameters.items()]

@@ -13,12 +13,19 @@ SERVICE = re.compile(r"([A-P]) (?:(ADJWSL) (\d+)|(?:(CRETVA|SETPRT)|(LCKPAG|ULKP
                      r"([0-9A-F]{8}) (\d+)(?: ([A-Z]+))?)")
 
 
+# of each first line its version, and the frames, requests and lines that a trace of it may have
+FIRST_LINES = {("VMTRACE", "1"): (1, 4096, 100_000, 200_000), ("VMTRACE", "2"): (2, 16_384, 100_000, 200_000),
+               ("LONGTRACE", "2"): (2, 16_384, 8_000_000, 16_000_000)}
+
+
 class Checker:
     """The state of one check. `fault` is the first rule that a line breaks, or empty."""
 
     def __init__(self):
         self.place = 0
         self.version = 0
+        self.most_frames = self.most_requests = 0
+        self.most_lines = 200_000
         self.frames = 0
         self.parameters = {}
         self.sections = {}
@@ -43,12 +50,15 @@ class Checker:
         return self.request(text) if self.place == 4 else "a line after END"
 
     def head(self, words):
-        frames = 16384 if self.version == 2 else 4096
-        name, low, high = [("VMTRACE", 1, 2), ("FRAMES", 8, frames), ("PAGEFILE", 1, 16384)][self.place]
-        if words[0] != name or len(words) != 2 or not low <= int(words[1]) <= high:
-            return f"the line {name} is missing or out of range"
-        self.version = int(words[1]) if name == "VMTRACE" else self.version
-        self.frames = int(words[1]) if name == "FRAMES" else self.frames
+        if self.place == 0:
+            if tuple(words) not in FIRST_LINES:
+                return "the first line is no version"
+            self.version, self.most_frames, self.most_requests, self.most_lines = FIRST_LINES[tuple(words)]
+        else:
+            name, low, high = [("FRAMES", 8, self.most_frames), ("PAGEFILE", 1, 16384)][self.place - 1]
+            if words[0] != name or len(words) != 2 or not low <= int(words[1]) <= high:
+                return f"the line {name} is missing or out of range"
+            self.frames = int(words[1]) if name == "FRAMES" else self.frames
         self.place += 1
         return ""
 
@@ -125,8 +135,7 @@ class Checker:
             return "a request's width"
         if (found[1], address // 512) not in self.mapped:
             return "a request of a page that isn't mapped"
-        return "more than 100,000 requests" if self.requests > 100_000 else ""
-
+        return "more requests than the version has" if self.requests > self.most_requests else ""
 
     def service(self, found):
         if ord(found[1]) - 65 >= len(self.extents):
@@ -150,10 +159,10 @@ def check(text):
     """The first fault as `line n: rule`, or an empty text for a trace that keeps the rules."""
     checker = Checker()
     lines = text.split("\n")
-    if lines.pop() != "" or len(lines) > 200_000:
-        return "the last line isn't ended, or there are more than 200,000 lines"
+    if lines.pop() != "":
+        return "the last line isn't ended"
     for number, line in enumerate(lines, 1):
-        fault = checker.line(line)
+        fault = checker.line(line) if number <= checker.most_lines else "more lines than the version has"
         if fault:
             return f"line {number}: {fault}"
     return "" if checker.place == 5 else "the trace has no END"

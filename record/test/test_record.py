@@ -5,6 +5,7 @@ What needs valgrind, SIMH's VAX or the built program is left out where they aren
 """
 
 import contextlib
+import dataclasses
 import gzip
 import io
 import os
@@ -195,7 +196,7 @@ class Parts(Case):
         self.refused("doesn't say where the program was loaded", "--from", "there", "--lackey", one)
         self.refused("--from there needs a recording of valgrind's lackey", "--from", "there", "--din", three)
         self.refused("--last can't go with", "--last", 3, "--count", 3, "--lackey", one)
-        self.refused("at most 100000", "--last", 100_001, "--lackey", one)
+        self.refused("at most 8000000", "--last", 8_000_001, "--lackey", one)
 
     def test_windows(self):
         one = self.file("one", self.LINES)
@@ -468,13 +469,15 @@ END
 
 class Limits(Case):
     def test_requests(self):
-        one = self.file("one", "".join(f" L {n % 64 * 8:x},8\n" for n in range(50_003)))
-        status, trace, messages = script("record.py", "--lackey", one)
-        self.assertEqual((status, check(trace), len(body(trace))), (0, "", 100_000))
-        self.assertIn("cut before reference 50001 of ", messages)
-        self.assertIn("! 50000 of the 50003 references of the recording (99.9 %), 100000 requests\n", trace)
-        self.assertRegex(trace, r"(?s)! \S+one: references 1 to 50000 of 50003\n! cut before reference 50001 of "
-                         r".*one: a trace has at\s(! )?most 100000 requests")
+        """A recording with more requests than a trace may have is cut; the limit is a small one here."""
+        one = self.file("one", "".join(f" L {n % 64 * 8:x},8\n" for n in range(1003)))
+        with unittest.mock.patch.object(placing, "MOST_REQUESTS", 2000):
+            status, trace, messages = call(record, "record", "--lackey", one)
+        self.assertEqual((status, check(trace), len(body(trace))), (0, "", 2000))
+        self.assertIn("cut before reference 1001 of ", messages)
+        self.assertIn("! 1000 of the 1003 references of the recording (99.7 %), 2000 requests\n", trace)
+        self.assertRegex(trace, r"(?s)! \S+one: references 1 to 1000 of 1003\n! cut before reference 1001 of "
+                         r".*one: a trace has at\s(! )?most 2000 requests")
 
     def test_pages(self):
         one = self.file("one", "".join(f" L {n * 512:x},4\n" for n in range(4098)))
@@ -490,20 +493,27 @@ class Limits(Case):
         self.assertIn(f"cut within reference 4096 of {two}: process A uses more than 4096 pages", messages)
 
     def test_versions(self):
-        """A version that may have more requests is taken where they are needed, and its limit holds."""
-        more = trace_limits.Version(frames=4096, requests=100_005, pins=False)
-        out = pathlib.Path(self.folder.name) / "out"
-        one = self.file("one", " L 0,4\n" * 100_010)
-        with unittest.mock.patch.dict(trace_limits.VERSIONS, {3: more}):
-            status, _, messages = call(record, "record", "--output", out, "--lackey", one)
+        """A trace is of the first version that has what it needs; the first two are small ones here."""
+        versions = [dataclasses.replace(one, requests=100) for one in trace_limits.VERSIONS[:2]]
+        lists = {count: self.file(f"{count}", "p R4 0\n" * count) for count in (100, 101)}
+        with unittest.mock.patch.object(trace_limits, "VERSIONS", [*versions, trace_limits.VERSIONS[2]]):
+            for words, count, first in [([], 100, "VMTRACE 1"), (["--frames", 4097], 100, "VMTRACE 2"),
+                                        ([], 101, "LONGTRACE 2"), (["--frames", 16_384], 101, "LONGTRACE 2")]:
+                trace = self.trace(*words, "--list", lists[count])
+                self.assertEqual((trace.split("\n")[0], len(body(trace))), (first, count))
+            words = ["--frames", 36, "--locks", 3, "--list", lists[101]]
+            self.refused("the locks of all processes, 3, and 2 are more than the 36 frames", *words)
+            self.assertEqual(self.trace("--count", 100, *words).split("\n")[0], "VMTRACE 1")
+
+    def test_long_trace(self):
+        """From 100,001 requests on a trace is a long one."""
+        one, out = self.file("one", "p R4 0\n" * 100_001), pathlib.Path(self.folder.name) / "out"
+        for words, first, count in [([], "LONGTRACE 2", 100_001), (["--count", 100_000], "VMTRACE 1", 100_000)]:
+            self.assertEqual(call(record, "record", *words, "--output", out, "--list", one)[0], 0)
             trace = out.read_text()
-            self.assertEqual((status, trace[:10], len(body(trace))), (0, "VMTRACE 3\n", 100_005))
-            self.assertIn("cut before reference 100006 of", messages)
-            for words, first, requests in [(["--frames", 5000], "VMTRACE 2\n", 100_000),
-                                           (["--count", 100_000], "VMTRACE 1\n", 100_000)]:
-                self.assertEqual(call(record, "record", *words, "--output", out, "--lackey", one)[0], 0)
-                trace = out.read_text()
-                self.assertEqual((trace[:10], len(body(trace))), (first, requests))
+            self.assertEqual((check(trace), trace.split("\n")[0], len(body(trace))), ("", first, count))
+        self.assertIn("100000 of the 100001 references of the recording (99.9 %), 100000 requests", trace)
+        self.assertEqual(trace_limits.MOST_REQUESTS, 8_000_000)
 
     def test_processes(self):
         text = "".join(f"p{n} R4 {n:x}00\n" for n in range(17))
@@ -558,7 +568,8 @@ class Checking(Case):
 
     def test_faults(self):
         self.assertEqual(check(self.GOOD), "")
-        for old, new in [("FRAMES 8", "FRAMES 7"), ("PAGEFILE 4", "PAGEFILE 0"),
+        self.assertEqual(check(self.GOOD.replace("VMTRACE 1", "LONGTRACE 2")), "")
+        for old, new in [("VMTRACE 1", "VMTRACE 3"), ("VMTRACE 1", "LONGTRACE 1"), ("FRAMES 8", "FRAMES 7"), ("PAGEFILE 4", "PAGEFILE 0"),
                          ("PAGEFILE 4\n", "PAGEFILE 4\nPARAM PFC 9\n"), ("LIB SHARED 2", "LIB SHARED 1"),
                          ("2 2 2 0", "2 2 7 0"), ("2 2 2 0", "2 2 2 1"), ("00000000 1 UW", "00000000 2 UW"),
                          ("0 UR", "0 XX"), ("MAPZERO A", "MAPZERO B"), ("A R4 00000000", "A R4 00000002"),
