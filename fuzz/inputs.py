@@ -12,7 +12,7 @@ LARGEST = 60_000  # bytes of an input to begin with
 
 # words of a trace, by what may stand in each other's place
 KINDS = (
-    "PARAM BAD SECTION DATA PROCESS MAPZERO MAPSEC FAIL BODY END FRAMES PAGEFILE VMTRACE LOG".split(),
+    "PARAM BAD SECTION DATA PROCESS MAPZERO MAPSEC FAIL BODY END FRAMES PAGEFILE VMTRACE LONGTRACE LOG".split(),
     "R1 R2 R4 W1 W2 W4 A4 KR4 ER1 SW2 UA4".split(),
     "CRETVA DELTVA SETPRT LKWSET ULWSET LCKPAG ULKPAG PURGWS ADJWSL".split(),
     "SHARED CRF PAGED".split(),
@@ -32,7 +32,13 @@ BOUNDS = (0, 1, 2, 3, 7, 8, 9, 15, 16, 17, 63, 64, 65, 255, 256, 511, 512, 513, 
           16383, 16384, 16385, 65535, 100000, 100001, 2**31 - 1, 2**31, 2**32 - 1, 2**32, 2**64)
 ADDRESSES = (0, 1, 3, 0x1FF, 0x200, 0x201, 0x400, 0x1FFE00, 0x200000, 0x3FFFFFFF, 0x40000000, 0x7FF7FE00, 0x7FF80000,
              0x7FFFFE00, 0x7FFFFFFC, 0x7FFFFFFF, 0x80000000, 0xFFFFFFFF)
+SECOND, LONG = b"VMTRACE 2\n", b"LONGTRACE 2\n"
 BYTES = (0, 9, 10, 13, 32, 33, 34, 47, 48, 57, 58, 64, 65, 126, 127, 128, 255)
+
+
+def as_long(data):
+    """A trace of version 2 as a long trace, or None for another one."""
+    return LONG + data[len(SECOND):] if data.startswith(SECOND) else None
 
 
 def stored():
@@ -45,7 +51,8 @@ def stored():
         if data.startswith(b"VMSDUMP1"):
             found["dump"].append(data)
         elif b"VMTRACE" in data:
-            found["log" if re.search(rb"(?m)^LOG\r?$", data) else "trace"].append(data)
+            one = found["log" if re.search(rb"(?m)^LOG\r?$", data) else "trace"]
+            one += [data] if as_long(data) is None else [data, as_long(data)]
 
     for pattern in ("examples/*.trace", "examples/*.dump", "examples/*/*.trace"):
         for path in sorted(TOP.glob(pattern)):
