@@ -63,9 +63,9 @@ def explained(name, heading, term):
     raise KeyError(f"{name} doesn't explain {term}")
 
 
-def trace(version=1, frames=40, pagefile=16, lines=(), process="4 4 4 0", processes=1, maps=(), body=()):
+def trace(version=1, frames=40, pagefile=16, lines=(), process="4 4 4 0", processes=1, maps=(), body=(), first="VMTRACE"):
     letters = [chr(65 + number) for number in range(processes)]
-    return "\n".join([f"VMTRACE {version}", f"FRAMES {frames}", f"PAGEFILE {pagefile}", *lines,
+    return "\n".join([f"{first} {version}", f"FRAMES {frames}", f"PAGEFILE {pagefile}", *lines,
                       *(f"PROCESS {letter} {process}" for letter in letters), *maps, "BODY", *body, "END", ""])
 
 
@@ -81,6 +81,7 @@ def data(count):
 # accepted, and refused
 BOUNDS = (
     ("VMTRACE v", "1 to 2", lambda n: trace(version=n), (1, 2), (0, 3)),
+    ("LONGTRACE v", "2 alone", lambda n: trace(n, first="LONGTRACE"), (2,), (0, 1, 3)),
     ("FRAMES n", "8 to 4096,", lambda n: trace(frames=n), (8, 4096), (7, 4097)),
     ("FRAMES n", "in version 2 to 16384", lambda n: trace(2, frames=n), (8, 16384), (7, 16385)),
     ("PAGEFILE n", "1 to 16384", lambda n: trace(pagefile=n), (1, 16384), (0, 16385)),
@@ -94,6 +95,8 @@ BOUNDS = (
     ("PROCESS x limit", "limit <= quota", lambda n: trace(process=f"{n} 4 4 0"), (2, 4), (1, 5)),
     ("PROCESS x limit", "quota <= extent", lambda n: trace(process=f"4 {n} 6 0"), (4, 6), (3, 7)),
     ("BODY", "100000 at most", lambda n: trace(body=["A R1 0"] * n), (0, 100000), (100001,)),
+    # that it takes no more than these the tests of the crates show
+    ("BODY", "behind LONGTRACE 8000000", lambda n: trace(2, body=["A R1 0"] * n, first="LONGTRACE"), (0, 100001), ()),
     ("x R4", "R1, R2, R4", lambda n: trace(body=[f"A R{n} 0"]), (1, 2, 4), (3, 8)),
     ("x W4", "W1, W2, W4", lambda n: trace(body=[f"A W{n} 0 1"]), (1, 2, 4), (3, 8)),
     ("x W4", "A4 adds", lambda n: trace(body=[f"A A{n} 0 1"]), (4,), (1, 2)),
