@@ -8,8 +8,8 @@ take turns, one reference each, a write to the process's next page, round and ro
 each process. It needs Python 3.9 and no packages.
 
 What would be no trace is refused: there are 1 to 16 processes, 8 to 4096 frames, at most 4096 pages for
-each process and 16384 for all, a limit from 2 to 1024 that leaves two frames, and at most 100000
-references of all processes.
+each process and 16384 for all, a limit from 2 to 1024 that leaves two frames, and at most 8000000
+references of all processes. With more than 100000 of them it is a long trace, LONGTRACE 2.
 """
 
 import sys
@@ -17,7 +17,8 @@ import sys
 from scripts import Refused, ended, number, words_of
 
 MOST_BLOCKS = 16_384
-MOST_REQUESTS = 100_000
+MOST_REQUESTS = 8_000_000
+MOST_SHORT_REQUESTS = 100_000
 MOST_LIMIT = 1024
 
 
@@ -46,7 +47,8 @@ def main():
     asked = asked_for()
     letters = [chr(65 + place) for place in range(asked.procs)]
     out = sys.stdout
-    out.write(f"VMTRACE 1\nFRAMES {asked.frames}\nPAGEFILE {asked.procs * asked.pages}\n")
+    first = "VMTRACE 1" if asked.procs * asked.refs <= MOST_SHORT_REQUESTS else "LONGTRACE 2"
+    out.write(f"{first}\nFRAMES {asked.frames}\nPAGEFILE {asked.procs * asked.pages}\n")
     for letter in letters:
         out.write(f"PROCESS {letter} {asked.limit} {asked.limit} {asked.limit} 0\n")
     for letter in letters:

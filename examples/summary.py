@@ -67,7 +67,7 @@ def entries_of(lines):
                 raise NoRun(f"line {number} is no entry: {line}") from None
         elif first == "STATUS":
             status = line.split(" ")[-1]
-        elif first in ("TRACE", "LOG", "MADE", "PAGES", "VMTRACE"):
+        elif first in ("TRACE", "LOG", "MADE", "PAGES", "VMTRACE", "LONGTRACE"):
             raise NoRun(f"this is no output of a run: {line}")
     if status not in ("0", "5") and not entries:
         raise NoRun("there is no entry in it, and no STATUS 0" if status is None else f"STATUS {status}")

@@ -108,7 +108,7 @@ class Summary(unittest.TestCase):
 
     def test_what_is_no_run_is_refused(self):
         for text, word in (("TRACE 3 OUTOFRANGE\nSTATUS 2\n", "TRACE 3 OUTOFRANGE"), ("", "no entry"),
-                           ("VMTRACE 1\n", "VMTRACE"), ("1 A ZERO\n", "line 1"), ("STATUS 6\n", "STATUS 6")):
+                           ("VMTRACE 1\n", "VMTRACE"), ("LONGTRACE 2\n", "LONGTRACE"), ("1 A ZERO\n", "line 1"), ("STATUS 6\n", "STATUS 6")):
             status, output, messages = script("summary.py", text=text)
             self.assertEqual((status, output), (2, ""))
             self.assertIn(word, messages)
@@ -159,6 +159,7 @@ class CyclingTrace(unittest.TestCase):
         for changed in ({}, {"procs": 1}, {"procs": 16, "refs": 10}, {"pages": 1, "limit": 2}, {"pages": 14},
                         {"frames": 8}, {"frames": 4096, "pages": 1024}, {"limit": 14}, {"limit": 2}, {"refs": 1},
                         {"procs": 4, "pages": 4096, "limit": 2}, {"procs": 1, "refs": 100000},
+                        {"procs": 1, "refs": 100001},
                         {"frames": 1026, "limit": 1024}):
             status, trace, messages = called("cycling_trace", *cycling(**changed))
             self.assertEqual((status, messages), (0, ""), changed)
@@ -167,7 +168,7 @@ class CyclingTrace(unittest.TestCase):
     def test_what_would_be_no_trace_is_refused(self):
         for changed in ({"procs": 0}, {"procs": 17}, {"procs": -1}, {"procs": "x"}, {"procs": ""}, {"procs": None},
                         {"pages": 0}, {"pages": 1}, {"pages": 4097}, {"pages": 15}, {"frames": 7}, {"frames": 4097},
-                        {"refs": 0}, {"refs": 100001}, {"refs": 33334}, {"limit": 0}, {"limit": 1}, {"limit": 15},
+                        {"refs": 0}, {"refs": 8000001}, {"refs": 2666667}, {"limit": 0}, {"limit": 1}, {"limit": 15},
                         {"limit": 1025, "frames": 4096}, {"pages": 1025, "frames": 4096},
                         {"procs": 5, "pages": 4096, "limit": 2}, {"pages": "\u0665"}):
             status, trace, messages = called("cycling_trace", *cycling(**changed))
