@@ -188,7 +188,7 @@ class Refused(Case):
 class Mutations(Case):
     """Recordings that are cut, or have a byte, a line or a record too many or too few."""
 
-    CHANGES = 150
+    CHANGES = 60
 
     def test_bytes(self):
         for form, (name, words) in SAMPLE_WORDS.items():

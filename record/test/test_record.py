@@ -288,7 +288,7 @@ class Files(Case):
         command = [sys.executable, str(HERE.parent / "record.py")]
         child = subprocess.Popen([*command, "--output", str(out), "--lackey", "-"], stdin=subprocess.PIPE,
                                  stderr=subprocess.PIPE)
-        child.stdin.write(b" L 0,4\n" * 100_000)
+        child.stdin.write(b" L 0,4\n" * 10_000)
         child.stdin.flush()
         deadline = time.monotonic() + 60
         while not os.listdir(folder) and time.monotonic() < deadline:
@@ -297,7 +297,7 @@ class Files(Case):
         messages = child.communicate()[1]
         self.assertEqual((child.returncode, messages), (2, b"record: broken off\n"))
         self.assertEqual(os.listdir(folder), [])
-        one = self.file("one", " L 0,4\n" * 90_000)
+        one = self.file("one", " L 0,4\n" * 20_000)
         child = subprocess.Popen([*command, "--lackey", str(one)], stdout=subprocess.PIPE, stderr=subprocess.PIPE)
         child.stdout.read(100)
         child.stdout.close()
@@ -507,13 +507,9 @@ class Limits(Case):
 
     def test_long_trace(self):
         """From 100,001 requests on a trace is a long one."""
-        one, out = self.file("one", "p R4 0\n" * 100_001), pathlib.Path(self.folder.name) / "out"
-        for words, first, count in [([], "LONGTRACE 2", 100_001), (["--count", 100_000], "VMTRACE 1", 100_000)]:
-            self.assertEqual(call(record, "record", *words, "--output", out, "--list", one)[0], 0)
-            trace = out.read_text()
-            self.assertEqual((check(trace), trace.split("\n")[0], len(body(trace))), ("", first, count))
-        self.assertIn("100000 of the 100001 references of the recording (99.9 %), 100000 requests", trace)
-        self.assertEqual(trace_limits.MOST_REQUESTS, 8_000_000)
+        trace = self.trace("--list", self.file("one", "p R4 0\n" * 100_001))
+        self.assertEqual((trace.split("\n")[0], len(body(trace))), ("LONGTRACE 2", 100_001))
+        self.assertEqual([one.requests for one in trace_limits.VERSIONS], [100_000, 100_000, 8_000_000])
 
     def test_processes(self):
         text = "".join(f"p{n} R4 {n:x}00\n" for n in range(17))
