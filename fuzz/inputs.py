@@ -106,6 +106,7 @@ def changed_text(draw, data):
     """A trace, or a trace with a log, after some changes of its lines."""
     lines = data.decode("latin-1").split("\n")
     for _ in range(draw.choice((1, 1, 1, 2, 3, 8))):
+        lines = lines or [""]
         at = draw.randrange(len(lines))
         choice = draw.randrange(10)
         if choice < 6:
