@@ -5,7 +5,6 @@ The cluster and the sweep run by the first of this Python and /usr/bin/python3 t
 distributed; Debian's package is for the latter. POINTS=10000 in the environment makes the sweep larger.
 """
 
-import json
 import os
 import pathlib
 import shutil
@@ -18,9 +17,56 @@ import unittest
 
 from places import RECORDED, environment
 
-POINTS = int(os.environ.get("POINTS", "200"))
+POINTS = int(os.environ.get("POINTS", "60"))
 WORKERS = 4
 SECONDS = 120 + POINTS // 10
+
+# A scheduler and so many workers, each a fork of a process that has imported distributed once. It says the scheduler's
+# address and the workers' numbers once all are there, within so many seconds, and ends them when its input ends.
+CLUSTER = """import asyncio, os, signal, sys
+import distributed
+ready, tell = os.pipe()
+
+def forked(work, *words):
+    number = os.fork()
+    if number == 0:
+        try:
+            asyncio.run(work(*words))
+        finally:
+            os._exit(1)
+    return number
+
+async def serve(server):
+    async with server as one:
+        os.write(tell, one.address.encode() + b"\\n")
+        await one.finished()
+
+async def schedule():
+    await serve(distributed.Scheduler(host="127.0.0.1", port=0, dashboard=False))
+
+async def work(address):
+    await serve(distributed.Worker(address, nthreads=1, dashboard=False, local_directory=os.getcwd()))
+
+def late(*_):
+    sys.exit("the cluster isn't there in time")
+
+signal.signal(signal.SIGALRM, late)
+signal.alarm(int(sys.argv[2]))
+with os.fdopen(ready) as lines:
+    children = [forked(schedule)]
+    try:
+        address = lines.readline().strip()
+        children += [forked(work, address) for _ in range(int(sys.argv[1]))]
+        for _ in children[1:]:
+            lines.readline()
+        signal.alarm(0)
+        print(address, *children[1:], flush=True)
+        sys.stdin.read()
+    finally:
+        for number in children:
+            os.kill(number, signal.SIGKILL)
+            os.waitpid(number, 0)
+"""
 
 
 def python_with_dask():
@@ -40,39 +86,27 @@ class Dask(unittest.TestCase):
         self.words = [str(RECORDED / "vax-sum.trace"), "--command", "serial", "--limit", "4,6",
                       "--param", f"PFRATH=1:{POINTS // 2}"]
 
-    def start(self, *words):
-        """A process of the cluster, which the test ends itself."""
-        env = {**environment(), "DASK_DISTRIBUTED__DASHBOARD__LINK": ""}
-        log = open(self.folder / "cluster.log", "a", encoding="utf-8")
-        self.addCleanup(log.close)
-        process = subprocess.Popen([self.python, *words], env=env, cwd=self.folder, stdout=log, stderr=log)
-        self.addCleanup(self.end, process)
-        return process
-
     def end(self, process):
-        process.terminate()
+        """Closes the input of the cluster, which ends it, and waits for that."""
+        process.stdin.close()
         try:
             process.wait(20)
         except subprocess.TimeoutExpired:
             process.kill()
             process.wait()
+        process.stdout.close()
 
     def cluster(self):
-        """The address of a scheduler with four workers, and the workers' processes."""
-        told = self.folder / "scheduler.json"
-        self.start("-m", "distributed.cli.dask_scheduler", "--host", "127.0.0.1", "--port", "0", "--no-dashboard",
-                   "--scheduler-file", str(told))
-        until = time.monotonic() + SECONDS
-        while not told.exists() or not told.read_text().endswith("}"):
-            self.assertLess(time.monotonic(), until, (self.folder / "cluster.log").read_text())
-            time.sleep(0.1)
-        address = json.loads(told.read_text())["address"]
-        workers = [self.start("-m", "distributed.cli.dask_worker", address, "--nthreads", "1", "--nworkers", "1", "--no-nanny",
-                              "--no-dashboard", "--local-directory", str(self.folder)) for _ in range(WORKERS)]
-        ready = f"import distributed; distributed.Client({address!r}).wait_for_workers({WORKERS}, timeout={SECONDS})"
-        done = subprocess.run([self.python, "-c", ready], timeout=SECONDS, stderr=subprocess.PIPE, text=True)
-        self.assertEqual(done.returncode, 0, done.stderr)
-        return address, workers
+        """The address of a scheduler with four workers, and the workers' numbers as processes."""
+        log = open(self.folder / "cluster.log", "a", encoding="utf-8")
+        self.addCleanup(log.close)
+        env = {**environment(), "DASK_DISTRIBUTED__WORKER__PROFILE__ENABLED": "False"}
+        process = subprocess.Popen([self.python, "-c", CLUSTER, str(WORKERS), str(SECONDS)], env=env, cwd=self.folder,
+                                   stdin=subprocess.PIPE, stdout=subprocess.PIPE, stderr=log, text=True)
+        self.addCleanup(self.end, process)
+        told = process.stdout.readline().split()
+        self.assertEqual(len(told), 1 + WORKERS, (self.folder / "cluster.log").read_text())
+        return told[0], [int(number) for number in told[1:]]
 
     def sweep(self, *words):
         return subprocess.Popen([self.python, "-m", "neqysbar.sweep", *self.words, *words], env=environment(), cwd=self.folder,
@@ -95,7 +129,7 @@ class Dask(unittest.TestCase):
         while not ended.exists() or ended.read_bytes().count(b"\n") < 10:
             self.assertLess(time.monotonic(), until)
             time.sleep(0.01)
-        workers[0].send_signal(signal.SIGKILL)
+        os.kill(workers[0], signal.SIGKILL)
         left = ended.read_bytes().count(b"\n")
         self.assertLess(left, wanted.count(b"\n"), "the sweep was over before the worker was ended")
         self.finished(sweep)
@@ -103,7 +137,8 @@ class Dask(unittest.TestCase):
 
     def test_no_cluster(self):
         sweep = subprocess.run([self.python, "-m", "neqysbar.sweep", *self.words, "--output", "t.csv", "--dask", "127.0.0.1:1"],
-                               env=environment(), cwd=self.folder, stderr=subprocess.PIPE, text=True, timeout=SECONDS)
+                               env={**environment(), "DASK_DISTRIBUTED__COMM__TIMEOUTS__CONNECT": "1s"}, cwd=self.folder,
+                               stderr=subprocess.PIPE, text=True, timeout=SECONDS)
         self.assertEqual(sweep.returncode, 2)
         self.assertIn("sweep: there is no Dask scheduler at 127.0.0.1:1: ", sweep.stderr)
         self.assertNotIn("Traceback", sweep.stderr)

@@ -7,6 +7,7 @@ for the latter.
 
 import csv
 import io
+import json
 import os
 import pathlib
 import re
@@ -32,6 +33,20 @@ PICTURES = (
     (("lists", str(SORT), "--title", "Both lists"), ("frames", "free list", "modified list", "Both lists")),
     (("thrashing", str(PHASES), str(EXAMPLES / "swapping.trace")), ("processes", "share of time", "as 1 reference", "as 100 references")),
 )
+
+
+# draws each picture of a list, in one process: a status and what standard error gets, of each
+DRAW = """import contextlib, io, json, sys
+from neqysbar.plot import main
+for words in json.load(sys.stdin):
+    told = io.StringIO()
+    with contextlib.redirect_stderr(told):
+        try:
+            status = main(words)
+        except SystemExit as end:
+            status = end.code
+    print(json.dumps([status, told.getvalue()]))
+"""
 
 
 def python_with_matplotlib():
@@ -98,19 +113,21 @@ class Pictures(unittest.TestCase):
         self.folder = pathlib.Path(tempfile.mkdtemp())
         self.addCleanup(shutil.rmtree, self.folder)
 
-    def plot(self, *words):
-        done = subprocess.run([self.python, "-m", "neqysbar.plot", *words], env=environment(), cwd=self.folder, timeout=SECONDS,
-                              stdout=subprocess.PIPE, stderr=subprocess.PIPE, text=True)
-        return done.returncode, done.stderr
+    def drawn(self, calls):
+        """The status and what standard error gets, of each call."""
+        done = subprocess.run([self.python, "-c", DRAW], env=environment(), cwd=self.folder, timeout=SECONDS, check=True,
+                              input=json.dumps(calls), stdout=subprocess.PIPE, text=True)
+        return [tuple(json.loads(line)) for line in done.stdout.splitlines()]
 
     def test_kinds(self):
         """Each kind is drawn, as SVG with its texts, and as PNG."""
-        for words, texts in PICTURES:
-            self.assertEqual(self.plot(*words, "--output", "one.svg", "--output", "one.png"), (0, ""), words)
-            svg = (self.folder / "one.svg").read_text(encoding="utf-8")
+        calls = [[*words, "--output", f"{number}.svg", "--output", f"{number}.png"] for number, (words, _) in enumerate(PICTURES)]
+        self.assertEqual(self.drawn(calls), [(0, "")] * len(PICTURES))
+        for number, (_, texts) in enumerate(PICTURES):
+            svg = (self.folder / f"{number}.svg").read_text(encoding="utf-8")
             for text in texts:
                 self.assertIn(text, svg)
-            self.assertEqual((self.folder / "one.png").read_bytes()[:8], b"\x89PNG\r\n\x1a\n")
+            self.assertEqual((self.folder / f"{number}.png").read_bytes()[:8], b"\x89PNG\r\n\x1a\n")
 
     def test_refused(self):
         (self.folder / "faulty.trace").write_text("VMTRACE 1\nFRAMES 2\n")
@@ -124,8 +141,7 @@ class Pictures(unittest.TestCase):
             (("lists", str(SORT), "--output", "no/x.svg"), "plot: no/x.svg can't be written: No such file or directory\n"),
             (("curves", str(SORT), "--frames", "0", "--output", "x.svg"), "plot: " + str(SORT) + ": STATUS 1\n"),
         )
-        for words, wanted in rows:
-            status, told = self.plot(*words)
+        for (_, wanted), (status, told) in zip(rows, self.drawn([words for words, _ in rows])):
             self.assertEqual((status, told[-len(wanted):]), (2, wanted))
             self.assertNotIn("Traceback", told)
         self.assertEqual([path.name for path in self.folder.iterdir()], ["faulty.trace"])

@@ -1,7 +1,9 @@
 #!/usr/bin/env python3
 """Tests sweeps: the product, the table, going on after a break, failures, parts, and what is refused."""
 
+import contextlib
 import csv
+import io
 import os
 import pathlib
 import shutil
@@ -15,6 +17,7 @@ import unittest
 from places import RECORDED, environment
 import neqysbar
 from neqysbar.points import values_of
+from neqysbar.sweep import main
 
 SORT = str(RECORDED / "sort.trace")
 VAX = str(RECORDED / "vax-sum.trace")
@@ -27,6 +30,19 @@ def sweep(*words, cwd=None):
     done = subprocess.run([sys.executable, "-m", "neqysbar.sweep", *words], env=environment(), cwd=cwd, timeout=SECONDS,
                           stdout=subprocess.PIPE, stderr=subprocess.PIPE, text=True)
     return done.returncode, done.stderr + done.stdout
+
+
+def called(*words):
+    """The same of a sweep in this process."""
+    told, kept = io.StringIO(), signal.getsignal(signal.SIGTERM)
+    try:
+        with contextlib.redirect_stderr(told), contextlib.redirect_stdout(told):
+            status = main(words)
+    except SystemExit as end:
+        status = end.code
+    finally:
+        signal.signal(signal.SIGTERM, kept)
+    return status, told.getvalue()
 
 
 def rows_of(path):
@@ -121,11 +137,11 @@ class Sweep(unittest.TestCase):
 
     def broken_off(self, number):
         """A sweep that a signal breaks off, with its status; some of its points are finished by then."""
-        words = [SORT, "--limit", "4:9", "--param", "PFRATH=1:20", "--command", "serial", "--output", self.table]
+        words = [SORT, "--limit", "4:9", "--param", "PFRATH=1:10", "--command", "serial", "--jobs", "2", "--output", self.table]
         begun = subprocess.Popen([sys.executable, "-m", "neqysbar.sweep", *words], env=environment(),
                                  stderr=subprocess.PIPE, text=True, start_new_session=True, preexec_fn=heeds)
         until = time.monotonic() + SECONDS
-        while not os.path.exists(self.table) or pathlib.Path(self.table).read_bytes().count(b"\n") < 20:
+        while not os.path.exists(self.table) or pathlib.Path(self.table).read_bytes().count(b"\n") < 6:
             self.assertLess(time.monotonic(), until)
             time.sleep(0.02)
         begun.send_signal(number)
@@ -141,7 +157,7 @@ class Sweep(unittest.TestCase):
             self.assertNotIn("Traceback", told)
             before = pathlib.Path(self.table).read_bytes()
             before = before[:before.rfind(b"\n") + 1].splitlines()
-            self.assertLess(len(before), 121)
+            self.assertLess(len(before), 61)
             status, told = sweep(*words)
             self.assertEqual(status, 0, told)
             after = pathlib.Path(self.table).read_bytes()
@@ -197,7 +213,7 @@ class Sweep(unittest.TestCase):
             ((SORT, "--command", "curve", "--output", self.table), "invalid choice: 'curve'"),
         )
         for words, wanted in rows:
-            status, told = sweep(*words)
+            status, told = called(*words)
             self.assertEqual(status, 2, (words, told))
             self.assertIn(wanted, told)
             self.assertNotIn("Traceback", told)

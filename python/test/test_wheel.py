@@ -13,8 +13,9 @@ import zipfile
 from places import PYTHON, TEST, TOP
 
 SECONDS = 600
-# the tests that the installed package passes, which need nothing but it
-TESTS = ("test_calls", "test_readers", "test_traces")
+# the tests that the installed package passes, which need nothing but it; its modules are those that all tests try
+TESTS = (("test_calls", "Runs.test_examples", "Runs.test_words", "Runs.test_version"), ("test_readers", "Entries", "Reports", "Studies"),
+         ("test_traces", "Settings"))
 
 
 def called(*words, **more):
@@ -64,24 +65,27 @@ class Wheel(unittest.TestCase):
             self.assertEqual(wheel.read("neqysbar/VERSION").decode().strip(), version)
             library = os.environ.get("NEQYSBAR_LIBRARY") or TOP / "release" / "libneqysbar.so"
             self.assertEqual(wheel.read("neqysbar/libneqysbar.so"), pathlib.Path(library).read_bytes())
+            for path in (PYTHON / "neqysbar").glob("*.py"):
+                self.assertEqual(wheel.read(f"neqysbar/{path.name}"), path.read_bytes())
         self.assertEqual(names, {path.name for path in (PYTHON / "neqysbar").glob("*.py")} |
                          {"py.typed", "libneqysbar.so", "VERSION"})
 
     def test_installed(self):
         """In a fresh environment it is found, runs, and passes the tests, without the repository's folder."""
         fresh = self.folder / "fresh"
-        done = called(self.python, "-m", "venv", str(fresh), env=clean_environment())
+        done = called(self.python, "-m", "venv", "--without-pip", str(fresh), env=clean_environment())
         self.assertEqual(done.returncode, 0, done.stdout)
         python = str(fresh / "bin" / "python")
-        done = called(python, "-m", "pip", "install", "--no-index", str(self.wheel), env=clean_environment())
+        place = called(python, "-c", "import sysconfig; print(sysconfig.get_path('purelib'))").stdout.strip()
+        done = called(self.python, "-m", "pip", "install", "--no-index", "--target", place, str(self.wheel), env=clean_environment())
         self.assertEqual(done.returncode, 0, done.stdout)
         done = called(python, "-c", "import neqysbar; print(neqysbar.__version__, neqysbar.library_path())",
                       cwd=self.folder, env=clean_environment())
         version, path = done.stdout.split()
         self.assertEqual(version, (TOP / "VERSION").read_text().strip())
         self.assertTrue(path.startswith(str(fresh)), path)
-        for name in TESTS:
-            done = called(python, str(TEST / f"{name}.py"), cwd=self.folder,
+        for name, *parts in TESTS:
+            done = called(python, str(TEST / f"{name}.py"), *parts, cwd=self.folder,
                           env={**clean_environment(), "NEQYSBAR_TEST_INSTALLED": "1"})
             self.assertEqual(done.returncode, 0, done.stdout)
         trace = str(TOP / "examples" / "first-run.trace")
