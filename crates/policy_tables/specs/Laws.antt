@@ -1,0 +1,43 @@
+-- The laws of the tables, as statements: what the policy gives is what its tables say. This project's own.
+use Rattle.std.specs.Prelude.{◌≡◌, ℕ, ◌<◌, List, Some, length}
+use Rattle.vm_types.specs.declared.config.Config.{Config}
+use Rattle.vm_types.specs.declared.reference.Ref.{Ref}
+use Rattle.vm_types.specs.declared.reply.Reply.{Reply}
+use Rattle.vm_journal.specs.declared.entry.Entry.{Entry}
+use Rattle.pager_model.specs.Pager.{Pager}
+use Rattle.pager_model.specs.Spoken.{flat_after}
+use Rattle.pager_policy.specs.Advance.{advance_gives}
+use Rattle.policy_tables.specs.AdvanceCases.{advance_cases}
+use Rattle.policy_tables.specs.Rows.{first_case}
+use Rattle.policy_tables.specs.Words.{shown}
+use Rattle.policy_tables.specs.ServeCases.{serve_cases}
+use Rattle.pager_policy.specs.Serve.{serve_gives}
+use Rattle.vm_types.specs.declared.service.Service.{Service}
+use Rattle.policy_tables.specs.BeginCases.{begin_cases}
+use Rattle.policy_tables.specs.LeaveCases.{leave_cases}
+use Rattle.policy_tables.specs.ComeCases.{come_cases}
+use Rattle.pager_policy.specs.Swap.{come_gives, leave_gives}
+use Rattle.pager_policy.specs.WriteCluster.{Reason, begin_gives}
+
+-- what is made for a reference of a process is the first row that holds, whatever reply its answer shows, where the
+-- flat machine has the pager's mappings, as in each run
+abbrev pub ReferencesGoByCases : Type 0
+ReferencesGoByCases =
+    (config : Config) (past : List Entry) (a : Pager) (p : ℕ) (r : Ref) (reply : Reply) → p < length config.procs → a.map ≡ (flat_after config past).map
+    → first_case (advance_cases config past a p r reply) ≡ Some (shown reply (advance_gives config past a p r))
+
+-- what is made for a service is the first row that holds
+abbrev pub ServicesGoByCases : Type 0
+ServicesGoByCases = (config : Config) (past : List Entry) (a : Pager) (p : ℕ) (s : Service) → first_case (serve_cases config past a p s) ≡ Some (serve_gives config past a p s)
+
+-- and so is what a write cluster of the modified page writer makes
+abbrev pub ClustersGoByCases : Type 0
+ClustersGoByCases = (config : Config) (a : Pager) (reason : Reason) → first_case (begin_cases config a reason) ≡ Some (begin_gives config a reason)
+
+-- what a step of a process that leaves makes
+abbrev pub LeavingGoesByCases : Type 0
+LeavingGoesByCases = (config : Config) (past : List Entry) (a : Pager) (p : ℕ) → first_case (leave_cases config past a p) ≡ Some (leave_gives config past a p)
+
+-- and what a step of a process that comes makes
+abbrev pub ComingGoesByCases : Type 0
+ComingGoesByCases = (config : Config) (past : List Entry) (a : Pager) (p : ℕ) → first_case (come_cases config past a p) ≡ Some (come_gives config past a p)

@@ -1,0 +1,9 @@
+pub mod AdvanceCases
+pub mod BeginCases
+pub mod ComeCases
+pub mod Laws
+pub mod LeaveCases
+pub mod Rows
+pub mod ServeCases
+pub mod ServiceWords
+pub mod Words

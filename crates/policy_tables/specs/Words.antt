@@ -1,0 +1,81 @@
+-- The words of the tables' conditions, each said once. This project's own.
+use Rattle.std.specs.Prelude.{ℕ, Bool, ◌&&◌, List, Option, Some, None, length, map, find, slice_get, nat_eq, nat_le, not}
+use Rattle.vm_types.specs.Ring.{choose, filled}
+use Rattle.vm_types.specs.declared.config.Config.{Config}
+use Rattle.vm_types.specs.declared.config.ProcSpec.{ProcSpec}
+use Rattle.vm_types.specs.declared.names.Page.{Page}
+use Rattle.vm_types.specs.declared.reply.Reply.{Reply}
+use Rattle.vm_journal.specs.declared.entry.Entry.{Entry}
+use Rattle.pager_model.specs.Charging.{is_uncharged}
+use Rattle.pager_model.specs.Evict.{victim_of}
+use Rattle.pager_model.specs.Flights.{Flight, open_flights}
+use Rattle.pager_model.specs.Forget.{holder}
+use Rattle.pager_model.specs.Lookups.{is_pending}
+use Rattle.pager_model.specs.Lying.{lying_in}
+use Rattle.pager_model.specs.Pager.{Pager}
+use Rattle.pager_model.specs.Transfers.{is_read_on}
+use Rattle.pager_policy.specs.Given.{Given, Seen, given, is_stopped, seen_at, with_reply}
+use Rattle.policy_tables.specs.Rows.{only_if, that_is}
+
+-- what a call of the policy gives, with this reply where its answer shows one
+abbrev pub shown : {X : Type 0} → Reply → Given X → Given X
+shown reply g = given (map (with_reply reply) g.made) g.answer
+
+-- the process's specification, if an adjustment of its limit is pending
+abbrev pub pending_limit : Config → Pager → ℕ → Option ProcSpec
+pending_limit config a p = only_if (is_pending config (a.references p)) (slice_get config.procs p)
+
+-- a frame with the read that is open on it
+pub record OpenRead : Type 0 where
+  pub frame : ℕ
+  pub flight : Flight
+
+abbrev pub open_read : ℕ → Option Flight → Option OpenRead
+open_read f None = None
+open_read f (Some x) = Some (record { frame = f; flight = x })
+
+abbrev pub read_of : List Entry → Option ℕ → Option OpenRead
+read_of past None = None
+read_of past (Some f) = open_read f (find (is_read_on f) (open_flights past))
+
+-- the read on this frame by another seat
+abbrev pub foreign_read : List Entry → ℕ → Option ℕ → Option OpenRead
+foreign_read past p frame = that_is (λ (met : OpenRead). not (nat_eq (met.flight).seat p)) (read_of past frame)
+
+-- the page needs a block of the page file, and each one is charged
+abbrev pub is_page_file_charged : Config → Pager → Page → Bool
+is_page_file_charged config a g = is_uncharged config a g && nat_eq (length a.charged) config.pagefile
+
+abbrev pub is_at_limit : Pager → ℕ → Bool
+is_at_limit a p = nat_le (a.limit p) (filled (a.ring p).slots)
+
+-- what stands in the slot that the ring gives up next
+abbrev pub victim : Pager → ℕ → Option Seen
+victim a p = seen_at a p (victim_of (choose (a.ring p) (a.limit p)))
+
+-- a page may be evicted, unless the modified list is full
+abbrev pub may_go : Config → List Entry → Pager → Seen → Bool
+may_go config past a s = not (is_stopped config past a s.frame)
+
+-- what stands in this slot of the process's ring
+abbrev pub seen_in_slot : Pager → ℕ → Option ℕ → Option Seen
+seen_in_slot a p None = None
+seen_in_slot a p (Some n) = seen_at a p n
+
+-- a page with the frame that holds it
+pub record HeldPage : Type 0 where
+  pub page : Page
+  pub frame : ℕ
+
+abbrev pub held_by : Page → Option ℕ → Option HeldPage
+held_by g None = None
+held_by g (Some f) = Some (record { page = g; frame = f })
+
+abbrev pub held_page : Config → Pager → Option Page → Option HeldPage
+held_page config a None = None
+held_page config a (Some g) = held_by g (holder config a.page g)
+
+-- the page that lies in this swap block of the process, with its frame
+abbrev pub held_in_slot : Config → Pager → ℕ → Option ℕ → Option HeldPage
+held_in_slot config a p None = None
+held_in_slot config a p (Some n) = held_page config a (lying_in a p n)
