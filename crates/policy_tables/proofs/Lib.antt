@@ -2,6 +2,8 @@ pub mod ByAdvance
 pub mod ByBegin
 pub mod ByCome
 pub mod ByLeave
+pub mod ByRundown
 pub mod ByServe
+pub mod Clusters
 pub mod Found
 pub mod Shown

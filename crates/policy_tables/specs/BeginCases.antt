@@ -1,11 +1,12 @@
 -- One write cluster of the modified page writer, as a table. Source: Kenah and Bate, "VAX/VMS Internals and Data
 -- Structures", the modified page writer; which frames are taken is this project's own.
-use Rattle.std.specs.Prelude.{Bool, false, List, [], ◌∷◌, Option, None, length, nat_eq, nat_le}
+use Rattle.std.specs.Prelude.{Bool, false, List, [], ◌∷◌, Option, length, nat_eq, nat_le}
 use Rattle.vm_types.specs.declared.config.Config.{Config}
 use Rattle.pager_model.specs.Pager.{Pager}
 use Rattle.pager_policy.specs.Given.{Given, given}
-use Rattle.pager_policy.specs.WriteCluster.{BeginIs, Reason, begin_carry, begin_nothing, reason_high, reason_need, writes_from}
+use Rattle.pager_policy.specs.WriteCluster.{BeginIs, Reason, begin_carry, begin_nothing, reason_high, reason_need}
 use Rattle.policy_tables.specs.Rows.{otherwise, when}
+use Rattle.policy_tables.specs.Words.{cluster}
 
 -- the list is to be shortened, and is no longer than LOLIMIT
 abbrev pub is_short_enough : Config → Pager → Reason → Bool
@@ -21,5 +22,5 @@ module _ (config : Config) (a : Pager) (reason : Reason) where
       -- the list is to be shortened, and is no longer than LOLIMIT: none; there is nothing to write
       ∷ when (is_short_enough config a reason) (given [] begin_nothing)
       -- there are frames to write: the OUTs of the list's first frames whose blocks adjoin, at most WRTCLUSTER; the writes are carried
-      ∷ otherwise (given (writes_from config a config.params.wrtcluster None a.modified) begin_carry)
+      ∷ otherwise (given (cluster config a) begin_carry)
       ∷ []

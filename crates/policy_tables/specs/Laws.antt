@@ -18,6 +18,9 @@ use Rattle.policy_tables.specs.LeaveCases.{leave_cases}
 use Rattle.policy_tables.specs.ComeCases.{come_cases}
 use Rattle.pager_policy.specs.Swap.{come_gives, leave_gives}
 use Rattle.pager_policy.specs.WriteCluster.{Reason, begin_gives}
+use Rattle.policy_tables.specs.RundownCases.{rundown_cases}
+use Rattle.pager_policy.specs.Cleaning.{Cleaning}
+use Rattle.pager_policy.specs.Rundown.{cleaning_move}
 
 -- what is made for a reference of a process is the first row that holds, whatever reply its answer shows, where the
 -- flat machine has the pager's mappings, as in each run
@@ -41,3 +44,7 @@ LeavingGoesByCases = (config : Config) (past : List Entry) (a : Pager) (p : ℕ)
 -- and what a step of a process that comes makes
 abbrev pub ComingGoesByCases : Type 0
 ComingGoesByCases = (config : Config) (past : List Entry) (a : Pager) (p : ℕ) → first_case (come_cases config past a p) ≡ Some (come_gives config past a p)
+
+-- each move of the rundown is the first row that holds
+abbrev pub RundownGoesByCases : Type 0
+RundownGoesByCases = (config : Config) (past : List Entry) (a : Pager) (at : Cleaning) → first_case (rundown_cases config past a at) ≡ Some (cleaning_move config past a at)

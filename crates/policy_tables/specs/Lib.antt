@@ -4,6 +4,7 @@ pub mod ComeCases
 pub mod Laws
 pub mod LeaveCases
 pub mod Rows
+pub mod RundownCases
 pub mod ServeCases
 pub mod ServiceWords
 pub mod Words

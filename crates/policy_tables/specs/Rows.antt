@@ -1,5 +1,5 @@
 -- A table: rows in order, of which the first one counts that holds. This project's own.
-use Rattle.std.specs.Prelude.{Bool, true, false, List, [], ◌∷◌, Option, Some, None}
+use Rattle.std.specs.Prelude.{ℕ, zero, suc, Bool, true, false, List, [], ◌∷◌, Option, Some, None}
 
 -- a row: what is made if this holds
 abbrev pub when : {X : Type 0} → Bool → X → Option X
@@ -10,6 +10,11 @@ when false x = None
 abbrev pub if_there : {A X : Type 0} → Option A → (A → X) → Option X
 if_there None make = None
 if_there (Some it) make = Some (make it)
+
+-- a row on that which is there, if it is there
+abbrev pub row_on : {A X : Type 0} → Option A → (A → Option X) → Option X
+row_on None row = None
+row_on (Some it) row = row it
 
 -- the last row of a table that has a row for everything
 abbrev pub otherwise : {X : Type 0} → X → Option X
@@ -44,3 +49,8 @@ first_of_list (x ∷ xs) = Some x
 abbrev pub is_none_left : {A : Type 0} → List A → Bool
 is_none_left [] = true
 is_none_left (x ∷ xs) = false
+
+-- one less, if there is one
+abbrev pub one_fewer : ℕ → Option ℕ
+one_fewer zero = None
+one_fewer (suc n) = Some n

@@ -1,11 +1,12 @@
 -- The words of the tables' conditions, each said once. This project's own.
-use Rattle.std.specs.Prelude.{ℕ, Bool, ◌&&◌, List, Option, Some, None, length, map, find, slice_get, nat_eq, nat_le, not}
+use Rattle.std.specs.Prelude.{ℕ, Bool, ◌+◌, ◌&&◌, List, Option, Some, None, length, map, find, slice_get, nat_eq, nat_le, not}
 use Rattle.vm_types.specs.Ring.{choose, filled}
 use Rattle.vm_types.specs.declared.config.Config.{Config}
 use Rattle.vm_types.specs.declared.config.ProcSpec.{ProcSpec}
 use Rattle.vm_types.specs.declared.names.Page.{Page}
 use Rattle.vm_types.specs.declared.reply.Reply.{Reply}
 use Rattle.vm_journal.specs.declared.entry.Entry.{Entry}
+use Rattle.vm_journal.specs.declared.entry.What.{What}
 use Rattle.pager_model.specs.Charging.{is_uncharged}
 use Rattle.pager_model.specs.Evict.{victim_of}
 use Rattle.pager_model.specs.Flights.{Flight, open_flights}
@@ -15,6 +16,8 @@ use Rattle.pager_model.specs.Lying.{lying_in}
 use Rattle.pager_model.specs.Pager.{Pager}
 use Rattle.pager_model.specs.Transfers.{is_read_on}
 use Rattle.pager_policy.specs.Given.{Given, Seen, given, is_stopped, seen_at, with_reply}
+use Rattle.pager_policy.specs.Rundown.{Place, shared_place}
+use Rattle.pager_policy.specs.WriteCluster.{writes_from}
 use Rattle.policy_tables.specs.Rows.{only_if, that_is}
 
 -- what a call of the policy gives, with this reply where its answer shows one
@@ -79,3 +82,25 @@ held_page config a (Some g) = held_by g (holder config a.page g)
 abbrev pub held_in_slot : Config → Pager → ℕ → Option ℕ → Option HeldPage
 held_in_slot config a p None = None
 held_in_slot config a p (Some n) = held_page config a (lying_in a p n)
+
+-- the writes of a cluster: the list's first frames whose blocks adjoin, at most WRTCLUSTER
+abbrev pub cluster : Config → Pager → List What
+cluster config a = writes_from config a config.params.wrtcluster None a.modified
+
+-- a shared page in a slot of a process
+pub record SharedPage : Type 0 where
+  pub place : Place
+  pub seen : Seen
+
+abbrev pub shared_seen : Place → Option Seen → Option SharedPage
+shared_seen at None = None
+shared_seen at (Some s) = Some (record { place = at; seen = s })
+
+-- the one at this place, and the next one in a slot behind it
+abbrev pub shared_at : Pager → Option Place → Option SharedPage
+shared_at a None = None
+shared_at a (Some at) = shared_seen at (seen_at a at.process at.slot)
+
+abbrev pub shared_behind : Config → Pager → Option SharedPage → Option SharedPage
+shared_behind config a None = None
+shared_behind config a (Some g) = shared_at a (shared_place config a (g.place).process ((g.place).slot + 1))

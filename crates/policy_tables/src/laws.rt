@@ -1,4 +1,11 @@
-ghost use Rattle.policy_tables.specs.Laws.{ClustersGoByCases, ComingGoesByCases, LeavingGoesByCases, ReferencesGoByCases, ServicesGoByCases};
+ghost use Rattle.policy_tables.specs.Laws.{
+  ClustersGoByCases,
+  ComingGoesByCases,
+  LeavingGoesByCases,
+  ReferencesGoByCases,
+  RundownGoesByCases,
+  ServicesGoByCases,
+};
 
 /// What is made for a reference of one of the configuration's processes is what the first row of the table
 /// `advance_cases` says that holds, and one holds always. It is asked that the flat machine has the pager's
@@ -28,4 +35,9 @@ pub fn leaving_goes_by_cases()
 /// that holds.
 pub fn coming_goes_by_cases()
     ensures { ComingGoesByCases }
+{}
+
+/// Each move of the rundown, wherever it is, is what the first row of the table `rundown_cases` says that holds.
+pub fn rundown_goes_by_cases()
+    ensures { RundownGoesByCases }
 {}

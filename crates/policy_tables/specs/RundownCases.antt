@@ -1,0 +1,51 @@
+-- The rundown, as a table: by the writer's seat, after the report's place, by where it is. This project's own.
+use Rattle.std.specs.Prelude.{ℕ, Bool, false, ◌+◌, ◌-◌, List, ◌∷◌, [], ◌++◌, Option, length, nat_lt, not}
+use Rattle.vm_types.specs.declared.config.Config.{Config}
+use Rattle.vm_journal.specs.declared.entry.Entry.{Entry}
+use Rattle.vm_journal.specs.declared.entry.EvictWhy.TheVariants as evict
+use Rattle.pager_model.specs.Pager.{Pager}
+use Rattle.pager_policy.specs.Cleaning.{Cleaning, evicting, rounds}
+use Rattle.pager_policy.specs.Given.{eviction}
+use Rattle.pager_policy.specs.Moves.{Move, carries, cleaning, control, goes, makes, rests}
+use Rattle.pager_policy.specs.Rundown.{at_slot, is_shared_listed, shared_place, writer_of}
+use Rattle.policy_tables.specs.Rows.{if_there, one_fewer, only_if, otherwise, that_is, when}
+use Rattle.policy_tables.specs.Words.{SharedPage, cluster, may_go, shared_at, shared_behind}
+
+module _ (config : Config) (past : List Entry) (a : Pager) where
+  abbrev may_be_evicted : SharedPage → Bool
+  may_be_evicted g = may_go config past a g.seen
+
+  abbrev evicts : SharedPage → Move
+  evicts g = makes (writer_of config) (eviction past a (g.place).process (g.seen).vpn (g.seen).frame evict.Rundown ∷ []) (at_slot (g.place).process ((g.place).slot + 1) false)
+
+  abbrev writes_for : SharedPage → Move
+  writes_for g = carries (writer_of config) (cluster config a) (λ (all first : Bool). goes (at_slot (g.place).process (g.place).slot all))
+
+  abbrev writes_round : ℕ → ℕ → Move
+  writes_round following left = carries (writer_of config) (cluster config a) (λ (all first : Bool). goes (control (cleaning (rounds following (left - length (cluster config a))))))
+
+  abbrev pub rounds_cases : ℕ → ℕ → List (Option Move)
+  rounds_cases following left =
+      -- no frame of the modified list holds a shared page: none; it rests
+      when (not (is_shared_listed a)) rests
+      -- writes are left in the round: a cluster; its writes fewer are left
+      ∷ when (nat_lt 0 left) (writes_round following left)
+      -- a round is left: a cluster; as many writes are left as the list had frames, but for these, and one round fewer
+      ∷ if_there (one_fewer following) (λ (more : ℕ). writes_round more (length a.modified))
+      -- no round is left: none; it rests
+      ∷ otherwise rests
+      ∷ []
+
+  abbrev pub rundown_cases : Cleaning → List (Option Move)
+  rundown_cases (evicting p n failed) =
+      -- the next shared page from this slot on may be evicted: EVICT of it, for RUNDOWN; at the slot behind it
+      if_there (that_is may_be_evicted (shared_at a (shared_place config a p n))) evicts
+      -- it may not, and no cluster for it has failed: a cluster; at its slot, and that its cluster failed if all of it did
+      ∷ if_there (only_if (not failed) (shared_at a (shared_place config a p n))) writes_for
+      -- its cluster failed, and the next shared page behind it may be evicted: EVICT of that one, for RUNDOWN; at the slot behind that
+      ∷ if_there (that_is may_be_evicted (shared_behind config a (shared_at a (shared_place config a p n)))) evicts
+      -- its cluster failed, and that page may not be evicted: a cluster; at its slot, and that its cluster failed if all of it did
+      ∷ if_there (shared_behind config a (shared_at a (shared_place config a p n))) writes_for
+      -- no slot has such a page: the rows of the rounds, of which two are left
+      ∷ rounds_cases 2 0
+  rundown_cases (rounds following left) = rounds_cases following left
