@@ -184,4 +184,5 @@ module _ (config : Config) (past : List Entry) (a : Pager) (p : ℕ) (r : Ref) (
     firsts true = pending (is_pending config (a.references p))
 
     pub goes_by_cases : Says (advance_cases config past a p r reply) (advance_gives config past a p r)
+    unfolding advance_cases
     goes_by_cases = firsts (is_resident (a.status p))

@@ -19,5 +19,6 @@ empty_only true writes = refl
 empty_only false writes = refl
 
 pub goes_by_cases : (config : Config) (a : Pager) (reason : Reason) → first_case (begin_cases config a reason) ≡ Some (begin_gives config a reason)
+unfolding begin_cases
 goes_by_cases config a reason_high = either_empty (nat_le (length a.modified) config.params.lolimit) (nat_eq (length a.modified) 0) (given (writes_from config a config.params.wrtcluster None a.modified) begin_carry)
 goes_by_cases config a reason_need = empty_only (nat_eq (length a.modified) 0) (given (writes_from config a config.params.wrtcluster None a.modified) begin_carry)

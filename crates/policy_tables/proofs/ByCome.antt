@@ -75,4 +75,5 @@ module _ (config : Config) (past : List Entry) (a : Pager) (p : ℕ) where
   free None is = out (swap_where a p (is_out_page config a))
 
   pub goes_by_cases : Says (come_cases config past a p) (come_gives config past a p)
+  unfolding come_cases
   goes_by_cases = free (swap_where a p (is_back_on_free config a)) refl

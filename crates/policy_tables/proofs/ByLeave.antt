@@ -70,4 +70,5 @@ module _ (config : Config) (past : List Entry) (a : Pager) (p : ℕ) where
   shared None is = saved (slot_where a p (is_saved past a p)) refl
 
   pub goes_by_cases : Says (leave_cases config past a p) (leave_gives config past a p)
+  unfolding leave_cases
   goes_by_cases = shared (slot_where a p (λ (n : ℕ) (s : Seen). is_shared_unpinned s)) refl

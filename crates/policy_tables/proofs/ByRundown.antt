@@ -1,5 +1,5 @@
 -- What the rundown does is the table's first row that holds.
-use Rattle.std.proofs.Common.{◌≡◌, ℕ, zero, suc, ◌+◌, ◌-◌, ◌≤◌, ◌&&◌, Bool, true, false, cond, not, List, [], ◌∷◌, Option, Some, None, length, find, nat_le, nat_lt, refl, sym, ap, ◌∙◌, subst}
+use Rattle.std.proofs.Common.{◌≡◌, ℕ, zero, suc, ◌+◌, ◌-◌, ◌&&◌, Bool, true, false, cond, not, List, [], ◌∷◌, Option, Some, None, length, nat_le, nat_lt, refl, sym, ap, subst}
 use Rattle.std.specs.List.{range_with_len}
 use Rattle.std.proofs.lemmas.Bool.{and_parts}
 use Rattle.std.proofs.lemmas.Option.{none-some, same_Some}
@@ -9,7 +9,7 @@ use Rattle.vm_journal.specs.declared.entry.EvictWhy.TheVariants as evict
 use Rattle.vm_journal.specs.declared.entry.What.{What}
 use Rattle.pager_model.specs.Pager.{Pager}
 use Rattle.pager_policy.specs.Cleaning.{Cleaning, evicting, rounds}
-use Rattle.pager_policy.specs.Given.{Seen, eviction, is_stopped, seen_at, slots_of}
+use Rattle.pager_policy.specs.Given.{Seen, eviction, seen_at, slots_of}
 use Rattle.pager_policy.specs.Moves.{Move, carries, cleaning, control, goes, makes, rests}
 use Rattle.pager_policy.specs.Rundown.{Place, at_slot, clean_move, cleaning_move, is_shared_at, is_shared_listed, later_move, next_round, place_in, place_move, round_move, rounds_move, shared_from, shared_of_processes, shared_place, writer_of, written_for_need}
 use Rattle.pager_policy.specs.Swap.{is_shared_seen}
@@ -118,5 +118,6 @@ module _ (config : Config) (past : List Entry) (a : Pager) where
       (cleaned at seen.0 (place_rows false (shared_behind config a (shared_seen at (Some seen.0))) (rounds_cases config past a 2 0)) (later_move config past a at) (may_go config past a seen.0) failed (λ is. behind_rows at seen.0))
 
   pub goes_by_cases : (at : Cleaning) → Says (rundown_cases config past a at) (cleaning_move config past a at)
+  unfolding rundown_cases
   goes_by_cases (evicting p n failed) = first_rows failed (shared_place config a p n) (shown_place a config p n)
   goes_by_cases (rounds following left) = in_rounds following left

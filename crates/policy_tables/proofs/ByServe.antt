@@ -101,6 +101,7 @@ module _ (config : Config) (past : List Entry) (a : Pager) (p : ℕ) where
   resident s rest false is = refl
 
   pub goes_by_cases : (s : Service) → Serves s
+  unfolding serve_cases
   goes_by_cases (service.Create at pages prot) = resident (service.Create at pages prot) _ (is_resident (a.status p)) (refused (service.Create at pages prot) answer.InUse answer.Good _ (is_in_use a p at.0 pages) refl)
   goes_by_cases (service.Delete at pages) = resident (service.Delete at pages) _ (is_resident (a.status p)) (unmapped (service.Delete at pages) _ _ (is_unmapped a p at.0 pages) (deleted at pages _ (valid_in a p at.0 pages) refl))
   goes_by_cases (service.Protect at pages prot) = resident (service.Protect at pages prot) _ (is_resident (a.status p)) (refused (service.Protect at pages prot) answer.Unmapped answer.Good _ (is_unmapped a p at.0 pages) refl)

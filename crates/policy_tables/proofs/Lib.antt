@@ -2,8 +2,10 @@ pub mod ByAdvance
 pub mod ByBegin
 pub mod ByCome
 pub mod ByLeave
+pub mod ByMove
 pub mod ByRundown
 pub mod ByServe
 pub mod Clusters
 pub mod Found
 pub mod Shown
+pub mod Silent

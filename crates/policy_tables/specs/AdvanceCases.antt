@@ -66,7 +66,7 @@ module _ (config : Config) (past : List Entry) (a : Pager) (p : ℕ) (r : Ref) (
       ∷ if_there (first_of_list a.free) (λ (f : ℕ). answered (reuse_first (a.page f) f (what.Zero (page_address v) (pfn f) ∷ what.Done r reply ∷ [])))
       ∷ []
 
-  abbrev pub advance_cases : List (Option GivenNext)
+  unfoldable pub advance_cases : List (Option GivenNext)
   advance_cases =
       -- the process isn't resident: none; it waits to be resident
       when (not (is_resident (a.status p))) (waits again_not_resident)

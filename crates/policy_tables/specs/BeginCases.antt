@@ -15,7 +15,7 @@ is_short_enough config a reason_need = false
 
 -- for this reason
 module _ (config : Config) (a : Pager) (reason : Reason) where
-  abbrev pub begin_cases : List (Option (Given BeginIs))
+  unfoldable pub begin_cases : List (Option (Given BeginIs))
   begin_cases =
       -- the modified list is empty: none; there is nothing to write
       when (nat_eq (length a.modified) 0) (given [] begin_nothing)

@@ -30,7 +30,7 @@ module _ (config : Config) (past : List Entry) (a : Pager) (p : ℕ) where
   abbrev waits : SwapWhy → GivenSwap
   waits reason = given [] (swap_again reason)
 
-  abbrev pub come_cases : List (Option GivenSwap)
+  unfoldable pub come_cases : List (Option GivenSwap)
   come_cases =
       -- the page of a swap block is in a free frame: BACK of the first such page; a step more
       if_there kept (λ (g : HeldPage). given (what.Back (proc p) (address_of g.page) (pfn g.frame) state.Free ∷ []) swap_more)

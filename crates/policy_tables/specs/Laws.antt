@@ -9,7 +9,7 @@ use Rattle.pager_model.specs.Spoken.{flat_after}
 use Rattle.pager_policy.specs.Advance.{advance_gives}
 use Rattle.policy_tables.specs.AdvanceCases.{advance_cases}
 use Rattle.policy_tables.specs.Rows.{first_case}
-use Rattle.policy_tables.specs.Words.{shown}
+use Rattle.policy_tables.specs.Words.{shown, told}
 use Rattle.policy_tables.specs.ServeCases.{serve_cases}
 use Rattle.pager_policy.specs.Serve.{serve_gives}
 use Rattle.vm_types.specs.declared.service.Service.{Service}
@@ -21,6 +21,11 @@ use Rattle.pager_policy.specs.WriteCluster.{Reason, begin_gives}
 use Rattle.policy_tables.specs.RundownCases.{rundown_cases}
 use Rattle.pager_policy.specs.Cleaning.{Cleaning}
 use Rattle.pager_policy.specs.Rundown.{cleaning_move}
+use Rattle.policy_tables.specs.MoveCases.{move_cases}
+use Rattle.pager_policy.specs.Moves.{Control}
+use Rattle.pager_policy.specs.Policy.{move_of, next_task}
+use Rattle.pager_model.specs.Run.{pager_after}
+use Rattle.vm_types.specs.declared.config.Task.{Task}
 
 -- what is made for a reference of a process is the first row that holds, whatever reply its answer shows, where the
 -- flat machine has the pager's mappings, as in each run
@@ -48,3 +53,10 @@ ComingGoesByCases = (config : Config) (past : List Entry) (a : Pager) (p : ℕ) 
 -- each move of the rundown is the first row that holds
 abbrev pub RundownGoesByCases : Type 0
 RundownGoesByCases = (config : Config) (past : List Entry) (a : Pager) (at : Cleaning) → first_case (rundown_cases config past a at) ≡ Some (cleaning_move config past a at)
+
+-- each move of the serial policy is the first row that holds, whatever reply its answer shows, where the next request
+-- is of a process of the configuration and the flat machine has the pager's mappings, as in each run
+abbrev pub MovesGoByCases : Type 0
+MovesGoByCases =
+    (config : Config) (past : List Entry) (c : Control) (reply : Reply) → ((task : Task) → next_task config past ≡ Some task → (task.proc).0 < length config.procs) → (pager_after config past).map ≡ (flat_after config past).map
+    → first_case (move_cases config past (pager_after config past) reply c) ≡ Some (told reply (move_of config past c))

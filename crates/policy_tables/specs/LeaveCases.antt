@@ -34,7 +34,7 @@ module _ (config : Config) (past : List Entry) (a : Pager) (p : ℕ) where
   abbrev evicts : Seen → GivenSwap
   evicts s = given (eviction past a p s.vpn s.frame evict.Leave ∷ []) swap_more
 
-  abbrev pub leave_cases : List (Option GivenSwap)
+  unfoldable pub leave_cases : List (Option GivenSwap)
   leave_cases =
       -- a slot has a shared page that isn't pinned, and the first of them may be evicted: EVICT of it, for LEAVE; a step more
       if_there (that_is (may_go config past a) shared) evicts

@@ -3,8 +3,10 @@ pub mod BeginCases
 pub mod ComeCases
 pub mod Laws
 pub mod LeaveCases
+pub mod MoveCases
 pub mod Rows
 pub mod RundownCases
 pub mod ServeCases
 pub mod ServiceWords
+pub mod Steps
 pub mod Words

@@ -1,5 +1,5 @@
 -- The rundown, as a table: by the writer's seat, after the report's place, by where it is. This project's own.
-use Rattle.std.specs.Prelude.{ℕ, Bool, false, ◌+◌, ◌-◌, List, ◌∷◌, [], ◌++◌, Option, length, nat_lt, not}
+use Rattle.std.specs.Prelude.{ℕ, Bool, false, ◌+◌, ◌-◌, List, ◌∷◌, [], Option, length, nat_lt, not}
 use Rattle.vm_types.specs.declared.config.Config.{Config}
 use Rattle.vm_journal.specs.declared.entry.Entry.{Entry}
 use Rattle.vm_journal.specs.declared.entry.EvictWhy.TheVariants as evict
@@ -36,7 +36,7 @@ module _ (config : Config) (past : List Entry) (a : Pager) where
       ∷ otherwise rests
       ∷ []
 
-  abbrev pub rundown_cases : Cleaning → List (Option Move)
+  unfoldable pub rundown_cases : Cleaning → List (Option Move)
   rundown_cases (evicting p n failed) =
       -- the next shared page from this slot on may be evicted: EVICT of it, for RUNDOWN; at the slot behind it
       if_there (that_is may_be_evicted (shared_at a (shared_place config a p n))) evicts

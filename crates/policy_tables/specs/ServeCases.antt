@@ -25,7 +25,7 @@ module _ (config : Config) (past : List Entry) (a : Pager) (p : ℕ) (s : Servic
   abbrev served : Answer → GivenServe
   served w = given (what.Served s w ∷ []) serve_answered
 
-  abbrev pub serve_cases : List (Option GivenServe)
+  unfoldable pub serve_cases : List (Option GivenServe)
   serve_cases =
       -- the process isn't resident: none; it waits to be resident
       when (not (is_resident (a.status p))) (waits serve_not_resident)

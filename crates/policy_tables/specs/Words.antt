@@ -1,10 +1,16 @@
 -- The words of the tables' conditions, each said once. This project's own.
-use Rattle.std.specs.Prelude.{ℕ, Bool, ◌+◌, ◌&&◌, List, Option, Some, None, length, map, find, slice_get, nat_eq, nat_le, not}
+use Rattle.std.specs.Prelude.{ℕ, Bool, true, false, ◌+◌, ◌&&◌, List, Option, Some, None, length, map, find, slice_get, nat_eq, nat_le, not}
 use Rattle.vm_types.specs.Ring.{choose, filled}
 use Rattle.vm_types.specs.declared.config.Config.{Config}
 use Rattle.vm_types.specs.declared.config.ProcSpec.{ProcSpec}
 use Rattle.vm_types.specs.declared.names.Page.{Page}
+use Rattle.vm_types.specs.declared.names.ProcStatus.{ProcStatus}
+use Rattle.vm_types.specs.declared.names.ProcStatus.TheVariants as status
+use Rattle.vm_types.specs.declared.reference.Ref.{Ref}
 use Rattle.vm_types.specs.declared.reply.Reply.{Reply}
+use Rattle.vm_types.specs.declared.service.Request.{Request}
+use Rattle.vm_types.specs.declared.service.Request.TheVariants as request
+use Rattle.vm_types.specs.declared.service.Service.{Service}
 use Rattle.vm_journal.specs.declared.entry.Entry.{Entry}
 use Rattle.vm_journal.specs.declared.entry.What.{What}
 use Rattle.pager_model.specs.Charging.{is_uncharged}
@@ -16,6 +22,7 @@ use Rattle.pager_model.specs.Lying.{lying_in}
 use Rattle.pager_model.specs.Pager.{Pager}
 use Rattle.pager_model.specs.Transfers.{is_read_on}
 use Rattle.pager_policy.specs.Given.{Given, Seen, given, is_stopped, seen_at, with_reply}
+use Rattle.pager_policy.specs.Moves.{Move, carries, makes, rests}
 use Rattle.pager_policy.specs.Rundown.{Place, shared_place}
 use Rattle.pager_policy.specs.WriteCluster.{writes_from}
 use Rattle.policy_tables.specs.Rows.{only_if, that_is}
@@ -23,6 +30,24 @@ use Rattle.policy_tables.specs.Rows.{only_if, that_is}
 -- what a call of the policy gives, with this reply where its answer shows one
 abbrev pub shown : {X : Type 0} → Reply → Given X → Given X
 shown reply g = given (map (with_reply reply) g.made) g.answer
+
+-- a move with this reply where an answer shows one
+abbrev pub told : Reply → Move → Move
+told reply (makes seat ws c) = makes seat (map (with_reply reply) ws) c
+told reply (carries seat ws onward) = carries seat (map (with_reply reply) ws) onward
+told reply rests = rests
+
+abbrev pub is_gone : ProcStatus → Bool
+is_gone status.Gone = true
+is_gone other = false
+
+abbrev pub reference_of : Request → Option Ref
+reference_of (request.Reference r) = Some r
+reference_of (request.Service s) = None
+
+abbrev pub service_of : Request → Option Service
+service_of (request.Reference r) = None
+service_of (request.Service s) = Some s
 
 -- the process's specification, if an adjustment of its limit is pending
 abbrev pub pending_limit : Config → Pager → ℕ → Option ProcSpec

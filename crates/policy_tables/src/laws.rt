@@ -2,6 +2,7 @@ ghost use Rattle.policy_tables.specs.Laws.{
   ClustersGoByCases,
   ComingGoesByCases,
   LeavingGoesByCases,
+  MovesGoByCases,
   ReferencesGoByCases,
   RundownGoesByCases,
   ServicesGoByCases,
@@ -40,4 +41,11 @@ pub fn coming_goes_by_cases()
 /// Each move of the rundown, wherever it is, is what the first row of the table `rundown_cases` says that holds.
 pub fn rundown_goes_by_cases()
     ensures { RundownGoesByCases }
+{}
+
+/// Each move of the serial policy, wherever it is, is what the first row of the tables `move_cases` says that
+/// holds, and one holds always. It is asked that the next request is of one of the configuration's processes, and
+/// that the flat machine has the pager's mappings; both are so in each run of a well-formed configuration.
+pub fn moves_go_by_cases()
+    ensures { MovesGoByCases }
 {}

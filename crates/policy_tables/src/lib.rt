@@ -5,6 +5,6 @@
 mod laws;
 
 pub use laws::{
-    clusters_go_by_cases, coming_goes_by_cases, leaving_goes_by_cases, references_go_by_cases,
-    rundown_goes_by_cases, services_go_by_cases,
+    clusters_go_by_cases, coming_goes_by_cases, leaving_goes_by_cases, moves_go_by_cases,
+    references_go_by_cases, rundown_goes_by_cases, services_go_by_cases,
 };
