@@ -26,7 +26,7 @@ use Rattle.pager_model.specs.Spoken.{flat_after}
 use Rattle.pager_model.specs.Transfers.{is_read_on}
 use Rattle.pager_policy.specs.Advance.{GivenNext, advance_gives, again_block_busy, again_charging, again_collided, again_modified_full, again_no_frame, again_not_resident, cluster_targets, collide_given, entry_given, fault_given, frame_given, gives_again, held_given, is_busy_block, is_named, limit_given, mapped_given, next_again, next_answered, next_carry, next_more, read_given, refused_given, replace_given, replace_seen, room_given, source_of}
 use Rattle.pager_policy.specs.Given.{Seen, eviction, given, is_stopped, page_address, reads_made, reuse_first}
-use Rattle.policy_tables.specs.AdvanceCases.{advance_cases, fault_cases}
+use Rattle.policy_tables.specs.AdvanceCases.{advance_cases}
 use Rattle.policy_tables.specs.Rows.{first_case, first_of_list, if_there, is_none_left, only_if, rows_on, that_is, when}
 use Rattle.policy_tables.specs.Words.{OpenRead, foreign_read, is_at_limit, is_page_file_charged, may_go, open_read, pending_limit, shown, victim}
 use Rattle.policy_tables.proofs.Shown.{reads_shown, reuse_shown}
@@ -144,45 +144,47 @@ module _ (config : Config) (past : List Entry) (a : Pager) (p : ℕ) (r : Ref) (
         let there = flat_mapped config (flat_after config past) p r ((flat_after config past).map p v) none in
         (page_behind config p v (there.0).origin, ap (page_at config p v) (ap (λ (m : Map). m p v) same ∙ there.1))
 
-    entries : flat_refusal config (flat_after config past) p r ≡ None → (o : Option Valid)
-        → Says (if_there o (λ (e : Valid). given (what.Done r reply ∷ []) next_answered) ∷ rows_on (page_by config a.map p v) (fault_cases config past a p r reply)) (entry_given config past a p r o)
-    entries none (Some e) = refl
-    entries none None =
-        subst (λ (o : Option Page). Says (rows_on o (fault_cases config past a p r reply)) (mapped_given config past a p r o)) (sym (mapped none).1) (faults (mapped none).0 (holder config a.page (mapped none).0))
+    -- whose page has these rows
+    module _ (rows : Page → List (Option GivenNext)) (faulted : (g : Page) → Says (rows g) (fault_given config past a p r g (holder config a.page g))) where
+      entries : flat_refusal config (flat_after config past) p r ≡ None → (o : Option Valid)
+          → Says (if_there o (λ (e : Valid). given (what.Done r reply ∷ []) next_answered) ∷ rows_on (page_by config a.map p v) rows) (entry_given config past a p r o)
+      entries none (Some e) = refl
+      entries none None =
+          subst (λ (o : Option Page). Says (rows_on o rows) (mapped_given config past a p r o)) (sym (mapped none).1) (faulted (mapped none).0)
 
-    refused : (o : Option Why) → flat_refusal config (flat_after config past) p r ≡ o
-        → Says (if_there o (λ (why : Why). given (what.Denied r why ∷ []) next_answered) ∷ if_there (entry_of a.valid p v) (λ (e : Valid). given (what.Done r reply ∷ []) next_answered) ∷ rows_on (page_by config a.map p v) (fault_cases config past a p r reply))
-        (refused_given config past a p r o)
-    refused (Some why) is = refl
-    refused None is = entries is (entry_of a.valid p v)
+      refused : (o : Option Why) → flat_refusal config (flat_after config past) p r ≡ o
+          → Says (if_there o (λ (why : Why). given (what.Denied r why ∷ []) next_answered) ∷ if_there (entry_of a.valid p v) (λ (e : Valid). given (what.Done r reply ∷ []) next_answered) ∷ rows_on (page_by config a.map p v) rows)
+          (refused_given config past a p r o)
+      refused (Some why) is = refl
+      refused None is = entries is (entry_of a.valid p v)
 
-    abbrev after_limit : List (Option GivenNext)
-    after_limit =
-        if_there (flat_refusal config (flat_after config past) p r) (λ (why : Why). given (what.Denied r why ∷ []) next_answered)
-        ∷ if_there (entry_of a.valid p v) (λ (e : Valid). given (what.Done r reply ∷ []) next_answered)
-        ∷ rows_on (page_by config a.map p v) (fault_cases config past a p r reply)
+      abbrev after_limit : List (Option GivenNext)
+      after_limit =
+          if_there (flat_refusal config (flat_after config past) p r) (λ (why : Why). given (what.Denied r why ∷ []) next_answered)
+          ∷ if_there (entry_of a.valid p v) (λ (e : Valid). given (what.Done r reply ∷ []) next_answered)
+          ∷ rows_on (page_by config a.map p v) rows
 
-    limited : (o : Option ProcSpec) → slice_get config.procs p ≡ o
-        → Says (if_there o (λ (spec : ProcSpec). given (what.Limit (adjust config.params spec (a.faults p) (a.limit p) (length a.free)) (a.faults p) ∷ []) next_more) ∷ after_limit) (limit_given config a p o)
-    limited None is = absurd (inside (slice_get_cases config.procs p).1)
-      where
-        inside : ((spec : ProcSpec) × (p < length config.procs) × (slice_get config.procs p ≡ Some spec) × (slice_index_or config.procs p spec ≡ spec)) ⊎ ((length config.procs ≤ p) × (slice_get config.procs p ≡ None)) → ⊥
-        inside (inl found) = none-some found.0 (sym is ∙ found.2)
-        inside (inr outside) = omega (arith, process, outside.0)
-    limited (Some spec) is = refl
+      limited : (o : Option ProcSpec) → slice_get config.procs p ≡ o
+          → Says (if_there o (λ (spec : ProcSpec). given (what.Limit (adjust config.params spec (a.faults p) (a.limit p) (length a.free)) (a.faults p) ∷ []) next_more) ∷ after_limit) (limit_given config a p o)
+      limited None is = absurd (inside (slice_get_cases config.procs p).1)
+        where
+          inside : ((spec : ProcSpec) × (p < length config.procs) × (slice_get config.procs p ≡ Some spec) × (slice_index_or config.procs p spec ≡ spec)) ⊎ ((length config.procs ≤ p) × (slice_get config.procs p ≡ None)) → ⊥
+          inside (inl found) = none-some found.0 (sym is ∙ found.2)
+          inside (inr outside) = omega (arith, process, outside.0)
+      limited (Some spec) is = refl
 
-    pending : (b : Bool)
-        → Says (if_there (only_if b (slice_get config.procs p)) (λ (spec : ProcSpec). given (what.Limit (adjust config.params spec (a.faults p) (a.limit p) (length a.free)) (a.faults p) ∷ []) next_more) ∷ after_limit)
-        (cond b (limit_given config a p (slice_get config.procs p)) (refused_given config past a p r (flat_refusal config (flat_after config past) p r)))
-    pending true = limited (slice_get config.procs p) refl
-    pending false = refused (flat_refusal config (flat_after config past) p r) refl
+      pending : (b : Bool)
+          → Says (if_there (only_if b (slice_get config.procs p)) (λ (spec : ProcSpec). given (what.Limit (adjust config.params spec (a.faults p) (a.limit p) (length a.free)) (a.faults p) ∷ []) next_more) ∷ after_limit)
+          (cond b (limit_given config a p (slice_get config.procs p)) (refused_given config past a p r (flat_refusal config (flat_after config past) p r)))
+      pending true = limited (slice_get config.procs p) refl
+      pending false = refused (flat_refusal config (flat_after config past) p r) refl
 
-    firsts : (here : Bool)
-        → Says (when (not here) (given [] (next_again again_not_resident)) ∷ if_there (pending_limit config a p) (λ (spec : ProcSpec). given (what.Limit (adjust config.params spec (a.faults p) (a.limit p) (length a.free)) (a.faults p) ∷ []) next_more) ∷ after_limit)
-        (cond (not here) (gives_again again_not_resident) (cond (is_pending config (a.references p)) (limit_given config a p (slice_get config.procs p)) (refused_given config past a p r (flat_refusal config (flat_after config past) p r))))
-    firsts false = refl
-    firsts true = pending (is_pending config (a.references p))
+      firsts : (here : Bool)
+          → Says (when (not here) (given [] (next_again again_not_resident)) ∷ if_there (pending_limit config a p) (λ (spec : ProcSpec). given (what.Limit (adjust config.params spec (a.faults p) (a.limit p) (length a.free)) (a.faults p) ∷ []) next_more) ∷ after_limit)
+          (cond (not here) (gives_again again_not_resident) (cond (is_pending config (a.references p)) (limit_given config a p (slice_get config.procs p)) (refused_given config past a p r (flat_refusal config (flat_after config past) p r))))
+      firsts false = refl
+      firsts true = pending (is_pending config (a.references p))
 
     pub goes_by_cases : Says (advance_cases config past a p r reply) (advance_gives config past a p r)
     unfolding advance_cases
-    goes_by_cases = firsts (is_resident (a.status p))
+    goes_by_cases = firsts _ (λ g. faults g (holder config a.page g)) (is_resident (a.status p))

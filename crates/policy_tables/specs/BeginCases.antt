@@ -21,6 +21,7 @@ module _ (config : Config) (a : Pager) (reason : Reason) where
       when (nat_eq (length a.modified) 0) (given [] begin_nothing)
       -- the list is to be shortened, and is no longer than LOLIMIT: none; there is nothing to write
       ∷ when (is_short_enough config a reason) (given [] begin_nothing)
-      -- there are frames to write: the OUTs of the list's first frames whose blocks adjoin, at most WRTCLUSTER; the writes are carried
+      -- there are frames to write: the OUTs of the list's first frames whose blocks adjoin, at most WRTCLUSTER; the
+      -- writes are carried
       ∷ otherwise (given (cluster config a) begin_carry)
       ∷ []

@@ -83,7 +83,8 @@ module _ (config : Config) (past : List Entry) (a : Pager) (reply : Reply) where
   freeing_cases left begun p =
       -- a process is being left: a step of its leaving; here
       row_on left (λ (q : ℕ). leaves (swapper_of config) q (ends_part (control asking)) (freeing true p))
-      -- the free list is shorter than FREELIM, and once begun than FREEGOAL, and a frame can be found: finding a frame; here
+      -- the free list is shorter than FREELIM, and once begun than FREEGOAL, and a frame can be found: finding a
+      -- frame; here
       ∷ only_if (is_freeing config a begun && is_freeing config a true) (first_case (finding_cases (swapper_of config) p (ends_part (control asking)) (freeing true p)))
       -- the part is done: the rows of the next request
       ∷ asking_cases left
@@ -91,7 +92,8 @@ module _ (config : Config) (past : List Entry) (a : Pager) (reply : Reply) where
   -- in the writer's part after an answer to process p, which may have begun
   abbrev pub saving_cases : Bool → ℕ → List (Option Move)
   saving_cases begun p =
-      -- the modified list is longer than HILIMIT, and once begun than LOLIMIT: a cluster; here, and the swapper's part if all of it failed
+      -- the modified list is longer than HILIMIT, and once begun than LOLIMIT: a cluster; here, and the swapper's
+      -- part if all of it failed
       row_on (only_if (is_saving config a begun) (first_case (begin_cases config a reason_high))) (λ (g : Given BeginIs). after_beginning config p g.made g.answer)
       -- the part is done: the rows of the swapper's part
       ∷ freeing_cases None false p

@@ -30,7 +30,8 @@ module _ (config : Config) (past : List Entry) (a : Pager) where
       when (not (is_shared_listed a)) rests
       -- writes are left in the round: a cluster; its writes fewer are left
       ∷ when (nat_lt 0 left) (writes_round following left)
-      -- a round is left: a cluster; as many writes are left as the list had frames, but for these, and one round fewer
+      -- a round is left: a cluster; as many writes are left as the list had frames, but for these, and one round
+      -- fewer
       ∷ if_there (one_fewer following) (λ (more : ℕ). writes_round more (length a.modified))
       -- no round is left: none; it rests
       ∷ otherwise rests
@@ -40,11 +41,14 @@ module _ (config : Config) (past : List Entry) (a : Pager) where
   rundown_cases (evicting p n failed) =
       -- the next shared page from this slot on may be evicted: EVICT of it, for RUNDOWN; at the slot behind it
       if_there (that_is may_be_evicted (shared_at a (shared_place config a p n))) evicts
-      -- it may not, and no cluster for it has failed: a cluster; at its slot, and that its cluster failed if all of it did
+      -- it may not, and no cluster for it has failed: a cluster; at its slot, and that its cluster failed if all of
+      -- it did
       ∷ if_there (only_if (not failed) (shared_at a (shared_place config a p n))) writes_for
-      -- its cluster failed, and the next shared page behind it may be evicted: EVICT of that one, for RUNDOWN; at the slot behind that
+      -- its cluster failed, and the next shared page behind it may be evicted: EVICT of that one, for RUNDOWN; at the
+      -- slot behind that
       ∷ if_there (that_is may_be_evicted (shared_behind config a (shared_at a (shared_place config a p n)))) evicts
-      -- its cluster failed, and that page may not be evicted: a cluster; at its slot, and that its cluster failed if all of it did
+      -- its cluster failed, and that page may not be evicted: a cluster; at its slot, and that its cluster failed if
+      -- all of it did
       ∷ if_there (shared_behind config a (shared_at a (shared_place config a p n))) writes_for
       -- no slot has such a page: the rows of the rounds, of which two are left
       ∷ rounds_cases 2 0

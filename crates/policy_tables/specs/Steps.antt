@@ -1,4 +1,5 @@
--- What a step leads to, by its answer, and where the policy is then. This project's own.
+-- What a step leads to, by its answer, and where the policy is then. Where a step waits the policy rests: before the
+-- rundown that is so nowhere, by a law of serial_laws. This project's own.
 use Rattle.std.specs.Prelude.{ℕ, true, false, List, Option, Some, None}
 use Rattle.vm_types.specs.declared.config.Config.{Config}
 use Rattle.vm_journal.specs.declared.entry.What.{What}
