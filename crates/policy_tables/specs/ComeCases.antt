@@ -41,6 +41,6 @@ module _ (config : Config) (past : List Entry) (a : Pager) (p : ℕ) where
       ∷ if_there out (λ (n : ℕ). given (reads_made a.page a.free (come_targets a p (run_from (λ (m : ℕ). passes (is_out_page config a) (lying_in a p m)) n (lesser config.params.pfc (length a.free))))) swap_carry)
       -- a page of the process is being read: none; it waits for a flight
       ∷ when (has_come p (open_flights past)) (waits swap_in_flight)
-      -- no swap block has a page: TURN to resident; it has come
+      -- none of these: TURN to resident; it has come
       ∷ otherwise (given (what.Turn (proc p) status.Resident ∷ []) swap_settled)
       ∷ []

@@ -3,29 +3,29 @@ use Rattle.std.specs.Prelude.{◌≡◌, ℕ, ◌<◌, List, Some, length}
 use Rattle.vm_types.specs.declared.config.Config.{Config}
 use Rattle.vm_types.specs.declared.reference.Ref.{Ref}
 use Rattle.vm_types.specs.declared.reply.Reply.{Reply}
+use Rattle.vm_types.specs.declared.service.Service.{Service}
+use Rattle.vm_types.specs.declared.config.Task.{Task}
 use Rattle.vm_journal.specs.declared.entry.Entry.{Entry}
 use Rattle.pager_model.specs.Pager.{Pager}
 use Rattle.pager_model.specs.Spoken.{flat_after}
+use Rattle.pager_model.specs.Run.{pager_after}
 use Rattle.pager_policy.specs.Advance.{advance_gives}
+use Rattle.pager_policy.specs.Serve.{serve_gives}
+use Rattle.pager_policy.specs.Swap.{come_gives, leave_gives}
+use Rattle.pager_policy.specs.WriteCluster.{Reason, begin_gives}
+use Rattle.pager_policy.specs.Cleaning.{Cleaning}
+use Rattle.pager_policy.specs.Rundown.{cleaning_move}
+use Rattle.pager_policy.specs.Moves.{Control}
+use Rattle.pager_policy.specs.Policy.{move_of, next_task}
 use Rattle.policy_tables.specs.AdvanceCases.{advance_cases}
 use Rattle.policy_tables.specs.Rows.{first_case}
 use Rattle.policy_tables.specs.Words.{shown, told}
 use Rattle.policy_tables.specs.ServeCases.{serve_cases}
-use Rattle.pager_policy.specs.Serve.{serve_gives}
-use Rattle.vm_types.specs.declared.service.Service.{Service}
 use Rattle.policy_tables.specs.BeginCases.{begin_cases}
 use Rattle.policy_tables.specs.LeaveCases.{leave_cases}
 use Rattle.policy_tables.specs.ComeCases.{come_cases}
-use Rattle.pager_policy.specs.Swap.{come_gives, leave_gives}
-use Rattle.pager_policy.specs.WriteCluster.{Reason, begin_gives}
 use Rattle.policy_tables.specs.RundownCases.{rundown_cases}
-use Rattle.pager_policy.specs.Cleaning.{Cleaning}
-use Rattle.pager_policy.specs.Rundown.{cleaning_move}
 use Rattle.policy_tables.specs.MoveCases.{move_cases}
-use Rattle.pager_policy.specs.Moves.{Control}
-use Rattle.pager_policy.specs.Policy.{move_of, next_task}
-use Rattle.pager_model.specs.Run.{pager_after}
-use Rattle.vm_types.specs.declared.config.Task.{Task}
 
 -- what is made for a reference of a process is the first row that holds, whatever reply its answer shows, where the
 -- flat machine has the pager's mappings, as in each run

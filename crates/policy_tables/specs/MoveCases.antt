@@ -43,7 +43,7 @@ module _ (config : Config) (past : List Entry) (a : Pager) (reply : Reply) where
   finding_cases seat p ends doing =
       -- the modified list isn't empty: a cluster; here
       when (nat_lt 0 (length a.modified)) (writes config a seat ends (control doing))
-      -- another process is leaving: a step of its leaving; here, while it is left
+      -- another process is leaving: a step of its leaving, a cluster if its eviction is stopped; here, while it is left
       ∷ row_on (leaving_other config a p) (λ (q : ℕ). leaves seat q ends doing)
       -- a process may leave: TURN of it to leaving; here, while it is left
       ∷ if_there (victim_gives config past a (Some p)) (λ (q : ℕ). makes seat (what.Turn (proc q) status.Leaving ∷ []) (while_leaving doing q))
@@ -52,41 +52,44 @@ module _ (config : Config) (past : List Entry) (a : Pager) (reply : Reply) where
   abbrev finds : ℕ → Move
   finds p = or_rest (first_case (finding_cases p p ends_request asking))
 
-  -- at a request of process p, while this one is left
+  -- at a request of process p
   abbrev pub request_cases : Option ℕ → ℕ → Request → List (Option Move)
   request_cases left p request =
-      -- a process is being left: a step of its leaving; here
+      -- a process is being left: a step of its leaving, a cluster if its eviction is stopped; here
       row_on left (λ (q : ℕ). leaves p q ends_request asking)
-      -- the process is leaving: a step of its leaving; here, while it is left
+      -- the process is leaving: a step of its leaving, a cluster if its eviction is stopped; here, while it is left
       ∷ only_if (is_leaving (a.status p)) (leaves p p ends_request asking)
       -- it is gone, and another one is coming: TURN of that one to leaving; here, while that one is left
       ∷ if_there (only_if (is_gone (a.status p)) (coming_process config a)) (λ (q : ℕ). makes p (what.Turn (proc q) status.Leaving ∷ []) (while_leaving asking q))
       -- it is gone, and none is coming: TURN of it to coming; here
       ∷ when (is_gone (a.status p)) (makes p (what.Turn (proc p) status.Coming ∷ []) (control asking))
-      -- it is coming: a step of its coming; here
+      -- it is coming: a step of its coming, for want of a frame finding one; here
       ∷ only_if (is_coming (a.status p)) (if_there (first_case (come_cases config past a p)) (λ (g : GivenSwap). after_coming p (finds p) g.made g.answer))
-      -- it is resident, and makes a reference: a step for it; here, and after an answer the writer's part
+      -- it is resident, and makes a reference: a step for it, a cluster if an eviction is stopped, for want of a frame
+      -- finding one; here, and after an answer the writer's part
       ∷ row_on (reference_of request) (λ (r : Ref). if_there (first_case (advance_cases config past a p r reply)) (λ (g : GivenNext). after_advancing config a p (finds p) g.made g.answer))
-      -- it is resident, and asks for a service: a step for it; here, and after an answer the writer's part
+      -- it is resident, and asks for a service: a step for it, a cluster if an eviction is stopped; here, and after an
+      -- answer the writer's part
       ∷ row_on (service_of request) (λ (s : Service). if_there (first_case (serve_cases config past a p s)) (λ (g : GivenServe). after_serving config a p g.made g.answer))
       ∷ []
 
+  -- at the next request
   abbrev pub asking_cases : Option ℕ → List (Option Move)
   asking_cases left =
       -- no request is left: none; it rests
       when (not (is_some (next_task config past))) rests
-      -- one is: the rows of the next request
+      -- a request is left: the rows at a request
       ∷ rows_on (next_task config past) (λ (task : Task). request_cases left (task.proc).0 task.request)
 
   -- in the swapper's part after an answer to process p, which may have begun
   abbrev pub freeing_cases : Option ℕ → Bool → ℕ → List (Option Move)
   freeing_cases left begun p =
-      -- a process is being left: a step of its leaving; here
+      -- a process is being left: a step of its leaving, a cluster if its eviction is stopped; here
       row_on left (λ (q : ℕ). leaves (swapper_of config) q (ends_part (control asking)) (freeing true p))
       -- the free list is shorter than FREELIM, and once begun than FREEGOAL, and a frame can be found: finding a
       -- frame; here
       ∷ only_if (is_freeing config a begun && is_freeing config a true) (first_case (finding_cases (swapper_of config) p (ends_part (control asking)) (freeing true p)))
-      -- the part is done: the rows of the next request
+      -- the part is done: the rows at the next request
       ∷ asking_cases left
 
   -- in the writer's part after an answer to process p, which may have begun
@@ -95,7 +98,7 @@ module _ (config : Config) (past : List Entry) (a : Pager) (reply : Reply) where
       -- the modified list is longer than HILIMIT, and once begun than LOLIMIT: a cluster; here, and the swapper's
       -- part if all of it failed
       row_on (only_if (is_saving config a begun) (first_case (begin_cases config a reason_high))) (λ (g : Given BeginIs). after_beginning config p g.made g.answer)
-      -- the part is done: the rows of the swapper's part
+      -- the part is done: the rows in the swapper's part
       ∷ freeing_cases None false p
 
   abbrev pub move_cases : Control → List (Option Move)

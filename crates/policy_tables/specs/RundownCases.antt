@@ -24,6 +24,7 @@ module _ (config : Config) (past : List Entry) (a : Pager) where
   abbrev writes_round : ℕ → ℕ → Move
   writes_round following left = carries (writer_of config) (cluster config a) (λ (all first : Bool). goes (control (cleaning (rounds following (left - length (cluster config a))))))
 
+  -- in the rounds of writing
   abbrev pub rounds_cases : ℕ → ℕ → List (Option Move)
   rounds_cases following left =
       -- no frame of the modified list holds a shared page: none; it rests
@@ -37,6 +38,7 @@ module _ (config : Config) (past : List Entry) (a : Pager) where
       ∷ otherwise rests
       ∷ []
 
+  -- at a slot of a process
   unfoldable pub rundown_cases : Cleaning → List (Option Move)
   rundown_cases (evicting p n failed) =
       -- the next shared page from this slot on may be evicted: EVICT of it, for RUNDOWN; at the slot behind it
@@ -50,6 +52,6 @@ module _ (config : Config) (past : List Entry) (a : Pager) where
       -- its cluster failed, and that page may not be evicted: a cluster; at its slot, and that its cluster failed if
       -- all of it did
       ∷ if_there (shared_behind config a (shared_at a (shared_place config a p n))) writes_for
-      -- no slot has such a page: the rows of the rounds, of which two are left
+      -- no slot has such a page: the rows in the rounds, of which two are left
       ∷ rounds_cases 2 0
   rundown_cases (rounds following left) = rounds_cases following left
