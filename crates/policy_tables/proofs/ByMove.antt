@@ -32,7 +32,8 @@ use Rattle.policy_tables.specs.AdvanceCases.{advance_cases}
 use Rattle.policy_tables.specs.BeginCases.{begin_cases}
 use Rattle.policy_tables.specs.ComeCases.{come_cases}
 use Rattle.policy_tables.specs.LeaveCases.{leave_cases}
-use Rattle.policy_tables.specs.MoveCases.{asking_cases, finding_cases, freeing_cases, move_cases, request_cases, saving_cases}
+use Rattle.policy_tables.specs.AskingCases.{asking_cases, finding_cases, request_cases}
+use Rattle.policy_tables.specs.MoveCases.{freeing_cases, move_cases, saving_cases}
 use Rattle.policy_tables.specs.Rows.{first_case, if_there, only_if, otherwise, row_on, rows_on, when}
 use Rattle.policy_tables.specs.RundownCases.{rounds_cases, rundown_cases}
 use Rattle.policy_tables.specs.ServeCases.{serve_cases}

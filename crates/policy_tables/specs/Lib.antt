@@ -1,4 +1,5 @@
 pub mod AdvanceCases
+pub mod AskingCases
 pub mod BeginCases
 pub mod ComeCases
 pub mod Laws

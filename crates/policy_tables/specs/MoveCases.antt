@@ -1,96 +1,33 @@
 -- The moves of the serial policy, as tables, by where it is. This project's own; the writer's and swapper's triggers
 -- by Kenah and Bate, "VAX/VMS Internals and Data Structures", the modified page writer (HILIMIT, LOLIMIT) and the
 -- swapper (FREELIM, FREEGOAL).
-use Rattle.std.specs.Prelude.{ℕ, Bool, true, false, ◌&&◌, List, [], ◌∷◌, Option, Some, None, length, nat_lt, not}
-use Rattle.std.specs.Option.{is_some}
-use Rattle.vm_types.specs.Status.{is_coming, is_leaving}
+use Rattle.std.specs.Prelude.{ℕ, Bool, true, false, ◌&&◌, List, ◌∷◌, Option, None}
 use Rattle.vm_types.specs.declared.config.Config.{Config}
-use Rattle.vm_types.specs.declared.config.Task.{Task}
-use Rattle.vm_types.specs.declared.names.ProcStatus.TheVariants as status
-use Rattle.vm_types.specs.declared.reference.Ref.{Ref}
 use Rattle.vm_types.specs.declared.reply.Reply.{Reply}
-use Rattle.vm_types.specs.declared.service.Request.{Request}
-use Rattle.vm_types.specs.declared.service.Service.{Service}
 use Rattle.vm_journal.specs.declared.entry.Entry.{Entry}
-use Rattle.vm_journal.specs.declared.entry.What.TheVariants as what
-use Rattle.pager_model.specs.Maps.{proc}
 use Rattle.pager_model.specs.Pager.{Pager}
-use Rattle.pager_policy.specs.Advance.{GivenNext}
 use Rattle.pager_policy.specs.Given.{Given}
-use Rattle.pager_policy.specs.Moves.{Control, Doing, Move, asking, cleaning, control, freeing, makes, rests, saving, while_leaving}
-use Rattle.pager_policy.specs.Policy.{Ends, coming_process, ends_part, ends_request, is_freeing, is_saving, leaving_other, next_task, swapper_of}
-use Rattle.pager_policy.specs.Serve.{GivenServe}
-use Rattle.pager_policy.specs.Swap.{GivenSwap, victim_gives}
+use Rattle.pager_policy.specs.Moves.{Control, Doing, Move, asking, cleaning, control, freeing, saving}
+use Rattle.pager_policy.specs.Policy.{ends_part, is_freeing, is_saving, swapper_of}
 use Rattle.pager_policy.specs.WriteCluster.{BeginIs, reason_high}
-use Rattle.policy_tables.specs.AdvanceCases.{advance_cases}
 use Rattle.policy_tables.specs.BeginCases.{begin_cases}
-use Rattle.policy_tables.specs.ComeCases.{come_cases}
-use Rattle.policy_tables.specs.LeaveCases.{leave_cases}
-use Rattle.policy_tables.specs.Rows.{first_case, if_there, only_if, row_on, rows_on, when}
+use Rattle.policy_tables.specs.Rows.{first_case, only_if, row_on}
 use Rattle.policy_tables.specs.RundownCases.{rundown_cases}
-use Rattle.policy_tables.specs.ServeCases.{serve_cases}
-use Rattle.policy_tables.specs.Steps.{after_advancing, after_beginning, after_coming, after_leaving, after_serving, or_rest, writes}
-use Rattle.policy_tables.specs.Words.{is_gone, reference_of, service_of}
+use Rattle.policy_tables.specs.Steps.{after_beginning}
+use Rattle.policy_tables.specs.AskingCases.{asking_cases, finding_cases, leaves}
 
 -- to a reference that is answered next memory without frames and disk replies this
 module _ (config : Config) (past : List Entry) (a : Pager) (reply : Reply) where
-  -- a step of the leaving of process q, by this seat
-  abbrev leaves : ℕ → ℕ → Ends → Doing → Option Move
-  leaves seat q ends doing = if_there (first_case (leave_cases config past a q)) (λ (g : GivenSwap). after_leaving config a seat q ends doing g.made g.answer)
-
-  -- finding a frame, by this seat, for process p
-  abbrev pub finding_cases : ℕ → ℕ → Ends → Doing → List (Option Move)
-  finding_cases seat p ends doing =
-      -- the modified list isn't empty: a cluster; here
-      when (nat_lt 0 (length a.modified)) (writes config a seat ends (control doing))
-      -- another process is leaving: a step of its leaving, a cluster if its eviction is stopped; here, while it is left
-      ∷ row_on (leaving_other config a p) (λ (q : ℕ). leaves seat q ends doing)
-      -- a process may leave: TURN of it to leaving; here, while it is left
-      ∷ if_there (victim_gives config past a (Some p)) (λ (q : ℕ). makes seat (what.Turn (proc q) status.Leaving ∷ []) (while_leaving doing q))
-      ∷ []
-
-  abbrev finds : ℕ → Move
-  finds p = or_rest (first_case (finding_cases p p ends_request asking))
-
-  -- at a request of process p
-  abbrev pub request_cases : Option ℕ → ℕ → Request → List (Option Move)
-  request_cases left p request =
-      -- a process is being left: a step of its leaving, a cluster if its eviction is stopped; here
-      row_on left (λ (q : ℕ). leaves p q ends_request asking)
-      -- the process is leaving: a step of its leaving, a cluster if its eviction is stopped; here, while it is left
-      ∷ only_if (is_leaving (a.status p)) (leaves p p ends_request asking)
-      -- it is gone, and another one is coming: TURN of that one to leaving; here, while that one is left
-      ∷ if_there (only_if (is_gone (a.status p)) (coming_process config a)) (λ (q : ℕ). makes p (what.Turn (proc q) status.Leaving ∷ []) (while_leaving asking q))
-      -- it is gone, and none is coming: TURN of it to coming; here
-      ∷ when (is_gone (a.status p)) (makes p (what.Turn (proc p) status.Coming ∷ []) (control asking))
-      -- it is coming: a step of its coming, for want of a frame finding one; here
-      ∷ only_if (is_coming (a.status p)) (if_there (first_case (come_cases config past a p)) (λ (g : GivenSwap). after_coming p (finds p) g.made g.answer))
-      -- it is resident, and makes a reference: a step for it, a cluster if an eviction is stopped, for want of a frame
-      -- finding one; here, and after an answer the writer's part
-      ∷ row_on (reference_of request) (λ (r : Ref). if_there (first_case (advance_cases config past a p r reply)) (λ (g : GivenNext). after_advancing config a p (finds p) g.made g.answer))
-      -- it is resident, and asks for a service: a step for it, a cluster if an eviction is stopped; here, and after an
-      -- answer the writer's part
-      ∷ row_on (service_of request) (λ (s : Service). if_there (first_case (serve_cases config past a p s)) (λ (g : GivenServe). after_serving config a p g.made g.answer))
-      ∷ []
-
-  -- at the next request
-  abbrev pub asking_cases : Option ℕ → List (Option Move)
-  asking_cases left =
-      -- no request is left: none; it rests
-      when (not (is_some (next_task config past))) rests
-      -- a request is left: the rows at a request
-      ∷ rows_on (next_task config past) (λ (task : Task). request_cases left (task.proc).0 task.request)
-
   -- in the swapper's part after an answer to process p, which may have begun
   abbrev pub freeing_cases : Option ℕ → Bool → ℕ → List (Option Move)
   freeing_cases left begun p =
       -- a process is being left: a step of its leaving, a cluster if its eviction is stopped; here
-      row_on left (λ (q : ℕ). leaves (swapper_of config) q (ends_part (control asking)) (freeing true p))
+      row_on left (λ (q : ℕ). leaves config past a reply (swapper_of config) q (ends_part (control asking)) (freeing true p))
       -- the free list is shorter than FREELIM, and once begun than FREEGOAL, and a frame can be found: finding a
       -- frame; here
-      ∷ only_if (is_freeing config a begun && is_freeing config a true) (first_case (finding_cases (swapper_of config) p (ends_part (control asking)) (freeing true p)))
+      ∷ only_if (is_freeing config a begun && is_freeing config a true) (first_case (finding_cases config past a reply (swapper_of config) p (ends_part (control asking)) (freeing true p)))
       -- the part is done: the rows at the next request
-      ∷ asking_cases left
+      ∷ asking_cases config past a reply left
 
   -- in the writer's part after an answer to process p, which may have begun
   abbrev pub saving_cases : Bool → ℕ → List (Option Move)
@@ -104,7 +41,7 @@ module _ (config : Config) (past : List Entry) (a : Pager) (reply : Reply) where
   abbrev pub move_cases : Control → List (Option Move)
   move_cases c = by c.doing where
     by : Doing → List (Option Move)
-    by asking = asking_cases c.leaving
+    by asking = asking_cases config past a reply c.leaving
     by (saving begun p) = saving_cases begun p
     by (freeing begun p) = freeing_cases c.leaving begun p
     by (cleaning at) = rundown_cases config past a at
