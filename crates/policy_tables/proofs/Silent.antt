@@ -90,7 +90,7 @@ module _ (reply : Reply) where
   unfolding leave_cases
   leave_silent config past a p =
       of_first Silent (leave_cases config past a p)
-      (of_there Silent _ _ (λ s. refl), (of_there Silent _ _ (λ s. refl), (of_there Silent _ _ (λ s. refl), (of_there Silent _ _ (λ s. refl), (of_there Silent _ _ (λ n. slots_silent a p _), (of_when Silent _ _ refl, (refl, tt)))))))
+      (of_there Silent _ _ (λ s. refl), (of_there Silent _ _ (λ s. refl), (of_there Silent _ _ (λ s. refl), (of_there Silent _ _ (λ n. slots_silent a p _), (of_when Silent _ _ refl, (refl, tt))))))
       (leave_gives config past a p) (leave_by_cases config past a p)
 
   pub come_silent : (config : Config) (past : List Entry) (a : Pager) (p : ℕ) → IsSilent (come_gives config past a p).made

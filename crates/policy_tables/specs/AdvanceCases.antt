@@ -26,7 +26,7 @@ use Rattle.pager_policy.specs.Given.{Seen, eviction, given, page_address, reads_
 use Rattle.policy_tables.specs.Rows.{first_of_list, if_there, is_none_left, only_if, rows_on, that_is, when}
 use Rattle.policy_tables.specs.Words.{OpenRead, foreign_read, is_at_limit, is_page_file_charged, may_go, pending_limit, victim}
 
--- of a reference by process p, to which memory without frames and disk, the flat machine, shows this reply
+-- of a reference by process p; this reply, whatever it is, stands in the DONE that answers it
 module _ (config : Config) (past : List Entry) (a : Pager) (p : ℕ) (r : Ref) (reply : Reply) where
   abbrev v : ℕ
   v = page_number (r.addr).0
@@ -59,11 +59,11 @@ module _ (config : Config) (past : List Entry) (a : Pager) (p : ℕ) (r : Ref) (
   advance_cases =
       -- the process isn't resident: none; it waits until it is
       when (not (is_resident (a.status p))) (waits again_not_resident)
-      -- an adjustment of its limit is pending: LIMIT; a step more
+      -- an adjustment of its limit is pending (AWSTIME): LIMIT; a step more
       ∷ if_there (pending_limit config a p) (λ (spec : ProcSpec). more (limit_entry spec))
       -- the flat machine refuses the reference: DENIED with its cause; answered
       ∷ if_there (flat_refusal config (flat_after config past) p r) (λ (why : Why). answered (what.Denied r why ∷ []))
-      -- the page's entry is valid: DONE with the flat machine's reply; answered
+      -- the process's entry for the page is valid: DONE with the reply; answered
       ∷ if_there (entry_of a.valid p v) (λ (e : Valid). answered (what.Done r reply ∷ []))
       ∷ rows_on (page_by config a.map p v) (λ (g : Page).
       -- another seat reads the page, and the process's last collision named another read or none: COLLIDE; a step
@@ -71,24 +71,25 @@ module _ (config : Config) (past : List Entry) (a : Pager) (p : ℕ) (r : Ref) (
       if_there (that_is is_new (read_by_other g)) (λ (met : OpenRead). more (what.Collide here (pfn met.frame) (met.flight).start))
       -- another seat reads the page: none; it waits for that read
       ∷ if_there (read_by_other g) (λ (met : OpenRead). waits again_collided)
-      -- the page is paged and not charged, and as many pages are charged as the page file has blocks: none; it waits
-      -- for a charge
+      -- the page is paged (private, or of a section in the page file) and not charged, and as many pages are charged
+      -- as the page file has blocks: none; it waits for a charge
       ∷ when (is_page_file_charged config a g) (waits again_charging)
-      -- the working set is at its limit, and the eviction of the ring's victim isn't stopped: EVICT of it, for
-      -- REPLACE; a step more
+      -- the working set is at its limit or above, and the eviction of the ring's victim isn't stopped: EVICT of it,
+      -- for REPLACE; a step more
       ∷ if_there (only_if (is_at_limit a p) (that_is (may_go config past a) (victim a p))) (λ (s : Seen). more (eviction past a p s.vpn s.frame evict.Replace))
-      -- the working set is at its limit: none; it waits for the modified list
+      -- the working set is at its limit or above: none; it waits for the modified list
       ∷ when (is_at_limit a p) (waits again_modified_full)
-      -- a frame holds the page: BACK, DONE with the flat machine's reply; answered
+      -- a frame holds the page: BACK from the frame's state (free, modified, being written, release pending, or active
+      -- for another process), DONE with the reply; answered
       ∷ if_there (holder config a.page g) (λ (f : ℕ). answered (what.Back (proc p) here (pfn f) (a.state f) ∷ what.Done r reply ∷ []))
       -- the block from which the page is to be read is in a flight: none; it waits for that block
       ∷ when (is_busy_block past (source g)) (waits again_block_busy)
       -- the free list is empty: none; it waits for a frame
       ∷ when (is_none_left a.free) (waits again_no_frame)
       -- there is a block from which the page is to be read: an IN for the fault, and one for each neighbour of its
-      -- cluster, before each REUSE if its frame holds a page; the reads are carried
+      -- cluster (`cluster_targets`), each behind a REUSE if its frame holds a page; the reads are carried
       ∷ if_there (source g) (λ (b : BlockId). given (reads_made a.page a.free (cluster_targets config a p r g b)) next_carry)
-      -- there is no such block: ZERO in the first free frame, DONE with the flat machine's reply, before them REUSE
-      -- if that frame holds a page; answered
+      -- there is no such block, so the page is made of zeros: ZERO in the first free frame and DONE with the reply,
+      -- behind a REUSE if that frame holds a page; answered
       ∷ if_there (first_of_list a.free) (λ (f : ℕ). answered (reuse_first (a.page f) f (what.Zero here (pfn f) ∷ what.Done r reply ∷ [])))
       ∷ [])

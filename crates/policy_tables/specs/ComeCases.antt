@@ -32,14 +32,16 @@ module _ (config : Config) (past : List Entry) (a : Pager) (p : ℕ) where
 
   unfoldable pub come_cases : List (Option GivenSwap)
   come_cases =
-      -- the page of a swap block is in a free frame: BACK of the first such page; a step more
+      -- a page that lies in a swap block of the process is in a free frame: BACK of the page of the first such block;
+      -- a step more
       if_there kept (λ (g : HeldPage). given (what.Back (proc p) (address_of g.page) (pfn g.frame) state.Free ∷ []) swap_more)
-      -- the page of a swap block is out, and the free list is empty: none; it waits for a frame
+      -- a page that lies in one is out, and the free list is empty: none; it waits for a frame
       ∷ if_there (only_if (nat_eq (length a.free) 0) out) (λ (n : ℕ). waits swap_no_frame)
-      -- the page of a swap block is out: the INs of such slots side by side, at most PFC and the free frames, before
-      -- each REUSE if its frame holds a page; the reads are carried
+      -- a page that lies in one is out: the INs from the first such block on, as long as the pages of the blocks behind
+      -- it are out, at most PFC and at most the free frames, each behind a REUSE if its frame holds a page; the reads
+      -- are carried
       ∷ if_there out (λ (n : ℕ). given (reads_made a.page a.free (come_targets a p (run_from (λ (m : ℕ). passes (is_out_page config a) (lying_in a p m)) n (lesser config.params.pfc (length a.free))))) swap_carry)
-      -- a page of the process is being read: none; it waits for a flight
+      -- a COME read for the process is open: none; it waits for that flight
       ∷ when (has_come p (open_flights past)) (waits swap_in_flight)
       -- none of these: TURN to resident; it has come
       ∷ otherwise (given (what.Turn (proc p) status.Resident ∷ []) swap_settled)

@@ -27,8 +27,8 @@ use Rattle.policy_tables.specs.ComeCases.{come_cases}
 use Rattle.policy_tables.specs.RundownCases.{rundown_cases}
 use Rattle.policy_tables.specs.MoveCases.{move_cases}
 
--- what is made for a reference of a process is the first row that holds, whatever reply its answer shows, where the
--- flat machine has the pager's mappings, as in each run
+-- what is made for a reference of a process is the first row that holds, whatever reply its answer shows; the flat
+-- machine has to have the pager's mappings, as it has in each run
 abbrev pub ReferencesGoByCases : Type 0
 ReferencesGoByCases =
     (config : Config) (past : List Entry) (a : Pager) (p : ℕ) (r : Ref) (reply : Reply) → p < length config.procs → a.map ≡ (flat_after config past).map
@@ -38,15 +38,15 @@ ReferencesGoByCases =
 abbrev pub ServicesGoByCases : Type 0
 ServicesGoByCases = (config : Config) (past : List Entry) (a : Pager) (p : ℕ) (s : Service) → first_case (serve_cases config past a p s) ≡ Some (serve_gives config past a p s)
 
--- and so is what a write cluster of the modified page writer makes
+-- what a write cluster of the modified page writer makes, for either reason, is the first row that holds
 abbrev pub ClustersGoByCases : Type 0
 ClustersGoByCases = (config : Config) (a : Pager) (reason : Reason) → first_case (begin_cases config a reason) ≡ Some (begin_gives config a reason)
 
--- what a step of a process that leaves makes
+-- what a step of a process that leaves makes is the first row that holds
 abbrev pub LeavingGoesByCases : Type 0
 LeavingGoesByCases = (config : Config) (past : List Entry) (a : Pager) (p : ℕ) → first_case (leave_cases config past a p) ≡ Some (leave_gives config past a p)
 
--- and what a step of a process that comes makes
+-- what a step of a process that comes makes is the first row that holds
 abbrev pub ComingGoesByCases : Type 0
 ComingGoesByCases = (config : Config) (past : List Entry) (a : Pager) (p : ℕ) → first_case (come_cases config past a p) ≡ Some (come_gives config past a p)
 
@@ -54,8 +54,8 @@ ComingGoesByCases = (config : Config) (past : List Entry) (a : Pager) (p : ℕ) 
 abbrev pub RundownGoesByCases : Type 0
 RundownGoesByCases = (config : Config) (past : List Entry) (a : Pager) (at : Cleaning) → first_case (rundown_cases config past a at) ≡ Some (cleaning_move config past a at)
 
--- each move of the serial policy is the first row that holds, whatever reply its answer shows, where the next request
--- is of a process of the configuration and the flat machine has the pager's mappings, as in each run
+-- each move of the serial policy is the first row that holds, whatever reply its answer shows; the next request has to
+-- be of a process of the configuration and the flat machine to have the pager's mappings, as in each run
 abbrev pub MovesGoByCases : Type 0
 MovesGoByCases =
     (config : Config) (past : List Entry) (c : Control) (reply : Reply) → ((task : Task) → next_task config past ≡ Some task → (task.proc).0 < length config.procs) → (pager_after config past).map ≡ (flat_after config past).map

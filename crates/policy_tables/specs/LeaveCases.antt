@@ -36,21 +36,19 @@ module _ (config : Config) (past : List Entry) (a : Pager) (p : ℕ) where
 
   unfoldable pub leave_cases : List (Option GivenSwap)
   leave_cases =
-      -- a slot has a shared page that isn't pinned, and the first of them may be evicted: EVICT of it, for LEAVE; a
-      -- step more
+      -- a slot has a shared page that isn't pinned, and the eviction of the first of them isn't stopped: EVICT of it,
+      -- for LEAVE; a step more
       if_there (that_is (may_go config past a) shared) evicts
       -- a slot has a shared page that isn't pinned: none; it waits for the modified list
       ∷ if_there shared (λ (s : Seen). waits swap_modified_full)
-      -- a slot has a private page that isn't pinned and is saved, and the first of them may be evicted: EVICT of it,
-      -- for LEAVE; a step more
-      ∷ if_there (that_is (may_go config past a) saved) evicts
-      -- a slot has a private page that isn't pinned and is saved: none; it waits for the modified list
-      ∷ if_there saved (λ (s : Seen). waits swap_modified_full)
-      -- a slot has a private page that isn't pinned, in a frame without a flight: the OUTs of such slots side by
-      -- side, to their swap blocks, at most WRTCLUSTER; the writes are carried
+      -- a slot has a private page that isn't pinned and is saved (it lies in the slot's swap block, unmodified and
+      -- without a flight, so its eviction is never stopped): EVICT of the first of them, for LEAVE; a step more
+      ∷ if_there saved evicts
+      -- a slot has a private page that isn't pinned, in a frame without a flight: the OUTs from the first such slot on,
+      -- as long as the slots behind it are such, to their swap blocks, at most WRTCLUSTER; the writes are carried
       ∷ if_there unsaved (λ (n : ℕ). given (write_slots a p (run_from (λ (m : ℕ). passes (is_to_save past) (seen_at a p m)) n config.params.wrtcluster)) swap_carry)
-      -- a page that isn't pinned is left: none; it waits for a flight
+      -- a slot has a page that isn't pinned: none; it waits for a flight
       ∷ when (nat_lt 0 (unpinned (a.ring p).slots)) (waits swap_in_flight)
-      -- none is left: TURN to gone; it has left
+      -- no slot has one: TURN to gone; it has left
       ∷ otherwise (given (what.Turn (proc p) status.Gone ∷ []) swap_settled)
       ∷ []

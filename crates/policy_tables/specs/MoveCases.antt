@@ -16,24 +16,25 @@ use Rattle.policy_tables.specs.RundownCases.{rundown_cases}
 use Rattle.policy_tables.specs.Steps.{after_beginning}
 use Rattle.policy_tables.specs.AskingCases.{asking_cases, finding_cases, leaves}
 
--- to a reference that is answered next memory without frames and disk replies this
+-- this reply, whatever it is, stands in the DONE of a reference that is answered next
 module _ (config : Config) (past : List Entry) (a : Pager) (reply : Reply) where
-  -- in the swapper's part after an answer to process p, which may have begun
+  -- in the swapper's part after an answer to process p, which may have begun, and is done if a carrier fails
   abbrev pub freeing_cases : Option ℕ → Bool → ℕ → List (Option Move)
   freeing_cases left begun p =
-      -- a process is being left: a step of its leaving, a cluster if its eviction is stopped; here
+      -- a process is being swapped out: a step of its leaving, or a cluster if its eviction is stopped; here, begun,
+      -- and until it has left it is being swapped out
       row_on left (λ (q : ℕ). leaves config past a reply (swapper_of config) q (ends_part (control asking)) (freeing true p))
-      -- the free list is shorter than FREELIM, and once begun than FREEGOAL, and a frame can be found: finding a
-      -- frame; here
+      -- the free list is shorter than FREEGOAL, and unless the part has begun also than FREELIM, and a row of finding
+      -- a frame holds: finding a frame; here, begun
       ∷ only_if (is_freeing config a begun && is_freeing config a true) (first_case (finding_cases config past a reply (swapper_of config) p (ends_part (control asking)) (freeing true p)))
       -- the part is done: the rows at the next request
       ∷ asking_cases config past a reply left
 
-  -- in the writer's part after an answer to process p, which may have begun
+  -- in the writer's part after an answer to process p, which may have begun, and is done if a carrier fails
   abbrev pub saving_cases : Bool → ℕ → List (Option Move)
   saving_cases begun p =
-      -- the modified list is longer than HILIMIT, and once begun than LOLIMIT: a cluster; here, and the swapper's
-      -- part if all of it failed
+      -- the modified list is longer than LOLIMIT, and unless the part has begun also than HILIMIT: a cluster; here,
+      -- begun
       row_on (only_if (is_saving config a begun) (first_case (begin_cases config a reason_high))) (λ (g : Given BeginIs). after_beginning config p g.made g.answer)
       -- the part is done: the rows in the swapper's part
       ∷ freeing_cases None false p

@@ -1,4 +1,5 @@
--- A table: rows in order, of which the first one counts that holds. This project's own.
+-- A table: rows in order, of which the first one counts that holds. That the journal has no room is no row: room for
+-- the entries is reserved before a step. This project's own.
 use Rattle.std.specs.Prelude.{ℕ, zero, suc, Bool, true, false, List, [], ◌∷◌, Option, Some, None}
 
 -- a row: what is made if this holds

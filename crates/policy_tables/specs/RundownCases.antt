@@ -24,34 +24,35 @@ module _ (config : Config) (past : List Entry) (a : Pager) where
   abbrev writes_round : ℕ → ℕ → Move
   writes_round following left = carries (writer_of config) (cluster config a) (λ (all first : Bool). goes (control (cleaning (rounds following (left - length (cluster config a))))))
 
-  -- in the rounds of writing
+  -- in the rounds of writing, with so many that follow, and so many writes of this one to come
   abbrev pub rounds_cases : ℕ → ℕ → List (Option Move)
   rounds_cases following left =
       -- no frame of the modified list holds a shared page: none; it rests
       when (not (is_shared_listed a)) rests
-      -- writes are left in the round: a cluster; its writes fewer are left
+      -- writes of the round are to come: a cluster; as many fewer are to come
       ∷ when (nat_lt 0 left) (writes_round following left)
-      -- a round is left: a cluster; as many writes are left as the list had frames, but for these, and one round
-      -- fewer
+      -- a round follows: a cluster; of that round as many writes are to come as the list had frames before the cluster,
+      -- less those of the cluster, and one round fewer follows
       ∷ if_there (one_fewer following) (λ (more : ℕ). writes_round more (length a.modified))
-      -- no round is left: none; it rests
+      -- no round follows: none; it rests
       ∷ otherwise rests
       ∷ []
 
-  -- at a slot of a process
+  -- at a slot of a process, where the cluster for its page may have failed
   unfoldable pub rundown_cases : Cleaning → List (Option Move)
   rundown_cases (evicting p n failed) =
-      -- the next shared page from this slot on may be evicted: EVICT of it, for RUNDOWN; at the slot behind it
+      -- the eviction of the next shared page, from this slot on and then in the later processes, isn't stopped: EVICT
+      -- of it, for RUNDOWN; at the slot behind it
       if_there (that_is may_be_evicted (shared_at a (shared_place config a p n))) evicts
-      -- it may not, and no cluster for it has failed: a cluster; at its slot, and that its cluster failed if all of
-      -- it did
+      -- it is stopped, and no cluster for it has failed: a cluster; at its slot, where its cluster has failed if all of
+      -- the cluster's flights did
       ∷ if_there (only_if (not failed) (shared_at a (shared_place config a p n))) writes_for
-      -- its cluster failed, and the next shared page behind it may be evicted: EVICT of that one, for RUNDOWN; at the
-      -- slot behind that
+      -- its cluster has failed, and the eviction of the next shared page behind it isn't stopped: EVICT of that one,
+      -- for RUNDOWN; at the slot behind that
       ∷ if_there (that_is may_be_evicted (shared_behind config a (shared_at a (shared_place config a p n)))) evicts
-      -- its cluster failed, and that page may not be evicted: a cluster; at its slot, and that its cluster failed if
-      -- all of it did
+      -- its cluster has failed, and that eviction is stopped: a cluster; at that page's slot, where its cluster has
+      -- failed if all of the cluster's flights did
       ∷ if_there (shared_behind config a (shared_at a (shared_place config a p n))) writes_for
-      -- no slot has such a page: the rows in the rounds, of which two are left
+      -- no shared page is left to evict, but one whose cluster has failed: the rows in the rounds, of which two follow
       ∷ rounds_cases 2 0
   rundown_cases (rounds following left) = rounds_cases following left

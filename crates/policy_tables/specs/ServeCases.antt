@@ -27,20 +27,21 @@ module _ (config : Config) (past : List Entry) (a : Pager) (p : ℕ) (s : Servic
 
   unfoldable pub serve_cases : List (Option GivenServe)
   serve_cases =
-      -- the process isn't resident: none; it waits to be resident
+      -- the process isn't resident: none; it waits until it is
       when (not (is_resident (a.status p))) (waits serve_not_resident)
       -- a page of the range is mapped (CRETVA), or one isn't (DELTVA, SETPRT, LKWSET, ULWSET, LCKPAG, ULKPAG): SERVED
       -- with that refusal; answered
       ∷ if_there (range_refusal a p s) served
-      -- a page of the range is valid (DELTVA), or valid and neither locked nor pinned (PURGWS), and the lowest of
-      -- them may be evicted: EVICT of it; a step more
+      -- a page of the range is valid (DELTVA), or valid and neither locked nor pinned (PURGWS), and the eviction of
+      -- the lowest of them isn't stopped: EVICT of it, for DELETE or PURGE; a step more
       ∷ if_there (eviction_of config past a p (page_in_way a p s)) more
-      -- a page of the range is so: none; it waits for the modified list
+      -- a page of the range is valid (DELTVA), or valid and neither locked nor pinned (PURGWS): none; it waits for the
+      -- modified list
       ∷ if_there (page_in_way a p s) (λ (g : InWay). waits serve_modified_full)
       -- a private page of the range is in a frame with an open flight (DELTVA): none; it waits for that flight
       ∷ when (is_deleted_in_flight config past a p s) (waits serve_in_flight)
-      -- with the range there would be more locked and pinned pages than the process's locks (LKWSET, LCKPAG), or the
-      -- limit isn't within its bounds (ADJWSL): SERVED with that refusal; answered
+      -- with the range more pages would be locked or pinned than the process's `locks` (LKWSET, LCKPAG), or the new
+      -- limit is below `locks` + 2 or above the extent (ADJWSL): SERVED with that refusal; answered
       ∷ if_there (bounds_refusal config a p s) served
       -- nothing is in its way: SERVED with OK, or with the pages' count (LKWSET, ULWSET, LCKPAG, ULKPAG); answered
       ∷ otherwise (served (done_answer a p s))

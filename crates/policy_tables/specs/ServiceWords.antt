@@ -43,7 +43,7 @@ page_in_way a p (service.Delete at pages) = option_map (λ (v : ℕ). record { v
 page_in_way a p (service.Purge at pages) = option_map (λ (v : ℕ). record { vpn = v; why = evict.Purge }) (loose_in a p at.0 pages)
 page_in_way a p other = None
 
--- its eviction, if that isn't stopped since the modified list is full
+-- its eviction, if that isn't stopped: only one that would add to a modified list of WAITLIMIT frames or more is
 abbrev pub eviction_of : Config → List Entry → Pager → ℕ → Option InWay → Option What
 eviction_of config past a p None = None
 eviction_of config past a p (Some g) =
@@ -53,18 +53,18 @@ abbrev pub is_deleted_in_flight : Config → List Entry → Pager → ℕ → Se
 is_deleted_in_flight config past a p (service.Delete at pages) = is_range_in_flight config past a p at.0 pages
 is_deleted_in_flight config past a p other = false
 
--- whether the process may have so many pages of this ring locked and pinned
+-- whether no more pages of this ring are locked or pinned, each counted once, than the process's `locks`
 abbrev pub has_locks : Config → ℕ → Ring → Bool
 has_locks config p ring = passes (λ (spec : ProcSpec). nat_le (fixed ring.slots) spec.locks) (slice_get config.procs p)
 
--- whether the process's working set may have this limit
-abbrev pub is_limit : Config → ℕ → ℕ → Bool
-is_limit config p n = passes (λ (spec : ProcSpec). nat_le (spec.locks + 2) n && nat_le n spec.extent) (slice_get config.procs p)
+-- whether the process's working set may have this limit: `locks` + 2 up to the extent
+abbrev pub may_be_limit : Config → ℕ → ℕ → Bool
+may_be_limit config p n = passes (λ (spec : ProcSpec). nat_le (spec.locks + 2) n && nat_le n spec.extent) (slice_get config.procs p)
 
 abbrev pub bounds_refusal : Config → Pager → ℕ → Service → Option Answer
 bounds_refusal config a p (service.Lock at pages) = when (not (has_locks config p (range_locked true at.0 pages (a.ring p)))) answer.LockLimit
 bounds_refusal config a p (service.Pin at pages) = when (not (has_locks config p (range_pinned true at.0 pages (a.ring p)))) answer.LockLimit
-bounds_refusal config a p (service.Adjust n) = when (not (is_limit config p n)) answer.BadLimit
+bounds_refusal config a p (service.Adjust n) = when (not (may_be_limit config p n)) answer.BadLimit
 bounds_refusal config a p other = None
 
 -- what is answered once it is done: of four services how many pages of the range are in the working set, or were

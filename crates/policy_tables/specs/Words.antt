@@ -70,18 +70,20 @@ read_of past (Some f) = open_read f (find (is_read_on f) (open_flights past))
 abbrev pub foreign_read : List Entry → ℕ → Option ℕ → Option OpenRead
 foreign_read past p frame = that_is (λ (met : OpenRead). not (nat_eq (met.flight).seat p)) (read_of past frame)
 
--- the page needs a block of the page file, and each one is charged
+-- the page is paged and not charged, and as many pages are charged as the page file has blocks
 abbrev pub is_page_file_charged : Config → Pager → Page → Bool
 is_page_file_charged config a g = is_uncharged config a g && nat_eq (length a.charged) config.pagefile
 
+-- as many slots are filled as the limit, or more
 abbrev pub is_at_limit : Pager → ℕ → Bool
 is_at_limit a p = nat_le (a.limit p) (filled (a.ring p).slots)
 
--- what stands in the slot that the ring gives up next
+-- what stands in the slot that a ring at its limit gives up next; if all its pages were locked or pinned, which is so
+-- in no run, it would be slot 0, as in pager_policy
 abbrev pub victim : Pager → ℕ → Option Seen
 victim a p = seen_at a p (victim_of (choose (a.ring p) (a.limit p)))
 
--- a page may be evicted, unless the modified list is full
+-- the eviction of this page isn't stopped: only one that would add to a modified list of WAITLIMIT frames or more is
 abbrev pub may_go : Config → List Entry → Pager → Seen → Bool
 may_go config past a s = not (is_stopped config past a s.frame)
 
@@ -108,7 +110,8 @@ abbrev pub held_in_slot : Config → Pager → ℕ → Option ℕ → Option Hel
 held_in_slot config a p None = None
 held_in_slot config a p (Some n) = held_page config a (lying_in a p n)
 
--- the writes of a cluster: the list's first frames whose blocks adjoin, at most WRTCLUSTER
+-- the writes of a cluster: the list's frames from the first on, as long as their pages' blocks adjoin, at most
+-- WRTCLUSTER
 abbrev pub cluster : Config → Pager → List What
 cluster config a = writes_from config a config.params.wrtcluster None a.modified
 
