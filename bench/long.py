@@ -19,6 +19,7 @@ import run
 from check import instructions
 
 SHORT, LONG = 100_000, 4_000_000
+RUNS = 3  # of which the least peak counts: where memory begins differs from run to run
 
 COMMANDS = (["serial"], ["replay"], ["study", "--process", "A", "--frames", "60"], ["check"])
 
@@ -54,7 +55,8 @@ def peaks(program, folder, requests):
                         shutil.copyfileobj(lines, out)
                     out.write(end)
             source = text
-        found.append(peak(program, words, source, log if words == ["serial"] else output))
+        kept = log if words == ["serial"] else output
+        found.append(min(peak(program, words, source, kept) for _ in range(RUNS)))
     return found, trace
 
 
