@@ -1,0 +1,10 @@
+pub mod Caused
+pub mod EvictCause
+pub mod FaultBound
+pub mod FrameWanted
+pub mod HeldUp
+pub mod NextRequest
+pub mod ReuseCause
+pub mod TurnCause
+pub mod Wanted
+pub mod WriteCause

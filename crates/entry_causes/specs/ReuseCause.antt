@@ -1,0 +1,28 @@
+-- Why a frame gives up its page: it is needed at once for another one, or its read has failed. Source: Kenah and Bate,
+-- "VAX/VMS Internals and Data Structures", the PFN database and paging dynamics (page reads and clusters).
+use Rattle.std.specs.Prelude.{◌≡◌, ◌⊎◌, ℕ, true, ◌<◌, List, Some}
+use Rattle.vm_types.specs.declared.config.Config.{Config}
+use Rattle.vm_journal.specs.declared.entry.Entry.{Entry}
+use Rattle.pager_model.specs.Carrier.{carrying}
+use Rattle.pager_model.specs.Flights.{Flight, awaits_reuse, is_busy, open_flights}
+use Rattle.pager_model.specs.In.{is_fault_or_near}
+use Rattle.pager_model.specs.Pager.{Pager}
+use Rattle.entry_causes.specs.FrameWanted.{WantsFrameForFault, WantsFrameToCome}
+
+-- the seat reads a cluster for a fault, of which no read has landed and which may have one more
+pub record ReadsOn (config : Config) (past : List Entry) (seat : ℕ) : Type 0 where
+  pub busy : is_busy seat (open_flights past) ≡ true
+  pub last : Flight
+  pub lasts : (carrying seat past).last ≡ Some last
+  pub role : is_fault_or_near last.direction ≡ true
+  pub none_landed : (carrying seat past).landed ≡ 0
+  pub room : (carrying seat past).begun < config.params.pfc
+
+-- the frame's read has failed; or the seat's own process wants a frame for a fault; or the seat reads on; or a
+-- process wants a frame to come
+abbrev pub IsReuseCause : Config → List Entry → Pager → ℕ → Type 0
+IsReuseCause config past a seat =
+    (awaits_reuse past ≡ true)
+    ⊎ (WantsFrameForFault config past a seat
+    ⊎ (ReadsOn config past seat
+    ⊎ ((q : ℕ) × WantsFrameToCome config past a q)))
