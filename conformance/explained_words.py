@@ -104,7 +104,8 @@ class Told:
             most = self.config.parameters['WAITLIMIT']
             return 'it was modified, so F%d goes to the modified list, now %d, with WAITLIMIT %d' % (f, len(state.modified), most)
         if where == 'ACTIVE':
-            return 'F%d stays active: %s still %s the page' % (f, counted(state.shares[f], 'process').replace('processs', 'processes'), 'has' if state.shares[f] == 1 else 'have')
+            others = '1 process still has' if state.shares[f] == 1 else '%d processes still have' % state.shares[f]
+            return 'F%d stays active: %s the page' % (f, others)
         return 'F%d is still being written, and goes on no list' % f
 
 
@@ -128,9 +129,11 @@ def why_of(told, cause):
         name = 'HILIMIT' if facts[0] > config.parameters['HILIMIT'] else 'LOLIMIT'
         return 'the modified list has %s, more than %s %d' % (counted(facts[0], 'page'), name, config.parameters[name])
     if name == 'READS ON':
-        return 'read %d of at most %d in the cluster of line %d follows' % (facts[0] + 1, config.parameters['PFC'], told.first_of_carrier[told.seat])
+        return 'read %d of at most %d in the cluster of line %d follows' % (
+            facts[0] + 1, config.parameters['PFC'], told.first_of_carrier[told.seat])
     if name == 'WRITES ON':
-        return 'write %d of at most %d in the cluster of line %d' % (facts[0] + 1, config.parameters['WRTCLUSTER'], told.first_of_carrier[told.seat])
+        return 'write %d of at most %d in the cluster of line %d' % (
+            facts[0] + 1, config.parameters['WRTCLUSTER'], told.first_of_carrier[told.seat])
     if name == 'FAILED READ':
         return 'its read failed in the line before'
     if name == 'HELD UP':
@@ -139,7 +142,8 @@ def why_of(told, cause):
         return 'the eviction of %s/%08X%s is held up: the modified list has %d pages, and WAITLIMIT is %d' % (
             letter(p), vpn * PAGE_BYTES, for_what, len(state.modified), config.parameters['WAITLIMIT'])
     if name == 'RUNDOWN':
-        return 'every request is answered, and %s on the modified list' % counted(facts[0], 'shared page')
+        return 'every request is answered, and %s %s on the modified list' % (
+            counted(facts[0], 'shared page'), 'is' if facts[0] == 1 else 'are')
     return None
 
 
@@ -174,7 +178,7 @@ def facts_denied(told, entry, cause):
         verb = 'write' if request.changes else 'read'
         return ["refused: code %s doesn't let %s mode %s" % (mapped.protection, MODE_NAMES[request.mode], verb)]
     if why == 'PAGEFILEFULL':
-        return ['refused: the page was never touched, and each of the %d blocks of the page file is for a touched page' % told.config.pagefile]
+        return ['refused: the page was never touched, and all %d blocks of the page file are for touched pages' % told.config.pagefile]
     return ['refused: the transfer for it failed in line %d' % told.failed[entry.seat]]
 
 
@@ -197,7 +201,7 @@ def facts_reuse(told, entry, cause):
 
 def facts_zero(told, entry, cause):
     page = told.page_name(told.state.processes[entry.seat].map[vpn_of(entry.words[0])].page)
-    return ['demand zero fault: %s; %s was never touched, so it begins with zeros' % (why_of(told, cause), page),
+    return ['fault, demand zero: %s; %s was never touched, so it begins with zeros' % (why_of(told, cause), page),
             'F%d headed the free list of %d' % (frame_of(entry.words[1]), told.state.free)]
 
 
@@ -206,13 +210,14 @@ def facts_back(told, entry, cause):
     if told.state.processes[p].status == 'COMING':
         return ['%s comes back: %s; the page is still in F%d, on the free list' % (letter(p), why_of(told, cause), f)]
     if entry.words[3] == 'ACTIVE':
-        return ['fault for a shared page in memory: %s; another process has it in F%d, so nothing is read' % (why_of(told, cause), f)]
-    return ['fault %s: %s; the page is still in F%d, so nothing is read' % (FROM[entry.words[3]], why_of(told, cause), f)]
+        return ['fault, shared in memory: %s; another process has it in F%d, so nothing is read' % (
+            why_of(told, cause), f)]
+    return ['fault, %s: %s; the page is still in F%d, so nothing is read' % (FROM[entry.words[3]], why_of(told, cause), f)]
 
 
 def facts_collide(told, entry, cause):
     flight = told.state.flights[int(entry.words[2])]
-    return ['collided fault: %s; %s reads the page since line %d, so it waits' % (
+    return ['fault, collided: %s; %s reads the page since line %d, so it waits' % (
         why_of(told, cause), told.config.seat_name(flight.seat), flight.start)]
 
 
@@ -223,7 +228,7 @@ def facts_in(told, entry, cause):
             block, told.state.carriers[entry.seat].begun + 1, told.config.parameters['PFC'], told.first_of_carrier[entry.seat])]
     if role == 'COME':
         return ['%s comes back: %s; the page lies in %s' % (entry.words[3][0], why_of(told, cause), block)]
-    return ['fault %s: %s; the page is in no frame, and lies in %s' % (told.kind_of_fault(entry), why_of(told, cause), block),
+    return ['fault, %s: %s; the page is in no frame, and lies in %s' % (told.kind_of_fault(entry), why_of(told, cause), block),
             'F%d headed the free list of %d' % (f, told.state.free)]
 
 
@@ -244,9 +249,11 @@ def facts_out(told, entry, cause):
     f, block = frame_of(entry.words[0]), block_of(told.config, entry.words[1])
     page = told.page_name(told.state.frames[f].page)
     if block[0] == 'swap':
-        return ["%s leaves memory, and %s isn't saved yet: it goes to %s" % (letter(block[1]), page, block_name(told.config, block))]
+        return ["%s leaves memory, and %s isn't saved yet: it goes to %s" % (
+            letter(block[1]), page, block_name(told.config, block))]
     why = lacking(told, cause)
-    return ['%s headed the modified list of %d, and goes to %s' % (page, len(told.state.modified), block_name(told.config, block)), why]
+    first = '%s headed the modified list of %d, and goes to %s' % (page, len(told.state.modified), block_name(told.config, block))
+    return [first, why]
 
 
 def facts_outok(told, entry, cause):
@@ -284,13 +291,15 @@ def facts_turn(told, entry, cause):
         return ['%s is swapped out: %s' % (q, lacking(told, cause))]
     if status == 'COMING':
         return ['%s is swapped in: %s' % (q, why_of(told, cause))]
-    ends = {'GONE': 'no page of %s is left in its working set but those that are pinned', 'RESIDENT': 'no page of %s is left in its swap blocks'}
+    ends = {'GONE': 'no page of %s is left in its working set but those that are pinned',
+            'RESIDENT': 'no page of %s is left in its swap blocks'}
     return [ends[status] % q]
 
 
-KINDS = {'DONE': facts_done, 'DENIED': facts_denied, 'SERVED': facts_served, 'REUSE': facts_reuse, 'ZERO': facts_zero, 'BACK': facts_back,
-         'COLLIDE': facts_collide, 'IN': facts_in, 'INOK': facts_inok, 'INFAIL': facts_failed, 'OUT': facts_out, 'OUTOK': facts_outok,
-         'OUTFAIL': facts_failed, 'EVICT': facts_evict, 'LIMIT': facts_limit, 'TURN': facts_turn}
+KINDS = {'DONE': facts_done, 'DENIED': facts_denied, 'SERVED': facts_served, 'REUSE': facts_reuse, 'ZERO': facts_zero,
+         'BACK': facts_back, 'COLLIDE': facts_collide, 'IN': facts_in, 'INOK': facts_inok, 'INFAIL': facts_failed,
+         'OUT': facts_out, 'OUTOK': facts_outok, 'OUTFAIL': facts_failed, 'EVICT': facts_evict, 'LIMIT': facts_limit,
+         'TURN': facts_turn}
 
 
 def facts_of(told, entry, cause):
