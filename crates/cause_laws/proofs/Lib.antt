@@ -1,0 +1,3 @@
+pub mod BeginCaused
+pub mod LeaveCaused
+pub mod ServeCaused

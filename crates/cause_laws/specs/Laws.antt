@@ -1,0 +1,29 @@
+-- That the calls of the pager's logic make nothing without a cause, as statements.
+use Rattle.std.specs.Prelude.{◌≡◌, ℕ, List, Some}
+use Rattle.vm_types.specs.declared.config.Config.{Config}
+use Rattle.vm_types.specs.declared.service.Request.TheVariants as request
+use Rattle.vm_types.specs.declared.service.Service.{Service}
+use Rattle.vm_journal.specs.declared.entry.Entry.{Entry}
+use Rattle.pager_model.specs.Run.{pager_after}
+use Rattle.pager_policy.specs.Serve.{serve_gives}
+use Rattle.pager_policy.specs.Swap.{leave_gives}
+use Rattle.pager_policy.specs.WriteCluster.{Reason, begin_gives}
+use Rattle.entry_causes.specs.NextRequest.{next_request}
+use Rattle.entry_causes.specs.WriteCause.{IsWriteCause}
+use Rattle.cause_laws.specs.AreCaused.{AreCaused}
+
+-- all that a service's next step makes has its cause, if the service is what the process asks for next
+abbrev pub ServeIsCaused : Type 0
+ServeIsCaused =
+    (config : Config) (past : List Entry) (p : ℕ) (s : Service) → next_request config past p ≡ Some (request.Service s)
+    → AreCaused config past p (serve_gives config past (pager_after config past) p s).made
+
+-- all that a write cluster makes has its cause if its first write has, by any seat
+abbrev pub BeginIsCaused : Type 0
+BeginIsCaused =
+    (config : Config) (past : List Entry) (seat : ℕ) (reason : Reason) → IsWriteCause config past (pager_after config past) seat
+    → AreCaused config past seat (begin_gives config (pager_after config past) reason).made
+
+-- and all that a step of a leaving process makes, by any seat
+abbrev pub LeaveIsCaused : Type 0
+LeaveIsCaused = (config : Config) (past : List Entry) (seat p : ℕ) → AreCaused config past seat (leave_gives config past (pager_after config past) p).made

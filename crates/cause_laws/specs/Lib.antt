@@ -1,0 +1,2 @@
+pub mod AreCaused
+pub mod Laws

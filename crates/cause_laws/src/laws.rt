@@ -1,0 +1,18 @@
+ghost use Rattle.cause_laws.specs.Laws.{BeginIsCaused, LeaveIsCaused, ServeIsCaused};
+
+/// All the writes of a cluster of the modified page writer have their cause if the first one has: each goes on
+/// with the cluster of the one before it.
+pub fn begin_is_caused()
+    ensures { BeginIsCaused }
+{}
+
+/// All that a step of a leaving process makes has its cause: that the process is leaving.
+pub fn leave_is_caused()
+    ensures { LeaveIsCaused }
+{}
+
+/// All that a service's next step makes has its cause, if the service is what the process asks for next: an
+/// eviction of a page of its range, or its answer.
+pub fn serve_is_caused()
+    ensures { ServeIsCaused }
+{}

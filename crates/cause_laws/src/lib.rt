@@ -1,0 +1,6 @@
+//! The laws that what the pager's logic makes has its cause. No code.
+#![tactic(auto)]
+
+mod laws;
+
+pub use laws::{begin_is_caused, leave_is_caused, serve_is_caused};
