@@ -1,3 +1,5 @@
+pub mod AdvanceCaused
 pub mod BeginCaused
 pub mod LeaveCaused
+pub mod NearCaused
 pub mod ServeCaused

@@ -1,4 +1,10 @@
-ghost use Rattle.cause_laws.specs.Laws.{BeginIsCaused, LeaveIsCaused, ServeIsCaused};
+ghost use Rattle.cause_laws.specs.Laws.{AdvanceIsCaused, BeginIsCaused, LeaveIsCaused, ServeIsCaused};
+
+/// All that a reference's next step makes has its cause, if the reference is what the process asks for next: a
+/// collision, a replacement, a page that comes back, zeros, or the reads of a cluster.
+pub fn advance_is_caused()
+    ensures { AdvanceIsCaused }
+{}
 
 /// All the writes of a cluster of the modified page writer have their cause if the first one has: each goes on
 /// with the cluster of the one before it.
