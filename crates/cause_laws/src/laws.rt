@@ -1,4 +1,4 @@
-ghost use Rattle.cause_laws.specs.Laws.{AdvanceIsCaused, BeginIsCaused, LeaveIsCaused, ServeIsCaused};
+ghost use Rattle.cause_laws.specs.Laws.{AdvanceIsCaused, BeginIsCaused, LeaveIsCaused, NoFrameIsWanted, ServeIsCaused};
 
 /// All that a reference's next step makes has its cause, if the reference is what the process asks for next: a
 /// collision, a replacement, a page that comes back, zeros, or the reads of a cluster.
@@ -21,4 +21,9 @@ pub fn leave_is_caused()
 /// eviction of a page of its range, or its answer.
 pub fn serve_is_caused()
     ensures { ServeIsCaused }
+{}
+
+/// A reference for which there is no frame wants one, and none is free.
+pub fn no_frame_is_wanted()
+    ensures { NoFrameIsWanted }
 {}
