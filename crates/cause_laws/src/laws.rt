@@ -1,4 +1,10 @@
-ghost use Rattle.cause_laws.specs.Laws.{AdvanceIsCaused, BeginIsCaused, LeaveIsCaused, NoFrameIsWanted, ServeIsCaused};
+ghost use Rattle.cause_laws.specs.Laws.{
+  AdvanceIsCaused,
+  BeginIsCaused,
+  LeaveIsCaused,
+  NoFrameIsWanted,
+  ServeIsCaused,
+};
 
 /// All that a reference's next step makes has its cause, if the reference is what the process asks for next: a
 /// collision, a replacement, a page that comes back, zeros, or the reads of a cluster.

@@ -3,4 +3,6 @@
 
 mod laws;
 
-pub use laws::{advance_is_caused, begin_is_caused, leave_is_caused, no_frame_is_wanted, serve_is_caused};
+pub use laws::{
+    advance_is_caused, begin_is_caused, leave_is_caused, no_frame_is_wanted, serve_is_caused,
+};
