@@ -1,0 +1,5 @@
+use Rattle.open_laws.proofs.ControlStays.{control_stays}
+use Rattle.open_laws.proofs.laws.control_stays.Goals as goal
+
+pub returns : goal.returns
+returns c config task past at formed run serial = control_stays config task past at formed run serial

@@ -1,0 +1,4 @@
+pub mod Asked
+pub mod Bodies
+pub mod Moves
+pub mod Runs
