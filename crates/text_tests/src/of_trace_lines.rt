@@ -1,4 +1,5 @@
-use trace_lines::{Param, Place, block_key, page_key};
+use trace_lines::{Place, block_key, page_key};
+use trace_words::Param;
 use vm_types::{BlockId, Proc, SecId};
 
 #[test]

@@ -10,10 +10,10 @@ use Rattle.vm_types.specs.Versions.{most_frames}
 use Rattle.trace_words.specs.declared.cause.Cause.TheVariants.{OutOfRange, Repeated as AlreadyGiven}
 use Rattle.trace_words.specs.Judged.{◌>>=◌, owed}
 use Rattle.trace_words.specs.Number.{decimal}
+use Rattle.trace_words.specs.ParamWords.{param_of, least, most, number_of}
 use Rattle.trace_lines.specs.declared.breach.Bound.TheVariants.{Free, BelowFrames}
 use Rattle.trace_lines.specs.declared.breach.Breach.{Breach}
 use Rattle.trace_lines.specs.Breaches.{at_word, bounded, marked, miscounted, ranged}
-use Rattle.trace_lines.specs.ParamWords.{param_of, least, most, number_of}
 use Rattle.trace_lines.specs.Says.{Says, Version, Frames, PageFile, Param, Bad}
 
 -- the version of this number, 1 or 2

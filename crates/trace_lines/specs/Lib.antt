@@ -1,6 +1,5 @@
 pub mod Places
 pub mod Keywords
-pub mod ParamWords
 pub mod Says
 pub mod Lookups
 pub mod Breaches

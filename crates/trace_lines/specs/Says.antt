@@ -6,8 +6,8 @@ use Rattle.vm_types.specs.declared.config.ProcSpec.{ProcSpec}
 use Rattle.vm_types.specs.declared.config.SectionKind.{SectionKind}
 use Rattle.vm_types.specs.declared.config.Task.{Task}
 use Rattle.vm_types.specs.declared.config.Version.{Version as Format}
+use Rattle.trace_words.specs.declared.params.Param.{Param as Parameter}
 use Rattle.trace_lines.specs.declared.breach.Breach.{Breach}
-use Rattle.trace_lines.specs.declared.params.Param.{Param as Parameter}
 use Rattle.trace_lines.specs.declared.line.Line.{Line}
 use Rattle.trace_lines.specs.declared.line.Line.TheVariants as line
 

@@ -6,9 +6,8 @@ ghost use Rattle.trace_lines.specs.Seen.{IsSeen};
 
 use crate::breach::{Bound, Breach, marked, miscounted, ranged};
 use crate::line::Line;
-use crate::params::param_of;
 use crate::seen::Seen;
-use trace_words::{Cause, Words, decimal};
+use trace_words::{Cause, Words, decimal, param_of};
 use vm_types::{Config, MOST_BLOCKS, Version};
 
 // The version of this number, 1 or 2.

@@ -1,5 +1,5 @@
-use crate::params::Param;
 use arrayvec::ArrayVec;
+use trace_words::Param;
 use vm_types::{BlockId, Mapping, ProcSpec, SectionKind, Task, Version};
 
 /// What a line says.

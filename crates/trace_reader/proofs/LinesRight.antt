@@ -39,6 +39,7 @@ use Rattle.trace_words.specs.Letter.{letter}
 use Rattle.trace_words.specs.Name.{is_name}
 use Rattle.trace_words.specs.Number.{decimal, decimal_within, hexadecimal}
 use Rattle.trace_words.specs.Pairs.{pairs}
+use Rattle.trace_words.specs.ParamWords.{param_of, least, most}
 use Rattle.trace_words.specs.Protection.{protection}
 use Rattle.trace_words.specs.VerbWords.{verb_of}
 use Rattle.trace_words.specs.Words.{is}
@@ -51,7 +52,6 @@ use Rattle.trace_lines.specs.Fails.{is_same, slots_at, block_named, call_numbers
 use Rattle.trace_lines.specs.Headers.{version_line, long_line, frames_line, pagefile_line, param_line, bad_line, is_listed}
 use Rattle.trace_lines.specs.Lookups.{process, section, number_named, or_none, pages_at, blocks_at, bytes_at, has_file, aligned, is_inside}
 use Rattle.trace_lines.specs.Mappings.{overlaps, mapped, mapzero_line, mapsec_line}
-use Rattle.trace_lines.specs.ParamWords.{param_of, least, most}
 use Rattle.trace_lines.specs.Places.{rank}
 use Rattle.trace_lines.specs.Requests.{params_agree, has_frames, body_line, end_line, asked_by, read_line, write_of, reference_line, range_of, coded_range_of, adjust_line, service_line, is_word_of, verb_in, by_verb, request_line}
 use Rattle.trace_lines.specs.Says as says

@@ -15,11 +15,11 @@ use Rattle.vm_types.specs.declared.config.Params.{Params}
 use Rattle.vm_types.specs.declared.config.Section.{Section as Held}
 use Rattle.vm_types.specs.declared.config.SectionKind.{SectionKind}
 use Rattle.vm_types.specs.declared.config.Version.{Version}
-use Rattle.trace_lines.specs.declared.params.Param.{Param as Parameter}
-use Rattle.trace_lines.specs.declared.params.Param.TheVariants as param
+use Rattle.trace_words.specs.declared.params.Param.{Param as Parameter}
+use Rattle.trace_words.specs.declared.params.Param.TheVariants as param
+use Rattle.trace_words.specs.ParamWords.{with_param, least, most}
 use Rattle.trace_lines.specs.declared.part.Part.{Part}
 use Rattle.trace_lines.specs.Lookups.{number_named}
-use Rattle.trace_lines.specs.ParamWords.{with_param, least, most}
 use Rattle.trace_lines.specs.Places.{rank}
 use Rattle.trace_lines.specs.Says as says
 use Rattle.trace_lines.specs.Says.{Says}

@@ -5,9 +5,9 @@ use Rattle.vm_types.specs.declared.config.Config.{Config}
 use Rattle.vm_types.specs.declared.config.Section.{Section as Held}
 use Rattle.vm_types.specs.declared.config.SectionKind.{SectionKind}
 use Rattle.vm_types.specs.declared.config.Version.TheVariants as version
+use Rattle.trace_words.specs.ParamWords.{default_params, with_param, number_of}
 use Rattle.trace_lines.specs.declared.part.Part.{Part}
 use Rattle.trace_lines.specs.declared.places.Place.TheVariants as place
-use Rattle.trace_lines.specs.ParamWords.{default_params, with_param, number_of}
 use Rattle.trace_lines.specs.Says.{Says, Nothing, Version, Frames, PageFile, Param, Bad, Section, Data, Process, Map, Fail, Body, Request, End}
 
 -- before the first line

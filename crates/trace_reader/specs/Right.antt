@@ -5,13 +5,13 @@ use Rattle.vm_types.specs.declared.limits.TheConstants.{MOST_BLOCKS, MOST_FAILS,
 use Rattle.vm_types.specs.Configuration.{FitsVersion, IsLimited, IsName, IsMapping, IsBlock, IsTask}
 use Rattle.vm_types.specs.Kinds.{is_paged_kind}
 use Rattle.vm_types.specs.Versions.{is_first, most_requests}
+use Rattle.trace_words.specs.ParamWords.{least, most}
 use Rattle.trace_lines.specs.declared.part.Part.{Part}
 use Rattle.trace_lines.specs.Declarations.{has_room}
 use Rattle.trace_lines.specs.Fails.{is_same}
 use Rattle.trace_lines.specs.Headers.{is_listed}
 use Rattle.trace_lines.specs.Lookups.{bytes_at, has_file, number_named, is_inside}
 use Rattle.trace_lines.specs.Mappings.{overlaps}
-use Rattle.trace_lines.specs.ParamWords.{least, most}
 use Rattle.trace_lines.specs.Places.{rank}
 use Rattle.trace_lines.specs.Requests.{params_agree, has_frames}
 use Rattle.trace_lines.specs.Says.{Says, Nothing, Version, Frames, PageFile, Param, Bad, Section, Data, Process, Map, Fail, Body, Request, End}

@@ -12,17 +12,17 @@ use Rattle.vm_types.specs.declared.config.ProcSpec.{ProcSpec}
 use Rattle.vm_types.specs.declared.config.Section.{Section}
 use Rattle.vm_types.specs.declared.config.Version.{Version}
 use Rattle.vm_types.specs.declared.config.Version.TheVariants as version
+use Rattle.trace_words.specs.declared.params.Param.{Param}
+use Rattle.trace_words.specs.declared.params.Param.TheVariants.{Pfc, HiLimit, LoLimit, WaitLimit, WrtCluster, FreeLim, FreeGoal, AwsTime, PfrAtH, PfrAtL, WsInc, WsDec, AwsMin, BorrowLim}
+use Rattle.trace_words.specs.ParamWords.{param_of, least, most, number_of, with_param, default_params}
 use Rattle.trace_lines.specs.declared.keywords.Keyword.{Keyword}
 use Rattle.trace_lines.specs.declared.keywords.Keyword.TheVariants as keyword
-use Rattle.trace_lines.specs.declared.params.Param.{Param}
-use Rattle.trace_lines.specs.declared.params.Param.TheVariants.{Pfc, HiLimit, LoLimit, WaitLimit, WrtCluster, FreeLim, FreeGoal, AwsTime, PfrAtH, PfrAtL, WsInc, WsDec, AwsMin, BorrowLim}
 use Rattle.trace_lines.specs.declared.part.Part.{Part}
 use Rattle.trace_lines.specs.declared.places.Place.TheVariants as place
 use Rattle.trace_lines.specs.Grammar.{by_keyword, by_words, is_comment, is_letter}
 use Rattle.vm_types.proofs.Versions.{frames_at_most}
 use Rattle.trace_lines.specs.Headers.{is_listed}
 use Rattle.trace_lines.specs.Keywords.{keyword_of, place_of}
-use Rattle.trace_lines.specs.ParamWords.{param_of, least, most, number_of, with_param, default_params}
 use Rattle.trace_lines.specs.Places.{rank}
 use Rattle.trace_lines.specs.Says as says
 use Rattle.trace_reader.specs.Changes.{start, changed}

@@ -3,8 +3,8 @@ use Rattle.std.proofs.Common.{◌≡◌, ℕ, ◌+◌, ◌<◌, ◌≤◌, true,
 use Rattle.std.specs.Prelude.{codes}
 use Rattle.vm_types.specs.Configuration.{IsWellFormed}
 use Rattle.vm_types.specs.declared.config.Config.{Config}
+use Rattle.trace_words.specs.ParamWords.{default_params}
 use Rattle.trace_lines.specs.declared.places.Place.TheVariants as place
-use Rattle.trace_lines.specs.ParamWords.{default_params}
 use Rattle.trace_lines.specs.Says as says
 use Rattle.trace_reader.specs.Changes.{start, changed}
 use Rattle.trace_reader.specs.Meaning.{judge, lines}

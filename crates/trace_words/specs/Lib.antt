@@ -10,3 +10,4 @@ pub mod ServiceWords
 pub mod VerbWords
 pub mod BlockWords
 pub mod Pairs
+pub mod ParamWords

@@ -6,9 +6,9 @@ use Rattle.vm_types.specs.declared.limits.TheConstants.{MOST_COUNTED, MOST_EXTEN
 use Rattle.vm_types.specs.declared.config.Params.{Params}
 use Rattle.trace_words.specs.declared.cause.Cause.{Cause}
 use Rattle.trace_words.specs.declared.cause.Cause.TheVariants.{UnknownWord}
+use Rattle.trace_words.specs.declared.params.Param.{Param}
+use Rattle.trace_words.specs.declared.params.Param.TheVariants.{Pfc, HiLimit, LoLimit, WaitLimit, WrtCluster, FreeLim, FreeGoal, AwsTime, PfrAtH, PfrAtL, WsInc, WsDec, AwsMin, BorrowLim}
 use Rattle.trace_words.specs.Words.{is}
-use Rattle.trace_lines.specs.declared.params.Param.{Param}
-use Rattle.trace_lines.specs.declared.params.Param.TheVariants.{Pfc, HiLimit, LoLimit, WaitLimit, WrtCluster, FreeLim, FreeGoal, AwsTime, PfrAtH, PfrAtL, WsInc, WsDec, AwsMin, BorrowLim}
 
 -- those of clusters and of the lists
 abbrev pub writer_param : List ℕ → Option Param

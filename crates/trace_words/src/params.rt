@@ -1,7 +1,8 @@
 ghost use Rattle.std.specs.Prelude.{◌≡◌, ◌<◌};
-ghost use Rattle.trace_lines.specs.ParamWords.{writer_param, other_param, param_of, least, most, number_of, with_param};
+ghost use Rattle.trace_words.specs.ParamWords.{writer_param, other_param, param_of, least, most, number_of, with_param};
 
-use trace_words::{Cause, is};
+use crate::cause::Cause;
+use crate::split::is;
 use vm_types::{
     MOST_COUNTED, MOST_EXTENT, MOST_FRAMES, MOST_FREE, MOST_LIFTS, MOST_READ_CLUSTER, Params,
 };
@@ -89,7 +90,7 @@ fn other_param(word: &[u8]) -> Option<Param>
 ///
 /// # Errors
 /// `UnknownWord` if there is none.
-pub(crate) fn param_of(word: &[u8]) -> Result<Param, Cause>
+pub fn param_of(word: &[u8]) -> Result<Param, Cause>
     ensures { result ≡ param_of word.now }
 {
     if let Some(param) = writer_param(word) {
@@ -103,7 +104,7 @@ pub(crate) fn param_of(word: &[u8]) -> Result<Param, Cause>
 
 impl Param {
     /// The least value that it may have.
-    pub(crate) fn least(self) -> u32
+    pub fn least(self) -> u32
         ensures { result ≡ least self }
     {
         match self {
@@ -114,7 +115,7 @@ impl Param {
     }
 
     /// The greatest value that it may have.
-    pub(crate) fn most(self) -> u32
+    pub fn most(self) -> u32
         ensures { result ≡ most self }
     {
         match self {
