@@ -58,7 +58,7 @@ abbrev pub by_first : Part → List ℕ → List (List ℕ) → Result Says Brea
 by_first part first args =
     if is_comment first then Ok Nothing
     else if is_letter first then owed (rank part.place == rank Requests) (at_word 1 Misplaced) (request_line part.config first args)
-    else placed part args (keyword_of first)
+    else placed part args (keyword_of part.place first)
 
 -- a line without words is skipped
 abbrev pub by_words : Part → List (List ℕ) → Result Says Breach

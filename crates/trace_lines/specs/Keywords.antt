@@ -1,15 +1,21 @@
 -- The first words of the lines that aren't requests. Source: this project's own.
-use Rattle.std.specs.Prelude.{ℕ, List, Option, Some, None, codes, if◌then◌else◌}
+use Rattle.std.specs.Prelude.{ℕ, ◌==◌, List, Option, Some, None, codes, if◌then◌else◌}
 use Rattle.trace_words.specs.Words.{is}
 use Rattle.trace_lines.specs.declared.keywords.Keyword.{Keyword}
 use Rattle.trace_lines.specs.declared.keywords.Keyword.TheVariants.{Version, Long, Frames, PageFile, Param, Bad, Section, Data, Process, MapZero, MapSection, Fail, Body, End}
 use Rattle.trace_lines.specs.declared.places.Place.{Place}
 use Rattle.trace_lines.specs.declared.places.Place.TheVariants as place
+use Rattle.trace_lines.specs.Places.{rank}
 
-abbrev pub keyword_of : List ℕ → Option Keyword
-keyword_of word =
+-- LONGTRACE is a keyword of a trace's first line alone
+abbrev pub long_at : Place → Option Keyword
+long_at at = if rank at == rank place.Version then Some Long else None
+
+-- the keyword that the word is at this place
+abbrev pub keyword_of : Place → List ℕ → Option Keyword
+keyword_of at word =
     if is word (codes "VMTRACE") then Some Version
-    else if is word (codes "LONGTRACE") then Some Long
+    else if is word (codes "LONGTRACE") then long_at at
     else if is word (codes "FRAMES") then Some Frames
     else if is word (codes "PAGEFILE") then Some PageFile
     else if is word (codes "PARAM") then Some Param

@@ -76,7 +76,7 @@ fn by_first<'a>(part: &Part, seen: &Seen, first: &[u8], text: &'a [u8]) -> Resul
         }
         return request(&part.config, first, text);
     }
-    let Some(keyword) = keyword_of(first) else {
+    let Some(keyword) = keyword_of(part.place, first) else {
         return Err(Breach::at_word(1, Cause::UnknownWord));
     };
     if part.place.rank() != keyword.place().rank() {

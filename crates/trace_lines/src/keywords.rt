@@ -1,5 +1,5 @@
 ghost use Rattle.std.specs.Prelude.{◌≡◌};
-ghost use Rattle.trace_lines.specs.Keywords.{keyword_of, place_of};
+ghost use Rattle.trace_lines.specs.Keywords.{keyword_of, long_at, place_of};
 
 use crate::places::Place;
 use trace_words::is;
@@ -9,7 +9,7 @@ use trace_words::is;
 pub enum Keyword {
     /// VMTRACE.
     Version,
-    /// LONGTRACE.
+    /// LONGTRACE, in a trace's first line alone.
     Long,
     /// FRAMES.
     Frames,
@@ -37,14 +37,25 @@ pub enum Keyword {
     End,
 }
 
-/// The keyword that the word is.
-pub(crate) fn keyword_of(word: &[u8]) -> Option<Keyword>
-    ensures { result ≡ keyword_of word.now }
+// LONGTRACE is a keyword of a trace's first line alone.
+fn long_at(at: Place) -> Option<Keyword>
+    ensures { result ≡ long_at at }
+{
+    if at.rank() == Place::Version.rank() {
+        Some(Keyword::Long)
+    } else {
+        None
+    }
+}
+
+/// The keyword that the word is at this place.
+pub(crate) fn keyword_of(at: Place, word: &[u8]) -> Option<Keyword>
+    ensures { result ≡ keyword_of at word.now }
 {
     if is(word, b"VMTRACE") {
         Some(Keyword::Version)
     } else if is(word, b"LONGTRACE") {
-        Some(Keyword::Long)
+        long_at(at)
     } else if is(word, b"FRAMES") {
         Some(Keyword::Frames)
     } else if is(word, b"PAGEFILE") {

@@ -58,7 +58,7 @@ letter_gives part first args =
 first_gives : (part : Part) (first : List ℕ) (args : List (List ℕ)) → IfOk (by_first part first args) (IsRightLine part)
 first_gives part first args =
     if_gives (is_comment first) (Ok Nothing) _ (IsRightLine part) (record { here = refl; fits = tt })
-    (if_gives (is_letter first) _ (placed part args (keyword_of first)) (IsRightLine part) (letter_gives part first args) (placed_gives part args (keyword_of first)))
+    (if_gives (is_letter first) _ (placed part args (keyword_of part.place first)) (IsRightLine part) (letter_gives part first args) (placed_gives part args (keyword_of part.place first)))
 
 words_give : (part : Part) (all : List (List ℕ)) → IfOk (by_words part all) (IsRightLine part)
 words_give part [] = record { here = refl; fits = tt }

@@ -33,7 +33,7 @@ use Rattle.trace_spelling.proofs.Leading.{IsLine, line_of, Leads, leads_none, le
 use Rattle.trace_spelling.proofs.Lists.{member, none_before}
 
 -- a line of this keyword where it stands
-pub keyword_says : (part : Part) (word : List ℕ) (args : List (List ℕ)) (keyword : Keyword) → is_comment word ≡ false → is_letter word ≡ false → keyword_of word ≡ Some keyword
+pub keyword_says : (part : Part) (word : List ℕ) (args : List (List ℕ)) (keyword : Keyword) → is_comment word ≡ false → is_letter word ≡ false → keyword_of part.place word ≡ Some keyword
     → rank part.place ≡ rank (place_of keyword) → by_words part (word ∷ args) ≡ by_keyword part args keyword
 keyword_says part word args keyword a b e here = rw (a, b, e, eq-eqb (rank part.place) (rank (place_of keyword)) here) refl
 
