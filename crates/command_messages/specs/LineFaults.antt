@@ -3,6 +3,7 @@
 use Rattle.std.specs.Prelude.{◌≡◌, ◌⊎◌, ℕ, ◌+◌, ◌<◌, Bool, false, List, [], ◌∷◌, ◌++◌, All, codes, get_or, is_some, length, take}
 use Rattle.std.specs.List.{flat_map}
 use Rattle.std.specs.Str.{IsUtf8}
+use Rattle.vm_types.specs.declared.limits.TheConstants.{MOST_PROCESSES, MOST_REQUESTS}
 use Rattle.study_command.specs.CommandLine.{frames_named, if_right, process_named}
 use Rattle.trace_words.specs.Number.{decimal_within}
 use Rattle.command_messages.specs.Shown.{shown}
@@ -44,8 +45,8 @@ abbrev pub takes : LineOption → List ℕ → Bool
 takes Process value = is_some (process_named value)
 takes Frames value = is_some (frames_named value)
 takes Seed value = is_some (if_right (decimal_within 0 4294967295 value))
-takes Procs value = is_some (if_right (decimal_within 1 16 value))
-takes Refs value = is_some (if_right (decimal_within 1 100000 value))
+takes Procs value = is_some (if_right (decimal_within 1 MOST_PROCESSES value))
+takes Refs value = is_some (if_right (decimal_within 1 MOST_REQUESTS value))
 
 -- the word is the option's and has its value behind =
 abbrev pub HasInside : LineOption → List ℕ → List ℕ → Type 0

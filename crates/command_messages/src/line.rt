@@ -14,7 +14,7 @@ use outside_io::keep_front;
 use study_command::first_word;
 use trace_words::decimal_within;
 use vm_text::{after, is};
-use vm_types::MOST_EXTENT;
+use vm_types::{MOST_PROCESSES, MOST_REQUESTS, MOST_STUDY_FRAMES};
 
 // Whether it is a letter, A to P.
 fn is_process(value: &[u8]) -> bool
@@ -45,10 +45,10 @@ fn takes(option: LineOption, value: &[u8]) -> bool
 {
     match option {
         LineOption::Process => is_process(value),
-        LineOption::Frames => is_number(1, MOST_EXTENT, value),
+        LineOption::Frames => is_number(1, MOST_STUDY_FRAMES, value),
         LineOption::Seed => is_number(0, 4_294_967_295, value),
-        LineOption::Procs => is_number(1, 16, value),
-        LineOption::Refs => is_number(1, 100_000, value),
+        LineOption::Procs => is_number(1, MOST_PROCESSES, value),
+        LineOption::Refs => is_number(1, MOST_REQUESTS, value),
     }
 }
 

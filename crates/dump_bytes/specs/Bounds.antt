@@ -2,7 +2,7 @@
 -- this project's own.
 use Rattle.std.specs.Prelude.{◌≡◌, ℕ, ◌^◌, ◌<◌, ◌≤◌, Bool, false, List, [], ◌∷◌, length, map, Option, Some, None}
 use Rattle.std.specs.List.{AllByRecursion}
-use Rattle.vm_types.specs.declared.limits.TheConstants.{MOST_EXTENT, MOST_FRAMES, MOST_SECTION_PAGES}
+use Rattle.vm_types.specs.declared.limits.TheConstants.{MOST_EXTENT, MOST_FRAMES, MOST_PROCESSES, MOST_SECTIONS, MOST_SECTION_PAGES}
 use Rattle.vm_types.specs.declared.names.Page.{Page}
 use Rattle.vm_types.specs.declared.names.Page.TheVariants.{Private, Shared}
 use Rattle.pte_forms.specs.Word.{IsPte, word_of}
@@ -12,11 +12,11 @@ use Rattle.dump_bytes.specs.declared.dump.FrameRec.{FrameRec}
 use Rattle.dump_bytes.specs.declared.dump.SlotRec.{SlotRec}
 use Rattle.dump_bytes.specs.Dumped.{Process, Dumped}
 
--- a private page of one of the processes, or a page of one of 64 sections
+-- a private page of one of the processes, or a page of one of as many sections as a trace may have
 abbrev pub IsDumpedPage : ℕ → Option Page → Type 0
 IsDumpedPage procs None = Unit {0}
 IsDumpedPage procs (Some (Private owner vpn)) = (owner.0 < procs) × (vpn < 2 ^ 22)
-IsDumpedPage procs (Some (Shared section page)) = (section.0 < 64) × (page < MOST_SECTION_PAGES)
+IsDumpedPage procs (Some (Shared section page)) = (section.0 < MOST_SECTIONS) × (page < MOST_SECTION_PAGES)
 
 pub record IsFrame (procs : ℕ) (f : FrameRec) : Type 0 where
   pub state : f.state < 8
@@ -65,7 +65,7 @@ pub record AreFrames (frames : ℕ) (numbers : List ℕ) : Type 0 where
 
 pub record IsDump (d : Dumped) : Type 0 where
   pub frames : (8 ≤ length d.frames) × (length d.frames ≤ MOST_FRAMES)
-  pub procs : (1 ≤ length d.procs) × (length d.procs ≤ 16)
+  pub procs : (1 ≤ length d.procs) × (length d.procs ≤ MOST_PROCESSES)
   pub size : d.size < 2 ^ 32
   pub charged : d.charged < 2 ^ 32
   pub assigned : d.assigned < 2 ^ 32

@@ -7,7 +7,7 @@ use Rattle.dump_bytes.specs.declared.dump.SlotRec.{SlotRec}
 use Rattle.dump_bytes.specs.Dumped.{Process, Dumped}
 use Rattle.byteorder.specs.Endian.{big_number}
 use Rattle.std.specs.Prelude.{ℕ, zero, suc, ◌+◌, ◌-◌, ◌*◌, ◌/◌, ◌%◌, ◌^◌, ◌==◌, ◌&&◌, ◌||◌, nat_le, nat_lt, Bool, if◌then◌else◌, List, [], ◌∷◌, length, Result, Ok, Err, Option, Some, None, not, codes}
-use Rattle.vm_types.specs.declared.limits.TheConstants.{MOST_EXTENT, MOST_FRAMES}
+use Rattle.vm_types.specs.declared.limits.TheConstants.{MOST_EXTENT, MOST_FRAMES, MOST_PROCESSES, MOST_SECTIONS, MOST_SECTION_PAGES}
 
 -- one step after the other, up to the first that fails
 infixl 10 ◌>>=◌
@@ -100,10 +100,10 @@ page_from kind owner number = if kind == 0 then None else if kind == 1 then Some
 
 -- the highest owner and number of a page of this kind
 abbrev pub owner_high : ℕ → ℕ → ℕ
-owner_high procs kind = if kind == 0 then 0 else if kind == 1 then procs - 1 else 63
+owner_high procs kind = if kind == 0 then 0 else if kind == 1 then procs - 1 else MOST_SECTIONS - 1
 
 abbrev pub page_high : ℕ → ℕ
-page_high kind = if kind == 0 then 0 else if kind == 1 then 4194303 else 16383
+page_high kind = if kind == 0 then 0 else if kind == 1 then 4194303 else MOST_SECTION_PAGES - 1
 
 abbrev pub frame_at : ℕ → Reader FrameRec
 frame_at procs =
@@ -157,7 +157,7 @@ dumped_from p = record {
 
 abbrev pub dump_at : Reader Dumped
 dump_at = made_at dumped_from
-    (both_at (letters_at (codes "VMSDUMP1")) (λ t. both_at (number_at 4 8 MOST_FRAMES) (λ n. both_at (number_at 4 0 n) (λ f. both_at (number_at 4 0 n) (λ m. both_at (number_at 4 1 16) (λ p.
+    (both_at (letters_at (codes "VMSDUMP1")) (λ t. both_at (number_at 4 8 MOST_FRAMES) (λ n. both_at (number_at 4 0 n) (λ f. both_at (number_at 4 0 n) (λ m. both_at (number_at 4 1 MOST_PROCESSES) (λ p.
     both_at any_at (λ s. both_at any_at (λ c. both_at any_at (λ a. both_at (items_at n (frame_at p)) (λ frames. both_at (items_at f (number_at 4 0 (n - 1))) (λ free.
     both_at (items_at m (number_at 4 0 (n - 1))) (λ modified. both_at (items_at p (process_at n)) (λ procs. both_at (number_at 4 0 n) (λ k. rising_at (λ x. x) k 0 n rising_number_at))))))))))))))
 

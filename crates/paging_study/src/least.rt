@@ -1,5 +1,5 @@
 ghost use Rattle.std.specs.Prelude.{◌≡◌, ℕ, List, true, ◌+◌, ◌-◌, ◌*◌, ◌<◌, ◌≤◌, length, AllPairs, IfOk};
-ghost use Rattle.vm_types.specs.declared.limits.TheConstants.{MOST_EXTENT};
+ghost use Rattle.vm_types.specs.declared.limits.TheConstants.{MOST_STUDY_FRAMES};
 ghost use Rattle.paging_study.specs.Places.{has};
 ghost use Rattle.paging_study.specs.Intervals.{uncut};
 ghost use Rattle.paging_study.specs.Schedule.{IsScheduleOf, faults_with, kept_sets};
@@ -31,7 +31,7 @@ pub struct Least {
 /// # Errors
 /// `NoMemory` if memory runs out.
 pub fn least_faults(alloc: Global, pages: &PageString, frames: u32) -> Result<Least, NoMemory>
-    requires { (1 ≤ frames) × (frames ≤ MOST_EXTENT) }
+    requires { (1 ≤ frames) × (frames ≤ MOST_STUDY_FRAMES) }
     ensures schedule { IfOk result (λ least. IsScheduleOf pages.now.pages.items frames (kept_sets pages.now.pages.items least.kept.items)) }
     ensures faults { IfOk result (λ least. least.faults ≡ faults_with pages.now.pages.items (kept_sets pages.now.pages.items least.kept.items)) }
     ensures least { IfOk result (λ least. (sets : ℕ → List ℕ) → IsScheduleOf pages.now.pages.items frames sets → least.faults ≤ faults_with pages.now.pages.items sets) }

@@ -1,5 +1,5 @@
 ghost use Rattle.std.specs.Prelude.{◌≡◌, ℕ, suc, false, ◌+◌, ◌<◌, ◌≤◌, ◌==◌, ◌&&◌, ◌||◌, nat_lt, nat_le, not, length, slice_index, slice_index_or, IfOk};
-ghost use Rattle.vm_types.specs.declared.limits.TheConstants.{MOST_EXTENT, MOST_LONG_REQUESTS};
+ghost use Rattle.vm_types.specs.declared.limits.TheConstants.{MOST_LONG_REQUESTS, MOST_STUDY_FRAMES};
 ghost use Rattle.paging_study.specs.Places.{one_if, page_at, flag_at, count_places};
 ghost use Rattle.paging_study.specs.Recency.{is_hit, is_at_distance};
 
@@ -15,7 +15,7 @@ use vm_types::NoMemory;
 /// # Errors
 /// `NoMemory` if memory runs out.
 pub fn lru_faults(alloc: Global, pages: &PageString, frames: u32) -> Result<Vec<u32>, NoMemory>
-    requires { (1 ≤ frames) × (frames ≤ MOST_EXTENT) }
+    requires { (1 ≤ frames) × (frames ≤ MOST_STUDY_FRAMES) }
     ensures len { IfOk result (λ faults. length faults.items ≡ frames) }
     ensures faults { IfOk result (λ faults. (j : ℕ) → j < frames → slice_index faults.items j ≡ count_places (λ n. not (is_hit (page_at pages.now.pages.items) (suc j) n)) (length pages.now.pages.items)) }
 {
@@ -32,7 +32,7 @@ pub fn lru_faults(alloc: Global, pages: &PageString, frames: u32) -> Result<Vec<
 /// For each number below `frames` the references with so many distinct other pages since the last one
 /// to their page.
 fn hits_of(alloc: Global, pages: &PageString, frames: u32) -> Result<Vec<u32>, NoMemory>
-    requires { frames ≤ MOST_EXTENT }
+    requires { frames ≤ MOST_STUDY_FRAMES }
     ensures len { IfOk result (λ hits. length hits.items ≡ frames) }
     ensures hits { IfOk result (λ hits. (d : ℕ) → d < frames → slice_index hits.items d ≡ count_places (is_at_distance (page_at pages.now.pages.items) d) (length pages.now.pages.items)) }
 {

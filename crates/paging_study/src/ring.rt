@@ -1,5 +1,5 @@
 ghost use Rattle.std.specs.Prelude.{◌≡◌, ◌≢◌, ℕ, true, false, None, ◌-◌, ◌<◌, ◌≤◌, ◌⊎◌, length, not, slice_index, slice_index_or, IfOk};
-ghost use Rattle.vm_types.specs.declared.limits.TheConstants.{MOST_EXTENT};
+ghost use Rattle.vm_types.specs.declared.limits.TheConstants.{MOST_STUDY_FRAMES};
 ghost use Rattle.vm_types.specs.Ring.{choose};
 ghost use Rattle.working_set.specs.Slots.{IsEmptySlot};
 ghost use Rattle.paging_study.specs.Places.{one_if};
@@ -17,7 +17,7 @@ use working_set::{Choice, Ring};
 /// # Errors
 /// `NoMemory` if memory runs out.
 pub fn ring_faults(alloc: Global, pages: &PageString, frames: u32) -> Result<u32, NoMemory>
-    requires { (1 ≤ frames) × (frames ≤ MOST_EXTENT) }
+    requires { (1 ≤ frames) × (frames ≤ MOST_STUDY_FRAMES) }
     ensures { IfOk result (λ faults. faults ≡ ring_faults frames pages.now.pages.items) }
 {
     let mut ring = Ring::new(alloc, frames)?;

@@ -3,7 +3,7 @@
 use Rattle.std.specs.Prelude.{◌≡◌, ◌⊎◌, ℕ, ◌≤◌, List, [], ◌∷◌, codes, map, None, Some}
 use Rattle.std.specs.Borrow.{Bor}
 use Rattle.std.specs.declared.option.Option.{Option}
-use Rattle.vm_types.specs.declared.limits.TheConstants.{MOST_EXTENT}
+use Rattle.vm_types.specs.declared.limits.TheConstants.{MOST_STUDY_FRAMES}
 use Rattle.vm_types.specs.Moved.{Moved}
 use Rattle.disk_trait.specs.DepotView.{DepotView}
 use Rattle.outside_io.specs.Views.{SourceView}
@@ -49,7 +49,7 @@ HasOptionWords words = (options : List (List ℕ)) × ((words ≡ codes "study" 
 -- its numbers are ones that it takes
 abbrev pub HasNumbersInRange : Command → Type 0
 HasNumbersInRange Serial = Unit {0}
-HasNumbersInRange (Study study) = (1 ≤ study.frames) × (study.frames ≤ MOST_EXTENT)
+HasNumbersInRange (Study study) = (1 ≤ study.frames) × (study.frames ≤ MOST_STUDY_FRAMES)
 HasNumbersInRange (Make make) = IsMakeable make
 HasNumbersInRange Check = Unit {0}
 HasNumbersInRange Dump = Unit {0}

@@ -1,6 +1,6 @@
 -- The words that ask for a study. Source: this project's own.
 use Rattle.std.specs.Prelude.{◌≡◌, ℕ, ◌-◌, ◌&&◌, nat_le, List, [], ◌∷◌, Option, Some, None, Result, Ok, Err, codes, if◌then◌else◌}
-use Rattle.vm_types.specs.declared.limits.TheConstants.{MOST_EXTENT}
+use Rattle.vm_types.specs.declared.limits.TheConstants.{MOST_STUDY_FRAMES}
 use Rattle.trace_words.specs.declared.cause.Cause.{Cause}
 use Rattle.trace_words.specs.Number.{decimal_within}
 use Rattle.command_options.specs.Options.{HasOptions}
@@ -17,7 +17,7 @@ if_right (Err cause) = None
 
 -- one to ten digits, 1 to 1024
 abbrev pub frames_named : List ℕ → Option ℕ
-frames_named word = if_right (decimal_within 1 MOST_EXTENT word)
+frames_named word = if_right (decimal_within 1 MOST_STUDY_FRAMES word)
 
 -- a letter and a number, which name the study
 abbrev pub AreValues : List (List ℕ) → Study → Type 0

@@ -1,5 +1,5 @@
 ghost use Rattle.std.specs.Prelude.{◌≤◌, length, IfOk};
-ghost use Rattle.vm_types.specs.declared.limits.TheConstants.{MOST_EXTENT, MOST_LONG_REQUESTS};
+ghost use Rattle.vm_types.specs.declared.limits.TheConstants.{MOST_LONG_REQUESTS, MOST_STUDY_FRAMES};
 ghost use Rattle.paging_study.specs.PageString.{page_string};
 ghost use Rattle.study_command.specs.Answered.{AreAnswers};
 
@@ -30,7 +30,7 @@ pub(crate) struct Answers {
 
 /// Studies the references of the process to pages of the configuration.
 pub(crate) fn answers_of(alloc: Global, config: &Config, study: Study) -> Result<Answers, NoMemory>
-    requires frames { (1 ≤ study.frames) × (study.frames ≤ MOST_EXTENT) }
+    requires frames { (1 ≤ study.frames) × (study.frames ≤ MOST_STUDY_FRAMES) }
     requires few { length config.now.body ≤ MOST_LONG_REQUESTS }
     ensures { IfOk result (AreAnswers (page_string (study.process).0 config.now.body) study.frames) }
 {
@@ -41,7 +41,7 @@ pub(crate) fn answers_of(alloc: Global, config: &Config, study: Study) -> Result
 
 /// Studies references to these pages.
 fn answers_to(alloc: Global, pages: &PageString, frames: u32) -> Result<Answers, NoMemory>
-    requires { (1 ≤ frames) × (frames ≤ MOST_EXTENT) }
+    requires { (1 ≤ frames) × (frames ≤ MOST_STUDY_FRAMES) }
     ensures { IfOk result (AreAnswers pages.now.pages.items frames) }
 {
     let distinct = distinct_pages(pages);

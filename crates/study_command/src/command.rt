@@ -1,5 +1,5 @@
 ghost use Rattle.std.specs.Prelude.{◌≡◌, ◌≢◌, ◌⊎◌, ◌≤◌, ◌++◌, length, IfOk};
-ghost use Rattle.vm_types.specs.declared.limits.TheConstants.{MOST_EXTENT};
+ghost use Rattle.vm_types.specs.declared.limits.TheConstants.{MOST_STUDY_FRAMES};
 ghost use Rattle.vm_types.specs.Configuration.{IsWellFormed};
 ghost use Rattle.vm_types.specs.Counts.{Rose};
 ghost use Rattle.command_ends.specs.Concludes.{Concludes, EndsAnswered, HasTold, WasCut};
@@ -22,7 +22,7 @@ use vm_types::{Config, Proc};
 
 // Writes the lines and the status 0.
 fn end_answers<K: Sink>(answers: &Answers, frames: u32, sink: &mut K) -> Status
-    requires { length answers.now.lru.items ≤ MOST_EXTENT }
+    requires { length answers.now.lru.items ≤ MOST_STUDY_FRAMES }
     ensures { Ends (K.seen sink.old) (K.seen sink.new) 0
         (answer_lines answers.now.pages answers.now.distinct frames answers.now.ring answers.now.lru.items
         answers.now.least.faults answers.now.drops.items answers.now.least.cuts.items ++ status_line 0) result.0 }
@@ -35,7 +35,7 @@ fn end_answers<K: Sink>(answers: &Answers, frames: u32, sink: &mut K) -> Status
 
 // Studies a configuration, and writes what there is to say.
 fn study_config<K: Sink>(alloc: Global, config: &Config, study: Study, sink: &mut K) -> Status
-    requires frames { (1 ≤ study.frames) × (study.frames ≤ MOST_EXTENT) }
+    requires frames { (1 ≤ study.frames) × (study.frames ≤ MOST_STUDY_FRAMES) }
     requires formed { IsWellFormed config.now }
     ensures { EndsAnswered (IsStudyAnswer study config.now) (K.seen sink.old) (K.seen sink.new) result.0 }
 {
@@ -63,7 +63,7 @@ fn conclude<K: Sink>(
     study: Study,
     sink: &mut K,
 ) -> (Status, Option<Wrong>)
-    requires frames { (1 ≤ study.frames) × (study.frames ≤ MOST_EXTENT) }
+    requires frames { (1 ≤ study.frames) × (study.frames ≤ MOST_STUDY_FRAMES) }
     requires formed { IfOk read IsWellFormed }
     ensures { EndsStudied study read (K.seen sink.old) (K.seen sink.new) result.0.0 result.1 }
 {
@@ -95,7 +95,7 @@ pub fn study_trace<S: Source, K: Sink>(
     sink: &mut K,
     kept: &mut ArrayVec<u8, 80>,
 ) -> (Status, Option<Wrong>)
-    requires { (1 ≤ study.frames) × (study.frames ≤ MOST_EXTENT) }
+    requires { (1 ≤ study.frames) × (study.frames ≤ MOST_STUDY_FRAMES) }
     // A status with the text that goes with it, what is wrong with the input by that text, and how the
     // text was written.
     ensures outcome { Concludes (TellsWrong (Tells (IsStudyAnswer study) (S.seen source.old) (S.seen source.new)) result.1)

@@ -1,5 +1,5 @@
 ghost use Rattle.std.specs.Prelude.{◌≤◌, length};
-ghost use Rattle.vm_types.specs.declared.limits.TheConstants.{MOST_EXTENT};
+ghost use Rattle.vm_types.specs.declared.limits.TheConstants.{MOST_STUDY_FRAMES};
 ghost use Rattle.outside_io.specs.Writes.{Writes};
 ghost use Rattle.study_command.specs.StudyText.{answer_lines, faults_line, lru_lines, pages_line, place_line, place_lines};
 
@@ -36,7 +36,7 @@ fn print_faults<K: Sink>(
 
 // The faults with one frame, with two, and so on.
 fn print_lru<K: Sink>(lru: &[u32], sink: &mut K) -> Result<(), WriteFault>
-    requires { length lru.now ≤ MOST_EXTENT }
+    requires { length lru.now ≤ MOST_STUDY_FRAMES }
     ensures { Writes (K.seen sink.old) (K.seen sink.new) result (lru_lines 1 lru.now) }
 {
     for (i, faults) in lru.iter().enumerate() {
@@ -71,7 +71,7 @@ pub(crate) fn print_answers<K: Sink>(
     frames: u32,
     sink: &mut K,
 ) -> Result<(), WriteFault>
-    requires { length answers.now.lru.items ≤ MOST_EXTENT }
+    requires { length answers.now.lru.items ≤ MOST_STUDY_FRAMES }
     ensures { Writes (K.seen sink.old) (K.seen sink.new) result
         (answer_lines answers.now.pages answers.now.distinct frames answers.now.ring answers.now.lru.items
         answers.now.least.faults answers.now.drops.items answers.now.least.cuts.items) }

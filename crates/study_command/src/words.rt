@@ -1,12 +1,12 @@
 ghost use Rattle.std.specs.Prelude.{◌≡◌, ◌≤◌, ◌<◌, [], ◌∷◌, ℕ, List, IfOk, IfSome, IfNone, MatchOption, map};
-ghost use Rattle.vm_types.specs.declared.limits.TheConstants.{MOST_EXTENT};
+ghost use Rattle.vm_types.specs.declared.limits.TheConstants.{MOST_STUDY_FRAMES};
 ghost use Rattle.study_command.specs.declared.words.Study.{Study};
 ghost use Rattle.study_command.specs.CommandLine.{AsksFor, AreValues, frames_named, process_named};
 
 use command_options::option_values;
 use std::alloc::Global;
 use trace_words::decimal_within;
-use vm_types::{MOST_EXTENT, NoMemory, Proc};
+use vm_types::{MOST_STUDY_FRAMES, NoMemory, Proc};
 
 static OPTIONS: [&str; 2] = ["process", "frames"];
 
@@ -44,9 +44,9 @@ fn process_of(word: &[u8]) -> Option<u32>
 // The number of frames.
 fn frames_of(word: &[u8]) -> Option<u32>
     ensures value { result ≡ frames_named word.now }
-    ensures range { IfSome result (λ frames. (1 ≤ frames) × (frames ≤ MOST_EXTENT)) }
+    ensures range { IfSome result (λ frames. (1 ≤ frames) × (frames ≤ MOST_STUDY_FRAMES)) }
 {
-    match decimal_within(1, MOST_EXTENT, word) {
+    match decimal_within(1, MOST_STUDY_FRAMES, word) {
         Ok(frames) => Some(frames),
         Err(_) => None,
     }
@@ -56,7 +56,7 @@ fn frames_of(word: &[u8]) -> Option<u32>
 fn study_from(letter: &[u8], number: &[u8]) -> Option<Study>
     ensures some { IfSome result (AreValues (letter.now ∷ number.now ∷ [])) }
     ensures none { IfNone result ((study : Study) → AreValues (letter.now ∷ number.now ∷ []) study → ⊥) }
-    ensures range { IfSome result (λ study. (1 ≤ study.frames) × (study.frames ≤ MOST_EXTENT)) }
+    ensures range { IfSome result (λ study. (1 ≤ study.frames) × (study.frames ≤ MOST_STUDY_FRAMES)) }
 {
     let process = process_of(letter)?;
     let frames = frames_of(number)?;
@@ -70,7 +70,7 @@ fn study_from(letter: &[u8], number: &[u8]) -> Option<Study>
 fn study_by(values: &[&str]) -> Option<Study>
     ensures some { IfSome result (AreValues (map (λ value. value.now) values.now)) }
     ensures none { IfNone result ((study : Study) → AreValues (map (λ value. value.now) values.now) study → ⊥) }
-    ensures range { IfSome result (λ study. (1 ≤ study.frames) × (study.frames ≤ MOST_EXTENT)) }
+    ensures range { IfSome result (λ study. (1 ≤ study.frames) × (study.frames ≤ MOST_STUDY_FRAMES)) }
 {
     match values {
         [letter, number] => study_from(letter.as_bytes(), number.as_bytes()),
@@ -84,7 +84,7 @@ fn study_by(values: &[&str]) -> Option<Study>
 pub fn study_of<'a>(alloc: Global, words: &'a [&'a str]) -> Result<Option<Study>, NoMemory>
     ensures some { IfOk result (λ found. IfSome found (AsksFor (map (λ word. word.now) words.now))) }
     ensures none { IfOk result (λ found. IfNone found ((study : Study) → AsksFor (map (λ word. word.now) words.now) study → ⊥)) }
-    ensures range { IfOk result (λ found. IfSome found (λ study. (1 ≤ study.frames) × (study.frames ≤ MOST_EXTENT))) }
+    ensures range { IfOk result (λ found. IfSome found (λ study. (1 ≤ study.frames) × (study.frames ≤ MOST_STUDY_FRAMES))) }
 {
     match option_values(alloc, OPTIONS.as_slice(), words) {
         Ok(Some(values)) => Ok(study_by(values.as_slice())),

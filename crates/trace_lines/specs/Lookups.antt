@@ -1,7 +1,7 @@
 -- What a word names of what was declared before. Source: this project's own.
-use Rattle.std.specs.Prelude.{ℕ, ◌+◌, ◌*◌, ◌%◌, ◌==◌, Bool, ◌&&◌, ◌||◌, nat_le, nat_lt, bytes_eq, not, position, slice_get, length, List, Option, Result, Ok, Err}
+use Rattle.std.specs.Prelude.{ℕ, ◌+◌, ◌-◌, ◌*◌, ◌%◌, ◌^◌, ◌==◌, Bool, ◌&&◌, ◌||◌, nat_le, nat_lt, bytes_eq, not, position, slice_get, length, List, Option, Result, Ok, Err}
 use Rattle.std.specs.Option.{option_map_or}
-use Rattle.vm_types.specs.declared.limits.TheConstants.{PAGE_BYTES}
+use Rattle.vm_types.specs.declared.limits.TheConstants.{P0_PAGES, P1_PAGES, PAGE_BYTES}
 use Rattle.vm_types.specs.Configuration.{section_pages}
 use Rattle.vm_types.specs.Kinds.{paged_of}
 use Rattle.vm_types.specs.SectionBlocks.{section_block_count}
@@ -49,4 +49,5 @@ aligned bytes word = hexadecimal word >>= λ at. owed (at % bytes == 0) Unaligne
 -- pages from an address on lie in the pages of P0, or in those of P1, that may be mapped
 abbrev pub is_inside : ℕ → ℕ → Bool
 is_inside at pages =
-    nat_le (at + PAGE_BYTES * pages) 2097152 || (nat_le 2146959360 at && nat_le (at + PAGE_BYTES * pages) 2147483648)
+    nat_le (at + PAGE_BYTES * pages) (PAGE_BYTES * P0_PAGES)
+    || (nat_le (2 ^ 31 - PAGE_BYTES * P1_PAGES) at && nat_le (at + PAGE_BYTES * pages) (2 ^ 31))

@@ -11,7 +11,7 @@ use Rattle.vm_types.specs.declared.names.BlockId.TheVariants.{Section, PageFile,
 use Rattle.vm_types.specs.declared.config.Config.{Config}
 use Rattle.vm_types.specs.declared.config.Mapping.{Mapping}
 use Rattle.trace_lines.specs.declared.seen.Seen.{Seen}
-use Rattle.trace_lines.specs.Keys.{page_key, block_key}
+use Rattle.trace_lines.specs.Keys.{page_key, kind_keys, block_key}
 use Rattle.trace_lines.specs.Headers.{is_listed}
 
 -- whether the page is one of the mapping's
@@ -30,7 +30,7 @@ pub record IsSeen (seen : Seen) (config : Config) : Type 0 where
 -- the block has a key of its own
 abbrev pub IsKeyed : BlockId → Type 0
 IsKeyed (Section s page) = (s.0 < MOST_SECTIONS) × (page < MOST_SECTION_PAGES)
-IsKeyed (PageFile b) = b < 1048576
+IsKeyed (PageFile b) = b < kind_keys
 IsKeyed (Swap p slot) = slot < MOST_EXTENT
 
 -- a mapping of whole pages

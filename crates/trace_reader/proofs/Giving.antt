@@ -161,14 +161,14 @@ inside_gives at pages whole few e = record {
   aligned = whole;
   some = few.0;
   few = few.1;
-  inside = by_case (leb (at + PAGE_BYTES * pages) 2097152) refl;
+  inside = by_case (leb (at + PAGE_BYTES * pages) (PAGE_BYTES * P0_PAGES)) refl;
 } where
-  by_case : (t : Bool) → leb (at + PAGE_BYTES * pages) 2097152 ≡ t → (at + PAGE_BYTES * pages ≤ PAGE_BYTES * P0_PAGES) ⊎ ((2 ^ 31 - PAGE_BYTES * P1_PAGES ≤ at) × (at + PAGE_BYTES * pages ≤ 2 ^ 31))
-  by_case true low = inl (leb-true (at + PAGE_BYTES * pages) 2097152 low)
+  by_case : (t : Bool) → leb (at + PAGE_BYTES * pages) (PAGE_BYTES * P0_PAGES) ≡ t → (at + PAGE_BYTES * pages ≤ PAGE_BYTES * P0_PAGES) ⊎ ((2 ^ 31 - PAGE_BYTES * P1_PAGES ≤ at) × (at + PAGE_BYTES * pages ≤ 2 ^ 31))
+  by_case true low = inl (leb-true (at + PAGE_BYTES * pages) (PAGE_BYTES * P0_PAGES) low)
   by_case false low =
-      let high : (leb 2146959360 at && leb (at + PAGE_BYTES * pages) 2147483648) ≡ true = rw low at e in
-      let both = and_parts (leb 2146959360 at) (leb (at + PAGE_BYTES * pages) 2147483648) high in
-      inr (leb-true 2146959360 at both.0, leb-true (at + PAGE_BYTES * pages) 2147483648 both.1)
+      let high : (leb (2 ^ 31 - PAGE_BYTES * P1_PAGES) at && leb (at + PAGE_BYTES * pages) (2 ^ 31)) ≡ true = rw low at e in
+      let both = and_parts (leb (2 ^ 31 - PAGE_BYTES * P1_PAGES) at) (leb (at + PAGE_BYTES * pages) (2 ^ 31)) high in
+      inr (leb-true (2 ^ 31 - PAGE_BYTES * P1_PAGES) at both.0, leb-true (at + PAGE_BYTES * pages) (2 ^ 31) both.1)
 
 -- the section's pages
 pub pages_give : (sections : List Section) (s page : ℕ) → page < pages_at sections s → (x : Section) × (slice_get sections s ≡ Some x) × (page < section_pages x)

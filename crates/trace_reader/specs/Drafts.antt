@@ -1,6 +1,6 @@
 -- What the lines so far keep. Source: this project's own.
 use Rattle.std.specs.Prelude.{◌≡◌, ◌≢◌, ℕ, ◌<◌, ◌≤◌, true, [], length, All, AllPairs, Result, Err, IsOk}
-use Rattle.vm_types.specs.declared.limits.TheConstants.{MOST_BLOCKS, MOST_COUNTED, MOST_EXTENT, MOST_FRAMES, MOST_FREE, MOST_LIFTS, MOST_PROCESSES, MOST_READ_CLUSTER}
+use Rattle.vm_types.specs.declared.limits.TheConstants.{MOST_BLOCKS, MOST_COUNTED, MOST_EXTENT, MOST_FREE, MOST_LIFTS, MOST_MODIFIED, MOST_PROCESSES, MOST_READ_CLUSTER}
 use Rattle.vm_types.specs.Configuration.{FitsVersion, AreSections, IsMapping, AreApart, AreFails, IsTask, IsLimited}
 use Rattle.vm_types.specs.Versions.{most_requests}
 use Rattle.vm_types.specs.declared.config.Config.{Config}
@@ -15,9 +15,9 @@ use Rattle.trace_reader.specs.declared.draft.Refused.TheVariants.{Fault, NoMemor
 -- the ranges of the parameters
 pub record AreInRange (params : Params) : Type 0 where
   pub pfc : (1 ≤ params.pfc) × (params.pfc ≤ MOST_READ_CLUSTER)
-  pub hilimit : params.hilimit ≤ MOST_FRAMES
-  pub lolimit : params.lolimit ≤ MOST_FRAMES
-  pub waitlimit : (1 ≤ params.waitlimit) × (params.waitlimit ≤ MOST_FRAMES)
+  pub hilimit : params.hilimit ≤ MOST_MODIFIED
+  pub lolimit : params.lolimit ≤ MOST_MODIFIED
+  pub waitlimit : (1 ≤ params.waitlimit) × (params.waitlimit ≤ MOST_MODIFIED)
   pub wrtcluster : (1 ≤ params.wrtcluster) × (params.wrtcluster ≤ MOST_LIFTS)
   pub freelim : params.freelim ≤ MOST_FREE
   pub freegoal : params.freegoal ≤ MOST_FREE

@@ -1,7 +1,7 @@
 -- The lines VMTRACE or LONGTRACE, FRAMES, PAGEFILE, PARAM and BAD.
 use Rattle.std.proofs.Common.{◌≡◌, ◌≢◌, ℕ, ◌<◌, ◌≤◌, ◌^◌, Bool, true, false, eqb, List, [], ◌∷◌, map, replicate, Some, Ok, refl, ◌∙◌, arith, lit<, lt-ltb, ne_eqb, eq-eqb}
 use Rattle.std.specs.Prelude.{codes, slice_index_or, slice_set, decimal as printed}
-use Rattle.vm_types.specs.declared.limits.TheConstants.{MOST_BLOCKS, MOST_FRAMES, MOST_FREE}
+use Rattle.vm_types.specs.declared.limits.TheConstants.{MOST_BLOCKS, MOST_FRAMES, MOST_FREE, MOST_MODIFIED}
 use Rattle.vm_types.specs.Configuration.{IsWellFormed, AreParams}
 use Rattle.vm_types.specs.Versions.{most_frames}
 use Rattle.vm_types.specs.declared.config.Config.{Config}
@@ -196,7 +196,7 @@ fits given p n low high free = record { low = low; high = high; free = free }
 are_set : (p : Params) → AreParams p → AreSet (replicate 14 false) (settings p)
 are_set p w =
     let low : p.lolimit ≤ p.hilimit = w.lolimit in
-    let high : p.hilimit ≤ MOST_FRAMES = w.hilimit in
+    let high : p.hilimit ≤ MOST_MODIFIED = w.hilimit in
     let lim : p.freelim ≤ p.freegoal = w.freelim in
     let goal : p.freegoal ≤ MOST_FREE = w.freegoal in (
       fits _ Pfc p.pfc w.pfc.0 w.pfc.1 refl,

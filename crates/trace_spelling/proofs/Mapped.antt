@@ -79,9 +79,9 @@ aligned_read bytes at small whole = rw (hexadecimal_read 8 at (omega arith) (ome
 pub inside_read : (at pages : ℕ) → IsRange at pages → is_inside at pages ≡ true
 inside_read at pages is = by_region is.inside where
   by_region : (at + PAGE_BYTES * pages ≤ PAGE_BYTES * P0_PAGES) ⊎ ((2 ^ 31 - PAGE_BYTES * P1_PAGES ≤ at) × (at + PAGE_BYTES * pages ≤ 2 ^ 31)) → is_inside at pages ≡ true
-  by_region (inl low) = or_left (leb (at + PAGE_BYTES * pages) 2097152) (leb 2146959360 at && leb (at + PAGE_BYTES * pages) 2147483648) (le-leb (at + PAGE_BYTES * pages) 2097152 (omega arith))
-  by_region (inr high) = or_right (leb (at + PAGE_BYTES * pages) 2097152) (leb 2146959360 at && leb (at + PAGE_BYTES * pages) 2147483648)
-      (and_from (leb 2146959360 at) (leb (at + PAGE_BYTES * pages) 2147483648) (le-leb 2146959360 at high.0) (le-leb (at + PAGE_BYTES * pages) 2147483648 high.1))
+  by_region (inl low) = or_left (leb (at + PAGE_BYTES * pages) (PAGE_BYTES * P0_PAGES)) (leb (2 ^ 31 - PAGE_BYTES * P1_PAGES) at && leb (at + PAGE_BYTES * pages) (2 ^ 31)) (le-leb (at + PAGE_BYTES * pages) (PAGE_BYTES * P0_PAGES) (omega arith))
+  by_region (inr high) = or_right (leb (at + PAGE_BYTES * pages) (PAGE_BYTES * P0_PAGES)) (leb (2 ^ 31 - PAGE_BYTES * P1_PAGES) at && leb (at + PAGE_BYTES * pages) (2 ^ 31))
+      (and_from (leb (2 ^ 31 - PAGE_BYTES * P1_PAGES) at) (leb (at + PAGE_BYTES * pages) (2 ^ 31)) (le-leb (2 ^ 31 - PAGE_BYTES * P1_PAGES) at high.0) (le-leb (at + PAGE_BYTES * pages) (2 ^ 31) high.1))
 
 pub range_small : (at pages : ℕ) → IsRange at pages → at < 2 ^ 31
 range_small at pages is = by_region is.inside where

@@ -2,7 +2,7 @@
 -- and Bate, "VAX/VMS Internals and Data Structures"; ranges and defaults are this project's own.
 use Rattle.std.specs.Prelude.{ℕ, List, Option, Some, None, Result, Ok, Err, codes, if◌then◌else◌}
 use Rattle.std.specs.Option.{option_map_or}
-use Rattle.vm_types.specs.declared.limits.TheConstants.{MOST_COUNTED, MOST_EXTENT, MOST_FRAMES, MOST_FREE, MOST_LIFTS, MOST_READ_CLUSTER}
+use Rattle.vm_types.specs.declared.limits.TheConstants.{MOST_COUNTED, MOST_EXTENT, MOST_FREE, MOST_LIFTS, MOST_MODIFIED, MOST_READ_CLUSTER}
 use Rattle.vm_types.specs.declared.config.Params.{Params}
 use Rattle.trace_words.specs.declared.cause.Cause.{Cause}
 use Rattle.trace_words.specs.declared.cause.Cause.TheVariants.{UnknownWord}
@@ -57,9 +57,9 @@ least BorrowLim = 0
 
 abbrev pub most : Param → ℕ
 most Pfc = MOST_READ_CLUSTER
-most HiLimit = MOST_FRAMES
-most LoLimit = MOST_FRAMES
-most WaitLimit = MOST_FRAMES
+most HiLimit = MOST_MODIFIED
+most LoLimit = MOST_MODIFIED
+most WaitLimit = MOST_MODIFIED
 most WrtCluster = MOST_LIFTS
 most FreeLim = MOST_FREE
 most FreeGoal = MOST_FREE

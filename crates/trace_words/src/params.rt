@@ -4,7 +4,7 @@ ghost use Rattle.trace_words.specs.ParamWords.{writer_param, other_param, param_
 use crate::cause::Cause;
 use crate::split::is;
 use vm_types::{
-    MOST_COUNTED, MOST_EXTENT, MOST_FRAMES, MOST_FREE, MOST_LIFTS, MOST_READ_CLUSTER, Params,
+    MOST_COUNTED, MOST_EXTENT, MOST_FREE, MOST_LIFTS, MOST_MODIFIED, MOST_READ_CLUSTER, Params,
 };
 
 /// A parameter of the pager.
@@ -12,11 +12,11 @@ use vm_types::{
 pub enum Param {
     /// PFC, 1 to `MOST_READ_CLUSTER`.
     Pfc,
-    /// HILIMIT, 0 to `MOST_FRAMES`.
+    /// HILIMIT, 0 to `MOST_MODIFIED`.
     HiLimit,
-    /// LOLIMIT, 0 to `MOST_FRAMES`.
+    /// LOLIMIT, 0 to `MOST_MODIFIED`.
     LoLimit,
-    /// WAITLIMIT, 1 to `MOST_FRAMES`.
+    /// WAITLIMIT, 1 to `MOST_MODIFIED`.
     WaitLimit,
     /// WRTCLUSTER, 1 to `MOST_LIFTS`.
     WrtCluster,
@@ -120,9 +120,9 @@ impl Param {
     {
         match self {
             Param::Pfc => MOST_READ_CLUSTER,
-            Param::HiLimit => MOST_FRAMES,
-            Param::LoLimit => MOST_FRAMES,
-            Param::WaitLimit => MOST_FRAMES,
+            Param::HiLimit => MOST_MODIFIED,
+            Param::LoLimit => MOST_MODIFIED,
+            Param::WaitLimit => MOST_MODIFIED,
             Param::WrtCluster => MOST_LIFTS,
             Param::FreeLim => MOST_FREE,
             Param::FreeGoal => MOST_FREE,

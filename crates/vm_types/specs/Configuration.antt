@@ -16,7 +16,7 @@ use Rattle.vm_types.specs.declared.config.ProcSpec.{ProcSpec}
 use Rattle.vm_types.specs.declared.config.Section.{Section}
 use Rattle.vm_types.specs.declared.config.Task.{Task}
 use Rattle.vm_types.specs.declared.config.Version.{Version}
-use Rattle.vm_types.specs.declared.limits.TheConstants.{MOST_BLOCKS, MOST_COUNTED, MOST_EXTENT, MOST_FAILS, MOST_FRAMES, MOST_FREE, MOST_LIFTS, MOST_PROCESSES, MOST_READ_CLUSTER, MOST_SECTIONS, MOST_SECTION_PAGES, PAGE_BYTES}
+use Rattle.vm_types.specs.declared.limits.TheConstants.{MOST_BLOCKS, MOST_COUNTED, MOST_EXTENT, MOST_FAILS, MOST_FRAMES, MOST_FREE, MOST_LIFTS, MOST_MODIFIED, MOST_PROCESSES, MOST_READ_CLUSTER, MOST_SECTIONS, MOST_SECTION_PAGES, PAGE_BYTES}
 
 -- the pages of a section
 abbrev pub section_pages : Section → ℕ
@@ -25,9 +25,9 @@ section_pages section = length section.bytes / PAGE_BYTES
 -- the ranges of the parameters, and their order
 pub record AreParams (params : Params) : Type 0 where
   pub pfc : (1 ≤ params.pfc) × (params.pfc ≤ MOST_READ_CLUSTER)
-  pub hilimit : params.hilimit ≤ MOST_FRAMES
+  pub hilimit : params.hilimit ≤ MOST_MODIFIED
   pub lolimit : params.lolimit ≤ params.hilimit
-  pub waitlimit : (1 ≤ params.waitlimit) × (params.waitlimit ≤ MOST_FRAMES)
+  pub waitlimit : (1 ≤ params.waitlimit) × (params.waitlimit ≤ MOST_MODIFIED)
   pub wait_above : params.hilimit ≤ params.waitlimit
   pub wrtcluster : (1 ≤ params.wrtcluster) × (params.wrtcluster ≤ MOST_LIFTS)
   pub freelim : params.freelim ≤ params.freegoal

@@ -14,11 +14,11 @@ use crate::service::Request;
 pub struct Params {
     /// Pages of a read cluster, 1 to `MOST_READ_CLUSTER`.
     pub pfc: u32,
-    /// Modified pages above which the writer works, 0 to `MOST_FRAMES`.
+    /// Modified pages above which the writer works, 0 to `MOST_MODIFIED`.
     pub hilimit: u32,
-    /// Modified pages at which the writer stops, 0 to `MOST_FRAMES`.
+    /// Modified pages at which the writer stops, 0 to `MOST_MODIFIED`.
     pub lolimit: u32,
-    /// Modified pages at which an eviction onto their list waits, 1 to `MOST_FRAMES`.
+    /// Modified pages at which an eviction onto their list waits, 1 to `MOST_MODIFIED`.
     pub waitlimit: u32,
     /// Pages of a write cluster, 1 to `MOST_LIFTS`.
     pub wrtcluster: u32,

@@ -21,6 +21,9 @@ pub const MOST_FRAMES_OF_ONE: u32 = 4_096;
 /// Free frames that a parameter may ask for.
 pub const MOST_FREE: u32 = 4_096;
 
+/// Modified pages that a parameter may name.
+pub const MOST_MODIFIED: u32 = 16_384;
+
 /// Blocks of the page file.
 pub const MOST_BLOCKS: u32 = 16_384;
 
@@ -35,6 +38,9 @@ pub const MOST_PROCESSES: u32 = 16;
 
 /// Pages of a working set.
 pub const MOST_EXTENT: u32 = 1_024;
+
+/// Page frames with which references may be studied.
+pub const MOST_STUDY_FRAMES: u32 = 1_024;
 
 /// References or faults that a parameter may count.
 pub const MOST_COUNTED: u32 = 100_000;
