@@ -21,9 +21,11 @@ rule_text word OutOfRange = codes "the number is out of its range"
 rule_text word Unaligned = codes "the address isn't a multiple of the page size or of the width of the reference"
 rule_text word Repeated = codes "this was declared before"
 
--- from where to where a number is
+-- from where to where a number is; a range whose ends are equal is one number
 abbrev pub from_to : ℕ → ℕ → List ℕ
-from_to low high = codes "the number is from " ++ decimal low ++ codes " to " ++ decimal high
+from_to low high =
+    if low == high then codes "the number is " ++ decimal low
+    else codes "the number is from " ++ decimal low ++ codes " to " ++ decimal high
 
 -- a text with a number
 abbrev pub with_one : List ℕ → ℕ → List ℕ → List ℕ

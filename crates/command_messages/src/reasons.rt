@@ -53,9 +53,13 @@ fn push_range(out: &mut ArrayVec<u8, 640>, low: u32, high: u32)
     requires { array_vec_len out.old ≤ 40 }
     ensures { Adds out.old.items out.new.items (from_to low high) 150 }
 {
-    push_word(out, b"the number is from ");
-    push_decimal(out, u64::from(low));
-    push_word(out, b" to ");
+    if low == high {
+        push_word(out, b"the number is ");
+    } else {
+        push_word(out, b"the number is from ");
+        push_decimal(out, u64::from(low));
+        push_word(out, b" to ");
+    }
     push_decimal(out, u64::from(high));
 }
 

@@ -100,7 +100,7 @@ fn explains(rt: HostRuntime) -> Result<(), Fail> {
     let command = b"serial".as_slice();
     let usage =
         b"neqysbar: no command\nneqysbar 1.0.0\nusage: neqysbar serial < TRACE\n           reads a trace and runs it; writes each entry, a report, the pages left dirty and the status\n       neqysbar replay < TRACE\n           reads a trace and runs it with a thread for each process, the writer and the swapper; writes what\n           serial writes, of one legal run\n       neqysbar study --process X --frames K < TRACE\n           reads a trace; writes what the references of process X, A to P, cost with K page frames, 1 to 1024\n       neqysbar make --seed N --procs P --refs R\n           reads nothing; makes a trace from the seed N, 0 to 4294967295, with P processes, 1 to 16, and R\n           references, 1 to 100000, and runs it; writes how many entries of each kind the run has\n       neqysbar check < TRACE-AND-LOG\n           reads a trace, a line LOG and a log; writes whether the log is legal, or its first line that isn't\n       neqysbar dump < TRACE > FILE\n           reads a trace and runs it up to the report; writes the dump of the page database there, in bytes\n       neqysbar show < FILE\n           reads a dump; writes what it holds, and each count in it that a recount doesn't give\nexample: neqysbar study --process A --frames 8 < examples/swapping.trace\n".as_slice();
-    let table: [(&[&[u8]], &[u8], u8, &[u8]); 12] = [
+    let table: [(&[&[u8]], &[u8], u8, &[u8]); 13] = [
         (&[name, command], b"", 2, b"neqysbar: the input is empty\n"),
         (
             &[name, b"study", b"--process=B", b"--frames=1"],
@@ -133,6 +133,12 @@ fn explains(rt: HostRuntime) -> Result<(), Fail> {
             b"VMTRACE 3",
             2,
             b"neqysbar: line 1: the number is from 1 to 2\n    VMTRACE 3\n            ^\n",
+        ),
+        (
+            &[name, command],
+            b"LONGTRACE 3",
+            2,
+            b"neqysbar: line 1: the number is 2\n    LONGTRACE 3\n              ^\n",
         ),
         (
             &[name, b"check"],
