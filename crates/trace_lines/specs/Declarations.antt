@@ -25,11 +25,11 @@ use Rattle.trace_lines.specs.Breaches.{at_word, bounded, counted, marked, miscou
 use Rattle.trace_lines.specs.Lookups.{bytes_at, has_file, number_named, section}
 use Rattle.trace_lines.specs.Says.{Says, Section, Data, Process}
 
--- but version 1 has sections in the page file
+-- every version but 1 has sections in the page file
 abbrev pub paged_kind : Version → Result SectionKind Cause
 paged_kind v = if is_first v then Err UnknownWord else Ok kind.Paged
 
--- SHARED, CRF, or, but in version 1, PAGED
+-- SHARED or CRF; in every version but 1 also PAGED
 abbrev pub section_kind : Version → List ℕ → Result SectionKind Cause
 section_kind v word =
     if is word (codes "SHARED") then Ok kind.Shared

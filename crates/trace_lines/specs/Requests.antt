@@ -47,7 +47,7 @@ params_agree params = nat_le params.lolimit params.hilimit && nat_le params.hili
 abbrev pub has_frames : Config → Bool
 has_frames config = list_all (λ spec. nat_le (spec.extent + (length config.bad + all_pins config) + 2) config.frames) config.procs
 
--- the bound of the frames, which but in version 1 the locks are among
+-- the bound on the frames; the locks count among them in every version but 1
 abbrev pub frames_by : Version → ℕ → Bound
 frames_by v n = if is_first v then Frames n else FramesAndLocks n
 
@@ -160,7 +160,7 @@ service_line config x Pin args = ranged_line config x Pin args
 service_line config x Unpin args = ranged_line config x Unpin args
 service_line config x Adjust args = adjust_line config x args
 
--- but version 1 has the services that pin and unpin pages
+-- every version but 1 has the services that pin and unpin pages
 abbrev pub has_pins : Version → Bool
 has_pins v = not (is_first v)
 

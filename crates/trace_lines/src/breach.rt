@@ -53,8 +53,8 @@ pub enum Bound {
     /// BODY, once the extent of each process, the bad frames and 2 are at most this, which is the number of
     /// frames.
     Frames(u32),
-    /// BODY but in version 1, once the extent of each process, the bad frames, the locks of all processes and 2
-    /// are at most this, which is the number of frames.
+    /// BODY in every version but 1, once the extent of each process, the bad frames, the locks of all processes
+    /// and 2 are at most this, which is the number of frames.
     FramesAndLocks(u32),
     /// At most so many of these.
     Most(Limited, u32),

@@ -60,7 +60,7 @@ fn has_frames(config: &Config) -> bool
         .all(|spec| u64::from(spec.extent) + kept + 2 <= frames)
 }
 
-// The bound of the frames, which but in version 1 the locks are among.
+// The bound on the frames; the locks count among them in every version but 1.
 fn frames_bound(config: &Config) -> Bound
     ensures { result ≡ frames_bound config.now }
 {

@@ -1,5 +1,6 @@
--- Tables with an item for each page that a process may map: the first pages of P0, and the last of P1. A page is numbered by its first address divided by 512. Source: regions by the VAX Architecture
--- Reference Manual; which of their pages may be mapped is this project's own.
+-- Tables with an item for each page that a process may map: the first pages of P0, and the last of P1. A page is
+-- numbered by its first address divided by 512. Source: regions by the VAX Architecture Reference Manual; which of their
+-- pages may be mapped is this project's own.
 use Rattle.std.specs.Prelude.{ℕ, ◌+◌, ◌-◌, ◌*◌, ◌^◌, ◌&&◌, List, Option, Some, None, nat_eq, nat_le, nat_lt, slice_index_or, option_and_then, if◌then◌else◌}
 use Rattle.std.specs.Option.{option_map}
 use Rattle.vm_types.specs.declared.limits.TheConstants.{P0_PAGES, P1_PAGES, PRIVATE_PAGES}
