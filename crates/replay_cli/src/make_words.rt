@@ -6,7 +6,7 @@ use command_options::option_values;
 use make_summary::Make;
 use std::alloc::Global;
 use trace_words::decimal_within;
-use vm_types::NoMemory;
+use vm_types::{MOST_PROCESSES, MOST_REQUESTS, NoMemory};
 
 static OPTIONS: [&str; 3] = ["seed", "procs", "refs"];
 
@@ -28,8 +28,8 @@ fn make_from(seed: &[u8], procs: &[u8], refs: &[u8]) -> Option<Make>
     ensures range { IfSome result IsMakeable }
 {
     let seed = number_of(0, 4_294_967_295, seed)?;
-    let procs = number_of(1, 16, procs)?;
-    let refs = number_of(1, 100_000, refs)?;
+    let procs = number_of(1, MOST_PROCESSES, procs)?;
+    let refs = number_of(1, MOST_REQUESTS, refs)?;
     Some(Make { seed, procs, refs })
 }
 
