@@ -55,12 +55,13 @@ fn push_range(out: &mut ArrayVec<u8, 640>, low: u32, high: u32)
 {
     if low == high {
         push_word(out, b"the number is ");
+        push_decimal(out, u64::from(low));
     } else {
         push_word(out, b"the number is from ");
         push_decimal(out, u64::from(low));
         push_word(out, b" to ");
+        push_decimal(out, u64::from(high));
     }
-    push_decimal(out, u64::from(high));
 }
 
 // Adds what a value is, and what follows from it with the same number.
