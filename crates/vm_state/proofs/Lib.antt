@@ -25,6 +25,7 @@ pub mod ReadsBegin
 pub mod WriteBegins
 pub mod OutCloses
 pub mod LiftLandings
+pub mod BodyGrows
 pub mod CarrierLands
 pub mod PageShows
 mod PinCloses

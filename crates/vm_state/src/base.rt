@@ -1,6 +1,6 @@
 use vm_types::{Config, PoolName};
 
-/// What a state stands on, which no call of it changes.
+/// What a state stands on. No call of it changes that but `add_request`, which adds to the body.
 #[derive(Drop)]
 pub struct StateBase {
     /// Its configuration.

@@ -16,7 +16,7 @@ impl<B: Block> State<B> {
     /// The state before the first entry: all frames that aren't bad are free and empty, all processes
     /// are resident with empty working sets, and all blocks are home. They are given in their order,
     /// section blocks by section and page, page file blocks, swap blocks by process and slot, each as
-    /// it was made. But for `reserve` no other call allocates.
+    /// it was made. But for `reserve` and `add_request` no other call allocates.
     ///
     /// # Errors
     /// `NoMemory` if out of memory.
