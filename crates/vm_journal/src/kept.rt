@@ -12,7 +12,7 @@ pub trait Kept {
     /// The value's entries, oldest first.
     ghost journal: { Self → List Entry };
 
-    /// What the value stands on, which no call of it changes.
+    /// What the value stands on, beside its entries.
     ghost base: { Self → Self.Base };
 
     /// The entries, oldest first. Doesn't allocate.
