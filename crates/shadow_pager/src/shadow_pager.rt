@@ -104,7 +104,8 @@ fn free_of(alloc: Global, config: &Config) -> Result<FrameList, NoMemory>
 
 /// An empty ring for each process, of as many slots as its extent.
 fn rings_of(alloc: Global, procs: &[ProcSpec]) -> Result<Vec<Ring>, NoMemory>
-    requires { All (λ (spec : Spec). spec.extent ≤ MOST_EXTENT) procs.now }
+    requires some { All (λ (spec : Spec). 1 ≤ spec.extent) procs.now }
+    requires few { All (λ (spec : Spec). spec.extent ≤ MOST_EXTENT) procs.now }
     ensures { IfOk result (λ rings. rings.items ≡ map empty_ring procs.now) }
 {
     let mut rings = Vec::new(alloc);
@@ -178,7 +179,8 @@ struct ProcessTables {
 
 /// Makes the tables by the number of a process.
 fn process_tables(alloc: Global, procs: &[ProcSpec]) -> Result<ProcessTables, NoMemory>
-    requires { All (λ (spec : Spec). spec.extent ≤ MOST_EXTENT) procs.now }
+    requires some { All (λ (spec : Spec). 1 ≤ spec.extent) procs.now }
+    requires few { All (λ (spec : Spec). spec.extent ≤ MOST_EXTENT) procs.now }
     ensures count { IfOk result (λ t. vec_len t.statuses ≡ length procs.now) }
     ensures statuses { IfOk result (λ t. t.statuses.items ≡ replicate (length procs.now) ProcStatus.Resident) }
     ensures rings { IfOk result (λ t. t.rings.items ≡ map empty_ring procs.now) }

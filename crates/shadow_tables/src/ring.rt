@@ -60,17 +60,15 @@ fn victim(choice: Choice) -> u32
 impl Ring {
     ghost use Rattle.shadow_tables.specs.Rings.{IsWithin};
 
-    /// So many empty slots, with the hand on the first.
+    /// So many empty slots (1 at least), with the hand on the first.
     ///
     /// # Errors
-    /// `NoMemory` if out of memory, or for no slots.
+    /// `NoMemory` if out of memory.
     pub fn new(alloc: Global, slots: u32) -> Result<Ring, NoMemory>
-        requires { slots ≤ MOST_EXTENT }
+        requires some { 1 ≤ slots }
+        requires few { slots ≤ MOST_EXTENT }
         ensures { IfOk result (λ r. r ≡ record { slots = replicate slots None; hand = 0 }) }
     {
-        if slots == 0 {
-            return Err(NoMemory);
-        }
         Ok(Ring {
             ring: working_set::Ring::new(alloc, slots)?,
         })
