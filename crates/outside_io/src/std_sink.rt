@@ -1,17 +1,20 @@
-ghost use Rattle.std.specs.Prelude.{◌≡◌, ◌≢◌, ◌<◌, ◌≤◌, ◌++◌, [], length, drop, ℕ, is_some, is_err, nat_lt, OnOk, OnErr, IsErr};
+ghost use Rattle.std.specs.Prelude.{◌≡◌, ◌≢◌, ◌<◌, ◌≤◌, ◌++◌, ◌+◌, ◌-◌, [], length, min, take, ℕ, is_some, is_err, nat_lt, OnOk, OnErr, IsErr};
 ghost use Rattle.std.specs.Io.{WritesAtMost};
 ghost use Rattle.std.specs.Io.KnownBytes.{Keeps, WriteAppends, append_known};
 ghost use Rattle.vm_types.specs.Counts.{raised};
+ghost use Rattle.outside_io.specs.BytesLeft.{pending};
 ghost use Rattle.outside_io.specs.Causes.{HasCause};
 ghost use Rattle.outside_io.specs.Stalls.{stalls_after};
 ghost use Rattle.outside_io.specs.KeptIsLast.{kept_is_last_known};
 
 use crate::sink::Sink;
 use crate::steady_write::SteadyWrite;
-use arrayvec::ArrayVec;
 use std::io;
 use std::io::ErrorKind;
 use vm_types::Failed;
+
+// Bytes of the buffer before the writer.
+const ROOM: usize = 65536;
 
 /// One of std's writers as a sink, with a buffer of 65536 bytes before it. The bytes taken are known if
 /// the writer's type knows them: those that the writer holds, and then those that are kept in the buffer.
@@ -21,12 +24,13 @@ use vm_types::Failed;
 #[derive(Drop)]
 pub struct StdSink<W: SteadyWrite> {
     writer: W,
-    buffer: ArrayVec<u8, 65536>,
-    // so many of the buffer's first bytes are handed on
+    buffer: [u8; ROOM],
+    // so many of the buffer's first bytes are handed on, and so many were taken
     done: usize,
+    filled: usize,
     faults: u64,
     error: Option<io::Error>,
-    ghost within: { done ≤ length buffer.items },
+    ghost within: { (done ≤ filled) × (filled ≤ length buffer) },
     ghost told: { is_some error ≡ nat_lt 0 faults },
 }
 
@@ -40,8 +44,9 @@ impl<W: SteadyWrite> StdSink<W> {
     {
         StdSink {
             writer,
-            buffer: ArrayVec::new(),
+            buffer: [0; ROOM],
             done: 0,
+            filled: 0,
             faults: 0,
             error: None,
         }
@@ -62,6 +67,7 @@ impl<W: SteadyWrite> StdSink<W> {
         ensures writer { self.new.writer ≡ self.old.writer }
         ensures buffer { self.new.buffer ≡ self.old.buffer }
         ensures done { self.new.done ≡ self.old.done }
+        ensures filled { self.new.filled ≡ self.old.filled }
     {
         self.error = self.error.or(Some(error));
         self.faults = self.faults.saturating_add(1);
@@ -70,9 +76,9 @@ impl<W: SteadyWrite> StdSink<W> {
 
     // Writes all that is kept to the writer. A writer that takes nothing has failed.
     fn empty_buffer(&mut self) -> Result<(), Failed>
-        ensures bytes { Keeps (append_known (W.contents self.old.writer) (drop self.old.done self.old.buffer.items))
-            (append_known (W.contents self.new.writer) (drop self.new.done self.new.buffer.items)) }
-        ensures empty { OnOk result (self.new.buffer.items ≡ []) }
+        ensures bytes { Keeps (append_known (W.contents self.old.writer) (pending self.old.buffer self.old.done self.old.filled))
+            (append_known (W.contents self.new.writer) (pending self.new.buffer self.new.done self.new.filled)) }
+        ensures empty { OnOk result (self.new.filled ≡ 0) }
         ensures quiet { OnOk result (self.new.faults ≡ self.old.faults) }
         ensures failed { OnErr result (self.new.faults ≡ raised self.old.faults) }
         ensures later { self.old.faults ≤ self.new.faults }
@@ -82,16 +88,31 @@ impl<W: SteadyWrite> StdSink<W> {
         if let Some(error) = self.error {
             return self.fail(error);
         }
-        while self.done < self.buffer.len() {
-            match self.writer.write(&self.buffer.as_slice()[self.done..]) {
+        while self.done < self.filled {
+            let held = &self.buffer[..self.filled];
+            match self.writer.write(&held[self.done..]) {
                 Ok(0) => return self.fail(ErrorKind::WriteZero.into()),
                 Ok(count) => self.done += count,
                 Err(error) => return self.fail(error),
             }
         }
-        self.buffer.clear();
         self.done = 0;
+        self.filled = 0;
         Ok(())
+    }
+
+    // Keeps the piece's first bytes, as many as there is room for; how many these are.
+    #[tactic(auto, using(crate::proofs::Handing::kept_behind))]
+    fn keep(&mut self, piece: &[u8]) -> usize
+        ensures kept { pending self.new.buffer self.new.done self.new.filled ≡ pending self.old.buffer self.old.done self.old.filled ++ take result piece.now }
+        ensures count { result ≡ min (length piece.now) (65536 - self.old.filled) }
+        ensures faults { self.new.faults ≡ self.old.faults }
+        ensures writer { self.new.writer ≡ self.old.writer }
+    {
+        let count = piece.len().min(ROOM - self.filled);
+        put_at(&mut self.buffer, self.filled, &piece[..count]);
+        self.filled += count;
+        count
     }
 
     // The answer of the writer's own flush.
@@ -102,6 +123,7 @@ impl<W: SteadyWrite> StdSink<W> {
         ensures writer { self.new.writer ≡ self.old.writer }
         ensures buffer { self.new.buffer ≡ self.old.buffer }
         ensures done { self.new.done ≡ self.old.done }
+        ensures filled { self.new.filled ≡ self.old.filled }
     {
         match answer {
             Ok(()) => Ok(()),
@@ -110,15 +132,23 @@ impl<W: SteadyWrite> StdSink<W> {
     }
 }
 
+// Puts these bytes into the buffer, from a place on.
+fn put_at(buffer: &mut [u8; ROOM], at: usize, piece: &[u8])
+    requires { at + length piece.now ≤ 65536 }
+    ensures { take (at + length piece.now) buffer.new ≡ take at buffer.old ++ piece.now }
+{
+    buffer[at..at + piece.len()].copy_from_slice(piece);
+}
+
 impl<W: SteadyWrite> Sink for StdSink<W> {
-    ghost seen = { λ s. record { taken = append_known (W.contents s.writer) (drop s.done s.buffer.items); kept = drop s.done s.buffer.items; failures = s.faults; stalls = 0 } };
+    ghost seen = { λ s. record { taken = append_known (W.contents s.writer) (pending s.buffer s.done s.filled); kept = pending s.buffer s.done s.filled; failures = s.faults; stalls = 0 } };
 
     fn write(&mut self, piece: &[u8]) -> Result<usize, Failed>
         ensures bound { WritesAtMost result piece.now }
-        ensures bytes { WriteAppends (append_known (W.contents self.old.writer) (drop self.old.done self.old.buffer.items))
-            (append_known (W.contents self.new.writer) (drop self.new.done self.new.buffer.items)) result piece.now }
-        ensures known { is_some (append_known (W.contents self.new.writer) (drop self.new.done self.new.buffer.items))
-            ≡ is_some (append_known (W.contents self.old.writer) (drop self.old.done self.old.buffer.items)) }
+        ensures bytes { WriteAppends (append_known (W.contents self.old.writer) (pending self.old.buffer self.old.done self.old.filled))
+            (append_known (W.contents self.new.writer) (pending self.new.buffer self.new.done self.new.filled)) result piece.now }
+        ensures known { is_some (append_known (W.contents self.new.writer) (pending self.new.buffer self.new.done self.new.filled))
+            ≡ is_some (append_known (W.contents self.old.writer) (pending self.old.buffer self.old.done self.old.filled)) }
         ensures cause { HasCause self.old.faults self.new.faults result }
         ensures quiet { OnOk result (self.new.faults ≡ self.old.faults) }
         ensures stalls { 0 ≡ stalls_after 0 result piece.now }
@@ -129,20 +159,18 @@ impl<W: SteadyWrite> Sink for StdSink<W> {
         ensures no_more { self.old.faults ≢ 0 → IsErr result }
         ensures still { self.old.faults ≢ 0 → self.new.writer ≡ self.old.writer }
     {
-        if self.faults > 0 || self.buffer.is_full() {
+        if self.faults > 0 || self.filled == ROOM {
             self.empty_buffer()?;
         }
-        let count = piece.len().min(self.buffer.remaining_capacity());
-        let _ = self.buffer.try_extend_from_slice(&piece[..count]);
-        Ok(count)
+        Ok(self.keep(piece))
     }
 
     fn flush(&mut self) -> Result<(), Failed>
-        ensures bytes { Keeps (append_known (W.contents self.old.writer) (drop self.old.done self.old.buffer.items))
-            (append_known (W.contents self.new.writer) (drop self.new.done self.new.buffer.items)) }
-        ensures known { is_some (append_known (W.contents self.new.writer) (drop self.new.done self.new.buffer.items))
-            ≡ is_some (append_known (W.contents self.old.writer) (drop self.old.done self.old.buffer.items)) }
-        ensures handed_on { OnOk result (drop self.new.done self.new.buffer.items ≡ []) }
+        ensures bytes { Keeps (append_known (W.contents self.old.writer) (pending self.old.buffer self.old.done self.old.filled))
+            (append_known (W.contents self.new.writer) (pending self.new.buffer self.new.done self.new.filled)) }
+        ensures known { is_some (append_known (W.contents self.new.writer) (pending self.new.buffer self.new.done self.new.filled))
+            ≡ is_some (append_known (W.contents self.old.writer) (pending self.old.buffer self.old.done self.old.filled)) }
+        ensures handed_on { OnOk result (pending self.new.buffer self.new.done self.new.filled ≡ []) }
         ensures cause { HasCause self.old.faults self.new.faults result }
         ensures quiet { OnOk result (self.new.faults ≡ self.old.faults) }
         ensures stalls { ◌≡◌ {A = ℕ} 0 0 }
@@ -157,5 +185,5 @@ impl<W: SteadyWrite> Sink for StdSink<W> {
         self.flushed(answer)
     }
 
-    ghost kept_is_last = { λ s. kept_is_last_known (W.contents s.writer) (drop s.done s.buffer.items) };
+    ghost kept_is_last = { λ s. kept_is_last_known (W.contents s.writer) (pending s.buffer s.done s.filled) };
 }

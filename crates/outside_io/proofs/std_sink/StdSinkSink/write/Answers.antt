@@ -7,4 +7,4 @@ returns-in_err-empty_buffer-clause-known g c =
 
 pub returns-clause-known : goal.returns-clause-known
 returns-clause-known g c =
-    known_alike _ _ _ _ (g.met.W.SteadyWrite.steady c.if-self-gt0.self.writer c.args.self.now.writer)
+    known_alike _ _ _ _ (g.met.W.SteadyWrite.steady c.keep.new.self.writer c.args.self.now.writer)
