@@ -11,16 +11,14 @@ use crate::service::{Request, Service};
 /// What a request asks for, apart from its numbers.
 #[derive(Clone, Copy, Debug, PartialEq, Eq)]
 pub(crate) enum Verb {
-    ReadOne,
-    ReadTwo,
-    ReadFour,
-    WriteOne,
-    WriteTwo,
-    WriteFour,
+    Read(Width),
+    Write(Width),
     Add,
-    Create,
+    /// With its protection code.
+    Create(u8),
     Delete,
-    Protect,
+    /// With its protection code.
+    Protect(u8),
     Lock,
     Unlock,
     Purge,
@@ -36,40 +34,35 @@ pub(crate) struct Short {
     pub at: u32,
     pub number: u32,
     pub proc: u32,
-    pub prot: u8,
     pub mode: Mode,
     pub verb: Verb,
 }
 
 /// How an operation is kept: the verb, and the value.
 fn kept_op(op: Op) -> (Verb, u32)
-    ensures { (mode : AnyMode) (at prot : ℕ) → request_by result.0 mode at result.1 prot ≡ request.Reference (record { mode = mode; addr = record { 0 = at }; op = op }) }
+    ensures { (mode : AnyMode) (at : ℕ) → request_by result.0 mode at result.1 ≡ request.Reference (record { mode = mode; addr = record { 0 = at }; op = op }) }
 {
     match op {
-        Op::Read(Width::One) => (Verb::ReadOne, 0),
-        Op::Read(Width::Two) => (Verb::ReadTwo, 0),
-        Op::Read(Width::Four) => (Verb::ReadFour, 0),
-        Op::Write(Width::One, value) => (Verb::WriteOne, value),
-        Op::Write(Width::Two, value) => (Verb::WriteTwo, value),
-        Op::Write(Width::Four, value) => (Verb::WriteFour, value),
+        Op::Read(width) => (Verb::Read(width), 0),
+        Op::Write(width, value) => (Verb::Write(width), value),
         Op::Add(value) => (Verb::Add, value),
     }
 }
 
-/// How a service is kept: the verb, the address, the pages or the limit, and the protection.
-fn kept_service(service: Service) -> (Verb, u32, u32, u8)
-    ensures { (mode : AnyMode) → request_by result.0 mode result.1 result.2 result.3 ≡ request.Service service }
+/// How a service is kept: the verb, the address, and the pages or the limit.
+fn kept_service(service: Service) -> (Verb, u32, u32)
+    ensures { (mode : AnyMode) → request_by result.0 mode result.1 result.2 ≡ request.Service service }
 {
     match service {
-        Service::Create { at, pages, prot } => (Verb::Create, at.0, pages, prot),
-        Service::Protect { at, pages, prot } => (Verb::Protect, at.0, pages, prot),
-        Service::Delete { at, pages } => (Verb::Delete, at.0, pages, 0),
-        Service::Lock { at, pages } => (Verb::Lock, at.0, pages, 0),
-        Service::Unlock { at, pages } => (Verb::Unlock, at.0, pages, 0),
-        Service::Purge { at, pages } => (Verb::Purge, at.0, pages, 0),
-        Service::Pin { at, pages } => (Verb::Pin, at.0, pages, 0),
-        Service::Unpin { at, pages } => (Verb::Unpin, at.0, pages, 0),
-        Service::Adjust { limit } => (Verb::Adjust, 0, limit, 0),
+        Service::Create { at, pages, prot } => (Verb::Create(prot), at.0, pages),
+        Service::Protect { at, pages, prot } => (Verb::Protect(prot), at.0, pages),
+        Service::Delete { at, pages } => (Verb::Delete, at.0, pages),
+        Service::Lock { at, pages } => (Verb::Lock, at.0, pages),
+        Service::Unlock { at, pages } => (Verb::Unlock, at.0, pages),
+        Service::Purge { at, pages } => (Verb::Purge, at.0, pages),
+        Service::Pin { at, pages } => (Verb::Pin, at.0, pages),
+        Service::Unpin { at, pages } => (Verb::Unpin, at.0, pages),
+        Service::Adjust { limit } => (Verb::Adjust, 0, limit),
     }
 }
 
@@ -85,18 +78,16 @@ pub(crate) fn short_of(task: Task) -> Short
                 at: addr.0,
                 number,
                 proc,
-                prot: 0,
                 mode,
                 verb,
             }
         }
         Request::Service(service) => {
-            let (verb, at, number, prot) = kept_service(service);
+            let (verb, at, number) = kept_service(service);
             Short {
                 at,
                 number,
                 proc,
-                prot,
                 mode: Mode::K,
                 verb,
             }
@@ -106,55 +97,24 @@ pub(crate) fn short_of(task: Task) -> Short
 
 /// What is asked for.
 fn request_of(s: Short) -> Request
-    ensures { result ≡ request_by s.verb s.mode s.at s.number s.prot }
+    ensures { result ≡ request_by s.verb s.mode s.at s.number }
 {
-    let (mode, addr, at, pages, prot) = (s.mode, Addr(s.at), Addr(s.at), s.number, s.prot);
-    match s.verb {
-        Verb::ReadOne => Request::Reference(Ref {
-            mode,
-            addr,
-            op: Op::Read(Width::One),
-        }),
-        Verb::ReadTwo => Request::Reference(Ref {
-            mode,
-            addr,
-            op: Op::Read(Width::Two),
-        }),
-        Verb::ReadFour => Request::Reference(Ref {
-            mode,
-            addr,
-            op: Op::Read(Width::Four),
-        }),
-        Verb::WriteOne => Request::Reference(Ref {
-            mode,
-            addr,
-            op: Op::Write(Width::One, pages),
-        }),
-        Verb::WriteTwo => Request::Reference(Ref {
-            mode,
-            addr,
-            op: Op::Write(Width::Two, pages),
-        }),
-        Verb::WriteFour => Request::Reference(Ref {
-            mode,
-            addr,
-            op: Op::Write(Width::Four, pages),
-        }),
-        Verb::Add => Request::Reference(Ref {
-            mode,
-            addr,
-            op: Op::Add(pages),
-        }),
-        Verb::Create => Request::Service(Service::Create { at, pages, prot }),
-        Verb::Delete => Request::Service(Service::Delete { at, pages }),
-        Verb::Protect => Request::Service(Service::Protect { at, pages, prot }),
-        Verb::Lock => Request::Service(Service::Lock { at, pages }),
-        Verb::Unlock => Request::Service(Service::Unlock { at, pages }),
-        Verb::Purge => Request::Service(Service::Purge { at, pages }),
-        Verb::Pin => Request::Service(Service::Pin { at, pages }),
-        Verb::Unpin => Request::Service(Service::Unpin { at, pages }),
-        Verb::Adjust => Request::Service(Service::Adjust { limit: pages }),
-    }
+    let (mode, addr, at, pages) = (s.mode, Addr(s.at), Addr(s.at), s.number);
+    let op = match s.verb {
+        Verb::Read(width) => Op::Read(width),
+        Verb::Write(width) => Op::Write(width, pages),
+        Verb::Add => Op::Add(pages),
+        Verb::Create(prot) => return Request::Service(Service::Create { at, pages, prot }),
+        Verb::Delete => return Request::Service(Service::Delete { at, pages }),
+        Verb::Protect(prot) => return Request::Service(Service::Protect { at, pages, prot }),
+        Verb::Lock => return Request::Service(Service::Lock { at, pages }),
+        Verb::Unlock => return Request::Service(Service::Unlock { at, pages }),
+        Verb::Purge => return Request::Service(Service::Purge { at, pages }),
+        Verb::Pin => return Request::Service(Service::Pin { at, pages }),
+        Verb::Unpin => return Request::Service(Service::Unpin { at, pages }),
+        Verb::Adjust => return Request::Service(Service::Adjust { limit: pages }),
+    };
+    Request::Reference(Ref { mode, addr, op })
 }
 
 /// The task that is kept so.
