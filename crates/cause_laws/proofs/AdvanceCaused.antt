@@ -116,9 +116,11 @@ module _ (config : Config) (past : List Entry) (p : ℕ) (r : Ref) (ready : IsRe
         reads f fs None = (named, near_caused config a.page p fs near (all_near config a g b (range_with_len 1 (many - 1))) (by_seat p (what.In (pfn f) b (role.Fault (proc p) (page_address v))) ∷ past) 1 (first_read past p f b (role.Fault (proc p) (page_address v)) refl ready.free.idle) few)
         reads f fs (Some x) = (
           reuse,
-          (named_then f x,
-          near_caused config a.page p fs near (all_near config a g b (range_with_len 1 (many - 1))) (by_seat p (what.In (pfn f) b (role.Fault (proc p) (page_address v))) ∷ (by_seat p (what.Reuse (pfn f) x) ∷ past)) 1
-              (first_read (by_seat p (what.Reuse (pfn f) x) ∷ past) p f b (role.Fault (proc p) (page_address v)) refl ready.free.idle) few),
+          (
+            named_then f x,
+            near_caused config a.page p fs near (all_near config a g b (range_with_len 1 (many - 1))) (by_seat p (what.In (pfn f) b (role.Fault (proc p) (page_address v))) ∷ (by_seat p (what.Reuse (pfn f) x) ∷ past)) 1
+                (first_read (by_seat p (what.Reuse (pfn f) x) ∷ past) p f b (role.Fault (proc p) (page_address v)) refl ready.free.idle) few,
+          ),
         )
 
       framed : (o : Option BlockId) (frames : List ℕ) → Caused (frame_given config a p r g o frames)

@@ -112,7 +112,9 @@ module _ (config : Config) (page : ℕ → Option Page) (seat : ℕ) where
       by None rest = (near_cause past (pager_after config past) t near.0, rest (by_seat seat (what.In (pfn f) t.block t.role) ∷ past) (one_more past seat f n t.block t.role (near_role t near.0) at))
       by (Some x) rest = (
         inr (inr (inl (record { busy = at.busy; last = at.last; lasts = at.lasts; role = at.role; none_landed = at.none_landed; room = let few = at.count in omega (arith, few, room) }))),
-        (near_cause (by_seat seat (what.Reuse (pfn f) x) ∷ past) (pager_after config (by_seat seat (what.Reuse (pfn f) x) ∷ past)) t near.0,
-        rest (by_seat seat (what.In (pfn f) t.block t.role) ∷ (by_seat seat (what.Reuse (pfn f) x) ∷ past))
-            (one_more (by_seat seat (what.Reuse (pfn f) x) ∷ past) seat f n t.block t.role (near_role t near.0) (reuse_stays past seat f n x at))),
+        (
+          near_cause (by_seat seat (what.Reuse (pfn f) x) ∷ past) (pager_after config (by_seat seat (what.Reuse (pfn f) x) ∷ past)) t near.0,
+          rest (by_seat seat (what.In (pfn f) t.block t.role) ∷ (by_seat seat (what.Reuse (pfn f) x) ∷ past))
+              (one_more (by_seat seat (what.Reuse (pfn f) x) ∷ past) seat f n t.block t.role (near_role t near.0) (reuse_stays past seat f n x at)),
+        ),
       )
