@@ -18,6 +18,8 @@
 
   const HEADS = new Set(["VMTRACE", "LONGTRACE", "FRAMES", "PAGEFILE", "PARAM", "BAD", "SECTION", "DATA",
     "PROCESS", "MAPZERO", "MAPSEC", "FAIL", "BODY", "END"]);
+  // LONGTRACE is a word of the first line alone.
+  const LATER_HEADS = [...HEADS].filter((head) => head !== "LONGTRACE");
   const CODES = new Set("NA KW KR UW EW ERKW ER SW SREW SRKW SR URSW UREW URKW UR".split(" "));
   const OPERATION = /^[KESU]?(?:[RW][124]|A4)$/;
   const SERVICE = /^(?:CRETVA|DELTVA|SETPRT|LKWSET|ULWSET|LCKPAG|ULKPAG|PURGWS|ADJWSL)$/;
@@ -51,7 +53,7 @@
     const first = words.length ? words[0].text : "";
     const kind = word ? formOf(words)[words.indexOf(word)] : "";
     if (cause === "UNKNOWNWORD" && word === words[0]) {
-      return `Before BODY a line begins with ${[...HEADS].join(", ")}; after it with a process's letter.`;
+      return `Before BODY a line begins with ${LATER_HEADS.join(", ")}; after it with a process's letter.`;
     }
     if (cause === "UNALIGNED") {
       const width = HEADS.has(first) || REQUESTS[words[1].text] ? 512 : words[1].text.slice(-1);
@@ -107,7 +109,7 @@
   };
 
   function wordOf(words, cause, declared) {
-    if (cause === "UNKNOWNWORD" && !HEADS.has(words[0].text) && !/^[A-P]$/.test(words[0].text)) {
+    if (cause === "UNKNOWNWORD" && !LATER_HEADS.includes(words[0].text) && !/^[A-P]$/.test(words[0].text)) {
       return words[0];
     }
     const form = formOf(words);

@@ -125,6 +125,7 @@ function testFaults(same) {
   for (const [lines, output, word, said] of [
     [["MAPZERO A 00000001 4 UW"], "TRACE 5 UNALIGNED", "00000001", "isn't a multiple"],
     [["MAPZREO A 0 4 UW"], "TRACE 5 UNKNOWNWORD", "MAPZREO", "none of those"],
+    [["LONGTRACE 2"], "TRACE 5 UNKNOWNWORD", "LONGTRACE", "none of those"],
     [["MAPZERO A 0 4 RW"], "TRACE 5 UNKNOWNWORD", "RW", "none of those"],
     [["BODY", "A R8 0"], "TRACE 6 UNKNOWNWORD", "R8", "none of those"],
     [["MAPZERO B 0 4 UW"], "TRACE 5 NOSUCH", "B", "declares"],
