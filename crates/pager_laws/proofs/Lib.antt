@@ -1,4 +1,5 @@
 pub mod BackKept
+pub mod BodyRows
 pub mod CarriersBalance
 pub mod ComingKept
 pub mod DeleteIsFlat
@@ -34,6 +35,7 @@ pub mod ReuseKept
 pub mod RingBounds
 pub mod RunLines
 pub mod RunsAreSound
+pub mod RunsStay
 pub mod SectionNumbers
 pub mod ServedKept
 pub mod StepKept

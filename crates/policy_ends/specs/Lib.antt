@@ -1,6 +1,8 @@
-pub mod Rank
+pub mod Asked
+pub mod BodyMoves
 pub mod Bound
-pub mod Laws
 pub mod Clean
 pub mod Dirty
+pub mod Laws
+pub mod Rank
 pub mod RundownLaws

@@ -15,8 +15,8 @@ use Rattle.state_fits.specs.Parts.{Parts}
 use Rattle.state_fits.specs.PartsFit.{PartsFit}
 use Rattle.vm_state.specs.History.{History}
 use Rattle.vm_state.specs.StateKept.{IsState, IsStoreOf, home_in}
-use Rattle.open_laws.specs.Bodies.{MayBeAdded, has_rundown, with_body, with_task}
-use Rattle.open_laws.proofs.RunsStay.{bytes_stay, formed_stays, runs_stay}
+use Rattle.pager_laws.specs.Bodies.{MayBeAdded, has_rundown, with_body, with_task}
+use Rattle.pager_laws.proofs.RunsStay.{bytes_stay, formed_stays, runs_stay}
 
 blocks_same : (config : Config) (body : List Task) → blocks_of config ≡ blocks_of (with_body config body)
 unfolding blocks_of

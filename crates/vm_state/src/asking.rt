@@ -5,7 +5,7 @@ use disk_trait::Block;
 use vm_types::{NoMemory, Task};
 
 impl<B: Block> State<B> {
-    ghost use Rattle.open_laws.specs.Bodies.{MayBeAdded, has_rundown, with_task};
+    ghost use Rattle.pager_laws.specs.Bodies.{MayBeAdded, has_rundown, with_task};
 
     /// Adds a request behind the body. The entries so far are a run of the longer body too: the rundown has
     /// evicted no page.

@@ -12,7 +12,7 @@ use Rattle.pager_model.specs.Run.{IsRun, pager_after}
 use Rattle.pager_model.specs.Spoken.{spoken}
 use Rattle.serial_laws.specs.Between.{IsBetween}
 use Rattle.serial_laws.specs.Controlled.{IsControlled, IsInBody}
-use Rattle.open_laws.specs.Bodies.{MayBeAdded, has_rundown, with_task}
+use Rattle.pager_laws.specs.Bodies.{MayBeAdded, has_rundown, with_task}
 
 -- while a request of the shorter body is left, the moves are the same
 abbrev pub MovesAreSame : Type 0

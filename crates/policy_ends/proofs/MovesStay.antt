@@ -19,8 +19,8 @@ use Rattle.pager_policy.specs.Rundown.{cleaning_move}
 use Rattle.pager_policy.specs.Serial.{GoesOn, Heard, IsMade, IsMove, IsReached, IsRefused}
 use Rattle.pager_policy.specs.Swap.{victim_gives}
 use Rattle.pager_policy.specs.WriteCluster.{BeginIs, begin_carry, begin_gives, begin_nothing, reason_high}
-use Rattle.open_laws.specs.Bodies.{with_task}
-use Rattle.open_laws.specs.Moves.{move_at}
+use Rattle.pager_laws.specs.Bodies.{with_task}
+use Rattle.policy_ends.specs.BodyMoves.{move_at}
 
 -- ---- a place of the longer body
 place_within : (xs ys : List Task) (d : Task) (n : ℕ) → n < length xs → slice_get (xs ++ ys) n ≡ slice_get xs n

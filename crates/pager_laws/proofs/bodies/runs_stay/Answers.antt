@@ -1,5 +1,5 @@
-use Rattle.open_laws.proofs.RunsStay.{rundowns_end, runs_go_on, runs_stay}
-use Rattle.open_laws.proofs.laws.runs_stay.Goals as goal
+use Rattle.pager_laws.proofs.RunsStay.{rundowns_end, runs_go_on, runs_stay}
+use Rattle.pager_laws.proofs.bodies.runs_stay.Goals as goal
 
 pub returns-clause-stay : goal.returns-clause-stay
 returns-clause-stay c = runs_stay

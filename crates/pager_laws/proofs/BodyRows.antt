@@ -35,7 +35,7 @@ use Rattle.pager_model.specs.Served.{IsDelete, IsInUse, IsLocking, IsOverLocking
 use Rattle.pager_model.specs.Step.{IsLegal, IsLegalWhat}
 use Rattle.pager_model.specs.Transfers.{IsHome}
 use Rattle.pager_model.specs.Zero.{IsZero}
-use Rattle.open_laws.specs.Bodies.{is_rundown_eviction, with_body}
+use Rattle.pager_laws.specs.Bodies.{is_rundown_eviction, with_body}
 
 module _ (config : Config) (body : List Task) where
   abbrev more : Config

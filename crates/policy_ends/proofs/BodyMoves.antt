@@ -38,7 +38,7 @@ use Rattle.serial_laws.specs.Controlled.{IsControlled, IsInBody}
 use Rattle.serial_laws.proofs.Kept.{moves_between, moves_fit}
 use Rattle.serial_laws.proofs.Walks.{task_formed}
 use Rattle.policy_ends.proofs.WriteCarriers.{run_before, run_landed}
-use Rattle.open_laws.specs.Bodies.{has_rundown, is_rundown_eviction}
+use Rattle.pager_laws.specs.Bodies.{has_rundown, is_rundown_eviction}
 
 -- ---- entries that evict nothing for the rundown
 abbrev Spares : List What → Type 0

@@ -10,7 +10,7 @@ use Rattle.pager_model.specs.Spoken.{IsRight}
 use Rattle.pager_policy.specs.Moves.{Control, asking, control}
 use Rattle.pager_policy.specs.Serial.{Heard, IsReached, IsSerial, IsSerialTo, Rests}
 use Rattle.call_laws.specs.SerialOrder.{all_told}
-use Rattle.open_laws.specs.Bodies.{with_body, with_task}
+use Rattle.pager_laws.specs.Bodies.{with_body, with_task}
 
 -- a request is added behind the body, the policy makes moves until it rests, and then the later requests are asked;
 -- told is what all these moves were told, the newest first

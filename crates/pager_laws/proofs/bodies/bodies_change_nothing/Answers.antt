@@ -1,6 +1,6 @@
 use Rattle.std.proofs.Common.{refl}
-use Rattle.open_laws.proofs.RunsStay.{bytes_stay}
-use Rattle.open_laws.proofs.laws.bodies_change_nothing.Goals as goal
+use Rattle.pager_laws.proofs.RunsStay.{bytes_stay}
+use Rattle.pager_laws.proofs.bodies.bodies_change_nothing.Goals as goal
 
 pub returns-clause-pager : goal.returns-clause-pager
 returns-clause-pager c config body past = refl

@@ -13,11 +13,11 @@ use Rattle.pager_policy.specs.Serial.{IsSerialTo}
 use Rattle.serial_laws.specs.Between.{IsBetween}
 use Rattle.serial_laws.specs.Controlled.{AreTouched, HasTouched, IsControlled, IsInBody, IsRead, MayRefuseMeanwhile}
 use Rattle.serial_laws.proofs.Kept.{rests_last}
-use Rattle.open_laws.specs.Bodies.{MayBeAdded, has_rundown, with_task}
-use Rattle.open_laws.specs.Moves.{move_at}
-use Rattle.open_laws.proofs.BodyMoves.{HasTask, placed}
-use Rattle.open_laws.proofs.MovesStay.{ends_go_on, next_behind, next_stays}
-use Rattle.open_laws.proofs.RunsStay.{formed_stays, runs_stay}
+use Rattle.pager_laws.specs.Bodies.{MayBeAdded, has_rundown, with_task}
+use Rattle.policy_ends.specs.BodyMoves.{move_at}
+use Rattle.policy_ends.proofs.BodyMoves.{HasTask, placed}
+use Rattle.policy_ends.proofs.MovesStay.{ends_go_on, next_behind, next_stays}
+use Rattle.pager_laws.proofs.RunsStay.{formed_stays, runs_stay}
 
 module _ (config : Config) (task : Task) (past : List Entry) where
   abbrev more : Config

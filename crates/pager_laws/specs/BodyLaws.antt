@@ -13,7 +13,7 @@ use Rattle.pager_model.specs.Pager.{Pager}
 use Rattle.pager_model.specs.Run.{IsRun, pager_after}
 use Rattle.pager_model.specs.Spoken.{IsRight, flat_after}
 use Rattle.pager_laws.specs.Laws.{IsSoundThroughout}
-use Rattle.open_laws.specs.Bodies.{MayBeAdded, has_rundown, with_body, with_task}
+use Rattle.pager_laws.specs.Bodies.{MayBeAdded, has_rundown, with_body, with_task}
 
 -- a well-formed configuration stays so with a request that may be added
 abbrev pub FormedStays : Type 0

@@ -14,10 +14,10 @@ use Rattle.pager_policy.specs.Serial.{Heard, IsReached, IsSerial, IsSerialTo, Re
 use Rattle.call_laws.specs.SerialOrder.{all_told}
 use Rattle.call_laws.proofs.SerialIsOne.{serial_is_one}
 use Rattle.serial_laws.proofs.Kept.{rests_last}
-use Rattle.open_laws.specs.Asked.{AreAsked, IsAskedTo, IsLedTo}
-use Rattle.open_laws.specs.Bodies.{with_body, with_task}
-use Rattle.open_laws.proofs.BodyMoves.{placed}
-use Rattle.open_laws.proofs.MovesStay.{moves_stay}
+use Rattle.policy_ends.specs.Asked.{AreAsked, IsAskedTo, IsLedTo}
+use Rattle.pager_laws.specs.Bodies.{with_body, with_task}
+use Rattle.policy_ends.proofs.BodyMoves.{placed}
+use Rattle.policy_ends.proofs.MovesStay.{moves_stay}
 
 -- moves behind moves
 reached_join : (config : Config) (start : List Entry) (from : Control) (first : List Heard) (middle : List Entry) (place : Control) (later : List Heard) (past : List Entry) (c : Control)

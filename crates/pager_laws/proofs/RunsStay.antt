@@ -20,9 +20,9 @@ use Rattle.pager_model.specs.Run.{IsRun, pager_after}
 use Rattle.pager_model.specs.Step.{IsLegalWhat}
 use Rattle.pager_rules.proofs.Basics.{nat_eq_refl}
 use Rattle.pager_laws.proofs.RunsAreSound.{sound_throughout}
-use Rattle.open_laws.specs.Bodies.{MayBeAdded, has_rundown, is_rundown_eviction, with_body, with_task}
-use Rattle.open_laws.specs.Runs.{IsProperRun}
-use Rattle.open_laws.proofs.Rows.{legal}
+use Rattle.pager_laws.specs.Bodies.{MayBeAdded, has_rundown, is_rundown_eviction, with_body, with_task}
+use Rattle.pager_laws.specs.BodyLaws.{IsProperRun}
+use Rattle.pager_laws.proofs.BodyRows.{legal}
 
 -- ---- a well-formed configuration
 fails_stay : (config : Config) (body : List Task) (fails : Fails) → AreFails config fails → AreFails (with_body config body) fails

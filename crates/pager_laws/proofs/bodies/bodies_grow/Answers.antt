@@ -1,5 +1,5 @@
-use Rattle.open_laws.proofs.RunsStay.{formed_stays, order_stays}
-use Rattle.open_laws.proofs.laws.bodies_grow.Goals as goal
+use Rattle.pager_laws.proofs.RunsStay.{formed_stays, order_stays}
+use Rattle.pager_laws.proofs.bodies.bodies_grow.Goals as goal
 
 pub returns-clause-formed : goal.returns-clause-formed
 returns-clause-formed c = formed_stays

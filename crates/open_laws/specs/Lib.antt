@@ -1,4 +1,0 @@
-pub mod Asked
-pub mod Bodies
-pub mod Moves
-pub mod Runs
