@@ -25,7 +25,7 @@ use Rattle.vm_state.specs.FlightReadings.{read_by}
 use Rattle.vm_state.specs.PageReadings.{found_with}
 use Rattle.vm_state.specs.ProcessReadings.{adjusted_for, pending_in}
 use Rattle.state_pages.specs.declared.found.Found.{Found}
-use Rattle.vm_state.specs.declared.open_read.OpenRead.{OpenRead}
+use Rattle.state_pages.specs.declared.found.OpenRead.{OpenRead}
 use Rattle.call_begins.proofs.Branches.{if_false, if_true, item_there}
 
 -- ---- the adjustment

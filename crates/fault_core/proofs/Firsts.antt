@@ -25,7 +25,7 @@ use Rattle.vm_state.specs.History.{History, MayAdd, MayAnswer, entry_by, owed, p
 use Rattle.vm_state.specs.PageReadings.{IsGranted, found_in}
 use Rattle.vm_state.specs.ProcessReadings.{pending_in}
 use Rattle.state_pages.specs.declared.found.Found.{Found}
-use Rattle.vm_state.specs.declared.open_read.OpenRead.{OpenRead}
+use Rattle.state_pages.specs.declared.found.OpenRead.{OpenRead}
 use Rattle.call_begins.proofs.Branches.{if_false, if_true}
 use Rattle.call_begins.proofs.Steps.{paid_first}
 use Rattle.fault_core.specs.Cases.{IsReplacedFirst, at_entry, at_fault, at_first, at_frame, at_held, at_map, at_out, at_read, at_refusal, at_replace, at_room, source_in, vpn_of}

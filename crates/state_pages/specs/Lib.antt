@@ -1,4 +1,5 @@
 pub mod ComeRoles
+pub mod Locking
 pub mod MarkedWords
 pub mod Moves
 pub mod PagesShown

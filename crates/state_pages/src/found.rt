@@ -1,4 +1,4 @@
-use vm_types::{BlockId, Origin, Page, Pfn};
+use vm_types::{BlockId, Origin, Page, Pfn, Seat};
 
 /// What a process has at a page number: the page, what is behind it, its protection code, and whether
 /// its entry is valid.
@@ -28,4 +28,11 @@ pub struct Slot {
     pub frame: Pfn,
     pub locked: bool,
     pub pinned: bool,
+}
+
+/// A read that hasn't landed: the seat that began it, and the number of the entry that did.
+#[derive(Clone, Copy, Debug, PartialEq, Eq)]
+pub struct OpenRead {
+    pub seat: Seat,
+    pub start: u64,
 }

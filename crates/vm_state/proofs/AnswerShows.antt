@@ -11,7 +11,7 @@ use Rattle.vm_types.specs.declared.config.Config.{Config}
 use Rattle.vm_types.specs.declared.config.ProcSpec.{ProcSpec}
 use Rattle.vm_types.specs.declared.names.BlockId.{BlockId}
 use Rattle.vm_types.specs.declared.names.Page.{Page}
-use Rattle.vm_types.specs.declared.reply.Answer.TheVariants as answer
+use Rattle.vm_types.specs.declared.service.Service.{Service}
 use Rattle.vm_journal.specs.declared.entry.Entry.{Entry}
 use Rattle.pager_model.specs.Forget.{holder, range_of}
 use Rattle.pager_model.specs.Lookups.{entry_of}
@@ -23,7 +23,8 @@ use Rattle.frame_store.specs.StoreView.{StoreView}
 use Rattle.state_parts.specs.declared.process_row.ProcessRow.{ProcessRow}
 use Rattle.state_fits.specs.Entries.{pte_at, pte_of}
 use Rattle.state_fits.specs.Parts.{Parts}
-use Rattle.state_pages.specs.ServiceAnswers.{has_entry, lock_answer}
+use Rattle.state_pages.specs.ServiceAnswers.{has_entry, service_answer, some_entry}
+use Rattle.vm_state.specs.Answering.{answer_in}
 use Rattle.vm_state.specs.StateKept.{IsState}
 use Rattle.vm_state.proofs.Closing.{kept}
 use Rattle.vm_state.proofs.ProcessShows.{row_is}
@@ -45,19 +46,19 @@ module _ {B : Type 0} {seen : B → BlockView} {tells : Tells} {config : Config}
   mapped_is : (p v : ℕ) → has_entry fields.tables p true v ≡ is_some (a.map p v)
   mapped_is p v = ap is_some (before.parts.tables.each p v) ∙ entry_there config a.map a.valid a.page a.lies p v
 
-  pub in_use_is : (p address pages : ℕ) → list_any (has_entry fields.tables p true) (range_of address pages) ≡ is_in_use a p address pages
+  in_use_is : (p address pages : ℕ) → list_any (has_entry fields.tables p true) (range_of address pages) ≡ is_in_use a p address pages
   in_use_is p address pages i = list_any (λ (v : ℕ). mapped_is p v i) (range_of address pages)
 
-  pub unmapped_is : (p address pages : ℕ) → list_any (has_entry fields.tables p false) (range_of address pages) ≡ is_unmapped a p address pages
+  unmapped_is : (p address pages : ℕ) → list_any (has_entry fields.tables p false) (range_of address pages) ≡ is_unmapped a p address pages
   unmapped_is p address pages i = list_any (λ (v : ℕ). not (mapped_is p v i)) (range_of address pages)
 
   -- ---- a process
   module _ (p : ℕ) (x : ProcessRow) (there : p < length config.procs) (read : x ≡ slice_index_or fields.processes p x) where
-    pub ring_is : x.ring ≡ a.ring p
+    ring_is : x.ring ≡ a.ring p
     ring_is = ap (λ (z : ProcessRow). z.ring) (row_is before p x there read)
 
     module _ (specs : List ProcSpec) (d : ProcSpec) (are : specs ≡ config.procs) where
-      pub spec_is : slice_get config.procs p ≡ Some (slice_index_or specs p d)
+      spec_is : slice_get config.procs p ≡ Some (slice_index_or specs p d)
       spec_is = slice_get-get_or config.procs p d there ∙ ap (λ (xs : List ProcSpec). Some (slice_index_or xs p d)) (sym are)
 
       pub few_slots : length (x.ring).slots ≤ MOST_EXTENT
@@ -67,5 +68,5 @@ module _ {B : Type 0} {seen : B → BlockView} {tells : Tells} {config : Config}
           let slots = (((kept before).processes p).bounds (slice_index_or specs p d) spec_is).slots in
           subst (λ (r : Ring). length r.slots ≤ MOST_EXTENT) (sym ring_is) (omega (arith, most, slots))
 
-      pub lock_is : (address pages : ℕ) (would : Ring → Ring) → lock_answer x.ring (would x.ring) address pages (Some (slice_index_or specs p d)) ≡ lock_answer (a.ring p) (would (a.ring p)) address pages (slice_get config.procs p)
-      lock_is address pages would i = lock_answer (ring_is i) (would (ring_is i)) address pages (sym spec_is i)
+      pub answer_is : (s : Service) → service_answer (some_entry fields.tables p true) (some_entry fields.tables p false) x.ring (Some (slice_index_or specs p d)) s ≡ answer_in config a p s
+      answer_is s i = service_answer (λ address pages. in_use_is p address pages i) (λ address pages. unmapped_is p address pages i) (ring_is i) (sym spec_is i) s

@@ -31,7 +31,7 @@ use Rattle.state_fits.specs.Parts.{Parts}
 use Rattle.state_fits.specs.PartsFit.{PartsFit}
 use Rattle.state_fits.specs.Serving.{is_serving, pin_service, ranged, with_code}
 use Rattle.state_fits.proofs.ServedParts.{FitAfter, adjusted_parts, created_parts, deleted_parts, left_parts, locked_parts, pinned_parts, protected_parts, unlocked_parts}
-use Rattle.vm_state.specs.Locking.{lock_service}
+use Rattle.state_pages.specs.Locking.{lock_service}
 use Rattle.vm_state.specs.History.{owed}
 use Rattle.vm_state.specs.StateKept.{IsState}
 use Rattle.vm_state.proofs.Closing.{closed, kept}

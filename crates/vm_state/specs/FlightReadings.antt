@@ -1,6 +1,6 @@
 -- What the readers of transfers show. This project's own.
 use Rattle.pager_model.specs.Flights.{Flight}
-use Rattle.vm_state.specs.declared.open_read.OpenRead.{OpenRead}
+use Rattle.state_pages.specs.declared.found.OpenRead.{OpenRead}
 
 -- the seat that reads, and the entry that began it
 abbrev pub read_by : Flight → OpenRead

@@ -14,4 +14,3 @@ pub mod Ends
 pub mod Answering
 pub mod Based
 pub mod Words
-pub mod Locking

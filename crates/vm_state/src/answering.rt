@@ -26,8 +26,8 @@ impl<B: Block> State<B> {
                 | Service::Unpin { .. } => self.answer_unchanged(seat, s, answer),
             },
             Answer::Count(count) => match s {
-                Service::Lock { at, pages } => self.lock(seat, at, pages, count),
-                Service::Unlock { at, pages } => self.unlock(seat, at, pages, count),
+                Service::Lock { at, pages } => self.relock(seat, at, pages, true, count),
+                Service::Unlock { at, pages } => self.relock(seat, at, pages, false, count),
                 Service::Pin { at, pages } => self.repin(seat, at, pages, true, count),
                 Service::Unpin { at, pages } => self.repin(seat, at, pages, false, count),
                 Service::Create { .. }

@@ -1,10 +1,9 @@
 ghost use Rattle.std.specs.Prelude.{◌≡◌};
 
 use crate::state::State;
-use crate::validity::make_valid;
 use disk_trait::Block;
 use frame_changes::enter;
-use state_pages::{enter_ring, frame_slot, marked_back, share};
+use state_pages::{enter_ring, frame_slot, make_valid, marked_back, share};
 use vm_journal::{Entry, What};
 use vm_types::{Addr, FrameState, PAGE_BYTES, Pfn, Proc, Seat};
 

@@ -1,10 +1,9 @@
 ghost use Rattle.std.specs.Prelude.{◌≡◌};
 
 use crate::state::State;
-use crate::validity::make_valid;
 use disk_trait::Block;
 use frame_changes::enter;
-use state_pages::{entry_in, frame_slot, hold, mapped_page, share};
+use state_pages::{entry_in, frame_slot, hold, make_valid, mapped_page, share};
 use state_parts::{ChargedPage, take_slot};
 use vm_journal::{Entry, What};
 use vm_types::{Addr, PAGE_BYTES, Pfn, Proc, Seat};

@@ -5,10 +5,9 @@ ghost use Rattle.pager_model.specs.Flights.{open_flights};
 ghost use Rattle.pager_model.specs.Transfers.{has_come, is_on_block, is_read_on};
 ghost use Rattle.vm_state.specs.FlightReadings.{read_by};
 
-use crate::open_read::OpenRead;
 use crate::state::State;
 use disk_trait::Block;
-use state_pages::any_comes;
+use state_pages::{OpenRead, any_comes};
 use vm_types::{BlockId, Pfn, Proc};
 
 /// No reader allocates.

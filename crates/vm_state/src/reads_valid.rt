@@ -2,11 +2,10 @@ ghost use Rattle.std.specs.Prelude.{◌≡◌, true};
 
 use crate::state::State;
 use crate::transfers::end_transfer;
-use crate::validity::make_valid;
 use disk_trait::Block;
 use frame_changes::end_read;
 use frame_store::{Carried, Lift};
-use state_pages::{come_home, first_read, frame_slot, share};
+use state_pages::{come_home, first_read, frame_slot, make_valid, share};
 use state_parts::take_slot;
 use vm_journal::{Entry, Role, What};
 use vm_types::{Addr, PAGE_BYTES, Page, Proc, Seat};

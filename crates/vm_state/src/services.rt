@@ -1,12 +1,12 @@
 ghost use Rattle.std.specs.Prelude.{◌≡◌, false};
 ghost use Rattle.state_fits.specs.Serving.{is_serving, pin_service};
-ghost use Rattle.vm_state.specs.Locking.{lock_service};
+ghost use Rattle.state_pages.specs.Locking.{lock_service};
 
 use crate::speaking::speak;
 use crate::state::State;
 use disk_trait::Block;
 use frame_changes::count_pin;
-use state_pages::{create_zeros, frame_in, pin_service, protect};
+use state_pages::{create_zeros, frame_in, lock_service, pin_service, protect};
 use state_parts::{lock_range, mark_pin, page_to_pin};
 use vm_journal::What;
 use vm_types::{Addr, Answer, Proc, Seat, Service};
@@ -41,25 +41,9 @@ impl<B: Block> State<B> {
         speak(&mut self.journal, spoken, seat, What::Served { s, answer });
     }
 
-    /// Locks the valid pages of a range in the working set of the seat's process, and answers how many.
-    pub fn lock(&mut self, seat: Seat, at: Addr, pages: u32, count: u32)
-        requires { MayAdd self.old (entry_by seat (What.Served (Service.Lock at pages) (Answer.Count count))) }
-        ensures { self.new ≡ added self.old (entry_by seat (What.Served (Service.Lock at pages) (Answer.Count count))) }
-    {
-        self.relock(seat, at, pages, true, count);
-    }
-
-    /// Unlocks the locked pages of a range in the working set of the seat's process, and answers how many.
-    pub fn unlock(&mut self, seat: Seat, at: Addr, pages: u32, count: u32)
-        requires { MayAdd self.old (entry_by seat (What.Served (Service.Unlock at pages) (Answer.Count count))) }
-        ensures { self.new ≡ added self.old (entry_by seat (What.Served (Service.Unlock at pages) (Answer.Count count))) }
-    {
-        self.relock(seat, at, pages, false, count);
-    }
-
-    /// Locks, or unlocks, the pages of a range in the working set of the seat's process, and answers how
-    /// many.
-    fn relock(&mut self, seat: Seat, at: Addr, pages: u32, lock: bool, count: u32)
+    /// Locks the valid pages of a range in the working set of the seat's process, or unlocks its locked
+    /// ones, and answers how many.
+    pub fn relock(&mut self, seat: Seat, at: Addr, pages: u32, lock: bool, count: u32)
         requires { MayAdd self.old (entry_by seat (What.Served (lock_service lock at pages) (Answer.Count count))) }
         ensures { self.new ≡ added self.old (entry_by seat (What.Served (lock_service lock at pages) (Answer.Count count))) }
     {
@@ -121,16 +105,5 @@ impl<B: Block> State<B> {
         let answer = Answer::Good;
         let spoken = &mut self.spoken[seat.0 as usize];
         speak(&mut self.journal, spoken, seat, What::Served { s, answer });
-    }
-}
-
-/// The service that locks, or unlocks, a range.
-fn lock_service(lock: bool, at: Addr, pages: u32) -> Service
-    ensures { result ≡ lock_service lock at pages }
-{
-    if lock {
-        Service::Lock { at, pages }
-    } else {
-        Service::Unlock { at, pages }
     }
 }

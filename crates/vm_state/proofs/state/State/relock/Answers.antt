@@ -4,7 +4,7 @@ use Rattle.vm_journal.specs.declared.entry.What.TheVariants as what
 use Rattle.vm_types.specs.declared.reply.Answer.TheVariants as answer
 use Rattle.state_fits.proofs.AnswerSpoken.{served_process}
 use Rattle.vm_state.specs.History.{entry_by}
-use Rattle.vm_state.specs.Locking.{lock_service}
+use Rattle.state_pages.specs.Locking.{lock_service}
 use Rattle.vm_state.proofs.Closing.{may_before, next_number, pushed}
 use Rattle.vm_state.proofs.ServedCloses.{relocked_closes}
 use Rattle.vm_state.proofs.SimpleCloses.{spoken_few}

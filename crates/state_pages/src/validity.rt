@@ -3,14 +3,14 @@ ghost use Rattle.vm_types.specs.PagePlaces.{changed_at};
 ghost use Rattle.page_tables.specs.PageTables.{IsEntry, IsMapped, pte_in};
 ghost use Rattle.pte_forms.specs.declared.pte.Pte.{Pte};
 
+use crate::shown::entry_in;
 use page_tables::Tables;
 use pte_forms::{Place, Pte};
-use state_pages::entry_in;
 use vm_types::{Pfn, Proc};
 
 /// The entry of a mapped page becomes valid for a frame. Its protection code stays.
 #[inline(always)]
-pub(crate) fn make_valid(tables: &mut Tables, p: Proc, vpn: u32, f: Pfn)
+pub fn make_valid(tables: &mut Tables, p: Proc, vpn: u32, f: Pfn)
     requires mapped { IsMapped tables.old p.0 vpn }
     requires entry { (pte : Pte) → pte_in tables.old p.0 vpn ≡ Some pte → IsEntry (record { prot = pte.prot; place = Place.Valid false f }) }
     ensures changed { (pte : Pte) × (pte_in tables.old p.0 vpn ≡ Some pte)

@@ -1,6 +1,6 @@
 use Rattle.std.proofs.Common.{IsSome, sym, ◌∙◌, subst}
 use Rattle.state_pages.proofs.Looked.{looked}
-use Rattle.vm_state.proofs.validity.make_valid.Goals as goal
+use Rattle.state_pages.proofs.validity.make_valid.Goals as goal
 
 pub unwrap-prot-requires : goal.unwrap-prot-requires
 unwrap-prot-requires c = subst IsSome (sym (looked c.args.tables.now c.args.p.0 c.args.vpn c.look-look.result c.entry_in.result c.look-look.ensures.value c.entry_in.ensures)) c.requires.mapped
