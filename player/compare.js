@@ -152,8 +152,8 @@
   async function runOne(text) {
     const { status, output } = await Session.program(["serial"], text);
     if (status !== 0 && status !== 5) {
-      const fault = /^TRACE (\d+) ([A-Z]+)/m.exec(output);
-      throw new Error(fault ? `line ${fault[1]} of its trace is at fault (${fault[2]})`
+      const found = /^TRACE (\d+) ([A-Z]+)/m.exec(output);
+      throw new Error(found ? `line ${found[1]} of its trace has an error (${found[2]})`
         : `it ended with status ${status}`);
     }
     const run = await played(output, text);
@@ -172,9 +172,9 @@
     for (const text of texts) {
       try {
         grids.push(await runOne(text));
-      } catch (fault) {
+      } catch (error) {
         if (asked === state.asked) {
-          showNothing(`The ${["first", "second"][grids.length]} run can't be shown: ${fault.message}.`);
+          showNothing(`The ${["first", "second"][grids.length]} run can't be shown: ${error.message}.`);
         }
         return;
       }

@@ -149,7 +149,7 @@
     const run = usableRun();
     box.classList.toggle("without", !run);
     if (!run || Session.text !== Session.runText) {
-      note.textContent = run ? "The trace has a fault; the curve is that of the run before it."
+      note.textContent = run ? "The trace has an error; the curve is that of the run before it."
         : "The curve needs a trace with a process.";
       [limit, frames].forEach((one) => { one.input.disabled = true; });
       return;
@@ -192,8 +192,8 @@
         }
         return true;
       });
-    } catch (fault) {
-      note.textContent = `The curve can't be counted: ${fault.message}.`;
+    } catch (error) {
+      note.textContent = `The curve can't be counted: ${error.message}.`;
     }
   }
 

@@ -1,5 +1,5 @@
 "use strict";
-// The editor of the trace: lines with numbers, marks for a fault and for the request that is shown, and undo
+// The editor of the trace: lines with numbers, marks for an error and for the request that is shown, and undo
 // over everything that changes the text: typing, an example, a file, a link.
 (function (Player) {
   const PAUSE = 800;
@@ -14,7 +14,7 @@
   const done = [];
   const undone = [];
   let typed = 0;
-  let marks = { fault: null, request: 0 };
+  let marks = { error: null, request: 0 };
   let rows = 1;
   let drawn = "";
   // What was measured last, so that a key needs no measuring.
@@ -110,7 +110,7 @@
     node.textContent = String(row);
     node.dataset.row = row;
     node.style.top = `${(row - 1) * seen.row - seen.top}px`;
-    node.classList.toggle("fault", Boolean(marks.fault) && marks.fault.line === row);
+    node.classList.toggle("error", Boolean(marks.error) && marks.error.line === row);
     node.classList.toggle("here", marks.request === row);
     return node;
   }
@@ -119,7 +119,7 @@
   function draw() {
     const first = Math.max(1, Math.floor(seen.top / seen.row) + 1 - SPARE_ROWS);
     const last = Math.min(rows, first + Math.ceil(seen.height / seen.row) + 2 * SPARE_ROWS);
-    const { line, start, end } = marks.fault || {};
+    const { line, start, end } = marks.error || {};
     const key = [first, last, seen.top, seen.left, seen.row, marks.request, line, start, end].join();
     if (key === drawn) {
       return;
@@ -131,8 +131,8 @@
     }
     at("gutter").replaceChildren(...numbers);
     const bands = marks.request ? [band("here", marks.request)] : [];
-    if (marks.fault) {
-      bands.push(band("fault", line), band("word", line, start, end));
+    if (marks.error) {
+      bands.push(band("error", line), band("word", line, start, end));
     }
     at("marks").replaceChildren(...bands);
   }
@@ -149,14 +149,14 @@
 
   function mark(next) {
     const moved = next.request && next.request !== marks.request;
-    if (!moved && next.fault === marks.fault && next.request === marks.request) {
+    if (!moved && next.error === marks.error && next.request === marks.request) {
       return;
     }
-    marks = { fault: next.fault || null, request: next.request || 0 };
+    marks = { error: next.error || null, request: next.request || 0 };
     if (moved && document.activeElement !== at("trace")) {
       reveal(marks.request);
     }
-    at("trace").setAttribute("aria-invalid", String(Boolean(marks.fault)));
+    at("trace").setAttribute("aria-invalid", String(Boolean(marks.error)));
     draw();
   }
 

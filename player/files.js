@@ -34,8 +34,8 @@
       const trace = taken.trace ?? (fits(taken.log, text) ? text : "");
       const kept = taken.log ?? (log && !text && fits(log, taken.trace) ? log : "");
       Player.editor.change({ text: trace, log: kept, name: taken.name }, false);
-    } catch (fault) {
-      Player.showTrouble([fault.message]);
+    } catch (error) {
+      Player.showTrouble([error.message]);
     }
   }
 
@@ -115,8 +115,8 @@
       const done = await copied(link);
       Player.say(`${done ? "The link is copied" : "Copy the link below"}: it carries the trace, and opens this ` +
         `line.${note}`);
-    } catch (fault) {
-      Player.showTrouble([fault.message]);
+    } catch (error) {
+      Player.showTrouble([error.message]);
     }
   }
 

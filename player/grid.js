@@ -53,7 +53,7 @@
     shown.frames = value === "frames";
     show();
   });
-  const names = strip("Pages", [["number", "by number"], ["address", "by address"]], "number", (value) => {
+  const names = strip("Pages", [["number", "numbers"], ["address", "addresses"]], "number", (value) => {
     shown.byAddress = value === "address";
     show();
   });

@@ -18,7 +18,7 @@
   function refusal(text) {
     const found = /^TRACE (\d+) ([A-Z]+)\r?$/m.exec(text);
     if (found) {
-      return `the program refused the trace: its line ${found[1]} is at fault, since ` +
+      return `the program refused the trace: its line ${found[1]} has an error, since ` +
         `${CAUSES[found[2]] || found[2]}`;
     }
     if (/^TRACE UNFINISHED\r?$/m.test(text)) {

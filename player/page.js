@@ -85,7 +85,7 @@
     const done = packed ? await Player.keepPacked(kept) : Player.keepPage(kept);
     if (!done && now.text) {
       Player.say("This trace is too long for the browser to keep: a reload would lose it. Save it as a file.",
-        "fault");
+        "error");
     }
   }
 
@@ -129,8 +129,8 @@
       } else if (found) {
         Session.go(found.line);
       }
-    } catch (fault) {
-      showTrouble([fault.message]);
+    } catch (error) {
+      showTrouble([error.message]);
     }
   }
 
@@ -149,8 +149,8 @@
     let trouble = "";
     try {
       found = await Player.readLink(location.hash);
-    } catch (fault) {
-      trouble = fault.message;
+    } catch (error) {
+      trouble = error.message;
     }
     const first = before || Player.exampleNamed(FIRST_EXAMPLE);
     const opened = found && found.opened;
@@ -181,7 +181,7 @@
   function markRequest() {
     const request = Session.run && Session.runText === Session.text
       ? Player.requestOf(Session.run, Session.line) : null;
-    Player.editor.mark({ fault: Player.fault, request: request ? request.traceLine : 0 });
+    Player.editor.mark({ error: Player.error, request: request ? request.traceLine : 0 });
   }
 
   async function start() {
@@ -200,8 +200,8 @@
     const trouble = await begin();
     try {
       await loading;
-    } catch (fault) {
-      Player.programTrouble = `The program can't run here: ${fault.message}. A log can be opened with its trace.`;
+    } catch (error) {
+      Player.programTrouble = `The program can't run here: ${error.message}. A log can be opened with its trace.`;
     }
     Player.runAgain();
     if (trouble) {

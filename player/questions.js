@@ -68,8 +68,8 @@
         Object.assign(state, drawn);
         ask();
       }
-    } catch (fault) {
-      said.textContent = `The exercise can't be run: ${fault.message}.`;
+    } catch (error) {
+      said.textContent = `The exercise can't be run: ${error.message}.`;
     }
   }
 

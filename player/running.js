@@ -1,6 +1,6 @@
 "use strict";
 // From the editor to a run: a small trace runs at each key, a long one after a pause, in a Worker, and can be
-// stopped. While the trace is at fault the run before it stays. An opened log is played as it is.
+// stopped. While the trace has an error the run before it stays. An opened log is played as it is.
 (function (Player) {
   const { element } = Player;
   const PAUSE = 350;
@@ -47,9 +47,31 @@
       run.length} lines`;
   }
 
-  // The line to stand at: what was asked for, or the same as before.
-  function lineFor(run) {
-    const line = wanted === null ? Session.line : wanted;
+  // How many letters two texts have in common at their begin.
+  function sameLetters(text, other) {
+    let at = 0;
+    while (at < text.length && text.charCodeAt(at) === other.charCodeAt(at)) {
+      at += 1;
+    }
+    return at;
+  }
+
+  // The answer of the last request, if the end of the requests is what was changed: there are more of them, or the
+  // last one is another; else 0.
+  function newAnswer(run, text) {
+    const last = run.requests[run.requests.length - 1];
+    if (!last || !Session.run || Session.runText === text) {
+      return 0;
+    }
+    const same = text.slice(0, sameLetters(text, Session.runText));
+    const row = same.split("\n").length;
+    const gone = Session.run.requests.filter((one) => one.traceLine >= row).length;
+    return /^[ \t]*BODY/m.test(same) && last.traceLine >= row && gone < 2 ? last.last : 0;
+  }
+
+  // The line to stand at: what was asked for; else the answer of a new request at the end; else the same as before.
+  function lineFor(run, text) {
+    const line = wanted === null ? newAnswer(run, text) || Session.line : wanted;
     wanted = null;
     return Math.min(run.length, line);
   }
@@ -61,7 +83,7 @@
   }
 
   function forgetRun(text) {
-    Player.fault = null;
+    Player.error = null;
     Session.run = null;
     markStale("");
     Session.put(text, null, 0);
@@ -71,19 +93,19 @@
     foreign = run.foreign || "";
     showStop(false);
     say(words);
-    Player.fault = null;
+    Player.error = null;
     markStale("");
-    Session.put(text, run, lineFor(run));
+    Session.put(text, run, lineFor(run, text));
     Player.clearTrouble();
     if (!performance.getEntriesByName("first-run").length) {
       performance.mark("first-run");
     }
   }
 
-  function showFault(text, fault) {
-    Player.fault = fault;
-    markStale("The run before the fault in the trace");
-    say(fault.said, "fault");
+  function showTraceError(text, error) {
+    Player.error = error;
+    markStale("The run before the error in the trace");
+    say(error.said, "error");
     showStop(false);
     Session.put(text, null, 0);
     Player.clearTrouble();
@@ -94,20 +116,20 @@
 
   // Whether the program made a log; else its answer is said.
   function isLog(text, { status, output }) {
-    const fault = Player.faultOf(text, output);
-    if (fault) {
-      showFault(text, fault);
+    const error = Player.errorOf(text, output);
+    if (error) {
+      showTraceError(text, error);
     } else if (status !== 0 && status !== 5) {
-      say(STATUSES[status] || `The program ended with status ${status}.`, "fault");
+      say(STATUSES[status] || `The program ended with status ${status}.`, "error");
       showStop(false, true);
     }
-    return !fault && (status === 0 || status === 5);
+    return !error && (status === 0 || status === 5);
   }
 
   function showError(error) {
     showStop(false, true);
     say(error.kind === "stopped" ? "The run was stopped. The trace is as it was."
-      : `${error.message}. The trace is as it was.`, error.kind === "stopped" ? "" : "fault");
+      : `${error.message}. The trace is as it was.`, error.kind === "stopped" ? "" : "error");
   }
 
   // ---- at once ----
@@ -193,7 +215,7 @@
         : "Its trace isn't there: open it too, and rings and maps are exact."}`);
     } catch (error) {
       if (mine === turn) {
-        say(error.message, "fault");
+        say(error.message, "error");
         Player.showTrouble([error.message]);
       }
     }
@@ -213,7 +235,7 @@
       say("Write a trace here, choose an example, or open a file.");
     } else if (Player.programTrouble) {
       forgetRun(text);
-      say(Player.programTrouble, "fault");
+      say(Player.programTrouble, "error");
     } else if (!Player.programIsHere()) {
       say("The program is being loaded.");
     } else if (Player.isSmall(text)) {

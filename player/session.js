@@ -3,7 +3,7 @@
 //
 //   Session.text      the trace as it is edited
 //   Session.run       the played log, as Player.makeRun gives it, or null
-//   Session.runText   the trace that this run is of: other than `text` while the edited one is at fault
+//   Session.runText   the trace that this run is of: other than `text` while the edited one has an error
 //   Session.line      the line that is shown: 0 is before the first one
 //   Session.numbers   whether page numbers are wished beside addresses
 //   Session.go(line)  shows a line

@@ -97,8 +97,8 @@
       }
       try {
         place = takeLine(config, words, place, i + 1);
-      } catch (fault) {
-        throw new Error(`Line ${i + 1} of the trace: ${fault.message}.`);
+      } catch (error) {
+        throw new Error(`Line ${i + 1} of the trace: ${error.message}.`);
       }
     });
     checkConfig(config, place);

@@ -1,4 +1,4 @@
-"""Tests the editor of the page: a trace that runs as it is written, faults at their words, undo, what a
+"""Tests the editor of the page: a trace that runs as it is written, errors at their words, undo, what a
 reload and a link bring back, long runs in the background, and files that are saved."""
 
 import time
@@ -76,8 +76,28 @@ def test_writing(page):
     page.same("a number of a line leads to its run", page.browser.text("#text"), "4 A DENIED R1 00000800 UNMAPPED")
 
 
-def test_faults(page):
-    """A fault is marked at its word, and the run before it stays."""
+def test_new_request(page):
+    """A request that is written at the end is shown at its answer; any other change leaves the step where it is."""
+    page.open()
+    write(page, FIRST_RUN)
+    page.go(1)
+    longer = FIRST_RUN.replace("END", "A R4 00000004\nEND")
+    for name, text, line in [
+            ("half of it has an error", FIRST_RUN.replace("END", "A R\nEND"), "1 A ZERO 00000000 F0"),
+            ("a request at the end", longer, "5 A DONE R4 00000004 00000000"),
+            ("another address", longer.replace("R4 00000004", "R1 00000200"), "6 A DONE R1 00000200 00"),
+            ("it is taken away", FIRST_RUN, "FREE 7 MODIFIED 0 BAD 0 RELEASE 0 READERROR 0 WRITING 0 READING 0 ACTIVE 1"),
+            ("again", longer, "5 A DONE R4 00000004 00000000"),
+            ("a comment at the end", longer.replace("END", "! more\nEND"), "5 A DONE R4 00000004 00000000"),
+            ("a request at the begin", longer.replace("BODY", "BODY\nA R1 00000001"), "5 A DENIED R1 00000800 UNMAPPED"),
+            ("a frame more", longer.replace("FRAMES 8", "FRAMES 9"), "5 A DONE R4 00000004 00000000")]:
+        write(page, text)
+        page.same(f"{name}: the step", page.browser.text("#text"), line)
+    page.same("its request is marked", page.items("#gutter .here"), ["10"])
+
+
+def test_errors(page):
+    """An error is marked at its word, and the run before it stays."""
     page.open()
     write(page, FIRST_RUN)
     for old, new, line, said, width in [
@@ -87,14 +107,14 @@ def test_faults(page):
             ("END\n", "", "10", "ends before its line END", None)]:
         write(page, FIRST_RUN.replace(old, new))
         page.has(f"{new!r} is said", page.browser.text("#ran"), said)
-        page.same(f"{new!r} is marked", page.items("#gutter .fault"), [line])
+        page.same(f"{new!r} is marked", page.items("#gutter .error"), [line])
         page.same(f"{new!r} keeps the run", log_of(page)[0], "1 A ZERO 00000000 F0")
         found = page.browser.run("return document.querySelector('#marks .word').style.width")
         page.same(f"{new!r} has its word", width is None or found == f"{width}ch", True)
     page.same("told to a screen reader", page.browser.run(
         "return document.getElementById('trace').getAttribute('aria-invalid')"), "true")
     write(page, FIRST_RUN)
-    page.same("mended", page.items("#gutter .fault"), [])
+    page.same("mended", page.items("#gutter .error"), [])
 
 
 def test_undo(page):
@@ -237,7 +257,7 @@ def test_lists(page):
     for name in names:
         page.browser.run("window.before = Session.run; const list = document.getElementById('example');"
                          "list.value = arguments[0]; list.dispatchEvent(new Event('change'))", name)
-        page.wait("return Session.run !== before || Player.fault", f"{name} runs")
+        page.wait("return Session.run !== before || Player.error", f"{name} runs")
         page.same(f"{name}: no trouble", page.browser.text("#trouble"), "")
         if name != "faulty-line":
             page.has(f"{name}: report", page.browser.text("#report"), "agrees")
@@ -248,7 +268,8 @@ def test_lists(page):
 def test_edits(page, folder):
     page.examples = page.here / ".." / ".." / "examples"
     test_writing(page)
-    test_faults(page)
+    test_new_request(page)
+    test_errors(page)
     test_undo(page)
     test_kept(page)
     test_kept_long(page)

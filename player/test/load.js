@@ -6,7 +6,7 @@ const vm = require("vm");
 
 const FILES = ["log.js", "trace.js", "model.js", "changes.js", "report.js", "run.js", "difference.js",
   "reasons.js", "explain.js", "examples.js", "kinds.js",
-  "faults.js", "keep.js"];
+  "errors.js", "keep.js"];
 
 module.exports = function loadPlayer() {
   for (const file of FILES) {

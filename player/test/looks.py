@@ -138,8 +138,8 @@ def test_faulty_screen(page):
     for dark in (False, True):
         page.browser.screen(1280, 800, dark)
         page.open("#example=faulty-line")
-        page.wait("return Player.fault", "the fault is there")
-        page.same(f"contrast of a fault, dark {dark}", page.browser.run(CONTRASTS, LEAST_CONTRAST), [])
+        page.wait("return Player.error", "the error is there")
+        page.same(f"contrast of an error, dark {dark}", page.browser.run(CONTRASTS, LEAST_CONTRAST), [])
         page.same("no run is said", page.browser.run("return document.getElementById('none').hidden"), False)
 
 
@@ -156,6 +156,11 @@ def test_phone(page):
             "document.getElementById('step').getBoundingClientRect();"
             "return box.top > -1 && box.top < innerHeight && "
             "(cover.left >= box.right - 1 || cover.top >= box.top + 40)"), True)
+        page.same(f"the grid's switches are one row at {width}", page.browser.run(
+            "return document.querySelector('#grid .controls').getBoundingClientRect().height < 60"), True)
+        page.same(f"and are called by their names at {width}", page.browser.run(
+            "return [...document.querySelectorAll('#grid legend, #grid .field > span')].map((one) => one.innerText)"),
+            ["Process", "Rows", "Pages"])
     page.browser.screen(1400, 1500)
 
 
@@ -339,7 +344,7 @@ def test_messages(page, here, folder):
     page.load(here / "shared-section.log", here / "swap-out-and-back.trace")
     page.same("another trace", page.browser.run(trouble).startswith("This trace isn't this log's: "), True)
     bad = folder / "refused.out"
-    for text, message in [("TRACE 3 OUTOFRANGE\nSTATUS 2\n", "its line 3 is at fault"),
+    for text, message in [("TRACE 3 OUTOFRANGE\nSTATUS 2\n", "its line 3 has an error"),
                           ("TRACE UNFINISHED\nSTATUS 2\n", "ends before its END line"),
                           ("STATUS 1\n", "only the line STATUS 1"), ("", "is empty")]:
         bad.write_text(text)

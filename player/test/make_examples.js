@@ -9,7 +9,7 @@ const { execFileSync } = require("child_process");
 const TOP = path.join(__dirname, "..", "..");
 const LESSONS = "The eight lessons";
 const PAGER = "What a pager does";
-const PROGRAMS = "Programs, races and faults";
+const PROGRAMS = "Programs, races and errors";
 
 // A trace of examples/, each with what is to be changed in it.
 function file(name, ...changes) {
@@ -94,7 +94,7 @@ const CHOSEN = () => [
     "again: few faults, many hits.", 20, file("sort-stack.trace")],
   ["racing", PROGRAMS, "A race: a log that threads made", "This log isn't serial's: each process ran in a thread " +
     "of its own. A faults on a page that is just being read.", 2, file("racing.trace"), file("racing.log")],
-  ["faulty-line", PROGRAMS, "A trace with a fault", "A mapping begins inside a page. The trace's line is marked; " +
+  ["faulty-line", PROGRAMS, "A trace with an error", "A mapping begins inside a page. The trace's line is marked; " +
     "mend it, and it runs.", 0, file("faulty-line.trace")]];
 
 function exampleText() {

@@ -33,7 +33,7 @@ PICTURES = [
     ("picture-projector", "belady", 11, (1920, 1080), False, LARGE),
     ("picture-phone", "belady", 11, (390, 844), False, "scrollTo(0, document.getElementById('grid').offsetTop - 8)"),
     ("picture-phone-lying", "belady", 11, (844, 390), True, "scrollTo(0, document.getElementById('grid').offsetTop - 8)"),
-    ("picture-fault", "belady", 11, (1280, 640), False, FAULTY),
+    ("picture-error", "belady", 11, (1280, 640), False, FAULTY),
 ]
 
 

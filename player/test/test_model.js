@@ -257,7 +257,7 @@ function testKinds() {
   same("trace", Object.keys(Player.sortText(own, "a")), ["trace"]);
   same("both", Player.sortText(`${own}LOG\n${log}`, "a"), { trace: own, log });
   for (const [text, message] of [["", "a is empty"], ["hello\n", "neither a log nor a trace"],
-    ["TRACE 3 OUTOFRANGE\nSTATUS 2\n", "its line 3 is at fault"],
+    ["TRACE 3 OUTOFRANGE\nSTATUS 2\n", "its line 3 has an error"],
     ["TRACE UNFINISHED\nSTATUS 2\n", "ends before its END line"],
     ["STATUS 1\n", "only the line STATUS 1"]]) {
     let found = "";

@@ -120,7 +120,7 @@ function testChanges(same) {
 }
 
 // Which word of a faulty line is meant, and what is said of it.
-function testFaults(same) {
+function testErrors(same) {
   const head = ["VMTRACE 1", "FRAMES 8", "PAGEFILE 4", "PROCESS A 4 4 4 0"];
   for (const [lines, output, word, said] of [
     [["MAPZERO A 00000001 4 UW"], "TRACE 5 UNALIGNED", "00000001", "isn't a multiple"],
@@ -137,15 +137,15 @@ function testFaults(same) {
     [["MAPZERO A 0 4 UW é"], "TRACE 5 NOTASCII", "é", "may not stand"],
     [["END"], "TRACE 5 MISPLACED", "", "doesn't belong here"],
     [["BODY"], "TRACE UNFINISHED", "", "ends before its line END"]]) {
-    const fault = Player.faultOf([...head, ...lines].join("\n"), `${output}\nSTATUS 2\n`);
-    same(`${lines}: word`, fault.word, word);
-    same(`${lines}: said`, fault.said.includes(said), true);
-    same(`${lines}: place`, word ? lines[lines.length - 1].slice(fault.start, fault.end) : "", word);
+    const error = Player.errorOf([...head, ...lines].join("\n"), `${output}\nSTATUS 2\n`);
+    same(`${lines}: word`, error.word, word);
+    same(`${lines}: said`, error.said.includes(said), true);
+    same(`${lines}: place`, word ? lines[lines.length - 1].slice(error.start, error.end) : "", word);
   }
-  same("no fault", Player.faultOf(head.join("\n"), "1 A DONE R1 00000000 00\nSTATUS 0\n"), null);
+  same("no error", Player.errorOf(head.join("\n"), "1 A DONE R1 00000000 00\nSTATUS 0\n"), null);
   const formats = fs.readFileSync(path.join(EXAMPLES, "..", "docs", "FORMATS.md"), "utf8");
   const causes = [...formats.matchAll(/^\d\. `([A-Z]+)`/gm)].map((found) => found[1]);
-  causes.forEach((cause) => same(`${cause} has a meaning`, cause in Player.FAULT_MEANINGS, true));
+  causes.forEach((cause) => same(`${cause} has a meaning`, cause in Player.ERROR_MEANINGS, true));
 }
 
 // A trace comes out of a link as it went in; a damaged link is said.
@@ -170,6 +170,6 @@ module.exports = async function (same) {
   testReasons(same);
   testRequests(same);
   testChanges(same);
-  testFaults(same);
+  testErrors(same);
   await testLinks(same);
 };

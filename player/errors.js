@@ -1,5 +1,5 @@
 "use strict";
-// A fault in the trace in words: what its cause means, and which word of the line is meant, where that can
+// An error in the trace in words: what its cause means, and which word of the line is meant, where that can
 // be told from the line and the lines before it. Else it is the whole line.
 (function (Player) {
   const MEANINGS = {
@@ -14,7 +14,7 @@
     UNALIGNED: "the address isn't a multiple of what it has to be",
     REPEATED: "this was declared before",
   };
-  Player.FAULT_MEANINGS = MEANINGS;
+  Player.ERROR_MEANINGS = MEANINGS;
 
   const HEADS = new Set(["VMTRACE", "LONGTRACE", "FRAMES", "PAGEFILE", "PARAM", "BAD", "SECTION", "DATA",
     "PROCESS", "MAPZERO", "MAPSEC", "FAIL", "BODY", "END"]);
@@ -126,8 +126,8 @@
     return [...text].reduce((at, letter) => (letter === "\t" ? at + 8 - (at % 8) : at + 1), 0);
   }
 
-  // The fault that the program's output names, or null: its line, what it means, and the columns of its word.
-  Player.faultOf = function (text, output) {
+  // The error that the program's output names, or null: its line, what it means, and the columns of its word.
+  Player.errorOf = function (text, output) {
     const found = /^TRACE (?:(\d+) ([A-Z]+)|UNFINISHED)$/m.exec(output);
     if (!found) {
       return null;
