@@ -1,5 +1,9 @@
 #!/usr/bin/env python3
-"""Runs all tests of this folder; what isn't tried, since something isn't there, is said in a line each."""
+"""Runs all tests of this folder, or those of some of its files; what isn't tried, since something isn't there, is said
+in a line each.
+
+    python/test/all.py [NAME..]       NAME is that of a file, without .py
+"""
 
 import pathlib
 import sys
@@ -7,7 +11,10 @@ import unittest
 
 
 def main():
-    tests = unittest.defaultTestLoader.discover(str(pathlib.Path(__file__).resolve().parent))
+    here = str(pathlib.Path(__file__).resolve().parent)
+    loader = unittest.defaultTestLoader
+    sys.path.insert(0, here)
+    tests = loader.loadTestsFromNames(sys.argv[1:]) if len(sys.argv) > 1 else loader.discover(here)
     result = unittest.TextTestRunner(verbosity=0).run(tests)
     for reason in sorted({reason for _, reason in result.skipped}):
         print(f"python: not tried: {reason}")
