@@ -120,7 +120,7 @@ on_before config landed more next refuses on run = by (next_task config landed) 
     by None refused = absurd refused
     by (Some task) refused = (subst (IsRun config) refused.0 run).0
 
-move_before : (config : Config) (past : List Entry) (heard : Heard) (more : List Entry) (next : Control) (m : Move) → IsMade config past heard more next m → IsRun config more → IsRun config past
+pub move_before : (config : Config) (past : List Entry) (heard : Heard) (more : List Entry) (next : Control) (m : Move) → IsMade config past heard more next m → IsRun config more → IsRun config past
 move_before config past heard more next (makes seat ws c) made run = run_before config seat (map (with_reply heard.reply) ws) past (subst (IsRun config) made.0 run)
 move_before config past heard more next (carries seat ws onward) made run =
     let begun = made_by seat ws past in

@@ -16,6 +16,7 @@ pub mod Evictions
 pub mod FailedWrites
 pub mod FaultReads
 pub mod FindsLower
+pub mod FirstRows
 pub mod LeavesLower
 pub mod MovesStay
 pub mod Numbers

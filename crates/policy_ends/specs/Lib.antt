@@ -6,3 +6,4 @@ pub mod Dirty
 pub mod Laws
 pub mod Rank
 pub mod RundownLaws
+pub mod ByTables

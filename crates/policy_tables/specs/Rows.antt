@@ -1,6 +1,6 @@
 -- A table: rows in order, of which the first one counts that holds. That the journal has no room is no row: room for
 -- the entries is reserved before a step. This project's own.
-use Rattle.std.specs.Prelude.{ℕ, zero, suc, Bool, true, false, List, [], ◌∷◌, Option, Some, None}
+use Rattle.std.specs.Prelude.{◌≡◌, ℕ, zero, suc, Bool, true, false, List, [], ◌∷◌, Option, Some, None}
 
 -- a row: what is made if this holds
 abbrev pub when : {X : Type 0} → Bool → X → Option X
@@ -31,6 +31,12 @@ abbrev pub first_case : {X : Type 0} → List (Option X) → Option X
 first_case [] = None
 first_case (Some x ∷ rows) = Some x
 first_case (None ∷ rows) = first_case rows
+
+-- one of the rows holds, and this is so of what the first of those says
+pub record IsByCases {X : Type 0} (rows : List (Option X)) (IsSo : X → Type 0) : Type 0 where
+  pub says : X
+  pub first : first_case rows ≡ Some says
+  pub so : IsSo says
 
 -- ---- what is there
 -- that which is there, but only if this holds
