@@ -9,3 +9,4 @@ pub mod Windows
 pub mod Advances
 pub mod Alone
 pub mod KnownPages
+pub mod ByTable

@@ -15,11 +15,13 @@ use Rattle.pager_policy.specs.Advance.{AgainWhy as Reason, GivenNext, NextIs, ag
 use Rattle.pager_model.specs.Flat.{flat_reply}
 use Rattle.pager_policy.specs.Given.{with_reply}
 use Rattle.pager_model.specs.Spoken.{flat_after}
+use Rattle.policy_tables.specs.AdvanceCases.{advance_cases}
+use Rattle.policy_tables.specs.Rows.{IsByCases}
 use Rattle.call_laws.specs.AreLegal.{AreLegal}
 use Rattle.call_begins.specs.MayBegin.{empty}
 use Rattle.call_begins.specs.ReadySeat.{IsReadySeat}
 use Rattle.lift_carriers.specs.CarrierView.{CarrierView}
-use Rattle.vm_state.specs.History.{History, owed}
+use Rattle.vm_state.specs.History.{History, owed, pager}
 use Rattle.vm_state.specs.LiftsLand.{added_each}
 use Rattle.fault_core.specs.Lifted.{IsCarrying}
 use Rattle.fault_core.specs.SoughtPage.{IsSought}
@@ -61,6 +63,11 @@ pub record IsGiven (before after : History) (seat : Seat) (g : GivenNext) (next 
   pub shown : Reply
   pub history : after ≡ added_each seat (map (with_reply shown) g.made) before
   pub answer : Some next ≡ returned g.answer (last_reply (map (with_reply shown) g.made))
+
+-- the entries are those of the table's first row that holds, with the reply that is shown, and so is what is returned
+pub record IsGivenByCases (before after : History) (seat : Seat) (r : Ref) (next : Next) : Type 0 where
+  pub shown : Reply
+  pub first : IsByCases (advance_cases before.config before.past (pager before) seat.0 r shown) (λ (g : GivenNext). (after ≡ added_each seat g.made before) × (Some next ≡ returned g.answer (last_reply g.made)))
 
 -- a reply is that of memory without frames and disk
 abbrev pub IsRightNext : Config → List Entry → ℕ → Ref → Next → Type 0

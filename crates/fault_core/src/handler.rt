@@ -6,7 +6,7 @@ ghost use Rattle.pager_policy.specs.Advance.{advance_gives};
 ghost use Rattle.vm_state.specs.History.{MayAdd, added, entry_by, owed, pager};
 ghost use Rattle.call_begins.specs.MayBegin.{empty};
 ghost use Rattle.fault_core.specs.Cases.{at_first};
-ghost use Rattle.fault_core.specs.Gives.{Gives, MayRefer};
+ghost use Rattle.fault_core.specs.Gives.{Gives, IsGivenByCases, MayRefer};
 ghost use Rattle.call_begins.specs.ReadySeat.{IsIdleSeat};
 ghost use Rattle.fault_core.specs.declared.next.Next.{Next};
 
@@ -19,7 +19,8 @@ use vm_types::{Proc, Ref, Seat, Why};
 /// Makes the next entries for a reference of a process by its own seat: by the first case that applies.
 /// There may be room for too few entries; else a process that isn't resident waits, a pending
 /// adjustment is made, a reference is refused or answered, or its page is waited for, replaced for,
-/// taken back, made of zeros, or read with its cluster. Doesn't allocate.
+/// taken back, made of zeros, or read with its cluster. The cases are the rows of a table, `advance_cases`.
+/// Doesn't allocate.
 #[inline(always)]
 pub fn advance<B: Block>(
     state: &mut State<B>,
@@ -37,6 +38,7 @@ pub fn advance<B: Block>(
     ensures gives { owed state.old.past + 64 ≤ state.old.spare
         → Gives B.seen B.tells state.old state.new seat r (advance_gives state.old.config state.old.past (pager state.old) p.0 r) result
         carrier.old carrier.new }
+    ensures by_table { owed state.old.past + 64 ≤ state.old.spare → IsGivenByCases state.old state.new seat r result }
 {
     state.run_law();
     if state.spare() - state.owed() < 64 {

@@ -6,6 +6,9 @@ use Rattle.vm_types.specs.declared.names.Seat.{Seat}
 use Rattle.pager_policy.specs.Given.{Given, given}
 use Rattle.pager_model.specs.Run.{IsRun}
 use Rattle.pager_policy.specs.WriteCluster.{BeginIs, Reason, begin_carry, begin_gives, begin_nothing, is_enough}
+use Rattle.policy_tables.specs.BeginCases.{begin_cases}
+use Rattle.policy_tables.specs.Rows.{IsByCases}
+use Rattle.policy_tables.proofs.ByBegin.{goes_by_cases}
 use Rattle.call_laws.specs.AreLegal.{AreLegal}
 use Rattle.call_laws.proofs.WritesLegal.{begin_legal}
 use Rattle.lift_carriers.specs.CarrierView.{CarrierView}
@@ -16,6 +19,7 @@ use Rattle.call_begins.specs.MayBegin.{MayBegin}
 use Rattle.call_begins.proofs.Branches.{if_false, if_true}
 use Rattle.modified_writer.specs.Begins.{Begins}
 use Rattle.modified_writer.specs.Cluster.{cluster_writes}
+use Rattle.modified_writer.specs.declared.begun.Begin.{Begin}
 use Rattle.modified_writer.specs.declared.begun.Begin.TheVariants.{Carry, Nothing}
 
 module _ (s : History) (seat : Seat) (reason : Reason) where
@@ -47,3 +51,8 @@ module _ (s : History) (seat : Seat) (reason : Reason) where
         → Begins seen tells s s' seat (begin_gives s.config (pager s) reason) Carry old new
     begins_cluster long s' old new made lifts = subst (λ (g : Given BeginIs). Begins seen tells s s' seat g Carry old new) (sym (gives_cluster long))
         (record { history = made; answer = refl; carrier = lifts })
+
+    -- by the table of write clusters
+    pub by_table : {s' : History} {begin : Begin} {old new : CarrierView B} → Begins seen tells s s' seat (begin_gives s.config (pager s) reason) begin old new
+        → IsByCases (begin_cases s.config (pager s) reason) (λ (g : Given BeginIs). Begins seen tells s s' seat g begin old new)
+    by_table is = record { says = begin_gives s.config (pager s) reason; first = goes_by_cases s.config (pager s) reason; so = is }

@@ -5,6 +5,9 @@ use Rattle.pager_policy.specs.Cleaning.{Cleaning as CleaningIs, evicting}
 use Rattle.pager_policy.specs.Moves.{Control as ControlIs, Move, rests}
 use Rattle.pager_model.specs.Order.{IsAnswered}
 use Rattle.pager_policy.specs.Rundown.{Place as PlaceIs, cleaning_move, later_move, place_move, rounds_move, shared_place}
+use Rattle.policy_tables.specs.Rows.{IsByCases}
+use Rattle.policy_tables.specs.RundownCases.{rundown_cases}
+use Rattle.policy_tables.proofs.ByRundown.{goes_by_cases}
 use Rattle.serial_laws.specs.Between.{IsBetween}
 use Rattle.call_begins.specs.MayBegin.{empty}
 use Rattle.lift_carriers.specs.CarrierView.{CarrierView}
@@ -86,3 +89,8 @@ moves_from tells s t after at o same past moved =
 pub moves_same : (tells : Bool) (s t : History) (m : Move) (o : Option ControlIs) → MovesTo tells s t m o → IsSameBut s t
 moves_same tells s t m None moved = moved.same
 moves_same tells s t m (Some c) moved = moved.same
+
+-- by the rundown's table
+pub by_table : (tells : Bool) (s t : History) (at : CleaningIs) (o : Option ControlIs) → MovesTo tells s t (cleaning_move s.config s.past (pager s) at) o
+    → IsByCases (rundown_cases s.config s.past (pager s) at) (λ (m : Move). MovesTo tells s t m o)
+by_table tells s t at o moved = record { says = cleaning_move s.config s.past (pager s) at; first = goes_by_cases s.config s.past (pager s) at; so = moved }

@@ -4,11 +4,13 @@ ghost use Rattle.pager_policy.specs.Cleaning.{evicting};
 ghost use Rattle.pager_model.specs.Order.{IsAnswered};
 ghost use Rattle.pager_policy.specs.Policy.{move_of};
 ghost use Rattle.pager_policy.specs.Rundown.{cleaning_move, later_move};
+ghost use Rattle.policy_tables.specs.Rows.{IsByCases};
+ghost use Rattle.policy_tables.specs.RundownCases.{rundown_cases};
 ghost use Rattle.vm_state.specs.History.{pager};
 ghost use Rattle.call_begins.specs.MayBegin.{empty};
 ghost use Rattle.serial_laws.specs.Between.{IsBetween};
 ghost use Rattle.carried_landings.specs.Moved.{IsSameBut, MovesTo};
-ghost use Rattle.rundown.specs.Cleanings.{control_at};
+ghost use Rattle.rundown.specs.Cleanings.{cleaning_in, control_at};
 ghost use Rattle.rundown.specs.Cleans.{CanClean};
 ghost use Rattle.rundown.specs.Places.{IsThere, place_as};
 
@@ -59,8 +61,8 @@ fn evict_from<B: Block>(
 }
 
 /// Makes the rundown's next move, between two of which no transfer is open, and says where the rundown
-/// is then; none if it is over, and then no entry was made. The carrier is the modified page writer's,
-/// and has no lifts, before it and afterwards.
+/// is then; none if it is over, and then no entry was made. The moves are the rows of a table,
+/// `rundown_cases`. The carrier is the modified page writer's, and has no lifts, before it and afterwards.
 ///
 /// # Errors
 /// `NoMemory` if out of memory, and only if there was room for fewer than 64 entries; then no entry was made.
@@ -75,6 +77,8 @@ pub fn make_move<B: Block>(
     ensures carrier { carrier.new ≡ carrier.old }
     ensures moved { IfOk result (λ goes. MovesTo B.tells.content state.old state.new
         (move_of state.old.config state.old.past (control_at at)) (option_map control_at goes)) }
+    ensures by_table { IfOk result (λ goes. IsByCases (rundown_cases state.old.config state.old.past (pager state.old) (cleaning_in at))
+        (λ m. MovesTo B.tells.content state.old state.new m (option_map control_at goes))) }
     ensures same { IsSameBut state.old state.new }
     ensures none_made { OnErr result (state.new.past ≡ state.old.past) }
     ensures memory { OnErr result (state.old.spare < 64) }

@@ -2,10 +2,13 @@
 use Rattle.std.proofs.Common.{◌≡◌, ℕ, ◌≤◌, Bool, List, Option, Some, None, Result, Ok, Err, IfOk, IfSome, refl, sym, ap, ◌∙◌, subst}
 use Rattle.std.specs.Option.{option_map}
 use Rattle.vm_types.specs.declared.names.Proc.{Proc}
+use Rattle.vm_types.specs.declared.reply.Reply.{Reply}
 use Rattle.vm_journal.specs.declared.entry.Entry.{Entry}
 use Rattle.pager_policy.specs.Moves.{Control as ControlIs, Move}
 use Rattle.pager_policy.specs.Policy.{asking_move, move_of}
 use Rattle.serial_laws.specs.Between.{IsBetween}
+use Rattle.policy_ends.specs.ByTables.{IsFirstRow}
+use Rattle.policy_ends.proofs.FirstRows.{first_row}
 use Rattle.serial_laws.specs.Controlled.{IsAnsweredProcess, IsControlled, IsInBody, IsLeft}
 use Rattle.vm_state.specs.History.{History, pager}
 use Rattle.carried_landings.specs.Moved.{IsMoveHere, IsSameBut, IsSteady, MovesTo}
@@ -28,6 +31,10 @@ in_body (Freeing begun p) = tt
 -- where the code is, at this part
 abbrev pub control_at : Control → Doing → ControlIs
 control_at c d = record { doing = doing_in d; leaving = option_map number_of c.leaving }
+
+-- the move is the first row of the tables that holds
+pub first_row_here : (s : History) (c : Control) → IsBetween s.config s.past → (reply : Reply) → IsFirstRow s.config s.past reply (control_in c)
+first_row_here s c between reply = first_row s.config s.past reply (control_in c) between.formed between.run
 
 -- ---- where the policy is
 module _ (s : History) (c : Control) (fits : IsControlled s.config s.past (control_in c)) where

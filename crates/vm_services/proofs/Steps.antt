@@ -1,5 +1,5 @@
 -- What a step of a service leaves, by what was given for it.
-use Rattle.std.proofs.Common.{◌≡◌, ◌+◌, ◌≤◌, [], ◌∷◌, refl, sym, ap, subst, arith}
+use Rattle.std.proofs.Common.{◌≡◌, ℕ, ◌+◌, ◌≤◌, [], ◌∷◌, refl, sym, ap, subst, arith}
 use Rattle.vm_types.specs.WellFormed.{IsServiceOf, IsWellFormedService}
 use Rattle.vm_types.specs.declared.names.Seat.{Seat}
 use Rattle.vm_types.specs.declared.reply.Answer.{Answer}
@@ -8,7 +8,10 @@ use Rattle.vm_journal.specs.declared.entry.What.{What}
 use Rattle.vm_journal.specs.declared.entry.What.TheVariants as what
 use Rattle.pager_policy.specs.Given.{given}
 use Rattle.vm_types.specs.Status.{is_resident}
-use Rattle.pager_policy.specs.Serve.{GivenServe, ServeWhy as Reason, serve_again, serve_more, served_with}
+use Rattle.pager_policy.specs.Serve.{GivenServe, ServeWhy as Reason, serve_again, serve_gives, serve_more, served_with}
+use Rattle.policy_tables.specs.Rows.{IsByCases}
+use Rattle.policy_tables.specs.ServeCases.{serve_cases}
+use Rattle.policy_tables.proofs.ByServe.{goes_by_cases}
 use Rattle.call_laws.specs.AreLegal.{AreLegal}
 use Rattle.call_laws.proofs.ServeLegal.{serve_legal}
 use Rattle.call_begins.proofs.Branches.{if_true}
@@ -53,3 +56,8 @@ answered s after seat x answer g same made = serves_as s after seat (Answered an
 -- an entry is made, and the call is made again
 pub goes_on : (s after : History) (seat : Seat) (w : What) (g : GivenServe) → g ≡ given (w ∷ []) serve_more → after ≡ added s (entry_by seat w) → Serves s after seat g More
 goes_on s after seat w g same made = serves_as s after seat More g (given (w ∷ []) serve_more) same (record { history = made; answer = refl })
+
+-- ---- by the table of services
+pub by_table : (before after : History) (seat : Seat) (p : ℕ) (x : Service) (next : ServeNext) → Serves before after seat (serve_gives before.config before.past (pager before) p x) next
+    → IsByCases (serve_cases before.config before.past (pager before) p x) (λ (g : GivenServe). Serves before after seat g next)
+by_table before after seat p x next is = record { says = _; first = goes_by_cases before.config before.past (pager before) p x; so = is }

@@ -3,6 +3,8 @@ ghost use Rattle.vm_types.specs.WellFormed.{IsServiceOf, IsWellFormedService};
 ghost use Rattle.vm_types.specs.declared.reply.Answer.{Answer};
 ghost use Rattle.vm_journal.specs.declared.entry.What.{What};
 ghost use Rattle.pager_policy.specs.Serve.{serve_gives};
+ghost use Rattle.policy_tables.specs.Rows.{IsByCases};
+ghost use Rattle.policy_tables.specs.ServeCases.{serve_cases};
 ghost use Rattle.vm_state.specs.History.{MayAdd, added, entry_by, owed, pager};
 ghost use Rattle.vm_services.specs.Cases.{at_service};
 ghost use Rattle.call_begins.specs.ReadySeat.{IsIdleSeat};
@@ -19,7 +21,8 @@ use vm_types::{Answer, Proc, Seat, Service};
 /// Makes the next entries for a service of a process by its own seat: by the first case that applies.
 /// There may be room for too few entries; else a process that isn't resident waits, a service is
 /// refused, a page of a range that is deleted or purged is evicted or waited for, or the service is
-/// answered. Doesn't allocate.
+/// answered. The cases are the rows of a table, `serve_cases`. Doesn't allocate.
+#[tactic(auto, using(crate::proofs::Steps::by_table))]
 pub fn serve<B: Block>(state: &mut State<B>, seat: Seat, p: Proc, s: Service) -> ServeNext
     requires own { seat.0 ≡ p.0 }
     requires idle { IsIdleSeat state.old seat }
@@ -29,6 +32,8 @@ pub fn serve<B: Block>(state: &mut State<B>, seat: Seat, p: Proc, s: Service) ->
     ensures same { result ≡ ServeNext.Room → state.new ≡ state.old }
     ensures gives { owed state.old.past + 64 ≤ state.old.spare
         → Serves state.old state.new seat (serve_gives state.old.config state.old.past (pager state.old) p.0 s) result }
+    ensures by_table { owed state.old.past + 64 ≤ state.old.spare
+        → IsByCases (serve_cases state.old.config state.old.past (pager state.old) p.0 s) (λ g. Serves state.old state.new seat g result) }
 {
     state.run_law();
     if state.spare() - state.owed() < 64 {

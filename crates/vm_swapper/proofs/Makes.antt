@@ -1,18 +1,23 @@
 -- What a step leaves, by what was given for it.
-use Rattle.std.proofs.Common.{◌≡◌, List, [], ◌∷◌, refl, sym, subst, arith}
+use Rattle.std.proofs.Common.{◌≡◌, ℕ, List, [], ◌∷◌, refl, sym, subst, arith}
 use Rattle.vm_types.specs.BlockView.{BlockView, Tells}
 use Rattle.vm_types.specs.declared.names.Proc.{Proc}
 use Rattle.vm_types.specs.declared.names.Seat.{Seat}
 use Rattle.vm_journal.specs.declared.entry.What.{What}
 use Rattle.pager_policy.specs.Given.{given}
-use Rattle.pager_policy.specs.Swap.{GivenSwap, SwapIs, SwapWhy as Reason, swap_again, swap_carry, swap_more, swap_settled}
+use Rattle.pager_policy.specs.Swap.{GivenSwap, SwapIs, come_gives, leave_gives, SwapWhy as Reason, swap_again, swap_carry, swap_more, swap_settled}
+use Rattle.policy_tables.specs.ComeCases.{come_cases}
+use Rattle.policy_tables.specs.LeaveCases.{leave_cases}
+use Rattle.policy_tables.specs.Rows.{IsByCases}
+use Rattle.policy_tables.proofs.ByCome.{goes_by_cases as come_goes}
+use Rattle.policy_tables.proofs.ByLeave.{goes_by_cases as leave_goes}
 use Rattle.call_laws.specs.Ready.{MayWork}
 use Rattle.pager_model.specs.Run.{IsRun}
 use Rattle.vm_types.specs.Configuration.{IsWellFormed}
 use Rattle.call_begins.specs.Lifted.{HasLifts}
 use Rattle.call_begins.specs.MayBegin.{MayBegin}
 use Rattle.lift_carriers.specs.CarrierView.{CarrierView}
-use Rattle.vm_state.specs.History.{History, added, entry_by}
+use Rattle.vm_state.specs.History.{History, added, entry_by, pager}
 use Rattle.vm_state.specs.LiftsLand.{added_each}
 use Rattle.vm_swapper.specs.Swaps.{MaySwap, Swaps, again_of, returned}
 use Rattle.vm_swapper.specs.declared.swap.Swap.{Swap}
@@ -52,3 +57,13 @@ module _ {B : Type 0} {seen : B → BlockView} {tells : Tells} (s after : Histor
   pub carries : (made : List What) (old new : CarrierView B) (g : GivenSwap) → g ≡ given made swap_carry → after ≡ added_each seat made s → HasLifts seen tells after seat made new
       → Swaps seen tells s after seat g Carry old new
   carries made old new g same is lifts = swaps_as g (given made swap_carry) same (record { history = is; answer = refl; carrier = lifts })
+
+-- ---- by the tables of leaving and of coming
+module _ {B : Type 0} {seen : B → BlockView} {tells : Tells} (s : History) (seat : Seat) (p : ℕ) {after : History} {swap : Swap} {old new : CarrierView B} where
+  pub leaves_by_table : Swaps seen tells s after seat (leave_gives s.config s.past (pager s) p) swap old new
+      → IsByCases (leave_cases s.config s.past (pager s) p) (λ (g : GivenSwap). Swaps seen tells s after seat g swap old new)
+  leaves_by_table is = record { says = leave_gives s.config s.past (pager s) p; first = leave_goes s.config s.past (pager s) p; so = is }
+
+  pub comes_by_table : Swaps seen tells s after seat (come_gives s.config s.past (pager s) p) swap old new
+      → IsByCases (come_cases s.config s.past (pager s) p) (λ (g : GivenSwap). Swaps seen tells s after seat g swap old new)
+  comes_by_table is = record { says = come_gives s.config s.past (pager s) p; first = come_goes s.config s.past (pager s) p; so = is }

@@ -1,6 +1,8 @@
 ghost use Rattle.std.specs.Prelude.{◌≡◌, ◌+◌, ◌<◌, ◌≤◌, ◌↔◌, length};
 ghost use Rattle.vm_types.specs.declared.limits.TheConstants.{MOST_EXTENT};
 ghost use Rattle.pager_policy.specs.Swap.{come_gives};
+ghost use Rattle.policy_tables.specs.ComeCases.{come_cases};
+ghost use Rattle.policy_tables.specs.Rows.{IsByCases};
 ghost use Rattle.vm_types.specs.Adjust.{lesser};
 ghost use Rattle.vm_types.specs.declared.names.ProcStatus.TheVariants as status;
 ghost use Rattle.call_begins.specs.MayBegin.{MayBegin, empty};
@@ -21,7 +23,8 @@ use vm_types::{FrameState, Proc, ProcStatus, Seat};
 /// Makes the next entries for a process that comes back to memory, by any seat without an open transfer:
 /// by the first case that applies. There may be room for too few entries; else a page that is on the free
 /// list comes back; then a run of pages that are out is read from the swap blocks; and a process none of
-/// whose pages lies in a swap block is resident. Doesn't allocate.
+/// whose pages lies in a swap block is resident. The cases are the rows of a table, `come_cases`. Doesn't
+/// allocate.
 pub fn come_some<B: Block>(
     state: &mut State<B>,
     seat: Seat,
@@ -37,6 +40,9 @@ pub fn come_some<B: Block>(
     ensures gives { owed state.old.past + 64 ≤ state.old.spare
         → Swaps B.seen B.tells state.old state.new seat (come_gives state.old.config state.old.past (pager state.old) p.0) result
         carrier.old carrier.new }
+    ensures by_table { owed state.old.past + 64 ≤ state.old.spare
+        → IsByCases (come_cases state.old.config state.old.past (pager state.old) p.0) (λ g. Swaps B.seen B.tells state.old state.new seat g result
+        carrier.old carrier.new) }
 {
     state.run_law();
     if state.spare() - state.owed() < 64 {

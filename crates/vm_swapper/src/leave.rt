@@ -1,6 +1,8 @@
 ghost use Rattle.std.specs.Prelude.{◌≡◌, ◌+◌, ◌<◌, ◌≤◌, ◌↔◌, length};
 ghost use Rattle.vm_types.specs.declared.limits.TheConstants.{MOST_EXTENT};
 ghost use Rattle.pager_policy.specs.Swap.{leave_gives};
+ghost use Rattle.policy_tables.specs.LeaveCases.{leave_cases};
+ghost use Rattle.policy_tables.specs.Rows.{IsByCases};
 ghost use Rattle.vm_types.specs.declared.names.ProcStatus.TheVariants as status;
 ghost use Rattle.call_begins.specs.MayBegin.{MayBegin, empty};
 ghost use Rattle.vm_state.specs.History.{owed, pager};
@@ -22,7 +24,8 @@ use vm_types::{Addr, PAGE_BYTES, Proc, ProcStatus, Seat};
 /// Makes the next entries for a process that leaves memory, by any seat without an open transfer: by the
 /// first case that applies. There may be room for too few entries; else a shared page is evicted, then a
 /// private page that is saved in its slot's swap block; then a run of private pages is written there; and
-/// a process without pages is gone. Pinned pages stay. Doesn't allocate.
+/// a process without pages is gone. Pinned pages stay. The cases are the rows of a table, `leave_cases`.
+/// Doesn't allocate.
 pub fn leave_some<B: Block>(
     state: &mut State<B>,
     seat: Seat,
@@ -38,6 +41,9 @@ pub fn leave_some<B: Block>(
     ensures gives { owed state.old.past + 64 ≤ state.old.spare
         → Swaps B.seen B.tells state.old state.new seat (leave_gives state.old.config state.old.past (pager state.old) p.0) result
         carrier.old carrier.new }
+    ensures by_table { owed state.old.past + 64 ≤ state.old.spare
+        → IsByCases (leave_cases state.old.config state.old.past (pager state.old) p.0) (λ g. Swaps B.seen B.tells state.old state.new seat g result
+        carrier.old carrier.new) }
 {
     state.run_law();
     if state.spare() - state.owed() < 64 {
