@@ -5,12 +5,12 @@
 //! No code.
 #![tactic(auto)]
 
-mod asked;
 mod laws;
+mod one_by_one;
 mod rundowns;
 mod tables;
 
-pub use asked::{asked_is_serial, bodies_have_no_rundown, control_stays, moves_stay};
 pub use laws::{moves_are_bounded, moves_lower};
+pub use one_by_one::{asked_is_serial, bodies_have_no_rundown, control_stays, moves_stay};
 pub use rundowns::{dirty_because, no_failure_no_dirt};
 pub use tables::serial_runs_go_by_cases;

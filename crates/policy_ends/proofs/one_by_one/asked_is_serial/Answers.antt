@@ -1,5 +1,5 @@
 use Rattle.policy_ends.proofs.Asked.{asked_led, asked_one, asked_serial}
-use Rattle.policy_ends.proofs.asked.asked_is_serial.Goals as goal
+use Rattle.policy_ends.proofs.one_by_one.asked_is_serial.Goals as goal
 
 pub returns-clause-reached : goal.returns-clause-reached
 returns-clause-reached c = asked_led

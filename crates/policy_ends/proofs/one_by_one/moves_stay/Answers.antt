@@ -1,6 +1,6 @@
 use Rattle.policy_ends.proofs.ControlStays.{rests_go_on}
 use Rattle.policy_ends.proofs.MovesStay.{made_same, moves_same, moves_stay}
-use Rattle.policy_ends.proofs.asked.moves_stay.Goals as goal
+use Rattle.policy_ends.proofs.one_by_one.moves_stay.Goals as goal
 
 pub returns-clause-same : goal.returns-clause-same
 returns-clause-same c config task past at below = moves_same config past task at below
