@@ -128,6 +128,8 @@ class Driven(Window):
         try:
             if self.window:
                 self.ask("DELETE", "")
+        except (OSError, RuntimeError):
+            pass  # it is gone already, which shows where it was asked for something
         finally:
             self.driver.terminate()
             self.driver.wait()

@@ -113,6 +113,8 @@ class Firefox(Window):
         try:
             self.command("Marionette:Quit", {"flags": ["eForceQuit"]})
             self.program.wait(START_SECONDS)
+        except (OSError, RuntimeError, subprocess.TimeoutExpired):
+            pass  # it is gone already, which shows where it was asked for something
         finally:
             self.end()
 
