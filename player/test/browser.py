@@ -9,6 +9,8 @@ import time
 import urllib.error
 import urllib.request
 
+# so long a browser may take to answer, on a machine that has other work too
+ANSWER_SECONDS = 180
 ELEMENT = "element-6066-11e4-a52e-4f735466cecf"
 
 
@@ -116,7 +118,7 @@ class Driven(Window):
         asked = urllib.request.Request(f"http://127.0.0.1:{self.port}{path}", data, method=method,
                                        headers={"Content-Type": "application/json"})
         try:
-            with urllib.request.urlopen(asked, timeout=60) as answer:
+            with urllib.request.urlopen(asked, timeout=ANSWER_SECONDS) as answer:
                 return json.load(answer)["value"]
         except urllib.error.HTTPError as fault:
             raise RuntimeError(fault.read().decode()[:500]) from None

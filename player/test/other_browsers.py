@@ -11,7 +11,7 @@ import subprocess
 import tempfile
 import time
 
-from browser import Driven, Missing, Window, free_port
+from browser import ANSWER_SECONDS, Driven, Missing, Window, free_port
 
 START_SECONDS = 60
 FIREFOX_SETTINGS = {"browser.shell.checkDefaultBrowser": False, "browser.startup.page": 0,
@@ -62,7 +62,7 @@ class Firefox(Window):
         until = time.time() + START_SECONDS
         while time.time() < until and self.program.poll() is None:
             try:
-                return socket.create_connection(("127.0.0.1", port), START_SECONDS)
+                return socket.create_connection(("127.0.0.1", port), ANSWER_SECONDS)
             except OSError:
                 time.sleep(0.1)
         raise Missing("firefox doesn't answer")
