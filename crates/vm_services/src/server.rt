@@ -22,7 +22,6 @@ use vm_types::{Answer, Proc, Seat, Service};
 /// There may be room for too few entries; else a process that isn't resident waits, a service is
 /// refused, a page of a range that is deleted or purged is evicted or waited for, or the service is
 /// answered. The cases are the rows of a table, `serve_cases`. Doesn't allocate.
-#[tactic(auto, using(crate::proofs::Steps::by_table))]
 pub fn serve<B: Block>(state: &mut State<B>, seat: Seat, p: Proc, s: Service) -> ServeNext
     requires own { seat.0 ≡ p.0 }
     requires idle { IsIdleSeat state.old seat }
@@ -34,6 +33,21 @@ pub fn serve<B: Block>(state: &mut State<B>, seat: Seat, p: Proc, s: Service) ->
         → Serves state.old state.new seat (serve_gives state.old.config state.old.past (pager state.old) p.0 s) result }
     ensures by_table { owed state.old.past + 64 ≤ state.old.spare
         → IsByCases (serve_cases state.old.config state.old.past (pager state.old) p.0 s) (λ g. Serves state.old state.new seat g result) }
+{
+    serve_first(state, seat, p, s)
+}
+
+/// The first case that applies.
+#[inline(always)]
+fn serve_first<B: Block>(state: &mut State<B>, seat: Seat, p: Proc, s: Service) -> ServeNext
+    requires own { seat.0 ≡ p.0 }
+    requires idle { IsIdleSeat state.old seat }
+    requires formed { IsWellFormedService s }
+    requires known { IsServiceOf state.old.config.version s }
+    ensures room { (result ≡ ServeNext.Room) ↔ (state.old.spare < owed state.old.past + 64) }
+    ensures same { result ≡ ServeNext.Room → state.new ≡ state.old }
+    ensures gives { owed state.old.past + 64 ≤ state.old.spare
+        → Serves state.old state.new seat (serve_gives state.old.config state.old.past (pager state.old) p.0 s) result }
 {
     state.run_law();
     if state.spare() - state.owed() < 64 {
