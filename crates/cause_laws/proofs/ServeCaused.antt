@@ -36,11 +36,11 @@ use Rattle.entry_causes.specs.NextRequest.{next_request}
 use Rattle.cause_laws.specs.AreCaused.{AreCaused}
 
 -- a page of the range that was looked for is in the range
-inside_found : (address pages : ℕ) (t : ℕ → Bool) (v : ℕ) → find t (range_of address pages) ≡ Some v → in_range address pages v ≡ true
+pub inside_found : (address pages : ℕ) (t : ℕ → Bool) (v : ℕ) → find t (range_of address pages) ≡ Some v → in_range address pages v ≡ true
 inside_found address pages t v found = inside_from address pages v (count_found (λ (u : ℕ). nat_eq u v) t (range_of address pages) v found (nat_eq_refl v))
 
 -- and as it is named by its address
-inside_named : (address pages v : ℕ) → in_range address pages v ≡ true → in_range address pages (page_number (page_address v).0) ≡ true
+pub inside_named : (address pages v : ℕ) → in_range address pages v ≡ true → in_range address pages (page_number (page_address v).0) ≡ true
 inside_named address pages v inside = ap (in_range address pages) (same_number v) ∙ inside
 
 -- where none passes none is found
@@ -83,7 +83,7 @@ module _ (config : Config) (past : List Entry) (p : ℕ) where
   limited n (Some spec) = either (nat_le (spec.locks + 2) n && nat_le n spec.extent) _ _ (λ fits. (tt, tt)) (λ over. (tt, tt))
 
   -- where none of a range is unmapped, all of it is mapped
-  all_mapped : (address pages : ℕ) → is_unmapped a p address pages ≡ false → AreMapped config a p address pages
+  pub all_mapped : (address pages : ℕ) → is_unmapped a p address pages ≡ false → AreMapped config a p address pages
   all_mapped address pages none v inside = there (a.map p v) refl
     where
       there : (o : Option Mapped) → a.map p v ≡ o → (g : Page) × (page_by config a.map p v ≡ Some g)

@@ -1,9 +1,15 @@
 ghost use Rattle.cause_laws.specs.Laws.{
   AdvanceIsCaused,
   BeginIsCaused,
+  ComeIsCaused,
   LeaveIsCaused,
   NoFrameIsWanted,
+  NoFrameToComeIsWanted,
   ServeIsCaused,
+  StoppedLeavingIsHeldUp,
+  StoppedReferenceIsHeldUp,
+  StoppedRundownIsHeldUp,
+  StoppedServiceIsHeldUp,
 };
 
 /// All that a reference's next step makes has its cause, if the reference is what the process asks for next: a
@@ -16,6 +22,12 @@ pub fn advance_is_caused()
 /// with the cluster of the one before it.
 pub fn begin_is_caused()
     ensures { BeginIsCaused }
+{}
+
+/// All that a step of a coming process makes has its cause, if the process has a request: a page that comes back, or
+/// the reads of pages that lie in its swap blocks.
+pub fn come_is_caused()
+    ensures { ComeIsCaused }
 {}
 
 /// All that a step of a leaving process makes has its cause: that the process is leaving.
@@ -32,4 +44,30 @@ pub fn serve_is_caused()
 /// A reference for which there is no frame wants one, and none is free.
 pub fn no_frame_is_wanted()
     ensures { NoFrameIsWanted }
+{}
+
+/// A coming process for which there is no frame wants one, and none is free.
+pub fn no_frame_to_come_is_wanted()
+    ensures { NoFrameToComeIsWanted }
+{}
+
+/// A reference that waits for the modified list has an eviction that is held up: the replacement of its ring's victim,
+/// which would be legal with a greater wait limit.
+pub fn stopped_reference_is_held_up()
+    ensures { StoppedReferenceIsHeldUp }
+{}
+
+/// A service that waits for the modified list has an eviction that is held up: of a page of its range.
+pub fn stopped_service_is_held_up()
+    ensures { StoppedServiceIsHeldUp }
+{}
+
+/// A leaving process that waits for the modified list has an eviction that is held up: of a shared page.
+pub fn stopped_leaving_is_held_up()
+    ensures { StoppedLeavingIsHeldUp }
+{}
+
+/// Once every request is answered, a shared page whose eviction is stopped is held up.
+pub fn stopped_rundown_is_held_up()
+    ensures { StoppedRundownIsHeldUp }
 {}
