@@ -13,8 +13,8 @@ use Rattle.entry_causes.specs.EvictCause.{IsEvictCause}
 abbrev pub with_wait_limit : Config → ℕ → Config
 with_wait_limit config n = record config { params = record (config.params) { waitlimit = n } }
 
--- of page number address / 512 of process p, by this seat: with a wait limit above the modified list's length it would
--- be legal, and the list is at the wait limit
+-- of page number address / 512 of process p, by this seat: with a wait limit above the modified list's length its row
+-- of legality would hold, whosever turn it is, and the list is at the wait limit
 pub record IsHeldUp (config : Config) (past : List Entry) (a : Pager) : Type 0 where
   pub seat : ℕ
   pub p : ℕ

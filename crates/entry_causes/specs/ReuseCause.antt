@@ -9,7 +9,7 @@ use Rattle.pager_model.specs.In.{is_fault_or_near}
 use Rattle.pager_model.specs.Pager.{Pager}
 use Rattle.entry_causes.specs.FrameWanted.{WantsFrameForFault, WantsFrameToCome}
 
--- the seat reads a cluster for a fault, of which no read has landed and which may have one more
+-- the seat reads a cluster for a fault, of which no read has landed, and which has fewer reads than PFC
 pub record ReadsOn (config : Config) (past : List Entry) (seat : ℕ) : Type 0 where
   pub busy : is_busy seat (open_flights past) ≡ true
   pub last : Flight

@@ -10,7 +10,7 @@ use Rattle.entry_causes.specs.FrameWanted.{WantsFrame}
 use Rattle.entry_causes.specs.NextRequest.{HasRequest}
 use Rattle.entry_causes.specs.WriteCause.{AreFewFree}
 
--- no frame is free, none would be after a write, and another process wants one
+-- no frame is free, no page is on the modified list, and another process wants a frame
 pub record IsRoomMissed (config : Config) (past : List Entry) (a : Pager) (q : ℕ) : Type 0 where
   pub none_free : a.free ≡ []
   pub none_listed : a.modified ≡ []
