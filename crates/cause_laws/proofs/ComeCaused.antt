@@ -32,7 +32,7 @@ use Rattle.pager_model.specs.Sound.{IsSwapped}
 use Rattle.pager_model.specs.Spoken.{request_of}
 use Rattle.pager_model.specs.Transfers.{has_come}
 use Rattle.pager_policy.specs.Given.{address_of, by_seat, given, leading, reads_made, reuse_first, slots_of}
-use Rattle.pager_policy.specs.Swap.{GivenSwap, back_of, back_page, come_free, come_gives, come_out, come_target, come_targets, is_back_on_free, is_out_page, run_from, swap_again, swap_carry, swap_no_frame, swap_where, turned_resident}
+use Rattle.pager_policy.specs.Swap.{GivenSwap, back_of, back_page, come_free, come_gives, come_out, come_target, come_targets, is_back_on_free, is_out_page, run_from, swap_again, swap_carry, swap_no_frame, swap_where}
 use Rattle.pager_rules.proofs.Basics.{at_number_other, at_number_same}
 use Rattle.pager_rules.proofs.Lists.{found_passes}
 use Rattle.pager_rules.specs.Kept.{IsKept}

@@ -2,7 +2,9 @@ pub mod AdvanceCaused
 pub mod BeginCaused
 pub mod ComeCaused
 pub mod HeldUp
+pub mod Landed
 pub mod LeaveCaused
 pub mod NearCaused
 pub mod NoFrame
 pub mod ServeCaused
+pub mod Turned

@@ -1,5 +1,5 @@
 -- That the calls of the pager's logic make nothing without a cause, as statements.
-use Rattle.std.specs.Prelude.{◌≡◌, ℕ, ◌≤◌, true, false, List, [], Some}
+use Rattle.std.specs.Prelude.{◌≡◌, ◌⊎◌, ℕ, ◌≤◌, true, false, List, [], Some}
 use Rattle.vm_types.specs.declared.config.Config.{Config}
 use Rattle.vm_types.specs.Ring.{choose, filled}
 use Rattle.vm_types.specs.declared.names.ProcStatus.TheVariants as status
@@ -8,20 +8,24 @@ use Rattle.vm_types.specs.declared.service.Request.TheVariants as request
 use Rattle.vm_types.specs.declared.service.Service.{Service}
 use Rattle.vm_journal.specs.declared.entry.Entry.{Entry}
 use Rattle.pager_model.specs.Evict.{victim_of}
+use Rattle.pager_model.specs.Flights.{Flight}
 use Rattle.pager_model.specs.Maps.{is_private}
 use Rattle.pager_model.specs.Order.{IsAnswered}
 use Rattle.pager_model.specs.Pager.{Pager}
 use Rattle.pager_model.specs.Run.{pager_after}
 use Rattle.pager_policy.specs.Advance.{advance_gives, again_modified_full, again_no_frame, next_again}
 use Rattle.pager_policy.specs.Given.{Seen, is_stopped, seen_at}
+use Rattle.pager_policy.specs.Landings.{Outcome, landed_by}
 use Rattle.pager_policy.specs.Serve.{serve_again, serve_gives, serve_modified_full}
-use Rattle.pager_policy.specs.Swap.{come_gives, leave_gives, swap_again, swap_modified_full, swap_no_frame}
+use Rattle.pager_policy.specs.Swap.{come_gives, leave_gives, swap_again, swap_modified_full, swap_no_frame, victim_gives}
 use Rattle.pager_policy.specs.WriteCluster.{Reason, begin_gives}
 use Rattle.call_laws.specs.Ready.{IsReady, MayWork}
-use Rattle.entry_causes.specs.FrameWanted.{WantsFrameForFault, WantsFrameToCome}
+use Rattle.entry_causes.specs.Caused.{IsCausedThroughout}
+use Rattle.entry_causes.specs.FrameWanted.{WantsFrame, WantsFrameForFault, WantsFrameToCome}
 use Rattle.entry_causes.specs.HeldUp.{IsHeldUp}
 use Rattle.entry_causes.specs.NextRequest.{HasRequest, next_request}
-use Rattle.entry_causes.specs.WriteCause.{IsWriteCause}
+use Rattle.entry_causes.specs.TurnCause.{IsTurnCause}
+use Rattle.entry_causes.specs.WriteCause.{AreFewFree, IsWriteCause}
 use Rattle.cause_laws.specs.AreCaused.{AreCaused}
 
 -- all that a reference's next step makes has its cause, if the reference is what the process asks for next
@@ -91,3 +95,17 @@ abbrev pub StoppedRundownIsHeldUp : Type 0
 StoppedRundownIsHeldUp =
     (config : Config) (past : List Entry) (p n : ℕ) (s : Seen) → IsAnswered config past → seen_at (pager_after config past) p n ≡ Some s → is_private s.page ≡ false
     → is_stopped config past (pager_after config past) s.frame ≡ true → IsHeldUp config past (pager_after config past)
+
+-- once a seat's flights have landed each entry has its cause, if each of the past has: also the reuse of a frame whose
+-- read failed
+abbrev pub LandingsAreCaused : Type 0
+LandingsAreCaused =
+    (config : Config) (seat : ℕ) (flights : List Flight) (outcomes : List Outcome) (past : List Entry) → IsCausedThroughout config past
+    → IsCausedThroughout config (landed_by config seat flights outcomes past)
+
+-- the process that is chosen to leave, but not this one, leaves for a cause where no page is on the modified list: this
+-- one wants a frame and none is free, or the swapper lacks free frames
+abbrev pub VictimIsCaused : Type 0
+VictimIsCaused =
+    (config : Config) (past : List Entry) (seat p q : ℕ) → (pager_after config past).modified ≡ [] → victim_gives config past (pager_after config past) (Some p) ≡ Some q
+    → (((pager_after config past).free ≡ []) × WantsFrame config past (pager_after config past) p) ⊎ AreFewFree config (pager_after config past) seat → IsTurnCause config past (pager_after config past) seat q status.Leaving

@@ -2,6 +2,7 @@ ghost use Rattle.cause_laws.specs.Laws.{
   AdvanceIsCaused,
   BeginIsCaused,
   ComeIsCaused,
+  LandingsAreCaused,
   LeaveIsCaused,
   NoFrameIsWanted,
   NoFrameToComeIsWanted,
@@ -10,6 +11,7 @@ ghost use Rattle.cause_laws.specs.Laws.{
   StoppedReferenceIsHeldUp,
   StoppedRundownIsHeldUp,
   StoppedServiceIsHeldUp,
+  VictimIsCaused,
 };
 
 /// All that a reference's next step makes has its cause, if the reference is what the process asks for next: a
@@ -70,4 +72,16 @@ pub fn stopped_leaving_is_held_up()
 /// Once every request is answered, a shared page whose eviction is stopped is held up.
 pub fn stopped_rundown_is_held_up()
     ensures { StoppedRundownIsHeldUp }
+{}
+
+/// Once a seat's flights have landed each entry has its cause, if each before them has: a landing has its flight, and
+/// the reuse behind a read that failed has that.
+pub fn landings_are_caused()
+    ensures { LandingsAreCaused }
+{}
+
+/// The process that is chosen to leave leaves for a cause where no page is on the modified list: another one wants a
+/// frame and none is free, or the swapper lacks free frames.
+pub fn victim_is_caused()
+    ensures { VictimIsCaused }
 {}

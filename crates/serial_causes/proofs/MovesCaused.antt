@@ -1,8 +1,8 @@
 -- What a move of the serial policy makes has its cause, but for the rundown's.
-use Rattle.std.proofs.Common.{◌≡◌, ◌⊎◌, inl, inr, ℕ, ◌+◌, ◌<◌, ◌≤◌, ◌^◌, ◌&&◌, ◌||◌, Bool, true, false, cond, not, List, [], ◌∷◌, Option, Some, None, length, filter, find, nat_eq, nat_le, nat_lt, refl, sym, ap, ◌∙◌, subst, arith}
+use Rattle.std.proofs.Common.{◌≡◌, ◌⊎◌, inl, inr, ℕ, ◌+◌, ◌<◌, ◌≤◌, ◌^◌, ◌&&◌, ◌||◌, Bool, true, false, cond, not, List, [], ◌∷◌, Option, Some, None, length, nat_eq, nat_le, nat_lt, refl, sym, ap, ◌∙◌, subst, arith}
 use Rattle.std.specs.List.{range_with_len}
-use Rattle.std.proofs.lemmas.Bool.{and_parts, false≢true, leb-false, ltb-false, ltb-true, not-true, true≢false}
-use Rattle.std.proofs.lemmas.Option.{none-some, same_Some}
+use Rattle.std.proofs.lemmas.Bool.{and_parts, false≢true, leb-false, ltb-false, ltb-true}
+use Rattle.std.proofs.lemmas.Option.{none-some}
 use Rattle.vm_types.specs.Status.{is_coming, is_leaving}
 use Rattle.vm_types.specs.declared.names.ProcStatus.{ProcStatus}
 use Rattle.vm_types.specs.declared.names.ProcStatus.TheVariants as status
@@ -20,10 +20,8 @@ use Rattle.pager_policy.specs.Moves.{After, Control, Doing, Move, asking, carrie
 use Rattle.pager_policy.specs.Policy.{Ends, advance_move_by, asked_move, asking_move, come_move_by, coming_process, ends_part, ends_request, failing, finding_move, freeing_move, gone_move, is_freeing, is_saving, leave_move, leave_move_by, leaving_other, move_of, next_task, other_move, resident_move, saving_by, saving_move, serve_move_by, status_move, swapper_of, task_move, unless_all_failed, unless_first_failed, victim_move, writing_move}
 use Rattle.pager_policy.specs.Rundown.{writer_of}
 use Rattle.pager_policy.specs.Serve.{ServeIs, serve_again, serve_answered, serve_gives, serve_in_flight, serve_modified_full, serve_more, serve_not_resident}
-use Rattle.pager_policy.specs.Swap.{SwapIs, come_gives, earlier, earliest, is_but, last_spoken, leave_gives, may_leave, or_else, processes_where, swap_again, swap_carry, swap_in_flight, swap_modified_full, swap_more, swap_no_frame, swap_settled, victim_gives}
-use Rattle.vm_types.specs.Status.{is_resident}
+use Rattle.pager_policy.specs.Swap.{SwapIs, come_gives, leave_gives, swap_again, swap_carry, swap_in_flight, swap_modified_full, swap_more, swap_no_frame, swap_settled, victim_gives}
 use Rattle.pager_policy.specs.WriteCluster.{BeginIs, begin_carry, begin_gives, begin_nothing, reason_high, reason_need, writes_from}
-use Rattle.pager_rules.proofs.Basics.{nat_eq_refl}
 use Rattle.pager_rules.proofs.Lists.{found_passes}
 use Rattle.call_laws.proofs.CallsSay.{come_silent, leave_silent}
 use Rattle.call_laws.specs.Ready.{IsReady, MayWork}
@@ -35,7 +33,6 @@ use Rattle.serial_laws.proofs.Walks.{task_formed}
 use Rattle.entry_causes.specs.FrameWanted.{WantsFrame}
 use Rattle.entry_causes.specs.HeldUp.{IsHeldUp}
 use Rattle.entry_causes.specs.NextRequest.{HasRequest, next_request}
-use Rattle.entry_causes.specs.TurnCause.{IsTurnCause}
 use Rattle.entry_causes.specs.WriteCause.{AreFewFree, IsWriteCause}
 use Rattle.cause_laws.specs.AreCaused.{AreCaused}
 use Rattle.cause_laws.proofs.AdvanceCaused.{advance_caused}
@@ -45,6 +42,7 @@ use Rattle.cause_laws.proofs.HeldUp.{leaving_held, reference_held, service_held}
 use Rattle.cause_laws.proofs.LeaveCaused.{leave_caused}
 use Rattle.cause_laws.proofs.NoFrame.{no_frame_wanted}
 use Rattle.cause_laws.proofs.ServeCaused.{serve_caused}
+use Rattle.cause_laws.proofs.Turned.{victim_turned}
 use Rattle.serial_causes.proofs.Entries.{AnswersLast, silent_last}
 use Rattle.serial_causes.proofs.Lasts.{advance_last, serve_last}
 
@@ -60,40 +58,6 @@ CausesRight config past rests = Unit {0}
 
 pub record MoveIsCaused (config : Config) (past : List Entry) (m : Move) : Type 0 where
   pub right : CausesRight config past m
-
--- ---- the process that is chosen to leave is another one than this
-earliest_passes : (key : ℕ → ℕ) (t : ℕ → Bool) (xs : List ℕ) (q : ℕ) → earliest key (filter t xs) ≡ Some q → t q ≡ true
-earliest_passes key t [] q is = absurd (none-some q is)
-earliest_passes key t (x ∷ xs) q is = by (t x) refl (earliest_passes key t xs q) is
-  where
-    first_or : (o : Option ℕ) → t x ≡ true → (o ≡ Some q → t q ≡ true) → earlier key x o ≡ Some q → t q ≡ true
-    first_or None passes rest one = ap t (sym (same_Some x q one)) ∙ passes
-    first_or (Some y) passes rest one = go (nat_le (key x) (key y)) one
-      where
-        go : (b : Bool) → cond b (Some x) (Some y) ≡ Some q → t q ≡ true
-        go true here = ap t (sym (same_Some x q here)) ∙ passes
-        go false there = rest there
-
-    by : (b : Bool) → t x ≡ b → (earliest key (filter t xs) ≡ Some q → t q ≡ true) → earliest key (cond b (x ∷ filter t xs) (filter t xs)) ≡ Some q → t q ≡ true
-    by true passes rest one = first_or (earliest key (filter t xs)) passes rest one
-    by false fails rest one = rest one
-
-module _ (past : List Entry) (b : Pager) (p : ℕ) where
-  abbrev resident_test : ℕ → Bool
-  resident_test r = not (is_but (Some p) r) && (may_leave past b r && is_resident (b.status r))
-
-  abbrev coming_test : ℕ → Bool
-  coming_test r = not (is_but (Some p) r) && (may_leave past b r && is_coming (b.status r))
-
-  apart : (q : ℕ) (c : Bool) → (not (nat_eq p q) && c) ≡ true → p ≡ q → ⊥
-  apart q c is same = true≢false (sym (ap (nat_eq p) (sym same) ∙ nat_eq_refl p) ∙ not-true (nat_eq p q) (and_parts (not (nat_eq p q)) c is).0)
-
-  victim_other : (config : Config) (q : ℕ) → victim_gives config past b (Some p) ≡ Some q → p ≡ q → ⊥
-  victim_other config q found = go (earliest (λ (r : ℕ). last_spoken r past) (processes_where config resident_test)) refl found
-    where
-      go : (o : Option ℕ) → earliest (λ (r : ℕ). last_spoken r past) (processes_where config resident_test) ≡ o → or_else o (find coming_test (range_with_len 0 (length config.procs))) ≡ Some q → p ≡ q → ⊥
-      go None first is = apart q _ (found_passes coming_test (range_with_len 0 (length config.procs)) q is)
-      go (Some x) first is = apart q _ (earliest_passes (λ (r : ℕ). last_spoken r past) resident_test (range_with_len 0 (length config.procs)) q (first ∙ is))
 
 is_leaving_is : (s : ProcStatus) → is_leaving s ≡ true → s ≡ status.Leaving
 is_leaving_is status.Leaving is = refl
@@ -155,13 +119,9 @@ module _ (config : Config) (past : List Entry) (between : IsBetween config past)
 
     -- ---- finding a frame, because process p wants one and none is free, or because few are
     module _ (p : ℕ) (why : ((a.free ≡ []) × WantsFrame config past a p) ⊎ AreFewFree config a seat) (none : Move) (otherwise : Caused none) where
-      turn_cause : (q : ℕ) → a.modified ≡ [] → victim_gives config past a (Some p) ≡ Some q → ((a.free ≡ []) × WantsFrame config past a p) ⊎ AreFewFree config a seat → IsTurnCause config past a seat q status.Leaving
-      turn_cause q empty found (inl missed) = inr (inl (record { none_free = missed.0; none_listed = empty; p = p; other = victim_other past a p config q found; wants = missed.1 }))
-      turn_cause q empty found (inr few) = inl few
-
       victim_caused : a.modified ≡ [] → (o : Option ℕ) → victim_gives config past a (Some p) ≡ o → Caused (victim_move seat doing o none)
       victim_caused empty None found = otherwise
-      victim_caused empty (Some q) found = record { right = (tt, (turn_cause q empty found why, tt), stays) }
+      victim_caused empty (Some q) found = record { right = (tt, (victim_turned config past seat p q empty found why, tt), stays) }
 
       other_caused : a.modified ≡ [] → (o : Option ℕ) → leaving_other config a p ≡ o → Caused (other_move config past a seat p ends doing none o)
       other_caused empty None found = victim_caused empty (victim_gives config past a (Some p)) refl

@@ -30,7 +30,8 @@ use Rattle.entry_causes.specs.WriteCause.{IsRundownWrite, IsWriteCause}
 use Rattle.cause_laws.specs.AreCaused.{AreCaused}
 use Rattle.cause_laws.proofs.BeginCaused.{begin_caused}
 use Rattle.cause_laws.proofs.HeldUp.{rundown_held}
-use Rattle.serial_causes.proofs.Entries.{landed_caused, made_caused, shown_caused, silent_last}
+use Rattle.cause_laws.proofs.Landed.{landed_caused, made_caused}
+use Rattle.serial_causes.proofs.Entries.{shown_caused, silent_last}
 use Rattle.serial_causes.proofs.SerialCaused.{reached_run, serial_caused}
 
 -- ---- what is known of a move: its entries have their causes and answer nothing, and the rundown goes on

@@ -16,7 +16,8 @@ use Rattle.serial_laws.specs.Between.{IsBetween}
 use Rattle.serial_laws.specs.Controlled.{IsControlled, IsInBody}
 use Rattle.serial_laws.proofs.Kept.{moves_between, moves_fit, moves_longer}
 use Rattle.entry_causes.specs.Caused.{IsCausedThroughout}
-use Rattle.serial_causes.proofs.Entries.{landed_caused, made_caused, on_caused, run_landed, run_made, run_on, shown_caused}
+use Rattle.cause_laws.proofs.Landed.{landed_caused, made_caused}
+use Rattle.serial_causes.proofs.Entries.{on_caused, run_landed, run_made, run_on, shown_caused}
 use Rattle.serial_causes.proofs.MovesCaused.{CausesRight, StaysInBody, body_caused}
 use Rattle.serial_causes.proofs.Taken.{IsTaken, move_taken, next_is_asked}
 
