@@ -15,11 +15,13 @@ ROWS = {
     'IN': "it is for a fault, and the process's next request isn't a reference to this page that memory grants; or for a "
           "coming process, which has no request that isn't answered",
     'REUSE': "no read of the frame has failed; the seat's process wants no frame for a fault; the seat reads no cluster "
-             "that may have one more read; and no process wants a frame to come",
+             "that may have one more read, and whose last page a page follows that is out; and no process wants a frame to "
+             "come",
     'EVICT': "for REPLACE: the process's next request isn't a reference to a page that memory grants and that isn't valid; "
              "for PURGE and DELETE: it isn't that service for a range with this page, or will be refused",
     'TURN': "to LEAVING: it isn't the swapper's with fewer frames free than FREEGOAL; and frames are free, or pages wait to "
-            "be written, or no other process wants a frame; and it isn't coming while another one is gone and has a request; "
+            "be written, or a process is leaving, or no other one wants a frame; and it isn't coming while another one is "
+            "gone and has a request; "
             "to COMING: the process has no request that isn't answered",
     'OUT': "the seat goes on with no cluster; it isn't the writer's with more modified pages than LOLIMIT, nor the "
            "swapper's with fewer free frames than FREEGOAL; a frame is free, or no process wants one; no eviction is held "
@@ -148,7 +150,10 @@ def reads_on(state, seat):
     if not carrier.open or carrier.landed or carrier.begun >= state.config.parameters['PFC']:
         return None
     role = carrier.last.role
-    return ('READS ON', carrier.begun) if role and role[0] in ('FAULT', 'NEAR') else None
+    if not role or role[0] not in ('FAULT', 'NEAR'):
+        return None
+    page = state.following(carrier.last)
+    return None if page is None or page in state.holder else ('READS ON', carrier.begun)
 
 
 def cause_of_reuse(state, entry):
@@ -218,7 +223,7 @@ def cause_of_turn(state, entry):
     if status != 'LEAVING':
         return ('LEGAL',)
     found = few_free(state, entry.seat)
-    if not found and not state.free and not state.modified:
+    if not found and not state.free and not state.modified and not state.is_any_leaving():
         found = some_process(state, lambda state, p: p != q and wants_frame(state, p))
     return found or coming_barred(state, q)
 

@@ -9,7 +9,7 @@ import random
 
 import vmref
 
-KINDS = ('purge', 'delete', 'replace', 'write', 'reuse', 'swap', 'come', 'fault', 'collide')
+KINDS = ('purge', 'delete', 'replace', 'write', 'reuse', 'swap', 'come', 'fault', 'collide', 'cluster')
 CHANCE = 0.2
 MOST_STEPS = 50
 
@@ -139,12 +139,28 @@ class Causeless(vmref.Serial):
     def needless_collide(self, p):
         """It is made while a read is open: see `carry`."""
 
+    def needless_cluster(self, p):
+        """It is made while reads are open: see `carry`."""
+
     def carry(self, carrier):
-        if self.kind == 'collide' and (self.always or not self.made):
-            for lift in carrier:
-                if not lift.write:
-                    self.collide(lift)
+        if self.always or not self.made:
+            if self.kind == 'collide':
+                for lift in carrier:
+                    if not lift.write:
+                        self.collide(lift)
+            if self.kind == 'cluster' and carrier and not carrier[-1].write:
+                self.reuse_behind(carrier)
         return super().carry(carrier)
+
+    def reuse_behind(self, carrier):
+        """A frame gives up its page behind a cluster that might have one more read, but which no page follows."""
+        pager, last = self.pager, carrier[-1]
+        f, block = pager.head(pager.free), vmref.next_block(last.block)
+        pages = list(pager.shared.values()) + [mapped.page for process in pager.procs for mapped in process.map.values()]
+        follows = any(page.lies == block and page.frame is None for page in pages)
+        comes = any(process.status == vmref.COMING for process in pager.procs)
+        if f is not None and pager.frames[f].page is not None and not follows and not comes:
+            self.make('REUSE', last.seat, f, pager.frames[f].page.key)
 
     def collide(self, lift):
         page = self.pager.frames[lift.f].page

@@ -97,6 +97,8 @@ class State:
         self.carriers = [Carrier() for _ in range(len(config.processes) + 2)]
         self.flights = {}
         self.holder = {}
+        self.filed = {}
+        self.lying = {}
         self.shares = [0] * config.frames
         self.touched = set()
         self.awaits_reuse = False
@@ -114,6 +116,18 @@ class State:
 
     def is_all_answered(self):
         return all(self.next_request(p) is None for p in range(len(self.processes)))
+
+    def is_any_leaving(self):
+        return any(process.status == 'LEAVING' for process in self.processes)
+
+    def following(self, flight):
+        """The page that follows the one that is read: of its process or section, in the next block; or None."""
+        before, block = self.frames[flight.frame].page, flight.block
+        if block[0] == 'section' and block[2] + 1 < self.config.sections[block[1]].pages:
+            page = ('shared', block[1], block[2] + 1)
+        else:
+            page = self.lying.get(block[1] + 1) if block[0] == 'pagefile' else None
+        return page if page and page[:2] == before[:2] else None
 
     def refuses(self, p, reference):
         """Whether memory without frames and disk refuses the reference."""
@@ -149,6 +163,13 @@ class State:
         self.frames[f].page = page
         if page is not None:
             self.holder[page] = f
+
+    def lie(self, page, number):
+        """The page lies in this block of the page file, or in none of it."""
+        if page in self.filed:
+            del self.lying[self.filed.pop(page)]
+        if number is not None:
+            self.filed[page], self.lying[number] = number, page
 
     def make_valid(self, p, vpn, f):
         self.processes[p].valid[vpn] = f
@@ -226,6 +247,7 @@ class State:
 
     def forget(self, page):
         self.touched.discard(page)
+        self.lie(page, None)
         f = self.holder.get(page)
         if f is not None:
             self.put(f, 'FREE')
@@ -308,8 +330,10 @@ class State:
     def after_outok(self, entry, words):
         flight = self.land(entry)
         frame = self.frames[flight.frame]
-        if flight.block[0] == 'swap' and not frame.modify:
-            self.processes[flight.block[1]].swapped[flight.block[2]] = frame.page
+        if not frame.modify:
+            self.lie(frame.page, flight.block[1] if flight.block[0] == 'pagefile' else None)
+            if flight.block[0] == 'swap':
+                self.processes[flight.block[1]].swapped[flight.block[2]] = frame.page
         self.settle(flight.frame)
 
     def after_outfail(self, entry, words):

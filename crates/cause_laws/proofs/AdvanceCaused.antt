@@ -1,9 +1,7 @@
 -- What is made for a reference has its cause.
-use Rattle.std.proofs.Common.{◌≡◌, inl, inr, ℕ, ◌+◌, ◌-◌, ◌≤◌, ◌<◌, ◌&&◌, Bool, true, false, cond, not, List, [], ◌∷◌, Option, Some, None, length, find, nat_eq, nat_le, slice_get, append-nil, refl, sym, ap, ◌∙◌, subst, arith}
+use Rattle.std.proofs.Common.{◌≡◌, inl, inr, ℕ, ◌-◌, ◌<◌, ◌&&◌, Bool, true, false, cond, not, List, [], ◌∷◌, Option, Some, None, length, find, nat_eq, nat_le, slice_get, append-nil, refl, sym, ap, ◌∙◌, subst, arith}
 use Rattle.std.specs.List.{range_with_len}
 use Rattle.std.proofs.lemmas.Bool.{leb-false}
-use Rattle.std.proofs.lemmas.List.FromFn.{length-range_with_len}
-use Rattle.vm_types.specs.Adjust.{greater, lesser}
 use Rattle.vm_types.specs.Ring.{choose, filled}
 use Rattle.vm_types.specs.Status.{is_resident}
 use Rattle.vm_types.specs.declared.names.BlockId.{BlockId}
@@ -17,6 +15,7 @@ use Rattle.vm_types.specs.declared.service.Request.{Request}
 use Rattle.vm_types.specs.declared.service.Request.TheVariants as request
 use Rattle.vm_journal.specs.declared.entry.Entry.{Entry}
 use Rattle.vm_journal.specs.declared.entry.Role.TheVariants as role
+use Rattle.vm_journal.specs.declared.entry.What.{What}
 use Rattle.vm_journal.specs.declared.entry.What.TheVariants as what
 use Rattle.pager_model.specs.Evict.{victim_of}
 use Rattle.pager_model.specs.Flat.{flat_refusal}
@@ -27,15 +26,14 @@ use Rattle.pager_model.specs.Maps.{page_number, pfn, proc}
 use Rattle.pager_model.specs.Order.{answered, requests_of}
 use Rattle.pager_model.specs.Pager.{Pager, Valid}
 use Rattle.pager_model.specs.Charging.{is_uncharged}
-use Rattle.pager_model.specs.ClusterLength.{cluster_length, leading_out}
+use Rattle.pager_model.specs.ClusterLength.{cluster_length}
 use Rattle.pager_model.specs.Run.{pager_after}
 use Rattle.pager_model.specs.Spoken.{flat_after}
 use Rattle.pager_model.specs.Transfers.{is_read_on}
 use Rattle.pager_policy.specs.Advance.{GivenNext, advance_gives, collide_given, entry_given, fault_given, frame_given, held_given, is_busy_block, is_named, limit_given, mapped_given, near_targets, read_given, refused_given, replace_seen, room_given, source_of, window}
-use Rattle.pager_policy.specs.Given.{Seen, Target, by_seat, is_stopped, page_address, reads_made, reuse_first, seen_at, unsaid}
+use Rattle.pager_policy.specs.Given.{Seen, by_seat, is_stopped, page_address, reads_made, reuse_first, seen_at, unsaid}
 use Rattle.pager_rules.proofs.Basics.{count_from_no_find}
 use Rattle.pager_laws.proofs.RunsAreSound.{run_kept}
-use Rattle.call_laws.proofs.AdvanceLegal.{lesser_first, lesser_second}
 use Rattle.call_laws.proofs.FreeTurn.{same_number}
 use Rattle.call_laws.proofs.ReadsLegal.{held_by_none}
 use Rattle.call_laws.specs.Ready.{IsReady}
@@ -43,7 +41,7 @@ use Rattle.entry_causes.specs.Caused.{IsBackCause}
 use Rattle.entry_causes.specs.NextRequest.{next_request}
 use Rattle.entry_causes.specs.ReuseCause.{IsReuseCause}
 use Rattle.entry_causes.specs.Wanted.{IsWanted}
-use Rattle.cause_laws.proofs.NearCaused.{all_near, few_near, first_read, near_caused}
+use Rattle.cause_laws.proofs.ClusterCaused.{read_empty, read_reused}
 use Rattle.cause_laws.specs.AreCaused.{AreCaused}
 
 -- a reuse answers nothing
@@ -96,57 +94,39 @@ module _ (config : Config) (past : List Entry) (p : ℕ) (r : Ref) (ready : IsRe
       zeroed f None = (named, (tt, tt))
       zeroed f (Some x) = (reuse, (named_then f x, (tt, tt)))
 
-      module _ (b : BlockId) where
-        abbrev many : ℕ
-        many = cluster_length (window config a g b) config.params.pfc (length a.free)
+      abbrev first : ℕ → BlockId → What
+      first f b = what.In (pfn f) b (role.Fault (proc p) (page_address v))
 
-        abbrev near : List Target
-        near = near_targets config a g b (range_with_len 1 (many - 1))
+      module _ (room : (is_uncharged config a g && nat_eq (length a.charged) config.pagefile) ≡ false) where
+        reads : (b : BlockId) → source_of config a g (a.map p v) ≡ Some b → is_busy_block past (Some b) ≡ false → (f : ℕ) (fs : List ℕ) → a.free ≡ f ∷ fs → (o : Option Page) → a.page f ≡ o → AreCaused config past p (reuse_first o f (first f b ∷ reads_made a.page fs (near_targets config a g b (range_with_len 1 (cluster_length (window config a g b) config.params.pfc (length a.free) - 1)))))
+        reads b source still f fs free None holds = (named, read_empty config past p ready v g b f fs mapped out room below source still free holds)
+        reads b source still f fs free (Some x) holds = (reuse, (named_then f x, read_reused config past p ready v g b f fs mapped out room below source still free x holds))
 
-        few : 1 + length near ≤ config.params.pfc
-        few =
-            let most = few_near config a g b (range_with_len 1 (many - 1)) in
-            let count : length (range_with_len 1 (many - 1)) ≡ many - 1 = length-range_with_len 1 (many - 1) in
-            let least = lesser_first (lesser (leading_out (window config a g b)) config.params.pfc) (greater 1 (length a.free - 1)) in
-            let pfc = lesser_second (leading_out (window config a g b)) config.params.pfc in
-            let some = ready.formed.params.pfc.0 in
-            omega (arith, most, count, least, pfc, some)
+        framed : (o : Option BlockId) → source_of config a g (a.map p v) ≡ o → is_busy_block past o ≡ false → (frames : List ℕ) → a.free ≡ frames → Caused (frame_given config a p r g o frames)
+        framed o source still [] free = tt
+        framed None source still (f ∷ fs) free = zeroed f (a.page f)
+        framed (Some b) source still (f ∷ fs) free = reads b source still f fs free (a.page f) refl
 
-        reads : (f : ℕ) (fs : List ℕ) (o : Option Page) → AreCaused config past p (reuse_first o f (what.In (pfn f) b (role.Fault (proc p) (page_address v)) ∷ reads_made a.page fs near))
-        reads f fs None = (named, near_caused config a.page p fs near (all_near config a g b (range_with_len 1 (many - 1))) (by_seat p (what.In (pfn f) b (role.Fault (proc p) (page_address v))) ∷ past) 1 (first_read past p f b (role.Fault (proc p) (page_address v)) refl ready.free.idle) few)
-        reads f fs (Some x) = (
-          reuse,
-          (
-            named_then f x,
-            near_caused config a.page p fs near (all_near config a g b (range_with_len 1 (many - 1))) (by_seat p (what.In (pfn f) b (role.Fault (proc p) (page_address v))) ∷ (by_seat p (what.Reuse (pfn f) x) ∷ past)) 1
-                (first_read (by_seat p (what.Reuse (pfn f) x) ∷ past) p f b (role.Fault (proc p) (page_address v)) refl ready.free.idle) few,
-          ),
-        )
+    module _ (g : Page) (mapped : page_by config a.map p v ≡ Some g) where
+      held : filled (a.ring p).slots < a.limit p → (is_uncharged config a g && nat_eq (length a.charged) config.pagefile) ≡ false → (o : Option ℕ) → holder config a.page g ≡ o → Caused (held_given config past a p r g o)
+      held below room (Some f) found = backed g f
+      held below room None found =
+          either (is_busy_block past (source_of config a g (a.map p v))) _ _ (λ busy. tt)
+          (λ still. framed g mapped (held_by_none config past a g (run_kept config past ready.formed ready.run) found) below room (source_of config a g (a.map p v)) refl still a.free refl)
 
-      framed : (o : Option BlockId) (frames : List ℕ) → Caused (frame_given config a p r g o frames)
-      framed o [] = tt
-      framed None (f ∷ fs) = zeroed f (a.page f)
-      framed (Some b) (f ∷ fs) = reads b f fs (a.page f)
+      roomed : Caused (room_given config past a p r g)
+      roomed =
+          either (is_uncharged config a g && nat_eq (length a.charged) config.pagefile) _ _ (λ charging. tt)
+          (λ room. either (nat_le (a.limit p) (filled (a.ring p).slots)) _ _ (λ full. replaced (seen_at a p (victim_of (choose (a.ring p) (a.limit p)))))
+          (λ below. held (let less = leb-false (a.limit p) (filled (a.ring p).slots) below in omega (arith, less)) room (holder config a.page g) refl))
 
-    held : (g : Page) → page_by config a.map p v ≡ Some g → filled (a.ring p).slots < a.limit p → (o : Option ℕ) → holder config a.page g ≡ o → Caused (held_given config past a p r g o)
-    held g mapped below (Some f) found = backed g f
-    held g mapped below None found =
-        either (is_busy_block past (source_of config a g (a.map p v))) _ _ (λ busy. tt)
-        (λ still. framed g mapped (held_by_none config past a g (run_kept config past ready.formed ready.run) found) below (source_of config a g (a.map p v)) a.free)
+      read : (f : ℕ) (o : Option Flight) → Caused (read_given config past a p r g f o)
+      read f None = roomed
+      read f (Some x) = either (nat_eq x.seat p) _ _ (λ own. roomed) (λ other. collided f x)
 
-    roomed : (g : Page) → page_by config a.map p v ≡ Some g → Caused (room_given config past a p r g)
-    roomed g mapped =
-        either (is_uncharged config a g && nat_eq (length a.charged) config.pagefile) _ _ (λ charging. tt)
-        (λ room. either (nat_le (a.limit p) (filled (a.ring p).slots)) _ _ (λ full. replaced (seen_at a p (victim_of (choose (a.ring p) (a.limit p)))))
-        (λ below. held g mapped (let less = leb-false (a.limit p) (filled (a.ring p).slots) below in omega (arith, less)) (holder config a.page g) refl))
-
-    read : (g : Page) → page_by config a.map p v ≡ Some g → (f : ℕ) (o : Option Flight) → Caused (read_given config past a p r g f o)
-    read g mapped f None = roomed g mapped
-    read g mapped f (Some x) = either (nat_eq x.seat p) _ _ (λ own. roomed g mapped) (λ other. collided f x)
-
-    faulted : (g : Page) → page_by config a.map p v ≡ Some g → (o : Option ℕ) → Caused (fault_given config past a p r g o)
-    faulted g mapped None = roomed g mapped
-    faulted g mapped (Some f) = read g mapped f (find (is_read_on f) (open_flights past))
+      faulted : (o : Option ℕ) → Caused (fault_given config past a p r g o)
+      faulted None = roomed
+      faulted (Some f) = read f (find (is_read_on f) (open_flights past))
 
     found : (o : Option Page) → page_by config a.map p v ≡ o → Caused (mapped_given config past a p r o)
     found None mapped = tt

@@ -1,5 +1,6 @@
 pub mod AdvanceCaused
 pub mod BeginCaused
+pub mod ClusterCaused
 pub mod ComeCaused
 pub mod HeldUp
 pub mod Landed

@@ -24,7 +24,7 @@ use Rattle.entry_causes.specs.Caused.{IsCausedThroughout}
 use Rattle.entry_causes.specs.FrameWanted.{WantsFrame, WantsFrameForFault, WantsFrameToCome}
 use Rattle.entry_causes.specs.HeldUp.{IsHeldUp}
 use Rattle.entry_causes.specs.NextRequest.{HasRequest, next_request}
-use Rattle.entry_causes.specs.TurnCause.{IsTurnCause}
+use Rattle.entry_causes.specs.TurnCause.{IsNoneLeaving, IsTurnCause}
 use Rattle.entry_causes.specs.WriteCause.{AreFewFree, IsWriteCause}
 use Rattle.cause_laws.specs.AreCaused.{AreCaused}
 
@@ -103,9 +103,9 @@ LandingsAreCaused =
     (config : Config) (seat : ℕ) (flights : List Flight) (outcomes : List Outcome) (past : List Entry) → IsCausedThroughout config past
     → IsCausedThroughout config (landed_by config seat flights outcomes past)
 
--- the process that is chosen to leave, but not this one, leaves for a cause where no page is on the modified list: this
--- one wants a frame and none is free, or the swapper lacks free frames
+-- the process that is chosen to leave, but not this one, leaves for a cause where no page is on the modified list and no
+-- process is leaving: this one wants a frame and none is free, or the swapper lacks free frames
 abbrev pub VictimIsCaused : Type 0
 VictimIsCaused =
-    (config : Config) (past : List Entry) (seat p q : ℕ) → (pager_after config past).modified ≡ [] → victim_gives config past (pager_after config past) (Some p) ≡ Some q
+    (config : Config) (past : List Entry) (seat p q : ℕ) → (pager_after config past).modified ≡ [] → IsNoneLeaving config (pager_after config past) → victim_gives config past (pager_after config past) (Some p) ≡ Some q
     → (((pager_after config past).free ≡ []) × WantsFrame config past (pager_after config past) p) ⊎ AreFewFree config (pager_after config past) seat → IsTurnCause config past (pager_after config past) seat q status.Leaving

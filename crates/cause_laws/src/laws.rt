@@ -80,8 +80,8 @@ pub fn landings_are_caused()
     ensures { LandingsAreCaused }
 {}
 
-/// The process that is chosen to leave leaves for a cause where no page is on the modified list: another one wants a
-/// frame and none is free, or the swapper lacks free frames.
+/// The process that is chosen to leave leaves for a cause where no page is on the modified list and no process is
+/// leaving: another one wants a frame and none is free, or the swapper lacks free frames.
 pub fn victim_is_caused()
     ensures { VictimIsCaused }
 {}

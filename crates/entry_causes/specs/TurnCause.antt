@@ -1,6 +1,6 @@
 -- Why a process is swapped out or in. Source: Kenah and Bate, "VAX/VMS Internals and Data Structures", the swapper:
 -- FREEGOAL, outswap and inswap; that a process's own seat swaps for it is this project's own.
-use Rattle.std.specs.Prelude.{◌≡◌, ◌⊎◌, ◌≢◌, ℕ, List, []}
+use Rattle.std.specs.Prelude.{◌≡◌, ◌⊎◌, ◌≢◌, ℕ, ◌<◌, List, [], length}
 use Rattle.vm_types.specs.declared.names.ProcStatus.{ProcStatus}
 use Rattle.vm_types.specs.declared.names.ProcStatus.TheVariants as status
 use Rattle.vm_types.specs.declared.config.Config.{Config}
@@ -10,10 +10,14 @@ use Rattle.entry_causes.specs.FrameWanted.{WantsFrame}
 use Rattle.entry_causes.specs.NextRequest.{HasRequest}
 use Rattle.entry_causes.specs.WriteCause.{AreFewFree}
 
--- no frame is free, no page is on the modified list, and another process wants a frame
+abbrev pub IsNoneLeaving : Config → Pager → Type 0
+IsNoneLeaving config a = (q : ℕ) → q < length config.procs → a.status q ≡ status.Leaving → ⊥
+
+-- no frame is free, no page is on the modified list, no process is leaving, and another one wants a frame
 pub record IsRoomMissed (config : Config) (past : List Entry) (a : Pager) (q : ℕ) : Type 0 where
   pub none_free : a.free ≡ []
   pub none_listed : a.modified ≡ []
+  pub none_leaving : IsNoneLeaving config a
   pub p : ℕ
   pub other : p ≢ q
   pub wants : WantsFrame config past a p

@@ -1,7 +1,7 @@
 -- What a move of the serial policy makes has its cause, but for the rundown's.
 use Rattle.std.proofs.Common.{◌≡◌, ◌⊎◌, inl, inr, ℕ, ◌+◌, ◌<◌, ◌≤◌, ◌^◌, ◌&&◌, ◌||◌, Bool, true, false, cond, not, List, [], ◌∷◌, Option, Some, None, length, nat_eq, nat_le, nat_lt, refl, sym, ap, ◌∙◌, subst, arith}
 use Rattle.std.specs.List.{range_with_len}
-use Rattle.std.proofs.lemmas.Bool.{and_parts, false≢true, leb-false, ltb-false, ltb-true}
+use Rattle.std.proofs.lemmas.Bool.{and_from, and_parts, eqb-true, false≢true, leb-false, ltb-false, ltb-true}
 use Rattle.std.proofs.lemmas.Option.{none-some}
 use Rattle.vm_types.specs.Status.{is_coming, is_leaving}
 use Rattle.vm_types.specs.declared.names.ProcStatus.{ProcStatus}
@@ -33,6 +33,7 @@ use Rattle.serial_laws.proofs.Walks.{task_formed}
 use Rattle.entry_causes.specs.FrameWanted.{WantsFrame}
 use Rattle.entry_causes.specs.HeldUp.{IsHeldUp}
 use Rattle.entry_causes.specs.NextRequest.{HasRequest, next_request}
+use Rattle.entry_causes.specs.TurnCause.{IsTurnCause}
 use Rattle.entry_causes.specs.WriteCause.{AreFewFree, IsWriteCause}
 use Rattle.cause_laws.specs.AreCaused.{AreCaused}
 use Rattle.cause_laws.proofs.AdvanceCaused.{advance_caused}
@@ -42,7 +43,7 @@ use Rattle.cause_laws.proofs.HeldUp.{leaving_held, reference_held, service_held}
 use Rattle.cause_laws.proofs.LeaveCaused.{leave_caused}
 use Rattle.cause_laws.proofs.NoFrame.{no_frame_wanted}
 use Rattle.cause_laws.proofs.ServeCaused.{serve_caused}
-use Rattle.cause_laws.proofs.Turned.{victim_turned}
+use Rattle.cause_laws.proofs.Turned.{none_leaves, none_where, victim_turned}
 use Rattle.serial_causes.proofs.Entries.{AnswersLast, silent_last}
 use Rattle.serial_causes.proofs.Lasts.{advance_last, serve_last}
 
@@ -78,6 +79,14 @@ unless_stays ends c failed stays false first = stays
 first_stays : (c : Control) → IsInBody c.doing → (all first : Bool) → StaysInBody (unless_first_failed c all first)
 first_stays c stays all true = tt
 first_stays c stays all false = stays
+
+-- none but this one is leaving, where no other one is found
+only_leaving : (config : Config) (a : Pager) (p : ℕ) → leaving_other config a p ≡ None → (q : ℕ) → q < length config.procs → a.status q ≡ status.Leaving → p ≡ q
+only_leaving config a p none q below leaving = by (nat_eq q p) refl
+  where
+    by : (b : Bool) → nat_eq q p ≡ b → p ≡ q
+    by true same = sym (eqb-true q p same)
+    by false other = absurd (none_where (λ (r : ℕ). is_leaving (a.status r) && not (nat_eq r p)) (length config.procs) q none below (and_from _ _ (ap is_leaving leaving) (ap not other)))
 
 module _ (config : Config) (past : List Entry) (between : IsBetween config past) where
   abbrev a : Pager
@@ -119,12 +128,17 @@ module _ (config : Config) (past : List Entry) (between : IsBetween config past)
 
     -- ---- finding a frame, because process p wants one and none is free, or because few are
     module _ (p : ℕ) (why : ((a.free ≡ []) × WantsFrame config past a p) ⊎ AreFewFree config a seat) (none : Move) (otherwise : Caused none) where
-      victim_caused : a.modified ≡ [] → (o : Option ℕ) → victim_gives config past a (Some p) ≡ o → Caused (victim_move seat doing o none)
-      victim_caused empty None found = otherwise
-      victim_caused empty (Some q) found = record { right = (tt, (victim_turned config past seat p q empty found why, tt), stays) }
+      -- with no cause but few free frames nothing is asked of the others
+      turned : a.modified ≡ [] → leaving_other config a p ≡ None → (q : ℕ) → victim_gives config past a (Some p) ≡ Some q → ((a.free ≡ []) × WantsFrame config past a p) ⊎ AreFewFree config a seat → IsTurnCause config past a seat q status.Leaving
+      turned empty alone q found (inl missed) = victim_turned config past seat p q empty (none_leaves config past a p missed.1 (only_leaving config a p alone)) found (inl missed)
+      turned empty alone q found (inr few) = inl few
+
+      victim_caused : a.modified ≡ [] → leaving_other config a p ≡ None → (o : Option ℕ) → victim_gives config past a (Some p) ≡ o → Caused (victim_move seat doing o none)
+      victim_caused empty alone None found = otherwise
+      victim_caused empty alone (Some q) found = record { right = (tt, (turned empty alone q found why, tt), stays) }
 
       other_caused : a.modified ≡ [] → (o : Option ℕ) → leaving_other config a p ≡ o → Caused (other_move config past a seat p ends doing none o)
-      other_caused empty None found = victim_caused empty (victim_gives config past a (Some p)) refl
+      other_caused empty None found = victim_caused empty found (victim_gives config past a (Some p)) refl
       other_caused empty (Some q) found =
           left_caused q (is_leaving_is (a.status q) (and_parts (is_leaving (a.status q)) (not (nat_eq q p)) (found_passes (λ (r : ℕ). is_leaving (a.status r) && not (nat_eq r p)) (range_with_len 0 (length config.procs)) q found)).0)
 

@@ -187,12 +187,16 @@ reached_cleaned config start from (heard ∷ told) past c reached first =
     let before = reached_cleaned config start from told reached.earlier_past reached.earlier_control reached.before first in
     made_cleaned config reached.earlier_past heard past c (move_of config reached.earlier_past reached.earlier_control) (cleans config reached.earlier_past reached.earlier_control before.answered before.goes_on).right reached.move before.answered before.caused
 
+-- ---- behind a journal in which each entry has its cause
+pub rundown_caused : (config : Config) (past rest : List Entry) → IsWhole config past rest → IsCausedThroughout config past → IsCausedThroughout config (rest ++ past)
+rundown_caused config past rest whole before =
+    let rundown = whole.rundown in
+    (reached_cleaned config past (at_slot 0 0 false) rundown.told (rest ++ past) rundown.control rundown.reached (record { goes_on = tt; answered = whole.answered; caused = before })).caused
+
 -- ---- a whole serial journal
 pub whole_caused : (config : Config) (past rest : List Entry) → IsWellFormed config → IsRun config (rest ++ past) → length (rest ++ past) < 2 ^ 63 → IsSerial config past → IsWhole config past rest → IsCausedThroughout config (rest ++ past)
 whole_caused config past rest formed run few serial whole =
     let rundown = whole.rundown in
     let run_there = reached_run config past (at_slot 0 0 false) rundown.told (rest ++ past) rundown.control rundown.reached run in
     let size = length-append rest past in
-    let first : IsCleanedTo config past (at_slot 0 0 false) =
-    record { goes_on = tt; answered = whole.answered; caused = serial_caused config past serial.control formed run_there (omega (arith, few, size)) serial.reached } in
-    (reached_cleaned config past (at_slot 0 0 false) rundown.told (rest ++ past) rundown.control rundown.reached first).caused
+    rundown_caused config past rest whole (serial_caused config past serial.control formed run_there (omega (arith, few, size)) serial.reached)

@@ -19,3 +19,7 @@ abbrev pub WholeIsCaused : Type 0
 WholeIsCaused =
     (config : Config) (past rest : List Entry) → IsWellFormed config → IsRun config (rest ++ past) → length (rest ++ past) < 2 ^ 63 → IsSerial config past → IsWhole config past rest
     → IsCausedThroughout config (rest ++ past)
+
+-- whoever made the entries up to the report's place, if each of these has its cause, each of the rundown has
+abbrev pub RundownIsCaused : Type 0
+RundownIsCaused = (config : Config) (past rest : List Entry) → IsWhole config past rest → IsCausedThroughout config past → IsCausedThroughout config (rest ++ past)

@@ -1,4 +1,4 @@
-ghost use Rattle.serial_causes.specs.Laws.{SerialIsCaused, WholeIsCaused};
+ghost use Rattle.serial_causes.specs.Laws.{RundownIsCaused, SerialIsCaused, WholeIsCaused};
 
 /// Each entry that the serial policy makes has its cause in the entries before it, from the first request on: it does
 /// nothing without a cause.
@@ -9,4 +9,9 @@ pub fn serial_is_caused()
 /// So does each entry of a whole serial journal: those up to the report's place, and those of the rundown behind it.
 pub fn whole_serial_is_caused()
     ensures { WholeIsCaused }
+{}
+
+/// Each entry of a rundown has its cause, if each before it has, whoever made those.
+pub fn rundown_is_caused()
+    ensures { RundownIsCaused }
 {}

@@ -3,4 +3,4 @@
 
 mod laws;
 
-pub use laws::{serial_is_caused, whole_serial_is_caused};
+pub use laws::{rundown_is_caused, serial_is_caused, whole_serial_is_caused};
