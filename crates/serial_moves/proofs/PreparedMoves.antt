@@ -2,17 +2,15 @@
 use Rattle.std.proofs.Common.{◌≡◌, ℕ, ◌≤◌, Bool, List, Option, Some, None, Result, Ok, Err, IfOk, IfSome, refl, sym, ap, ◌∙◌, subst}
 use Rattle.std.specs.Option.{option_map}
 use Rattle.vm_types.specs.declared.names.Proc.{Proc}
-use Rattle.vm_types.specs.declared.reply.Reply.{Reply}
 use Rattle.vm_journal.specs.declared.entry.Entry.{Entry}
 use Rattle.pager_policy.specs.Moves.{Control as ControlIs, Move}
 use Rattle.pager_policy.specs.Policy.{asking_move, move_of}
 use Rattle.serial_laws.specs.Between.{IsBetween}
-use Rattle.policy_ends.specs.ByTables.{IsFirstRow}
 use Rattle.policy_ends.proofs.FirstRows.{first_row}
 use Rattle.serial_laws.specs.Controlled.{IsAnsweredProcess, IsControlled, IsInBody, IsLeft}
 use Rattle.vm_state.specs.History.{History, pager}
 use Rattle.carried_landings.specs.Moved.{IsMoveHere, IsSameBut, IsSteady, MovesTo}
-use Rattle.serial_moves.specs.Controls.{ComesTo, AsksNext, Moves, control_in, doing_in, number_of}
+use Rattle.serial_moves.specs.Controls.{ComesTo, AsksNext, Moves, MovesByTable, control_in, doing_in, number_of}
 use Rattle.serial_moves.specs.declared.control.AfterAnswer.{AfterAnswer}
 use Rattle.serial_moves.specs.declared.control.Control.{Control}
 use Rattle.serial_moves.specs.declared.control.Doing.{Doing}
@@ -32,9 +30,19 @@ in_body (Freeing begun p) = tt
 abbrev pub control_at : Control → Doing → ControlIs
 control_at c d = record { doing = doing_in d; leaving = option_map number_of c.leaving }
 
--- the move is the first row of the tables that holds
-pub first_row_here : (s : History) (c : Control) → IsBetween s.config s.past → (reply : Reply) → IsFirstRow s.config s.past reply (control_in c)
-first_row_here s c between reply = first_row s.config s.past reply (control_in c) between.formed between.run
+-- what was made is the first row of the tables that holds
+pub row_made : (tells : Bool) (s t : History) (c : Control) (goes : Option Control) → IsBetween s.config s.past → Moves tells s t (move_of s.config s.past (control_in c)) goes
+    → MovesByTable tells s t (control_in c) goes
+row_made tells s t c goes between moved = record {
+  says = move_of s.config s.past (control_in c);
+  first = λ reply. first_row s.config s.past reply (control_in c) between.formed between.run;
+  so = moved;
+}
+
+pub made_by_table : {E : Type 0} (tells : Bool) (s t : History) (c : Control) (r : Result (Option Control) E) → IsBetween s.config s.past
+    → IfOk r (Moves tells s t (move_of s.config s.past (control_in c))) → IfOk r (MovesByTable tells s t (control_in c))
+made_by_table tells s t c (Err e) between moved = tt
+made_by_table tells s t c (Ok goes) between moved = row_made tells s t c goes between moved
 
 -- ---- where the policy is
 module _ (s : History) (c : Control) (fits : IsControlled s.config s.past (control_in c)) where

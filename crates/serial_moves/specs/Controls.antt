@@ -1,9 +1,13 @@
 -- Where the code of the serial policy is, in the words of its table. This project's own.
-use Rattle.std.specs.Prelude.{◌≡◌, ℕ, Bool, false, Option, IfSome}
+use Rattle.std.specs.Prelude.{◌≡◌, ℕ, Bool, false, Option, Some, IfSome}
 use Rattle.std.specs.Option.{option_map}
 use Rattle.vm_types.specs.declared.names.Proc.{Proc}
+use Rattle.vm_types.specs.declared.reply.Reply.{Reply}
 use Rattle.pager_policy.specs.Moves.{Control as ControlIs, Doing as DoingIs, Move, asking, control, freeing, saving}
 use Rattle.pager_policy.specs.Policy.{Ends as EndsIs, asking_move, ends_part, ends_request}
+use Rattle.policy_tables.specs.MoveCases.{move_cases}
+use Rattle.policy_tables.specs.Rows.{first_case}
+use Rattle.policy_tables.specs.Words.{told}
 use Rattle.serial_laws.specs.Controlled.{IsLeft}
 use Rattle.carried_landings.specs.Moved.{MovesTo}
 use Rattle.vm_state.specs.History.{History, pager}
@@ -33,6 +37,12 @@ ends_in (Freeing begun p) = ends_part (control asking)
 -- the policy's move, in the code's words
 abbrev pub Moves : Bool → History → History → Move → Option Control → Type 0
 Moves tells before after m goes = MovesTo tells before after m (option_map control_in goes)
+
+-- what was made is the first row of the tables that holds, whatever reply its DONE shows, and the policy goes on there
+pub record MovesByTable (tells : Bool) (before after : History) (c : ControlIs) (goes : Option Control) : Type 0 where
+  pub says : Move
+  pub first : (reply : Reply) → first_case (move_cases before.config before.past (pager before) reply c) ≡ Some (told reply says)
+  pub so : Moves tells before after says goes
 
 -- nothing was made, and the policy's move is that of the next request, before which this process is left
 pub record AsksNext (before after : History) (m : Move) (leaving : Option Proc) : Type 0 where

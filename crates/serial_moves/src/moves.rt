@@ -1,11 +1,9 @@
 ghost use Rattle.std.specs.Prelude.{◌≡◌, ◌<◌, IfOk, OnErr};
-ghost use Rattle.vm_types.specs.declared.reply.Reply.{Reply};
 ghost use Rattle.pager_policy.specs.Policy.{move_of};
 ghost use Rattle.serial_laws.specs.Between.{IsBetween};
 ghost use Rattle.serial_laws.specs.Controlled.{IsControlled};
-ghost use Rattle.policy_ends.specs.ByTables.{IsFirstRow};
 ghost use Rattle.serial_moves.specs.Carriers.{AreIdle};
-ghost use Rattle.serial_moves.specs.Controls.{ComesTo, Moves, control_in};
+ghost use Rattle.serial_moves.specs.Controls.{ComesTo, Moves, MovesByTable, control_in};
 ghost use Rattle.carried_landings.specs.Moved.{IsSteady};
 
 use crate::answers::{ask_next, free, save};
@@ -16,12 +14,11 @@ use vm_state::{Carrier, State};
 use vm_types::NoMemory;
 
 /// Makes the serial policy's next move, between two of which no transfer is open, and says where the
-/// policy goes on; none if it rests, and then no entry was made. The move is the first row that holds of
-/// tables, `move_cases`. The carriers are those of all seats, and have no lifts, before it and afterwards.
+/// policy goes on; none if it rests, and then no entry was made. What it makes is the first row that holds
+/// of tables, `move_cases`. The carriers are those of all seats, and have no lifts, before it and afterwards.
 ///
 /// # Errors
 /// `NoMemory` if out of memory: room for fewer than 64 entries is left then.
-#[tactic(auto, using(crate::proofs::PreparedMoves::first_row_here))]
 pub fn make_move<B: Block>(
     state: &mut State<B>,
     c: Control,
@@ -32,7 +29,7 @@ pub fn make_move<B: Block>(
     requires carriers { AreIdle state.old carriers.old }
     ensures carriers { carriers.new ≡ carriers.old }
     ensures moved { IfOk result (Moves B.tells.content state.old state.new (move_of state.old.config state.old.past (control_in c))) }
-    ensures by_table { (reply : Reply) → IsFirstRow state.old.config state.old.past reply (control_in c) }
+    ensures by_table { IfOk result (MovesByTable B.tells.content state.old state.new (control_in c)) }
     ensures memory { OnErr result (state.new.spare < 64) }
 {
     prepare(state)?;

@@ -4,17 +4,18 @@ ghost use Rattle.vm_types.specs.WellFormed.{IsServiceOf, IsWellFormedReference, 
 ghost use Rattle.vm_types.specs.declared.names.ProcStatus.TheVariants as status;
 ghost use Rattle.vm_types.specs.declared.reference.Ref.{Ref};
 ghost use Rattle.vm_types.specs.declared.service.Request.{Request};
-ghost use Rattle.pager_policy.specs.Policy.{coming_process, gone_move};
+ghost use Rattle.pager_policy.specs.Policy.{asking_move, coming_process, gone_move};
 ghost use Rattle.vm_state.specs.History.{pager};
 ghost use Rattle.serial_moves.specs.Carriers.{MayMove};
 ghost use Rattle.serial_moves.specs.Controls.{Moves, number_of};
 ghost use Rattle.carried_landings.specs.Moved.{IsMoveHere, IsSteady};
-ghost use Rattle.serial_moves.specs.Requests.{IsRare, IsResidentReference, MayAskTask, asked_for, come_move, finding_for, resident_for};
+ghost use Rattle.serial_moves.specs.Requests.{IsNextRare, IsRare, IsResidentReference, MayAskNext, MayAskTask, asked_for, come_move, finding_for, resident_for};
 
 use crate::carrying::{ASKING, answered, carry_on, carry_reads, write_for_room};
 use crate::control::{Control, Doing, Step};
 use crate::finding::{find_frame, processes, who_finds};
 use crate::leaving::leave;
+use crate::tasks::next_task;
 use disk_trait::Block;
 use fault_core::{AgainWhy, Next, advance};
 use vm_services::{ServeNext, ServeWhy};
@@ -206,8 +207,8 @@ fn resident_reference<B: Block>(state: &State<B>, leaving: Option<Proc>, task: T
 ///
 /// # Errors
 /// `NoMemory` if out of memory: room for fewer than 64 entries is left then.
-#[inline(never)]
-fn ask_other<B: Block>(
+#[inline(always)]
+fn ask_rare<B: Block>(
     state: &mut State<B>,
     leaving: Option<Proc>,
     task: Task,
@@ -225,7 +226,30 @@ fn ask_other<B: Block>(
     }
 }
 
-/// The next step for a request: a process that is being left comes first.
+/// The same for the next request, which it reads itself, so that who calls it needs no whole task.
+///
+/// # Errors
+/// `NoMemory` if out of memory: room for fewer than 64 entries is left then.
+#[inline(never)]
+fn ask_other<B: Block>(
+    state: &mut State<B>,
+    leaving: Option<Proc>,
+    carrier: &mut Carrier<B>,
+) -> Step
+    requires may { MayAskNext state.old (option_map number_of leaving) carrier.old }
+    requires rare { leaving ≡ None → IsNextRare state.old }
+    ensures carrier { carrier.new ≡ carrier.old }
+    ensures moved { IfOk result (Moves B.tells.content state.old state.new
+        (asking_move state.old.config state.old.past (pager state.old) (option_map number_of leaving))) }
+    ensures memory { OnErr result (state.new.spare < 64) }
+{
+    if let Some(task) = next_task(state) {
+        return ask_rare(state, leaving, task, carrier);
+    }
+    Ok(None)
+}
+
+/// The next step for the next request: a process that is being left comes first.
 ///
 /// # Errors
 /// `NoMemory` if out of memory: room for fewer than 64 entries is left then.
@@ -243,6 +267,6 @@ pub fn ask<B: Block>(
 {
     match resident_reference(state, leaving, task) {
         Some(r) => refer(state, Seat(task.proc.0), r, carrier),
-        None => ask_other(state, leaving, task, carrier),
+        None => ask_other(state, leaving, carrier),
     }
 }

@@ -6,6 +6,7 @@ use vm_state::State;
 use vm_types::Task;
 
 /// The next request of the body; none if each was answered.
+#[inline(always)]
 pub fn next_task<B: Block>(state: &State<B>) -> Option<Task>
     ensures { result ≡ next_task state.now.config state.now.past }
 {

@@ -9,6 +9,7 @@ mod giving_back;
 mod run;
 mod to_report;
 
+pub use carriers::all_carriers;
 pub use finished::{Counted, Finished, RunFault, RunResult};
 pub use giving_back::give_back;
 pub use run::{Ending, count_serial, end_state, finish_run, run_serial};

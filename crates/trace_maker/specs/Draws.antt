@@ -40,12 +40,16 @@ near_pages region d = if d % 4 == 0 then region.pages else region.pages / 4
 abbrev pub address_from : Region → ℕ → ℕ → ℕ
 address_from region d3 d4 = region.first + PAGE_BYTES * ((d3 / 256) % near_pages region d3) + 4 * (d4 % 128)
 
+-- a reference in user mode
+abbrev pub task_at : ℕ → ℕ → Op → Task
+task_at p at op = record {
+  proc = record { 0 = p };
+  request = Reference (record { mode = U; addr = record { 0 = at }; op = op });
+}
+
 -- the reference of these six draws
 abbrev pub task_of : ℕ → ℕ → ℕ → ℕ → ℕ → ℕ → ℕ → Task
-task_of procs d1 d2 d3 d4 d5 d6 = record {
-  proc = record { 0 = d1 % procs };
-  request = Reference (record { mode = U; addr = record { 0 = address_from (region_of (d2 % 16)) d3 d4 }; op = op_of (d5 % 4) d6 });
-}
+task_of procs d1 d2 d3 d4 d5 d6 = task_at (d1 % procs) (address_from (region_of (d2 % 16)) d3 d4) (op_of (d5 % 4) d6)
 
 -- the reference of the six draws after this state
 abbrev pub task_from : ℕ → ℕ → Task

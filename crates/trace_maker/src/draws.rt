@@ -1,7 +1,7 @@
-ghost use Rattle.std.specs.Prelude.{◌≡◌, ◌/◌, ◌<◌, ◌≤◌, ◌^◌};
-ghost use Rattle.trace_maker.specs.Draws.{next_state, after_six, task_from, region_of, near_pages, op_of};
+ghost use Rattle.std.specs.Prelude.{◌≡◌, ◌/◌, ◌<◌, ◌≤◌, ◌^◌, [], ◌∷◌, ◌++◌, OnOk};
+ghost use Rattle.trace_maker.specs.Draws.{next_state, after_six, task_from, task_at, region_of, near_pages, op_of};
 
-use vm_types::{Addr, Mode, Op, PAGE_BYTES, Proc, Ref, Request, Task, Width};
+use vm_types::{Addr, Body, Mode, NoMemory, Op, PAGE_BYTES, Proc, Ref, Request, Task, Width};
 
 /// The states of the generator.
 #[derive(Clone, Copy, Debug)]
@@ -22,11 +22,14 @@ impl Draws {
         (self.state / 0x1_0000_0000) as u32
     }
 
-    /// The next reference, which takes six draws.
-    pub(crate) fn task(&mut self, procs: u32) -> Task
+    /// Adds the next reference, which takes six draws, at the end.
+    ///
+    /// # Errors
+    /// `NoMemory` if out of memory.
+    pub(crate) fn add(&mut self, procs: u32, body: &mut Body) -> Result<(), NoMemory>
         requires { 1 ≤ procs }
         ensures state { self.new.state ≡ after_six self.old.state }
-        ensures value { result ≡ task_from self.old.state procs }
+        ensures added { OnOk result (body.new ≡ body.old ++ task_from self.old.state procs ∷ []) }
     {
         let proc = self.draw() % procs;
         let region = region_of(self.draw() % 16);
@@ -34,15 +37,8 @@ impl Draws {
         let page = (d3 / 256) % near_pages(region, d3);
         let byte = 4 * (self.draw() % 128);
         let kind = self.draw() % 4;
-        let op = op_of(kind, self.draw());
-        Task {
-            proc: Proc(proc),
-            request: Request::Reference(Ref {
-                mode: Mode::U,
-                addr: Addr(region.first + PAGE_BYTES * page + byte),
-                op,
-            }),
-        }
+        let at = region.first + PAGE_BYTES * page + byte;
+        add_kind(body, proc, at, kind, self.draw())
     }
 }
 
@@ -97,14 +93,33 @@ fn near_pages(region: Region, d: u32) -> u32
     }
 }
 
-fn op_of(kind: u32, value: u32) -> Op
-    ensures { result ≡ op_of kind value }
+/// A reference in user mode.
+#[inline(always)]
+fn task_at(p: u32, at: u32, op: Op) -> Task
+    ensures { result ≡ task_at p at op }
+{
+    Task {
+        proc: Proc(p),
+        request: Request::Reference(Ref {
+            mode: Mode::U,
+            addr: Addr(at),
+            op,
+        }),
+    }
+}
+
+/// Adds a reference of this kind. Each kind is pushed by itself, so that what is kept of it is made at once.
+///
+/// # Errors
+/// `NoMemory` if out of memory.
+fn add_kind(body: &mut Body, p: u32, at: u32, kind: u32, value: u32) -> Result<(), NoMemory>
+    ensures { OnOk result (body.new ≡ body.old ++ task_at p at (op_of kind value) ∷ []) }
 {
     if kind < 2 {
-        Op::Read(Width::Four)
+        body.push(task_at(p, at, Op::Read(Width::Four)))
     } else if kind < 3 {
-        Op::Write(Width::Four, value)
+        body.push(task_at(p, at, Op::Write(Width::Four, value)))
     } else {
-        Op::Add(value)
+        body.push(task_at(p, at, Op::Add(value)))
     }
 }

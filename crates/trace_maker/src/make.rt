@@ -17,7 +17,7 @@ fn body(alloc: Global, seed: u64, procs: u32, refs: u32) -> Result<Body, NoMemor
     let mut draws = Draws { state: seed };
     let mut body = Body::new(alloc);
     for n in 0..refs {
-        body.push(draws.task(procs))?;
+        draws.add(procs, &mut body)?;
     }
     Ok(body)
 }

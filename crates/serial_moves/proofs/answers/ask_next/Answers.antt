@@ -18,6 +18,7 @@ ask-requires-clause-may g c κs within =
     let of = task_formed c.args.state.now.config c.args.state.now.past c.in-Some.task c.requires.steady.between.formed (sym c.in-Some.ensures) in
     let there = task_seat c.args.state.now c.in-Some.task c.requires.steady (sym c.in-Some.ensures) in
     record {
+      next = sym c.in-Some.ensures;
       may = record { steady = c.requires.steady; there = there; carrier = empty_at c.args.state.now c.args.carriers.now c.requires.carriers (c.in-Some.task.proc).0 c.index-carriers-task.result there };
       process = of.0;
       formed = of.1;
