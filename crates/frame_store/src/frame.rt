@@ -94,16 +94,14 @@ impl Frame {
 
     /// Puts the buffer back into its pool, if it isn't out.
     pub(crate) fn put_back(self, pool: &mut Pool)
-        requires some { IsSome self }
-        requires pool { IfSome self (λ b. b.pool ≡ pool.old.name) }
+        requires { IfSome self (λ b. b.pool ≡ pool.old.name) }
         ensures name { pool.new.name ≡ pool.old.name }
-        ensures left { pool.new.left ≡ pool.old.left + 1 }
-        ensures within { pool.new.left ≤ pool.new.name.size }
+        ensures left { IsSome self → pool.new.left ≡ pool.old.left + 1 }
     {
         match self.place {
             Place::Buffer(buf) => pool.put(buf),
             Place::Spare(spare) => pool.put_spare(spare),
-            Place::Out => unreachable!(),
+            Place::Out => {}
         }
     }
 

@@ -17,7 +17,6 @@ use vm_types::{BlockId, Config, NoMemory, PAGE_BYTES, Page, Pfn, Seat};
 
 /// The frames of memory with their buffers, the blocks of the disk, and the open transfers. An open
 /// transfer has its block with it; a read has the frame's buffer too, and a write a copy of it.
-#[derive(Drop)]
 pub struct Store<B: Block> {
     frames: Pfns,
     pool: Pool,
@@ -73,11 +72,11 @@ impl<B: Block> Store<B> {
         ensures flights { IfOk result (λ s. s.flights ≡ replicate config.now.frames None) }
     {
         let frames = Pfns::new(alloc, config.frames, config.bad.items())?;
+        let home = Home::new(alloc, config, blocks)?;
+        let flights = vec![in alloc; None; config.frames as usize]?;
         let spare = 16 * (config.procs.items().len() as u32 + 2);
         let mut pool = Pool::new(alloc, config.frames + spare)?;
         let buffers = zero_frames(alloc, &mut pool, config.frames)?;
-        let home = Home::new(alloc, config, blocks)?;
-        let flights = vec![in alloc; None; config.frames as usize]?;
         Ok(Store {
             frames,
             pool,
@@ -248,26 +247,41 @@ impl<B: Block> Store<B> {
         ensures blocks { map (λ (p : BlockId × B). Some p.1) result.items ≡ self.blocks }
     {
         let Store {
-            home,
-            pool,
+            frames: _,
+            mut pool,
             buffers,
-            ..
+            home,
+            flights: _,
         } = self;
-        close_pool(pool, buffers);
+        put_all_back(&mut pool, buffers);
+        pool.close();
         home.into_blocks()
     }
 }
 
-/// Puts the buffers of all frames back into their pool, and closes it.
-fn close_pool(mut pool: Pool, mut buffers: Vec<Frame>)
-    requires some { All IsSome buffers.items }
-    requires pool { All (λ (buf : Option Buffer). IfSome buf (λ b. b.pool ≡ pool.name)) buffers.items }
-    requires left { pool.name.size ≤ pool.left + length buffers.items }
+impl<B: Block> Drop for Store<B> {
+    /// The buffers go back into their pool, whose memory goes back too unless one is out with a lift.
+    fn drop(self) {
+        let Store {
+            frames: _,
+            mut pool,
+            buffers,
+            home: _,
+            flights: _,
+        } = self;
+        put_all_back(&mut pool, buffers);
+    }
+}
+
+/// Puts the buffers of all frames that aren't out back into their pool.
+fn put_all_back(pool: &mut Pool, mut buffers: Vec<Frame>)
+    requires { All (λ (buf : Option Buffer). IfSome buf (λ b. b.pool ≡ pool.old.name)) buffers.items }
+    ensures name { pool.new.name ≡ pool.old.name }
+    ensures left { All IsSome buffers.items → pool.new.left ≡ pool.old.left + length buffers.items }
 {
     for _ in 0..buffers.len() {
-        buffers.pop().unwrap().put_back(&mut pool);
+        buffers.pop().unwrap().put_back(pool);
     }
-    pool.close();
 }
 
 /// Puts a buffer into its place after a read, else back into its pool.
