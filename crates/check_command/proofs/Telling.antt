@@ -9,7 +9,9 @@ use Rattle.trace_reader.specs.Head.{Head, Configured, Faulty, head_of}
 use Rattle.trace_reader.specs.Head as head
 use Rattle.log_model.specs.Log.{IsTooLong}
 use Rattle.command_ends.specs.Concludes.{Concludes}
-use Rattle.command_ends.proofs.Concluding.{its_status, unfailed_status}
+use Rattle.command_ends.proofs.Concluding.{unfailed_status}
+use Rattle.command_calls.proofs.Calling.{HasCauses}
+use Rattle.command_calls.specs.Moves.{Moves}
 use Rattle.check_command.specs.CheckText.{HasLog, IsCheckAnswer, legal, at_fault, too_long}
 use Rattle.check_command.specs.CheckTells.{CheckTells, HasCheckInput, answered, faulty, unfinished, unread, no_memory}
 
@@ -56,6 +58,10 @@ module _ {before after : SourceView} where
   told_read status text (unread rose says) e = rose
   told_read status text (no_memory quiet) e = absurd (omega (arith, e))
 
+-- so with 3 a read failed, and 4 and 6 come of nothing that is told
+pub causes : (ends : Moves) → HasCauses (λ source depot. CheckTells source.before source.after) ends
+causes ends = record { not_four = not_four; read = told_read; made = λ status text told six. absurd (not_six status text told six) }
+
 -- what is said of the input whose bytes are told
 said : {left : SourceView} (P : List ℕ → Type 0) (i : HasCheckInput left) → IfSome left.left P → P i.text
 said P i says = subst (λ l. IfSome l P) i.known says
@@ -87,13 +93,6 @@ told_complete status text (no_memory quiet) i unfailed = inr (inr refl)
 
 -- the same of the status that is answered
 module _ {before after : SourceView} {sink sink' : SinkView} {result : ℕ} (c : Concludes (CheckTells before after) sink sink' result) where
-  pub read_status : result ≡ 3 → Rose before.failures after.failures
-  read_status three =
-      elim (its_status c) [
-        | inl is ↦ told_read c.status c.text c.tells_it (sym is ∙ three)
-        | inr four ↦ absurd (omega (arith, three, four))
-      ]
-
   pub complete_status : HasCheckInput before → (Rose before.failures after.failures → ⊥) → (Rose sink.failures sink'.failures → ⊥) → (Rose sink.stalls sink'.stalls → ⊥)
       → (result ≡ 0) ⊎ ((result ≡ 8) ⊎ (result ≡ 7))
   complete_status i unfailed written kept =

@@ -20,7 +20,7 @@ use Rattle.command_ends.specs.Ends.{Ends}
 use Rattle.command_ends.specs.FaultText.{fault_status, fault_told}
 use Rattle.command_ends.specs.Wrongs.{IsWrong, IsWrongText, TellsWrong, wrong_of}
 use Rattle.command_ends.specs.declared.wrong.Wrong.{Wrong}
-use Rattle.command_ends.proofs.Wronging.{fault_text_kept, fault_wrong, told_alone}
+use Rattle.command_ends.proofs.Wronging.{fault_text_kept, fault_wrong}
 use Rattle.outside_io.specs.LineText.{line_text}
 use Rattle.log_check.specs.Judged.{KeepsFault}
 use Rattle.check_command.specs.Answers.{Answer, CountsByCheck, IsRead, KeepsText, Says}
@@ -131,11 +131,6 @@ module _ {before after : SourceView} where
       → CountsByCheck judged before.failures after.failures → EndsJudged judged sink sink' result wrong → Concludes (TellsWrong (CheckTells before after) wrong) sink sink' result
   concludes_judged (Ok verdict) wrong says counts ends = concludes_verdict verdict wrong ends.1 says counts ends.0
   concludes_judged (Err fault) wrong says counts ends = concludes_fault fault wrong ends.1 says counts ends.0
-
-  -- what is told alone
-  pub judged_alone : {sink sink' : SinkView} {result : ℕ} (judged : Answer) (wrong : Option Wrong) → IfSome before.left (λ text. IsRead (Says judged text) after.left)
-      → CountsByCheck judged before.failures after.failures → EndsJudged judged sink sink' result wrong → Concludes (CheckTells before after) sink sink' result
-  judged_alone judged wrong says counts ends = told_alone (concludes_judged judged wrong says counts ends)
 
 -- and the first bytes of its faulty line
 pub judged_text_kept : (sink sink' : SinkView) (result : ℕ) (judged : Answer) (wrong : Option Wrong) (input : Option (List ℕ)) (kept : List ℕ) → EndsJudged judged sink sink' result wrong

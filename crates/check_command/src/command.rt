@@ -1,15 +1,17 @@
-ghost use Rattle.std.specs.Prelude.{◌≡◌, ◌≢◌, ◌⊎◌, ◌≤◌};
-ghost use Rattle.vm_types.specs.Counts.{Rose};
-ghost use Rattle.command_ends.specs.Concludes.{Concludes, HasTold, WasCut};
+ghost use Rattle.std.specs.Prelude.{◌≡◌, ◌⊎◌};
 ghost use Rattle.command_ends.specs.Ends.{Ends};
-ghost use Rattle.command_ends.specs.Wrongs.{IsWrongText, TellsWrong};
+ghost use Rattle.command_ends.specs.Wrongs.{IsWrongText};
+ghost use Rattle.command_calls.specs.CommandCall.{IsCommandCall, WithWrong};
+ghost use Rattle.command_calls.specs.Moves.{HasNoFailure, moves};
 ghost use Rattle.check_command.specs.CheckTells.{CheckTells, HasCheckInput};
 ghost use Rattle.check_command.specs.Verdicts.{EndsJudged, verdict_status, verdict_text, wrong_in_log};
 
 use crate::ending::{end_at_fault, end_legal, end_too_long};
 use crate::judging::judge_source;
 use arrayvec::ArrayVec;
+use command_calls::CallEnds;
 use command_ends::{Status, Wrong, end_fault, end_with, wrong_of};
+use disk_trait::Depot;
 use log_check::{CheckFault, Verdict};
 use outside_io::{Sink, Source};
 use std::alloc::Global;
@@ -62,34 +64,22 @@ fn conclude<K: Sink>(
 /// says so; 3 only if a read failed, 4 only if a write failed or took nothing, 7 if memory ran out. It answers
 /// besides what is wrong with the input, if anything is, and keeps the first 80 bytes of the faulty line in
 /// `kept`.
-pub fn check<S: Source, K: Sink>(
+pub fn check<S: Source, K: Sink, D: Depot>(
     alloc: Global,
-    source: &mut S,
-    sink: &mut K,
+    ends: &mut CallEnds<S, K, D>,
     kept: &mut ArrayVec<u8, 80>,
 ) -> (Status, Option<Wrong>)
-    // A status with the text that goes with it, what is wrong with the input by that text, and how the
-    // text was written.
-    ensures outcome { Concludes (TellsWrong (CheckTells (S.seen source.old) (S.seen source.new)) result.1)
-        (K.seen sink.old) (K.seen sink.new) result.0.0 }
-    // So with every status but 4 what was written is the text that goes with it, and no count of the
-    // sink changed.
-    ensures told { result.0.0 ≢ 4 → HasTold (CheckTells (S.seen source.old) (S.seen source.new))
-        (K.seen sink.old) (K.seen sink.new) result.0.0 }
-    ensures unfailed { result.0.0 ≢ 4 → ((K.seen sink.new).failures ≡ (K.seen sink.old).failures) × ((K.seen sink.new).stalls ≡ (K.seen sink.old).stalls) }
-    // With status 4 it is a proper prefix of a text that goes with another status.
-    ensures cut { result.0.0 ≡ 4 → WasCut (CheckTells (S.seen source.old) (S.seen source.new))
-        (K.seen sink.old) (K.seen sink.new) }
-    ensures read_fault { result.0.0 ≡ 3 → Rose (S.seen source.old).failures (S.seen source.new).failures }
-    ensures write_fault { result.0.0 ≡ 4 → Rose (K.seen sink.old).failures (K.seen sink.new).failures ⊎ Rose (K.seen sink.old).stalls (K.seen sink.new).stalls }
-    // If the input is a trace and a log that isn't too long, and no count rises, there is a verdict on the log,
+    // A status with the text that goes with it, and what is wrong with the input by that text.
+    ensures call { IsCommandCall (WithWrong (λ source depot. CheckTells source.before source.after) result.1)
+        (moves S.seen K.seen D.seen ends.old ends.new) result.0.0 }
+    // If the input is a trace and a log that isn't too long, and nothing fails, there is a verdict on the log,
     // or memory ran out.
-    ensures complete { HasCheckInput (S.seen source.old)
-        → (Rose (S.seen source.old).failures (S.seen source.new).failures → ⊥) → (Rose (K.seen sink.old).failures (K.seen sink.new).failures → ⊥)
-        → (Rose (K.seen sink.old).stalls (K.seen sink.new).stalls → ⊥) → (result.0.0 ≡ 0) ⊎ ((result.0.0 ≡ 8) ⊎ (result.0.0 ≡ 7)) }
+    ensures complete { HasCheckInput (S.seen ends.old.source) → HasNoFailure (moves S.seen K.seen D.seen ends.old ends.new)
+        → (result.0.0 ≡ 0) ⊎ ((result.0.0 ≡ 8) ⊎ (result.0.0 ≡ 7)) }
     // Of the faulty line the first bytes were kept.
-    ensures kept { IsWrongText result.1 (S.seen source.old).left kept.new.items }
-    ensures faults_later { (S.seen source.old).failures ≤ (S.seen source.new).failures }
+    ensures kept { IsWrongText result.1 (S.seen ends.old.source).left kept.new.items }
+    ensures no_block { ends.new.depot ≡ ends.old.depot }
 {
-    conclude(judge_source(alloc, source, kept), sink)
+    let judged = judge_source(alloc, &mut ends.source, kept);
+    conclude(judged, &mut ends.output)
 }

@@ -1,2 +1,3 @@
 pub mod Apps
 pub mod Options
+pub mod Numbers

@@ -1,4 +1,4 @@
-ghost use Rattle.std.specs.Prelude.{◌≡◌, ◌∷◌, [], All, Any, IsUtf8, true, false};
+ghost use Rattle.std.specs.Prelude.{◌≡◌, ◌∷◌, [], All, Any, IsUtf8, MatchOption, map, true, false};
 ghost use Rattle.std.specs.Str.{bytes_eq};
 
 // Whether the word is two hyphens and nothing else.
@@ -21,4 +21,13 @@ pub fn has_end<'a>(words: &[&'a str]) -> bool
         }
     }
     false
+}
+
+/// The first word, and those behind it; none if there is no word. Doesn't allocate.
+pub fn first_word<'a>(words: &'a [&'a str]) -> Option<(&'a [u8], &'a [&'a str])>
+    ensures { MatchOption result (map (λ word. word.now) words.entry.now ≡ [])
+        (λ p. map (λ word. word.now) words.entry.now ≡ p.0.now ∷ map (λ word. word.now) p.1.now) }
+{
+    let (first, rest) = words.split_first()?;
+    Some((first.as_bytes(), rest))
 }

@@ -1,7 +1,8 @@
 use arrayvec::ArrayVec;
 use check_command::check;
+use disk_trait::MemoryDepot;
 use outside_io::{MemorySink, MemorySource};
-use replay_cli::Status;
+use replay_cli::{CallEnds, Status};
 use std::test::Fail;
 
 // A trace of one process without requests.
@@ -28,14 +29,17 @@ STATUS 0\n";
     for (behind, failing, status, written) in table {
         let mut text = TRACE.to_vec(alloc)?;
         text.extend_from_slice(behind)?;
-        let mut source = MemorySource::new(text, Vec::new(alloc));
         let fails = vec![in alloc; failing]?;
-        let mut sink = MemorySink::new(alloc, 100, fails, Vec::new(alloc))?;
+        let mut ends = CallEnds {
+            source: MemorySource::new(text, Vec::new(alloc)),
+            output: MemorySink::new(alloc, 100, fails, Vec::new(alloc))?,
+            depot: MemoryDepot::new(alloc, Vec::new(alloc)),
+        };
         assert_eq!(rt;
-            check(alloc, &mut source, &mut sink, &mut ArrayVec::new()).0,
+            check(alloc, &mut ends, &mut ArrayVec::new()).0,
             Status(status)
         );
-        assert_eq!(rt; sink.taken(), written);
+        assert_eq!(rt; ends.output.taken(), written);
     }
     Ok(())
 }

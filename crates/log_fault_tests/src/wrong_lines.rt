@@ -5,7 +5,7 @@ use disk_trait::MemoryDepot;
 use outside_io::{MemorySink, MemorySource};
 use program_call::{ListedArguments, run_and_explain};
 use program_runs::{FIRST_RUN, FIRST_RUN_TEXT};
-use replay_cli::Status;
+use replay_cli::{CallEnds, Status};
 use std::alloc::Global;
 use std::sync::Wait;
 use std::test::Fail;
@@ -618,19 +618,13 @@ fn said<R: Threads + Wait + Sync>(
 ) -> Result<(Status, Vec<u8>), NoMemory> {
     let words: &[&[u8]] = &[b"neqysbar", b"check"];
     let mut arguments = ListedArguments::new(words);
-    let mut source = MemorySource::new(Vec::from_slice(alloc, text)?, Vec::new(alloc));
-    let mut output = MemorySink::new(alloc, 1000, Vec::new(alloc), Vec::new(alloc))?;
+    let mut ends = CallEnds {
+        source: MemorySource::new(Vec::from_slice(alloc, text)?, Vec::new(alloc)),
+        output: MemorySink::new(alloc, 1000, Vec::new(alloc), Vec::new(alloc))?,
+        depot: MemoryDepot::new(alloc, Vec::new(alloc)),
+    };
     let mut messages = MemorySink::new(alloc, 2000, Vec::new(alloc), Vec::new(alloc))?;
-    let mut depot = MemoryDepot::new(alloc, Vec::new(alloc));
-    let ended = run_and_explain(
-        rt,
-        alloc,
-        &mut arguments,
-        &mut source,
-        &mut output,
-        &mut messages,
-        &mut depot,
-    );
+    let ended = run_and_explain(rt, alloc, &mut arguments, &mut ends, &mut messages);
     Ok((ended, Vec::from_slice(alloc, messages.taken())?))
 }
 

@@ -1,17 +1,13 @@
 -- What a call from outside does: the words and the input come as bytes, and the text goes into a
 -- buffer. Source: this project's own.
-use Rattle.std.specs.Prelude.{◌≡◌, ℕ, List, [], ◌++◌, length, take, drop}
-use Rattle.vm_types.specs.BlockView.{Retired}
-use Rattle.vm_types.specs.Moved.{moved}
-use Rattle.replay_cli.specs.Commands.{Told}
-use Rattle.program_call.specs.ProgramTells.{bytes_view, memory_view}
+use Rattle.std.specs.Prelude.{◌≡◌, ℕ, List, ◌++◌, length, take, drop}
+use Rattle.program_call.specs.ProgramTells.{TellsOfBytes}
 use Rattle.neqysbar_c.specs.Words.{IsCommandLine}
 
 -- a command line was run over the input, and the text goes with its status
 abbrev pub HasRun : List ℕ → List ℕ → ℕ → List ℕ → Type 0
 HasRun line input status text =
-    (words : List (List ℕ)) × IsCommandLine line words × ((rest : List ℕ) × ((blocks : List Retired)
-    × Told words (moved (bytes_view input) (bytes_view rest)) (moved (memory_view []) (memory_view blocks)) status text))
+    (words : List (List ℕ)) × IsCommandLine line words × TellsOfBytes words input status text
 
 -- a buffer with the text's first bytes, as many as it has room for, and behind a shorter text as it was
 abbrev pub filled : List ℕ → List ℕ → List ℕ

@@ -1,7 +1,8 @@
 ghost use Rattle.std.specs.Prelude.{◌≡◌, ◌≢◌, All, IfOk, length};
 ghost use Rattle.std.specs.Str.{IsUtf8};
 ghost use Rattle.program_call.specs.ProgramTells.{bytes_view};
-ghost use Rattle.replay_cli.specs.Commands.{Asks, HasInput, IsDoneStatus};
+ghost use Rattle.replay_cli.specs.Commands.{Asks, HasInput, IsDoneStatus, Offers};
+ghost use Rattle.replay_cli.specs.declared.ways.Way.{Way};
 ghost use Rattle.replay_cli.specs.declared.words.Command.{Command};
 ghost use Rattle.neqysbar_c.specs.Call.{HasRun, filled};
 ghost use Rattle.neqysbar_c.specs.Words.{words_of};
@@ -22,7 +23,7 @@ pub(crate) fn run_line(
     input: &[u8],
 ) -> Result<(Status, Vec<u8>), NoMemory>
     ensures run { IfOk result (λ run. HasRun line.now input.now run.0.0 run.1.items) }
-    ensures complete { (command : Command) → All IsUtf8 (words_of line.now) → Asks (words_of line.now) command → HasInput command (bytes_view input.now)
+    ensures complete { (command : Command) → All IsUtf8 (words_of line.now) → Asks (words_of line.now) command → Offers Way.One command → HasInput command (bytes_view input.now)
         → IfOk result (λ run. IsDoneStatus command run.0.0) }
     ensures no_failure { IfOk result (λ run. (run.0.0 ≢ 3) × ((run.0.0 ≢ 4) × (run.0.0 ≢ 6))) }
 {

@@ -5,7 +5,8 @@
 ghost use Rattle.std.specs.Prelude.{◌≡◌, ◌≢◌, All, length};
 ghost use Rattle.std.specs.Str.{IsUtf8};
 ghost use Rattle.program_call.specs.ProgramTells.{bytes_view};
-ghost use Rattle.replay_cli.specs.Commands.{Asks, HasInput, IsDoneStatus};
+ghost use Rattle.replay_cli.specs.Commands.{Asks, HasInput, IsDoneStatus, Offers};
+ghost use Rattle.replay_cli.specs.declared.ways.Way.{Way};
 ghost use Rattle.replay_cli.specs.declared.words.Command.{Command};
 ghost use Rattle.neqysbar_c.specs.Call.{IsCall, filled};
 ghost use Rattle.neqysbar_c.specs.Words.{words_of};
@@ -40,7 +41,7 @@ pub extern "C" fn neqysbar_run(
     // What is written is the text that goes with the status, by the words and the input.
     ensures run { IsCall line.now input.now output.old output.new number.new result }
     // If the words ask for a command and the bytes are what it reads, it did what was asked, or memory ran out.
-    ensures complete { (command : Command) → All IsUtf8 (words_of line.now) → Asks (words_of line.now) command → HasInput command (bytes_view input.now)
+    ensures complete { (command : Command) → All IsUtf8 (words_of line.now) → Asks (words_of line.now) command → Offers Way.One command → HasInput command (bytes_view input.now)
         → IsDoneStatus command result }
     ensures no_failure { (result ≢ 3) × ((result ≢ 4) × (result ≢ 6)) }
 {

@@ -1,11 +1,12 @@
 -- What the program tells, from what its command tells.
-use Rattle.std.proofs.Common.{◌≡◌, ◌≢◌, ℕ, ◌<◌, ◌≤◌, List, [], ◌∷◌, length, take, drop, refl, sym, ◌∙◌, subst, arith, inl, inr, All}
+use Rattle.std.proofs.Common.{◌≡◌, ◌≢◌, ℕ, ◌≤◌, List, [], ◌∷◌, length, take, drop, refl, sym, ◌∙◌, subst, arith, inl, inr, All}
 use Rattle.std.specs.Prelude.{None, Some, IfSome}
 use Rattle.std.specs.declared.option.Option.{Option}
 use Rattle.std.specs.Str.{IsUtf8}
 use Rattle.std.specs.Io.KnownBytes.{Appends, Keeps}
 use Rattle.std.proofs.KnownBytes.{Appends-kept}
 use Rattle.std.proofs.lemmas.List.{take_all}
+use Rattle.std.proofs.Math.Nat.{le_refl}
 use Rattle.vm_types.specs.Moved.{Moved, moved}
 use Rattle.outside_io.specs.Views.{SourceView, SinkView}
 use Rattle.run_words.specs.Text.{status_line}
@@ -13,9 +14,12 @@ use Rattle.command_ends.specs.Ends.{Ends}
 use Rattle.command_ends.specs.Wrongs.{IsWrong}
 use Rattle.command_ends.proofs.Wronging.{seven_right}
 use Rattle.replay_cli.specs.Commands.{Told}
+use Rattle.replay_cli.specs.declared.ways.Way.TheVariants.{Many}
 use Rattle.disk_trait.specs.DepotView.{DepotView}
-use Rattle.replay_command.specs.ReplayCall.{BeginsReplay}
-use Rattle.program_call.specs.ProgramTells.{ProgramTells, WordsTold, ran, replayed, no_words}
+use Rattle.command_calls.specs.CommandCall.{IsCommandCall}
+use Rattle.command_calls.specs.Moves.{Moves}
+use Rattle.command_calls.proofs.Calling.{HasCauses, call_by, is_call}
+use Rattle.program_call.specs.ProgramTells.{ProgramTells, ran, no_words}
 
 -- all words of which these are those after the program's own name
 all_words : (told : Option (List (List ℕ))) (copied : List (List ℕ)) → IfSome told (λ all. copied ≡ drop 1 all)
@@ -25,43 +29,32 @@ all_words (Some all) copied are = (all, refl, sym are)
 
 -- the words are handed over
 pub run_tells : (told : Option (List (List ℕ))) (copied words : List (List ℕ)) (source : Moved SourceView) (depot : Moved DepotView) (status : ℕ) (text : List ℕ)
-    → IfSome told (λ all. copied ≡ drop 1 all) → words ≡ copied → All IsUtf8 copied → WordsTold words source depot status text → ProgramTells told source depot status text
-run_tells told copied words source depot status text are same utf8 (inl tells) =
+    → IfSome told (λ all. copied ≡ drop 1 all) → words ≡ copied → All IsUtf8 copied → Told Many words source depot status text → ProgramTells told source depot status text
+run_tells told copied words source depot status text are same utf8 tells =
     let all = all_words told copied are in
-    ran all.0 words status text all.1 (inl (same ∙ sym all.2, subst (All IsUtf8) (sym all.2) utf8)) tells.0 tells.1
-run_tells told copied words source depot status text are same utf8 (inr tells) =
-    let all = all_words told copied are in
-    replayed all.0 words status text all.1 (inl (same ∙ sym all.2, subst (All IsUtf8) (sym all.2) utf8)) tells.0 tells.1
-
--- no words begin with none
-none_begin : (words : List (List ℕ)) → words ≡ [] → BeginsReplay words → ⊥
-none_begin words none begins = absurd (no_first (sym none ∙ begins.1)) where
-  no_first : {first : List ℕ} {rest : List (List ℕ)} → [] ≡ first ∷ rest → ⊥
-  no_first e = cc
+    ran all.0 words status text all.1 (inl (same ∙ sym all.2, subst (All IsUtf8) (sym all.2) utf8)) tells
 
 -- one of them isn't UTF-8
 pub none_tells : (told : Option (List (List ℕ))) (copied words : List (List ℕ)) (source : Moved SourceView) (depot : Moved DepotView) (status : ℕ) (text : List ℕ)
-    → IfSome told (λ all. copied ≡ drop 1 all) → words ≡ [] → (All IsUtf8 copied → ⊥) → Told words source depot status text → ProgramTells told source depot status text
+    → IfSome told (λ all. copied ≡ drop 1 all) → words ≡ [] → (All IsUtf8 copied → ⊥) → Told Many words source depot status text → ProgramTells told source depot status text
 none_tells told copied words source depot status text are none bad tells =
     let all = all_words told copied are in
-    ran all.0 words status text all.1 (inr (none, λ utf8. bad (subst (All IsUtf8) all.2 utf8))) (none_begin words none) tells
+    ran all.0 words status text all.1 (inr (none, λ utf8. bad (subst (All IsUtf8) all.2 utf8))) tells
 
 -- memory ran out before
-pub no_words_told : {told : Option (List (List ℕ))} {source : SourceView} {depot : DepotView} {before after : SinkView} {result : ℕ} → Ends before after 7 (status_line 7) result
-    → result ≢ 4 → (text : List ℕ) × ProgramTells told (moved source source) (moved depot depot) result text × Appends before.taken after.taken text
-no_words_told {told} {source} {depot} ends no_four =
-    elim ends.how [
-      | inl whole ↦ (status_line 7, subst (λ status. ProgramTells told (moved source source) (moved depot depot) status (status_line 7)) (sym whole.0) (no_words refl refl), whole.1)
-      | inr cut ↦ absurd (no_four cut.0)
-    ]
+no_words_causes : (ends : Moves) → HasCauses (λ source depot status text. (status ≡ 7) × (text ≡ status_line 7)) ends
+no_words_causes ends = record {
+  not_four = λ status text is four. omega (arith, is.0, four);
+  read = λ status text is three. absurd (omega (arith, is.0, three));
+  made = λ status text is six. absurd (omega (arith, is.0, six));
+}
 
-pub no_words_cut : {told : Option (List (List ℕ))} {source : SourceView} {depot : DepotView} {before after : SinkView} {result : ℕ} → Ends before after 7 (status_line 7) result
-    → result ≡ 4 → (status : ℕ) × ((text : List ℕ) × ((n : ℕ) × ProgramTells told (moved source source) (moved depot depot) status text × (n < length text) × Appends before.taken after.taken (take n text)))
-no_words_cut ends four =
-    elim ends.how [
-      | inl whole ↦ absurd (omega (arith, whole.0, four))
-      | inr cut ↦ (7, (status_line 7, (cut.1.0, no_words refl refl, cut.1.1, cut.1.2)))
-    ]
+pub no_words_call : {told : Option (List (List ℕ))} {source : SourceView} {depot : DepotView} {before after : SinkView} {result : ℕ} → Ends before after 7 (status_line 7) result
+    → IsCommandCall (ProgramTells told) (record { source = moved source source; output = moved before after; depot = moved depot depot }) result
+no_words_call {told} {source} {depot} ends =
+    call_by (λ n text is. subst (λ (m : ℕ). ProgramTells told (moved source source) (moved depot depot) m text) (sym is.0)
+    (subst (λ (t : List ℕ). ProgramTells told (moved source source) (moved depot depot) 7 t) (sym is.1) (no_words refl refl)))
+    (is_call (no_words_causes _) (record { status = 7; text = status_line 7; tells_it = (refl, refl); ends = ends }) (le_refl _) (le_refl _))
 
 -- and nothing is wrong
 pub no_words_right : {before after : SinkView} {result : ℕ} → Ends before after 7 (status_line 7) result

@@ -1,11 +1,11 @@
-ghost use Rattle.std.specs.Prelude.{◌≡◌, ◌≢◌, ◌⊎◌, [], List, ℕ, Some, IfOk, refl};
-ghost use Rattle.vm_types.specs.BlockView.{Retired};
-ghost use Rattle.vm_types.specs.Moved.{moved};
-ghost use Rattle.replay_cli.specs.Commands.{Asks, HasInput, IsDoneStatus, Told, texts};
+ghost use Rattle.std.specs.Prelude.{◌≡◌, ◌≢◌, Some, IfOk, refl};
+ghost use Rattle.replay_cli.specs.Commands.{Asks, HasInput, IsDoneStatus, Offers, texts};
+ghost use Rattle.replay_cli.specs.declared.ways.Way.{Way};
 ghost use Rattle.replay_cli.specs.declared.words.Command.{Command};
-ghost use Rattle.program_call.specs.ProgramTells.{bytes_view, memory_view};
+ghost use Rattle.program_call.specs.ProgramTells.{TellsOfBytes, bytes_view};
 
 use crate::sure_depot::SureDepot;
+use command_calls::CallEnds;
 use command_ends::Status;
 use outside_io::{Source, VecSink};
 use replay_cli::run_one;
@@ -62,20 +62,21 @@ impl Source for BytesSource<'_> {
 pub fn run_bytes(alloc: Global, words: &[&str], input: &[u8]) -> Result<(Status, Vec<u8>), NoMemory>
     // The headline: what is written is the text that goes with the status, by the words, the bytes and
     // the blocks that were given back.
-    ensures told { IfOk result (λ run. (rest : List ℕ) × ((blocks : List Retired) × Told (texts words.now)
-        (moved (bytes_view input.now) (bytes_view rest)) (moved (memory_view []) (memory_view blocks)) run.0.0 run.1.items)) }
+    ensures told { IfOk result (λ run. TellsOfBytes (texts words.now) input.now run.0.0 run.1.items) }
     // If the words ask for a command and the bytes are what it reads, it did what was asked, with dirty
     // pages left or with none, or found a line of a log that isn't legal, or memory ran out.
-    ensures complete { (command : Command) → Asks (texts words.now) command → HasInput command (bytes_view input.now)
+    ensures complete { (command : Command) → Asks (texts words.now) command → Offers Way.One command → HasInput command (bytes_view input.now)
         → IfOk result (λ run. IsDoneStatus command run.0.0) }
     ensures no_failure { IfOk result (λ run. (run.0.0 ≢ 3) × (run.0.0 ≢ 4) × (run.0.0 ≢ 6)) }
 {
-    let mut source = BytesSource::new(input);
-    let mut sink = VecSink::new(alloc);
-    let mut depot = SureDepot::new(alloc);
-    let status = run_one(alloc, words, &mut source, &mut sink, &mut depot);
+    let mut ends = CallEnds {
+        source: BytesSource::new(input),
+        output: VecSink::new(alloc),
+        depot: SureDepot::new(alloc),
+    };
+    let status = run_one(alloc, words, &mut ends);
     if status.0 == 4 {
         return Err(NoMemory);
     }
-    Ok((status, sink.into_bytes()))
+    Ok((status, ends.output.into_bytes()))
 }

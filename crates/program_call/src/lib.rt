@@ -11,4 +11,4 @@ mod words;
 
 pub use arguments::{Arguments, EnvArguments, ListedArguments};
 pub use bytes::{BytesSource, run_bytes};
-pub use program::{run_and_explain, run_program};
+pub use program::run_and_explain;

@@ -11,7 +11,9 @@ mod of_command_ends;
 #[cfg(test)]
 mod of_command_messages;
 #[cfg(test)]
-mod of_make_summary;
+mod of_command_options;
+#[cfg(test)]
+mod of_run_commands;
 #[cfg(test)]
 mod of_study_command;
 #[cfg(test)]

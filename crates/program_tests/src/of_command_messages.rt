@@ -25,8 +25,14 @@ fn says_what_is_wrong_with_a_command_line(rt: HostRuntime) -> Result<(), Fail> {
         (&["serial", "first-run.trace"], serial),
         (&["replay", "first-run.trace"], replay),
         (&["check", "x"], check),
-        (&["study"], "neqysbar: --process is missing\n"),
-        (&["study", "--process=A"], "neqysbar: --frames is missing\n"),
+        (
+            &["study"],
+            "neqysbar: --process is missing: study takes --process X and --frames K, each once, and no other word\n",
+        ),
+        (
+            &["study", "--process=A"],
+            "neqysbar: --frames is missing: study takes --process X and --frames K, each once, and no other word\n",
+        ),
         (
             &["study", "--process", "a", "--frames=8"],
             "neqysbar: --process is A to P\n",
@@ -50,7 +56,7 @@ fn says_what_is_wrong_with_a_command_line(rt: HostRuntime) -> Result<(), Fail> {
         ),
         (
             &["make", "--seed=1", "--procs=16"],
-            "neqysbar: --refs is missing\n",
+            "neqysbar: --refs is missing: make takes --seed N, --procs P and --refs R, each once, and no other word\n",
         ),
         (
             &["make", "--refs=0", "--seed=1", "--procs=2"],
@@ -150,20 +156,20 @@ fn says_what_stands_in_the_place_of_a_trace(rt: HostRuntime) -> Result<(), Fail>
 #[test]
 fn marks_the_word_that_is_wrong(rt: HostRuntime) -> Result<(), Fail> {
     let alloc = rt.alloc();
-    let table: [(u8, Cause, Bound, &[u8], &str); 13] = [
+    let table: [(u8, Cause, Bound, &[u8], &str); 18] = [
         (
             1,
             Cause::OutOfRange,
             Bound::HiLimit(256),
             b"BODY",
-            "WAITLIMIT is 256, so HILIMIT is at most 256\n    BODY\n    ^\n",
+            "WAITLIMIT is 256, so HILIMIT is at most 256; without lines PARAM they are 256 and 128\n    BODY\n    ^\n",
         ),
         (
             1,
             Cause::OutOfRange,
             Bound::FramesAndLocks(16_384),
             b"BODY",
-            "FRAMES is 16384, so each extent, the bad frames, the locks of all processes and 2 are at most 16384\n    BODY\n    ^\n",
+            "FRAMES is 16384, so the greatest extent, the bad frames, the locks of all processes and 2 are together at most 16384\n    BODY\n    ^\n",
         ),
         (
             3,
@@ -177,49 +183,84 @@ fn marks_the_word_that_is_wrong(rt: HostRuntime) -> Result<(), Fail> {
             Cause::UnknownWord,
             Bound::Free,
             b"\tPARAM  PFD 9",
-            "the word is none of those that may stand in its place\n     PARAM  PFD 9\n            ^\n",
+            "a parameter is PFC, HILIMIT, LOLIMIT, WAITLIMIT, WRTCLUSTER, FREELIM, FREEGOAL, AWSTIME, PFRATH, PFRATL, WSINC, WSDEC, AWSMIN or BORROWLIM\n     PARAM  PFD 9\n            ^\n",
         ),
         (
             2,
             Cause::Misplaced,
             Bound::Free,
             b"FRAMES",
-            "the line has too many or too few words\n    FRAMES\n          ^\n",
+            "the line has too many or too few words: its form is FRAMES n\n    FRAMES\n          ^\n",
         ),
         (
             1,
             Cause::Misplaced,
             Bound::Free,
             b"FRAMES 8",
-            "the line doesn't belong here\n    FRAMES 8\n    ^\n",
+            "the line doesn't belong here: FRAMES is next behind VMTRACE or LONGTRACE, and there is one\n    FRAMES 8\n    ^\n",
         ),
         (
             2,
             Cause::Misplaced,
             Bound::Next(1),
             b"PROCESS C 4 4 4 0",
-            "processes are declared in the order of their letters, from A on\n    PROCESS C 4 4 4 0\n            ^\n",
+            "the next process is B: they are declared in the order of their letters\n    PROCESS C 4 4 4 0\n            ^\n",
         ),
         (
             3,
             Cause::Unaligned,
             Bound::Multiple(512),
             b"MAPZERO A 1 1 UW",
-            "the address has 1 to 8 hexadecimal digits, and is a multiple of 512\n    MAPZERO A 1 1 UW\n              ^\n",
+            "the address is a multiple of 512, which is 200 in hexadecimal digits\n    MAPZERO A 1 1 UW\n              ^\n",
         ),
         (
             6,
             Cause::OutOfRange,
             Bound::Pages(1),
             b"MAPSEC A 0 1 LIB 1 UW",
-            "the section has 1 pages, and those from this page on are among them\n    MAPSEC A 0 1 LIB 1 UW\n                     ^\n",
+            "the first page is 1, and has to be below the section's number of pages, which is 1\n    MAPSEC A 0 1 LIB 1 UW\n                     ^\n",
         ),
         (
             6,
             Cause::OutOfRange,
             Bound::Locks(4),
             b"PROCESS A 4 4 4 3",
-            "the limit is 4, so the locks and 2 are at most 4\n    PROCESS A 4 4 4 3\n                    ^\n",
+            "the number of locks is 3, and has to be at most the limit less 2, which is 2\n    PROCESS A 4 4 4 3\n                    ^\n",
+        ),
+        (
+            6,
+            Cause::OutOfRange,
+            Bound::Locks(1),
+            b"PROCESS A 1 4 4 0",
+            "the limit is 1, and has to be at least 2\n    PROCESS A 1 4 4 0\n              ^\n",
+        ),
+        (
+            6,
+            Cause::OutOfRange,
+            Bound::Pages(1),
+            b"MAPSEC A 0 2 LIB 0 UW",
+            "the number of pages is 2, and has to be at most what the section has from there on, which is 1\n    MAPSEC A 0 2 LIB 0 UW\n               ^\n",
+        ),
+        (
+            3,
+            Cause::UnknownWord,
+            Bound::Free,
+            b"SECTION LIB PAGED 1",
+            "version 1 doesn't have this word, and version 2 does: VMTRACE 2 or LONGTRACE 2\n    SECTION LIB PAGED 1\n                ^\n",
+        ),
+        (
+            4,
+            Cause::OutOfRange,
+            Bound::Within(0, 65_535),
+            b"A W2 00000000 1FFFF",
+            "the value has 1 to 8 hexadecimal digits, and is from 0 to FFFF\n    A W2 00000000 1FFFF\n                  ^\n",
+        ),
+        (
+            3,
+            Cause::Misplaced,
+            Bound::Free,
+            b"A CRETVA",
+            "the line has too many or too few words: its form is x CRETVA address n protection\n    A CRETVA\n            ^\n",
         ),
         (
             1,

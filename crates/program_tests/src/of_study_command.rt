@@ -1,8 +1,10 @@
 use arrayvec::ArrayVec;
+use command_calls::CallEnds;
 use command_ends::Status;
+use disk_trait::MemoryDepot;
 use outside_io::{MemorySink, MemorySource};
 use std::test::Fail;
-use study_command::{Study, first_word, study_of, study_trace};
+use study_command::{Study, study_of, study_trace};
 use vm_types::Proc;
 
 #[test]
@@ -47,8 +49,6 @@ fn reads_the_words(rt: HostRuntime) -> Result<(), Fail> {
     for words in refused {
         assert_eq!(rt; study_of(rt.alloc(), words), Ok(None));
     }
-    let words = ["--frames", "12"];
-    assert!(rt; matches!(first_word(&words), Some((b"--frames", _))));
     Ok(())
 }
 
@@ -57,19 +57,22 @@ fn reads_the_words(rt: HostRuntime) -> Result<(), Fail> {
 fn studies_a_trace(rt: HostRuntime) -> Result<(), Fail> {
     let alloc = rt.alloc();
     let text = b"VMTRACE 1\nFRAMES 8\nPAGEFILE 4\nPROCESS A 4 4 4 0\nBODY\nA R4 00000200\nEND\n";
-    let mut source = MemorySource::new(Vec::from_slice(alloc, text)?, Vec::new(alloc));
-    let mut sink = MemorySink::new(alloc, 20_000, Vec::new(alloc), Vec::new(alloc))?;
+    let mut ends = CallEnds {
+        source: MemorySource::new(Vec::from_slice(alloc, text)?, Vec::new(alloc)),
+        output: MemorySink::new(alloc, 20_000, Vec::new(alloc), Vec::new(alloc))?,
+        depot: MemoryDepot::new(alloc, Vec::new(alloc)),
+    };
     let study = Study {
         process: Proc(0),
         frames: 1024,
     };
     assert_eq!(rt;
-        study_trace(alloc, study, &mut source, &mut sink, &mut ArrayVec::new()).0,
+        study_trace(alloc, study, &mut ends, &mut ArrayVec::new()).0,
         Status(0)
     );
     let front = b"PAGES 1 DISTINCT 1\nRING 1024 1\nLRU 1 1\nLRU 2 1\n";
-    assert!(rt; sink.taken().starts_with(front));
+    assert!(rt; ends.output.taken().starts_with(front));
     let back = b"LRU 1024 1\nLEAST 1024 1\nSTATUS 0\n";
-    assert!(rt; sink.taken().ends_with(back));
+    assert!(rt; ends.output.taken().ends_with(back));
     Ok(())
 }

@@ -1,7 +1,7 @@
 use disk_trait::MemoryDepot;
 use outside_io::{MemorySink, MemorySource};
-use program_call::{EnvArguments, ListedArguments, run_and_explain, run_bytes, run_program};
-use replay_cli::Status;
+use program_call::{EnvArguments, ListedArguments, run_and_explain, run_bytes};
+use replay_cli::{CallEnds, Status};
 use std::alloc::Global;
 use std::sync::Wait;
 use std::test::Fail;
@@ -24,19 +24,15 @@ fn outcome<R: Threads + Wait + Sync>(
     fails: &[u32],
 ) -> Result<(Status, Vec<u8>), NoMemory> {
     let mut arguments = ListedArguments::new(words);
-    let mut source = MemorySource::new(Vec::from_slice(alloc, TRACE)?, Vec::new(alloc));
     let fails = Vec::from_slice(alloc, fails)?;
-    let mut output = MemorySink::new(alloc, 1000, fails, Vec::new(alloc))?;
-    let mut depot = MemoryDepot::new(alloc, Vec::new(alloc));
-    let status = run_program(
-        rt,
-        alloc,
-        &mut arguments,
-        &mut source,
-        &mut output,
-        &mut depot,
-    );
-    Ok((status, Vec::from_slice(alloc, output.taken())?))
+    let mut ends = CallEnds {
+        source: MemorySource::new(Vec::from_slice(alloc, TRACE)?, Vec::new(alloc)),
+        output: MemorySink::new(alloc, 1000, fails, Vec::new(alloc))?,
+        depot: MemoryDepot::new(alloc, Vec::new(alloc)),
+    };
+    let mut messages = MemorySink::new(alloc, 2000, Vec::new(alloc), Vec::new(alloc))?;
+    let status = run_and_explain(rt, alloc, &mut arguments, &mut ends, &mut messages);
+    Ok((status, Vec::from_slice(alloc, ends.output.taken())?))
 }
 
 // The words, the failing calls of the output, the status and the text. Five lines are five writes,
@@ -77,17 +73,13 @@ fn runs_bytes(rt: HostRuntime) -> Result<(), Fail> {
 fn takes_the_words_of_the_process(rt: HostRuntime) -> Result<(), Fail> {
     let alloc = rt.alloc();
     let mut arguments = EnvArguments::new(&rt);
-    let mut source = MemorySource::new(Vec::from_slice(alloc, TRACE)?, Vec::new(alloc));
-    let mut output = MemorySink::new(alloc, 1000, Vec::new(alloc), Vec::new(alloc))?;
-    let mut depot = MemoryDepot::new(alloc, Vec::new(alloc));
-    let status = run_program(
-        &rt,
-        alloc,
-        &mut arguments,
-        &mut source,
-        &mut output,
-        &mut depot,
-    );
+    let mut ends = CallEnds {
+        source: MemorySource::new(Vec::from_slice(alloc, TRACE)?, Vec::new(alloc)),
+        output: MemorySink::new(alloc, 1000, Vec::new(alloc), Vec::new(alloc))?,
+        depot: MemoryDepot::new(alloc, Vec::new(alloc)),
+    };
+    let mut messages = MemorySink::new(alloc, 2000, Vec::new(alloc), Vec::new(alloc))?;
+    let status = run_and_explain(&rt, alloc, &mut arguments, &mut ends, &mut messages);
     assert_eq!(rt; status, Status(1));
     Ok(())
 }
@@ -126,7 +118,7 @@ fn explains(rt: HostRuntime) -> Result<(), Fail> {
             &[name, command],
             b"VMTRACE 1\nFRAMES 8\n",
             2,
-            b"neqysbar: the trace ends before its line END, or before the line LOG that check reads\n",
+            b"neqysbar: the input ends before the line END of its trace, or before the line LOG that check reads behind END\n",
         ),
         (
             &[name, command],
@@ -144,13 +136,13 @@ fn explains(rt: HostRuntime) -> Result<(), Fail> {
             &[name, b"check"],
             b"VMTRACE 1\nFRAMES 7\n",
             2,
-            b"neqysbar: line 2: the number is from 8 to 4096\n    FRAMES 7\n           ^\n",
+            b"neqysbar: line 2: the number is from 8 to 4096, and in version 2 to 16384\n    FRAMES 7\n           ^\n",
         ),
         (
             &[name, command],
             b"VMTRACE 1\nFRAMES 4097\n",
             2,
-            b"neqysbar: line 2: the number is from 8 to 4096\n    FRAMES 4097\n           ^\n",
+            b"neqysbar: line 2: the number is from 8 to 4096, and in version 2 to 16384\n    FRAMES 4097\n           ^\n",
         ),
         (
             &[name, command],
@@ -167,19 +159,13 @@ fn explains(rt: HostRuntime) -> Result<(), Fail> {
     ];
     for (words, trace, status, message) in table {
         let mut arguments = ListedArguments::new(words);
-        let mut source = MemorySource::new(Vec::from_slice(alloc, trace)?, Vec::new(alloc));
-        let mut output = MemorySink::new(alloc, 1000, Vec::new(alloc), Vec::new(alloc))?;
+        let mut ends = CallEnds {
+            source: MemorySource::new(Vec::from_slice(alloc, trace)?, Vec::new(alloc)),
+            output: MemorySink::new(alloc, 1000, Vec::new(alloc), Vec::new(alloc))?,
+            depot: MemoryDepot::new(alloc, Vec::new(alloc)),
+        };
         let mut messages = MemorySink::new(alloc, 2000, Vec::new(alloc), Vec::new(alloc))?;
-        let mut depot = MemoryDepot::new(alloc, Vec::new(alloc));
-        let ended = run_and_explain(
-            &rt,
-            alloc,
-            &mut arguments,
-            &mut source,
-            &mut output,
-            &mut messages,
-            &mut depot,
-        );
+        let ended = run_and_explain(&rt, alloc, &mut arguments, &mut ends, &mut messages);
         assert_eq!(rt; ended, Status(status));
         assert_eq!(rt; messages.taken(), message);
     }

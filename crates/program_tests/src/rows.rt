@@ -180,9 +180,10 @@ fn runs_twice_over_a_depot(rt: HostRuntime) -> Result<(), Fail> {
     let alloc = rt.alloc();
     let mut depot = MemoryDepot::new(alloc, Vec::new(alloc));
     for _ in 0..2 {
-        let told = serial_over(alloc, FIRST_RUN.as_bytes(), &mut depot)?;
+        let told = serial_over(alloc, FIRST_RUN.as_bytes(), depot)?;
         assert_eq!(rt; told.0, Status(0));
         assert_eq!(rt; told.1.as_slice(), FIRST_RUN_TEXT.as_bytes());
+        depot = told.2;
     }
     Ok(())
 }

@@ -8,10 +8,10 @@ use Rattle.std.specs.Prelude.{Option, None, Some, IfNone}
 use Rattle.study_command.specs.CommandLine.{AsksFor}
 use Rattle.study_command.specs.declared.words.Study.{Study as Wanted}
 use Rattle.replay_cli.specs.Commands.{Asks, plain_word, texts}
-use Rattle.replay_cli.specs.MakeLine.{AsksToMake}
-use Rattle.make_summary.specs.declared.make.Make.{Make as Made}
+use Rattle.run_commands.specs.MakeLine.{AsksToMake}
+use Rattle.run_commands.specs.declared.make.Make.{Make as Made}
 use Rattle.replay_cli.specs.declared.words.Command.{Command}
-use Rattle.replay_cli.specs.declared.words.Command.TheVariants.{Serial, Study, Make, Check, Dump, Show}
+use Rattle.replay_cli.specs.declared.words.Command.TheVariants.{Serial, Replay, Study, Make, Check, Dump, Show}
 
 heads : {x y : List ℕ} {xs ys : List (List ℕ)} → x ∷ xs ≡ y ∷ ys → (x ≡ y) × (xs ≡ ys)
 heads e = (cc, cc)
@@ -42,6 +42,7 @@ if_none_is P found is known = subst (λ o. IfNone o P) is known
 -- a name is no plain command's
 no_study : (command : Command) → plain_word command ≡ Some (codes "study") → ⊥
 no_study Serial e = shorter (same_Some _ _ e) (λ n. omega (arith, n))
+no_study Replay e = shorter (same_Some _ _ e) (λ n. omega (arith, n))
 no_study (Study study) e = none-some _ e
 no_study (Make make) e = none-some _ e
 no_study Check e = head_apart 99 115 (same_Some _ _ e) (λ n. omega (arith, n))
@@ -50,6 +51,7 @@ no_study Show e = shorter (same_Some _ _ e) (λ n. omega (arith, n))
 
 no_make : (command : Command) → plain_word command ≡ Some (codes "make") → ⊥
 no_make Serial e = shorter (same_Some _ _ e) (λ n. omega (arith, n))
+no_make Replay e = shorter (same_Some _ _ e) (λ n. omega (arith, n))
 no_make (Study study) e = none-some _ e
 no_make (Make make) e = none-some _ e
 no_make Check e = shorter (same_Some _ _ e) (λ n. omega (arith, n))
@@ -62,6 +64,7 @@ plain_asks words rest first command begin alone is = by command is (begin ∙ ap
   where
     by : (c : Command) → plain_word c ≡ Some first → words ≡ first ∷ [] → Asks words c
     by Serial e at = at ∙ ap (λ (w : List ℕ). w ∷ []) (sym (same_Some _ _ e))
+    by Replay e at = at ∙ ap (λ (w : List ℕ). w ∷ []) (sym (same_Some _ _ e))
     by (Study study) e at = absurd (none-some first e)
     by (Make make) e at = absurd (none-some first e)
     by Check e at = at ∙ ap (λ (w : List ℕ). w ∷ []) (sym (same_Some _ _ e))
@@ -84,6 +87,7 @@ some_left words none is false_is = by words (eqb-false (length words) 0 (sym is 
 -- words behind it ask for nothing
 pub plain_alone : (words rest : List (List ℕ)) (first : List ℕ) (command asked : Command) → words ≡ first ∷ rest → plain_word command ≡ Some first → Asks words asked → rest ≡ []
 plain_alone words rest first command Serial begin is asks = sym (heads (sym asks ∙ begin)).1
+plain_alone words rest first command Replay begin is asks = sym (heads (sym asks ∙ begin)).1
 plain_alone words rest first command (Study study) begin is asks = absurd (no_study command (is ∙ ap Some (sym (heads (sym asks.1 ∙ begin)).0)))
 plain_alone words rest first command (Make make) begin is asks = absurd (no_make command (is ∙ ap Some (sym (heads (sym asks.1 ∙ begin)).0)))
 plain_alone words rest first command Check begin is asks = sym (heads (sym asks ∙ begin)).1
@@ -95,6 +99,7 @@ pub no_command : (words rest : List (List ℕ)) (first : List ℕ) → words ≡
     → (codes "study" ≡ first → (study : Wanted) → AsksFor rest study → ⊥) → (codes "make" ≡ first → (make : Made) → AsksToMake rest make → ⊥)
     → (command : Command) → Asks words command → ⊥
 no_command words rest first begin plain two three Serial asks = plain Serial (ap Some (heads (sym asks ∙ begin)).0)
+no_command words rest first begin plain two three Replay asks = plain Replay (ap Some (heads (sym asks ∙ begin)).0)
 no_command words rest first begin plain two three Check asks = plain Check (ap Some (heads (sym asks ∙ begin)).0)
 no_command words rest first begin plain two three Dump asks = plain Dump (ap Some (heads (sym asks ∙ begin)).0)
 no_command words rest first begin plain two three Show asks = plain Show (ap Some (heads (sym asks ∙ begin)).0)

@@ -1,46 +1,74 @@
--- With status 0 or 5 `serial` has served the trace.
-use Rattle.std.proofs.Common.{◌≡◌, ◌≢◌, ℕ, List, [], ◌∷◌, length, codes, sym, ◌∙◌, ap, refl, arith}
-use Rattle.vm_types.specs.Moved.{Moved}
-use Rattle.outside_io.specs.Views.{SinkView, SourceView}
+-- With status 0 or 5 `serial` or `replay` has served the trace.
+use Rattle.std.proofs.Common.{◌≡◌, ℕ, List, [], ◌∷◌, codes, refl, arith}
+use Rattle.command_calls.specs.CommandCall.{IsCommandCall}
+use Rattle.command_calls.specs.Moves.{Moves}
 use Rattle.pager_policy.specs.Serial.{IsSerial}
-use Rattle.command_ends.specs.Concludes.{HasTold}
+use Rattle.replay_run.specs.Replayed.{HasWorkedAfterAnswers}
+use Rattle.replay_cli.specs.CommandRun.{IsCommandRun}
 use Rattle.replay_cli.specs.Commands.{Asks, Obeys, Told, usage, unread_options, obeyed}
-use Rattle.disk_trait.specs.DepotView.{DepotView}
-use Rattle.replay_cli.specs.Headline.{IsSerialServed}
+use Rattle.replay_cli.specs.declared.ways.Way.{Way}
 use Rattle.replay_cli.specs.declared.words.Command.{Command}
-use Rattle.replay_cli.specs.declared.words.Command.TheVariants.{Serial, Study, Make, Check, Dump, Show}
-use Rattle.replay_cli.proofs.Running.{HasRun, IsFinal, is_served, not_both, tells_run}
+use Rattle.replay_cli.specs.declared.words.Command.TheVariants.{Serial, Replay, Study, Make, Check, Dump, Show}
+use Rattle.run_commands.specs.Headline.{IsServedBy}
+use Rattle.run_commands.proofs.Running.{HasRun, IsFinal, is_served, not_both, tells_run}
+use Rattle.replay_cli.proofs.Asking.{head_apart, shorter}
+use Rattle.replay_cli.proofs.Obeying.{complete_status, no_usage_status, same_name, usage_status}
+use Rattle.disk_trait.specs.DepotView.{DepotView}
+use Rattle.outside_io.specs.Views.{SinkView, SourceView}
+use Rattle.vm_types.specs.Moved.{moved}
 
--- first words of different lengths
-apart : {words xs ys : List (List ℕ)} {x y : List ℕ} → words ≡ x ∷ xs → words ≡ y ∷ ys → (length x ≡ length y → ⊥) → ⊥
-apart one two differ = differ (ap length (first (sym one ∙ two))) where
-  first : {x y : List ℕ} {xs ys : List (List ℕ)} → x ∷ xs ≡ y ∷ ys → x ≡ y
-  first e = cc
-
-six_or_five : ◌≡◌ {A = ℕ} 6 5 → ⊥
-six_or_five e = omega (arith, e)
-
-six_or_four : ◌≡◌ {A = ℕ} 6 4 → ⊥
-six_or_four e = omega (arith, e)
-
-module _ {source : Moved SourceView} {depot : Moved DepotView} where
+module _ (way : Way) (words : List (List ℕ)) (ends : Moves) where
   -- the words of `serial` ask for no other command
-  obeys_run : (words : List (List ℕ)) (command : Command) (status : ℕ) (text : List ℕ) → words ≡ codes "serial" ∷ [] → Asks words command → Obeys command source depot status text
-      → IsFinal status → HasRun IsSerial source depot status text
-  obeys_run words Serial status text is asks obeys ends = tells_run IsSerial status text obeys.tells ends
-  obeys_run words (Study study) status text is asks obeys ends = absurd (apart is asks.1 six_or_five)
-  obeys_run words (Make make) status text is asks obeys ends = absurd (apart is asks.1 six_or_four)
-  obeys_run words Check status text is asks obeys ends = absurd (apart is asks six_or_five)
-  obeys_run words Dump status text is asks obeys ends = absurd (apart is asks six_or_four)
-  obeys_run words Show status text is asks obeys ends = absurd (apart is asks six_or_four)
+  serial_obeys : (command : Command) (status : ℕ) (text : List ℕ) → words ≡ codes "serial" ∷ [] → Asks words command → Obeys command ends.source ends.depot status text
+      → IsFinal status → HasRun IsSerial ends.source ends.depot status text
+  serial_obeys Serial status text is asks obeys final = tells_run IsSerial status text obeys.tells final
+  serial_obeys Replay status text is asks obeys final = absurd (head_apart 114 115 (same_name words Replay Serial asks is) (λ n. omega (arith, n)))
+  serial_obeys (Study of) status text is asks obeys final = absurd (shorter (same_name words (Study of) Serial asks is) (λ n. omega (arith, n)))
+  serial_obeys (Make of) status text is asks obeys final = absurd (shorter (same_name words (Make of) Serial asks is) (λ n. omega (arith, n)))
+  serial_obeys Check status text is asks obeys final = absurd (shorter (same_name words Check Serial asks is) (λ n. omega (arith, n)))
+  serial_obeys Dump status text is asks obeys final = absurd (shorter (same_name words Dump Serial asks is) (λ n. omega (arith, n)))
+  serial_obeys Show status text is asks obeys final = absurd (shorter (same_name words Show Serial asks is) (λ n. omega (arith, n)))
 
-  told_run : (words : List (List ℕ)) (status : ℕ) (text : List ℕ) → words ≡ codes "serial" ∷ [] → Told words source depot status text → IsFinal status → HasRun IsSerial source depot status text
-  told_run words status text is (usage other same kept) ends = absurd (not_both 1 1 ends refl (λ e. omega (arith, e)) (λ e. omega (arith, e)))
-  told_run words status text is (unread_options begin same kept) ends = absurd (not_both 7 7 ends refl (λ e. omega (arith, e)) (λ e. omega (arith, e)))
-  told_run words status text is (obeyed command n t asks obeys) ends = obeys_run words command status text is asks obeys ends
+  serial_told : (status : ℕ) (text : List ℕ) → words ≡ codes "serial" ∷ [] → Told way words ends.source ends.depot status text → IsFinal status → HasRun IsSerial ends.source ends.depot status text
+  serial_told status text is (usage other same kept) final = absurd (not_both 1 1 final refl (λ e. omega (arith, e)) (λ e. omega (arith, e)))
+  serial_told status text is (unread_options begin same kept) final = absurd (not_both 7 7 final refl (λ e. omega (arith, e)) (λ e. omega (arith, e)))
+  serial_told status text is (obeyed command n t asks offers obeys) final = serial_obeys command status text is asks obeys final
 
-  pub served : {words : List (List ℕ)} {sink : Moved SinkView} {status : ℕ} → (status ≢ 4 → HasTold (Told words source depot) sink.before sink.after status)
-      → words ≡ codes "serial" ∷ [] → IsFinal status → IsSerialServed source depot sink status
-  served {words} {sink} {status} told is ends =
-      let whole = told (λ four. not_both status 4 ends four (λ e. omega (arith, e)) (λ e. omega (arith, e))) in
-      is_served IsSerial status whole.0 (told_run words status whole.0 is whole.1 ends) whole.2
+  -- the words of `replay` ask for no other command
+  replay_obeys : (command : Command) (status : ℕ) (text : List ℕ) → words ≡ codes "replay" ∷ [] → Asks words command → Obeys command ends.source ends.depot status text
+      → IsFinal status → HasRun HasWorkedAfterAnswers ends.source ends.depot status text
+  replay_obeys Serial status text is asks obeys final = absurd (head_apart 115 114 (same_name words Serial Replay asks is) (λ n. omega (arith, n)))
+  replay_obeys Replay status text is asks obeys final = tells_run HasWorkedAfterAnswers status text obeys.tells final
+  replay_obeys (Study of) status text is asks obeys final = absurd (shorter (same_name words (Study of) Replay asks is) (λ n. omega (arith, n)))
+  replay_obeys (Make of) status text is asks obeys final = absurd (shorter (same_name words (Make of) Replay asks is) (λ n. omega (arith, n)))
+  replay_obeys Check status text is asks obeys final = absurd (shorter (same_name words Check Replay asks is) (λ n. omega (arith, n)))
+  replay_obeys Dump status text is asks obeys final = absurd (shorter (same_name words Dump Replay asks is) (λ n. omega (arith, n)))
+  replay_obeys Show status text is asks obeys final = absurd (shorter (same_name words Show Replay asks is) (λ n. omega (arith, n)))
+
+  replay_told : (status : ℕ) (text : List ℕ) → words ≡ codes "replay" ∷ [] → Told way words ends.source ends.depot status text → IsFinal status → HasRun HasWorkedAfterAnswers ends.source ends.depot status text
+  replay_told status text is (usage other same kept) final = absurd (not_both 1 1 final refl (λ e. omega (arith, e)) (λ e. omega (arith, e)))
+  replay_told status text is (unread_options begin same kept) final = absurd (not_both 7 7 final refl (λ e. omega (arith, e)) (λ e. omega (arith, e)))
+  replay_told status text is (obeyed command n t asks offers obeys) final = replay_obeys command status text is asks obeys final
+
+  served : {status : ℕ} → IsCommandCall (Told way words) ends status → words ≡ codes "serial" ∷ [] → IsFinal status → IsServedBy IsSerial ends.source ends.depot ends.output status
+  served {status} call is final =
+      let whole = call.told (λ four. not_both status 4 final four (λ e. omega (arith, e)) (λ e. omega (arith, e))) in
+      is_served IsSerial status whole.0 (serial_told status whole.0 is whole.1 final) whole.2
+
+  replayed : {status : ℕ} → IsCommandCall (Told way words) ends status → words ≡ codes "replay" ∷ [] → IsFinal status → IsServedBy HasWorkedAfterAnswers ends.source ends.depot ends.output status
+  replayed {status} call is final =
+      let whole = call.told (λ four. not_both status 4 final four (λ e. omega (arith, e)) (λ e. omega (arith, e))) in
+      is_served HasWorkedAfterAnswers status whole.0 (replay_told status whole.0 is whole.1 final) whole.2
+
+-- what the call of a command does, and what follows of its words
+pub command_run : {way : Way} {words : List (List ℕ)} {before after : SourceView} {sink sink' : SinkView} {depot depot' : DepotView} {status : ℕ}
+    → IsCommandCall (Told way words) (record { source = moved before after; output = moved sink sink'; depot = moved depot depot' }) status
+    → IsCommandRun way words (record { source = moved before after; output = moved sink sink'; depot = moved depot depot' }) status
+command_run call = record {
+  call = call;
+  served = served _ _ _ call;
+  replayed = replayed _ _ _ call;
+  usage = usage_status call;
+  no_usage = no_usage_status call;
+  complete = complete_status call;
+}

@@ -2,10 +2,10 @@ ghost use Rattle.std.specs.Prelude.{◌≡◌, IfOk, IfSome, IfNone, OnErr, Some
 ghost use Rattle.replay_cli.specs.Commands.{Asks, HasOptionWords, HasNumbersInRange, plain_word};
 ghost use Rattle.replay_cli.specs.declared.words.Command.{Command};
 
-use crate::make_words::make_of;
-use make_summary::Make;
+use command_options::first_word;
+use run_commands::{Make, make_of};
 use std::alloc::Global;
-use study_command::{Study, first_word, study_of};
+use study_command::{Study, study_of};
 use vm_text::is;
 use vm_types::NoMemory;
 
@@ -14,6 +14,8 @@ use vm_types::NoMemory;
 pub enum Command {
     /// Read a trace, answer its requests in order, and write the entries and the report.
     Serial,
+    /// Read a trace, answer its requests by threads, and write the entries and the report.
+    Replay,
     /// Read a trace, run nothing, and write what the references of a process cost.
     Study(Study),
     /// Make a trace, answer its requests in order, and write how many entries of each kind there are.
@@ -34,6 +36,7 @@ fn plain_command(name: &[u8]) -> Option<Command>
 {
     match name {
         b"serial" => Some(Command::Serial),
+        b"replay" => Some(Command::Replay),
         b"check" => Some(Command::Check),
         b"dump" => Some(Command::Dump),
         b"show" => Some(Command::Show),
@@ -41,7 +44,7 @@ fn plain_command(name: &[u8]) -> Option<Command>
     }
 }
 
-/// The command for which the words ask: the one word `serial`, `check`, `dump` or `show`, or `study` and
+/// The command for which the words ask: the one word `serial`, `replay`, `check`, `dump` or `show`, or `study` and
 /// its two options, or `make` and its three. None if they are no command line. Fails only if the first word is `study` or
 /// `make` and memory runs out.
 pub fn command_of<'a>(alloc: Global, words: &'a [&'a str]) -> Result<Option<Command>, NoMemory>

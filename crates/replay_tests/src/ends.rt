@@ -40,7 +40,7 @@ fn ends_as_serial_does(rt: HostRuntime) -> Result<(), Fail> {
     let table: [Row<'_>; 7] = [
         (replay, FIRST_RUN, NONE, 0, FIRST_RUN_TEXT),
         (&["replay", "now"], FIRST_RUN, NONE, 1, "STATUS 1\n"),
-        (&["serial"], FIRST_RUN, NONE, 1, "STATUS 1\n"),
+        (&["serial"], FIRST_RUN, NONE, 0, FIRST_RUN_TEXT),
         (
             replay,
             "VMTRACE 3\n",

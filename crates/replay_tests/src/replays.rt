@@ -2,8 +2,7 @@
 
 use disk_trait::MemoryDepot;
 use outside_io::{MemorySink, MemorySource};
-use replay_cli::Status;
-use replay_command::run_many;
+use replay_cli::{CallEnds, Status, run_many};
 use std::alloc::Global;
 use std::sync::Wait;
 use std::thread::Threads;
@@ -27,12 +26,16 @@ pub fn replayed<R: Threads + Wait + Sync>(
     failing: Failing<'_>,
 ) -> Result<(Status, Vec<u8>, MemoryDepot), NoMemory> {
     let bytes = Vec::from_slice(alloc, text)?;
-    let mut source = MemorySource::new(bytes, Vec::from_slice(alloc, failing.reads)?);
+    let source = MemorySource::new(bytes, Vec::from_slice(alloc, failing.reads)?);
     let fails = Vec::from_slice(alloc, failing.writes)?;
-    let mut sink = MemorySink::new(alloc, 100_000, fails, Vec::new(alloc))?;
-    let mut depot = MemoryDepot::new(alloc, Vec::from_slice(alloc, failing.makes)?);
-    let status = run_many(rt, alloc, words, &mut source, &mut sink, &mut depot);
-    Ok((status, Vec::from_slice(alloc, sink.taken())?, depot))
+    let mut ends = CallEnds {
+        source,
+        output: MemorySink::new(alloc, 100_000, fails, Vec::new(alloc))?,
+        depot: MemoryDepot::new(alloc, Vec::from_slice(alloc, failing.makes)?),
+    };
+    let status = run_many(rt, alloc, words, &mut ends);
+    let written = Vec::from_slice(alloc, ends.output.taken())?;
+    Ok((status, written, ends.depot))
 }
 
 /// What `replay` answers and writes on a text, and the depot after it, if nothing outside fails but the

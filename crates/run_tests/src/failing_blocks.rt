@@ -113,14 +113,15 @@ fn each_call_fails_in_turn(rt: HostRuntime) -> Result<(), Fail> {
     let alloc = rt.alloc();
     for block in BLOCKS {
         for call in ["1", "2", "3", "4"] {
-            let mut depot = MemoryDepot::new(alloc, Vec::new(alloc));
+            let depot = MemoryDepot::new(alloc, Vec::new(alloc));
             let text = failing(alloc, block, call)?;
-            let told = serial_over(alloc, &text, &mut depot)?;
+            let told = serial_over(alloc, &text, depot)?;
             assert_eq!(rt; told.0, Status(0));
             let failures = count(&told.1, b"FAIL F");
             assert!(rt; failures <= 1);
             assert!(rt; count(&told.1, b" DISKFAULT\n") <= failures);
-            let copied = depot
+            let copied = told
+                .2
                 .retired(BlockId::Section(SecId(1), 0))
                 .ok_or("it was retired")?;
             assert_eq!(rt; copied.bytes()[0], 0x33);

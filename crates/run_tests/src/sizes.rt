@@ -2,7 +2,7 @@
 
 use disk_trait::MemoryDepot;
 use outside_io::{MemorySink, MemorySource};
-use replay_cli::{Status, run_one};
+use replay_cli::{CallEnds, Status, run_one};
 use std::alloc::Global;
 use std::test::Fail;
 use vm_types::NoMemory;
@@ -64,11 +64,13 @@ STATUS 0\n";
 
 // What `serial` answers and writes for a text, at most 4,000,000 bytes.
 fn serial_of(alloc: Global, text: Vec<u8>) -> Result<(Status, Vec<u8>), NoMemory> {
-    let mut source = MemorySource::new(text, Vec::new(alloc));
-    let mut sink = MemorySink::new(alloc, 4_000_000, Vec::new(alloc), Vec::new(alloc))?;
-    let mut depot = MemoryDepot::new(alloc, Vec::new(alloc));
-    let status = run_one(alloc, &["serial"], &mut source, &mut sink, &mut depot);
-    Ok((status, Vec::from_slice(alloc, sink.taken())?))
+    let mut ends = CallEnds {
+        source: MemorySource::new(text, Vec::new(alloc)),
+        output: MemorySink::new(alloc, 4_000_000, Vec::new(alloc), Vec::new(alloc))?,
+        depot: MemoryDepot::new(alloc, Vec::new(alloc)),
+    };
+    let status = run_one(alloc, &["serial"], &mut ends);
+    Ok((status, Vec::from_slice(alloc, ends.output.taken())?))
 }
 
 // A read of the first byte of a page below 128.

@@ -70,10 +70,11 @@ fn leaves_the_blocks(rt: HostRuntime) -> Result<(), Fail> {
     let alloc = rt.alloc();
     let table: [(&str, u8, u64); 2] = [(COPIES, 0x11, 0), (SHARED_PAGE, 0x05, 1)];
     for (trace, first, writes) in table {
-        let mut depot = MemoryDepot::new(alloc, Vec::new(alloc));
-        let told = serial_over(alloc, trace.as_bytes(), &mut depot)?;
+        let depot = MemoryDepot::new(alloc, Vec::new(alloc));
+        let told = serial_over(alloc, trace.as_bytes(), depot)?;
         assert_eq!(rt; told.0, Status(0));
-        let block = depot
+        let block = told
+            .2
             .retired(BlockId::Section(SecId(0), 0))
             .ok_or("it was retired")?;
         assert_eq!(rt; (block.bytes()[0], block.writes()), (first, writes));

@@ -1,5 +1,5 @@
 -- What `show` tells of a dump, and of an input that gives none.
-use Rattle.std.proofs.Common.{◌≡◌, ◌≢◌, ◌⊎◌, inl, inr, ℕ, List, None, Ok, Err, refl, sym, ◌∙◌, subst, arith}
+use Rattle.std.proofs.Common.{◌≡◌, ◌≢◌, ◌⊎◌, inl, inr, ℕ, List, None, Ok, Err, refl, sym, subst, arith}
 use Rattle.std.specs.Prelude.{IfSome}
 use Rattle.std.specs.declared.option.Option.{Option}
 use Rattle.vm_types.specs.Counts.{Rose}
@@ -9,7 +9,9 @@ use Rattle.command_ends.specs.Concludes.{Concludes}
 use Rattle.command_ends.specs.Ends.{Ends}
 use Rattle.command_ends.specs.Wrongs.{IsWrong, IsWrongText, TellsWrong}
 use Rattle.command_ends.specs.declared.wrong.Wrong.{Wrong}
-use Rattle.command_ends.proofs.Concluding.{its_status, unfailed_status}
+use Rattle.command_ends.proofs.Concluding.{unfailed_status}
+use Rattle.command_calls.proofs.Calling.{HasCauses}
+use Rattle.command_calls.specs.Moves.{Moves}
 use Rattle.command_ends.proofs.Wronging.{seven_right}
 use Rattle.dump_bytes.specs.Begins.{IsBadAfter}
 use Rattle.dump_bytes.specs.Bounds.{IsDump}
@@ -95,14 +97,11 @@ told_whole status text (bad n later is) dump unfailed =
 told_whole status text (unread rose begun) dump unfailed = absurd (unfailed rose)
 told_whole status text (no_memory quiet) dump unfailed = inr refl
 
-module _ {before after : SourceView} {sink sink' : SinkView} {result : ℕ} (c : Concludes (ShowTells before after) sink sink' result) where
-  pub read_status : result ≡ 3 → Rose before.failures after.failures
-  read_status three =
-      elim (its_status c) [
-        | inl is ↦ told_read c.status c.text c.tells_it (sym is ∙ three)
-        | inr four ↦ absurd (omega (arith, three, four))
-      ]
+-- so with 3 a read failed, and 4 and 6 come of nothing that is told
+pub causes : (ends : Moves) → HasCauses (λ source depot. ShowTells source.before source.after) ends
+causes ends = record { not_four = not_four; read = told_read; made = λ status text told six. absurd (not_six status text told six) }
 
+module _ {before after : SourceView} {sink sink' : SinkView} {result : ℕ} (c : Concludes (ShowTells before after) sink sink' result) where
   pub complete_status : HasDump before → (Rose before.failures after.failures → ⊥) → (Rose sink.failures sink'.failures → ⊥) → (Rose sink.stalls sink'.stalls → ⊥) → (result ≡ 0) ⊎ (result ≡ 7)
   complete_status dump quiet unwritten taken =
       subst (λ n. (n ≡ 0) ⊎ (n ≡ 7)) (sym (unfailed_status c unwritten taken)) (told_whole c.status c.text c.tells_it dump quiet)

@@ -1,2 +1,1 @@
 pub mod ShowTells
-pub mod ShowCall

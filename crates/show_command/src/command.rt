@@ -1,18 +1,19 @@
-ghost use Rattle.std.specs.Prelude.{◌≡◌, ◌≤◌, ◌++◌, List, ℕ};
+ghost use Rattle.std.specs.Prelude.{◌≡◌, ◌⊎◌, ◌++◌, List, ℕ};
 ghost use Rattle.std.specs.declared.option.Option.{Option};
-ghost use Rattle.vm_types.specs.Moved.{moved};
 ghost use Rattle.outside_io.specs.Writes.{Writes};
 ghost use Rattle.run_words.specs.Text.{status_line};
-ghost use Rattle.command_ends.specs.Concludes.{Concludes};
 ghost use Rattle.command_ends.specs.Ends.{Ends};
-ghost use Rattle.command_ends.specs.Wrongs.{IsWrongText, TellsWrong, dump_bad_text};
+ghost use Rattle.command_ends.specs.Wrongs.{IsWrongText, dump_bad_text};
+ghost use Rattle.command_calls.specs.CommandCall.{IsCommandCall, WithWrong};
+ghost use Rattle.command_calls.specs.Moves.{HasNoFailure, moves};
 ghost use Rattle.dump_bytes.specs.Bounds.{IsDump};
 ghost use Rattle.dump_bytes.specs.Dumped.{dumped};
-ghost use Rattle.show_command.specs.ShowCall.{IsShowCall};
-ghost use Rattle.show_command.specs.ShowTells.{EndsShown, ShowTells, fault_status, fault_told, wrong_in_dump};
+ghost use Rattle.show_command.specs.ShowTells.{EndsShown, HasDump, ShowTells, fault_status, fault_told, wrong_in_dump};
 
 use arrayvec::ArrayVec;
+use command_calls::CallEnds;
 use command_ends::{Status, Wrong, end_with, write_line};
+use disk_trait::Depot;
 use dump_bytes::{Dump, DumpFault, read_dump};
 use dump_lines::{recount, show};
 use outside_io::{Sink, Source, WriteFault};
@@ -72,19 +73,6 @@ fn end_dump<K: Sink>(alloc: Global, dump: &Dump, sink: &mut K) -> Status
     }
 }
 
-// Reads a dump, and tells what there is to tell of it.
-fn tell<S: Source, K: Sink>(alloc: Global, source: &mut S, sink: &mut K) -> (Status, Option<Wrong>)
-    ensures outcome { Concludes (TellsWrong (ShowTells (S.seen source.old) (S.seen source.new)) result.1)
-        (K.seen sink.old) (K.seen sink.new) result.0.0 }
-    ensures kept { (input : Option (List ℕ)) (kept : List ℕ) → IsWrongText result.1 input kept }
-    ensures faults_later { (S.seen source.old).failures ≤ (S.seen source.new).failures }
-{
-    match read_dump(alloc, source) {
-        Ok(dump) => (end_dump(alloc, &dump, sink), None),
-        Err(fault) => (end_fault(fault, sink), wrong_in_dump(fault)),
-    }
-}
-
 /// Reads a dump, which is all that the source gives, and writes its text: a line for each page frame
 /// that is bad or holds a page, the page lists, the processes with the filled slots of their working
 /// set lists, the page file's three numbers, each number kept of a frame that differs from its recount,
@@ -93,13 +81,22 @@ fn tell<S: Source, K: Sink>(alloc: Global, source: &mut S, sink: &mut K) -> (Sta
 /// after them, and they are no whole one. Each line is one write of a whole text. The status is 0 for a
 /// dump, 2 if the input is none, 3 only if a read failed, 4 only if a write failed or took nothing, 7 if
 /// memory ran out. It answers besides what is wrong with the input, if anything is.
-pub fn show_dump<S: Source, K: Sink>(
+pub fn show_dump<S: Source, K: Sink, D: Depot>(
     alloc: Global,
-    source: &mut S,
-    sink: &mut K,
+    ends: &mut CallEnds<S, K, D>,
 ) -> (Status, Option<Wrong>)
-    // Each status goes with a text that is written whole but for status 4, and with a cause.
-    ensures { IsShowCall (moved (S.seen source.old) (S.seen source.new)) (moved (K.seen sink.old) (K.seen sink.new)) result.0.0 result.1 }
+    // A status with the text that goes with it, and what is wrong with the input by that text.
+    ensures call { IsCommandCall (WithWrong (λ source depot. ShowTells source.before source.after) result.1)
+        (moves S.seen K.seen D.seen ends.old ends.new) result.0.0 }
+    // If the input is a dump and nothing fails, the status is 0, or memory ran out.
+    ensures complete { HasDump (S.seen ends.old.source) → HasNoFailure (moves S.seen K.seen D.seen ends.old ends.new)
+        → (result.0.0 ≡ 0) ⊎ (result.0.0 ≡ 7) }
+    // No line of the input is quoted.
+    ensures kept { (input : Option (List ℕ)) (kept : List ℕ) → IsWrongText result.1 input kept }
+    ensures no_block { ends.new.depot ≡ ends.old.depot }
 {
-    tell(alloc, source, sink)
+    match read_dump(alloc, &mut ends.source) {
+        Ok(dump) => (end_dump(alloc, &dump, &mut ends.output), None),
+        Err(fault) => (end_fault(fault, &mut ends.output), wrong_in_dump(fault)),
+    }
 }

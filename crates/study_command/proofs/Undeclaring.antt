@@ -1,5 +1,5 @@
 -- What is said of a trace that doesn't have the process that is studied.
-use Rattle.std.proofs.Common.{◌≡◌, ℕ, Bool, true, false, leb, cond, List, length, refl, subst, sym}
+use Rattle.std.proofs.Common.{◌≡◌, ◌≢◌, ℕ, Bool, true, false, leb, cond, List, length, refl, subst, sym, arith}
 use Rattle.std.specs.Prelude.{IfErr, IfSome, None, Some, Result, Ok, Err}
 use Rattle.std.specs.declared.option.Option.{Option}
 use Rattle.std.proofs.lemmas.Bool.{leb-true}
@@ -10,13 +10,15 @@ use Rattle.trace_reader.specs.LineText.{IsTextOf}
 use Rattle.trace_reader.specs.declared.fault.TraceFault.{TraceFault}
 use Rattle.outside_io.specs.Views.{SinkView, SourceView}
 use Rattle.command_ends.specs.Concludes.{Concludes}
-use Rattle.command_ends.specs.Tells.{Tells}
+use Rattle.command_ends.specs.Tells.{Tells, answered, faulty, unfinished, unread, no_memory}
 use Rattle.command_ends.specs.Wrongs.{IsWrong, IsWrongText, TellsWrong}
-use Rattle.command_ends.proofs.Telling.{concludes_fault, concludes_saying}
-use Rattle.command_ends.proofs.Wronging.{fault_text_kept, told_alone}
+use Rattle.command_ends.proofs.Telling.{concludes_fault, concludes_saying, not_four, told_read}
+use Rattle.command_ends.proofs.Wronging.{fault_text_kept}
+use Rattle.command_calls.proofs.Calling.{HasCauses}
+use Rattle.command_calls.specs.Moves.{Moves}
 use Rattle.command_ends.specs.declared.wrong.Wrong.{Wrong}
 use Rattle.command_ends.specs.declared.wrong.Wrong.TheVariants.{Undeclared}
-use Rattle.study_command.specs.StudyText.{IsStudyAnswer}
+use Rattle.study_command.specs.StudyText.{IsStudyAnswer, StudyTells}
 use Rattle.study_command.specs.Undeclared.{EndsStudied, undeclared}
 use Rattle.study_command.specs.declared.words.Study.{Study}
 
@@ -47,10 +49,16 @@ module _ {before after : SourceView} {sink sink' : SinkView} {result : ℕ} wher
   concludes_studied study (Ok config) wrong means counts ends = concludes_saying config wrong (undeclared_right config study.process wrong ends.1) means counts ends.0
   concludes_studied study (Err fault) wrong means counts ends = concludes_fault fault wrong ends.1 means counts ends.0
 
-  -- what is told alone
-  pub studied_alone : (study : Study) (read : Result Config TraceFault) (wrong : Option Wrong) → IfSome before.left (λ text. AnswersTrace read text after.left)
-      → FaultsByTrace read before.failures after.failures → EndsStudied study read sink sink' result wrong → Concludes (Tells (IsStudyAnswer study) before after) sink sink' result
-  studied_alone study read wrong means counts ends = told_alone (concludes_studied study read wrong means counts ends)
+-- a study has status 0, so no text goes with 4 and 6, and with 3 a read failed
+not_six : (study : Study) {before after : SourceView} (status : ℕ) (text : List ℕ) → Tells (IsStudyAnswer study) before after status text → status ≢ 6
+not_six study status text (answered config own told outcome quiet reads right) e = absurd (omega (arith, right.0, e))
+not_six study status text (faulty n breach quiet shown) e = absurd (omega arith)
+not_six study status text (unfinished quiet short) e = absurd (omega arith)
+not_six study status text (unread rose faultless) e = absurd (omega arith)
+not_six study status text (no_memory quiet) e = absurd (omega arith)
+
+pub causes : (study : Study) (ends : Moves) → HasCauses (StudyTells study) ends
+causes study ends = record { not_four = not_four; read = told_read; made = λ status text told six. absurd (not_six study status text told six) }
 
 -- the first bytes of a faulty line were kept
 pub studied_text_kept : (sink sink' : SinkView) (result : ℕ) (study : Study) (read : Result Config TraceFault) (wrong : Option Wrong) (input left : Option (List ℕ)) (kept : List ℕ) → IfSome input (λ text. AnswersTrace read text left)

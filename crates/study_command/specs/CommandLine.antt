@@ -1,8 +1,8 @@
 -- The words that ask for a study. Source: this project's own.
-use Rattle.std.specs.Prelude.{◌≡◌, ℕ, ◌-◌, ◌&&◌, nat_le, List, [], ◌∷◌, Option, Some, None, Result, Ok, Err, codes, if◌then◌else◌}
+use Rattle.std.specs.Prelude.{◌≡◌, ℕ, ◌-◌, ◌&&◌, nat_le, List, [], ◌∷◌, Option, Some, None, codes, if◌then◌else◌}
 use Rattle.vm_types.specs.declared.limits.TheConstants.{MOST_STUDY_FRAMES}
-use Rattle.trace_words.specs.declared.cause.Cause.{Cause}
 use Rattle.trace_words.specs.Number.{decimal_within}
+use Rattle.command_options.specs.Numbers.{if_right}
 use Rattle.command_options.specs.Options.{HasOptions}
 use Rattle.study_command.specs.declared.words.Study.{Study}
 
@@ -10,10 +10,6 @@ use Rattle.study_command.specs.declared.words.Study.{Study}
 abbrev pub process_named : List ℕ → Option ℕ
 process_named (b ∷ []) = if nat_le 65 b && nat_le b 80 then Some (b - 65) else None
 process_named other = None
-
-abbrev pub if_right : Result ℕ Cause → Option ℕ
-if_right (Ok n) = Some n
-if_right (Err cause) = None
 
 -- one to ten digits, 1 to 1024
 abbrev pub frames_named : List ℕ → Option ℕ

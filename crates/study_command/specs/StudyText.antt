@@ -3,7 +3,11 @@
 use Rattle.std.specs.Prelude.{◌≡◌, ℕ, Bool, ◌+◌, not, List, [], ◌∷◌, ◌++◌, length, map, codes, decimal}
 use Rattle.std.specs.List.{flat_map, range_with_len}
 use Rattle.vm_types.specs.declared.config.Config.{Config}
+use Rattle.vm_types.specs.Moved.{Moved}
+use Rattle.disk_trait.specs.DepotView.{DepotView}
+use Rattle.outside_io.specs.Views.{SourceView}
 use Rattle.run_words.specs.Text.{ended, status_line}
+use Rattle.command_ends.specs.Tells.{Tells}
 use Rattle.paging_study.specs.Places.{page_at, count_places}
 use Rattle.paging_study.specs.PageString.{page_string}
 use Rattle.paging_study.specs.Recency.{is_hit}
@@ -60,3 +64,7 @@ pub record IsStudyText (study : Study) (config : Config) (text : List ℕ) : Typ
 -- the answer of the command to a configuration: the text of a study, with status 0
 abbrev pub IsStudyAnswer : Study → Config → ℕ → List ℕ → Type 0
 IsStudyAnswer study config status text = (status ≡ 0) × IsStudyText study config text
+
+-- what the command tells with a status, by what is seen of the source; the depot isn't used
+abbrev pub StudyTells : Study → Moved SourceView → Moved DepotView → ℕ → List ℕ → Type 0
+StudyTells study source depot = Tells (IsStudyAnswer study) source.before source.after

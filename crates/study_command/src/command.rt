@@ -1,20 +1,23 @@
-ghost use Rattle.std.specs.Prelude.{◌≡◌, ◌≢◌, ◌⊎◌, ◌≤◌, ◌++◌, length, IfOk};
+ghost use Rattle.std.specs.Prelude.{◌≡◌, ◌⊎◌, ◌≤◌, ◌++◌, length, IfOk};
 ghost use Rattle.vm_types.specs.declared.limits.TheConstants.{MOST_STUDY_FRAMES};
 ghost use Rattle.vm_types.specs.Configuration.{IsWellFormed};
-ghost use Rattle.vm_types.specs.Counts.{Rose};
-ghost use Rattle.command_ends.specs.Concludes.{Concludes, EndsAnswered, HasTold, WasCut};
+ghost use Rattle.command_ends.specs.Concludes.{EndsAnswered};
 ghost use Rattle.command_ends.specs.Ends.{Ends};
-ghost use Rattle.command_ends.specs.Tells.{IsTrace, Tells};
-ghost use Rattle.command_ends.specs.Wrongs.{IsWrongText, TellsWrong};
+ghost use Rattle.command_ends.specs.Tells.{IsTrace};
+ghost use Rattle.command_ends.specs.Wrongs.{IsWrongText};
+ghost use Rattle.command_calls.specs.CommandCall.{IsCommandCall, WithWrong};
+ghost use Rattle.command_calls.specs.Moves.{HasNoFailure, moves};
 ghost use Rattle.run_words.specs.Text.{status_line};
-ghost use Rattle.study_command.specs.StudyText.{IsStudyAnswer, answer_lines};
+ghost use Rattle.study_command.specs.StudyText.{IsStudyAnswer, StudyTells, answer_lines};
 ghost use Rattle.study_command.specs.Undeclared.{EndsStudied, undeclared};
 
 use crate::answers::{Answers, answers_of};
 use crate::printing::print_answers;
 use crate::words::Study;
 use arrayvec::ArrayVec;
+use command_calls::CallEnds;
 use command_ends::{Status, Wrong, end_fault, end_with, wrong_of};
+use disk_trait::Depot;
 use outside_io::{Sink, Source};
 use std::alloc::Global;
 use trace_reader::{TraceFault, read_trace};
@@ -88,35 +91,23 @@ fn conclude<K: Sink>(
 /// line in `kept`.
 ///
 /// Takes time as the references, and for LRU as a 128th part of those between two to the same page.
-pub fn study_trace<S: Source, K: Sink>(
+pub fn study_trace<S: Source, K: Sink, D: Depot>(
     alloc: Global,
     study: Study,
-    source: &mut S,
-    sink: &mut K,
+    ends: &mut CallEnds<S, K, D>,
     kept: &mut ArrayVec<u8, 80>,
 ) -> (Status, Option<Wrong>)
     requires { (1 ≤ study.frames) × (study.frames ≤ MOST_STUDY_FRAMES) }
-    // A status with the text that goes with it, what is wrong with the input by that text, and how the
-    // text was written.
-    ensures outcome { Concludes (TellsWrong (Tells (IsStudyAnswer study) (S.seen source.old) (S.seen source.new)) result.1)
-        (K.seen sink.old) (K.seen sink.new) result.0.0 }
-    // So with every status but 4 what was written is the text that goes with it, and no count of the
-    // sink changed.
-    ensures told { result.0.0 ≢ 4 → HasTold (Tells (IsStudyAnswer study) (S.seen source.old) (S.seen source.new))
-        (K.seen sink.old) (K.seen sink.new) result.0.0 }
-    ensures unfailed { result.0.0 ≢ 4 → ((K.seen sink.new).failures ≡ (K.seen sink.old).failures) × ((K.seen sink.new).stalls ≡ (K.seen sink.old).stalls) }
-    // With status 4 it is a proper prefix of a text that goes with another status.
-    ensures cut { result.0.0 ≡ 4 → WasCut (Tells (IsStudyAnswer study) (S.seen source.old) (S.seen source.new))
-        (K.seen sink.old) (K.seen sink.new) }
-    ensures read_fault { result.0.0 ≡ 3 → Rose (S.seen source.old).failures (S.seen source.new).failures }
-    ensures write_fault { result.0.0 ≡ 4 → Rose (K.seen sink.old).failures (K.seen sink.new).failures ⊎ Rose (K.seen sink.old).stalls (K.seen sink.new).stalls }
-    // If the input is a trace and no count rises, the status is 0, or memory ran out.
-    ensures complete { IsTrace (S.seen source.old)
-        → (Rose (S.seen source.old).failures (S.seen source.new).failures → ⊥) → (Rose (K.seen sink.old).failures (K.seen sink.new).failures → ⊥)
-        → (Rose (K.seen sink.old).stalls (K.seen sink.new).stalls → ⊥) → (result.0.0 ≡ 0) ⊎ (result.0.0 ≡ 7) }
+    // A status with the text that goes with it, and what is wrong with the input by that text.
+    ensures call { IsCommandCall (WithWrong (StudyTells study) result.1)
+        (moves S.seen K.seen D.seen ends.old ends.new) result.0.0 }
+    // If the input is a trace and nothing fails, the status is 0, or memory ran out.
+    ensures complete { IsTrace (S.seen ends.old.source) → HasNoFailure (moves S.seen K.seen D.seen ends.old ends.new)
+        → (result.0.0 ≡ 0) ⊎ (result.0.0 ≡ 7) }
     // Of a faulty line the first bytes were kept.
-    ensures kept { IsWrongText result.1 (S.seen source.old).left kept.new.items }
-    ensures faults_later { (S.seen source.old).failures ≤ (S.seen source.new).failures }
+    ensures kept { IsWrongText result.1 (S.seen ends.old.source).left kept.new.items }
+    ensures no_block { ends.new.depot ≡ ends.old.depot }
 {
-    conclude(alloc, read_trace(alloc, source, kept), study, sink)
+    let read = read_trace(alloc, &mut ends.source, kept);
+    conclude(alloc, read, study, &mut ends.output)
 }

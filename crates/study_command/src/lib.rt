@@ -8,4 +8,4 @@ mod printing;
 mod words;
 
 pub use command::study_trace;
-pub use words::{Study, first_word, study_of};
+pub use words::{Study, study_of};

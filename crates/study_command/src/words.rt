@@ -1,4 +1,4 @@
-ghost use Rattle.std.specs.Prelude.{◌≡◌, ◌≤◌, ◌<◌, [], ◌∷◌, ℕ, List, IfOk, IfSome, IfNone, MatchOption, map};
+ghost use Rattle.std.specs.Prelude.{◌≡◌, ◌≤◌, ◌∷◌, [], IfOk, IfSome, IfNone, map};
 ghost use Rattle.vm_types.specs.declared.limits.TheConstants.{MOST_STUDY_FRAMES};
 ghost use Rattle.study_command.specs.declared.words.Study.{Study};
 ghost use Rattle.study_command.specs.CommandLine.{AsksFor, AreValues, frames_named, process_named};
@@ -17,15 +17,6 @@ pub struct Study {
     pub process: Proc,
     /// Frames, 1 to 1024.
     pub frames: u32,
-}
-
-/// The first word, and those behind it; none if there is no word. Doesn't allocate.
-pub fn first_word<'a>(words: &'a [&'a str]) -> Option<(&'a [u8], &'a [&'a str])>
-    ensures { MatchOption result (map (λ word. word.now) words.entry.now ≡ [])
-        (λ p. map (λ word. word.now) words.entry.now ≡ p.0.now ∷ map (λ word. word.now) p.1.now) }
-{
-    let (first, rest) = words.split_first()?;
-    Some((first.as_bytes(), rest))
 }
 
 // The number of the process, A to P.

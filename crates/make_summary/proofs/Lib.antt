@@ -1,2 +1,0 @@
-mod PartsInLine
-mod Tallies

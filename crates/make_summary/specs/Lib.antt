@@ -1,2 +1,0 @@
-pub mod MakeText
-pub mod Tallies
