@@ -1,3 +1,4 @@
+pub mod Adding
 pub mod Beginning
 mod Filling
 pub mod Holding

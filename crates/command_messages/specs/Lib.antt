@@ -1,4 +1,7 @@
+pub mod Bounds
+pub mod Forms
 pub mod LineFaults
+pub mod LineWords
 pub mod LogMessage
 pub mod Marks
 pub mod Messages
@@ -6,3 +9,4 @@ pub mod ReasonText
 pub mod Reasons
 pub mod Shown
 pub mod Texts
+pub mod WordKinds

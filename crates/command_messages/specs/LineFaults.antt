@@ -4,7 +4,8 @@ use Rattle.std.specs.Prelude.{◌≡◌, ◌⊎◌, ℕ, ◌+◌, ◌<◌, Bool,
 use Rattle.std.specs.List.{flat_map}
 use Rattle.std.specs.Str.{IsUtf8}
 use Rattle.vm_types.specs.declared.limits.TheConstants.{MOST_PROCESSES, MOST_REQUESTS}
-use Rattle.study_command.specs.CommandLine.{frames_named, if_right, process_named}
+use Rattle.command_options.specs.Numbers.{if_right}
+use Rattle.study_command.specs.CommandLine.{frames_named, process_named}
 use Rattle.trace_words.specs.Number.{decimal_within}
 use Rattle.command_messages.specs.Shown.{shown}
 use Rattle.command_messages.specs.declared.faults.CommandName.{CommandName}
@@ -102,12 +103,16 @@ takes_text Check = codes "check takes its trace and its log from standard input:
 takes_text Dump = codes "dump takes its trace from standard input and writes bytes: dump < TRACE > FILE"
 takes_text Show = codes "show takes its dump from standard input: show < FILE"
 
+-- that an option is missing, and what its command takes
+abbrev pub missing_text : LineOption → List ℕ
+missing_text option = option_word option ++ codes " is missing: " ++ takes_text (command_with option)
+
 -- what is wrong, in words, with the bytes that are quoted
 abbrev pub said_text : LineFault → List ℕ → List ℕ
 said_text NotText kept = codes "a word isn't UTF-8"
 said_text NoCommand kept = codes "no command"
 said_text NoSuchCommand kept = codes "no such command: " ++ flat_map shown kept
-said_text (Missing option) kept = option_word option ++ codes " is missing"
+said_text (Missing option) kept = missing_text option
 said_text (BadValue option) kept = option_word option ++ codes " is " ++ range_text option
 said_text (Other command) kept = takes_text command
 

@@ -1,5 +1,5 @@
 -- What goes to standard error beside the program's output. Source: this project's own.
-use Rattle.std.specs.Prelude.{◌≡◌, ◌⊎◌, ℕ, ◌≤◌, ◌==◌, ◌||◌, if◌then◌else◌, List, [], ◌++◌, length, take, codes, decimal, None, Some}
+use Rattle.std.specs.Prelude.{◌≡◌, ◌⊎◌, ℕ, ◌≤◌, ◌==◌, ◌||◌, nat_lt, if◌then◌else◌, List, [], ◌++◌, length, take, codes, decimal, None, Some}
 use Rattle.std.specs.List.{flat_map}
 use Rattle.std.specs.declared.option.Option.{Option}
 use Rattle.std.specs.Io.KnownBytes.{Appends}
@@ -10,6 +10,7 @@ use Rattle.command_messages.specs.LogMessage.{log_message}
 use Rattle.command_messages.specs.Shown.{shown}
 use Rattle.command_ends.specs.declared.wrong.Wrong.{Wrong}
 use Rattle.command_ends.specs.declared.wrong.Wrong.TheVariants.{Line, Empty, Unfinished, LogTooLong, LogLine, DumpByte, Undeclared}
+use Rattle.command_messages.specs.Bounds.{over_word}
 use Rattle.command_messages.specs.LineFaults.{line_fault_text}
 use Rattle.command_messages.specs.Marks.{mark_text}
 use Rattle.command_messages.specs.Reasons.{reason_text}
@@ -20,18 +21,18 @@ abbrev pub usage_text : List ℕ
 usage_text = codes "neqysbar 1.0.0\nusage: neqysbar serial < TRACE\n           reads a trace and runs it; writes each entry, a report, the pages left dirty and the status\n       neqysbar replay < TRACE\n           reads a trace and runs it with a thread for each process, the writer and the swapper; writes what\n           serial writes, of one legal run\n       neqysbar study --process X --frames K < TRACE\n           reads a trace; writes what the references of process X, A to P, cost with K page frames, 1 to 1024\n       neqysbar make --seed N --procs P --refs R\n           reads nothing; makes a trace from the seed N, 0 to 4294967295, with P processes, 1 to 16, and R\n           references, 1 to 100000, and runs it; writes how many entries of each kind the run has\n       neqysbar check < TRACE-AND-LOG\n           reads a trace, a line LOG and a log; writes whether the log is legal, or its first line that isn't\n       neqysbar dump < TRACE > FILE\n           reads a trace and runs it up to the report; writes the dump of the page database there, in bytes\n       neqysbar show < FILE\n           reads a dump; writes what it holds, and each count in it that a recount doesn't give\nexample: neqysbar study --process A --frames 8 < examples/swapping.trace\n"
 
 -- beside a faulty line: its number and why it is at fault; its first bytes; and a mark below the word that breaks
--- the rule
+-- the rule, or that is over the bound
 abbrev pub fault_message : ℕ → Breach → List ℕ → List ℕ
 fault_message number breach text =
-    codes "neqysbar: line " ++ decimal number ++ codes ": " ++ reason_text number breach text ++ codes "\n    " ++ flat_map shown text ++ codes "\n" ++ mark_text breach.word text
+    codes "neqysbar: line " ++ decimal number ++ codes ": " ++ reason_text number breach text ++ codes "\n    " ++ flat_map shown text ++ codes "\n" ++ mark_text (over_word breach.word breach.bound text) text
 
 -- beside a log that goes on after as many lines as a log may have
 abbrev pub too_long_message : List ℕ
-too_long_message = codes "neqysbar: the log has more lines than a log may have\n"
+too_long_message = codes "neqysbar: the log has more lines than a log may have, 16777216\n"
 
 -- beside a trace without a faulty line
 abbrev pub unfinished_message : List ℕ
-unfinished_message = codes "neqysbar: the trace ends before its line END, or before the line LOG that check reads\n"
+unfinished_message = codes "neqysbar: the input ends before the line END of its trace, or before the line LOG that check reads behind END\n"
 
 -- beside an input without bytes
 abbrev pub empty_message : List ℕ
@@ -41,9 +42,13 @@ empty_message = codes "neqysbar: the input is empty\n"
 abbrev pub undeclared_message : List ℕ
 undeclared_message = codes "neqysbar: the trace doesn't declare the process that --process names, so it has no references\n"
 
+-- the letters in front of a dump, of which so many are there
+abbrev pub letters_text : ℕ → List ℕ
+letters_text bytes = if nat_lt bytes 8 then codes ", whose letters in front are VMSDUMP1" else []
+
 -- beside bytes that are no dump: how many of them begin one
 abbrev pub dump_message : ℕ → List ℕ
-dump_message bytes = codes "neqysbar: the first " ++ decimal bytes ++ codes " bytes begin a dump; the next one is wrong, or is missing\n"
+dump_message bytes = codes "neqysbar: the first " ++ decimal bytes ++ codes " bytes begin a dump" ++ letters_text bytes ++ codes "; the next one is wrong, or is missing\n"
 
 -- by what is wrong with the input, and by the first bytes of its faulty line
 abbrev pub wrong_message : Wrong → List ℕ → List ℕ

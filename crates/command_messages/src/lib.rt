@@ -3,12 +3,16 @@
 //! shown in a message.
 #![tactic(auto)]
 
+mod bounds;
 mod faults;
+mod kinds;
 mod line;
+mod line_words;
 mod lines;
 mod marks;
 mod messages;
 mod options;
+mod places;
 mod reasons;
 mod right;
 mod said;

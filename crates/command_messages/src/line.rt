@@ -3,15 +3,16 @@
 ghost use Rattle.std.specs.Prelude.{◌≡◌, ◌<◌, ◌∷◌, [], ℕ, List, IfSome, IfNone, MatchOption, false, get_or, is_some, length, map, true};
 ghost use Rattle.command_messages.specs.LineFaults.{HasInside, HoldsOfWords, IsBadAt, IsMissing, IsOptionWord, Quotes, command_with, command_word, takes};
 ghost use Rattle.command_messages.specs.declared.faults.CommandName.{CommandName};
-ghost use Rattle.study_command.specs.CommandLine.{if_right, process_named};
+ghost use Rattle.command_options.specs.Numbers.{if_right};
+ghost use Rattle.study_command.specs.CommandLine.{process_named};
 ghost use Rattle.trace_words.specs.Number.{decimal_within};
 ghost use Rattle.command_messages.specs.declared.faults.LineFault.{LineFault};
 
 use crate::faults::{CommandName, LineFault, LineOption};
 use crate::options::words_of;
 use arrayvec::ArrayVec;
+use command_options::first_word;
 use outside_io::keep_front;
-use study_command::first_word;
 use trace_words::decimal_within;
 use vm_text::{after, is};
 use vm_types::{MOST_PROCESSES, MOST_REQUESTS, MOST_STUDY_FRAMES};

@@ -40,8 +40,8 @@ fn place_of(text: &[u8], words: u8) -> usize
 }
 
 // Adds so many blanks.
-fn push_blanks(out: &mut ArrayVec<u8, 640>, count: usize)
-    requires { array_vec_len out.old + count ≤ 640 }
+fn push_blanks(out: &mut ArrayVec<u8, 768>, count: usize)
+    requires { array_vec_len out.old + count ≤ 768 }
     ensures items { out.new.items ≡ out.old.items ++ replicate count 32 }
     ensures len { array_vec_len out.new ≡ array_vec_len out.old + count }
 {
@@ -52,9 +52,9 @@ fn push_blanks(out: &mut ArrayVec<u8, 640>, count: usize)
 
 /// Adds a line with a mark below the word of this number of a line that stands behind four blanks; none for
 /// the line as a whole, whose number is 0.
-pub(crate) fn push_mark(out: &mut ArrayVec<u8, 640>, word: u8, text: &[u8])
+pub(crate) fn push_mark(out: &mut ArrayVec<u8, 768>, word: u8, text: &[u8])
     requires short { length text.now ≤ 80 }
-    requires room { array_vec_len out.old ≤ 540 }
+    requires room { array_vec_len out.old ≤ 668 }
     ensures items { out.new.items ≡ out.old.items ++ mark_text word text.now }
 {
     if word > 0 {

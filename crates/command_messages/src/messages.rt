@@ -3,13 +3,14 @@
 ghost use Rattle.std.specs.Prelude.{◌≡◌, ◌+◌, ◌≤◌, ◌++◌, length, true, None};
 ghost use Rattle.arrayvec.specs.ArrayVec.{array_vec_len};
 ghost use Rattle.command_messages.specs.Texts.{Adds, AreWords};
-ghost use Rattle.command_messages.specs.LineFaults.{said_text, takes_text};
-ghost use Rattle.command_messages.specs.Messages.{IsSaid, dump_message, fault_message, line_message, message_of, status_message, usage_message, usage_text, wrong_message};
+ghost use Rattle.command_messages.specs.LineFaults.{missing_text, said_text, takes_text};
+ghost use Rattle.command_messages.specs.Messages.{IsSaid, dump_message, fault_message, letters_text, line_message, message_of, status_message, usage_message, usage_text, wrong_message};
 
-use crate::faults::{CommandName, LineFault};
+use crate::bounds::over_word;
+use crate::faults::{CommandName, LineFault, LineOption};
 use crate::lines::log_message;
 use crate::marks::push_mark;
-use crate::options::words_of;
+use crate::options::{command_with, words_of};
 use crate::reasons::push_reason;
 use crate::shown::push_shown;
 use arrayvec::ArrayVec;
@@ -27,12 +28,12 @@ const UNDECLARED: &[u8] =
     b"neqysbar: the trace doesn't declare the process that --process names, so it has no references\n";
 
 const UNFINISHED: &[u8] =
-    b"neqysbar: the trace ends before its line END, or before the line LOG that check reads\n";
+    b"neqysbar: the input ends before the line END of its trace, or before the line LOG that check reads behind END\n";
 
-const TOO_LONG: &[u8] = b"neqysbar: the log has more lines than a log may have\n";
+const TOO_LONG: &[u8] = b"neqysbar: the log has more lines than a log may have, 16777216\n";
 
 // The message about a faulty line with these first bytes.
-fn fault_message(number: u32, breach: Breach, text: &ArrayVec<u8, 80>) -> ArrayVec<u8, 640>
+fn fault_message(number: u32, breach: Breach, text: &ArrayVec<u8, 80>) -> ArrayVec<u8, 768>
     ensures { result.items ≡ fault_message number breach text.now.items }
 {
     let mut out = ArrayVec::new();
@@ -43,8 +44,20 @@ fn fault_message(number: u32, breach: Breach, text: &ArrayVec<u8, 80>) -> ArrayV
     push_word(&mut out, b"\n    ");
     push_shown(&mut out, text.as_slice());
     push_word(&mut out, b"\n");
-    push_mark(&mut out, breach.word, text.as_slice());
+    let over = over_word(breach.word, breach.bound, text.as_slice());
+    push_mark(&mut out, over, text.as_slice());
     out
+}
+
+// The letters in front of a dump, of which so many are there.
+fn letters_of(bytes: u64) -> &'static [u8]
+    ensures { AreWords result.now (letters_text bytes) 40 }
+{
+    if bytes < 8 {
+        b", whose letters in front are VMSDUMP1"
+    } else {
+        b""
+    }
 }
 
 // The message about bytes that are no dump, of which so many begin one.
@@ -54,10 +67,9 @@ fn dump_message(bytes: u64) -> ArrayVec<u8, 512>
     let mut out = ArrayVec::new();
     push_word(&mut out, b"neqysbar: the first ");
     push_decimal(&mut out, bytes);
-    push_word(
-        &mut out,
-        b" bytes begin a dump; the next one is wrong, or is missing\n",
-    );
+    push_word(&mut out, b" bytes begin a dump");
+    push_word(&mut out, letters_of(bytes));
+    push_word(&mut out, b"; the next one is wrong, or is missing\n");
     out
 }
 
@@ -80,6 +92,16 @@ fn taken_by(command: CommandName) -> &'static [u8]
     }
 }
 
+// Adds that an option is missing, and what its command takes.
+fn add_missing(out: &mut ArrayVec<u8, 1792>, option: LineOption)
+    requires { array_vec_len out.old ≤ 10 }
+    ensures { Adds out.old.items out.new.items (missing_text option) 370 }
+{
+    push_word(out, words_of(option).name);
+    push_word(out, b" is missing: ");
+    push_word(out, taken_by(command_with(option)));
+}
+
 // Adds what is wrong with a command line.
 fn add_said(out: &mut ArrayVec<u8, 1792>, fault: LineFault, text: &ArrayVec<u8, 80>)
     requires { array_vec_len out.old ≤ 10 }
@@ -92,10 +114,7 @@ fn add_said(out: &mut ArrayVec<u8, 1792>, fault: LineFault, text: &ArrayVec<u8, 
             push_word(out, b"no such command: ");
             push_shown(out, text.as_slice());
         }
-        LineFault::Missing(option) => {
-            push_word(out, words_of(option).name);
-            push_word(out, b" is missing");
-        }
+        LineFault::Missing(option) => add_missing(out, option),
         LineFault::BadValue(option) => {
             let words = words_of(option);
             push_word(out, words.name);
@@ -191,7 +210,7 @@ fn explain_status<M: Sink>(
 }
 
 /// Writes the message that goes with a status: for an input that is wrong the number of the faulty line, why it
-/// is at fault and its first bytes, with a mark below the word that is wrong, or that the input is empty, or
+/// is at fault and its first bytes, with a mark below the word that is wrong or over its bound, or that the input is empty, or
 /// that the trace is unfinished or lacks the process that was asked for, or that a log is too long, or the
 /// number of the line at which a log isn't legal and its first bytes, or after how many bytes an input is no
 /// dump; else what is wrong with the command line and usage beside 1, what failed beside 3, 4, 6 and 7, and

@@ -2,9 +2,9 @@
 
 ghost use Rattle.std.specs.Prelude.{◌≡◌};
 ghost use Rattle.command_messages.specs.Texts.{AreWords};
-ghost use Rattle.command_messages.specs.LineFaults.{option_word, range_text};
+ghost use Rattle.command_messages.specs.LineFaults.{command_with, option_word, range_text};
 
-use crate::faults::LineOption;
+use crate::faults::{CommandName, LineOption};
 
 // The words of an option.
 #[derive(Clone, Copy)]
@@ -34,5 +34,15 @@ pub(crate) fn words_of(option: LineOption) -> OptionWords
         LineOption::Seed => words(b"--seed", b"0 to 4294967295"),
         LineOption::Procs => words(b"--procs", b"1 to 16"),
         LineOption::Refs => words(b"--refs", b"1 to 100000"),
+    }
+}
+
+// The command that has the option.
+pub(crate) fn command_with(option: LineOption) -> CommandName
+    ensures { result ≡ command_with option }
+{
+    match option {
+        LineOption::Process | LineOption::Frames => CommandName::Study,
+        LineOption::Seed | LineOption::Procs | LineOption::Refs => CommandName::Make,
     }
 }

@@ -3,55 +3,67 @@
 ghost use Rattle.std.specs.Prelude.{◌≡◌, ◌+◌, ◌≤◌, length};
 ghost use Rattle.arrayvec.specs.ArrayVec.{array_vec_len};
 ghost use Rattle.command_messages.specs.Texts.{Adds, AreWords};
-ghost use Rattle.command_messages.specs.Reasons.{begins, bound_text, breach_text, first_reason, from_to, is_dump, is_log, is_marked, is_wide, later_reason, most_back, most_front, most_text, reason_text, rule_text, with_one, with_so};
+ghost use Rattle.command_messages.specs.Reasons.{begins, body_text, breach_text, first_frames_text, first_reason, frames_text, from_to, is_dump, is_log, is_marked, is_no_start, is_wide, later_reason, most_back, most_front, most_text, number_text, reason_text, rule_text, start_text, with_so, within_text};
 
+use crate::bounds::{
+    push_address, push_bytes, push_extent, push_frame, push_locks, push_next, push_pages,
+    push_quota, push_regions, push_value,
+};
+use crate::kinds::{allowed, is_letter, repeated, undeclared, word_kind};
+use crate::line_words::line_word;
+use crate::places::push_misplaced;
 use arrayvec::ArrayVec;
 use trace_reader::{Bound, Breach, Cause, Limited};
+use trace_words::is;
 use vm_text::{after, push_decimal, push_word};
 
-// The rule that the word of this number breaks.
-fn rule_of(word: u8, cause: Cause) -> &'static [u8]
-    ensures { AreWords result.now (rule_text word cause) 100 }
+// The rule of a word that is no number where one stands, behind this first word.
+fn number_rule(first: &[u8]) -> &'static [u8]
+    ensures { AreWords result.now (number_text first.now) 100 }
 {
-    match cause {
-        Cause::LineTooLong => b"the line has more than 255 bytes",
-        Cause::NotAscii =>
-            b"the line has a byte that is neither a blank, a tab nor a printable character",
-        Cause::TooMany =>
-            b"there are more lines, sections, section pages, processes or requests than a trace may have",
-        Cause::UnknownWord => b"the word is none of those that may stand in its place",
-        Cause::Misplaced => {
-            if word == 1 {
-                b"the line doesn't belong here"
-            } else {
-                b"the line has too many or too few words"
-            }
-        }
-        Cause::NoSuch => b"no earlier line declares this",
-        Cause::BadNumber => b"the word stands in the place of a number and is none",
-        Cause::OutOfRange => b"the number is out of its range",
-        Cause::Unaligned =>
-            b"the address isn't a multiple of the page size or of the width of the reference",
-        Cause::Repeated => b"this was declared before",
+    if is(first, b"DATA") {
+        b"the bytes are 1 to 64 pairs of hexadecimal digits"
+    } else {
+        b"the word stands in the place of a number and is none"
     }
 }
 
-// Adds a text with a number.
-fn push_one(out: &mut ArrayVec<u8, 640>, front: &[u8], n: u64, back: &[u8])
-    requires front { length front.now ≤ 70 }
-    requires back { length back.now ≤ 60 }
-    requires room { array_vec_len out.old ≤ 40 }
-    ensures { Adds out.old.items out.new.items (with_one front.now n back.now) 150 }
+// Adds the rule that the word of this number breaks, in a line with these first bytes.
+fn push_rule(out: &mut ArrayVec<u8, 768>, word: u8, cause: Cause, text: &[u8])
+    requires { array_vec_len out.old ≤ 40 }
+    ensures { Adds out.old.items out.new.items (rule_text word cause text.now) 240 }
 {
-    push_word(out, front);
-    push_decimal(out, n);
-    push_word(out, back);
+    let first = line_word(1, text);
+    match cause {
+        Cause::LineTooLong => push_word(out, b"the line has more than 255 bytes"),
+        Cause::NotAscii => push_word(
+            out,
+            b"the line has a byte that is neither a blank, a tab nor a printable character",
+        ),
+        Cause::TooMany => push_word(
+            out,
+            b"there are more lines, sections, section pages, processes or requests than a trace may have",
+        ),
+        Cause::UnknownWord => push_word(
+            out,
+            allowed(word_kind(first, word), line_word(word, text)),
+        ),
+        Cause::Misplaced => push_misplaced(out, word, text),
+        Cause::NoSuch => push_word(out, undeclared(word_kind(first, word))),
+        Cause::BadNumber => push_word(out, number_rule(first)),
+        Cause::OutOfRange => push_word(out, b"the number is out of its range"),
+        Cause::Unaligned => push_word(
+            out,
+            b"the address isn't a multiple of the page size or of the width of the reference",
+        ),
+        Cause::Repeated => push_word(out, repeated(first)),
+    }
 }
 
 // Adds from where to where a number is.
-fn push_range(out: &mut ArrayVec<u8, 640>, low: u32, high: u32)
+fn push_range(out: &mut ArrayVec<u8, 768>, low: u32, high: u32)
     requires { array_vec_len out.old ≤ 40 }
-    ensures { Adds out.old.items out.new.items (from_to low high) 150 }
+    ensures { Adds out.old.items out.new.items (from_to low high) 80 }
 {
     if low == high {
         push_word(out, b"the number is ");
@@ -64,11 +76,34 @@ fn push_range(out: &mut ArrayVec<u8, 640>, low: u32, high: u32)
     }
 }
 
+// Adds from where to where a number of frames in version 1 is.
+fn push_first_frames(out: &mut ArrayVec<u8, 768>, low: u32, high: u32)
+    requires { array_vec_len out.old ≤ 40 }
+    ensures { Adds out.old.items out.new.items (first_frames_text low high) 240 }
+{
+    push_range(out, low, high);
+    push_word(out, b", and in version 2 to 16384");
+}
+
+// Adds from where to where the word of this number is, behind this first word.
+fn push_within(out: &mut ArrayVec<u8, 768>, first: &[u8], word: u8, low: u32, high: u32)
+    requires { array_vec_len out.old ≤ 40 }
+    ensures { Adds out.old.items out.new.items (within_text first.now word low high) 240 }
+{
+    if is_letter(first) && word == 4 && low == 0 {
+        push_value(out, high);
+    } else if is(first, b"FRAMES") && high == 4096 {
+        push_first_frames(out, low, high);
+    } else {
+        push_range(out, low, high);
+    }
+}
+
 // Adds what a value is, and what follows from it with the same number.
-fn push_so(out: &mut ArrayVec<u8, 640>, name: &[u8], n: u32, so: &[u8])
-    requires short { length name.now + length so.now ≤ 90 }
+fn push_so(out: &mut ArrayVec<u8, 768>, name: &[u8], n: u32, so: &[u8], back: &[u8])
+    requires short { length name.now + length so.now + length back.now ≤ 160 }
     requires room { array_vec_len out.old ≤ 40 }
-    ensures { Adds out.old.items out.new.items (with_so name.now n so.now) 150 }
+    ensures { Adds out.old.items out.new.items (with_so name.now n so.now back.now) 240 }
 {
     push_word(out, name);
     push_word(out, b" is ");
@@ -77,6 +112,7 @@ fn push_so(out: &mut ArrayVec<u8, 640>, name: &[u8], n: u32, so: &[u8])
     push_word(out, so);
     push_word(out, b" ");
     push_decimal(out, u64::from(n));
+    push_word(out, back);
 }
 
 // What stands before the number of these that a trace has at most.
@@ -103,80 +139,115 @@ fn most_back(limited: Limited) -> &'static [u8]
 }
 
 // Adds how many of these a trace has at most.
-fn push_most(out: &mut ArrayVec<u8, 640>, limited: Limited, n: u32)
+fn push_most(out: &mut ArrayVec<u8, 768>, limited: Limited, n: u32)
     requires { array_vec_len out.old ≤ 40 }
-    ensures { Adds out.old.items out.new.items (most_text limited n) 150 }
+    ensures { Adds out.old.items out.new.items (most_text limited n) 240 }
 {
     push_word(out, most_front(limited));
     push_decimal(out, u64::from(n));
     push_word(out, most_back(limited));
 }
 
-// Adds what may stand in the place of a word, or the rule that it breaks if that is anything.
-fn push_bound(out: &mut ArrayVec<u8, 640>, rule: &[u8], bound: Bound)
-    requires rule { length rule.now ≤ 100 }
-    requires room { array_vec_len out.old ≤ 40 }
-    ensures { Adds out.old.items out.new.items (bound_text rule.now bound) 150 }
+// Adds the frames that BODY finds to be too few, and nothing of another bound.
+fn push_frames(out: &mut ArrayVec<u8, 768>, bound: Bound)
+    requires { array_vec_len out.old ≤ 40 }
+    ensures { Adds out.old.items out.new.items (frames_text bound) 240 }
 {
     match bound {
-        Bound::Free => push_word(out, rule),
-        Bound::Within(low, high) => push_range(out, low, high),
-        Bound::Multiple(bytes) => push_one(
-            out,
-            b"the address has 1 to 8 hexadecimal digits, and is a multiple of ",
-            u64::from(bytes),
-            b"",
-        ),
-        Bound::Next(_) => push_word(
-            out,
-            b"processes are declared in the order of their letters, from A on",
-        ),
-        Bound::BelowFrames(n) => push_so(out, b"FRAMES", n, b"the frame's number is below"),
-        Bound::Bytes(n) => push_one(
-            out,
-            b"the section has ",
-            n as u64,
-            b" bytes, and those from this place on lie in it",
-        ),
-        Bound::Pages(n) => push_one(
-            out,
-            b"the section has ",
-            n as u64,
-            b" pages, and those from this page on are among them",
-        ),
-        Bound::Regions => push_word(
-            out,
-            b"the pages lie in P0 pages 0 to 4095, or in the last 1024 pages of P1",
-        ),
-        Bound::Locks(n) => push_so(out, b"the limit", n, b"the locks and 2 are at most"),
-        Bound::Quota(n) => push_so(out, b"the limit", n, b"the quota is at least"),
-        Bound::Extent(n) => push_so(out, b"the quota", n, b"the extent is at least"),
-        Bound::LoLimit(n) => push_so(out, b"HILIMIT", n, b"LOLIMIT is at most"),
-        Bound::HiLimit(n) => push_so(out, b"WAITLIMIT", n, b"HILIMIT is at most"),
-        Bound::FreeLim(n) => push_so(out, b"FREEGOAL", n, b"FREELIM is at most"),
         Bound::Frames(n) => push_so(
             out,
             b"FRAMES",
             n,
-            b"each extent, the bad frames and 2 are at most",
+            b"the greatest extent, the bad frames and 2 are together at most",
+            b"",
         ),
         Bound::FramesAndLocks(n) => push_so(
             out,
             b"FRAMES",
             n,
-            b"each extent, the bad frames, the locks of all processes and 2 are at most",
+            b"the greatest extent, the bad frames, the locks of all processes and 2 are together at most",
+            b"",
         ),
-        Bound::Most(limited, n) => push_most(out, limited, n),
+        _ => {}
     }
 }
 
-// Adds the rule that a line breaks, with the bound that is at play.
-fn push_breach(out: &mut ArrayVec<u8, 640>, breach: Breach)
+// Adds the order of parameters or the frames that BODY finds broken, and no more of another bound.
+fn push_body_bound(out: &mut ArrayVec<u8, 768>, bound: Bound)
     requires { array_vec_len out.old ≤ 40 }
-    ensures { Adds out.old.items out.new.items (breach_text breach) 150 }
+    ensures { Adds out.old.items out.new.items (body_text bound) 240 }
 {
-    let rule = rule_of(breach.word, breach.cause);
-    push_bound(out, rule, breach.bound);
+    match bound {
+        Bound::LoLimit(n) => push_so(
+            out,
+            b"HILIMIT",
+            n,
+            b"LOLIMIT is at most",
+            b"; without lines PARAM they are 128 and 32",
+        ),
+        Bound::HiLimit(n) => push_so(
+            out,
+            b"WAITLIMIT",
+            n,
+            b"HILIMIT is at most",
+            b"; without lines PARAM they are 256 and 128",
+        ),
+        Bound::FreeLim(n) => push_so(
+            out,
+            b"FREEGOAL",
+            n,
+            b"FREELIM is at most",
+            b"; without lines PARAM both are 0",
+        ),
+        _ => push_frames(out, bound),
+    }
+}
+
+// Adds what may stand in the place of the word of a breach, or the rule that it breaks if that is anything.
+fn push_breach(out: &mut ArrayVec<u8, 768>, breach: Breach, text: &[u8])
+    requires { array_vec_len out.old ≤ 40 }
+    ensures { Adds out.old.items out.new.items (breach_text breach text.now) 240 }
+{
+    match breach.bound {
+        Bound::Free => push_rule(out, breach.word, breach.cause, text),
+        Bound::Within(low, high) => push_within(out, line_word(1, text), breach.word, low, high),
+        Bound::Multiple(bytes) => push_address(out, breach.cause, bytes),
+        Bound::Next(p) => push_next(out, p),
+        Bound::BelowFrames(n) => push_frame(out, n, text),
+        Bound::Bytes(n) => push_bytes(out, n, text),
+        Bound::Pages(n) => push_pages(out, n, text),
+        Bound::Regions => push_regions(out, text),
+        Bound::Locks(n) => push_locks(out, n, text),
+        Bound::Quota(n) => push_quota(out, n, text),
+        Bound::Extent(n) => push_extent(out, n, text),
+        Bound::Most(limited, n) => push_most(out, limited, n),
+        _ => push_body_bound(out, breach.bound),
+    }
+}
+
+// Whether the first word of a line begins none, or none here.
+fn is_no_start(cause: Cause) -> bool
+    ensures { result ≡ is_no_start cause }
+{
+    match cause {
+        Cause::UnknownWord | Cause::Misplaced => true,
+        _ => false,
+    }
+}
+
+// Adds why the first line of an input is at fault, where it can be a trace's.
+fn push_start(out: &mut ArrayVec<u8, 768>, breach: Breach, text: &[u8])
+    requires { array_vec_len out.old ≤ 40 }
+    ensures { Adds out.old.items out.new.items (start_text breach text.now) 240 }
+{
+    if breach.word == 1 && is_no_start(breach.cause) {
+        push_word(
+            out,
+            b"a trace begins with VMTRACE 1, VMTRACE 2 or LONGTRACE 2",
+        );
+    } else {
+        push_breach(out, breach, text);
+    }
 }
 
 // Whether the text begins with these bytes.
@@ -204,9 +275,9 @@ fn is_log(text: &[u8]) -> bool
 }
 
 // Adds why a first line is at fault.
-fn push_first(out: &mut ArrayVec<u8, 640>, breach: Breach, text: &[u8])
+fn push_first(out: &mut ArrayVec<u8, 768>, breach: Breach, text: &[u8])
     requires { array_vec_len out.old ≤ 40 }
-    ensures { Adds out.old.items out.new.items (first_reason (breach_text breach) text.now) 150 }
+    ensures { Adds out.old.items out.new.items (first_reason (start_text breach text.now) text.now) 240 }
 {
     if begins(b"\xEF\xBB\xBF", text) {
         push_word(
@@ -229,14 +300,14 @@ fn push_first(out: &mut ArrayVec<u8, 640>, breach: Breach, text: &[u8])
             b"the input begins as a dump does, and a trace begins with VMTRACE",
         );
     } else {
-        push_breach(out, breach);
+        push_start(out, breach, text);
     }
 }
 
 // Adds why a later line is at fault.
-fn push_later(out: &mut ArrayVec<u8, 640>, breach: Breach, text: &[u8])
+fn push_later(out: &mut ArrayVec<u8, 768>, breach: Breach, text: &[u8])
     requires { array_vec_len out.old ≤ 40 }
-    ensures { Adds out.old.items out.new.items (later_reason (breach_text breach) text.now) 150 }
+    ensures { Adds out.old.items out.new.items (later_reason (breach_text breach text.now) text.now) 240 }
 {
     if text.len() == 3 && begins(b"LOG", text) {
         push_word(
@@ -244,14 +315,14 @@ fn push_later(out: &mut ArrayVec<u8, 640>, breach: Breach, text: &[u8])
             b"LOG stands behind the line END, and check alone reads it",
         );
     } else {
-        push_breach(out, breach);
+        push_breach(out, breach, text);
     }
 }
 
-/// Adds why a line of this number is at fault, in at most 150 bytes.
-pub(crate) fn push_reason(out: &mut ArrayVec<u8, 640>, number: u32, breach: Breach, text: &[u8])
+/// Adds why a line of this number is at fault, in at most 240 bytes.
+pub(crate) fn push_reason(out: &mut ArrayVec<u8, 768>, number: u32, breach: Breach, text: &[u8])
     requires { array_vec_len out.old ≤ 40 }
-    ensures { Adds out.old.items out.new.items (reason_text number breach text.now) 150 }
+    ensures { Adds out.old.items out.new.items (reason_text number breach text.now) 240 }
 {
     if number == 1 {
         push_first(out, breach, text);

@@ -1,8 +1,9 @@
-use Rattle.std.proofs.Common.{rules, ℕ, List, ◌++◌, sym, ◌∙◌, ap, append_assoc}
+use Rattle.std.proofs.Common.{rules, ℕ, List, ◌++◌, sym, subst, ◌∙◌, ap, append_assoc}
 use Rattle.std.specs.Prelude.{codes}
 use Rattle.std.specs.List.{flat_map}
-use Rattle.command_messages.specs.LineFaults.{option_word, said_text}
+use Rattle.command_messages.specs.LineFaults.{said_text}
 use Rattle.command_messages.specs.Shown.{shown}
+use Rattle.command_messages.specs.Texts.{Adds}
 use Rattle.command_messages.specs.declared.faults.LineFault.{LineFault}
 use Rattle.command_messages.proofs.messages.add_said.Goals as goal
 
@@ -19,11 +20,4 @@ returns-in-NoSuchCommand c =
     )
 
 pub returns-in-Missing : goal.returns-in-Missing
-returns-in-Missing c =
-    let before : List ℕ = c.args.out.now.items in (
-      c.push_word-in-Missing-2.ensures.items
-          ∙ ap (λ (front : List ℕ). front ++ codes " is missing") (c.push_word-in-Missing.ensures.items ∙ ap (λ (word : List ℕ). before ++ word) c.words_of.ensures.name.0)
-          ∙ append_assoc before (option_word c.in-Missing.option) (codes " is missing")
-          ∙ ap (λ (fault : LineFault). before ++ said_text fault c.args.text.now.items) (sym c.in-Missing.is),
-      search rules,
-    )
+returns-in-Missing c = subst (λ (fault : LineFault). Adds c.args.out.now.items c.add_missing.new.out.items (said_text fault c.args.text.now.items) 370) (sym c.in-Missing.is) c.add_missing.ensures
