@@ -1,0 +1,3 @@
+pub mod LastAnswers
+pub mod LongerBody
+pub mod OpenRuns

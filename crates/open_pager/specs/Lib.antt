@@ -1,0 +1,4 @@
+pub mod Asked
+pub mod LastAnswer
+pub mod Open
+pub mod Requests
