@@ -11,6 +11,10 @@ import urllib.request
 
 # so long a browser may take to answer, on a machine that has other work too
 ANSWER_SECONDS = 180
+# so long an element may be drawn anew, or lie below another one, until a click meets it
+CLICK_SECONDS = 20
+# what a driver says of such an element
+NOT_YET = ("stale element reference", "element click intercepted", "element not interactable", "no such element")
 ELEMENT = "element-6066-11e4-a52e-4f735466cecf"
 
 
@@ -46,7 +50,15 @@ class Window:
         return found[ELEMENT]
 
     def click(self, selector):
-        self.ask("POST", f"/element/{self.find(selector)}/click", {})
+        """Clicks an element, as soon as it lies still: one that is just drawn anew is looked for again."""
+        last = time.monotonic() + CLICK_SECONDS
+        while True:
+            try:
+                return self.ask("POST", f"/element/{self.find(selector)}/click", {})
+            except RuntimeError as fault:
+                if time.monotonic() > last or not any(word in str(fault) for word in NOT_YET):
+                    raise
+            time.sleep(0.1)
 
     def type(self, selector, text):
         self.ask("POST", f"/element/{self.find(selector)}/value", {"text": text})

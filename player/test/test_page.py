@@ -1,9 +1,10 @@
 #!/usr/bin/env python3
 """Tests the player's page in a real browser, through its controls.
 
-    python3 player/test/test_page.py [--timed]
+    python3 player/test/test_page.py [--part runs|edits|looks] [--timed]
 
-With --timed a long log has to stand and to step within bounds of time too; test/figures.py measures more.
+With --part one of three parts alone: what is told of runs, of traces that are edited, and how the page looks. With
+--timed a long log has to stand and to step within bounds of time too; test/figures.py measures more.
 Status 0: all passed, or there is no browser, which it says. Status 1: something differs.
 """
 
@@ -24,6 +25,7 @@ HERE = pathlib.Path(__file__).resolve().parent
 PAGE = HERE.parent / "index.html"
 LOAD_SECONDS = 4.0
 STEP_THOUSANDTHS = 100
+PARTS = ["runs", "edits", "looks"]
 RIGHT_ARROW = "\ue014"
 STEP_BACK = """
 const begun = performance.now();
@@ -274,25 +276,33 @@ def test_long(page, folder, timed):
     page.same("few rows are drawn", len(page.items("#lines-all > *")) < 100, True)
 
 
-def run_all(browser, timed):
+def test_runs(page, folder, timed):
+    test_write_cluster(page)
+    test_shared_section(page)
+    test_swap(page)
+    test_judge(page, folder)
+    test_drop(page)
+    test_bad_input(page, folder)
+    test_long(page, folder, timed)
+
+
+def run(browser, parts, timed):
     page = Page(browser)
     with tempfile.TemporaryDirectory() as name:
         folder = pathlib.Path(name)
-        test_write_cluster(page)
-        test_shared_section(page)
-        test_swap(page)
-        test_judge(page, folder)
-        test_drop(page)
-        test_bad_input(page, folder)
-        test_edits(page, folder)
-        test_looks(page, HERE, folder)
-        test_long(page, folder, timed)
-    print(f"player page: {page.passed} passed, {page.failed} failed")
+        if "runs" in parts:
+            test_runs(page, folder, timed)
+        if "edits" in parts:
+            test_edits(page, folder)
+        if "looks" in parts:
+            test_looks(page, HERE, folder)
+    print(f"player page, {', '.join(parts)}: {page.passed} passed, {page.failed} failed")
     return 1 if page.failed else 0
 
 
 def main():
     words = argparse.ArgumentParser(description=__doc__, formatter_class=argparse.RawDescriptionHelpFormatter)
+    words.add_argument("--part", choices=PARTS, help="one part alone")
     words.add_argument("--timed", action="store_true", help="asks for the bounds of time too")
     options = words.parse_args()
     try:
@@ -301,7 +311,7 @@ def main():
         print(f"player page: not tested, {fault}")
         return 0
     try:
-        return run_all(browser, options.timed)
+        return run(browser, [options.part] if options.part else PARTS, options.timed)
     finally:
         browser.close()
 
