@@ -9,3 +9,6 @@ pub mod Referring
 pub mod OpenWork
 pub mod Searches
 pub mod Resting
+pub mod Stepped
+pub mod OwnSteps
+pub mod Needs

@@ -24,7 +24,8 @@ use Rattle.vm_swapper.specs.declared.swap.Swap.TheVariants.{Again}
 use Rattle.vm_swapper.specs.declared.swap.SwapWhy.{SwapWhy}
 use Rattle.vm_swapper.specs.declared.swap.SwapWhy.TheVariants.{InFlight}
 use Rattle.seat_laws.proofs.FreeSeats.{free_by_lifts}
-use Rattle.seat_turns.specs.Rests.{SwapperRests, SwapperRestsBy, WriterRests, lowest_leaving}
+use Rattle.seat_steps.specs.Leaving.{lowest_leaving}
+use Rattle.seat_turns.specs.Rests.{SwapperRests, SwapperRestsBy, WriterRests}
 use Rattle.seat_turns.specs.Steps.{turned_by}
 use Rattle.seat_turns.specs.Worked.{HasLandedOut}
 use Rattle.seat_turns.specs.declared.turned.Turned.TheVariants.{Rests}

@@ -8,7 +8,7 @@ use Rattle.vm_types.specs.Status.{is_coming, is_leaving}
 use Rattle.pager_model.specs.Pager.{Pager}
 use Rattle.pager_policy.specs.Swap.{is_but}
 use Rattle.pager_rules.proofs.Basics.{find_cons_yes}
-use Rattle.seat_turns.specs.Rests.{is_other_leaving}
+use Rattle.seat_steps.specs.Leaving.{is_other_leaving}
 
 pub find_here : (t : ℕ → Bool) (k n : ℕ) → k < n → t k ≡ true → find t (range_with_len k (n - k)) ≡ Some k
 find_here t k n less is =

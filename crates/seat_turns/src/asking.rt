@@ -1,7 +1,20 @@
-ghost use Rattle.std.specs.Prelude.{◌≡◌, ◌<◌, [], Some, false, length};
+ghost use Rattle.std.specs.Prelude.{◌≡◌, ◌<◌, ℕ, List, [], Option, Some, false, length};
+ghost use Rattle.vm_types.specs.declared.config.Config.{Config};
+ghost use Rattle.vm_types.specs.declared.reference.Ref.{Ref};
+ghost use Rattle.vm_types.specs.declared.reply.Answer.{Answer};
+ghost use Rattle.vm_types.specs.declared.reply.Reply.{Reply};
 ghost use Rattle.vm_types.specs.declared.service.Request.{Request};
+ghost use Rattle.vm_types.specs.declared.service.Service.{Service};
+ghost use Rattle.vm_journal.specs.declared.entry.Entry.{Entry};
+ghost use Rattle.fault_core.specs.Gives.{returned};
+ghost use Rattle.fault_core.specs.declared.next.Next.{Next};
+ghost use Rattle.vm_services.specs.Serves.{returned as served_as};
+ghost use Rattle.vm_services.specs.declared.next.ServeNext.{ServeNext};
+ghost use Rattle.seat_steps.specs.Steps.{IsStep};
+ghost use Rattle.seat_steps.specs.Waits.{reference_answer, service_answer};
 ghost use Rattle.seat_turns.specs.Begun.{IsBegunFor};
 ghost use Rattle.seat_turns.specs.Steps.{HasTurned, is_reads, seat_of, turned_by};
+ghost use Rattle.seat_turns.specs.Stepping.{IsNeed, IsStepWhere, WaitsOwn};
 ghost use Rattle.seat_turns.specs.Worked.{HasTried, MayStart, MayStep};
 
 use crate::swapping::{bring_back, find_frame};
@@ -34,7 +47,9 @@ enum Need {
 }
 
 /// What a reference waits for.
-fn reference_needs(why: AgainWhy) -> Need {
+fn reference_needs(why: AgainWhy) -> Need
+    ensures { (config : Config) (past : List Entry) (p : ℕ) (r : Ref) (shown : Option Reply) → Some (Next.Again why) ≡ returned (reference_answer config past p r) shown → IsNeed result config past p (Request.Reference r) }
+{
     match why {
         AgainWhy::NotResident => Need::Process,
         AgainWhy::ModifiedFull => Need::Room,
@@ -44,7 +59,9 @@ fn reference_needs(why: AgainWhy) -> Need {
 }
 
 /// What a service waits for.
-fn service_needs(why: ServeWhy) -> Need {
+fn service_needs(why: ServeWhy) -> Need
+    ensures { (config : Config) (past : List Entry) (p : ℕ) (s : Service) (shown : Option Answer) → Some (ServeNext.Again why) ≡ served_as (service_answer config past p s) shown → IsNeed result config past p (Request.Service s) }
+{
     match why {
         ServeWhy::NotResident => Need::Process,
         ServeWhy::ModifiedFull => Need::Room,
@@ -56,7 +73,8 @@ fn service_needs(why: ServeWhy) -> Need {
 fn meet<B: Block>(state: &mut State<B>, p: Proc, need: Need, carrier: &mut Carrier<B>) -> bool
     requires start { MayStart state.old carrier.old }
     requires process { p.0 < length state.old.config.procs }
-    ensures { HasTried B.seen B.tells state.old state.new carrier.old carrier.new result }
+    ensures tried { HasTried B.seen B.tells state.old state.new carrier.old carrier.new result }
+    ensures step { IsStepWhere state.old state.new carrier.old.seat (WaitsOwn p (IsNeed need)) }
 {
     match need {
         Need::Process => bring_back(state, p, carrier),
@@ -75,6 +93,7 @@ pub(crate) fn refer_next<B: Block>(
 ) -> Turned
     requires step { MayStep state.old p (Request.Reference r) carrier.old }
     ensures turned { HasTurned B.seen B.tells state.old state.new (seat_of p) (Some (Request.Reference r)) result carrier.new }
+    ensures step { IsStep state.old.config state.old.past state.new.past p.0 (Some (Request.Reference r)) }
     ensures begun { (carrier.new.lifts ≡ [] → ⊥) → IsBegunFor state.new.past p.0 (Request.Reference r) (is_reads result) }
 {
     let seat = Seat(p.0);
@@ -96,6 +115,7 @@ pub(crate) fn serve_next<B: Block>(
 ) -> Turned
     requires step { MayStep state.old p (Request.Service s) carrier.old }
     ensures turned { HasTurned B.seen B.tells state.old state.new (seat_of p) (Some (Request.Service s)) result carrier.new }
+    ensures step { IsStep state.old.config state.old.past state.new.past p.0 (Some (Request.Service s)) }
     ensures begun { (carrier.new.lifts ≡ [] → ⊥) → IsBegunFor state.new.past p.0 (Request.Service s) false }
 {
     let seat = Seat(p.0);

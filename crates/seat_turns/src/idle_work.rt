@@ -7,6 +7,8 @@ ghost use Rattle.vm_state.specs.History.{pager};
 ghost use Rattle.call_begins.specs.MayBegin.{empty};
 ghost use Rattle.carried_landings.specs.Outside.{AreOut, NoneWaits};
 ghost use Rattle.seat_laws.specs.FreeSeat.{IsFreeSeat};
+ghost use Rattle.seat_steps.specs.Steps.{IsStep, IsToLeave};
+ghost use Rattle.seat_steps.specs.Turns.{HasStepped};
 ghost use Rattle.seat_turns.specs.Rests.{SwapperRests, WriterRests};
 ghost use Rattle.seat_turns.specs.Steps.{HasTurned, swapper_seat, writer_seat};
 ghost use Rattle.seat_turns.specs.Worked.{MayStart};
@@ -47,6 +49,7 @@ fn land_idle<B: Block>(state: &mut State<B>, carrier: &mut Carrier<B>, seat: Sea
     requires out { AreOut B.seen B.tells (base_of state.old) state.old.past seat carrier.old }
     requires carried { NoneWaits carrier.old.lifts }
     ensures turned { IfSome result (λ turned. HasTurned B.seen B.tells state.old state.new seat None turned carrier.new) }
+    ensures step { IfSome result (λ (x : Turned). HasStepped state.old.config state.old.past state.new.past seat.0 None) }
     ensures busy { IfSome result (λ turned. turned ≡ Turned.Rests → ⊥) }
     ensures halted { state.old.halted ≡ true → result ≡ Some Turned.Short }
     ensures free { result ≡ None → IsFreeSeat state.new seat }
@@ -70,6 +73,7 @@ fn write_next<B: Block>(state: &mut State<B>, seat: Seat, carrier: &mut Carrier<
     requires running { state.old.halted ≡ false }
     requires carrier { carrier.old ≡ empty seat }
     ensures turned { HasTurned B.seen B.tells state.old state.new seat None result carrier.new }
+    ensures step { seat ≡ writer_seat state.old.config → IsStep state.old.config state.old.past state.new.past seat.0 None }
     ensures rests { result ≡ Turned.Rests → WriterRests state.old.config (pager state.old) }
 {
     match begin(state, seat, Reason::High, carrier) {
@@ -88,6 +92,7 @@ pub fn write_in_turn<B: Block>(state: &mut State<B>, carrier: &mut Carrier<B>) -
     requires out { AreOut B.seen B.tells (base_of state.old) state.old.past (writer_seat state.old.config) carrier.old }
     requires carried { NoneWaits carrier.old.lifts }
     ensures turned { HasTurned B.seen B.tells state.old state.new (writer_seat state.old.config) None result carrier.new }
+    ensures step { HasStepped state.old.config state.old.past state.new.past (writer_seat state.old.config).0 None }
     ensures halted { state.old.halted ≡ true → result ≡ Turned.Short }
     ensures rests { result ≡ Turned.Rests → (state.new.past ≡ state.old.past) × WriterRests state.new.config (pager state.new) }
 {
@@ -105,6 +110,7 @@ fn leave_lowest<B: Block>(state: &mut State<B>, q: Proc, carrier: &mut Carrier<B
     requires process { q.0 < length state.old.config.procs }
     requires leaving { (pager state.old).status q.0 ≡ status.Leaving }
     ensures turned { HasTurned B.seen B.tells state.old state.new carrier.old.seat None result carrier.new }
+    ensures step { IsToLeave state.old.config state.old.past carrier.old.seat.0 None q.0 → IsStep state.old.config state.old.past state.new.past carrier.old.seat.0 None }
     ensures rests { result ≡ Turned.Rests → (leave_gives state.old.config state.old.past (pager state.old) q.0).answer ≡ swap_again swap_in_flight }
 {
     match leave_some(state, carrier.seat(), q, carrier) {
@@ -125,6 +131,7 @@ fn swap_next<B: Block>(state: &mut State<B>, seat: Seat, carrier: &mut Carrier<B
     requires running { state.old.halted ≡ false }
     requires carrier { carrier.old ≡ empty seat }
     ensures turned { HasTurned B.seen B.tells state.old state.new seat None result carrier.new }
+    ensures step { seat ≡ swapper_seat state.old.config → IsStep state.old.config state.old.past state.new.past seat.0 None }
     ensures rests { result ≡ Turned.Rests → SwapperRests state.old.config state.old.past (pager state.old) }
 {
     if let Some(q) = lowest_leaving(state, None) {
@@ -150,6 +157,7 @@ pub fn swap_in_turn<B: Block>(state: &mut State<B>, carrier: &mut Carrier<B>) ->
     requires out { AreOut B.seen B.tells (base_of state.old) state.old.past (swapper_seat state.old.config) carrier.old }
     requires carried { NoneWaits carrier.old.lifts }
     ensures turned { HasTurned B.seen B.tells state.old state.new (swapper_seat state.old.config) None result carrier.new }
+    ensures step { HasStepped state.old.config state.old.past state.new.past (swapper_seat state.old.config).0 None }
     ensures halted { state.old.halted ≡ true → result ≡ Turned.Short }
     ensures rests { result ≡ Turned.Rests → (state.new.past ≡ state.old.past) × SwapperRests state.new.config state.new.past (pager state.new) }
 {

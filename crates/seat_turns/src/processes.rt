@@ -5,7 +5,7 @@ ghost use Rattle.pager_policy.specs.Policy.{coming_process};
 ghost use Rattle.pager_policy.specs.Swap.{is_but};
 ghost use Rattle.vm_state.specs.History.{pager};
 ghost use Rattle.vm_swapper.specs.Victims.{process_number};
-ghost use Rattle.seat_turns.specs.Rests.{is_other_leaving, lowest_leaving};
+ghost use Rattle.seat_steps.specs.Leaving.{is_other_leaving, lowest_leaving};
 
 use disk_trait::Block;
 use vm_state::State;

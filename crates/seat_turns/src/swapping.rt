@@ -6,6 +6,8 @@ ghost use Rattle.vm_state.specs.History.{pager};
 ghost use Rattle.call_begins.specs.MayBegin.{empty};
 ghost use Rattle.vm_swapper.specs.Victims.{process_number};
 ghost use Rattle.seat_laws.specs.FreeSeat.{IsFreeSeat};
+ghost use Rattle.seat_steps.specs.Waits.{WaitsForFrame, WaitsForProcess};
+ghost use Rattle.seat_turns.specs.Stepping.{IsStepWhere, MayChoose, WaitsOwn};
 ghost use Rattle.seat_turns.specs.Worked.{HasTried, HasWorked, MayStart};
 
 use crate::processes::{coming_process, lowest_leaving};
@@ -21,6 +23,7 @@ pub(crate) fn turn_victim<B: Block>(state: &mut State<B>, seat: Seat, but: Optio
     requires free { IsFreeSeat state.old seat }
     ensures worked { HasWorked B.seen B.tells state.old state.new seat (empty seat) }
     ensures none { result ≡ false → state.new ≡ state.old }
+    ensures step { IsStepWhere state.old state.new seat (MayChoose (option_map process_number but)) }
     ensures nobody { result ≡ false → victim_gives state.old.config state.old.past (pager state.old) (option_map process_number but) ≡ None }
 {
     state.run_law();
@@ -38,7 +41,8 @@ pub(crate) fn turn_victim<B: Block>(state: &mut State<B>, seat: Seat, but: Optio
 /// there was anything to do.
 pub(crate) fn find_frame<B: Block>(state: &mut State<B>, p: Proc, carrier: &mut Carrier<B>) -> bool
     requires start { MayStart state.old carrier.old }
-    ensures { HasTried B.seen B.tells state.old state.new carrier.old carrier.new result }
+    ensures tried { HasTried B.seen B.tells state.old state.new carrier.old carrier.new result }
+    ensures step { IsStepWhere state.old state.new carrier.old.seat (WaitsOwn p WaitsForFrame) }
 {
     if state.modified_len() > 0 {
         return write_for_room(state, carrier);
@@ -57,6 +61,7 @@ fn turn_gone<B: Block>(state: &mut State<B>, seat: Seat, p: Proc) -> bool
     requires gone { (pager state.old).status p.0 ≡ status.Gone }
     ensures worked { HasWorked B.seen B.tells state.old state.new seat (empty seat) }
     ensures none { result ≡ false → state.new ≡ state.old }
+    ensures step { IsStepWhere state.old state.new seat (WaitsOwn p WaitsForProcess) }
 {
     state.run_law();
     turns_are_legal();
@@ -83,7 +88,8 @@ fn come<B: Block>(state: &mut State<B>, p: Proc, carrier: &mut Carrier<B>) -> bo
     requires start { MayStart state.old carrier.old }
     requires process { p.0 < length state.old.config.procs }
     requires coming { (pager state.old).status p.0 ≡ status.Coming }
-    ensures { HasTried B.seen B.tells state.old state.new carrier.old carrier.new result }
+    ensures tried { HasTried B.seen B.tells state.old state.new carrier.old carrier.new result }
+    ensures step { IsStepWhere state.old state.new carrier.old.seat (WaitsOwn p WaitsForProcess) }
 {
     match come_some(state, carrier.seat(), p, carrier) {
         Swap::Carry => true,
@@ -101,7 +107,8 @@ fn come<B: Block>(state: &mut State<B>, p: Proc, carrier: &mut Carrier<B>) -> bo
 pub(crate) fn bring_back<B: Block>(state: &mut State<B>, p: Proc, carrier: &mut Carrier<B>) -> bool
     requires start { MayStart state.old carrier.old }
     requires process { p.0 < length state.old.config.procs }
-    ensures { HasTried B.seen B.tells state.old state.new carrier.old carrier.new result }
+    ensures tried { HasTried B.seen B.tells state.old state.new carrier.old carrier.new result }
+    ensures step { IsStepWhere state.old state.new carrier.old.seat (WaitsOwn p WaitsForProcess) }
 {
     match state.status(p) {
         ProcStatus::Resident => false,

@@ -4,6 +4,7 @@ ghost use Rattle.vm_types.specs.declared.service.Request.{Request};
 ghost use Rattle.pager_model.specs.Flights.{awaits_reuse};
 ghost use Rattle.vm_state.specs.Based.{base_of};
 ghost use Rattle.carried_landings.specs.Outside.{AreOut, NoneWaits};
+ghost use Rattle.seat_steps.specs.Turns.{HasStepped};
 ghost use Rattle.seat_turns.specs.Begun.{IsBegunFor};
 ghost use Rattle.seat_turns.specs.Steps.{HasTurned, is_reads, seat_of};
 ghost use Rattle.seat_turns.specs.declared.turned.Turned.{Turned};
@@ -37,6 +38,7 @@ pub fn refer_in_turn<B: Block>(
     requires carried { NoneWaits carrier.old.lifts }
     requires begun { (carrier.old.lifts ≡ [] → ⊥) → IsBegunFor state.old.past p.0 (Request.Reference r) reading }
     ensures turned { HasTurned B.seen B.tells state.old state.new (seat_of p) (Some (Request.Reference r)) result carrier.new }
+    ensures step { HasStepped state.old.config state.old.past state.new.past p.0 (Some (Request.Reference r)) }
     ensures begun { (carrier.new.lifts ≡ [] → ⊥) → IsBegunFor state.new.past p.0 (Request.Reference r) (is_reads result) }
     ensures halted { state.old.halted ≡ true → result ≡ Turned.Short }
 {
@@ -69,6 +71,7 @@ pub fn serve_in_turn<B: Block>(
     requires carried { NoneWaits carrier.old.lifts }
     requires begun { (carrier.old.lifts ≡ [] → ⊥) → IsBegunFor state.old.past p.0 (Request.Service s) false }
     ensures turned { HasTurned B.seen B.tells state.old state.new (seat_of p) (Some (Request.Service s)) result carrier.new }
+    ensures step { HasStepped state.old.config state.old.past state.new.past p.0 (Some (Request.Service s)) }
     ensures begun { (carrier.new.lifts ≡ [] → ⊥) → IsBegunFor state.new.past p.0 (Request.Service s) false }
     ensures halted { state.old.halted ≡ true → result ≡ Turned.Short }
 {

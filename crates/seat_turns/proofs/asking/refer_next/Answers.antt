@@ -1,4 +1,4 @@
-use Rattle.std.proofs.Common.{◌<◌, Some, length, ◌∙◌, sym, subst}
+use Rattle.std.proofs.Common.{◌<◌, Some, length, refl, ◌∙◌, sym, subst}
 use Rattle.vm_types.specs.declared.service.Request.TheVariants as request
 use Rattle.vm_state.specs.History.{History}
 use Rattle.seat_laws.proofs.FreeSeats.{idle_seat}
@@ -8,6 +8,9 @@ use Rattle.seat_turns.specs.declared.turned.Turned.{Turned}
 use Rattle.seat_turns.proofs.Referring.{again_same, answered_turned, more_turned, reads_for, reads_turned, still_free}
 use Rattle.seat_turns.proofs.OpenWork.{ended_begun, ended_turned, may_start, worked_at}
 use Rattle.seat_turns.proofs.Worked.{no_lifts}
+use Rattle.seat_steps.specs.Steps.{refers}
+use Rattle.seat_turns.proofs.OwnSteps.{met_step}
+use Rattle.seat_turns.proofs.Stepped.{step_of}
 use Rattle.seat_turns.proofs.asking.refer_next.Goals as goal
 
 pub advance-requires-clause-idle : goal.advance-requires-clause-idle
@@ -58,7 +61,7 @@ returns-in-Again-clause-turned g c =
     (ended_turned c.args.state.now c.advance.new.state c.meet.new.state (seat_of c.args.p) c.requires.step.free c.requires.step.running
     (again_same c.args.state.now c.advance.new.state (seat_of c.args.p) c.args.r c.requires.step.free c.requires.step.running c.args.carrier.now c.advance.new.carrier c.requires.step.carrier c.in-Again.why gives)
     c.meet.result c.advance.new.carrier c.meet.new.carrier (gives.carrier ∙ c.requires.step.carrier)
-    (worked_at c.advance.new.state c.meet.new.state (seat_of c.args.p) c.advance.new.carrier c.meet.new.carrier c.meet.result (gives.carrier ∙ c.requires.step.carrier) c.meet.ensures) c.meet.ensures.none (Some (request.Reference c.args.r)))
+    (worked_at c.advance.new.state c.meet.new.state (seat_of c.args.p) c.advance.new.carrier c.meet.new.carrier c.meet.result (gives.carrier ∙ c.requires.step.carrier) c.meet.ensures.tried) c.meet.ensures.tried.none (Some (request.Reference c.args.r)))
 
 pub returns-in-Again-clause-begun : goal.returns-in-Again-clause-begun
 returns-in-Again-clause-begun g c = λ some.
@@ -67,4 +70,27 @@ returns-in-Again-clause-begun g c = λ some.
     (ended_begun c.args.state.now c.advance.new.state c.meet.new.state (seat_of c.args.p) c.requires.step.free c.requires.step.running
     (again_same c.args.state.now c.advance.new.state (seat_of c.args.p) c.args.r c.requires.step.free c.requires.step.running c.args.carrier.now c.advance.new.carrier c.requires.step.carrier c.in-Again.why gives)
     c.meet.result c.advance.new.carrier c.meet.new.carrier (gives.carrier ∙ c.requires.step.carrier)
-    (worked_at c.advance.new.state c.meet.new.state (seat_of c.args.p) c.advance.new.carrier c.meet.new.carrier c.meet.result (gives.carrier ∙ c.requires.step.carrier) c.meet.ensures) c.meet.ensures.none (request.Reference c.args.r) some)
+    (worked_at c.advance.new.state c.meet.new.state (seat_of c.args.p) c.advance.new.carrier c.meet.new.carrier c.meet.result (gives.carrier ∙ c.requires.step.carrier) c.meet.ensures.tried) c.meet.ensures.tried.none (request.Reference c.args.r) some)
+
+pub returns-in-Answered-clause-step : goal.returns-in-Answered-clause-step
+returns-in-Answered-clause-step g c =
+    let given = (c.in-Answered.ensures.gives c.requires.step.free.room).given in
+    step_of c.args.state.now c.advance.new.state (seat_of c.args.p) (Some (request.Reference c.args.r)) (refers c.args.r given.shown) refl given.history
+
+pub returns-in-Carry-clause-step : goal.returns-in-Carry-clause-step
+returns-in-Carry-clause-step g c =
+    let given = (c.in-Carry.ensures.gives c.requires.step.free.room).given in
+    step_of c.args.state.now c.advance.new.state (seat_of c.args.p) (Some (request.Reference c.args.r)) (refers c.args.r given.shown) refl given.history
+
+pub returns-in-More-clause-step : goal.returns-in-More-clause-step
+returns-in-More-clause-step g c =
+    let given = (c.in-More.ensures.gives c.requires.step.free.room).given in
+    step_of c.args.state.now c.advance.new.state (seat_of c.args.p) (Some (request.Reference c.args.r)) (refers c.args.r given.shown) refl given.history
+
+pub returns-in-Again-clause-step : goal.returns-in-Again-clause-step
+returns-in-Again-clause-step g c =
+    let gives = c.in-Again.ensures.gives c.requires.step.free.room in
+    met_step c.args.state.now c.advance.new.state c.meet.new.state c.advance.new.carrier c.args.p c.reference_needs.result (request.Reference c.args.r)
+    (again_same c.args.state.now c.advance.new.state (seat_of c.args.p) c.args.r c.requires.step.free c.requires.step.running c.args.carrier.now c.advance.new.carrier c.requires.step.carrier c.in-Again.why gives)
+    (gives.carrier ∙ c.requires.step.carrier) c.meet.ensures.step
+    (c.reference_needs.ensures (c.args.state.now).config (c.args.state.now).past (c.args.p).0 c.args.r _ gives.given.answer)

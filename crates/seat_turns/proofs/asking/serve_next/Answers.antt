@@ -1,4 +1,4 @@
-use Rattle.std.proofs.Common.{◌<◌, Some, length, sym, subst}
+use Rattle.std.proofs.Common.{◌<◌, Some, length, refl, sym, subst}
 use Rattle.vm_types.specs.declared.service.Request.TheVariants as request
 use Rattle.vm_state.specs.History.{History}
 use Rattle.seat_laws.proofs.FreeSeats.{idle_seat}
@@ -7,6 +7,9 @@ use Rattle.seat_turns.specs.declared.turned.Turned.{Turned}
 use Rattle.seat_turns.proofs.Referring.{serve_again_same, serve_more_turned, served_turned, still_free}
 use Rattle.seat_turns.proofs.OpenWork.{ended_begun_service, ended_turned, may_start, worked_at}
 use Rattle.seat_turns.proofs.Worked.{no_lifts}
+use Rattle.seat_steps.specs.Steps.{serves}
+use Rattle.seat_turns.proofs.OwnSteps.{met_step}
+use Rattle.seat_turns.proofs.Stepped.{step_of}
 use Rattle.seat_turns.proofs.asking.serve_next.Goals as goal
 
 pub serve-requires-clause-idle : goal.serve-requires-clause-idle
@@ -46,10 +49,26 @@ returns-in-Again-clause-turned g c =
     (ended_turned c.args.state.now c.serve.new.state c.meet.new.state (seat_of c.args.p) c.requires.step.free c.requires.step.running
     (serve_again_same c.args.state.now c.serve.new.state (seat_of c.args.p) c.args.s c.in-Again.why (c.in-Again.ensures.gives c.requires.step.free.room))
     c.meet.result c.args.carrier.now c.meet.new.carrier c.requires.step.carrier
-    (worked_at c.serve.new.state c.meet.new.state (seat_of c.args.p) c.args.carrier.now c.meet.new.carrier c.meet.result c.requires.step.carrier c.meet.ensures) c.meet.ensures.none (Some (request.Service c.args.s)))
+    (worked_at c.serve.new.state c.meet.new.state (seat_of c.args.p) c.args.carrier.now c.meet.new.carrier c.meet.result c.requires.step.carrier c.meet.ensures.tried) c.meet.ensures.tried.none (Some (request.Service c.args.s)))
 
 pub returns-in-Again-clause-begun : goal.returns-in-Again-clause-begun
 returns-in-Again-clause-begun g c = λ some.
     ended_begun_service c.args.state.now c.serve.new.state c.meet.new.state (seat_of c.args.p)
     (serve_again_same c.args.state.now c.serve.new.state (seat_of c.args.p) c.args.s c.in-Again.why (c.in-Again.ensures.gives c.requires.step.free.room))
-    c.meet.new.carrier (worked_at c.serve.new.state c.meet.new.state (seat_of c.args.p) c.args.carrier.now c.meet.new.carrier c.meet.result c.requires.step.carrier c.meet.ensures) c.args.s some
+    c.meet.new.carrier (worked_at c.serve.new.state c.meet.new.state (seat_of c.args.p) c.args.carrier.now c.meet.new.carrier c.meet.result c.requires.step.carrier c.meet.ensures.tried) c.args.s some
+
+pub returns-in-Answered-clause-step : goal.returns-in-Answered-clause-step
+returns-in-Answered-clause-step g c =
+    step_of c.args.state.now c.serve.new.state (seat_of c.args.p) (Some (request.Service c.args.s)) (serves c.args.s) refl (c.in-Answered.ensures.gives c.requires.step.free.room).history
+
+pub returns-in-More-clause-step : goal.returns-in-More-clause-step
+returns-in-More-clause-step g c =
+    step_of c.args.state.now c.serve.new.state (seat_of c.args.p) (Some (request.Service c.args.s)) (serves c.args.s) refl (c.in-More.ensures.gives c.requires.step.free.room).history
+
+pub returns-in-Again-clause-step : goal.returns-in-Again-clause-step
+returns-in-Again-clause-step g c =
+    let gives = c.in-Again.ensures.gives c.requires.step.free.room in
+    met_step c.args.state.now c.serve.new.state c.meet.new.state c.args.carrier.now c.args.p c.service_needs.result (request.Service c.args.s)
+    (serve_again_same c.args.state.now c.serve.new.state (seat_of c.args.p) c.args.s c.in-Again.why gives)
+    c.requires.step.carrier c.meet.ensures.step
+    (c.service_needs.ensures (c.args.state.now).config (c.args.state.now).past (c.args.p).0 c.args.s _ gives.answer)

@@ -9,6 +9,8 @@ use Rattle.seat_turns.specs.declared.turned.Turned.TheVariants.{Made, Rests}
 use Rattle.seat_turns.proofs.Resting.{swapped_lowest, swapped_none}
 use Rattle.seat_turns.proofs.OpenWork.{may_start}
 use Rattle.seat_turns.proofs.Worked.{waits_turned, worked_turned}
+use Rattle.seat_steps.specs.Steps.{IsStep, IsToLeave}
+use Rattle.seat_turns.proofs.Stepped.{no_step}
 use Rattle.seat_turns.proofs.idle_work.swap_next.Goals as goal
 
 pub leave_lowest-requires-clause-start : goal.leave_lowest-requires-clause-start
@@ -44,3 +46,38 @@ returns-else-turn_victim-clause-turned g c =
 pub returns-else-turn_victim-clause-rests : goal.returns-else-turn_victim-clause-rests
 returns-else-turn_victim-clause-rests g c = λ is.
     swapped_none (c.args.state.now).config (c.args.state.now).past (pager c.args.state.now) c.in_default.ensures.lowest (inr (c.turn_victim.ensures.nobody c.if-turn_victim.false))
+
+pub returns-in-Some-clause-step : goal.returns-in-Some-clause-step
+returns-in-Some-clause-step g c = λ is.
+    subst (λ (x : CarrierView g.row.B.Denot). IsToLeave (c.args.state.now).config (c.args.state.now).past (x.seat).0 None (c.in-Some.q).0 → IsStep (c.args.state.now).config (c.args.state.now).past (c.leave_lowest.new.state).past (x.seat).0 None)
+    c.requires.carrier c.leave_lowest.ensures.step (record {
+      leaving = c.in-Some.ensures.leaving;
+      why = inl (record { but = None; looks = ap (λ (x : Seat). x.0) is; lowest = sym c.in-Some.ensures.lowest });
+    })
+
+pub returns-then-free_len-config-clause-step : goal.returns-then-free_len-config-clause-step
+returns-then-free_len-config-clause-step g c = λ is. no_step c.args.state.now c.args.state.now (c.args.seat).0 None refl
+
+pub returns-then-turn_victim-clause-step : goal.returns-then-turn_victim-clause-step
+returns-then-turn_victim-clause-step g c = λ is.
+    c.turn_victim.ensures.step None (record {
+      looks = ap (λ (x : Seat). x.0) is;
+      none_leaving = sym c.in_default.ensures.lowest;
+      few = λ none.
+          let fewer = c.if-free_len-config.false in
+          let free = c.free_len.ensures in
+          let limit = ap (λ (config : Config). config.params.freelim) c.config.ensures in
+          omega (arith, fewer, free, limit);
+    })
+
+pub returns-else-turn_victim-clause-step : goal.returns-else-turn_victim-clause-step
+returns-else-turn_victim-clause-step g c = λ is.
+    c.turn_victim.ensures.step None (record {
+      looks = ap (λ (x : Seat). x.0) is;
+      none_leaving = sym c.in_default.ensures.lowest;
+      few = λ none.
+          let fewer = c.if-free_len-config.false in
+          let free = c.free_len.ensures in
+          let limit = ap (λ (config : Config). config.params.freelim) c.config.ensures in
+          omega (arith, fewer, free, limit);
+    })

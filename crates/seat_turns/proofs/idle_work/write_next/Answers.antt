@@ -1,4 +1,5 @@
-use Rattle.std.proofs.Common.{None, refl, ◌∙◌}
+use Rattle.std.proofs.Common.{None, refl, ap, ◌∙◌}
+use Rattle.vm_types.specs.declared.names.Seat.{Seat}
 use Rattle.vm_state.specs.History.{pager}
 use Rattle.pager_policy.specs.WriteCluster.{reason_high}
 use Rattle.modified_writer.specs.declared.begun.Begin.TheVariants.{Carry}
@@ -7,6 +8,8 @@ use Rattle.seat_turns.specs.declared.turned.Turned.TheVariants.{Rests}
 use Rattle.seat_turns.proofs.Resting.{enough_written}
 use Rattle.seat_turns.proofs.OpenWork.{begin_worked, nothing_begun}
 use Rattle.seat_turns.proofs.Worked.{waits_turned, worked_turned}
+use Rattle.seat_steps.specs.Steps.{writes}
+use Rattle.seat_turns.proofs.Stepped.{step_of}
 use Rattle.seat_turns.proofs.idle_work.write_next.Goals as goal
 
 pub begin-requires-clause-idle : goal.begin-requires-clause-idle
@@ -24,3 +27,11 @@ returns-in-Nothing-clause-turned g c =
 
 pub returns-in-Nothing-clause-rests : goal.returns-in-Nothing-clause-rests
 returns-in-Nothing-clause-rests g c = λ is. enough_written (c.args.state.now).config (pager c.args.state.now) (c.in-Nothing.ensures.gives c.requires.free.room).answer
+
+pub returns-in-Carry-clause-step : goal.returns-in-Carry-clause-step
+returns-in-Carry-clause-step g c = λ is.
+    step_of c.args.state.now c.begin.new.state c.args.seat None (writes reason_high) (refl, ap (λ (x : Seat). x.0) is) (c.in-Carry.ensures.gives c.requires.free.room).history
+
+pub returns-in-Nothing-clause-step : goal.returns-in-Nothing-clause-step
+returns-in-Nothing-clause-step g c = λ is.
+    step_of c.args.state.now c.begin.new.state c.args.seat None (writes reason_high) (refl, ap (λ (x : Seat). x.0) is) (c.in-Nothing.ensures.gives c.requires.free.room).history

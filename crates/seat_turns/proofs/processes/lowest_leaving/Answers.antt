@@ -3,7 +3,7 @@ use Rattle.std.specs.Option.{option_map}
 use Rattle.vm_state.specs.History.{pager}
 use Rattle.vm_swapper.specs.Victims.{process_number}
 use Rattle.vm_swapper.proofs.Ranges.{find_next}
-use Rattle.seat_turns.specs.Rests.{is_other_leaving}
+use Rattle.seat_steps.specs.Leaving.{is_other_leaving}
 use Rattle.seat_turns.proofs.Searches.{find_end, find_here, is_leaving_there}
 use Rattle.seat_turns.proofs.processes.lowest_leaving.Goals as goal
 

@@ -3,7 +3,7 @@ use Rattle.std.specs.List.{range_with_len}
 use Rattle.std.specs.Option.{option_map}
 use Rattle.vm_state.specs.History.{pager}
 use Rattle.vm_swapper.specs.Victims.{process_number}
-use Rattle.seat_turns.specs.Rests.{is_other_leaving}
+use Rattle.seat_steps.specs.Leaving.{is_other_leaving}
 use Rattle.seat_turns.proofs.processes.lowest_leaving.Given as goal
 
 -- no process before this one is leaving

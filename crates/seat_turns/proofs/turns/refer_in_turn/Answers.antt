@@ -9,6 +9,9 @@ use Rattle.seat_turns.specs.declared.turned.Turned.TheVariants.{Spoke}
 use Rattle.seat_turns.proofs.Joined.{free_here, not_running, past_here, process_here, running_here, short_turned, turned_here}
 use Rattle.seat_turns.proofs.LostWork.{lost_reference_here, may_deny, spoke_turned}
 use Rattle.seat_turns.proofs.Worked.{no_lifts}
+use Rattle.vm_state.specs.History.{History}
+use Rattle.seat_turns.proofs.OwnSteps.{read_failed, was_open}
+use Rattle.seat_turns.proofs.Stepped.{stepped_none, stepped_refused, stepped_then}
 use Rattle.seat_turns.proofs.turns.refer_in_turn.Goals as goal
 
 pub returns-then-not-has_room-clause-turned : goal.returns-then-not-has_room-clause-turned
@@ -62,3 +65,17 @@ returns-clause-turned g c = turned_here c.args.state.now c.land_out-lost.new.sta
 
 pub returns-clause-halted : goal.returns-clause-halted
 returns-clause-halted g c = λ was. absurd (not_running c.args.state.now c.land_out-lost.new.state (seat_of c.args.p) c.land_out-lost.ensures.landed c.has_room.result c.has_room.ensures.halted c.if-not-has_room.false was)
+
+pub returns-then-not-has_room-clause-step : goal.returns-then-not-has_room-clause-step
+returns-then-not-has_room-clause-step g c =
+    stepped_none c.args.state.now c.land_out-lost.new.state c.has_room.new.state (seat_of c.args.p) c.land_out-lost.ensures.landed (ap (λ (x : History). x.config) c.has_room.ensures.same) (ap (λ (x : History). x.past) c.has_room.ensures.same) (Some (request.Reference c.args.r))
+
+pub returns-then-is_denied-clause-step : goal.returns-then-is_denied-clause-step
+returns-then-is_denied-clause-step g c =
+    let lost = c.land_out-lost.ensures.lost (c.is_denied.ensures.lost c.if-is_denied.true) in
+    stepped_refused c.args.state.now c.land_out-lost.new.state c.has_room.new.state (seat_of c.args.p) c.land_out-lost.ensures.landed (ap (λ (x : History). x.config) c.has_room.ensures.same) (ap (λ (x : History). x.past) c.has_room.ensures.same) c.refuse.new.state (request.Reference c.args.r) c.args.reading lost.0
+    (was_open c.args.state.now (seat_of c.args.p) c.args.carrier.now c.requires.out lost.1) (read_failed c.args.r c.args.reading) (ap (λ (x : History). x.past) c.refuse.ensures)
+
+pub returns-clause-step : goal.returns-clause-step
+returns-clause-step g c =
+    stepped_then c.args.state.now c.land_out-lost.new.state c.has_room.new.state (seat_of c.args.p) c.land_out-lost.ensures.landed (ap (λ (x : History). x.config) c.has_room.ensures.same) (ap (λ (x : History). x.past) c.has_room.ensures.same) c.refer_next.new.state (Some (request.Reference c.args.r)) c.refer_next.ensures.step

@@ -1,4 +1,4 @@
-use Rattle.std.proofs.Common.{not, Some, ap, refl}
+use Rattle.std.proofs.Common.{not, false, Some, ap, refl}
 use Rattle.vm_types.specs.declared.reply.Answer.TheVariants as answer
 use Rattle.vm_types.specs.declared.service.Request.TheVariants as request
 use Rattle.vm_journal.specs.declared.entry.What.TheVariants as what
@@ -8,6 +8,9 @@ use Rattle.seat_turns.specs.declared.turned.Turned.TheVariants.{Spoke}
 use Rattle.seat_turns.proofs.Joined.{free_here, not_running, past_here, process_here, running_here, service_here, short_turned, turned_here}
 use Rattle.seat_turns.proofs.LostWork.{lost_service_here, may_fail_service, spoke_turned}
 use Rattle.seat_turns.proofs.Worked.{no_lifts}
+use Rattle.vm_state.specs.History.{History}
+use Rattle.seat_turns.proofs.OwnSteps.{service_failed, was_open}
+use Rattle.seat_turns.proofs.Stepped.{stepped_none, stepped_refused, stepped_then}
 use Rattle.seat_turns.proofs.turns.serve_in_turn.Goals as goal
 
 pub returns-then-not-has_room-clause-turned : goal.returns-then-not-has_room-clause-turned
@@ -62,3 +65,17 @@ returns-clause-turned g c = turned_here c.args.state.now c.land_out-lost.new.sta
 
 pub returns-clause-halted : goal.returns-clause-halted
 returns-clause-halted g c = λ was. absurd (not_running c.args.state.now c.land_out-lost.new.state (seat_of c.args.p) c.land_out-lost.ensures.landed c.has_room.result c.has_room.ensures.halted c.if-not-has_room.false was)
+
+pub returns-then-not-has_room-clause-step : goal.returns-then-not-has_room-clause-step
+returns-then-not-has_room-clause-step g c =
+    stepped_none c.args.state.now c.land_out-lost.new.state c.has_room.new.state (seat_of c.args.p) c.land_out-lost.ensures.landed (ap (λ (x : History). x.config) c.has_room.ensures.same) (ap (λ (x : History). x.past) c.has_room.ensures.same) (Some (request.Service c.args.s))
+
+pub returns-then-is_failed-clause-step : goal.returns-then-is_failed-clause-step
+returns-then-is_failed-clause-step g c =
+    let lost = c.land_out-lost.ensures.lost (c.is_failed.ensures.lost c.if-is_failed.true) in
+    stepped_refused c.args.state.now c.land_out-lost.new.state c.has_room.new.state (seat_of c.args.p) c.land_out-lost.ensures.landed (ap (λ (x : History). x.config) c.has_room.ensures.same) (ap (λ (x : History). x.past) c.has_room.ensures.same) c.refuse_service.new.state (request.Service c.args.s) false lost.0
+    (was_open c.args.state.now (seat_of c.args.p) c.args.carrier.now c.requires.out lost.1) (service_failed c.args.s) (ap (λ (x : History). x.past) c.refuse_service.ensures)
+
+pub returns-clause-step : goal.returns-clause-step
+returns-clause-step g c =
+    stepped_then c.args.state.now c.land_out-lost.new.state c.has_room.new.state (seat_of c.args.p) c.land_out-lost.ensures.landed (ap (λ (x : History). x.config) c.has_room.ensures.same) (ap (λ (x : History). x.past) c.has_room.ensures.same) c.serve_next.new.state (Some (request.Service c.args.s)) c.serve_next.ensures.step

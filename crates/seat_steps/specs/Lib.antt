@@ -1,0 +1,4 @@
+pub mod Leaving
+pub mod Waits
+pub mod Steps
+pub mod Turns

@@ -1,0 +1,3 @@
+pub mod StepsCaused
+pub mod TurnsCaused
+pub mod VictimSeen
