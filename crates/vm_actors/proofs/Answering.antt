@@ -21,7 +21,7 @@ use Rattle.vm_actors.specs.OwnEntries.{AreSilent, EndsInAnswer, GoesOnSilently, 
 use Rattle.vm_actors.specs.Requests.{AreAnswers, AreFirstAnswers, HasAnswered, HasAnsweredSome, requests_in, with_request}
 use Rattle.vm_actors.proofs.OwnTurns.{goes_both, goes_nowhere}
 
-none_asked : (w : What) → is_answer w ≡ false → request_of w ≡ None
+pub none_asked : (w : What) → is_answer w ≡ false → request_of w ≡ None
 none_asked (what.Done r shown) is = absurd (false≢true (sym is))
 none_asked (what.Denied r why) is = absurd (false≢true (sym is))
 none_asked (what.Served s answer) is = absurd (false≢true (sym is))
@@ -39,7 +39,7 @@ requests_then : (xs ys : List Entry) → requests_in (xs ++ ys) ≡ requests_in 
 requests_then [] ys = refl
 requests_then (x ∷ xs) ys = ap (with_request (request_of x.what)) (requests_then xs ys) ∙ with_then (request_of x.what) (requests_in xs) (requests_in ys)
 
-asks : (x : Request) (shown : Spoken) (w : What) → AnswersAs x shown w → request_of w ≡ Some x
+pub asks : (x : Request) (shown : Spoken) (w : What) → AnswersAs x shown w → request_of w ≡ Some x
 asks (Reference r) (Reply shown) (what.Done q given) is = ap (λ z. Some (Reference z)) is.0
 asks (Reference r) (Reply shown) (what.Denied q why) is = ap (λ z. Some (Reference z)) is.0
 asks (Service s) (Answer shown) (what.Served x given) is = ap (λ z. Some (Service z)) is.0

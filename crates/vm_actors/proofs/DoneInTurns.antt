@@ -12,6 +12,7 @@ use Rattle.lift_carriers.specs.CarrierView.{CarrierView}
 use Rattle.vm_state.specs.History.{History}
 use Rattle.vm_state.specs.declared.base.StateBase.{StateBase}
 use Rattle.carried_landings.specs.Outside.{AreOut}
+use Rattle.seat_steps.specs.Turns.{HasStepped}
 use Rattle.seat_turns.specs.Begun.{IsBegunFor}
 use Rattle.seat_turns.specs.Rests.{SwapperRests, WriterRests}
 use Rattle.seat_turns.specs.Steps.{HasTurned, seat_of, swapper_seat, writer_seat}
@@ -41,6 +42,10 @@ module _ (seat : Seat) (doing : Doing) where
     turned_asking {seen = seen} {tells = tells} s t turned c same has =
         subst (λ (d : Doing). HasTurned seen tells s t seat (request_of d) turned c) (sym is) (subst (λ (z : Seat). HasTurned seen tells s t z (Some x) turned c) (sym same) has)
 
+    pub stepped_asking : (config : Config) (past more : List Entry) → seat ≡ seat_of p → HasStepped config past more p.0 (Some x) → HasStepped config past more seat.0 (request_of doing)
+    stepped_asking config past more same has =
+        subst (λ (d : Doing). HasStepped config past more seat.0 (request_of d)) (sym is) (subst (λ (z : Seat). HasStepped config past more z.0 (Some x)) (sym same) has)
+
     pub rested_asking : (config : Config) (past : List Entry) (a : Pager) → HasRested doing config past a
     rested_asking config past a = subst (λ (d : Doing). HasRested d config past a) (sym is) tt
 
@@ -54,6 +59,10 @@ module _ (seat : Seat) (doing : Doing) where
   pub turned_idle : {B : Type 0} {seen : B → BlockView} {tells : Tells} (s t : History) (z : Seat) (turned : Turned) (c : CarrierView B) → None ≡ request_of doing → seat ≡ z → HasTurned seen tells s t z None turned c → HasTurned seen tells s t seat (request_of doing) turned c
   turned_idle {seen = seen} {tells = tells} s t z turned c none same has =
       subst (λ (o : Option Request). HasTurned seen tells s t seat o turned c) none (subst (λ (y : Seat). HasTurned seen tells s t y None turned c) (sym same) has)
+
+  pub stepped_idle : (config : Config) (past more : List Entry) (z : Seat) → None ≡ request_of doing → seat ≡ z → HasStepped config past more z.0 None → HasStepped config past more seat.0 (request_of doing)
+  stepped_idle config past more z none same has =
+      subst (λ (o : Option Request). HasStepped config past more seat.0 o) none (subst (λ (y : Seat). HasStepped config past more y.0 None) (sym same) has)
 
   pub begun_idle : (past : List Entry) (own : Bool) → request_of doing ≡ None → AreBegunFor past seat doing own
   begun_idle past own none = by doing none

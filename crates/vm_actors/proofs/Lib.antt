@@ -10,3 +10,5 @@ pub mod Ending
 pub mod DoneInTurns
 pub mod SeenTurns
 pub mod Rounds
+pub mod NextAsked
+pub mod InTurns

@@ -46,6 +46,18 @@ none_own numbers (e ∷ later) foreign = by (is_of numbers e) refl (none_own num
     by true is rest = absurd (false≢true (sym (foreign (e.seat).0 (any_from numbers (e.seat).0 is)).0 ∙ eq-eqb (e.seat).0 (e.seat).0 refl))
     by false is rest = rest
 
+pub foreign_none : (numbers : List ℕ) (k : ℕ) → Contains numbers k → (later : List Entry) → own_of numbers later ≡ [] → AllByRecursion (IsForeign k) later
+foreign_none numbers k has [] none = tt
+foreign_none numbers k has (e ∷ later) none = by (is_of numbers e) refl none (foreign_none numbers k has later)
+  where
+    other : (c : Bool) → nat_eq (e.seat).0 k ≡ c → is_of numbers e ≡ false → IsForeign k e
+    other false is out = is
+    other true is out = absurd (false≢true (sym out ∙ is_own numbers e (subst (Contains numbers) (sym (eqb-true (e.seat).0 k is)) has)))
+
+    by : (b : Bool) → is_of numbers e ≡ b → cond b (e ∷ own_of numbers later) (own_of numbers later) ≡ [] → (own_of numbers later ≡ [] → AllByRecursion (IsForeign k) later) → AllByRecursion (IsForeign k) (e ∷ later)
+    by true is none rest = absurd (omega (arith, ap length none))
+    by false is none rest = (other (nat_eq (e.seat).0 k) refl is, rest none)
+
 -- ---- entries of one's own
 all_then : {X : Type 0} (P : X → Type 0) (xs ys : List X) → AllByRecursion P xs → AllByRecursion P ys → AllByRecursion P (xs ++ ys)
 all_then P [] ys first second = second

@@ -126,7 +126,7 @@ module _ {B : Type 0} {seen : B → BlockView} {tells : Tells} (s : History) (v 
   made_some apart = goes_on IsSome (λ none. apart (let count = sym (length-map has_turned.made (by_seat seat.0)) ∙ ap length none in let more = longer in omega (arith, count, more)))
 
   -- ---- where the pass stands then
-  past_left : (journal : List Entry) → journal ≡ kept_entries t → t.past ≡ reverse journal
+  pub past_left : (journal : List Entry) → journal ≡ kept_entries t → t.past ≡ reverse journal
   past_left journal is = past_of t keeps_still ∙ ap reverse (sym is)
 
   pub between_left : (base : Option StateBase) → base ≡ v.base → (journal : List Entry) → journal ≡ kept_entries t → (d : CarrierView B) → NoneWaits d.lifts → ((b : StateBase) (past : List Entry) (z : Seat) → AreOut seen tells b past z c → AreOut seen tells b past z d) → IsBetweenTurns seen tells base (reverse journal) seat d

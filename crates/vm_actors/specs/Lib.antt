@@ -2,4 +2,5 @@ pub mod OwnEntries
 pub mod Doings
 pub mod Between
 pub mod Requests
+pub mod InTurns
 pub mod Ends

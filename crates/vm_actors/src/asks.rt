@@ -4,6 +4,7 @@ ghost use Rattle.call_begins.specs.MayBegin.{empty};
 ghost use Rattle.seat_turns.specs.Steps.{seat_of};
 ghost use Rattle.vm_actors.specs.Between.{IsCalm, IsJournalOf, NoneOpen};
 ghost use Rattle.vm_actors.specs.Doings.{Knows, MayAsk};
+ghost use Rattle.vm_actors.specs.InTurns.{IsNext, MadeInTurns};
 ghost use Rattle.vm_actors.specs.OwnEntries.{GoesOnSilently, IsReplied};
 
 use crate::doing::Doing;
@@ -46,6 +47,7 @@ pub fn ask<W: Wait, B: Block, G: Gate>(
     ensures same { IsSameLock pass.old pass.new }
     ensures replied { IfOk result (IsReplied (seat_of p) x (numbers pass.old) (seen pass.old) (seen pass.new)) }
     ensures silent { OnErr result (GoesOnSilently (numbers pass.old) (seen pass.old) (seen pass.new)) }
+    ensures turns { IsNext (base_seen pass.old) p.0 x (seen pass.old) → MadeInTurns (base_seen pass.old) p.0 (seen pass.old) (seen pass.new) }
     ensures landed { NoneOpen (numbers pass.old) (seen pass.new) }
     ensures calm { IsCalm (seen pass.new) }
     ensures legal { IsJournalOf B.tells.content (base_seen pass.new) (seen pass.new) }

@@ -3,6 +3,7 @@ ghost use Rattle.history_lock.specs.Passes.{IsIdle, IsOf, IsSameLock, base_of as
 ghost use Rattle.call_begins.specs.MayBegin.{empty};
 ghost use Rattle.vm_actors.specs.Between.{IsCalm, IsJournalOf, NoneOpen};
 ghost use Rattle.vm_actors.specs.Doings.{Knows, MayDo, RestsAt, request_of};
+ghost use Rattle.vm_actors.specs.InTurns.{MadeInTurns};
 ghost use Rattle.vm_actors.specs.OwnEntries.{GoesOnSilently, MadeNone, MadeSome};
 
 use crate::doing::Doing;
@@ -47,6 +48,7 @@ pub fn work_once<W: Wait, B: Block, G: Gate>(
     ensures made { IfOk result (λ made. made ≡ true → MadeSome (numbers pass.old) (seen pass.old) (seen pass.new)) }
     ensures none { IfOk result (λ made. made ≡ false → MadeNone (numbers pass.old) (seen pass.old) (seen pass.new)) }
     ensures rests { IfOk result (λ made. made ≡ false → RestsAt doing (base_seen pass.old) (reverse (seen pass.new))) }
+    ensures turns { MadeInTurns (base_seen pass.old) carrier.old.seat.0 (seen pass.old) (seen pass.new) }
     ensures landed { NoneOpen (numbers pass.old) (seen pass.new) }
     ensures calm { IsCalm (seen pass.new) }
     ensures legal { IsJournalOf B.tells.content (base_seen pass.new) (seen pass.new) }

@@ -3,6 +3,7 @@ ghost use Rattle.history_lock.specs.Passes.{IsIdle, IsOf, IsSameLock, base_of as
 ghost use Rattle.call_begins.specs.MayBegin.{empty};
 ghost use Rattle.vm_actors.specs.Between.{IsCalm, NoneOpen};
 ghost use Rattle.vm_actors.specs.Doings.{Knows, MayDo, RestsAt, request_of};
+ghost use Rattle.vm_actors.specs.InTurns.{MadeInTurns};
 ghost use Rattle.vm_actors.specs.OwnEntries.{GoesOnSilently, MadeSome};
 ghost use Rattle.vm_actors.specs.Requests.{AreAllAnswered};
 
@@ -43,6 +44,7 @@ pub fn idle_worker<W: Wait, B: Block, G: Gate>(
     ensures silent { GoesOnSilently (numbers pass) (seen pass) (seen result.pass) }
     ensures answered { result.short ≡ false → AreAllAnswered (base_seen pass) (seen result.pass) }
     ensures done { result.short ≡ false → MadeSome (numbers pass) (seen pass) (seen result.pass) ⊎ RestsAt doing (base_seen pass) (reverse (seen result.pass)) }
+    ensures turns { MadeInTurns (base_seen pass) carrier.seat.0 (seen pass) (seen result.pass) }
     ensures landed { NoneOpen (numbers pass) (seen result.pass) }
     ensures calm { IsCalm (seen result.pass) }
 {

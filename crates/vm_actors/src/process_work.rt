@@ -4,6 +4,7 @@ ghost use Rattle.call_begins.specs.MayBegin.{empty};
 ghost use Rattle.seat_turns.specs.Steps.{seat_of};
 ghost use Rattle.vm_actors.specs.Between.{IsCalm, NoneOpen};
 ghost use Rattle.vm_actors.specs.Doings.{Knows, MayAsk};
+ghost use Rattle.vm_actors.specs.InTurns.{AreLeft, MadeInTurns};
 ghost use Rattle.vm_actors.specs.Requests.{HasAnswered, HasAnsweredSome};
 
 use crate::asks::ask;
@@ -48,6 +49,7 @@ pub fn process_worker<W: Wait, B: Block, G: Gate>(
     ensures same { IsSameLock pass result.pass }
     ensures some { HasAnsweredSome (numbers pass) (seen pass) (seen result.pass) work.now }
     ensures all { result.short ≡ false → HasAnswered (numbers pass) (seen pass) (seen result.pass) work.now }
+    ensures turns { AreLeft (base_seen pass) p.0 work.now (seen pass) → MadeInTurns (base_seen pass) p.0 (seen pass) (seen result.pass) }
     ensures landed { NoneOpen (numbers pass) (seen result.pass) }
     ensures calm { (work.now ≡ [] → IsCalm (seen pass)) → IsCalm (seen result.pass) }
 {

@@ -4,6 +4,7 @@ ghost use Rattle.history_lock.specs.Values.{IsSameTurn, value_of};
 ghost use Rattle.vm_state.specs.Based.{base_of};
 ghost use Rattle.vm_state.specs.History.{pager};
 ghost use Rattle.carried_landings.specs.Outside.{AreOut, NoneWaits};
+ghost use Rattle.seat_steps.specs.Turns.{HasStepped};
 ghost use Rattle.seat_turns.specs.Steps.{HasTurned, is_reads};
 ghost use Rattle.seat_turns.specs.declared.turned.Turned.{Turned};
 ghost use Rattle.vm_actors.specs.Doings.{HasRested, AreBegunFor, MayDo, request_of};
@@ -30,6 +31,7 @@ fn do_in_turn<B: Block>(
     requires carried { NoneWaits carrier.old.lifts }
     requires begun { (carrier.old.lifts ≡ [] → ⊥) → AreBegunFor state.old.past _seat doing reading }
     ensures turned { HasTurned B.seen B.tells state.old state.new _seat (request_of doing) result carrier.new }
+    ensures step { HasStepped state.old.config state.old.past state.new.past _seat.0 (request_of doing) }
     ensures begun { (carrier.new.lifts ≡ [] → ⊥) → AreBegunFor state.new.past _seat doing (is_reads result) }
     ensures rests { result ≡ Turned.Rests → HasRested doing state.new.config state.new.past (pager state.new) }
 {
@@ -58,6 +60,7 @@ pub(crate) fn step<B: Block>(
     requires begun { (carrier.old.lifts ≡ [] → ⊥) → AreBegunFor (value_of turn.old).past seat doing reading }
     ensures same { IsSameTurn turn.old turn.new }
     ensures turned { HasTurned B.seen B.tells (value_of turn.old) (value_of turn.new) seat (request_of doing) result.turned carrier.new }
+    ensures step { HasStepped (value_of turn.old).config (value_of turn.old).past (value_of turn.new).past seat.0 (request_of doing) }
     ensures begun { (carrier.new.lifts ≡ [] → ⊥) → AreBegunFor (value_of turn.new).past seat doing (is_reads result.turned) }
     ensures rests { result.turned ≡ Turned.Rests → HasRested doing (value_of turn.new).config (value_of turn.new).past (pager (value_of turn.new)) }
     ensures none { result.made ≡ false → length (value_of turn.new).past ≡ length (value_of turn.old).past }

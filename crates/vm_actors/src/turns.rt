@@ -9,6 +9,7 @@ ghost use Rattle.seat_turns.specs.declared.turned.Turned.{Turned};
 ghost use Rattle.vm_actors.specs.Between.{IsBetweenTurns, IsCalm, IsJournalOf, NoOtherOpen};
 ghost use Rattle.vm_actors.specs.Doings.{AreBegunFor, Knows, MayDo, RestsAt, request_of};
 ghost use Rattle.vm_actors.specs.Ends.{may_carry};
+ghost use Rattle.vm_actors.specs.InTurns.{IsDueFor, MadeInTurns};
 ghost use Rattle.vm_actors.specs.OwnEntries.{GoesOnWith, MadeNone, MadeSome, TurnEntries};
 
 use crate::doing::Doing;
@@ -48,6 +49,7 @@ pub(crate) fn take_turn<W: Wait, B: Block, G: Gate>(
     ensures base { base_seen pass.new ≡ base_seen pass.old }
     ensures same { IsSameLock pass.old pass.new }
     ensures taken { GoesOnWith (TurnEntries seat result.turned (request_of doing)) (numbers pass.old) (seen pass.old) (seen pass.new) }
+    ensures turns { IsDueFor doing (base_seen pass.old) (seen pass.old) → MadeInTurns (base_seen pass.old) seat.0 (seen pass.old) (seen pass.new) }
     ensures none { result.made ≡ false → MadeNone (numbers pass.old) (seen pass.old) (seen pass.new) }
     ensures some { result.made ≡ true → MadeSome (numbers pass.old) (seen pass.old) (seen pass.new) }
     ensures rests { result.turned ≡ Turned.Rests → RestsAt doing (base_seen pass.old) (reverse (seen pass.new)) }

@@ -9,6 +9,7 @@ use Rattle.vm_actors.specs.Doings.{Knows, MayAsk}
 use Rattle.vm_actors.specs.OwnEntries.{AreSilent, GoesOnWith, TurnEntries}
 use Rattle.vm_actors.proofs.DoneInTurns.{knows_asking}
 use Rattle.vm_actors.proofs.Ending.{end_carries_none, end_replied, end_silent, no_option, still_silent}
+use Rattle.vm_actors.proofs.InTurns.{ask_in_turns, stays_in_turns}
 use Rattle.vm_actors.proofs.OthersLanded.{begin_begun, begin_between, begin_others, end_carrier, end_landed}
 use Rattle.vm_actors.proofs.OwnTurns.{goes_nowhere}
 use Rattle.vm_actors.proofs.asks.ask.Goals as goal
@@ -20,6 +21,7 @@ loop-init g c = record {
   base = refl;
   owns = refl;
   more = goes_nowhere (numbers c.args.pass.now) AreSilent (seen c.args.pass.now) tt;
+  turns = λ next. stays_in_turns (MayAsk c.args.p c.args.x) (base_seen c.args.pass.now) (c.args.p).0 (seen c.args.pass.now) c.requires.knows;
   others = begin_others (numbers c.args.pass.now) (c.args.p).0 (seen c.args.pass.now) c.requires.landed;
   between = begin_between g.B.Block.seen g.B.Block.tells (seat_of c.args.p) c.args.carrier.now (Knows (MayAsk c.args.p c.args.x)) (base_seen c.args.pass.now) (seen c.args.pass.now) (numbers c.args.pass.now) (λ none. none) c.requires.knows c.requires.carrier c.requires.number c.requires.landed;
   begun = begin_begun (seat_of c.args.p) c.args.carrier.now c.requires.carrier _;
@@ -34,6 +36,10 @@ pub returns-in-Some-end_of-clause-silent : goal.returns-in-Some-end_of-clause-si
 returns-in-Some-end_of-clause-silent g c =
     end_silent (numbers c.args.pass.now) (seat_of c.args.p) (c.take_turn-taken.result).turned (seen c.args.pass.now) (seen c.loop.pass) (seen c.take_turn-taken.new.pass) c.loop.invariant.more c.args.x c.in-Some-end_of.end c.in-Some-end_of.ensures.ends
     (subst (λ (ns : List ℕ). GoesOnWith (TurnEntries (seat_of c.args.p) (c.take_turn-taken.result).turned (Some c.args.x)) ns (seen c.loop.pass) (seen c.take_turn-taken.new.pass)) c.loop.invariant.owns c.take_turn-taken.ensures.taken)
+
+pub returns-in-Some-end_of-clause-turns : goal.returns-in-Some-end_of-clause-turns
+returns-in-Some-end_of-clause-turns g c =
+    ask_in_turns (base_seen c.args.pass.now) (base_seen c.loop.pass) c.loop.invariant.base (c.args.p).0 (seen c.args.pass.now) (seen c.loop.pass) (seen c.take_turn-taken.new.pass) (numbers c.args.pass.now) c.args.x c.requires.number c.loop.invariant.more c.loop.invariant.turns c.take_turn-taken.ensures.turns
 
 pub returns-in-Some-end_of-clause-landed : goal.returns-in-Some-end_of-clause-landed
 returns-in-Some-end_of-clause-landed g c =
@@ -79,6 +85,8 @@ loop-preserved g c = record {
       still_silent (numbers c.args.pass.now) (seat_of c.args.p) (c.take_turn-taken.result).turned (seen c.args.pass.now) (seen c.loop.pass) (seen c.take_turn-taken.new.pass) c.loop.invariant.more (Some c.args.x)
       (c.end_of.ensures.none (no_option c.end_of.result c.in_default.not-Some))
       (subst (λ (ns : List ℕ). GoesOnWith (TurnEntries (seat_of c.args.p) (c.take_turn-taken.result).turned (Some c.args.x)) ns (seen c.loop.pass) (seen c.take_turn-taken.new.pass)) c.loop.invariant.owns c.take_turn-taken.ensures.taken);
+  turns =
+      ask_in_turns (base_seen c.args.pass.now) (base_seen c.loop.pass) c.loop.invariant.base (c.args.p).0 (seen c.args.pass.now) (seen c.loop.pass) (seen c.take_turn-taken.new.pass) (numbers c.args.pass.now) c.args.x c.requires.number c.loop.invariant.more c.loop.invariant.turns c.take_turn-taken.ensures.turns;
   others = subst (λ (ns : List ℕ). NoOtherOpen ns (c.args.p).0 (reverse (seen c.take_turn-taken.new.pass))) c.loop.invariant.owns c.take_turn-taken.ensures.others;
   between = c.take_turn-taken.ensures.between;
   begun = λ some. subst (λ (own : Bool). IsBegunFor (reverse (seen c.take_turn-taken.new.pass)) (c.args.p).0 c.args.x own) (sym c.reads-reading.ensures) (c.take_turn-taken.ensures.begun some);

@@ -8,9 +8,11 @@ use Rattle.vm_state.specs.declared.base.StateBase.{StateBase}
 use Rattle.call_begins.specs.MayBegin.{empty}
 use Rattle.vm_actors.specs.Between.{NoOtherOpen}
 use Rattle.vm_actors.specs.Doings.{Knows, MayDo, RestsAt, request_of}
+use Rattle.vm_actors.specs.InTurns.{MadeInTurns}
 use Rattle.vm_actors.specs.OwnEntries.{AreSilent, GoesOnWith, IsNone, MadeNone, MadeSome, TurnEntries}
 use Rattle.vm_actors.proofs.DoneInTurns.{begun_idle}
 use Rattle.vm_actors.proofs.Ending.{idle_end_carries_none, idle_end_made, idle_end_rests, none_made, some_made, still_idle}
+use Rattle.vm_actors.proofs.InTurns.{idle_in_turns, stays_in_turns}
 use Rattle.vm_actors.proofs.OthersLanded.{begin_between, begin_others, end_carrier, end_landed}
 use Rattle.vm_actors.proofs.OwnTurns.{goes_nowhere}
 use Rattle.vm_actors.proofs.idle_turns.work_once.Goals as goal
@@ -24,6 +26,7 @@ loop-init g c = record {
   more = goes_nowhere (numbers c.args.pass.now) AreSilent (seen c.args.pass.now) tt;
   none = λ is. goes_nowhere (numbers c.args.pass.now) IsNone (seen c.args.pass.now) refl;
   some = λ is. absurd (false≢true is);
+  turns = stays_in_turns (MayDo (c.args.carrier.now).seat c.args.doing) (base_seen c.args.pass.now) (c.seat-seat.result).0 (seen c.args.pass.now) c.requires.knows;
   others = begin_others (numbers c.args.pass.now) (c.seat-seat.result).0 (seen c.args.pass.now) c.requires.landed;
   between =
       begin_between g.B.Block.seen g.B.Block.tells c.seat-seat.result c.args.carrier.now (Knows (MayDo (c.args.carrier.now).seat c.args.doing)) (base_seen c.args.pass.now) (seen c.args.pass.now) (numbers c.args.pass.now) (λ none. none) c.requires.knows
@@ -73,6 +76,11 @@ returns-in-Some-idle_end_of-clause-rests g c =
     idle_end_rests c.either-made.result (c.take_turn-taken.result).turned c.in-Some-idle_end_of.end c.in-Some-idle_end_of.ensures _
     (λ rests. subst (λ (base : Option StateBase). RestsAt c.args.doing base (reverse (seen c.take_turn-taken.new.pass))) c.loop.invariant.base (c.take_turn-taken.ensures.rests rests))
 
+pub returns-in-Some-idle_end_of-clause-turns : goal.returns-in-Some-idle_end_of-clause-turns
+returns-in-Some-idle_end_of-clause-turns g c =
+    subst (λ (z : Seat). MadeInTurns (base_seen c.args.pass.now) z.0 (seen c.args.pass.now) (seen c.take_turn-taken.new.pass)) c.seat-seat.ensures
+    (idle_in_turns (base_seen c.args.pass.now) (base_seen c.loop.pass) c.loop.invariant.base (c.seat-seat.result).0 (seen c.args.pass.now) (seen c.loop.pass) (seen c.take_turn-taken.new.pass) c.args.doing c.requires.idles c.loop.invariant.turns c.take_turn-taken.ensures.turns)
+
 pub returns-in-Some-idle_end_of-clause-landed : goal.returns-in-Some-idle_end_of-clause-landed
 returns-in-Some-idle_end_of-clause-landed g c =
     end_landed g.B.Block.seen g.B.Block.tells c.seat-seat.result c.take_turn-taken.new.carrier (base_seen c.take_turn-taken.new.pass) (seen c.take_turn-taken.new.pass) (numbers c.args.pass.now) c.take_turn-taken.ensures.between
@@ -102,6 +110,11 @@ returns-then-len-eq0-clause-none g c = λ is. absurd (false≢true (sym is))
 
 pub returns-then-len-eq0-clause-rests : goal.returns-then-len-eq0-clause-rests
 returns-then-len-eq0-clause-rests g c = λ is. absurd (false≢true (sym is))
+
+pub returns-then-len-eq0-clause-turns : goal.returns-then-len-eq0-clause-turns
+returns-then-len-eq0-clause-turns g c =
+    subst (λ (z : Seat). MadeInTurns (base_seen c.args.pass.now) z.0 (seen c.args.pass.now) (seen c.take_turn-taken.new.pass)) c.seat-seat.ensures
+    (idle_in_turns (base_seen c.args.pass.now) (base_seen c.loop.pass) c.loop.invariant.base (c.seat-seat.result).0 (seen c.args.pass.now) (seen c.loop.pass) (seen c.take_turn-taken.new.pass) c.args.doing c.requires.idles c.loop.invariant.turns c.take_turn-taken.ensures.turns)
 
 pub returns-then-len-eq0-clause-landed : goal.returns-then-len-eq0-clause-landed
 returns-then-len-eq0-clause-landed g c =
@@ -134,6 +147,7 @@ loop-preserved g c = record {
       (subst (λ (ns : List ℕ). GoesOnWith (TurnEntries c.seat-seat.result (c.take_turn-taken.result).turned (request_of c.args.doing)) ns (seen c.loop.pass) (seen c.take_turn-taken.new.pass)) c.loop.invariant.owns c.take_turn-taken.ensures.taken)
       c.loop.made (c.take_turn-taken.result).made c.loop.invariant.some c.loop.invariant.more
       (λ now. subst (λ (ns : List ℕ). MadeSome ns (seen c.loop.pass) (seen c.take_turn-taken.new.pass)) c.loop.invariant.owns (c.take_turn-taken.ensures.some now)) (sym c.either-made.ensures ∙ is);
+  turns = idle_in_turns (base_seen c.args.pass.now) (base_seen c.loop.pass) c.loop.invariant.base (c.seat-seat.result).0 (seen c.args.pass.now) (seen c.loop.pass) (seen c.take_turn-taken.new.pass) c.args.doing c.requires.idles c.loop.invariant.turns c.take_turn-taken.ensures.turns;
   others = subst (λ (ns : List ℕ). NoOtherOpen ns (c.seat-seat.result).0 (reverse (seen c.take_turn-taken.new.pass))) c.loop.invariant.owns c.take_turn-taken.ensures.others;
   between = c.take_turn-taken.ensures.between;
 }

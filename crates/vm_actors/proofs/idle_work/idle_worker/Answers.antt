@@ -1,4 +1,4 @@
-use Rattle.std.proofs.Common.{◌∙◌, ◌≡◌, ℕ, true, false, List, Option, refl, subst, sym}
+use Rattle.std.proofs.Common.{◌∙◌, ◌≡◌, ℕ, true, false, List, Option, refl, ap, subst, sym}
 use Rattle.std.specs.Prelude.{Contains}
 use Rattle.std.proofs.lemmas.Bool.{false≢true}
 use Rattle.history_lock.specs.Passes.{base_of as base_seen, numbers, seen}
@@ -7,6 +7,7 @@ use Rattle.call_begins.specs.MayBegin.{empty}
 use Rattle.vm_actors.specs.Doings.{Knows, MayDo}
 use Rattle.vm_actors.specs.OwnEntries.{AreSilent}
 use Rattle.vm_actors.proofs.DoneInTurns.{knows_any}
+use Rattle.vm_actors.proofs.InTurns.{round_in_turns, stays_in_turns}
 use Rattle.vm_actors.proofs.OwnTurns.{goes_nowhere}
 use Rattle.vm_actors.proofs.Rounds.{open_none, round_answered, round_done, round_silent}
 use Rattle.vm_actors.proofs.idle_work.idle_worker.Goals as goal
@@ -18,6 +19,7 @@ loop-init g c = record {
   base = refl;
   owns = refl;
   more = goes_nowhere (numbers c.args.pass) AreSilent (seen c.args.pass) tt;
+  turns = stays_in_turns (MayDo (c.args.carrier).seat c.args.doing) (base_seen c.args.pass) ((c.args.carrier).seat).0 (seen c.args.pass) c.requires.knows;
   landed = c.requires.landed;
   carrier = refl;
 }
@@ -57,6 +59,12 @@ returns-in-Err-clause-answered g c = λ never. absurd (false≢true (sym never))
 pub returns-in-Err-clause-done : goal.returns-in-Err-clause-done
 returns-in-Err-clause-done g c = λ never. absurd (false≢true (sym never))
 
+pub returns-in-Err-clause-turns : goal.returns-in-Err-clause-turns
+returns-in-Err-clause-turns g c =
+    round_in_turns (MayDo (c.args.carrier).seat c.args.doing) (base_seen c.args.pass) (base_seen c.look_answered-last.new.pass) (numbers c.args.pass) (numbers c.loop.pass) (c.args.carrier).seat (c.loop.carrier).seat
+    (seen c.args.pass) (seen c.loop.pass) (seen c.look_answered-last.new.pass) (seen c.work_once.new.pass) c.requires.knows c.requires.number c.loop.invariant.owns (c.look_answered-last.ensures.base ∙ c.loop.invariant.base)
+    (ap (λ x. x.seat) c.loop.invariant.carrier) c.loop.invariant.turns c.look_answered-last.ensures.none c.work_once.ensures.turns
+
 pub returns-in-Err-clause-landed : goal.returns-in-Err-clause-landed
 returns-in-Err-clause-landed g c = open_none (numbers c.look_answered-last.new.pass) (numbers c.args.pass) (seen c.work_once.new.pass) (c.look_answered-last.ensures.numbers ∙ c.loop.invariant.owns) c.work_once.ensures.landed
 
@@ -72,6 +80,12 @@ pub returns-then-last-clause-done : goal.returns-then-last-clause-done
 returns-then-last-clause-done g c =
     λ sufficed. round_done (numbers c.args.pass) (numbers c.loop.pass) (numbers c.look_answered-last.new.pass) c.loop.invariant.owns c.look_answered-last.ensures.numbers (seen c.args.pass) (seen c.loop.pass) (seen c.look_answered-last.new.pass) (seen c.work_once.new.pass) c.loop.invariant.more c.look_answered-last.ensures.none c.work_once.ensures.silent c.args.doing (base_seen c.look_answered-last.new.pass) (base_seen c.args.pass) (c.look_answered-last.ensures.base ∙ c.loop.invariant.base) c.in-Ok.field-0 c.in-Ok.ensures.made c.in-Ok.ensures.rests
 
+pub returns-then-last-clause-turns : goal.returns-then-last-clause-turns
+returns-then-last-clause-turns g c =
+    round_in_turns (MayDo (c.args.carrier).seat c.args.doing) (base_seen c.args.pass) (base_seen c.look_answered-last.new.pass) (numbers c.args.pass) (numbers c.loop.pass) (c.args.carrier).seat (c.loop.carrier).seat
+    (seen c.args.pass) (seen c.loop.pass) (seen c.look_answered-last.new.pass) (seen c.work_once.new.pass) c.requires.knows c.requires.number c.loop.invariant.owns (c.look_answered-last.ensures.base ∙ c.loop.invariant.base)
+    (ap (λ x. x.seat) c.loop.invariant.carrier) c.loop.invariant.turns c.look_answered-last.ensures.none c.work_once.ensures.turns
+
 pub returns-then-last-clause-landed : goal.returns-then-last-clause-landed
 returns-then-last-clause-landed g c = open_none (numbers c.look_answered-last.new.pass) (numbers c.args.pass) (seen c.work_once.new.pass) (c.look_answered-last.ensures.numbers ∙ c.loop.invariant.owns) c.work_once.ensures.landed
 
@@ -83,6 +97,10 @@ loop-preserved g c = record {
   owns = c.work_once.ensures.numbers ∙ (c.look_answered-last.ensures.numbers ∙ c.loop.invariant.owns);
   more =
       round_silent (numbers c.args.pass) (numbers c.loop.pass) (numbers c.look_answered-last.new.pass) c.loop.invariant.owns c.look_answered-last.ensures.numbers (seen c.args.pass) (seen c.loop.pass) (seen c.look_answered-last.new.pass) (seen c.work_once.new.pass) c.loop.invariant.more c.look_answered-last.ensures.none c.work_once.ensures.silent;
+  turns =
+      round_in_turns (MayDo (c.args.carrier).seat c.args.doing) (base_seen c.args.pass) (base_seen c.look_answered-last.new.pass) (numbers c.args.pass) (numbers c.loop.pass) (c.args.carrier).seat (c.loop.carrier).seat
+      (seen c.args.pass) (seen c.loop.pass) (seen c.look_answered-last.new.pass) (seen c.work_once.new.pass) c.requires.knows c.requires.number c.loop.invariant.owns (c.look_answered-last.ensures.base ∙ c.loop.invariant.base)
+      (ap (λ x. x.seat) c.loop.invariant.carrier) c.loop.invariant.turns c.look_answered-last.ensures.none c.work_once.ensures.turns;
   landed = open_none (numbers c.look_answered-last.new.pass) (numbers c.args.pass) (seen c.work_once.new.pass) (c.look_answered-last.ensures.numbers ∙ c.loop.invariant.owns) c.work_once.ensures.landed;
   carrier = c.work_once.ensures.carrier ∙ c.loop.invariant.carrier;
 }

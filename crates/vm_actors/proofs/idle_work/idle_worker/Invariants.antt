@@ -2,6 +2,7 @@
 use Rattle.std.proofs.Common.{◌≡◌}
 use Rattle.history_lock.specs.Passes.{IsIdle, IsSameLock, base_of as base_seen, numbers, seen}
 use Rattle.vm_actors.specs.Between.{NoneOpen}
+use Rattle.vm_actors.specs.InTurns.{MadeInTurns}
 use Rattle.vm_actors.specs.OwnEntries.{GoesOnSilently}
 use Rattle.vm_actors.proofs.idle_work.idle_worker.Given as goal
 
@@ -12,6 +13,7 @@ invariant-loop g l = record {
   base : base_seen l.pass ≡ base_seen l.fn.pass;
   owns : numbers l.pass ≡ numbers l.fn.pass;
   more : GoesOnSilently (numbers l.fn.pass) (seen l.fn.pass) (seen l.pass);
+  turns : MadeInTurns (base_seen l.fn.pass) (l.fn.carrier.seat).0 (seen l.fn.pass) (seen l.pass);
   landed : NoneOpen (numbers l.fn.pass) (seen l.pass);
   carrier : l.carrier ≡ l.fn.carrier;
 }

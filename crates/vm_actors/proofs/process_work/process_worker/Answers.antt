@@ -1,14 +1,17 @@
-use Rattle.std.proofs.Common.{◌∙◌, ℕ, List, Option, inl, inr, refl, subst, sym}
+use Rattle.std.proofs.Common.{◌∙◌, ℕ, List, Option, append-nil, inl, inr, refl, reverse, subst, sym}
 use Rattle.std.specs.Prelude.{Contains, IfOk, OnErr}
 use Rattle.std.proofs.lemmas.Bool.{false≢true}
 use Rattle.history_lock.specs.Passes.{base_of as base_seen, numbers, seen}
 use Rattle.vm_types.specs.declared.service.Request.{Request}
+use Rattle.pager_model.specs.Order.{answered}
 use Rattle.vm_state.specs.declared.base.StateBase.{StateBase}
 use Rattle.seat_turns.specs.Steps.{seat_of}
 use Rattle.vm_actors.specs.Between.{NoneOpen}
 use Rattle.vm_actors.specs.Doings.{Knows, MayAsk}
 use Rattle.vm_actors.specs.OwnEntries.{GoesOnSilently, IsReplied}
 use Rattle.vm_actors.proofs.Answering.{all_at, all_some, answered_all, answered_more, answered_none, answered_some, calm_after}
+use Rattle.vm_actors.proofs.InTurns.{none_yet, work_in_turns}
+use Rattle.vm_actors.proofs.NextAsked.{one_answered}
 use Rattle.vm_actors.proofs.Rounds.{open_none}
 use Rattle.vm_actors.proofs.process_work.process_worker.Goals as goal
 
@@ -21,6 +24,8 @@ loop-i-init g c = record {
   calm = inl (refl, refl);
   landed = c.requires.landed;
   carrier = c.requires.carrier;
+  answers = sym (append-nil (answered (c.args.p).0 (reverse (seen c.args.pass))));
+  turns = none_yet (base_seen c.args.pass) (c.args.p).0 c.args.work.now (seen c.args.pass);
   done = answered_none (numbers c.args.pass) (seen c.args.pass) c.args.work.now;
 }
 
@@ -56,6 +61,11 @@ returns-clause-calm g c = calm_after c.args.work.now c.loop-i.i (seen c.args.pas
 pub returns-in-Err-clause-calm : goal.returns-in-Err-clause-calm
 returns-in-Err-clause-calm g c = λ none. c.ask.ensures.calm
 
+pub returns-in-Err-clause-turns : goal.returns-in-Err-clause-turns
+returns-in-Err-clause-turns g c =
+    work_in_turns (base_seen c.args.pass) (base_seen c.loop-i.pass) c.loop-i.invariant.base (c.args.p).0 (seen c.args.pass) (seen c.loop-i.pass) (seen c.ask.new.pass) c.args.work.now c.loop-i.i c.at-x.result c.at-x.ensures
+    c.loop-i.invariant.answers c.loop-i.invariant.turns c.ask.ensures.turns
+
 pub returns-in-Err-clause-some : goal.returns-in-Err-clause-some
 returns-in-Err-clause-some g c =
     answered_some (numbers c.args.pass) (seen c.args.pass) (seen c.loop-i.pass) (seen c.ask.new.pass) c.args.work.now c.loop-i.i c.loop-i.invariant.done
@@ -70,6 +80,12 @@ loop-i-preserved g c = record {
   calm = inr c.ask.ensures.calm;
   landed = subst (λ (ns : List ℕ). NoneOpen ns (seen c.ask.new.pass)) c.loop-i.invariant.owns c.ask.ensures.landed;
   carrier = c.ask.ensures.carrier;
+  answers =
+      one_answered (numbers c.args.pass) (c.args.p).0 c.requires.number (seat_of c.args.p) c.at-x.result c.in-Ok.field-0 (answered (c.args.p).0 (reverse (seen c.args.pass))) c.args.work.now c.loop-i.i (seen c.loop-i.pass) (seen c.ask.new.pass) refl c.at-x.ensures c.loop-i.invariant.answers
+      (subst (λ (ns : List ℕ). IsReplied (seat_of c.args.p) c.at-x.result ns (seen c.loop-i.pass) (seen c.ask.new.pass) c.in-Ok.field-0) c.loop-i.invariant.owns (subst (λ r. IfOk r (IsReplied (seat_of c.args.p) c.at-x.result (numbers c.loop-i.pass) (seen c.loop-i.pass) (seen c.ask.new.pass))) c.in-Ok.is c.ask.ensures.replied));
+  turns =
+      work_in_turns (base_seen c.args.pass) (base_seen c.loop-i.pass) c.loop-i.invariant.base (c.args.p).0 (seen c.args.pass) (seen c.loop-i.pass) (seen c.ask.new.pass) c.args.work.now c.loop-i.i c.at-x.result c.at-x.ensures
+      c.loop-i.invariant.answers c.loop-i.invariant.turns c.ask.ensures.turns;
   done =
       answered_more (numbers c.args.pass) (seen c.args.pass) (seen c.loop-i.pass) (seen c.ask.new.pass) c.args.work.now c.loop-i.i c.loop-i.invariant.done (seat_of c.args.p) c.at-x.result c.in-Ok.field-0 c.at-x.ensures
       (subst (λ (ns : List ℕ). IsReplied (seat_of c.args.p) c.at-x.result ns (seen c.loop-i.pass) (seen c.ask.new.pass) c.in-Ok.field-0) c.loop-i.invariant.owns (subst (λ r. IfOk r (IsReplied (seat_of c.args.p) c.at-x.result (numbers c.loop-i.pass) (seen c.loop-i.pass) (seen c.ask.new.pass))) c.in-Ok.is c.ask.ensures.replied));

@@ -2,10 +2,11 @@ use Rattle.std.proofs.Common.{Some, ap, subst, sym}
 use Rattle.vm_types.specs.WellFormed.{IsRequestOf, IsWellFormedRequest}
 use Rattle.vm_types.specs.declared.service.Request.{Request}
 use Rattle.vm_state.specs.Based.{base_of}
+use Rattle.seat_steps.specs.Turns.{HasStepped}
 use Rattle.seat_turns.specs.Begun.{IsBegunFor}
 use Rattle.seat_turns.specs.Steps.{HasTurned, is_reads, seat_of, swapper_seat, writer_seat}
 use Rattle.vm_actors.specs.Doings.{request_of}
-use Rattle.vm_actors.proofs.DoneInTurns.{asking_begun, asking_may, begun_asking, begun_idle, out_at, rested_asking, rested_swapping, rested_writing, swapping_may, turned_asking, turned_idle, writing_may}
+use Rattle.vm_actors.proofs.DoneInTurns.{asking_begun, asking_may, begun_asking, begun_idle, out_at, rested_asking, rested_swapping, rested_writing, stepped_asking, stepped_idle, swapping_may, turned_asking, turned_idle, writing_may}
 use Rattle.vm_actors.proofs.StillBegun.{begun_service, service_begun}
 use Rattle.vm_actors.proofs.stepping.do_in_turn.Goals as goal
 
@@ -28,6 +29,11 @@ pub returns-in-Reference-clause-turned : goal.returns-in-Reference-clause-turned
 returns-in-Reference-clause-turned g c =
     turned_asking c.args._seat c.args.doing c.in-Asking.p c.in-Asking.x c.in-Asking.is c.args.state.now c.refer_in_turn.new.state c.refer_in_turn.result c.refer_in_turn.new.carrier (asking_may c.args._seat c.args.doing c.in-Asking.p c.in-Asking.x c.in-Asking.is (c.args.state.now).config c.requires.may).0
     (subst (λ (x : Request). HasTurned g.B.Block.seen g.B.Block.tells c.args.state.now c.refer_in_turn.new.state (seat_of c.in-Asking.p) (Some x) c.refer_in_turn.result c.refer_in_turn.new.carrier) (sym c.in-Reference.is) c.refer_in_turn.ensures.turned)
+
+pub returns-in-Reference-clause-step : goal.returns-in-Reference-clause-step
+returns-in-Reference-clause-step g c =
+    stepped_asking c.args._seat c.args.doing c.in-Asking.p c.in-Asking.x c.in-Asking.is (c.args.state.now).config (c.args.state.now).past (c.refer_in_turn.new.state).past (asking_may c.args._seat c.args.doing c.in-Asking.p c.in-Asking.x c.in-Asking.is (c.args.state.now).config c.requires.may).0
+    (subst (λ (x : Request). HasStepped (c.args.state.now).config (c.args.state.now).past (c.refer_in_turn.new.state).past (c.in-Asking.p).0 (Some x)) (sym c.in-Reference.is) c.refer_in_turn.ensures.step)
 
 pub returns-in-Reference-clause-begun : goal.returns-in-Reference-clause-begun
 returns-in-Reference-clause-begun g c =
@@ -61,6 +67,11 @@ returns-in-Service-clause-turned g c =
     turned_asking c.args._seat c.args.doing c.in-Asking.p c.in-Asking.x c.in-Asking.is c.args.state.now c.serve_in_turn.new.state c.serve_in_turn.result c.serve_in_turn.new.carrier (asking_may c.args._seat c.args.doing c.in-Asking.p c.in-Asking.x c.in-Asking.is (c.args.state.now).config c.requires.may).0
     (subst (λ (x : Request). HasTurned g.B.Block.seen g.B.Block.tells c.args.state.now c.serve_in_turn.new.state (seat_of c.in-Asking.p) (Some x) c.serve_in_turn.result c.serve_in_turn.new.carrier) (sym c.in-Service.is) c.serve_in_turn.ensures.turned)
 
+pub returns-in-Service-clause-step : goal.returns-in-Service-clause-step
+returns-in-Service-clause-step g c =
+    stepped_asking c.args._seat c.args.doing c.in-Asking.p c.in-Asking.x c.in-Asking.is (c.args.state.now).config (c.args.state.now).past (c.serve_in_turn.new.state).past (asking_may c.args._seat c.args.doing c.in-Asking.p c.in-Asking.x c.in-Asking.is (c.args.state.now).config c.requires.may).0
+    (subst (λ (x : Request). HasStepped (c.args.state.now).config (c.args.state.now).past (c.serve_in_turn.new.state).past (c.in-Asking.p).0 (Some x)) (sym c.in-Service.is) c.serve_in_turn.ensures.step)
+
 pub returns-in-Service-clause-begun : goal.returns-in-Service-clause-begun
 returns-in-Service-clause-begun g c =
     λ some. begun_asking c.args._seat c.args.doing c.in-Asking.p c.in-Asking.x c.in-Asking.is (c.serve_in_turn.new.state).past (is_reads c.serve_in_turn.result) (asking_may c.args._seat c.args.doing c.in-Asking.p c.in-Asking.x c.in-Asking.is (c.args.state.now).config c.requires.may).0
@@ -78,6 +89,10 @@ pub returns-in-Writing-clause-turned : goal.returns-in-Writing-clause-turned
 returns-in-Writing-clause-turned g c =
     turned_idle c.args._seat c.args.doing c.args.state.now c.write_in_turn.new.state (writer_seat (c.args.state.now).config) c.write_in_turn.result c.write_in_turn.new.carrier (ap request_of (sym c.in-Writing.is)) (writing_may c.args._seat c.args.doing (c.args.state.now).config c.in-Writing.is c.requires.may) c.write_in_turn.ensures.turned
 
+pub returns-in-Writing-clause-step : goal.returns-in-Writing-clause-step
+returns-in-Writing-clause-step g c =
+    stepped_idle c.args._seat c.args.doing (c.args.state.now).config (c.args.state.now).past (c.write_in_turn.new.state).past (writer_seat (c.args.state.now).config) (ap request_of (sym c.in-Writing.is)) (writing_may c.args._seat c.args.doing (c.args.state.now).config c.in-Writing.is c.requires.may) c.write_in_turn.ensures.step
+
 pub returns-in-Writing-clause-begun : goal.returns-in-Writing-clause-begun
 returns-in-Writing-clause-begun g c = λ some. begun_idle c.args._seat c.args.doing _ _ (ap request_of c.in-Writing.is)
 
@@ -91,6 +106,10 @@ swap_in_turn-requires-clause-out g c κs within =
 pub returns-in-Swapping-clause-turned : goal.returns-in-Swapping-clause-turned
 returns-in-Swapping-clause-turned g c =
     turned_idle c.args._seat c.args.doing c.args.state.now c.swap_in_turn.new.state (swapper_seat (c.args.state.now).config) c.swap_in_turn.result c.swap_in_turn.new.carrier (ap request_of (sym c.in-Swapping.is)) (swapping_may c.args._seat c.args.doing (c.args.state.now).config c.in-Swapping.is c.requires.may) c.swap_in_turn.ensures.turned
+
+pub returns-in-Swapping-clause-step : goal.returns-in-Swapping-clause-step
+returns-in-Swapping-clause-step g c =
+    stepped_idle c.args._seat c.args.doing (c.args.state.now).config (c.args.state.now).past (c.swap_in_turn.new.state).past (swapper_seat (c.args.state.now).config) (ap request_of (sym c.in-Swapping.is)) (swapping_may c.args._seat c.args.doing (c.args.state.now).config c.in-Swapping.is c.requires.may) c.swap_in_turn.ensures.step
 
 pub returns-in-Swapping-clause-begun : goal.returns-in-Swapping-clause-begun
 returns-in-Swapping-clause-begun g c = λ some. begun_idle c.args._seat c.args.doing _ _ (ap request_of c.in-Swapping.is)

@@ -2,11 +2,12 @@ use Rattle.std.proofs.Common.{◌∙◌, ◌≡◌, true, subst}
 use Rattle.vm_types.specs.Configuration.{IsWellFormed}
 use Rattle.pager_model.specs.Run.{IsRun}
 use Rattle.pager_model.specs.Spoken.{IsRight}
-use Rattle.history_lock.specs.Passes.{view}
+use Rattle.history_lock.specs.Passes.{seen, view}
 use Rattle.history_lock.specs.Values.{value_of}
 use Rattle.vm_state.specs.History.{History}
 use Rattle.vm_actors.proofs.Ending.{staged_none}
-use Rattle.vm_actors.proofs.TakenTurns.{adds, all_carried, base_left, begun_left, between_left, calm_left, found_begun, found_out, keeps, legal_left, made_none, made_some, others_left_open, rests_left, taken, there}
+use Rattle.vm_actors.proofs.InTurns.{turn_made}
+use Rattle.vm_actors.proofs.TakenTurns.{adds, all_carried, base_left, begun_left, between_left, calm_left, found_begun, found_out, keeps, legal_left, made_none, made_some, others_left_open, past_left, rests_left, taken, there}
 use Rattle.vm_actors.proofs.turns.take_turn.Goals as goal
 
 pub step-taken-requires-clause-may : goal.step-taken-requires-clause-may
@@ -44,6 +45,15 @@ returns-clause-taken g c =
     taken (value_of c.enter_calm-turn.result) (view c.args.pass.now) c.enter_calm-turn.ensures.known
     (keeps (value_of c.enter_calm-turn.result) (view c.args.pass.now) c.enter_calm-turn.ensures.known _ c.requires.knows)
     c.args.seat c.requires.number (value_of c.step-taken.new.turn) _ _ c.step-taken.new.carrier c.step-taken.ensures.turned _ c.leave.ensures.seen
+
+pub returns-clause-turns : goal.returns-clause-turns
+returns-clause-turns g c =
+    let kept = keeps (value_of c.enter_calm-turn.result) (view c.args.pass.now) c.enter_calm-turn.ensures.known _ c.requires.knows in
+    let turned = c.step-taken.ensures.turned in
+    turn_made (value_of c.enter_calm-turn.result) (view c.args.pass.now) c.enter_calm-turn.ensures.known kept c.args.seat c.requires.number c.args.doing
+    (there (value_of c.enter_calm-turn.result) (view c.args.pass.now) c.enter_calm-turn.ensures.known _ c.requires.knows)
+    (value_of c.step-taken.new.turn) turned.made turned.past c.step-taken.ensures.step (seen c.leave.new.pass)
+    (past_left (value_of c.enter_calm-turn.result) (view c.args.pass.now) c.enter_calm-turn.ensures.known kept c.args.seat c.requires.number (value_of c.step-taken.new.turn) _ _ c.step-taken.new.carrier turned (seen c.leave.new.pass) c.leave.ensures.seen)
 
 pub returns-clause-none : goal.returns-clause-none
 returns-clause-none g c =
