@@ -17,15 +17,18 @@ use Rattle.pager_model.specs.Spoken.{spoken, request_of}
 use Rattle.pager_model.specs.Run.{IsRun, pager_after}
 use Rattle.pager_rules.proofs.Basics.{count_cons}
 use Rattle.serial_laws.specs.Between.{IsBetween}
+use Rattle.seat_steps.specs.Turns.{EachInTurn}
 use Rattle.vm_state.specs.declared.base.StateBase.{StateBase}
 use Rattle.vm_actors.specs.Between.{IsCalm}
 use Rattle.vm_actors.specs.Doings.{HasRested, RestsAt}
+use Rattle.vm_actors.specs.InTurns.{GoesInTurns}
 use Rattle.vm_actors.specs.OwnEntries.{MadeSome, own_of}
 use Rattle.vm_actors.specs.Requests.{requests_in}
 use Rattle.vm_actors.specs.declared.doing.Doing.{Doing}
 use Rattle.vm_actors.specs.declared.doing.Doing.TheVariants.{Swapping, Writing}
 use Rattle.vm_actors.proofs.Answering.{silent_ask}
 use Rattle.vm_actors.proofs.Foreign.{IsForeign, all_foreign}
+use Rattle.vm_actors.proofs.InTurns.{goes_on, others_go}
 use Rattle.vm_actors.proofs.OthersLanded.{stays_landed}
 use Rattle.vm_actors.proofs.Onto.{onto, onto_reverse}
 use Rattle.replay_run.specs.Jobs.{IsIdleDone, IsPlayable}
@@ -34,6 +37,7 @@ use Rattle.replay_run.specs.Worked.{HasWorkedAt, is_by}
 use Rattle.replay_run.proofs.AnswerCounts.{no_more_answers, one_if}
 use Rattle.replay_run.proofs.SeatBounds.{IsBelow, none_open, seats_below}
 use Rattle.replay_run.proofs.WholeRun.{answered_all}
+use Rattle.replay_run.proofs.WholeTurns.{whole_in_turns}
 
 -- ---- seats that ask for nothing
 none_of_task : (n k : ℕ) (body : List Task) → AllByRecursion (λ (task : Task). (task.proc).0 < n) body → n ≤ k → requests_of k body ≡ []
@@ -126,6 +130,17 @@ module _ (b : StateBase) (playable : IsPlayable b) (journal : List Entry) (run :
       let foreign : AllByRecursion (IsForeign k) was.begins.0 = all_foreign k was.place was.begins.0 (ap (own_entries k) was.begins.1 ∙ was.own) in
       subst (λ (past : List Entry). carrier_of k past ≡ []) (sym past_is)
       (stays_landed b k was.begins.0 (reverse was.place) playable.formed foreign (subst (IsRun b.config) past_is run) (was.landed k (0, omega arith, refl)))
+
+  -- each seat's entries were made in turns, and so the whole journal was
+  turns_of : (k : ℕ) → k < n + 2 → GoesInTurns b.config k [] (reverse journal)
+  turns_of k under =
+      let was = done k under in
+      let past_is : reverse journal ≡ onto (reverse was.place) was.begins.0 = ap reverse (sym was.begins.1) ∙ onto_reverse was.place was.begins.0 in
+      let foreign : AllByRecursion (IsForeign k) was.begins.0 = all_foreign k was.place was.begins.0 (ap (own_entries k) was.begins.1 ∙ was.own) in
+      subst (GoesInTurns b.config k []) (sym past_is) (goes_on b.config k [] (reverse was.place) (onto (reverse was.place) was.begins.0) (was.done).turns (others_go b.config k was.begins.0 (reverse was.place) foreign))
+
+  pub all_in_turns : EachInTurn b.config (reverse journal)
+  all_in_turns = whole_in_turns b.config (n + 2) (reverse journal) (seats_below b.config (reverse journal) run) turns_of
 
   pub is_between : IsCalm journal → IsBetween b.config (reverse journal)
   is_between calm = record {

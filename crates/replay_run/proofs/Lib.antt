@@ -8,4 +8,5 @@ pub mod Played
 pub mod SeatBounds
 pub mod TaskRequests
 pub mod WholeRun
+pub mod WholeTurns
 pub mod WorkersDone

@@ -12,6 +12,7 @@ use Rattle.pager_model.specs.Order.{IsAnswered}
 use Rattle.pager_model.specs.Run.{IsRun}
 use Rattle.pager_model.specs.Spoken.{IsRight}
 use Rattle.serial_laws.specs.Between.{IsBetween}
+use Rattle.seat_steps.specs.Turns.{EachInTurn}
 use Rattle.seat_turns.specs.Rests.{SwapperRests, WriterRests}
 use Rattle.vm_state.specs.Based.{base_of, kept_entries}
 use Rattle.vm_state.specs.History.{History}
@@ -23,7 +24,7 @@ use Rattle.replay_run.specs.Jobs.{IsPlayable}
 use Rattle.replay_run.specs.Workers.{AreEnded, WasDone}
 use Rattle.replay_run.specs.Replayed.{HasPlayed}
 use Rattle.replay_run.specs.Worked.{HasWorkedAt}
-use Rattle.replay_run.proofs.Concluding.{all_answered, is_between, swapper_worked, writer_worked}
+use Rattle.replay_run.proofs.Concluding.{all_answered, all_in_turns, is_between, swapper_worked, writer_worked}
 
 pub same_base : (s : History) (v : View StateBase) (b : StateBase) → Known kept_entries base_of s v → v.base ≡ Some b → base_of s ≡ b
 same_base s v b known is = same_Some (base_of s) b (sym known.base_is ∙ is)
@@ -54,13 +55,16 @@ module _ (b : StateBase) (playable : IsPlayable b) (s : History) (base : base_of
   played_swapper : HasWorkedAt s.config s.past (length s.config.procs + 1) SwapperRests
   played_swapper = there (λ (c : Config) (past : List Entry). HasWorkedAt c past (length c.procs + 1) SwapperRests) (swapper_worked b playable journal ran done)
 
+  played_turns : EachInTurn s.config s.past
+  played_turns = there EachInTurn (all_in_turns b playable journal ran done)
+
   pub has_played : (tells : Bool) → (tells ≡ true → IsRight s.config s.past) → HasPlayed tells b s
   has_played tells right = record {
     same = base;
     between = played_between;
     answered = played_answered;
     right = right;
-    threaded = record { writer = played_writer; swapper = played_swapper };
+    threaded = record { writer = played_writer; swapper = played_swapper; turns = played_turns };
   }
 
 -- all numbers are among those of the pass

@@ -1,5 +1,5 @@
 -- The work of each kind of worker, by what its pass knew at first.
-use Rattle.std.proofs.Common.{◌≡◌, ◌⊎◌, ℕ, ◌+◌, ◌<◌, Bool, true, false, cond, List, None, [], ◌∷◌, filter, length, map, nat_eq, reverse, refl, sym, ap, ◌∙◌, subst, arith}
+use Rattle.std.proofs.Common.{◌≡◌, ◌⊎◌, ℕ, ◌+◌, ◌<◌, Bool, true, false, cond, List, Some, None, [], ◌∷◌, filter, length, map, nat_eq, reverse, refl, sym, ap, ◌∙◌, subst, arith}
 use Rattle.std.specs.Prelude.{All}
 use Rattle.std.specs.List.{AllByRecursion}
 use Rattle.std.proofs.lemmas.List.Elements.{All-from_recursion, recursion_from_All}
@@ -17,6 +17,7 @@ use Rattle.pager_model.specs.Order.{requests_of}
 use Rattle.vm_state.specs.declared.base.StateBase.{StateBase}
 use Rattle.vm_actors.specs.Between.{IsCalm, NoneOpen}
 use Rattle.vm_actors.specs.Doings.{Knows, MayAsk, MayDo, RestsAt, request_of}
+use Rattle.vm_actors.specs.InTurns.{AreLeft, MadeInTurns}
 use Rattle.vm_actors.specs.OwnEntries.{GoesOnSilently, MadeSome}
 use Rattle.vm_actors.specs.Requests.{AreAllAnswered, HasAnswered}
 use Rattle.vm_actors.specs.declared.doing.Doing.{Doing}
@@ -58,17 +59,24 @@ module _ (b : StateBase) (k : ℕ) (v : View StateBase) (is : v ≡ unseen (k �
   done_by : (place : List Entry) → IsWorkDone b k place → IsDoneBy v.base v.numbers place
   done_by place done = subst (λ (w : View StateBase). IsDoneBy w.base w.numbers place) (sym is) done
 
-  pub process_done : (place : List Entry) (work : List Request) → k < length b.config.procs → work ≡ requests_of k b.config.body → HasAnswered v.numbers v.seen place work → IsDoneBy v.base v.numbers place
-  process_done place work under asks all =
+  pub all_left : (p : Proc) → p.0 ≡ k → (work : List Request) → work ≡ requests_of k b.config.body → AreLeft v.base p.0 work v.seen
+  all_left p same work asks = subst (λ (w : View StateBase). AreLeft w.base p.0 work w.seen) (sym is) (asks ∙ ap (λ (j : ℕ). requests_of j b.config.body) (sym same))
+
+  turns_first : (seat : ℕ) → seat ≡ k → (place : List Entry) → MadeInTurns v.base seat v.seen place → MadeInTurns (Some b) k [] place
+  turns_first seat same place turns = subst (λ (j : ℕ). MadeInTurns (Some b) j [] place) same (subst (λ (w : View StateBase). MadeInTurns w.base seat w.seen place) is turns)
+
+  pub process_done : (place : List Entry) (work : List Request) → k < length b.config.procs → work ≡ requests_of k b.config.body → HasAnswered v.numbers v.seen place work → (p : Proc) → p.0 ≡ k → MadeInTurns v.base p.0 v.seen place → IsDoneBy v.base v.numbers place
+  process_done place work under asks all p same turns =
       done_by place (record {
         process = λ less. subst (HasAnswered (k ∷ []) [] place) asks (subst (λ (w : View StateBase). HasAnswered w.numbers w.seen place work) is all);
         writer = λ same. absurd (omega (arith, under, same));
         swapper = λ same. absurd (omega (arith, under, same));
+        turns = turns_first p.0 same place turns;
       })
 
   -- the work for no request, of the seat that may do it
-  pub idle_done : (doing : Doing) → request_of doing ≡ None → (seat : Seat) → seat.0 ≡ k → MayDo seat doing b.config → (place : List Entry) → GoesOnSilently v.numbers v.seen place → AreAllAnswered v.base place → MadeSome v.numbers v.seen place ⊎ RestsAt doing v.base (reverse place) → IsDoneBy v.base v.numbers place
-  idle_done doing none seat same may place silent all worked =
+  pub idle_done : (doing : Doing) → request_of doing ≡ None → (seat : Seat) → seat.0 ≡ k → MayDo seat doing b.config → (place : List Entry) → GoesOnSilently v.numbers v.seen place → AreAllAnswered v.base place → MadeSome v.numbers v.seen place ⊎ RestsAt doing v.base (reverse place) → MadeInTurns v.base seat.0 v.seen place → IsDoneBy v.base v.numbers place
+  idle_done doing none seat same may place silent all worked turns =
       done_by place (by doing none may (record {
         silent = subst (λ (w : View StateBase). GoesOnSilently w.numbers w.seen place) is silent;
         answered = subst (λ (w : View StateBase). AreAllAnswered w.base place) is all;
@@ -83,6 +91,7 @@ module _ (b : StateBase) (k : ℕ) (v : View StateBase) (is : v ≡ unseen (k �
             process = λ less. absurd (omega (arith, here, less));
             writer = λ at. idle;
             swapper = λ at. absurd (omega (arith, here, at));
+            turns = turns_first seat.0 same place turns;
           }
       by Swapping none may idle =
           let here : k ≡ length b.config.procs + 1 = sym same ∙ ap (λ (z : Seat). z.0) may in
@@ -90,4 +99,5 @@ module _ (b : StateBase) (k : ℕ) (v : View StateBase) (is : v ≡ unseen (k �
             process = λ less. absurd (omega (arith, here, less));
             writer = λ at. absurd (omega (arith, here, at));
             swapper = λ at. idle;
+            turns = turns_first seat.0 same place turns;
           }

@@ -13,6 +13,7 @@ use Rattle.vm_state.specs.declared.base.StateBase.{StateBase}
 use Rattle.call_begins.specs.MayBegin.{empty}
 use Rattle.vm_actors.specs.Between.{IsCalm, NoneOpen}
 use Rattle.vm_actors.specs.Doings.{MayDo, RestsAt, request_of}
+use Rattle.vm_actors.specs.InTurns.{MadeInTurns}
 use Rattle.vm_actors.specs.OwnEntries.{GoesOnSilently, MadeSome}
 use Rattle.vm_actors.specs.Requests.{AreAllAnswered, HasAnswered}
 use Rattle.vm_actors.specs.declared.doing.Doing.{Doing}
@@ -66,11 +67,13 @@ pub record IsIdleDone (b : StateBase) (k : ℕ) (doing : Doing) (place : List En
   pub answered : AreAllAnswered (Some b) place
   pub worked : MadeSome (k ∷ []) [] place ⊎ RestsAt doing (Some b) (reverse place)
 
--- the seat's work is done in the journal: a process's requests are answered, each once and in their order
+-- the seat's work is done in the journal: a process's requests are answered, each once and in their order; and each entry
+-- of the seat was made in a turn
 pub record IsWorkDone (b : StateBase) (k : ℕ) (place : List Entry) : Type 0 where
   pub process : k < length b.config.procs → HasAnswered (k ∷ []) [] place (requests_of k b.config.body)
   pub writer : k ≡ length b.config.procs → IsIdleDone b k Writing place
   pub swapper : k ≡ length b.config.procs + 1 → IsIdleDone b k Swapping place
+  pub turns : MadeInTurns (Some b) k [] place
 
 -- by what its pass knew at first
 abbrev pub IsDoneBy : Option StateBase → List ℕ → List Entry → Type 0

@@ -19,5 +19,5 @@ returns g c = record {
   calm = c.idle_worker.ensures.calm;
   done = λ sufficed.
       let is = c.requires.1 in
-      idle_done is.base ((c.args.job.carrier.seat).0) (view c.args.job.pass) is.job.fresh.views c.args.doing c.requires.0 c.args.job.carrier.seat refl is.may (seen c.idle_worker.result.pass) c.idle_worker.ensures.silent (c.idle_worker.ensures.answered sufficed) (c.idle_worker.ensures.done sufficed);
+      idle_done is.base ((c.args.job.carrier.seat).0) (view c.args.job.pass) is.job.fresh.views c.args.doing c.requires.0 c.args.job.carrier.seat refl is.may (seen c.idle_worker.result.pass) c.idle_worker.ensures.silent (c.idle_worker.ensures.answered sufficed) (c.idle_worker.ensures.done sufficed) c.idle_worker.ensures.turns;
 }
