@@ -3,3 +3,4 @@ mod SixLetters
 pub mod Obeying
 mod Served
 mod ShownDumps
+mod ReplaysCaused

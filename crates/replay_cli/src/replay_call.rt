@@ -19,11 +19,13 @@ use outside_io::{Sink, Source};
 use pager_laws::runs_are_sound;
 use replay_run::run_threads;
 use run_text::print_run;
+use serial_causes::rundown_is_caused;
 use serial_run::RunFault;
 use std::alloc::Global;
 use std::sync::Wait;
 use std::thread::Threads;
 use trace_reader::read_trace;
+use turn_causes::whole_in_turns_is_caused;
 use vm_types::Config;
 
 // Runs a configuration by threads over blocks of the depot, and writes what it did.
@@ -42,6 +44,8 @@ fn run_config<R: Threads + Wait + Sync, K: Sink, D: Depot>(
     match run_threads(rt, alloc, config, depot) {
         Ok(finished) => {
             runs_are_sound();
+            whole_in_turns_is_caused();
+            rundown_is_caused();
             print_run(
                 &finished.config,
                 &finished.entries,

@@ -16,7 +16,7 @@ use Rattle.run_text.specs.Reported.{AreParts, IsReported}
 use Rattle.serial_run.specs.Ended.{IsFinished}
 use Rattle.serial_run.specs.declared.finished.Finished.{Finished}
 use Rattle.run_commands.specs.Headline.{IsFinishedRun}
-use Rattle.run_commands.proofs.Overs.{run_over}
+use Rattle.run_commands.proofs.Overs.{MakesAreCaused, run_over}
 
 abbrev status_by : Bool → ℕ
 status_by none = if none then 0 else 5
@@ -51,12 +51,12 @@ module _ (Makes : Config → List Entry → Type 0) (tells : Tells) (config : Co
         last = left ∙ ended.over.left;
       })
 
-  module _ (depot depot' : DepotView) (known : depot.tells ≡ tells) (longer : depot'.retired ≡ depot.retired ++ taken) (sound : RunsAreSound) where
+  module _ (depot depot' : DepotView) (known : depot.tells ≡ tells) (longer : depot'.retired ≡ depot.retired ++ taken) (sound : RunsAreSound) (caused : MakesAreCaused Makes) where
     pub finished_run : IsFinishedRun (Makes config) (moved depot depot') config (run_status dirty) (run_text f.config ended.past ended.rest (run_status dirty))
     finished_run = record {
       past = ended.past;
       rest = ended.rest;
-      over = run_over (Makes config) tells config taken (f.dirty).items ended.past ended.rest depot depot' known formed ended.over ended.made longer sound;
+      over = run_over Makes tells config taken (f.dirty).items ended.past ended.rest depot depot' known formed ended.over ended.made longer sound caused;
       ending = ap run_status (left ∙ ended.over.left);
       lines = ap (λ (x : Config). run_text x ended.past ended.rest (run_status dirty)) ended.same;
     }

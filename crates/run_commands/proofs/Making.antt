@@ -28,7 +28,7 @@ use Rattle.run_commands.specs.MakeText.{make_lines}
 use Rattle.run_commands.specs.Headline.{IsRunOver, finished_status}
 use Rattle.run_commands.specs.declared.make.Make.{Make}
 use Rattle.run_commands.proofs.Finishing.{run_ends}
-use Rattle.run_commands.proofs.Overs.{run_over}
+use Rattle.run_commands.proofs.Overs.{MakesAreCaused, run_over}
 use Rattle.run_commands.proofs.Running.{HasEnding, Holds, IsRunStatus, is_run_status, six, unfailed_ending}
 
 -- what `make` tells, by how it ends
@@ -43,13 +43,13 @@ concludes_made (inl told) = record {
 concludes_made (inr none) = record { status = 7; text = status_line 7; tells_it = record { told = no_memory; says = seven_right (status_line 7) }; ends = none }
 
 module _ (tells : Tells) (make : Make) (config : Config) (is : config ≡ made_config make.seed make.procs make.refs) (taken : List Retired) (f : Counted) (formed : IsWellFormed config)
-    (ended : IsCounted tells config taken f) (depot depot' : DepotView) (known : depot.tells ≡ tells) (longer : depot'.retired ≡ depot.retired ++ taken) (sound : RunsAreSound) where
+    (ended : IsCounted tells config taken f) (depot depot' : DepotView) (known : depot.tells ≡ tells) (longer : depot'.retired ≡ depot.retired ++ taken) (sound : RunsAreSound) (caused : MakesAreCaused IsSerial) where
   pub counted_run : IsCountedRun make (moved depot depot') (run_status (f.dirty).items) (make_lines make (reverse (ended.rest ++ ended.past)) ++ status_line (run_status (f.dirty).items))
   counted_run = record {
     past = ended.past;
     rest = ended.rest;
     over = subst (λ (x : Config). IsRunOver (IsSerial x) (moved depot depot') x ended.past ended.rest) is
-        (run_over (IsSerial config) tells config taken (f.dirty).items ended.past ended.rest depot depot' known formed ended.over ended.made longer sound);
+        (run_over IsSerial tells config taken (f.dirty).items ended.past ended.rest depot depot' known formed ended.over ended.made longer sound caused);
     ending = ap run_status ended.over.left ∙ ap (λ (x : Config). finished_status x (ended.rest ++ ended.past)) is;
     lines = refl;
   }

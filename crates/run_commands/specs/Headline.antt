@@ -20,6 +20,7 @@ use Rattle.run_words.specs.Text.{run_text, status_line}
 use Rattle.pager_model.specs.DirtyPages.{dirty_pages}
 use Rattle.pager_model.specs.WrittenBack.{AreWrittenBack}
 use Rattle.pager_laws.specs.Laws.{IsSoundThroughout}
+use Rattle.entry_causes.specs.Caused.{IsCausedThroughout}
 use Rattle.command_ends.specs.Tells.{Tells}
 use Rattle.policy_ends.specs.Dirty.{IsDirtyBecause}
 use Rattle.serial_run.specs.FewRefusals.{HasFewRefusals, faults_of, refusals}
@@ -37,6 +38,8 @@ pub record IsRunOver (Makes : List Entry → Type 0) (depot : Moved DepotView) (
   -- At the report each request is answered, and the entries after it are the rundown.
   pub whole : IsWhole config past rest
   pub made : Makes past
+  -- Nothing is done without a cause: each entry has its cause in the entries before it.
+  pub caused : IsCausedThroughout config (rest ++ past)
   -- At the opening and after each entry every frame has one state, with the counts that page tables and
   -- pins give.
   pub sound : IsSoundThroughout config (rest ++ past)

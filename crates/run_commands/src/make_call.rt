@@ -19,6 +19,7 @@ use command_ends::{Status, end_with};
 use disk_trait::Depot;
 use outside_io::{Sink, Source};
 use pager_laws::runs_are_sound;
+use serial_causes::whole_serial_is_caused;
 use serial_run::{Counted, RunFault, count_serial};
 use std::alloc::Global;
 use trace_maker::make_trace;
@@ -55,6 +56,7 @@ fn run_made<K: Sink, D: Depot>(alloc: Global, make: Make, sink: &mut K, depot: &
     match count_serial(alloc, config, depot) {
         Ok(run) => {
             runs_are_sound();
+            whole_serial_is_caused();
             end_made(make, &run, sink)
         }
         Err(RunFault::NoMemory) => end_with(7, sink),

@@ -16,6 +16,7 @@ use disk_trait::Depot;
 use outside_io::{Sink, Source};
 use pager_laws::runs_are_sound;
 use run_text::print_run;
+use serial_causes::whole_serial_is_caused;
 use serial_run::{RunFault, run_serial};
 use std::alloc::Global;
 use trace_reader::read_trace;
@@ -36,6 +37,7 @@ fn run_config<K: Sink, D: Depot>(
     match run_serial(alloc, config, depot) {
         Ok(finished) => {
             runs_are_sound();
+            whole_serial_is_caused();
             print_run(
                 &finished.config,
                 &finished.entries,

@@ -1,5 +1,5 @@
 -- A run whose body and rundown are done.
-use Rattle.std.proofs.Common.{◌≡◌, Bool, true, List, [], ◌++◌, length, sym, ap, ◌∙◌, subst}
+use Rattle.std.proofs.Common.{◌≡◌, ℕ, ◌+◌, ◌^◌, ◌≤◌, Bool, true, List, [], ◌++◌, length, sym, ap, ◌∙◌, subst, arith}
 use Rattle.std.proofs.lemmas.List.{append-nil}
 use Rattle.vm_types.specs.declared.config.Config.{Config}
 use Rattle.vm_journal.specs.declared.entry.Entry.{Entry}
@@ -60,6 +60,10 @@ is_reached tells config first s own keeps same there serial =
 pub reached_there : (tells : Bool) (config : Config) (s : History) → IsReportReached tells config s → IsAtReport tells s.config s.past
 reached_there tells config s reached = subst (λ (k : Config). IsAtReport tells k s.past) (sym reached.same) reached.there
 
+-- each entry has a number, whatever places are spare
+pub few_entries : (past : List Entry) (spare : ℕ) → length past + spare ≤ 2 ^ 48 → length past ≤ 2 ^ 48
+few_entries past spare short = omega (arith, short)
+
 module _ (tells : Bool) (mid s : History) (ending : Ending) (same : IsSameBut mid s) where
   config_is : s.config ≡ mid.config
   config_is = ap (λ (x : History). x.config) same
@@ -70,8 +74,8 @@ module _ (tells : Bool) (mid s : History) (ending : Ending) (same : IsSameBut mi
   pub has_ended : IsAtReport tells mid.config mid.past → IsBetween s.config s.past → IsAnswered s.config s.past → (tells ≡ true → IsRight s.config s.past)
       → (rest : List Entry) × (s.past ≡ rest ++ mid.past) × IsRundown mid.config mid.past rest
       → ending.at ≡ length mid.past → ending.report ≡ report_of mid.config mid.past (pager_after mid.config mid.past) → IsPrintable mid.config.sections ending.report
-      → (ending.dirty).items ≡ dirty_pages s.config (pager_after s.config s.past) → HasEnded tells mid.past s ending
-  has_ended begun ended all right down at report printable dirty =
+      → (ending.dirty).items ≡ dirty_pages s.config (pager_after s.config s.past) → length s.past ≤ 2 ^ 48 → HasEnded tells mid.past s ending
+  has_ended begun ended all right down at report printable dirty few =
       let ran : IsRun s.config (down.0 ++ mid.past) = subst (λ (p : List Entry). IsRun s.config p) down.1 ended.run in
       let whole : IsWhole s.config mid.past down.0 = record {
         answered = there (λ (k : Config). IsAnswered k mid.past) begun.answered;
@@ -89,6 +93,7 @@ module _ (tells : Bool) (mid s : History) (ending : Ending) (same : IsSameBut mi
           right = λ told. subst (IsRight s.config) down.1 (right told);
           in_order = subst (λ (p : List Entry). IsInOrder s.config p) down.1 (λ p. ([], append-nil (answered p s.past) ∙ all p));
           whole = whole;
+          few = subst (λ (p : List Entry). length p ≤ 2 ^ 48) down.1 few;
         };
         at = at;
         report = there (λ (k : Config). ending.report ≡ report_of k mid.past (pager_after k mid.past)) report;

@@ -1,5 +1,5 @@
 -- A run that has ended. A past is a journal's list of entries, the newest first. This project's own.
-use Rattle.std.specs.Prelude.{◌≡◌, Bool, true, false, List, [], ◌++◌, length, reverse}
+use Rattle.std.specs.Prelude.{◌≡◌, ◌^◌, ◌≤◌, Bool, true, false, List, [], ◌++◌, length, reverse}
 use Rattle.vm_types.specs.BlockView.{Retired, Tells}
 use Rattle.vm_types.specs.declared.config.Config.{Config}
 use Rattle.vm_types.specs.declared.names.Page.{Page}
@@ -26,12 +26,13 @@ use Rattle.vm_state.specs.History.{History}
 
 -- the entries up to the report's place and those after it are one legal run with right values where the bytes of
 -- blocks are known, each process's requests once and in order; every request is answered at the report's place, and the
--- others are the rundown
+-- others are the rundown; and each entry has a number
 pub record IsWholeRun (tells : Bool) (config : Config) (past rest : List Entry) : Type 0 where
   pub run : IsRun config (rest ++ past)
   pub right : tells ≡ true → IsRight config (rest ++ past)
   pub in_order : IsInOrder config (rest ++ past)
   pub whole : IsWhole config past rest
+  pub few : length (rest ++ past) ≤ 2 ^ 48
 
 -- the history is that of a whole run with these entries up to the report's place, no flight is open, and this was read
 -- off it

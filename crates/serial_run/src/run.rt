@@ -40,6 +40,7 @@ pub fn end_state<B: Block>(alloc: Global, state: &mut State<B>) -> Result<Ending
     let at = state.entry_count();
     let report = recount(alloc, state)?;
     let dirty = rundown(alloc, state)?;
+    state.run_law();
     Ok(Ending { at, report, dirty })
 }
 

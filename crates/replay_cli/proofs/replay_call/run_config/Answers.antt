@@ -3,6 +3,7 @@ use Rattle.replay_run.specs.Replayed.{HasWorkedAfterAnswers}
 use Rattle.run_words.specs.Text.{run_text, status_line}
 use Rattle.run_text.specs.Parts.{run_status}
 use Rattle.run_commands.proofs.Finishing.{are_parts, finished_run, is_reported, run_outcome}
+use Rattle.replay_cli.proofs.ReplaysCaused.{replays_caused}
 use Rattle.replay_cli.proofs.replay_call.run_config.Goals as goal
 
 pub print_run-requires : goal.print_run-requires
@@ -24,7 +25,8 @@ returns-in-Ok-clause-outcome g c =
       answers = inl (finished_run HasWorkedAfterAnswers g.D.Block.Block.tells
           c.args.config c.in-Ok.ensures.finished.0 c.in-Ok.finished c.deref.result.now c.deref-in-Ok.result.now c.requires.formed c.in-Ok.ensures.finished.2 c.deref.ensures.value c.deref-in-Ok.ensures.value
           (g.D.Depot.seen c.args.depot.now) (g.D.Depot.seen c.run_threads.new.depot) (g.met.D.Depot.known c.args.depot.now)
-          c.in-Ok.ensures.finished.1 c.runs_are_sound.ensures);
+          c.in-Ok.ensures.finished.1 c.runs_are_sound.ensures
+          (replays_caused c.whole_in_turns_is_caused.ensures c.rundown_is_caused.ensures));
       ends = c.print_run.ensures ended.past ended.rest parts;
     })
 

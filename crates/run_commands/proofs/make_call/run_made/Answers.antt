@@ -22,6 +22,6 @@ returns-in-Ok-count_serial-clause-outcome g c =
       outcome = run_outcome run.dirty.items;
       answers = inl (counted_run g.D.Block.Block.tells make c.in-Ok.config is c.in-Ok-count_serial.ensures.counted.0 run c.in-Ok.ensures.well_formed ended
           (g.D.Depot.seen c.args.depot.now) (g.D.Depot.seen c.count_serial.new.depot) (g.met.D.Depot.known c.args.depot.now)
-          c.in-Ok-count_serial.ensures.counted.1 c.runs_are_sound.ensures);
+          c.in-Ok-count_serial.ensures.counted.1 c.runs_are_sound.ensures c.whole_serial_is_caused.ensures);
       ends = c.end_made.ensures entries (ended.all ∙ sym (length-reverse (ended.rest ++ ended.past))) ended.kinds;
     })

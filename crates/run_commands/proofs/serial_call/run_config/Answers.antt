@@ -24,7 +24,7 @@ returns-in-Ok-clause-outcome g c =
       answers = inl (finished_run IsSerial g.D.Block.Block.tells
           c.args.config c.in-Ok.ensures.finished.0 c.in-Ok.finished c.deref.result.now c.deref-in-Ok.result.now c.requires.formed c.in-Ok.ensures.finished.2 c.deref.ensures.value c.deref-in-Ok.ensures.value
           (g.D.Depot.seen c.args.depot.now) (g.D.Depot.seen c.run_serial.new.depot) (g.met.D.Depot.known c.args.depot.now)
-          c.in-Ok.ensures.finished.1 c.runs_are_sound.ensures);
+          c.in-Ok.ensures.finished.1 c.runs_are_sound.ensures c.whole_serial_is_caused.ensures);
       ends = c.print_run.ensures ended.past ended.rest parts;
     })
 
