@@ -1,14 +1,16 @@
 ghost use Rattle.std.specs.Prelude.{◌≡◌, ◌≢◌, Some, IfOk, refl};
+ghost use Rattle.command_ends.specs.Wrongs.{IsWrong, IsWrongText};
 ghost use Rattle.replay_cli.specs.Commands.{Asks, HasInput, IsDoneStatus, Offers, texts};
 ghost use Rattle.replay_cli.specs.declared.ways.Way.{Way};
 ghost use Rattle.replay_cli.specs.declared.words.Command.{Command};
 ghost use Rattle.program_call.specs.ProgramTells.{TellsOfBytes, bytes_view};
 
 use crate::sure_depot::SureDepot;
+use arrayvec::ArrayVec;
 use command_calls::CallEnds;
-use command_ends::Status;
+use command_ends::{Status, Wrong};
 use outside_io::{Source, VecSink};
-use replay_cli::run_one;
+use replay_cli::run_one_and_tell;
 use std::alloc::Global;
 use vm_types::{Failed, NoMemory};
 
@@ -37,6 +39,38 @@ impl Source for BytesSource<'_> {
         self.left = rest;
         Ok(count)
     }
+}
+
+/// As `run_bytes`, and answers besides what is wrong with the input, if anything is, as `run_one_and_tell` does. The
+/// first 80 bytes of a faulty line are kept in `kept`.
+///
+/// # Errors
+/// `NoMemory` if memory ran out for the bytes that are written.
+pub fn run_bytes_and_tell(
+    alloc: Global,
+    words: &[&str],
+    input: &[u8],
+    kept: &mut ArrayVec<u8, 80>,
+) -> Result<(Status, Option<Wrong>, Vec<u8>), NoMemory>
+    // What is written is the text that goes with the status, as `run_bytes` says.
+    ensures told { IfOk result (λ run. TellsOfBytes (texts words.now) input.now run.0.0 run.2.items) }
+    ensures complete { (command : Command) → Asks (texts words.now) command → Offers Way.One command → HasInput command (bytes_view input.now)
+        → IfOk result (λ run. IsDoneStatus command run.0.0) }
+    ensures no_failure { IfOk result (λ run. (run.0.0 ≢ 3) × (run.0.0 ≢ 4) × (run.0.0 ≢ 6)) }
+    // The text that was written says the same of the input, and of its faulty line the first bytes were kept.
+    ensures wrong { IfOk result (λ run. IsWrong run.1 run.0.0 run.2.items) }
+    ensures kept { IfOk result (λ run. IsWrongText run.1 (Some input.now) kept.new.items) }
+{
+    let mut ends = CallEnds {
+        source: BytesSource::new(input),
+        output: VecSink::new(alloc),
+        depot: SureDepot::new(alloc),
+    };
+    let told = run_one_and_tell(alloc, words, &mut ends, kept);
+    if told.0.0 == 4 {
+        return Err(NoMemory);
+    }
+    Ok((told.0, told.1, ends.output.into_bytes()))
 }
 
 /// Runs the command that the words name over the bytes and over blocks in memory, and returns its
@@ -69,14 +103,7 @@ pub fn run_bytes(alloc: Global, words: &[&str], input: &[u8]) -> Result<(Status,
         → IfOk result (λ run. IsDoneStatus command run.0.0) }
     ensures no_failure { IfOk result (λ run. (run.0.0 ≢ 3) × (run.0.0 ≢ 4) × (run.0.0 ≢ 6)) }
 {
-    let mut ends = CallEnds {
-        source: BytesSource::new(input),
-        output: VecSink::new(alloc),
-        depot: SureDepot::new(alloc),
-    };
-    let status = run_one(alloc, words, &mut ends);
-    if status.0 == 4 {
-        return Err(NoMemory);
-    }
-    Ok((status, ends.output.into_bytes()))
+    let mut kept = ArrayVec::new();
+    let (status, _, text) = run_bytes_and_tell(alloc, words, input, &mut kept)?;
+    Ok((status, text))
 }

@@ -4,11 +4,13 @@
 
 mod arguments;
 mod bytes;
+mod messages;
 mod program;
 mod sure_block;
 mod sure_depot;
 mod words;
 
 pub use arguments::{Arguments, EnvArguments, ListedArguments};
-pub use bytes::{BytesSource, run_bytes};
+pub use bytes::{BytesSource, run_bytes, run_bytes_and_tell};
+pub use messages::message_text;
 pub use program::run_and_explain;
