@@ -1,5 +1,5 @@
 /*
- * Neqysbar as a library: the program over bytes in one call.
+ * Neqysbar as a library: the program over bytes in one call, with or without its message.
  *
  * Link with libneqysbar.a or libneqysbar.so, which need the C library alone. The library has no state
  * and opens no file, so calls may run at the same time in any number of threads.
@@ -49,6 +49,31 @@ enum neqysbar_status {
 uint8_t neqysbar_run(const uint8_t *line, size_t line_length,
                      const uint8_t *input, size_t input_length,
                      uint8_t *output, size_t room, size_t *number);
+
+/* What a call with a message answers. */
+typedef struct neqysbar_told {
+    uint8_t status;          /* as neqysbar_run returns it */
+    size_t output_number;    /* how many bytes the output has */
+    size_t message_number;   /* how many bytes the message has; 0 if there is none */
+} neqysbar_told;
+
+/*
+ * As neqysbar_run, and hands over besides the message that the program writes to standard error: what
+ * is wrong with the words, and usage; or what is wrong with the input, and of a faulty line its number,
+ * why it is at fault, its first 80 bytes and a mark below the faulty word; or that memory ran out. Where
+ * nothing is wrong there is none.
+ *
+ * message, message_room: where the message goes, and how many bytes there is room for. What is behind a
+ *     shorter message isn't written. If message_number is more than message_room, make room and call
+ *     again.
+ *
+ * With status 7 and both numbers 0 memory ran out for the words or a text, and nothing is written. The
+ * caller owes what it owes to neqysbar_run, of message as of output.
+ */
+neqysbar_told neqysbar_run_with_message(const uint8_t *line, size_t line_length,
+                                        const uint8_t *input, size_t input_length,
+                                        uint8_t *output, size_t room,
+                                        uint8_t *message, size_t message_room);
 
 #ifdef __cplusplus
 }

@@ -1,1 +1,2 @@
+mod Faulty
 mod Splitting
