@@ -7,7 +7,7 @@ import functools
 import os
 import pathlib
 import platform
-from typing import Any, Optional, Sequence, Union
+from typing import Any, NamedTuple, Optional, Sequence, Union
 
 HERE = pathlib.Path(__file__).resolve().parent
 NAME = "libneqysbar.so"
@@ -36,19 +36,55 @@ def library_path(path: Optional[PathLike] = None) -> str:
     raise OSError(f"there is no {looked}; NEQYSBAR_LIBRARY may name the library")
 
 
+class Answer(ctypes.Structure):
+    """What the library's call with a message returns: the status, and how long both texts are."""
+
+    _fields_ = [("status", ctypes.c_uint8), ("output", ctypes.c_size_t), ("message", ctypes.c_size_t)]
+
+
+class Told(NamedTuple):
+    """What the program says: its status, what it writes to standard output, and its message to standard error."""
+
+    status: int
+    output: bytes
+    message: str
+
+
+class NotDone(Exception):
+    """The program didn't do what was asked. The text is its message; `told` has all that it said."""
+
+    def __init__(self, told: Told) -> None:
+        super().__init__(told.message.strip() or f"status {told.status}")
+        self.told = told
+
+
 @functools.lru_cache(maxsize=None)
-def loaded(path: str) -> Any:
-    """The function of the library in this file."""
-    call = ctypes.CDLL(path).neqysbar_run
-    call.restype = ctypes.c_uint8
-    call.argtypes = [ctypes.c_char_p, ctypes.c_size_t, ctypes.c_char_p, ctypes.c_size_t,
-                     ctypes.c_void_p, ctypes.c_size_t, ctypes.POINTER(ctypes.c_size_t)]
-    return call
+def opened(path: str) -> Any:
+    """The library in this file, with the types of its functions."""
+    opened_one = ctypes.CDLL(path)
+    texts = [ctypes.c_char_p, ctypes.c_size_t, ctypes.c_char_p, ctypes.c_size_t, ctypes.c_void_p, ctypes.c_size_t]
+    opened_one.neqysbar_run.restype = ctypes.c_uint8
+    opened_one.neqysbar_run.argtypes = [*texts, ctypes.POINTER(ctypes.c_size_t)]
+    opened_one.neqysbar_run_with_message.restype = Answer
+    opened_one.neqysbar_run_with_message.argtypes = [*texts, ctypes.c_void_p, ctypes.c_size_t]
+    return opened_one
 
 
 def library(path: Optional[PathLike] = None) -> Any:
-    """The library's function, loaded once from each file."""
-    return loaded(library_path(path))
+    """The library's function `neqysbar_run`, loaded once from each file."""
+    return opened(library_path(path)).neqysbar_run
+
+
+def line_of(words: Sequence[Union[str, bytes]], data: Any) -> bytes:
+    """The words in one text; what `run` says of them and of the data is wrong otherwise."""
+    if isinstance(words, (str, bytes)):
+        raise TypeError(f"words is a list of words, as {words.split()!r}, not the text {words!r}")
+    if not isinstance(data, (bytes, bytearray, memoryview)):
+        raise TypeError(f"data are bytes, not {type(data).__name__}")
+    texts = [word if isinstance(word, bytes) else word.encode() for word in words]
+    if any(b"\0" in text for text in texts):
+        raise ValueError("a word has a zero byte")
+    return b"".join(text + b"\0" for text in texts)
 
 
 def run(words: Sequence[Union[str, bytes]], data: Any = b"", path: Optional[PathLike] = None) -> tuple[int, bytes]:
@@ -63,15 +99,8 @@ def run(words: Sequence[Union[str, bytes]], data: Any = b"", path: Optional[Path
     list of words, or in place of bytes, is a TypeError; a word with a zero byte is a ValueError; a
     library that isn't there is an OSError.
     """
-    if isinstance(words, (str, bytes)):
-        raise TypeError(f"words is a list of words, as {words.split()!r}, not the text {words!r}")
-    if not isinstance(data, (bytes, bytearray, memoryview)):
-        raise TypeError(f"data are bytes, not {type(data).__name__}")
+    line = line_of(words, data)
     call = library(path)
-    texts = [word if isinstance(word, bytes) else word.encode() for word in words]
-    if any(b"\0" in text for text in texts):
-        raise ValueError("a word has a zero byte")
-    line = b"".join(text + b"\0" for text in texts)
     data = bytes(data)
     number = ctypes.c_size_t(0)
     room = 16 * len(data) + 65536
@@ -81,3 +110,26 @@ def run(words: Sequence[Union[str, bytes]], data: Any = b"", path: Optional[Path
         if number.value <= room:
             return status, ctypes.string_at(output, number.value)
         room = number.value
+
+
+def run_with_message(words: Sequence[Union[str, bytes]], data: Any = b"", path: Optional[PathLike] = None) -> Told:
+    """As `run`, and answers besides the message that the program writes to standard error, which is empty if there is none."""
+    line = line_of(words, data)
+    call = opened(library_path(path)).neqysbar_run_with_message
+    data = bytes(data)
+    room, message_room = 16 * len(data) + 65536, 8192
+    while True:
+        output, message = (ctypes.c_char * room)(), (ctypes.c_char * message_room)()
+        told = call(line, len(line), data, len(data), output, room, message, message_room)
+        if told.output <= room and told.message <= message_room:
+            text = ctypes.string_at(message, told.message).decode("utf-8", "replace")
+            return Told(told.status, ctypes.string_at(output, told.output), text)
+        room, message_room = max(room, told.output), max(message_room, told.message)
+
+
+def output_of(words: Sequence[Union[str, bytes]], data: Any = b"", path: Optional[PathLike] = None) -> bytes:
+    """What a command writes, if it did what was asked: with status 0, or 5 with pages left dirty. Else `NotDone`."""
+    told = run_with_message(words, data, path)
+    if told.status not in (0, 5):
+        raise NotDone(told)
+    return told.output

@@ -40,6 +40,20 @@ class Runs(unittest.TestCase):
             with self.assertRaises(TypeError):
                 neqysbar.run(words, given)
 
+    def test_messages(self):
+        """What is wrong is said as the program says it, and nothing where nothing is wrong."""
+        data = (EXAMPLES / "first-run.trace").read_bytes()
+        self.assertEqual(neqysbar.run_with_message(["serial"], data), (*neqysbar.run(["serial"], data), ""))
+        faulty = (EXAMPLES / "faulty-line.trace").read_bytes()
+        told = neqysbar.run_with_message(["serial"], faulty)
+        self.assertEqual(told.message, (EXAMPLES / "faulty-line.err").read_text())
+        self.assertEqual((told.status, told.output), neqysbar.run(["serial"], faulty))
+        self.assertEqual(neqysbar.run_with_message(["serials"]).message.splitlines()[0], "neqysbar: no such command: serials")
+        self.assertEqual(neqysbar.output_of(["serial"], data), neqysbar.run(["serial"], data)[1])
+        with self.assertRaisesRegex(neqysbar.NotDone, "line 5: the address is a multiple of 512") as caught:
+            neqysbar.output_of(["serial"], faulty)
+        self.assertEqual(caught.exception.told, told)
+
     def test_no_library(self):
         """What isn't there is named, whether the call or the environment asked for it."""
         with self.assertRaisesRegex(OSError, "/no/such/library.so"):
